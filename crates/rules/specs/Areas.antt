@@ -1,0 +1,26 @@
+-- Document 01, "Units and areas". Energy is whole MWh, money whole euro cents, a price cents per MWh: all naturals here; signed amounts are integers.
+-- Areas: 0 PVB (pipeline hub), 1 TVB (LNG tank), 2 AVB (underground store).
+use mathlib.Core.Bool.{cond}
+use mathlib.Core.List.{List, [], _∷_}
+use Prim.Native.Nat.{ℕ, _+_}
+use lib.Dec.{eqb}
+
+-- P is the daily buying imbalance tariff of PVB, Q that of TVB and AVB; L, X, I are the tolls for liquefaction, PVB exit and injection.
+pub record Prices : Type 0 where
+  pub p : ℕ
+  pub q : ℕ
+  pub l : ℕ
+  pub x : ℕ
+  pub i : ℕ
+
+-- each area
+unfoldable pub areas : List ℕ
+areas = 0 ∷ (1 ∷ (2 ∷ []))
+
+-- The tariff t of an area: P; Q; Q.
+unfoldable pub tariff : Prices → ℕ → ℕ
+tariff f area = cond (eqb area 0) (f .p) (f .q)
+
+-- The reference price w of an area: P; Q + L; Q + X + I.
+unfoldable pub referencePrice : Prices → ℕ → ℕ
+referencePrice f area = cond (eqb area 0) (f .p) (cond (eqb area 1) (f .q + f .l) (f .q + f .x + f .i))
