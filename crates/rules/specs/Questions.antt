@@ -1,0 +1,136 @@
+-- Document 01, "The questions": a refusal is the number of the first question that is answered by no; the questions 2 to 7 of a book.
+-- (Question 1, the length in question 3 and the zero bytes in questions 5 and 6 are asked of a book in bytes.)
+use mathlib.Core.Bool.{Bool, true, false, not, cond, _&&_, _||_}
+use mathlib.Core.List.{List, [], _∷_}
+use mathlib.Core.Option.{Option, none, some}
+use Prim.Native.Nat.{ℕ, _^_}
+use lib.Dec.{leb, ltb, eqb}
+use lib.IntN.{ℤ, pos, negsuc}
+use lib.ListN.{length}
+use Rattle.rules.specs.Areas.{Prices}
+use Rattle.rules.specs.Signed.{within}
+use Rattle.rules.specs.Calendar.{realDay}
+use Rattle.rules.specs.Lists.{all, any}
+use Rattle.rules.specs.Book.{Header, PerArea, at, User, Trade, Book, bilateralForDay, definedPosition}
+
+-- ---- asking
+
+-- a question's number, and whether it is answered by yes
+pub record Question : Type 0 where
+  pub number : ℕ
+  pub holds : Bool
+
+-- "Asked in this order; the first 'no' gives the number."
+unfoldable pub refusal : List Question → Option ℕ
+refusal [] = none
+refusal (q ∷ qs) = cond (q .holds) (refusal qs) (some (q .number))
+
+-- every call: what it gives where a question refuses it, and what where it is accepted
+unfoldable pub decided : {R : Type 0} → Option ℕ → (ℕ → R) → R → R
+decided none refused accepted = accepted
+decided (some n) refused accepted = refused n
+
+-- ---- 2 and 3: "Version 1?", "Counts in range?"
+
+unfoldable pub versionValid : Book → Bool
+versionValid b = eqb (b .header .version) 1
+
+-- user count 1 to 64; trade count 0 to 256
+unfoldable pub countsValid : Book → Bool
+countsValid b = (leb 1 (length (b .users)) && leb (length (b .users)) 64) && leb (length (b .trades)) 256
+
+-- ---- 4: "Date, prices and tolls in range?"
+
+-- "P and Q 1 to 100,000; tolls 0 to 100,000."
+unfoldable pub tariffValid : ℕ → Bool
+tariffValid n = leb 1 n && leb n 100000
+
+unfoldable pub tollValid : ℕ → Bool
+tollValid n = leb n 100000
+
+unfoldable pub pricesValid : Prices → Bool
+pricesValid f =
+    (tariffValid (f .p) && tariffValid (f .q)) && (tollValid (f .l) && (tollValid (f .x) && tollValid (f .i)))
+
+unfoldable pub headerValid : Header → Bool
+headerValid h = realDay (h .date) && pricesValid (h .prices)
+
+-- ---- 5: "Every user field valid, positions apart?"
+
+-- ids are not 0 and strictly rise
+unfoldable pub idsRise : ℕ → List User → Bool
+idsRise last [] = true
+idsRise last (u ∷ us) = ltb last (u .party .id) && idsRise (u .party .id) us
+
+-- "physical entry per area, each within ±1,000,000"
+unfoldable pub entriesValid : PerArea → Bool
+entriesValid v = within 1000000 (at v 0) && (within 1000000 (at v 1) && within 1000000 (at v 2))
+
+-- "blocked ≤ assigned ≤ 10^12"
+unfoldable pub guaranteesValid : User → Bool
+guaranteesValid u = leb (u .blocked) (u .party .assigned) && leb (u .party .assigned) 1000000000000
+
+-- "id 32 bits; role 8 bits (0 shipper, 1 clearing house); charges within ±10^12"
+unfoldable pub userValid : User → Bool
+userValid u =
+    (ltb (u .party .id) (2 ^ 32) && ltb (u .party .role) 2)
+    && (entriesValid (u .physical) && (within 1000000000000 (u .party .charges) && guaranteesValid u))
+
+unfoldable pub usersValid : List User → Bool
+usersValid us = idsRise 0 us && all userValid us
+
+-- ---- 6: "Every trade valid?"
+
+-- the id is in the book
+unfoldable pub known : List User → ℕ → Bool
+known us id = any (λ u. eqb (u .party .id) id) us
+
+-- "Both parties are users of the book and differ."
+unfoldable pub partiesValid : List User → Trade → Bool
+partiesValid us t =
+    (known us (t .terms .seller) && known us (t .terms .buyer)) && not (eqb (t .terms .seller) (t .terms .buyer))
+
+unfoldable pub codesValid : Trade → Bool
+codesValid t = ltb (t .terms .area) 3 && (ltb (t .terms .kind) 3 && ltb (t .terms .day) 2)
+
+-- "notified 1 to 100,000; standing ≤ notified, and equal to it unless kind and day are 0"
+unfoldable pub amountsValid : Trade → Bool
+amountsValid t =
+    (leb 1 (t .terms .notified) && leb (t .terms .notified) 100000)
+    && (leb (t .standing) (t .terms .notified) && (bilateralForDay t || eqb (t .standing) (t .terms .notified)))
+
+unfoldable pub tradeValid : List User → Trade → Bool
+tradeValid us t = partiesValid us t && (codesValid t && amountsValid t)
+
+-- ---- 7: "Every position as defined?"
+
+unfoldable pub eqbℤ : ℤ → ℤ → Bool
+eqbℤ (pos a) (pos b) = eqb a b
+eqbℤ (pos a) (negsuc b) = false
+eqbℤ (negsuc a) (pos b) = false
+eqbℤ (negsuc a) (negsuc b) = eqb a b
+
+unfoldable pub positionValid : List Trade → User → ℕ → Bool
+positionValid ts u area = eqbℤ (at (u .position) area) (definedPosition ts u area)
+
+unfoldable pub positionsValid : List Trade → User → Bool
+positionsValid ts u = positionValid ts u 0 && (positionValid ts u 1 && positionValid ts u 2)
+
+-- ---- the questions about a book, in their order
+
+unfoldable pub aboutBook : Book → List Question
+aboutBook b =
+    record { number = 2; holds = versionValid b }
+    ∷ (record { number = 3; holds = countsValid b }
+    ∷ (record { number = 4; holds = headerValid (b .header) }
+    ∷ (record { number = 5; holds = usersValid (b .users) }
+    ∷ (record { number = 6; holds = all (tradeValid (b .users)) (b .trades) }
+    ∷ (record { number = 7; holds = all (positionsValid (b .trades)) (b .users) } ∷ [])))))
+
+unfoldable pub isNone : {A : Type 0} → Option A → Bool
+isNone none = true
+isNone (some n) = false
+
+-- no question about the book refuses it
+unfoldable pub accepted : Book → Bool
+accepted b = isNone (refusal (aboutBook b))
