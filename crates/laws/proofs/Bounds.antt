@@ -1,0 +1,249 @@
+-- Numeric bounds of an accepted book: positions within ±26,600,000, so that they fit their 32 bits, and levels below 2^44. Assumes nothing.
+use mathlib.Core.Bool.{Bool, true, false, cond, _&&_}
+use mathlib.Core.List.{List, [], _∷_}
+use mathlib.Core.Path.{_≡_, refl}
+use Prim.Native.Nat.{_*_, _+_, _≤_, ℕ, _<_, suc, zero}
+use native.Mathlib.Nat.{mul-le-mul}
+use native.Mathlib.Omega.{arith}
+use lib.Dec.{T, eqb, leb, leb→le, eqb→eq}
+use lib.IntN.{natAbs, ℤ, _-ℤ_, pos, _+ℤ_, negℤ}
+use lib.ListN.{length}
+use borrow.Author.Needs.{needs}
+use Rattle.integers.proofs.Linear.{abs-parts, negPart-of, posPart-of, negPart-pos, parts-sub, posPart-pos, negPart-neg, parts-add, posPart-neg}
+use Rattle.integers.specs.Parts.{negPart, posPart}
+use Rattle.integers.specs.Sums.{sum}
+use Rattle.laws.proofs.Positions.{parts-defined, position-is}
+use Rattle.laws.proofs.Sound.{Sound}
+use Rattle.laws.proofs.Tests.{and-l, and-r, by-test}
+use Rattle.rules.specs.Areas.{referencePrice, areas}
+use Rattle.rules.specs.Book.{Book, Trade, User, Terms, dealt, at, bought, definedPosition, sold}
+use Rattle.rules.specs.Levels.{afternoonNeed, exposure, holding, stock, Limits, afternoonLevel, afternoonSum, floored, morningLevel, morningNeed, morningSum}
+use Rattle.rules.specs.Lists.{all}
+use Rattle.rules.specs.Questions.{amountsValid, countsValid, tradeValid, entriesValid, userValid, headerValid, positionsValid, pricesValid, tariffValid, tollValid}
+use Rattle.rules.specs.Signed.{within}
+
+-- ---- trades: at most 256 of at most 100,000 MWh
+
+standing-le : (us : List User) (t : Trade) → T (tradeValid us t) → t .standing ≤ 100000
+unfolding tradeValid amountsValid
+standing-le us t h =
+    let a = leb→le (t .standing) (t .terms .notified) (search (and-l, and-r)) in
+    let b = leb→le (t .terms .notified) 100000 (search (and-l, and-r)) in
+    omega arith
+
+standing-sum : (us : List User) (ts : List Trade) → T (all (tradeValid us) ts) → sum (λ t. t .standing) ts ≤ 100000 * length ts
+unfolding sum all
+standing-sum us [] h = omega arith
+standing-sum us (t ∷ ts) h =
+    omega (arith, standing-sum us ts (and-r (tradeValid us t) (all (tradeValid us) ts) h), standing-le us t (and-l (tradeValid us t) (all (tradeValid us) ts) h))
+
+trades-le : (b : Book) → Sound b → sum (λ t. t .standing) (b .trades) ≤ 25600000
+unfolding countsValid
+trades-le b s =
+    let n = leb→le (length (b .trades)) 256 (and-r (leb 1 (length (b .users)) && leb (length (b .users)) 64) (leb (length (b .trades)) 256) (s .counts)) in
+    omega (arith, standing-sum (b .users) (b .trades) (s .trades))
+
+-- ---- what one side dealt in all areas on both days is at most what stands in all trades
+
+-- a number is at most one of 0, 1 and 2
+one-of-three : (x n : ℕ) → cond (eqb x 0) n 0 + cond (eqb x 1) n 0 + cond (eqb x 2) n 0 ≤ n
+one-of-three x n = go (eqb x 0) (eqb x 1) (eqb x 2) (λ t. eqb→eq x 0 t) (λ t. eqb→eq x 1 t) (λ t. eqb→eq x 2 t)
+  where
+    go : (p q r : Bool) → (T p → x ≡ 0) → (T q → x ≡ 1) → (T r → x ≡ 2) → cond p n 0 + cond q n 0 + cond r n 0 ≤ n
+    go true true r f g h = absurd (omega (arith, f tt, g tt))
+    go true false true f g h = absurd (omega (arith, f tt, h tt))
+    go true false false f g h = omega arith
+    go false true true f g h = absurd (omega (arith, g tt, h tt))
+    go false true false f g h = omega arith
+    go false false true f g h = omega arith
+    go false false false f g h = omega arith
+
+and-cond : (c p q : Bool) (n : ℕ) → cond c (cond (p && q) n 0) 0 ≡ cond p (cond c (cond q n 0) 0) 0
+and-cond true true q n = refl
+and-cond true false q n = refl
+and-cond false true q n = refl
+and-cond false false q n = refl
+
+-- an amount of each area and day, in all three areas on both days
+unfoldable pub dealtInAll : (ℕ → ℕ → ℕ) → ℕ
+dealtInAll amount = amount 0 0 + amount 1 0 + amount 2 0 + (amount 0 1 + amount 1 1 + amount 2 1)
+
+dealt-le : (side : Terms → ℕ) (counts : ℕ → Bool) (ts : List Trade) → dealtInAll (dealt side counts ts) ≤ sum (λ t. t .standing) ts
+unfolding dealtInAll dealt sum
+dealt-le side counts [] = omega arith
+dealt-le side counts (t ∷ ts) =
+    let c = counts (side (t .terms)) in
+    let a = t .terms .area in
+    let d = t .terms .day in
+    let n = t .standing in
+    omega (
+      arith,
+      dealt-le side counts ts,
+      and-cond c (eqb a 0) (eqb d 0) n,
+      and-cond c (eqb a 1) (eqb d 0) n,
+      and-cond c (eqb a 2) (eqb d 0) n,
+      and-cond c (eqb a 0) (eqb d 1) n,
+      and-cond c (eqb a 1) (eqb d 1) n,
+      and-cond c (eqb a 2) (eqb d 1) n,
+      one-of-three a (cond c (cond (eqb d 0) n 0) 0),
+      one-of-three a (cond c (cond (eqb d 1) n 0) 0),
+      days c (eqb d 0) (eqb d 1) n (omega (arith, one-of-three d n)),
+    )
+  where
+    days : (c p q : Bool) (n : ℕ) → cond p n 0 + cond q n 0 ≤ n → cond c (cond p n 0) 0 + cond c (cond q n 0) 0 ≤ n
+    days true p q n h = omega arith
+    days false p q n h = omega arith
+
+-- ---- one user
+
+pub within-le : (n : ℕ) (z : ℤ) → T (within n z) → (posPart z ≤ n) × (negPart z ≤ n)
+unfolding within
+within-le n z h = let l = leb→le (natAbs z) n h in (omega (arith, abs-parts z), omega (arith, abs-parts z))
+
+entry-valid : (u : User) (a : ℕ) → a < 3 → T (userValid u) → T (within 1000000 (at (u .physical) a))
+unfolding userValid entriesValid
+entry-valid u zero k h = search (and-l, and-r)
+entry-valid u (suc zero) k h = search (and-l, and-r)
+entry-valid u (suc (suc zero)) k h = search (and-l, and-r)
+entry-valid u (suc (suc (suc a))) k h = absurd (omega arith)
+
+pub entry-le : (u : User) (a : ℕ) → a < 3 → T (userValid u) → (posPart (at (u .physical) a) ≤ 1000000) × (negPart (at (u .physical) a) ≤ 1000000)
+entry-le u a k h = within-le 1000000 (at (u .physical) a) (entry-valid u a k h)
+
+charges-le : (u : User) → T (userValid u) → posPart (u .party .charges) ≤ 1000000000000
+unfolding userValid
+charges-le u h = within-le 1000000000000 (u .party .charges) (search (and-l, and-r)) .0
+
+-- one side of a difference
+below-parts : (z : ℤ) (a b : ℕ) → posPart z + b ≡ negPart z + a → (posPart z ≤ a) × (negPart z ≤ b)
+below-parts z a b e = (omega (arith, posPart-of z a b (omega arith)), omega (arith, negPart-of z a b (omega arith)))
+
+prices-le : (b : Book) → Sound b
+    → (b .header .prices .p ≤ 100000) × (b .header .prices .q ≤ 100000) × (b .header .prices .l ≤ 100000) × (b .header .prices .x ≤ 100000) × (b .header .prices .i ≤ 100000)
+unfolding headerValid pricesValid tariffValid tollValid
+prices-le b s =
+    let f = b .header .prices in
+    let h = s .header in (
+      leb→le (f .p) 100000 (search (and-l, and-r)),
+      leb→le (f .q) 100000 (search (and-l, and-r)),
+      leb→le (f .l) 100000 (search (and-l, and-r)),
+      leb→le (f .x) 100000 (search (and-l, and-r)),
+      leb→le (f .i) 100000 (search (and-l, and-r)),
+    )
+
+-- what a user sold and bought in an area on a day, from the sums over all areas and both days
+module _ (b : Book) (s : Sound b) (u : User) (v : T (userValid u)) (p : T (positionsValid (b .trades) u)) where
+  sold-le : dealtInAll (sold (b .trades) (u .party .id)) ≤ 25600000
+  unfolding dealtInAll sold
+  sold-le = omega (arith, trades-le b s, dealt-le (λ r. r .seller) (λ party. eqb party (u .party .id)) (b .trades))
+
+  bought-le : dealtInAll (bought (b .trades) (u .party .id)) ≤ 25600000
+  unfolding dealtInAll bought
+  bought-le = omega (arith, trades-le b s, dealt-le (λ r. r .buyer) (λ party. eqb party (u .party .id)) (b .trades))
+
+  -- a position lies between what was sold and what was bought
+  position-parts : (a : ℕ) → a < 3
+      → (posPart (at (u .position) a) ≤ 1000000 + bought (b .trades) (u .party .id) a 0)
+      × (negPart (at (u .position) a) ≤ 1000000 + sold (b .trades) (u .party .id) a 0)
+  position-parts a k =
+      let d = definedPosition (b .trades) u a in
+      let e : at (u .position) a ≡ d = position-is (b .trades) u a k p in
+      let l = below-parts d (posPart (at (u .physical) a) + bought (b .trades) (u .party .id) a 0) (negPart (at (u .physical) a) + sold (b .trades) (u .party .id) a 0) (parts-defined (b .trades) u a) in
+      let n = entry-le u a k v in
+      rw e (omega arith, omega arith)
+
+  pub position-bound : (a : ℕ) → a < 3 → (posPart (at (u .position) a) ≤ 26600000) × (negPart (at (u .position) a) ≤ 26600000)
+  unfolding dealtInAll
+  position-bound zero k = let l = position-parts 0 k in (omega (arith, bought-le), omega (arith, sold-le))
+  position-bound (suc zero) k = let l = position-parts 1 k in (omega (arith, bought-le), omega (arith, sold-le))
+  position-bound (suc (suc zero)) k = let l = position-parts 2 k in (omega (arith, bought-le), omega (arith, sold-le))
+  position-bound (suc (suc (suc a))) k = absurd (omega arith)
+
+  -- ---- levels
+
+  price-le : (a : ℕ) → referencePrice (b .header .prices) a ≤ 300000
+  unfolding referencePrice
+  price-le a =
+      let h = s .header in
+      by-test (λ (n : ℕ). n ≤ 300000) (eqb a 0) (λ t. omega (arith, prices .0))
+      (λ t. by-test (λ (n : ℕ). n ≤ 300000) (eqb a 1) (λ k. omega (arith, prices)) (λ k. omega (arith, prices)))
+    where
+      prices : (b .header .prices .p ≤ 100000) × (b .header .prices .q ≤ 100000) × (b .header .prices .l ≤ 100000) × (b .header .prices .x ≤ 100000) × (b .header .prices .i ≤ 100000)
+      prices = prices-le b s
+
+  -- an amount at its reference price
+  worth-le : (a n m : ℕ) → n ≤ m → n * referencePrice (b .header .prices) a ≤ m * 300000
+  worth-le a n m h = mul-le-mul h (price-le a)
+
+  afternoon-need : (a : ℕ) → posPart (afternoonNeed a (holding b u a)) ≤ sold (b .trades) (u .party .id) a 1
+  unfolding afternoonNeed holding
+  afternoon-need a =
+      let x = sold (b .trades) (u .party .id) a 1 in
+      let y = bought (b .trades) (u .party .id) a 1 in
+      let z = stock a (holding b u a) in
+      below-parts (pos x -ℤ pos y -ℤ pos z) x (y + z)
+      (omega (arith, parts-sub (pos x) (pos y), parts-sub (pos x -ℤ pos y) (pos z), posPart-pos x, negPart-pos x, posPart-pos y, negPart-pos y, posPart-pos z, negPart-pos z)) .0
+
+  exposure-le : exposure (b .header .prices) (holding b u)
+      ≤ (3000000 + (sold (b .trades) (u .party .id) 0 0 + sold (b .trades) (u .party .id) 1 0 + sold (b .trades) (u .party .id) 2 0)) * 300000
+  unfolding exposure areas sum holding
+  exposure-le =
+      omega (
+        arith,
+        worth-le 0 (negPart (at (u .position) 0)) (1000000 + sold (b .trades) (u .party .id) 0 0) (position-parts 0 (omega arith) .1),
+        worth-le 1 (negPart (at (u .position) 1)) (1000000 + sold (b .trades) (u .party .id) 1 0) (position-parts 1 (omega arith) .1),
+        worth-le 2 (negPart (at (u .position) 2)) (1000000 + sold (b .trades) (u .party .id) 2 0) (position-parts 2 (omega arith) .1),
+      )
+
+  morning-need : (a : ℕ) → a < 3
+      → posPart (morningNeed (holding b u a)) ≤ 1000000 + (sold (b .trades) (u .party .id) a 0 + sold (b .trades) (u .party .id) a 1)
+  unfolding morningNeed holding
+  morning-need a k =
+      let p = at (u .physical) a in
+      let x = sold (b .trades) (u .party .id) a 0 + sold (b .trades) (u .party .id) a 1 in
+      let y = bought (b .trades) (u .party .id) a 0 + bought (b .trades) (u .party .id) a 1 in
+      let l = below-parts (negℤ p +ℤ pos x -ℤ pos y) (negPart p + x) (posPart p + y)
+      (omega (arith, parts-add (negℤ p) (pos x), parts-sub (negℤ p +ℤ pos x) (pos y), posPart-neg p, negPart-neg p, posPart-pos x, negPart-pos x, posPart-pos y, negPart-pos y)) in
+      omega (arith, entry-le u a k v)
+
+  module _ (limits : Limits) (low : limits .floor ≤ 9580000000000) where
+    -- charges of at most 10^12, and 28,600,000 MWh at a price of at most 300,000
+    pub morning-level-le : morningLevel limits b u ≤ 9580000000000
+    unfolding morningLevel morningSum floored areas sum dealtInAll
+    morning-level-le =
+        let id = u .party .id in
+        let ts = b .trades in
+        let n0 = sold ts id 0 0 + sold ts id 0 1 in
+        let n1 = sold ts id 1 0 + sold ts id 1 1 in
+        let n2 = sold ts id 2 0 + sold ts id 2 1 in
+        let needs = sum (λ a. posPart (morningNeed (holding b u a)) * referencePrice (b .header .prices) a) areas in
+        omega (
+          arith,
+          charges-le u v,
+          sold-le,
+          parts-add (u .party .charges) (pos needs),
+          posPart-of (u .party .charges +ℤ pos needs) (posPart (u .party .charges) + needs) (negPart (u .party .charges)) (omega (arith, parts-add (u .party .charges) (pos needs), posPart-pos needs, negPart-pos needs)),
+          worth-le 0 (posPart (morningNeed (holding b u 0))) (1000000 + n0) (morning-need 0 (omega arith)),
+          worth-le 1 (posPart (morningNeed (holding b u 1))) (1000000 + n1) (morning-need 1 (omega arith)),
+          worth-le 2 (posPart (morningNeed (holding b u 2))) (1000000 + n2) (morning-need 2 (omega arith)),
+        )
+
+    pub afternoon-level-le : afternoonLevel limits b u ≤ 9580000000000
+    unfolding afternoonLevel afternoonSum floored areas sum dealtInAll
+    afternoon-level-le =
+        let id = u .party .id in
+        let ts = b .trades in
+        let needs = sum (λ a. posPart (afternoonNeed a (holding b u a)) * referencePrice (b .header .prices) a) areas in
+        let short = exposure (b .header .prices) (holding b u) in
+        let c = u .party .charges in
+        omega (
+          arith,
+          charges-le u v,
+          sold-le,
+          exposure-le,
+          posPart-of (c +ℤ pos needs +ℤ pos short) (posPart c + needs + short) (negPart c)
+              (omega (arith, parts-add c (pos needs), parts-add (c +ℤ pos needs) (pos short), posPart-pos needs, negPart-pos needs, posPart-pos short, negPart-pos short)),
+          worth-le 0 (posPart (afternoonNeed 0 (holding b u 0))) (sold ts id 0 1) (afternoon-need 0),
+          worth-le 1 (posPart (afternoonNeed 1 (holding b u 1))) (sold ts id 1 1) (afternoon-need 1),
+          worth-le 2 (posPart (afternoonNeed 2 (holding b u 2))) (sold ts id 2 1) (afternoon-need 2),
+        )

@@ -1,0 +1,45 @@
+-- What a book that passes the questions 2 to 7 is, as a record of facts. Assumes nothing.
+use mathlib.Core.Option.{Option, none, some}
+use mathlib.Core.Path.{_≡_, refl}
+use Prim.Native.Nat.{ℕ}
+use lib.Dec.{T}
+use Rattle.laws.proofs.Refusals.{first-yes, yes-first}
+use Rattle.laws.proofs.Tests.{and-l, and-r, and-i}
+use Rattle.rules.specs.Book.{Book}
+use Rattle.rules.specs.Lists.{all}
+use Rattle.rules.specs.Questions.{refusal, aboutBook, isNone, accepted, countsValid, idsRise, userValid, tradeValid, positionsValid, headerValid, usersValid, versionValid}
+
+pub record Sound (b : Book) : Type 0 where
+  pub version : T (versionValid b)
+  pub counts : T (countsValid b)
+  pub header : T (headerValid (b .header))
+  pub ids : T (idsRise 0 (b .users))
+  pub users : T (all userValid (b .users))
+  pub trades : T (all (tradeValid (b .users)) (b .trades))
+  pub positions : T (all (positionsValid (b .trades)) (b .users))
+
+pub sound-of : (b : Book) → refusal (aboutBook b) ≡ none → Sound b
+unfolding aboutBook usersValid
+sound-of b h =
+    let q2 = first-yes _ _ h in
+    let q3 = first-yes _ _ (q2 .1) in
+    let q4 = first-yes _ _ (q3 .1) in
+    let q5 = first-yes _ _ (q4 .1) in
+    let q6 = first-yes _ _ (q5 .1) in
+    let q7 = first-yes _ _ (q6 .1) in
+    let u = idsRise 0 (b .users) in
+    let v = all userValid (b .users) in
+    record { version = q2 .0; counts = q3 .0; header = q4 .0; ids = and-l u v (q5 .0); users = and-r u v (q5 .0); trades = q6 .0; positions = q7 .0 }
+
+pub sound : (b : Book) → T (accepted b) → Sound b
+unfolding accepted isNone
+sound b t = go (refusal (aboutBook b)) refl t
+  where
+    go : (o : Option ℕ) → refusal (aboutBook b) ≡ o → T (isNone o) → Sound b
+    go none e h = sound-of b e
+    go (some n) e h = absurd h
+
+pub accept : (b : Book) → Sound b → T (accepted b)
+unfolding accepted aboutBook usersValid isNone refusal
+accept b s =
+    rw (yes-first 2 _ _ (s .version), yes-first 3 _ _ (s .counts), yes-first 4 _ _ (s .header), yes-first 5 _ _ (and-i (idsRise 0 (b .users)) (all userValid (b .users)) (s .ids) (s .users)), yes-first 6 _ _ (s .trades), yes-first 7 _ _ (s .positions)) tt
