@@ -4,7 +4,6 @@ use mathlib.Core.Path.{_≡_, _∙_}
 use native.Mathlib.Omega.{arith}
 use native.Mathlib.Nat.{add-zero, sub-self}
 use borrow.Author.Needs.{needs}
-use lib.ListN.{length}
 use denote.Ref.{now}
 use Rattle.fields.specs.Field.{field}
 use Rattle.fields.proofs.Field.{field-zero, field-lt, field-lt-wider, field-step}

@@ -1,5 +1,5 @@
 -- `fields::put` meets its contract. The field is written from its first byte up: what is left to write, written, gives what the whole would have given. Assumes nothing.
-use Prim.Native.Nat.{_+_, _-_, _≤_, _<_}
+use Prim.Native.Nat.{_+_, _-_, _≤_}
 use mathlib.Core.Path.{_≡_, refl}
 use native.Mathlib.Omega.{arith}
 use native.Mathlib.Nat.{add-zero, sub-self}
