@@ -25,6 +25,11 @@ unfoldable pub refusal : List Question → Option ℕ
 refusal [] = none
 refusal (q ∷ qs) = cond (q .holds) (refusal qs) (some (q .number))
 
+-- "An accepted call returns 0 as its number."
+unfoldable pub numberOf : Option ℕ → ℕ
+numberOf none = 0
+numberOf (some n) = n
+
 -- every call: what it gives where a question refuses it, and what where it is accepted
 unfoldable pub decided : {R : Type 0} → Option ℕ → (ℕ → R) → R → R
 decided none refused accepted = accepted

@@ -1,0 +1,4 @@
+-- A book in bytes.
+pub mod Book
+pub mod Questions
+pub mod Steps
