@@ -11,7 +11,7 @@ use Rattle.laws.proofs.Changed.{change-sound}
 use Rattle.laws.proofs.Moved.{Moved, moved-refl}
 use Rattle.laws.proofs.Sound.{Sound}
 use Rattle.laws.proofs.Tests.{and-l, and-r, and-i, by-test}
-use Rattle.laws.proofs.Users.{found, map-sum}
+use Rattle.laws.proofs.Users.{all-find, map-sum}
 use Rattle.rules.specs.Book.{at, User, Trade, Book, definedPosition, find}
 use Rattle.rules.specs.Changes.{change, blockedTo, withUsers}
 use Rattle.rules.specs.Questions.{known, userValid, positionsValid, entriesValid, guaranteesValid, positionValid}
@@ -35,8 +35,8 @@ pub guarantee-sound : (b : Book) (id level : ℕ) → Sound b → T (known (b .u
     → Sound (withUsers b (change id (blockedTo level) (b .users)))
 guarantee-sound b id level s k h =
     change-sound b id (blockedTo level) (blocked-party level) s
-    (blocked-valid (find (b .users) id) level h (found userValid (b .users) id (s .users) k))
-    (blocked-positions (b .trades) level (find (b .users) id) (found (positionsValid (b .trades)) (b .users) id (s .positions) k))
+    (blocked-valid (find (b .users) id) level h (all-find userValid (b .users) id (s .users) k))
+    (blocked-positions (b .trades) level (find (b .users) id) (all-find (positionsValid (b .trades)) (b .users) id (s .positions) k))
 
 pub guarantee-moved : (b : Book) (id level : ℕ) → Moved b (withUsers b (change id (blockedTo level) (b .users))) (λ i. pos 0) (pos 0) (pos 0)
 unfolding withUsers change blockedTo

@@ -13,7 +13,7 @@ use Rattle.laws.proofs.Moved.{Moved, moved-refl}
 use Rattle.laws.proofs.Positions.{position-is, positions-valid}
 use Rattle.laws.proofs.Sound.{Sound}
 use Rattle.laws.proofs.Tests.{and-l, and-r, and-i}
-use Rattle.laws.proofs.Users.{change-sum, found}
+use Rattle.laws.proofs.Users.{change-sum, all-find}
 use Rattle.rules.specs.Book.{at, User, Trade, Book, definedPosition, sold, bought, find}
 use Rattle.rules.specs.Changes.{change, add, posted, withUsers}
 use Rattle.rules.specs.Questions.{known, userValid, positionsValid, entriesValid, guaranteesValid}
@@ -52,8 +52,8 @@ pub posting-sound : (b : Book) (id a : ℕ) (z : ℤ) → Sound b → T (known (
     → T (within 1000000 (at (find (b .users) id .physical) a +ℤ z)) → Sound (withUsers b (change id (posted a z) (b .users)))
 posting-sound b id a z s k h w =
     change-sound b id (posted a z) (posted-party a z) s
-    (posted-valid (find (b .users) id) a z h w (found userValid (b .users) id (s .users) k))
-    (posted-position (b .trades) (find (b .users) id) a z h (found (positionsValid (b .trades)) (b .users) id (s .positions) k))
+    (posted-valid (find (b .users) id) a z h w (all-find userValid (b .users) id (s .users) k))
+    (posted-position (b .trades) (find (b .users) id) a z h (all-find (positionsValid (b .trades)) (b .users) id (s .positions) k))
 
 pub posting-moved : (b : Book) (id a : ℕ) (z : ℤ) → Sound b → T (known (b .users) id) → a < 3
     → Moved b (withUsers b (change id (posted a z) (b .users))) (λ i. cond (eqb a i) z (pos 0)) (pos 0) (pos 0)

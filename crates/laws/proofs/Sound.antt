@@ -39,7 +39,11 @@ sound b t = go (refusal (aboutBook b)) refl t
     go none e h = sound-of b e
     go (some n) e h = absurd h
 
+pub none-refuses : (b : Book) → Sound b → refusal (aboutBook b) ≡ none
+unfolding aboutBook usersValid refusal
+none-refuses b s =
+    rw (yes-first 2 _ _ (s .version), yes-first 3 _ _ (s .counts), yes-first 4 _ _ (s .header), yes-first 5 _ _ (and-i (idsRise 0 (b .users)) (all userValid (b .users)) (s .ids) (s .users)), yes-first 6 _ _ (s .trades), yes-first 7 _ _ (s .positions))
+
 pub accept : (b : Book) → Sound b → T (accepted b)
-unfolding accepted aboutBook usersValid isNone refusal
-accept b s =
-    rw (yes-first 2 _ _ (s .version), yes-first 3 _ _ (s .counts), yes-first 4 _ _ (s .header), yes-first 5 _ _ (and-i (idsRise 0 (b .users)) (all userValid (b .users)) (s .ids) (s .users)), yes-first 6 _ _ (s .trades), yes-first 7 _ _ (s .positions)) tt
+unfolding accepted isNone
+accept b s = rw (none-refuses b s) tt

@@ -99,10 +99,10 @@ map-sum h g e [] = refl
 map-sum h g e (u ∷ us) = ap₂ (λ x y. x +ℤ y) (e u) (map-sum h g e us)
 
 -- what holds of all users holds of the one of a known id
-pub found : (p : User → Bool) (us : List User) (id : ℕ) → T (all p us) → T (known us id) → T (p (find us id))
+pub all-find : (p : User → Bool) (us : List User) (id : ℕ) → T (all p us) → T (known us id) → T (p (find us id))
 unfolding all known any find
-found p [] id h k = absurd k
-found p (u ∷ us) id h k = go (eqb (u .party .id) id) (λ m. found p us id (and-r (p u) (all p us) h) m) k
+all-find p [] id h k = absurd k
+all-find p (u ∷ us) id h k = go (eqb (u .party .id) id) (λ m. all-find p us id (and-r (p u) (all p us) h) m) k
   where
     go : (c : Bool) → (T (known us id) → T (p (find us id))) → T (c || known us id) → T (p (cond c u (find us id)))
     go true ih m = and-l (p u) (all p us) h

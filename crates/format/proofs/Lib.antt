@@ -1,0 +1,4 @@
+-- What follows for a book in bytes.
+pub mod Formed
+pub mod Passed
+pub mod Steps
