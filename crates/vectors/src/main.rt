@@ -1,7 +1,9 @@
-// Vectors: known dates go through the calendar, and what it answers is printed. The file stdout holds the program to it.
+// Vectors: known dates and fields go through the calendar and the fields, and what they answer is printed. The file stdout holds the program to it.
 mod dates;
 mod text;
+mod widths;
 
 fn main() {
     dates::run();
+    widths::run();
 }

@@ -24,3 +24,18 @@ pub fn answer(yes: bool) {
 pub fn end() {
     write(b"\n");
 }
+
+// A space, and bytes in hexadecimal, two digits each.
+pub fn bytes(s: &[u8]) {
+    write(b" ");
+    let mut i = 0;
+    while i < s.len() {
+        byte(s[i]);
+        i += 1;
+    }
+}
+
+// A byte in hexadecimal.
+fn byte(b: u8) {
+    io::print_hex(libc::STDOUT_FILENO, b as u64, 2);
+}
