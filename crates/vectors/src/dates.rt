@@ -31,49 +31,30 @@ fn year(year: u32)
     text::end();
 }
 
-// A leap year, the first of the range; a common year; the leap year after it; the last year of the range.
-fn years() {
-    year(2020);
-    year(2023);
-    year(2024);
-    year(2099);
-}
-
 // One date, and whether it is a real day.
 fn single_date(date: u32) {
-    text::write(b"date");
-    text::number(date as u64);
-    text::answer(calendar::is_real_day(date));
-    text::end();
+    text::asked(b"date", date as u64, calendar::is_real_day(date));
 }
 
-// The first and the last day of the range, and the days before and after it.
-fn range_ends() {
+// Dates at the edges.
+fn dates() {
+    // The first and the last day of the range, and the days before and after it.
     single_date(20200101);
     single_date(20991231);
     single_date(20191231);
     single_date(21000101);
-}
-
-// Days before a month's first and after its last, in a common year and in a leap year.
-fn month_ends() {
+    // Days before a month's first and after its last, in a common year and in a leap year.
     single_date(20230100);
     single_date(20230132);
     single_date(20230229);
     single_date(20230431);
     single_date(20240229);
     single_date(20240230);
-}
-
-// Months before the first and after the last.
-fn year_ends() {
+    // Months before the first and after the last.
     single_date(20230001);
     single_date(20231231);
     single_date(20231301);
-}
-
-// Years out of the range, among them a common and a leap century, and numbers that are no date.
-fn other_numbers() {
+    // Leap days of centuries out of the range, and numbers that are no date.
     single_date(20000229);
     single_date(21000229);
     single_date(120230101);
@@ -84,14 +65,17 @@ fn other_numbers() {
 
 // One year, and whether it is a leap year.
 fn leap_year(year: u32) {
-    text::write(b"leap");
-    text::number(year as u64);
-    text::answer(calendar::leap(year));
-    text::end();
+    text::asked(b"leap", year as u64, calendar::leap(year));
 }
 
-// Centuries, the first and the last of them that a u32 has, and years beside them.
-fn centuries() {
+// The vectors of the calendar: a leap year, a common year, the next leap year and the last year of the range; dates; centuries and
+// years beside them, the last that a u32 has among them.
+pub fn run() {
+    year(2020);
+    year(2023);
+    year(2024);
+    year(2099);
+    dates();
     leap_year(0);
     leap_year(1900);
     leap_year(1996);
@@ -100,14 +84,4 @@ fn centuries() {
     leap_year(2100);
     leap_year(4294967200);
     leap_year(4294967295);
-}
-
-// The vectors of the calendar.
-pub fn run() {
-    years();
-    range_ends();
-    month_ends();
-    year_ends();
-    other_numbers();
-    centuries();
 }

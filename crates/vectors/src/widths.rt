@@ -43,8 +43,8 @@ fn field_u64(v: u64) {
     line(8, v, &bytes, back);
 }
 
-// The values of the fields of one and two bytes.
-fn small_fields() {
+// The vectors of the fields.
+pub fn run() {
     field_u8(0);
     field_u8(1);
     field_u8(127);
@@ -55,10 +55,6 @@ fn small_fields() {
     field_u16(32767);
     field_u16(32768);
     field_u16(65535);
-}
-
-// The values of the fields of four and eight bytes.
-fn large_fields() {
     field_u32(0);
     field_u32(1);
     field_u32(2147483647);
@@ -69,10 +65,4 @@ fn large_fields() {
     field_u64(9223372036854775807);
     field_u64(9223372036854775808);
     field_u64(18446744073709551615);
-}
-
-// The vectors of the fields.
-pub fn run() {
-    small_fields();
-    large_fields();
 }
