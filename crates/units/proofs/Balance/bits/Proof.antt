@@ -1,0 +1,22 @@
+-- `Balance::bits` changes the highest bit of the number inside, which is writing in two's complement. Assumes nothing.
+use mathlib.Core.Path.{refl}
+use Prim.Native.Nat.{_^_}
+use Rattle.units.proofs.TwosComplement.{bitsOf-below, bitsOf-from}
+use Rattle.units.specs.Amounts.{balance}
+use borrow.Author.Needs.{needs}
+use Rattle.units.proofs.Balance.bits.Statement.{statement}
+use Rattle.units.proofs.Balance.bits.Tie as tie
+
+add-result : tie.Need-add-result
+add-result c = search needs
+
+returns : tie.Need-returns
+unfolding balance
+returns c = bitsOf-below 64 (2 ^ 63) refl (c .before .args .self .0) (c .if1 .taken)
+
+returns-2 : tie.Need-returns-2
+unfolding balance
+returns-2 c = bitsOf-from 64 (2 ^ 63) refl (c .before .args .self .0) (c .if1 .left)
+
+pub bits-spec : {M : Type 1} → statement M
+bits-spec = tie.close (tie.spec add-result returns returns-2)

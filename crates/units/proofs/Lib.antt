@@ -1,0 +1,3 @@
+-- Laws of the signed amounts.
+pub mod TwosComplement
+pub mod Amounts

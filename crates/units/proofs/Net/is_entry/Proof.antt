@@ -1,0 +1,21 @@
+-- `Net::is_entry` compares the number inside with both ends of the range, shifted by the offset. Assumes nothing.
+use native.Mathlib.Omega.{arith}
+use Prim.Native.Nat.{_^_}
+use Rattle.units.proofs.Amounts.{within-offset}
+use Rattle.units.specs.Amounts.{net}
+use borrow.Author.Needs.{needs}
+use Rattle.units.proofs.Net.is_entry.Statement.{statement}
+use Rattle.units.proofs.Net.is_entry.Tie as tie
+
+sub-result : tie.Need-sub-result
+sub-result c = search needs
+
+add-result : tie.Need-add-result
+add-result c = search needs
+
+returns : tie.Need-returns
+unfolding net
+returns c = within-offset 1000000 (2 ^ 31) (c .args .self .0) (omega arith)
+
+pub is-entry-spec : {M : Type 1} → statement M
+is-entry-spec = tie.close (tie.spec sub-result add-result returns)

@@ -1,0 +1,27 @@
+-- `Net::lowered` takes the energy from the number inside, which is no less because what is below 0 stays within 2^31. Assumes nothing.
+use native.Mathlib.Omega.{arith}
+use lib.IntN.{pos, _-ℤ_}
+use Rattle.integers.proofs.Linear.{posPart-pos, negPart-pos, parts-sub}
+use Rattle.units.specs.Amounts.{net}
+use Rattle.units.proofs.Amounts.{parts-net, net-eq}
+use borrow.Author.Needs.{needs}
+use Rattle.units.proofs.Net.lowered.Statement.{statement}
+use Rattle.units.proofs.Net.lowered.Tie as tie
+
+cast-t4 : tie.Need-cast-t4
+cast-t4 c = search needs
+
+sub-t5 : tie.Need-sub-t5
+sub-t5 c = omega (arith, parts-net (c .before .args .self))
+
+cast-t6 : tie.Need-cast-t6
+cast-t6 c = search needs
+
+returns : tie.Need-returns
+returns c =
+    let x = net (c .before .args .self) in
+    let e = c .before .args .energy .0 in
+    net-eq _ (x -ℤ pos e) (omega (arith, parts-net (c .before .args .self), parts-sub x (pos e), posPart-pos e, negPart-pos e))
+
+pub lowered-spec : {M : Type 1} → statement M
+lowered-spec = tie.close (tie.spec cast-t4 sub-t5 cast-t6 returns)

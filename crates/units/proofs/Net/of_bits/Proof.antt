@@ -1,0 +1,22 @@
+-- `Net::of_bits` adds the offset to bits below it and takes it from the others, which is reading in two's complement. Assumes nothing.
+use mathlib.Core.Path.{refl}
+use Prim.Native.Nat.{_^_}
+use Rattle.units.proofs.TwosComplement.{signedOf-below, signedOf-from}
+use Rattle.units.specs.Amounts.{net}
+use borrow.Author.Needs.{needs}
+use Rattle.units.proofs.Net.of_bits.Statement.{statement}
+use Rattle.units.proofs.Net.of_bits.Tie as tie
+
+add-t4 : tie.Need-add-t4
+add-t4 c = search needs
+
+returns : tie.Need-returns
+unfolding net
+returns c = signedOf-below 32 (2 ^ 31) refl (c .before .args .bits) (c .if1 .taken)
+
+returns-2 : tie.Need-returns-2
+unfolding net
+returns-2 c = signedOf-from 32 (2 ^ 31) refl (c .before .args .bits) (c .if1 .left)
+
+pub of-bits-spec : {M : Type 1} → statement M
+of-bits-spec = tie.close (tie.spec add-t4 returns returns-2)

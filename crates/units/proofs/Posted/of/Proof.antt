@@ -1,0 +1,79 @@
+-- `Posted::of` compares the two sides of the sum, each without a sign: the entry inside with what flows in, and the offset with what flows out.
+-- Assumes nothing.
+use mathlib.Core.Path.{_≡_, refl, sym, _∙_, ap}
+use Prim.Native.Nat.{ℕ, _+_, _-_, _^_}
+use native.Mathlib.Omega.{arith}
+use lib.IntN.{ℤ, _+ℤ_}
+use mir.Syntax.{w64}
+use mir.Val.{SFits, toZ, ofZ}
+use mir.ValLaws.{toZ-ofZ}
+use Rattle.integers.specs.Parts.{posPart, negPart}
+use Rattle.integers.proofs.Linear.{parts-add, posPart-of, negPart-of}
+use Rattle.units.specs.declared.Net.{Net}
+use Rattle.units.specs.Amounts.{net}
+use Rattle.units.proofs.Amounts.{parts-net, le-within, lt-within, net-eq}
+use borrow.Author.Needs.{needs}
+use Rattle.units.proofs.Posted.of.Statement.{statement}
+use Rattle.units.proofs.Posted.of.Tie as tie
+
+-- the parts of the sum, by what flows in and out
+sum-parts : (old : Net) (z : ℤ) → SFits w64 z → {i o : ℕ} → (i ≡ posPart (toZ w64 (ofZ w64 z))) × (o ≡ negPart (toZ w64 (ofZ w64 z)))
+    → posPart (net old +ℤ z) + (2 ^ 31 + o) ≡ old .0 + i + negPart (net old +ℤ z)
+sum-parts old z f e =
+    omega (arith, parts-net old, parts-add (net old) z, ap posPart (toZ-ofZ w64 z f), ap negPart (toZ-ofZ w64 z f))
+
+of-requires : tie.Need-of-requires
+of-requires c κs = search needs
+
+cast-above : tie.Need-cast-above
+cast-above c = search needs
+
+add-above : tie.Need-add-above
+add-above c = search needs
+
+cast-below : tie.Need-cast-below
+cast-below c = search needs
+
+add-below : tie.Need-add-below
+add-below c = search needs
+
+add-if1 : tie.Need-add-if1
+add-if1 c = search needs
+
+returns : tie.Need-returns
+returns c =
+    let s = c .before .before .before .before in
+    let z = net (s .args .old) +ℤ s .args .amount in
+    let e = sum-parts (s .args .old) (s .args .amount) (s .fits .amount) (c .before .before .before .of .ensures .0) in
+    (sym (lt-within 1000000 z (omega arith)), refl)
+
+add-if2 : tie.Need-add-if2
+add-if2 c = search needs
+
+returns-2 : tie.Need-returns-2
+returns-2 c =
+    let s = c .before .before .before .before .before in
+    let z = net (s .args .old) +ℤ s .args .amount in
+    let e = sum-parts (s .args .old) (s .args .amount) (s .fits .amount) (c .before .before .before .before .of .ensures .0) in
+    (sym (lt-within 1000000 z (omega arith)), refl)
+
+sub-t7 : tie.Need-sub-t7
+sub-t7 c = search needs
+
+cast-t9 : tie.Need-cast-t9
+cast-t9 c = search needs
+
+returns-3 : tie.Need-returns-3
+returns-3 c =
+    let s = c .before .before .before .before .before .before in
+    let z = net (s .args .old) +ℤ s .args .amount in
+    let e = sum-parts (s .args .old) (s .args .amount) (s .fits .amount) (c .before .before .before .before .before .of .ensures .0) in
+    let flow = c .before .before .before .before .before .of .result in
+    let above = s .args .old .0 + flow .inflow .0 in
+    let below = 2 ^ 31 + flow .outflow .0 in (
+      sym (le-within 1000000 z (omega (arith, posPart-of z above below e, negPart-of z above below e))),
+      net-eq _ z (omega arith),
+    )
+
+pub of-spec : {M : Type 1} → statement M
+of-spec = tie.close (tie.spec of-requires cast-above add-above cast-below add-below add-if1 returns add-if2 returns-2 sub-t7 cast-t9 returns-3)

@@ -1,0 +1,19 @@
+-- `Price::worth`: the price is at most 300,000, so the product is at most 300,000 times the energy and fits 64 bits. Assumes nothing.
+use mathlib.Core.Path.{refl}
+use native.Mathlib.Nat.{mul-le-mul-left}
+use native.Mathlib.Omega.{arith}
+use borrow.Author.Needs.{needs}
+use Rattle.units.proofs.Price.worth.Statement.{statement}
+use Rattle.units.proofs.Price.worth.Tie as tie
+
+cast-t4 : tie.Need-cast-t4
+cast-t4 c = search needs
+
+mul-t5 : tie.Need-mul-t5
+mul-t5 c = omega (arith, mul-le-mul-left (c .before .args .energy .0) (c .before .pre .0))
+
+returns : tie.Need-returns
+returns c = (refl, omega (arith, mul-le-mul-left (c .before .args .energy .0) (c .before .pre .0)))
+
+pub worth-spec : {M : Type 1} → statement M
+worth-spec = tie.close (tie.spec cast-t4 mul-t5 returns)

@@ -1,0 +1,18 @@
+-- The prices of the rules that the code's prices are, and their range. Assumes nothing.
+use Prim.Native.Nat.{_≤_}
+use Rattle.rules.specs.Areas as areas
+use Rattle.units.specs.declared.Prices.{Prices}
+
+-- the same five numbers
+abbrev pub asPrices : Prices → areas.Prices
+asPrices f = record { p = f .p; q = f .q; l = f .l; x = f .x; i = f .i }
+
+-- P and Q are 1 to 100,000, the tolls 0 to 100,000
+pub record InRange (f : areas.Prices) : Type 0 where
+  pub p-least : 1 ≤ f .p
+  pub p-most : f .p ≤ 100000
+  pub q-least : 1 ≤ f .q
+  pub q-most : f .q ≤ 100000
+  pub l-most : f .l ≤ 100000
+  pub x-most : f .x ≤ 100000
+  pub i-most : f .i ≤ 100000

@@ -1,0 +1,305 @@
+// Energy, money and prices, each with its own type; signed amounts of energy and money; the prices of a day and the areas that they hold in.
+// A signed amount is kept as an unsigned number, the amount + an offset, and every contract speaks of the integer itself.
+ghost use mathlib.Core.Path.{_≡_};
+ghost use mathlib.Core.Bool.{true, cond};
+ghost use Prim.Native.Nat.{_+_, _*_, _≤_, _<_, _^_};
+ghost use lib.IntN.{pos, _+ℤ_, _-ℤ_};
+ghost use Rattle.integers.specs.Parts.{posPart, negPart};
+ghost use Rattle.rules.specs.Areas.{tariff, referencePrice};
+ghost use Rattle.rules.specs.Signed.{signedOf, bitsOf, within};
+ghost use Rattle.units.specs.Amounts.{net, balance};
+ghost use Rattle.units.specs.Prices.{asPrices, InRange};
+
+// An energy, in MWh.
+pub struct Mwh(pub u64);
+
+// A sum of money, in cents.
+pub struct Cents(pub u64);
+
+// Cents for each MWh.
+pub struct Price(pub u32);
+
+impl Price {
+    // What an energy is worth at this price: the only way from energy to money.
+    pub fn worth(self, energy: Mwh) -> Cents
+        requires { ⌜ (self .0 ≤ 300000) × (energy .0 ≤ 2 ^ 45) ⌝ }
+        ensures { λ r. ⌜ r .0 ≡ energy .0 * self .0 ⌝ }
+        ensures { λ r. ⌜ r .0 ≤ 300000 * energy .0 ⌝ }
+    {
+        let price = self.0;
+        Cents(energy.0 * price as u64)
+    }
+}
+
+// An energy with a sign, in MWh: kept as the energy + 2^31.
+pub struct Net(pub u32);
+
+impl Net {
+    // What is added to the energy inside.
+    pub const OFFSET: u32 = 2147483648;
+    // No energy.
+    pub const ZERO: Net = Net(Net::OFFSET);
+
+    // The energy that 32 bits stand for in two's complement.
+    pub fn of_bits(bits: u32) -> Net
+        ensures { λ r. ⌜ net r ≡ signedOf 32 bits ⌝ }
+    {
+        if bits < Net::OFFSET {
+            Net(bits + Net::OFFSET)
+        } else {
+            Net(bits - Net::OFFSET)
+        }
+    }
+
+    // The 32 bits that stand for the energy.
+    pub fn bits(self) -> u32
+        ensures { λ r. ⌜ r ≡ bitsOf 32 (net self) ⌝ }
+    {
+        let x = self.0;
+        if x < Net::OFFSET {
+            x + Net::OFFSET
+        } else {
+            x - Net::OFFSET
+        }
+    }
+
+    // What it is above 0.
+    pub fn long(self) -> Mwh
+        ensures { λ r. ⌜ r .0 ≡ posPart (net self) ⌝ }
+        ensures { λ r. ⌜ r .0 < 2 ^ 31 ⌝ }
+    {
+        let x = self.0;
+        if x < Net::OFFSET {
+            Mwh(0)
+        } else {
+            Mwh((x - Net::OFFSET) as u64)
+        }
+    }
+
+    // What it is below 0.
+    pub fn short(self) -> Mwh
+        ensures { λ r. ⌜ r .0 ≡ negPart (net self) ⌝ }
+        ensures { λ r. ⌜ r .0 ≤ 2 ^ 31 ⌝ }
+    {
+        let x = self.0;
+        if x < Net::OFFSET {
+            Mwh((Net::OFFSET - x) as u64)
+        } else {
+            Mwh(0)
+        }
+    }
+
+    // Is it within the range of a physical entry, a million MWh either way?
+    pub fn is_entry(self) -> bool
+        ensures { λ r. ⌜ r ≡ within 1000000 (net self) ⌝ }
+    {
+        let x = self.0;
+        (Net::OFFSET - 1000000 <= x) & (x <= Net::OFFSET + 1000000)
+    }
+
+    // More by an energy.
+    pub fn raised(self, energy: Mwh) -> Net
+        requires { ⌜ posPart (net self) + energy .0 < 2 ^ 31 ⌝ }
+        ensures { λ r. ⌜ net r ≡ net self +ℤ pos (energy .0) ⌝ }
+    {
+        let x = self.0;
+        Net((x as u64 + energy.0) as u32)
+    }
+
+    // Less by an energy.
+    pub fn lowered(self, energy: Mwh) -> Net
+        requires { ⌜ negPart (net self) + energy .0 ≤ 2 ^ 31 ⌝ }
+        ensures { λ r. ⌜ net r ≡ net self -ℤ pos (energy .0) ⌝ }
+    {
+        let x = self.0;
+        Net((x as u64 - energy.0) as u32)
+    }
+
+    // A position after its physical entry went from `old` to `new`: it moves by the same amount.
+    pub fn moved(self, old: Net, new: Net) -> Net
+        requires { ⌜ within 26600000 (net self) ≡ true ⌝ }
+        requires { ⌜ (within 1000000 (net old) ≡ true) × (within 1000000 (net new) ≡ true) ⌝ }
+        ensures { λ r. ⌜ net r ≡ net self +ℤ (net new -ℤ net old) ⌝ }
+    {
+        let x = self.0;
+        let from = old.0;
+        let to = new.0;
+        Net((x as u64 + to as u64 - from as u64) as u32)
+    }
+}
+
+// Money with a sign, in cents: kept as the money + 2^63.
+pub struct Balance(pub u64);
+
+impl Balance {
+    // What is added to the money inside.
+    pub const OFFSET: u64 = 9223372036854775808;
+    // No money.
+    pub const ZERO: Balance = Balance(Balance::OFFSET);
+
+    // The money that 64 bits stand for in two's complement.
+    pub fn of_bits(bits: u64) -> Balance
+        ensures { λ r. ⌜ balance r ≡ signedOf 64 bits ⌝ }
+    {
+        if bits < Balance::OFFSET {
+            Balance(bits + Balance::OFFSET)
+        } else {
+            Balance(bits - Balance::OFFSET)
+        }
+    }
+
+    // The 64 bits that stand for the money.
+    pub fn bits(self) -> u64
+        ensures { λ r. ⌜ r ≡ bitsOf 64 (balance self) ⌝ }
+    {
+        let x = self.0;
+        if x < Balance::OFFSET {
+            x + Balance::OFFSET
+        } else {
+            x - Balance::OFFSET
+        }
+    }
+
+    // What is owed of it: what it is above 0.
+    pub fn owed(self) -> Cents
+        ensures { λ r. ⌜ r .0 ≡ posPart (balance self) ⌝ }
+        ensures { λ r. ⌜ r .0 < 2 ^ 63 ⌝ }
+    {
+        let x = self.0;
+        if x < Balance::OFFSET {
+            Cents(0)
+        } else {
+            Cents(x - Balance::OFFSET)
+        }
+    }
+
+    // What it leaves to the user's credit: what it is below 0.
+    pub fn credit(self) -> Cents
+        ensures { λ r. ⌜ r .0 ≡ negPart (balance self) ⌝ }
+        ensures { λ r. ⌜ r .0 ≤ 2 ^ 63 ⌝ }
+    {
+        let x = self.0;
+        if x < Balance::OFFSET {
+            Cents(Balance::OFFSET - x)
+        } else {
+            Cents(0)
+        }
+    }
+
+    // Is it within the range of charges, 10^12 cents either way?
+    pub fn is_charges(self) -> bool
+        ensures { λ r. ⌜ r ≡ within 1000000000000 (balance self) ⌝ }
+    {
+        let x = self.0;
+        (Balance::OFFSET - 1000000000000 <= x) & (x <= Balance::OFFSET + 1000000000000)
+    }
+}
+
+// The energy that a signed amount brings in, and the energy that it takes out: one of the two is 0.
+pub struct Flow {
+    pub inflow: Mwh,
+    pub outflow: Mwh,
+}
+
+impl Flow {
+    // The flow of a signed amount, in MWh.
+    pub fn of(amount: i64) -> Flow
+        ensures { λ r. ⌜ (r .inflow .0 ≡ posPart amount) × (r .outflow .0 ≡ negPart amount) ⌝ }
+        ensures { λ r. ⌜ (r .inflow .0 < 2 ^ 63) × (r .outflow .0 ≤ 2 ^ 63) ⌝ }
+    {
+        if amount < 0 {
+            return Flow {
+                inflow: Mwh(0),
+                outflow: Mwh((-1 - amount) as u64 + 1),
+            };
+        }
+        Flow {
+            inflow: Mwh(amount as u64),
+            outflow: Mwh(0),
+        }
+    }
+}
+
+// A posting: whether it is accepted, and the physical entry after it.
+pub struct Posted {
+    pub accepted: bool,
+    pub entry: Net,
+}
+
+impl Posted {
+    // An amount is posted to a physical entry. It is accepted where the sum is within the range of an entry; else the entry stays.
+    pub fn of(old: Net, amount: i64) -> Posted
+        ensures { λ r. ⌜ r .accepted ≡ within 1000000 (net old +ℤ amount) ⌝ }
+        ensures { λ r. ⌜ net (r .entry) ≡ cond (r .accepted) (net old +ℤ amount) (net old) ⌝ }
+    {
+        let x = old.0;
+        let flow = Flow::of(amount);
+        let above = x as u64 + flow.inflow.0;
+        let below = Net::OFFSET as u64 + flow.outflow.0;
+        if above + 1000000 < below {
+            return Posted {
+                accepted: false,
+                entry: old,
+            };
+        }
+        if below + 1000000 < above {
+            return Posted {
+                accepted: false,
+                entry: old,
+            };
+        }
+        Posted {
+            accepted: true,
+            entry: Net((above - flow.outflow.0) as u32),
+        }
+    }
+}
+
+// The prices of a day, in cents per MWh: the tariffs P of PVB and Q of TVB and AVB, and the tolls L for liquefaction, X for PVB exit and I for injection.
+pub struct Prices {
+    pub p: u32,
+    pub q: u32,
+    pub l: u32,
+    pub x: u32,
+    pub i: u32,
+}
+
+// An area of trade, by its code.
+pub struct Area(pub u8);
+
+impl Area {
+    // The pipeline hub.
+    pub const PVB: u8 = 0;
+    // The LNG tank.
+    pub const TVB: u8 = 1;
+    // The underground store.
+    pub const AVB: u8 = 2;
+
+    // The area's tariff.
+    pub fn tariff(self, prices: Prices) -> Price
+        requires { ⌜ InRange (asPrices prices) ⌝ }
+        ensures { λ r. ⌜ r .0 ≡ tariff (asPrices prices) (self .0) ⌝ }
+        ensures { λ r. ⌜ (1 ≤ r .0) × (r .0 ≤ 100000) ⌝ }
+    {
+        let code = self.0;
+        if code == Area::PVB {
+            Price(prices.p)
+        } else {
+            Price(prices.q)
+        }
+    }
+
+    // The area's reference price.
+    pub fn reference_price(self, prices: Prices) -> Price
+        requires { ⌜ InRange (asPrices prices) ⌝ }
+        ensures { λ r. ⌜ r .0 ≡ referencePrice (asPrices prices) (self .0) ⌝ }
+        ensures { λ r. ⌜ (1 ≤ r .0) × (r .0 ≤ 300000) ⌝ }
+    {
+        let code = self.0;
+        match code {
+            Area::PVB => Price(prices.p),
+            Area::TVB => Price(prices.q + prices.l),
+            _ => Price(prices.q + prices.x + prices.i),
+        }
+    }
+}
