@@ -1,4 +1,6 @@
-// Vectors: known dates and fields go through the calendar and the fields, and what they answer is printed. The file stdout holds the program to it.
+// Vectors: known values go through the calendar, the fields and the units, and what these answer is printed, a line each.
+// The file stdout holds the program to it.
+mod amounts;
 mod dates;
 mod text;
 mod widths;
@@ -6,4 +8,5 @@ mod widths;
 fn main() {
     dates::run();
     widths::run();
+    amounts::run();
 }

@@ -17,6 +17,16 @@ pub fn number(n: u64) {
     io::print_decimal(STDOUT_FILENO, n);
 }
 
+// A space, and a number with its sign, from what it is above 0 and what it is below 0.
+pub fn signed(above: u64, below: u64) {
+    if 0 < below {
+        write(b" -");
+        io::print_decimal(STDOUT_FILENO, below);
+    } else {
+        number(above);
+    }
+}
+
 // A space, and 1 for yes or 0 for no.
 pub fn answer(yes: bool) {
     if yes {
