@@ -1,9 +1,9 @@
 -- Laws of records of one length that stand one after the other: read and written, one of them replaced, and a turn of the loops over them. Assumes nothing.
 use Prim.Native.Nat.{ℕ, zero, suc, _+_, _-_, _*_, _<_, _≤_}
-use mathlib.Core.Path.{_≡_, refl, sym, ap, ap₂, _∙_}
+use mathlib.Core.Path.{_≡_, refl, sym, ap, _∙_}
 use mathlib.Core.List.{List, [], _∷_, _++_, append-assoc}
 use native.Mathlib.Omega.{arith}
-use native.Mathlib.Nat.{zero-add, add-comm, mul-zero, mul-suc, mul-le-mul-left, not-suc-le-zero, le-of-suc-le-suc}
+use native.Mathlib.Nat.{add-comm, mul-zero, mul-suc, not-suc-le-zero, le-of-suc-le-suc}
 use native.Mathlib.Numerals.{add-one}
 use lib.ListN.{length, getD, take, drop, set, length-append, length-drop}
 use lib.Seq.{sets, length-take-le, drop-drop, drop-cons, drop-at, take-at, take-add}
@@ -33,7 +33,9 @@ module _ {R : Type 0} (len : ℕ) (one : List ℕ → R) where
       getD-recordsOf n i (drop len s) d (le-of-suc-le-suc h) ∙ rw (drop-drop, ← mul-suc-front)
 
   -- one record's bytes replaced is that record replaced
-  pub recordsOf-sets : (n i : ℕ) (s v : List ℕ) → i < n → len * n ≤ length s → length v ≡ len → recordsOf len one n (sets s (len * i) v) ≡ set (recordsOf len one n s) i (one v)
+  pub recordsOf-sets : (n i : ℕ) (s v : List ℕ)
+      → i < n → len * n ≤ length s → length v ≡ len
+      → recordsOf len one n (sets s (len * i) v) ≡ set (recordsOf len one n s) i (one v)
   unfolding recordsOf
   recordsOf-sets zero i s v h k e = absurd (not-suc-le-zero h)
   recordsOf-sets (suc n) zero s v h k e =
@@ -44,7 +46,10 @@ module _ {R : Type 0} (len : ℕ) (one : List ℕ → R) where
       rw (mul-suc-front, take-sets v s (len + len * i) len (omega arith), drop-sets-add, recordsOf-sets n i (drop len s) v (le-of-suc-le-suc h) f e)
 
   -- a turn of the loop that reads records into an array
-  pub recordsOf-step : (m i a : ℕ) (rs : List R) (s : List ℕ) → 0 < m → sets rs i (recordsOf len one m (drop a s)) ≡ sets (set rs i (one (take len (drop a s)))) (i + 1) (recordsOf len one (m - 1) (drop (a + len) s))
+  pub recordsOf-step : (m i a : ℕ) (rs : List R) (s : List ℕ)
+      → 0 < m
+      → sets rs i (recordsOf len one m (drop a s))
+      ≡ sets (set rs i (one (take len (drop a s)))) (i + 1) (recordsOf len one (m - 1) (drop (a + len) s))
   unfolding recordsOf
   recordsOf-step zero i a rs s p = absurd (not-suc-le-zero p)
   recordsOf-step (suc m) i a rs s p =
@@ -61,7 +66,10 @@ module _ {R : Type 0} (bytes : R → List ℕ) where
       all-bytes-append (bytes r) (bytesOfRecords bytes rs) (h .0) (all-bytes-records rs (h .1))
 
   -- a turn of the loop that writes the records of an array
-  pub bytesOfRecords-step : (len m i a : ℕ) (rs : List R) (d : R) (s : List ℕ) → 0 < m → i < length rs → length (bytes (getD rs i d)) ≡ len → sets s a (bytesOfRecords bytes (take m (drop i rs))) ≡ sets (sets s a (bytes (getD rs i d))) (a + len) (bytesOfRecords bytes (take (m - 1) (drop (i + 1) rs)))
+  pub bytesOfRecords-step : (len m i a : ℕ) (rs : List R) (d : R) (s : List ℕ)
+      → 0 < m → i < length rs → length (bytes (getD rs i d)) ≡ len
+      → sets s a (bytesOfRecords bytes (take m (drop i rs)))
+      ≡ sets (sets s a (bytes (getD rs i d))) (a + len) (bytesOfRecords bytes (take (m - 1) (drop (i + 1) rs)))
   unfolding bytesOfRecords
   bytesOfRecords-step len zero i a rs d s p q l = absurd (not-suc-le-zero p)
   bytesOfRecords-step len (suc m) i a rs d s p q l =
@@ -88,7 +96,9 @@ module _ {R : Type 0} (bytes : R → List ℕ) where
 -- ---- what holds of each part of bytes
 
 -- from one fact of each part to another
-pub every-part-map : (P Q : List ℕ → Type 0) (len n : ℕ) (s : List ℕ) → ((c : List ℕ) → length c ≡ len → AllBytes c → P c → Q c) → len * n ≤ length s → AllBytes s → EveryPart P len n s → EveryPart Q len n s
+pub every-part-map : (P Q : List ℕ → Type 0) (len n : ℕ) (s : List ℕ)
+    → ((c : List ℕ) → length c ≡ len → AllBytes c → P c → Q c)
+    → len * n ≤ length s → AllBytes s → EveryPart P len n s → EveryPart Q len n s
 every-part-map P Q len zero s f l b h = tt
 every-part-map P Q len (suc n) s f l b h =
     let k : len * n ≤ length (drop len s) = rw length-drop (omega (arith, mul-suc-front len n)) in
@@ -106,7 +116,9 @@ module _ {R : Type 0} (len : ℕ) (one : List ℕ → R) (bytes : R → List ℕ
       rw (mul-suc-front, take-add, h .0, bytesOfRecords-recordsOf n (drop len s) (h .1))
 
   -- records written and read again are the records
-  pub recordsOf-bytesOfRecords : (rs : List R) (q : List ℕ) → Every (λ r. (one (bytes r) ≡ r) × (length (bytes r) ≡ len)) rs → recordsOf len one (length rs) (bytesOfRecords bytes rs ++ q) ≡ rs
+  pub recordsOf-bytesOfRecords : (rs : List R) (q : List ℕ)
+      → Every (λ r. (one (bytes r) ≡ r) × (length (bytes r) ≡ len)) rs
+      → recordsOf len one (length rs) (bytesOfRecords bytes rs ++ q) ≡ rs
   unfolding recordsOf bytesOfRecords
   recordsOf-bytesOfRecords [] q h = refl
   recordsOf-bytesOfRecords (r ∷ rs) q h =
