@@ -1,2 +1,4 @@
 -- What follows from the rules.
 pub mod Tests
+pub mod Ranks
+pub mod Shares
