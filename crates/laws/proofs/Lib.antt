@@ -2,3 +2,4 @@
 pub mod Tests
 pub mod Ranks
 pub mod Shares
+pub mod Cuts
