@@ -1,15 +1,22 @@
--- What follows from the rules.
+-- What follows from the rules. Tests and questions:
 pub mod Tests
 pub mod Refusals
 pub mod Sound
+-- users, positions, trades, and what a call did to a book
+pub mod Areas
 pub mod Users
 pub mod Positions
 pub mod Trades
 pub mod Moved
-pub mod Areas
+-- each call
 pub mod Changed
 pub mod Posting
 pub mod Guarantee
 pub mod Settle
+pub mod Ranks
+pub mod Shares
+pub mod Cuts
 pub mod Reduction
+pub mod Run
+-- numeric bounds
 pub mod Bounds

@@ -1,2 +1,3 @@
 -- The words in which the laws are stated.
 pub mod Trades
+pub mod Ranks
