@@ -65,7 +65,7 @@ pub lt-within : (n : ℕ) (z : ℤ) → n < posPart z + negPart z → within n z
 unfolding within
 lt-within n z h = lt-leb (natAbs z) n (omega (arith, abs-parts z))
 
--- of a number x kept + h: two tests of x
+-- of a number x kept + h: the range is two tests of x, and bounds it
 pub within-offset : (n h x : ℕ) → n ≤ h → leb (h - n) x && leb x (h + n) ≡ within n (subℕ x h)
 within-offset n h x small =
     let p = posPart-diff x h in
@@ -77,16 +77,16 @@ within-offset n h x small =
     (λ l. lt-leb x (h + n) l ∙ sym (lt-within n (subℕ x h) (omega arith)))
     (λ l. le-leb x (h + n) l ∙ sym (le-within n (subℕ x h) (omega arith)))))
 
-pub offset-within : (n h x : ℕ) → within n (subℕ x h) ≡ true → (h ≤ x + n) × (x ≤ h + n)
-offset-within n h x e = omega (arith, within-true n (subℕ x h) e, posPart-diff x h, negPart-diff x h)
+pub offset-bounds : (n h x : ℕ) → within n (subℕ x h) ≡ true → (h ≤ x + n) × (x ≤ h + n)
+offset-bounds n h x e = omega (arith, within-true n (subℕ x h) e, posPart-diff x h, negPart-diff x h)
 
-pub net-within : (n : ℕ) (x : Net) → within n (net x) ≡ true → (2 ^ 31 ≤ x .0 + n) × (x .0 ≤ 2 ^ 31 + n)
+pub net-bounds : (n : ℕ) (x : Net) → within n (net x) ≡ true → (2 ^ 31 ≤ x .0 + n) × (x .0 ≤ 2 ^ 31 + n)
 unfolding net
-net-within n x e = offset-within n (2 ^ 31) (x .0) e
+net-bounds n x e = offset-bounds n (2 ^ 31) (x .0) e
 
-pub balance-within : (n : ℕ) (x : Balance) → within n (balance x) ≡ true → (2 ^ 63 ≤ x .0 + n) × (x .0 ≤ 2 ^ 63 + n)
+pub balance-bounds : (n : ℕ) (x : Balance) → within n (balance x) ≡ true → (2 ^ 63 ≤ x .0 + n) × (x .0 ≤ 2 ^ 63 + n)
 unfolding balance
-balance-within n x e = offset-within n (2 ^ 63) (x .0) e
+balance-bounds n x e = offset-bounds n (2 ^ 63) (x .0) e
 
 -- ---- what moves by the difference of two amounts moves by what was added to one of them
 pub add-difference : (x old new amount : ℤ) → new ≡ old +ℤ amount → x +ℤ (new -ℤ old) ≡ x +ℤ amount

@@ -20,7 +20,7 @@ pub struct Cents(pub u64);
 pub struct Price(pub u32);
 
 impl Price {
-    // What an energy is worth at this price: the only way from energy to money.
+    // What an energy is worth at this price: the only way from energy to money. No reference price in range is above 300,000.
     pub fn worth(self, energy: Mwh) -> Cents
         requires { ⌜ (self .0 ≤ 300000) × (energy .0 ≤ 2 ^ 45) ⌝ }
         ensures { λ r. ⌜ r .0 ≡ energy .0 * self .0 ⌝ }
@@ -63,7 +63,7 @@ impl Net {
         }
     }
 
-    // What it is above 0.
+    // How long it is: what it is above 0.
     pub fn long(self) -> Mwh
         ensures { λ r. ⌜ r .0 ≡ posPart (net self) ⌝ }
         ensures { λ r. ⌜ r .0 < 2 ^ 31 ⌝ }
@@ -76,7 +76,7 @@ impl Net {
         }
     }
 
-    // What it is below 0.
+    // How short it is: what it is below 0.
     pub fn short(self) -> Mwh
         ensures { λ r. ⌜ r .0 ≡ negPart (net self) ⌝ }
         ensures { λ r. ⌜ r .0 ≤ 2 ^ 31 ⌝ }
@@ -160,7 +160,7 @@ impl Balance {
         }
     }
 
-    // What is owed of it: what it is above 0.
+    // What is owed: what it is above 0.
     pub fn owed(self) -> Cents
         ensures { λ r. ⌜ r .0 ≡ posPart (balance self) ⌝ }
         ensures { λ r. ⌜ r .0 < 2 ^ 63 ⌝ }
@@ -173,7 +173,7 @@ impl Balance {
         }
     }
 
-    // What it leaves to the user's credit: what it is below 0.
+    // What is to the user's credit: what it is below 0.
     pub fn credit(self) -> Cents
         ensures { λ r. ⌜ r .0 ≡ negPart (balance self) ⌝ }
         ensures { λ r. ⌜ r .0 ≤ 2 ^ 63 ⌝ }
@@ -196,14 +196,14 @@ impl Balance {
 }
 
 // The energy that a signed amount brings in, and the energy that it takes out: one of the two is 0.
-pub struct Flow {
-    pub inflow: Mwh,
-    pub outflow: Mwh,
+struct Flow {
+    inflow: Mwh,
+    outflow: Mwh,
 }
 
 impl Flow {
     // The flow of a signed amount, in MWh.
-    pub fn of(amount: i64) -> Flow
+    fn of(amount: i64) -> Flow
         ensures { λ r. ⌜ (r .inflow .0 ≡ posPart amount) × (r .outflow .0 ≡ negPart amount) ⌝ }
         ensures { λ r. ⌜ (r .inflow .0 < 2 ^ 63) × (r .outflow .0 ≤ 2 ^ 63) ⌝ }
     {
@@ -275,7 +275,7 @@ impl Area {
     // The underground store.
     pub const AVB: u8 = 2;
 
-    // The area's tariff.
+    // The area's tariff t, for prices in range.
     pub fn tariff(self, prices: Prices) -> Price
         requires { ⌜ InRange (asPrices prices) ⌝ }
         ensures { λ r. ⌜ r .0 ≡ tariff (asPrices prices) (self .0) ⌝ }
@@ -289,7 +289,7 @@ impl Area {
         }
     }
 
-    // The area's reference price.
+    // The area's reference price w, for prices in range.
     pub fn reference_price(self, prices: Prices) -> Price
         requires { ⌜ InRange (asPrices prices) ⌝ }
         ensures { λ r. ⌜ r .0 ≡ referencePrice (asPrices prices) (self .0) ⌝ }

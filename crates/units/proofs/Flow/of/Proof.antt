@@ -2,7 +2,7 @@
 -- Assumes nothing.
 use mathlib.Core.Path.{_≡_, refl, sym, _∙_, ap, subst}
 use mathlib.Core.Bool.{Bool, true, false}
-use Prim.Native.Nat.{ℕ, _+_, _<_, _≤_, _^_}
+use Prim.Native.Nat.{ℕ, _+_, _<_, _^_}
 use native.Mathlib.Omega.{arith}
 use lib.Dec.{T}
 use lib.IntN.{ℤ, pos, negsuc, natAbs, _-ℤ_}
@@ -38,16 +38,19 @@ minus-negsuc : (n : ℕ) → negsuc 0 -ℤ negsuc n ≡ pos n
 unfolding posPart negPart
 minus-negsuc n = eq-parts (negsuc 0 -ℤ negsuc n) (pos n) (omega (arith, parts-sub (negsuc 0) (negsuc n)))
 
-below : (z : ℤ) → SFits w64 z → ltZ z (pos 0) ≡ true → Below z
+below : (z : ℤ) → SFits w64 z → ltZ (toZ w64 (ofZ w64 z)) (pos 0) ≡ true → Below z
 unfolding posPart negPart
-below (pos n) f h = absurd (omega (arith, ltb-true n 0 h))
+below (pos n) f h = absurd (omega (arith, ltb-true n 0 (tested (pos n) f h)))
 below (negsuc n) f h =
     record { n = n; small = f .sfits; above-zero = refl; below-zero = omega arith; kept = ap (λ (y : ℤ). negsuc 0 -ℤ y) (toZ-ofZ w64 (negsuc n) f) ∙ minus-negsuc n }
 
-not-below : (z : ℤ) → SFits w64 z → ltZ z (pos 0) ≡ false → NotBelow z
+not-below : (z : ℤ) → SFits w64 z → ltZ (toZ w64 (ofZ w64 z)) (pos 0) ≡ false → NotBelow z
 unfolding posPart negPart
 not-below (pos n) f h = record { small = f .sfits; below-zero = refl; kept = toZ-ofZ w64 (pos n) f }
-not-below (negsuc n) f h = absurd (let z : _≡_ {A = ℕ} 0 1 = cc in omega arith)
+not-below (negsuc n) f h =
+    let t : true ≡ false = tested (negsuc n) f h in
+    let e : _≡_ {A = ℕ} 0 1 = cc in
+    absurd (omega arith)
 
 -- −1 − amount after the machine kept it
 kept-again : (z : ℤ) (b : Below z) → toZ w64 (ofZ w64 (negsuc 0 -ℤ toZ w64 (ofZ w64 z))) ≡ pos (b .n)
@@ -55,38 +58,35 @@ kept-again z b = ap (λ (y : ℤ). toZ w64 (ofZ w64 y)) (b .kept) ∙ toZ-ofZ w6
 
 sub-t4 : tie.Need-sub-t4
 sub-t4 c =
-    let z = c .before .args .amount in
-    let b = below z (c .before .fits .amount) (tested z (c .before .fits .amount) (c .if1 .taken)) in
+    let b = below (c .before .args .amount) (c .before .fits .amount) (c .if1 .taken) in
     subst (λ (y : ℤ). SFits w64 y) (sym (b .kept)) (record { sfits = b .small })
 
 cast-t5 : tie.Need-cast-t5
 cast-t5 c =
     let z = c .before .args .amount in
-    let b = below z (c .before .fits .amount) (tested z (c .before .fits .amount) (c .if1 .taken)) in
+    let b = below z (c .before .fits .amount) (c .if1 .taken) in
     subst (λ (y : ℤ). T (nonNeg y) × Fits w64 (natAbs y)) (sym (kept-again z b)) (tt, omega (arith, b .small))
 
 add-t6 : tie.Need-add-t6
 add-t6 c =
     let z = c .before .args .amount in
-    let b = below z (c .before .fits .amount) (tested z (c .before .fits .amount) (c .if1 .taken)) in
+    let b = below z (c .before .fits .amount) (c .if1 .taken) in
     omega (arith, ap natAbs (kept-again z b), b .small)
 
 returns : tie.Need-returns
 returns c =
     let z = c .before .args .amount in
-    let b = below z (c .before .fits .amount) (tested z (c .before .fits .amount) (c .if1 .taken)) in
+    let b = below z (c .before .fits .amount) (c .if1 .taken) in
     omega (arith, ap natAbs (kept-again z b), b .small, b .above-zero, b .below-zero)
 
 cast-t8 : tie.Need-cast-t8
 cast-t8 c =
-    let z = c .before .args .amount in
-    let b = not-below z (c .before .fits .amount) (tested z (c .before .fits .amount) (c .if1 .left)) in
+    let b = not-below (c .before .args .amount) (c .before .fits .amount) (c .if1 .left) in
     subst (λ (y : ℤ). T (nonNeg y) × Fits w64 (natAbs y)) (sym (b .kept)) (tt, omega (arith, b .small))
 
 returns-2 : tie.Need-returns-2
 returns-2 c =
-    let z = c .before .args .amount in
-    let b = not-below z (c .before .fits .amount) (tested z (c .before .fits .amount) (c .if1 .left)) in
+    let b = not-below (c .before .args .amount) (c .before .fits .amount) (c .if1 .left) in
     omega (arith, ap natAbs (b .kept), b .small, b .below-zero)
 
 pub of-spec : {M : Type 1} → statement M
