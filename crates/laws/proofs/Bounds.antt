@@ -131,6 +131,12 @@ prices-le b s =
       leb→le (f .i) 100000 (search (and-l, and-r)),
     )
 
+pub tariffs-pos : (b : Book) → Sound b → (0 < b .header .prices .p) × (0 < b .header .prices .q)
+unfolding headerValid pricesValid tariffValid
+tariffs-pos b s =
+    let h = s .header in
+    (leb→le 1 (b .header .prices .p) (search (and-l, and-r)), leb→le 1 (b .header .prices .q) (search (and-l, and-r)))
+
 -- what a user sold and bought in an area on a day, from the sums over all areas and both days
 module _ (b : Book) (s : Sound b) (u : User) (v : T (userValid u)) (p : T (positionsValid (b .trades) u)) where
   sold-le : dealtInAll (sold (b .trades) (u .party .id)) ≤ 25600000

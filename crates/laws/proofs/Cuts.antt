@@ -1,37 +1,25 @@
 -- What holds of a reduction's cuts, for any book, user and amount asked: they are within the user's eligible trades, some MWh is cut where something is asked and a trade
 -- is eligible, and the tally's worth is between what is asked, or all there is, and what is asked and one MWh at the largest tariff. Both tiers' laws, added. Assumes nothing.
-use mathlib.Core.Path.{_≡_, refl, sym, ap, ap₂, subst, fun-ext, _∙_}
 use mathlib.Core.Bool.{Bool, true, false, not, cond, _&&_, _||_}
 use mathlib.Core.List.{List, [], _∷_, map, map-map}
+use mathlib.Core.Path.{_≡_, refl, sym, ap, ap₂, subst, fun-ext, _∙_}
 use Prim.Native.Nat.{ℕ, _+_, _*_, _-_, _≤_, _<_, min}
 use native.Mathlib.Nat.{add-mul, not-suc-le-zero, le-of-suc-le-suc, mul-pos}
 use native.Mathlib.Omega.{arith}
 use lib.Dec.{T, leb, ltb, eqb, le→leb, leb→le, ltb→lt}
 use lib.ListN.{length, length-map}
-use Rattle.integers.specs.Sums.{sum}
 use Rattle.integers.proofs.Linear.{by-order}
 use Rattle.integers.proofs.Sums.{sum-add, sum-ext, sum-map}
-use Rattle.rules.specs.Areas.{Prices, tariff}
-use Rattle.rules.specs.Lists.{all, any}
-use Rattle.rules.specs.Book.{Header, User, Trade, Book, bilateralForDay}
-use Rattle.rules.specs.Questions.{tariffValid, pricesValid, headerValid}
-use Rattle.rules.specs.Shares.{tierWorth, tierCuts}
-use Rattle.rules.specs.Reduction.{eligible, hasEligible, shortIn, lot, tierOne, tierTwo, together, cuts, Tally, nothing, tallied, tallyAll}
-use Rattle.laws.specs.Trades.{cutWithin, cutsWithin}
-use Rattle.laws.proofs.Tests.{and-l, and-r, and-i, or-l, or-r, by-test, eqb-of}
+use Rattle.integers.specs.Sums.{sum}
 use Rattle.laws.proofs.Shares.{eachWithin, worthAt, within-length, worth-pos, tier-worth, tier-within, tier-length, tier-worth-le, tier-reaches, tier-near, tier-none}
-
--- what stands of a trade that passes a test
-abbrev pub standingIf : (Trade → Bool) → Trade → ℕ
-standingIf p t = cond (p t) (t .standing) 0
-
--- the tariff of a trade's area
-abbrev pub tariffOf : Prices → Trade → ℕ
-tariffOf f t = tariff f (t .terms .area)
-
--- the worth of the user's eligible trades at their tariffs
-unfoldable pub eligibleWorth : Book → User → ℕ
-eligibleWorth b u = sum (λ t. standingIf (eligible b u) t * tariffOf (b .header .prices) t) (b .trades)
+use Rattle.laws.proofs.Tests.{and-l, and-r, and-i, or-l, or-r, by-test, eqb-of}
+use Rattle.laws.specs.Trades.{cutWithin, cutsWithin, eligibleWorth, standingIf, tariffOf}
+use Rattle.rules.specs.Areas.{Prices, tariff}
+use Rattle.rules.specs.Book.{Header, User, Trade, Book, bilateralForDay, at}
+use Rattle.rules.specs.Lists.{all, any}
+use Rattle.rules.specs.Questions.{tariffValid, pricesValid, headerValid}
+use Rattle.rules.specs.Reduction.{eligible, hasEligible, shortIn, lot, tierOne, tierTwo, together, cuts, Tally, nothing, tallied, tallyAll}
+use Rattle.rules.specs.Shares.{tierWorth, tierCuts}
 
 -- ---- lists of cuts
 

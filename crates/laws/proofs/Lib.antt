@@ -20,3 +20,5 @@ pub mod Reduction
 pub mod Run
 -- numeric bounds
 pub mod Bounds
+-- the main laws, as specs/Statements.antt has them
+pub mod Main

@@ -90,7 +90,7 @@ stop-law b s = record { sound = s; lowered = lowered-refl (b .trades); moved = m
 
 module _ (limits : Limits) where
   -- a user that is short of cover has a target
-  has-target : (b : Book) (u : User) → T (shortOfCover limits b u) → 0 < target limits b u
+  pub has-target : (b : Book) (u : User) → T (shortOfCover limits b u) → 0 < target limits b u
   unfolding shortOfCover target
   has-target b u h = let l = ltb→lt (u .party .assigned) (afternoonLevel limits b u) (search (and-l, and-r)) in omega arith
 

@@ -18,21 +18,13 @@ use Rattle.laws.proofs.Sound.{Sound}
 use Rattle.laws.proofs.Tests.{and-l, and-r, and-i, by-test, map-by, eqb-comm}
 use Rattle.laws.proofs.Trades.{parts-lost}
 use Rattle.laws.proofs.Users.{map-sum, trades-map, idsRise-map}
+use Rattle.laws.specs.Books.{anew, repositioned}
 use Rattle.laws.specs.Trades.{Framed, Pairwise, ended, then, leftMwh, leftWorth}
 use Rattle.rules.specs.Book.{at, User, Trade, Book, sold, bought, definedPosition, dealt, bilateralForDay}
 use Rattle.rules.specs.Changes.{change, moved}
 use Rattle.rules.specs.Lists.{all}
 use Rattle.rules.specs.Questions.{countsValid, userValid, tradeValid, positionsValid, codesValid, guaranteesValid, positionValid, versionValid}
 use Rattle.rules.specs.Reduction.{lost, settleOne, settle, withTrades}
-
--- ---- the positions computed anew from the trades
-
-unfoldable pub repositioned : List Trade → User → User
-repositioned ts u =
-    record { party = u .party; physical = u .physical; position = record { pvb = definedPosition ts u 0; tvb = definedPosition ts u 1; avb = definedPosition ts u 2 }; blocked = u .blocked }
-
-unfoldable pub anew : Book → List Trade → Book
-anew b ns = record { header = b .header; users = map (repositioned ns) (b .users); trades = ns }
 
 -- ---- one user's part of it
 
@@ -210,7 +202,7 @@ pub settle-is : (us : List User) {ts ns : List Trade} → Pairwise Framed ts ns 
 settle-is us {ts} {ns} h o p =
     settle-map ts ns us ∙ map-by (positionsValid ts) (settleUser ts ns) (repositioned ns) (λ v k. settled-is us v h o k) us p
 
-retraded-anew : (b : Book) (ns : List Trade) → Sound b → Pairwise Framed (b .trades) ns → withTrades b ns ≡ anew b ns
+pub retraded-anew : (b : Book) (ns : List Trade) → Sound b → Pairwise Framed (b .trades) ns → withTrades b ns ≡ anew b ns
 unfolding withTrades anew
 retraded-anew b ns s h =
     ap (λ (us : List User). record { header = b .header; users = us; trades = ns }) (settle-is (b .users) h (s .trades) (s .positions))

@@ -1,0 +1,67 @@
+-- The main laws of the rules, as statements. Each holds for every book, user, amount and set of limits; the proofs stand in proofs/Main.antt.
+use mathlib.Core.Bool.{not}
+use mathlib.Core.List.{List·Memᴰ}
+use mathlib.Core.Path.{_≡_}
+use Prim.Native.Nat.{_+_, _<_, _^_, _≤_, max, min, ℕ}
+use lib.Dec.{T}
+use Rattle.integers.specs.Sums.{sumℤ}
+use Rattle.laws.specs.Books.{anew}
+use Rattle.laws.specs.Trades.{cutsWithin, Lowered, Pairwise, eligibleWorth}
+use Rattle.rules.specs.Book.{Book, User, at, find}
+use Rattle.rules.specs.Calls.{Call, cuttable, effect, reduced, reducedBy, run, runFor, step}
+use Rattle.rules.specs.Levels.{Limits, afternoonLevel, morningLevel, shortOfCover}
+use Rattle.rules.specs.Questions.{accepted, known}
+use Rattle.rules.specs.Reduction.{cutAll, cuts, eligible, hasEligible, target}
+use Rattle.rules.specs.Signed.{within}
+
+-- Double counting: in an accepted book the positions of each area sum to the physical entries.
+pub record Conserved : Type 0 where
+  pub sums : (b : Book) → T (accepted b) → (a : ℕ) → a < 3
+      → sumℤ (λ u. at (u .position) a) (b .users) ≡ sumℤ (λ u. at (u .physical) a) (b .users)
+
+-- A call takes an accepted book to an accepted book, and raises no trade.
+pub record StaysAccepted (limits : Limits) : Type 0 where
+  pub accepts : (b : Book) (c : Call) → T (accepted b) → T (accepted (step limits b c .book))
+  pub lowers : (b : Book) (c : Call) → T (accepted b) → Pairwise Lowered (b .trades) (step limits b c .book .trades)
+
+-- A cut is at most what stands, and 0 unless the trade is eligible.
+pub record CutsEligible : Type 0 where
+  pub within : (b : Book) (u : User) (asked : ℕ) → T (cutsWithin (eligible b u) (cuts b u asked) (b .trades))
+
+-- A user that is short of cover and has an eligible trade loses at least one MWh by a reduction.
+pub record SomethingCut (limits : Limits) : Type 0 where
+  pub some : (b : Book) (u : User) → T (accepted b) → T (shortOfCover limits b u) → T (hasEligible b u)
+      → 0 < reduced limits b u .answer .mwh
+
+-- The worth of the cuts is at least the target or all there is, and below the target plus the larger tariff.
+pub record TargetMet (limits : Limits) : Type 0 where
+  pub reached : (b : Book) (u : User) → min (target limits b u) (eligibleWorth b u) ≤ reduced limits b u .answer .worth
+  pub near : (b : Book) (u : User) → T (accepted b)
+      → reduced limits b u .answer .worth < target limits b u + max (b .header .prices .p) (b .header .prices .q)
+
+-- Positions settled cut by cut are positions computed anew.
+pub record SettledAnew : Type 0 where
+  pub same : (b : Book) (u : User) (asked : ℕ) → T (accepted b)
+      → reducedBy b u asked .book ≡ anew b (cutAll (cuts b u asked) (b .trades))
+
+-- no user of the book that is short of cover has an eligible trade
+unfoldable pub AllCovered : Limits → Book → Type 0
+AllCovered limits b = (u : User) → List·Memᴰ u (b .users) → T (shortOfCover limits b u) → T (not (hasEligible b u))
+
+-- A run of as many reductions as MWh can be cut leaves no user short of cover with an eligible trade.
+pub record RunEnds (limits : Limits) : Type 0 where
+  pub enough : (n : ℕ) (b : Book) → T (accepted b) → cuttable (b .trades) ≤ n → AllCovered limits (runFor limits n b .book)
+
+-- A run reports at most as many reductions as MWh can be cut, and one that reports none leaves the book.
+pub record RunCounts (limits : Limits) : Type 0 where
+  pub most : (b : Book) → effect limits b run .answer .reductions ≤ cuttable (b .trades)
+  pub none : (b : Book) → effect limits b run .answer .reductions ≡ 0 → effect limits b run .book ≡ b
+
+-- Positions of an accepted book are within ±26,600,000, and levels are below 2^44 where the least level is.
+pub record Bounded (limits : Limits) : Type 0 where
+  pub position : (b : Book) (id a : ℕ) → T (accepted b) → T (known (b .users) id) → a < 3
+      → T (within 26600000 (at (find (b .users) id .position) a))
+  pub morning : (b : Book) (id : ℕ) → T (accepted b) → T (known (b .users) id) → limits .floor ≤ 9580000000000
+      → morningLevel limits b (find (b .users) id) < 2 ^ 44
+  pub afternoon : (b : Book) (id : ℕ) → T (accepted b) → T (known (b .users) id) → limits .floor ≤ 9580000000000
+      → afternoonLevel limits b (find (b .users) id) < 2 ^ 44
