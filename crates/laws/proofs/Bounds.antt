@@ -118,7 +118,7 @@ charges-le u h = within-le 1000000000000 (u .party .charges) (search (and-l, and
 below-parts : (z : ℤ) (a b : ℕ) → posPart z + b ≡ negPart z + a → (posPart z ≤ a) × (negPart z ≤ b)
 below-parts z a b e = (omega (arith, posPart-of z a b (omega arith)), omega (arith, negPart-of z a b (omega arith)))
 
-prices-le : (b : Book) → Sound b
+pub prices-le : (b : Book) → Sound b
     → (b .header .prices .p ≤ 100000) × (b .header .prices .q ≤ 100000) × (b .header .prices .l ≤ 100000) × (b .header .prices .x ≤ 100000) × (b .header .prices .i ≤ 100000)
 unfolding headerValid pricesValid tariffValid tollValid
 prices-le b s =

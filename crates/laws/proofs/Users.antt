@@ -107,3 +107,13 @@ all-find p (u ∷ us) id h k = go (eqb (u .party .id) id) (λ m. all-find p us i
     go : (c : Bool) → (T (known us id) → T (p (find us id))) → T (c || known us id) → T (p (cond c u (find us id)))
     go true ih m = and-l (p u) (all p us) h
     go false ih m = ih m
+
+-- the user of a known id has that id
+pub known-id : (us : List User) (id : ℕ) → T (known us id) → find us id .party .id ≡ id
+unfolding known any find
+known-id [] id k = absurd k
+known-id (u ∷ us) id k = go (eqb (u .party .id) id) (λ t. eqb→eq (u .party .id) id t) (λ m. known-id us id m) k
+  where
+    go : (c : Bool) → (T c → u .party .id ≡ id) → (T (known us id) → find us id .party .id ≡ id) → T (c || known us id) → cond c u (find us id) .party .id ≡ id
+    go true e ih m = e tt
+    go false e ih m = ih m
