@@ -1,7 +1,10 @@
 -- A trade in 20 bytes, in the rules, and as the code's struct. Assumes nothing.
+use mathlib.Core.Bool.{Bool, not, _&&_}
 use mathlib.Core.List.{List, [], _∷_}
-use Prim.Native.Nat.{ℕ}
+use Prim.Native.Nat.{ℕ, _<_, _^_}
+use lib.Dec.{eqb}
 use Rattle.rules.specs.Book as model
+use Rattle.rules.specs.Questions.{codesValid, amountsValid}
 use Rattle.fields.specs.Field.{field}
 use Rattle.fields.specs.Layout.{pack}
 use Rattle.records.specs.declared.Trade.{Trade}
@@ -45,3 +48,24 @@ asTrade t =
       terms = record { seller = t .seller; buyer = t .buyer; area = t .area; kind = t .kind; day = t .day; notified = t .notified };
       standing = t .standing;
     }
+
+-- the struct whose every field is 0
+unfoldable pub blankTrade : Trade
+blankTrade = record { seller = 0; buyer = 0; area = 0; kind = 0; day = 0; notified = 0; standing = 0 }
+
+-- ---- validity and widths
+
+-- "Every trade valid?", given whether the seller and the buyer are users of the book
+unfoldable pub tradeValidGiven : Bool → Bool → model.Trade → Bool
+tradeValidGiven seller buyer t =
+    ((seller && buyer) && not (eqb (t .terms .seller) (t .terms .buyer))) && (codesValid t && amountsValid t)
+
+-- each field of a trade fits its bytes
+pub record FitsTrade (t : model.Trade) : Type 0 where
+  pub seller : t .terms .seller < 2 ^ 32
+  pub buyer : t .terms .buyer < 2 ^ 32
+  pub area : t .terms .area < 256
+  pub kind : t .terms .kind < 256
+  pub day : t .terms .day < 256
+  pub notified : t .terms .notified < 2 ^ 32
+  pub standing : t .standing < 2 ^ 32
