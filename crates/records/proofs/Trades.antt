@@ -1,15 +1,14 @@
--- Laws of a trade's 20 bytes: how many, bytes, read and written, written and read; the test of a trade; the blank trade. Assumes nothing.
+-- Laws of a trade's 20 bytes: how many, bytes, read and written, written and read; the blank trade. Assumes nothing.
 use Prim.Native.Nat.{ℕ}
 use mathlib.Core.Path.{_≡_, refl, ap, _∙_}
 use mathlib.Core.List.{List}
 use native.Mathlib.Omega.{arith}
 use lib.ListN.{length, getD}
-use Rattle.rules.specs.Book.{Trade, User}
-use Rattle.rules.specs.Questions.{known, partiesValid, tradeValid}
+use Rattle.rules.specs.Book.{Trade}
 use Rattle.fields.specs.Field.{fromBytes, toBytes, field, AllBytes}
 use Rattle.fields.specs.Layout.{fieldsAt, pack, size, FitAll}
 use Rattle.fields.proofs.Pack.{length-pack, all-bytes-pack, pack-fields, fields-pack}
-use Rattle.records.specs.Trade.{tradeOf, tradeZeros, tradeWidths, tradeValues, tradeBytes, asTrade, blankTrade, tradeValidGiven, FitsTrade}
+use Rattle.records.specs.Trade.{tradeOf, tradeZeros, tradeWidths, tradeValues, tradeBytes, asTrade, blankTrade, FitsTrade}
 
 -- ---- the bytes
 
@@ -69,12 +68,7 @@ trade-of-bytes t f =
     ∙ ap tradeFrom (fields-pack tradeWidths (tradeValues t) (fit-tradeValues t f))
     ∙ tradeFrom-values t
 
--- ---- the test of a trade, and the blank trade
-
--- with the answers of the book's users it is that of the rules
-pub tradeValidGiven-known : (us : List User) (t : Trade) → tradeValidGiven (known us (t .terms .seller)) (known us (t .terms .buyer)) t ≡ tradeValid us t
-unfolding tradeValidGiven tradeValid partiesValid
-tradeValidGiven-known us t = refl
+-- ---- the blank trade
 
 -- the blank trade, as the rules have it
 pub asTrade-blank : asTrade blankTrade ≡ record { terms = record { seller = 0; buyer = 0; area = 0; kind = 0; day = 0; notified = 0 }; standing = 0 }

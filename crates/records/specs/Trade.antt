@@ -1,10 +1,7 @@
 -- A trade in 20 bytes, in the rules, and as the code's struct. Assumes nothing.
-use mathlib.Core.Bool.{Bool, not, _&&_}
 use mathlib.Core.List.{List, [], _∷_}
 use Prim.Native.Nat.{ℕ, _<_, _^_}
-use lib.Dec.{eqb}
 use Rattle.rules.specs.Book as model
-use Rattle.rules.specs.Questions.{codesValid, amountsValid}
 use Rattle.fields.specs.Field.{field}
 use Rattle.fields.specs.Layout.{pack}
 use Rattle.records.specs.declared.Trade.{Trade}
@@ -53,12 +50,7 @@ asTrade t =
 unfoldable pub blankTrade : Trade
 blankTrade = record { seller = 0; buyer = 0; area = 0; kind = 0; day = 0; notified = 0; standing = 0 }
 
--- ---- validity and widths
-
--- "Every trade valid?", given whether the seller and the buyer are users of the book
-unfoldable pub tradeValidGiven : Bool → Bool → model.Trade → Bool
-tradeValidGiven seller buyer t =
-    ((seller && buyer) && not (eqb (t .terms .seller) (t .terms .buyer))) && (codesValid t && amountsValid t)
+-- ---- widths
 
 -- each field of a trade fits its bytes
 pub record FitsTrade (t : model.Trade) : Type 0 where

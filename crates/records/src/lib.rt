@@ -1,13 +1,11 @@
-// A user and a trade as the engine keeps them, and in the bytes of a book: 56 and 20 of them. Each is read, written and tested here.
+// A user and a trade as the engine keeps them, and in the bytes of a book: 56 and 20 of them. Each is read and written here.
 ghost use mathlib.Core.Path.{_≡_};
 ghost use Prim.Native.Nat.{_+_, _≤_};
-ghost use lib.Dec.{eqb};
 ghost use lib.ListN.{length};
 ghost use Rattle.rules.specs.Book.{bilateralForDay};
-ghost use Rattle.rules.specs.Questions.{userValid};
 ghost use Rattle.fields.specs.Layout.{setFields};
-ghost use Rattle.records.specs.User.{amountsAt, amountWidths, amountValues, asAmounts, userOf, userBytes, userZeros, asUser, blankUser};
-ghost use Rattle.records.specs.Trade.{tradeOf, tradeBytes, tradeZeros, asTrade, tradeValidGiven, blankTrade};
+ghost use Rattle.records.specs.User.{amountsAt, amountWidths, amountValues, asAmounts, userOf, userBytes, asUser, blankUser};
+ghost use Rattle.records.specs.Trade.{tradeOf, tradeBytes, asTrade, blankTrade};
 use units::Balance;
 use units::Cents;
 use units::Net;
@@ -96,32 +94,6 @@ pub fn write_user(c: &mut [u8], u: User)
     fields::put_u64(c, 48, u.blocked.0);
 }
 
-// Are the three bytes of a user's 56 that no field has 0?
-pub fn user_zeros_valid(c: &[u8]) -> bool
-    requires { ⌜ length (now c) ≡ 56 ⌝ }
-    ensures { λ r. ⌜ r ≡ eqb (userZeros (now (c .entry))) 0 ⌝ }
-{
-    fields::get(c, 5, 3) == 0
-}
-
-// Is every field of a user valid, its position apart? (That ids rise is asked of the users together.)
-pub fn user_valid(u: User) -> bool
-    ensures { λ r. ⌜ r ≡ userValid (asUser u) ⌝ }
-{
-    let physical = u.physical;
-    let pvb = physical[0];
-    let tvb = physical[1];
-    let avb = physical[2];
-    let charges = u.charges;
-    let pvb_valid = pvb.is_entry();
-    let tvb_valid = tvb.is_entry();
-    let avb_valid = avb.is_entry();
-    let charges_valid = charges.is_charges();
-    (u.role < 2)
-        & ((pvb_valid & (tvb_valid & avb_valid))
-            & (charges_valid & ((u.blocked.0 <= u.assigned.0) & (u.assigned.0 <= 1000000000000))))
-}
-
 // The user whose every field is 0.
 pub fn no_user() -> User
     ensures { λ r. ⌜ r ≡ blankUser ⌝ }
@@ -168,30 +140,11 @@ pub fn write_trade(c: &mut [u8], t: Trade)
     fields::put_u32(c, 16, t.standing);
 }
 
-// Is the byte of a trade's 20 that no field has 0?
-pub fn trade_zeros_valid(c: &[u8]) -> bool
-    requires { ⌜ length (now c) ≡ 20 ⌝ }
-    ensures { λ r. ⌜ r ≡ eqb (tradeZeros (now (c .entry))) 0 ⌝ }
-{
-    fields::get_u8(c, 11) == 0
-}
-
 // Is the trade bilateral and for day d? Only such trades can be cut.
 pub fn is_bilateral_for_day(t: Trade) -> bool
     ensures { λ r. ⌜ r ≡ bilateralForDay (asTrade t) ⌝ }
 {
     (t.kind == 0) & (t.day == 0)
-}
-
-// Is the trade valid, given whether its seller and its buyer are users of the book?
-pub fn trade_valid(seller_known: bool, buyer_known: bool, t: Trade) -> bool
-    ensures { λ r. ⌜ r ≡ tradeValidGiven «seller_known» «buyer_known» (asTrade t) ⌝ }
-{
-    let bilateral = is_bilateral_for_day(t);
-    (seller_known & buyer_known & (t.seller != t.buyer))
-        & (((t.area < 3) & ((t.kind < 3) & (t.day < 2)))
-            & (((1 <= t.notified) & (t.notified <= 100000))
-                & ((t.standing <= t.notified) & (bilateral | (t.standing == t.notified)))))
 }
 
 // The trade whose every field is 0.

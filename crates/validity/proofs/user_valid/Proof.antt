@@ -3,10 +3,10 @@ use Prim.Native.Nat.{_^_}
 use borrow.Author.Tests.{lt-ltb}
 use Rattle.rules.specs.Book.{at}
 use Rattle.rules.specs.Questions.{userValid, guaranteesValid, entriesValid}
 use Rattle.records.specs.User.{asAmounts, asUser}
 use borrow.Author.Needs.{needs}
-use Rattle.records.proofs.user_valid.Statement.{statement}
-use Rattle.records.proofs.user_valid.Tie as tie
+use Rattle.validity.proofs.user_valid.Statement.{statement}
+use Rattle.validity.proofs.user_valid.Tie as tie
 
 array-copy-out-pvb : tie.Need-array-copy-out-pvb
 array-copy-out-pvb c = search needs

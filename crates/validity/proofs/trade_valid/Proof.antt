@@ -1,9 +1,10 @@
 -- `trade_valid` asks the tests of the rules in their order. Assumes nothing.
 use Rattle.rules.specs.Questions.{codesValid, amountsValid}
-use Rattle.records.specs.Trade.{asTrade, tradeValidGiven}
+use Rattle.records.specs.Trade.{asTrade}
+use Rattle.validity.specs.Given.{tradeValidGiven}
 use borrow.Author.Needs.{needs}
-use Rattle.records.proofs.trade_valid.Statement.{statement}
-use Rattle.records.proofs.trade_valid.Tie as tie
+use Rattle.validity.proofs.trade_valid.Statement.{statement}
+use Rattle.validity.proofs.trade_valid.Tie as tie
 
 is-bilateral-for-day-requires : tie.Need-is-bilateral-for-day-requires
 is-bilateral-for-day-requires c κs = search needs

@@ -1,8 +1,8 @@
 -- `trade_zeros_valid` compares the zero byte, read as a number, with 0. Assumes nothing.
 use Rattle.records.specs.Trade.{tradeZeros}
 use borrow.Author.Needs.{needs}
-use Rattle.records.proofs.trade_zeros_valid.Statement.{statement}
-use Rattle.records.proofs.trade_zeros_valid.Tie as tie
+use Rattle.validity.proofs.trade_zeros_valid.Statement.{statement}
+use Rattle.validity.proofs.trade_zeros_valid.Tie as tie
 
 get-u8-requires : tie.Need-get-u8-requires
 get-u8-requires c κs = search needs

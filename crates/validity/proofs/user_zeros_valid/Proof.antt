@@ -1,8 +1,8 @@
 -- `user_zeros_valid` compares the three zero bytes, read as one number, with 0. Assumes nothing.
 use Rattle.records.specs.User.{userZeros}
 use borrow.Author.Needs.{needs}
-use Rattle.records.proofs.user_zeros_valid.Statement.{statement}
-use Rattle.records.proofs.user_zeros_valid.Tie as tie
+use Rattle.validity.proofs.user_zeros_valid.Statement.{statement}
+use Rattle.validity.proofs.user_zeros_valid.Tie as tie
 
 get-requires : tie.Need-get-requires
 get-requires c κs = search needs
