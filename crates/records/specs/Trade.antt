@@ -1,6 +1,6 @@
 -- A trade in 20 bytes, in the rules, and as the code's struct. Assumes nothing.
 use mathlib.Core.List.{List, [], _∷_}
-use Prim.Native.Nat.{ℕ}
+use Prim.Native.Nat.{ℕ, _<_, _^_}
 use Rattle.rules.specs.Book as model
 use Rattle.fields.specs.Field.{field}
 use Rattle.fields.specs.Layout.{pack}
@@ -45,3 +45,19 @@ asTrade t =
       terms = record { seller = t .seller; buyer = t .buyer; area = t .area; kind = t .kind; day = t .day; notified = t .notified };
       standing = t .standing;
     }
+
+-- the struct whose every field is 0
+unfoldable pub blankTrade : Trade
+blankTrade = record { seller = 0; buyer = 0; area = 0; kind = 0; day = 0; notified = 0; standing = 0 }
+
+-- ---- widths
+
+-- each field of a trade fits its bytes
+pub record FitsTrade (t : model.Trade) : Type 0 where
+  pub seller : t .terms .seller < 2 ^ 32
+  pub buyer : t .terms .buyer < 2 ^ 32
+  pub area : t .terms .area < 256
+  pub kind : t .terms .kind < 256
+  pub day : t .terms .day < 256
+  pub notified : t .terms .notified < 2 ^ 32
+  pub standing : t .standing < 2 ^ 32

@@ -1,7 +1,9 @@
 -- A user in 56 bytes, in the rules, and as the code's struct. Assumes nothing.
 use mathlib.Core.List.{List, [], _∷_, _++_}
-use Prim.Native.Nat.{ℕ, _+_}
-use lib.ListN.{getD}
+use Prim.Native.Nat.{ℕ, _+_, _*_, _<_, _≤_, _^_}
+use lib.IntN.{ℤ}
+use lib.ListN.{getD, replicate}
+use Rattle.integers.specs.Parts.{posPart, negPart}
 use Rattle.rules.specs.Signed.{signedOf, bitsOf}
 use Rattle.rules.specs.Book.{PerArea}
 use Rattle.rules.specs.Book as model
@@ -76,3 +78,39 @@ asUser u =
       position = asAmounts (u .position);
       blocked = u .blocked .0;
     }
+
+-- the struct whose every field is 0
+unfoldable pub blankUser : User
+blankUser =
+    record {
+      id = 0;
+      role = 0;
+      physical = replicate 3 (record { 0 = 2 ^ 31 });
+      position = replicate 3 (record { 0 = 2 ^ 31 });
+      charges = record { 0 = 2 ^ 63 };
+      assigned = record { 0 = 0 };
+      blocked = record { 0 = 0 };
+    }
+
+-- ---- widths
+
+-- an integer is one of w bits in two's complement
+pub record FitsSigned (w : ℕ) (z : ℤ) : Type 0 where
+  pub above : 2 * posPart z < 2 ^ w
+  pub below : 2 * negPart z ≤ 2 ^ w
+
+-- each of the three amounts fits its bytes
+pub record FitsAmounts (v : PerArea) : Type 0 where
+  pub pvb : FitsSigned 32 (v .pvb)
+  pub tvb : FitsSigned 32 (v .tvb)
+  pub avb : FitsSigned 32 (v .avb)
+
+-- each field of a user fits its bytes
+pub record FitsUser (u : model.User) : Type 0 where
+  pub id : u .party .id < 2 ^ 32
+  pub role : u .party .role < 256
+  pub physical : FitsAmounts (u .physical)
+  pub position : FitsAmounts (u .position)
+  pub charges : FitsSigned 64 (u .party .charges)
+  pub assigned : u .party .assigned < 2 ^ 64
+  pub blocked : u .blocked < 2 ^ 64

@@ -1,0 +1,2 @@
+-- The law of the test of a trade.
+pub mod Known

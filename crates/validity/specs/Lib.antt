@@ -1,0 +1,2 @@
+-- The test of a trade by itself.
+pub mod Given
