@@ -6,20 +6,11 @@ use Prim.Native.Nat.{_*_, _+_, _≤_, ℕ}
 use lib.Dec.{T, eqb, eqb→eq, leb, leb→le}
 use lib.ListN.{length}
 use Rattle.format.specs.Book.{mark, lengthOf, markOf, tradeCount, tradesAt, userAt, userCount, versionOf}
-use Rattle.format.specs.Questions.{aboutBytes, aboutFields, aboutForm, bookNumber, formNumber, marked, sized, versioned}
+use Rattle.format.specs.Questions.{aboutBytes, aboutFields, aboutForm, bookNumber, formNumber, marked, sized, versioned, Formed}
 use Rattle.laws.proofs.Refusals.{first-yes, number-none, number-some, numbered, refusal-first, refusal-next}
 use Rattle.laws.proofs.Tests.{and-l, and-r}
 use Rattle.rules.specs.Lists.{all}
 use Rattle.rules.specs.Questions.{numberOf, refusal}
-
-pub record Formed (s : List ℕ) : Type 0 where
-  pub head : 32 ≤ length s
-  pub mark : markOf s ≡ mark
-  pub version : versionOf s ≡ 1
-  pub some : 1 ≤ userCount s
-  pub users : userCount s ≤ 64
-  pub trades : tradeCount s ≤ 256
-  pub whole : length s ≡ 32 + 56 * userCount s + 20 * tradeCount s
 
 pub marked-head : (s : List ℕ) → T (marked s) → 32 ≤ length s
 unfolding marked

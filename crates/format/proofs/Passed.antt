@@ -8,9 +8,9 @@ use lib.Dec.{T, eqb, eqb→eq, leb, le→leb}
 use lib.ListN.{drop, length, take}
 use Rattle.fields.proofs.Records.{length-recordsOf}
 use Rattle.fields.specs.Layout.{EveryPart, recordsOf}
-use Rattle.format.proofs.Formed.{Formed, book-passed, formed-of}
+use Rattle.format.proofs.Formed.{book-passed, formed-of}
 use Rattle.format.specs.Book.{bookOf, tradeCount, tradesAt, tradesOf, userCount, usersOf, versionOf}
-use Rattle.format.specs.Questions.{aboutBytes, aboutFields, aboutForm, bookNumber, partsOf, tradeZerosValid, userZerosValid}
+use Rattle.format.specs.Questions.{Formed, aboutBytes, aboutFields, aboutForm, bookNumber, partsOf, tradeZerosValid, userZerosValid}
 use Rattle.laws.proofs.Refusals.{append-yes, first-yes}
 use Rattle.laws.proofs.Sound.{Sound, sound}
 use Rattle.laws.proofs.Tests.{and-i, and-l, and-r, eqb-of}

@@ -10,9 +10,9 @@ use Rattle.fields.proofs.Pack.{pack-fieldsAt}
 use Rattle.fields.proofs.Records.{bytesOfRecords-recordsOf, every-part-map}
 use Rattle.fields.specs.Field.{AllBytes}
 use Rattle.fields.specs.Layout.{bytesOfRecords, fieldsAt, pack, size}
-use Rattle.format.proofs.Formed.{Formed}
 use Rattle.format.proofs.Passed.{Passed, length-tradesOf, length-usersOf}
-use Rattle.format.specs.Book.{bookOf, bytesOf, headerValues, headerWidths, markOf, tradeCount, tradesAt, tradesOf, userAt, userCount, usersOf, versionOf}
+use Rattle.format.specs.Book.{bookOf, bytesOf, headerValues, headerWidths, markOf, tradeCount, tradesAt, tradesOf, userAt, userCount, usersOf, versionOf, pricesAt}
+use Rattle.format.specs.Questions.{Formed}
 use Rattle.records.proofs.Trades.{trade-bytes-of}
 use Rattle.records.proofs.Users.{user-bytes-of}
 use Rattle.records.specs.Trade.{tradeBytes, tradeOf, tradeZeros}
@@ -20,7 +20,7 @@ use Rattle.records.specs.User.{userBytes, userOf, userZeros}
 use Rattle.rules.specs.Book.{at}
 
 header-back : (s : List ℕ) → AllBytes s → Formed s → pack headerWidths (headerValues (bookOf s)) ≡ take 32 s
-unfolding headerWidths headerValues bookOf size fieldsAt markOf versionOf userCount tradeCount
+unfolding headerWidths headerValues bookOf pricesAt size fieldsAt markOf versionOf userCount tradeCount
 header-back s b f =
     let e : pack headerWidths (fieldsAt headerWidths 0 s) ≡ take 32 s = pack-fieldsAt headerWidths 0 s (omega (arith, f .head)) b in
     rw (length-usersOf s, length-tradesOf s) (rw (f .mark) at e)

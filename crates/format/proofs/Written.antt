@@ -14,7 +14,7 @@ use Rattle.fields.proofs.Pack.{all-bytes-pack, length-pack, fieldsAt-pack}
 use Rattle.fields.proofs.Records.{all-bytes-records, length-bytesOfRecords, recordsOf-bytesOfRecords}
 use Rattle.fields.specs.Field.{AllBytes, field}
 use Rattle.fields.specs.Layout.{Every, bytesOfRecords, pack, recordsOf, size, FitAll, fieldsAt}
-use Rattle.format.specs.Book.{bytesOf, headerValues, headerWidths, bookOf, lengthOf, mark, markOf, tradeCount, tradesAt, tradesOf, userAt, userCount, usersOf, versionOf}
+use Rattle.format.specs.Book.{bytesOf, headerValues, headerWidths, bookOf, lengthOf, mark, markOf, tradeCount, tradesAt, tradesOf, userAt, userCount, usersOf, versionOf, pricesAt}
 use Rattle.format.specs.Questions.{partsOf, aboutBytes, aboutFields, aboutForm, bookNumber, marked, sized, tradeZerosValid, userZerosValid, versioned}
 use Rattle.laws.proofs.Bounds.{entry-le, position-bound, within-le, prices-le}
 use Rattle.laws.proofs.Refusals.{yes-first}
@@ -230,7 +230,7 @@ module _ (b : Book) (s : Sound b) where
 
   -- reading the bytes of an accepted book gives that book
   pub bookOf-bytesOf : bookOf (bytesOf b) ≡ b
-  unfolding bookOf
+  unfolding bookOf pricesAt
   bookOf-bytesOf =
       rw (header .version, header .date, header .p, header .q, header .l, header .x, header .i, users-written, trades-written)
 

@@ -2,6 +2,7 @@
 use mathlib.Core.List.{List, [], _∷_, _++_}
 use Prim.Native.Nat.{ℕ, _+_, _*_}
 use lib.ListN.{length, drop}
+use Rattle.rules.specs.Areas.{Prices}
 use Rattle.rules.specs.Book.{User, Trade, Book}
 use Rattle.fields.specs.Field.{field}
 use Rattle.fields.specs.Layout.{pack, recordsOf, bytesOfRecords}
@@ -60,14 +61,15 @@ usersOf s = recordsOf (userSize (versionOf s)) userOf (userCount s) (drop (heade
 unfoldable pub tradesOf : List ℕ → List Trade
 tradesOf s = recordsOf (tradeSize (versionOf s)) tradeOf (tradeCount s) (drop (tradesAt s) s)
 
+-- P, Q, L, X, I from an offset
+unfoldable pub pricesAt : ℕ → List ℕ → Prices
+pricesAt at s =
+    record { p = field 4 at s; q = field 4 (at + 4) s; l = field 4 (at + 8) s; x = field 4 (at + 12) s; i = field 4 (at + 16) s }
+
 unfoldable pub bookOf : List ℕ → Book
 bookOf s =
     record {
-      header = record {
-        version = versionOf s;
-        date = field 4 8 s;
-        prices = record { p = field 4 12 s; q = field 4 16 s; l = field 4 20 s; x = field 4 24 s; i = field 4 28 s };
-      };
+      header = record { version = versionOf s; date = field 4 8 s; prices = pricesAt 12 s };
       users = usersOf s;
       trades = tradesOf s;
     }

@@ -1,15 +1,16 @@
 -- Document 01, "The questions" that every call asks, of any bytes: those of the rules, and beside them the mark, the length and the zero bytes. Assumes nothing.
 use mathlib.Core.Bool.{Bool, _&&_}
 use mathlib.Core.List.{List, [], _∷_, _++_}
-use Prim.Native.Nat.{ℕ}
+use mathlib.Core.Path.{_≡_}
+use Prim.Native.Nat.{ℕ, _*_, _+_, _≤_}
 use lib.Dec.{leb, eqb}
 use lib.ListN.{length, drop}
+use Rattle.fields.specs.Layout.{recordsOf}
+use Rattle.format.specs.Book.{headerSize, userSize, tradeSize, mark, markOf, versionOf, userCount, tradeCount, tradesAt, lengthOf, usersOf, tradesOf, bookOf}
+use Rattle.records.specs.Trade.{tradeZeros}
+use Rattle.records.specs.User.{userZeros}
 use Rattle.rules.specs.Lists.{all}
 use Rattle.rules.specs.Questions.{Question, refusal, numberOf, headerValid, usersValid, tradeValid, positionsValid}
-use Rattle.fields.specs.Layout.{recordsOf}
-use Rattle.records.specs.User.{userZeros}
-use Rattle.records.specs.Trade.{tradeZeros}
-use Rattle.format.specs.Book.{headerSize, userSize, tradeSize, mark, markOf, versionOf, userCount, tradeCount, tradesAt, lengthOf, usersOf, tradesOf, bookOf}
 
 -- 1: "At least 32 bytes, starting with the mark?"
 unfoldable pub marked : List ℕ → Bool
@@ -62,3 +63,13 @@ formNumber s = numberOf (refusal (aboutForm s))
 
 unfoldable pub bookNumber : List ℕ → ℕ
 bookNumber s = numberOf (refusal (aboutBytes s))
+
+-- bytes that pass 1 to 3, as facts
+pub record Formed (s : List ℕ) : Type 0 where
+  pub head : 32 ≤ length s
+  pub mark : markOf s ≡ mark
+  pub version : versionOf s ≡ 1
+  pub some : 1 ≤ userCount s
+  pub users : userCount s ≤ 64
+  pub trades : tradeCount s ≤ 256
+  pub whole : length s ≡ 32 + 56 * userCount s + 20 * tradeCount s
