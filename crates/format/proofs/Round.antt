@@ -19,7 +19,7 @@ use Rattle.records.specs.Trade.{tradeBytes, tradeOf, tradeZeros}
 use Rattle.records.specs.User.{userBytes, userOf, userZeros}
 use Rattle.rules.specs.Book.{at}
 
-header-back : (s : List ℕ) → AllBytes s → Formed s → pack headerWidths (headerValues (bookOf s)) ≡ take 32 s
+pub header-back : (s : List ℕ) → AllBytes s → Formed s → pack headerWidths (headerValues (bookOf s)) ≡ take 32 s
 unfolding headerWidths headerValues bookOf pricesAt size fieldsAt markOf versionOf userCount tradeCount
 header-back s b f =
     let e : pack headerWidths (fieldsAt headerWidths 0 s) ≡ take 32 s = pack-fieldsAt headerWidths 0 s (omega (arith, f .head)) b in

@@ -3,9 +3,9 @@ use mathlib.Core.List.{List}
 use mathlib.Core.Path.{_≡_}
 use Prim.Native.Nat.{ℕ}
 use Rattle.format.proofs.Formed.{book-passed, book-refused}
-use Rattle.format.specs.Book.{bytesOf, bookOf}
+use Rattle.format.specs.Book.{bookOf}
 use Rattle.format.specs.Questions.{aboutBytes, bookNumber}
-use Rattle.format.specs.Steps.{replyBytes, stepBytes}
+use Rattle.format.specs.Steps.{replyBytes, stepBytes, inBytes}
 use Rattle.laws.proofs.Refusals.{refusal-first, refusal-next}
 use Rattle.rules.specs.Calls.{Call, effect, only, about}
 use Rattle.rules.specs.Levels.{Limits}
@@ -22,7 +22,7 @@ module _ (limits : Limits) (s : List ℕ) where
   -- the questions of the call are asked where the book passes its own
   pub step-passed : (c : Call) → bookNumber s ≡ 0
       → stepBytes limits s c ≡ decided (refusal (about limits (bookOf s) c)) (λ n. record { answer = only n; bytes = s })
-      (record { answer = effect limits (bookOf s) c .answer; bytes = bytesOf (effect limits (bookOf s) c .book) })
+      (inBytes (effect limits (bookOf s) c))
   unfolding stepBytes
   step-passed c h = rw (refusal-next (aboutBytes s) (about limits (bookOf s) c) (book-passed s h))
 

@@ -8,7 +8,7 @@ use lib.ListN.{take, drop}
 use Rattle.rules.specs.Book.{User}
 use Rattle.rules.specs.Questions.{refusal, decided}
 use Rattle.rules.specs.Levels.{Limits}
-use Rattle.rules.specs.Calls.{Call, Answer, only, about, effect}
+use Rattle.rules.specs.Calls.{Call, Answer, Result, only, about, effect}
 use Rattle.rules.specs.Queries.{Query, shownRecord, Reply, onlyNumber, aboutQuery, found}
 use Rattle.format.specs.Book.{userSize, versionOf, userAt, bookOf, bytesOf}
 use Rattle.format.specs.Questions.{aboutBytes}
@@ -20,12 +20,15 @@ pub record InBytes : Type 0 where
   pub answer : Answer
   pub bytes : List ℕ
 
+-- what the rules give, with the book written as bytes
+unfoldable pub inBytes : Result → InBytes
+inBytes r = record { answer = r .answer; bytes = bytesOf (r .book) }
+
 -- "A refusal returns the number with every other field 0 and the book byte for byte the same."
 unfoldable pub stepBytes : Limits → List ℕ → Call → InBytes
 stepBytes limits s c =
-    let r = effect limits (bookOf s) c in
     decided (refusal (aboutBytes s ++ about limits (bookOf s) c)) (λ n. record { answer = only n; bytes = s })
-    (record { answer = r .answer; bytes = bytesOf (r .book) })
+    (inBytes (effect limits (bookOf s) c))
 
 -- the contract of a public call: bytes before, call, answer, bytes after
 pub record Called (limits : Limits) (s : List ℕ) (c : Call) (a : Answer) (t : List ℕ) : Type 0 where

@@ -258,6 +258,7 @@ anew-moved : (b : Book) (ns : List Trade) {x y : ℤ} → Pairwise Framed (b .tr
 unfolding anew repositioned
 anew-moved b ns h m w = record {
   header = refl;
+  users = length-map (b .users) (repositioned ns);
   trades = h;
   physical = λ i l.
       map-sum (λ v. at (v .physical) i) (repositioned ns) (λ v. refl) (b .users)

@@ -1,0 +1,142 @@
+-- One call by the rules, accepted or refused: what it does to a sound book. Assumes nothing.
+use mathlib.Core.Bool.{cond, false, not, true}
+use mathlib.Core.Option.{Option, none, some}
+use mathlib.Core.Path.{_≡_, _∙_, ap, refl, sym}
+use Prim.Native.Nat.{_<_, ℕ}
+use native.Mathlib.Nat.{le-refl}
+use native.Mathlib.Omega.{arith}
+use lib.Dec.{T, eqb, leb→le, ltb, ltb→lt}
+use lib.IntN.{pos, _+ℤ_}
+use borrow.Author.Tests.{eq-eqb, ne-eqb}
+use Rattle.laws.proofs.Guarantee.{guarantee-moved, guarantee-sound}
+use Rattle.laws.proofs.Main.{run-ends}
+use Rattle.laws.proofs.Moved.{Moved, moved-refl}
+use Rattle.laws.proofs.Posting.{posting-moved, posting-sound}
+use Rattle.laws.proofs.Refusals.{append-yes, first-yes, numbered, refusal-is}
+use Rattle.laws.proofs.Run.{reduced-law, run-law}
+use Rattle.laws.proofs.Sound.{Sound, accept, sound}
+use Rattle.laws.proofs.Tests.{all-append, and-l, and-r}
+use Rattle.laws.proofs.Trades.{lowered-refl}
+use Rattle.laws.specs.Statements.{AllCovered}
+use Rattle.laws.specs.Trades.{Lowered, Pairwise}
+use Rattle.rules.specs.Book.{Book, at, find}
+use Rattle.rules.specs.Calls.{posting, morningCall, afternoonCall, reduction, run, Call, Result, about, assignedFallsShort, assignedSuffices, calledInBeyondMargin, cuttable, effect, eligibleTrade, entryInRange, guaranteed, idKnown, isShipper, marginExceeded, ofCuts, ofLevel, only, questions, reduced, reducedBy, step}
+use Rattle.rules.specs.Changes.{moved, withUsers}
+use Rattle.rules.specs.Levels.{Limits, afternoonLevel, morningLevel}
+use Rattle.rules.specs.Lists.{all}
+use Rattle.rules.specs.Questions.{aboutBook, decided, refusal}
+use Rattle.rules.specs.Signed.{within}
+use Rattle.sequence.specs.Totals.{amountIn, counted}
+
+-- 1 for a run, 0 for another call
+isRun : Call → ℕ
+isRun (posting id area amount) = 0
+isRun (morningCall id) = 0
+isRun (afternoonCall id) = 0
+isRun (reduction id) = 0
+isRun run = 1
+
+-- no question has the number 0
+book-numbered : (b : Book) → T (all (λ q. ltb 0 (q .number)) (aboutBook b))
+unfolding aboutBook all
+book-numbered b = tt
+
+call-numbered : (limits : Limits) (b : Book) (c : Call) → T (all (λ q. ltb 0 (q .number)) (about limits b c))
+unfolding about idKnown isShipper entryInRange assignedSuffices assignedFallsShort marginExceeded calledInBeyondMargin eligibleTrade all
+call-numbered limits b (posting id area amount) = tt
+call-numbered limits b (morningCall id) = tt
+call-numbered limits b (afternoonCall id) = tt
+call-numbered limits b (reduction id) = tt
+call-numbered limits b run = tt
+
+questions-numbered : (limits : Limits) (b : Book) (c : Call) → T (numbered (questions limits b c))
+unfolding questions numbered
+questions-numbered limits b c = all-append (λ q. ltb 0 (q .number)) (aboutBook b) (about limits b c) (book-numbered b) (call-numbered limits b c)
+
+module _ (limits : Limits) where
+  pub record Stepped (b : Book) (c : Call) (r : Result) : Type 0 where
+    pub sound : Sound (r .book)
+    pub moved : Moved b (r .book) (λ a. cond (eqb (r .answer .number) 0) (amountIn a c) (pos 0))
+        (cond (eqb (r .answer .number) 0) (counted c (r .answer .mwh)) (pos 0))
+        (cond (eqb (r .answer .number) 0) (counted c (r .answer .worth)) (pos 0))
+    pub lowered : Pairwise Lowered (b .trades) (r .book .trades)
+    pub refused : T (not (eqb (r .answer .number) 0)) → r .book ≡ b
+    pub covered : c ≡ run → T (eqb (r .answer .number) 0) → AllCovered limits (r .book)
+
+  refused-law : (b : Book) (c : Call) (n : ℕ) → Sound b → 0 < n → Stepped b c (record { answer = only n; book = b })
+  unfolding only
+  refused-law b c n s k =
+      let e : eqb n 0 ≡ false = ne-eqb n 0 (λ z. omega arith) in
+      record {
+        sound = s;
+        moved = rw e (moved-refl b);
+        lowered = lowered-refl (b .trades);
+        refused = λ h. refl;
+        covered = λ d h. absurd (rw e at h);
+      }
+
+  accepted-law : (b : Book) (c : Call) (r : Result) → r .answer .number ≡ 0 → Sound (r .book)
+      → Moved b (r .book) (λ a. amountIn a c) (counted c (r .answer .mwh)) (counted c (r .answer .worth))
+      → Pairwise Lowered (b .trades) (r .book .trades)
+      → (c ≡ run → AllCovered limits (r .book)) → Stepped b c r
+  accepted-law b c r e s m l d =
+      let z : eqb (r .answer .number) 0 ≡ true = eq-eqb (r .answer .number) 0 e in
+      record {
+        sound = s;
+        moved = rw z m;
+        lowered = l;
+        refused = λ h. absurd (rw z at h);
+        covered = λ k h. d k;
+      }
+
+  -- a call that is no run
+  other : (c : Call) → isRun c ≡ 0 → c ≡ run → ⊥
+  unfolding isRun
+  other c e h = let k : _≡_ {A = ℕ} 0 1 = sym e ∙ ap isRun h in omega arith
+
+  effect-law : (b : Book) (c : Call) → Sound b → refusal (about limits b c) ≡ none → Stepped b c (effect limits b c)
+  unfolding about effect idKnown isShipper entryInRange assignedSuffices assignedFallsShort marginExceeded calledInBeyondMargin eligibleTrade only ofLevel ofCuts guaranteed reduced reducedBy withUsers amountIn counted isRun
+  effect-law b (posting id area amount) s h =
+      let q8 = first-yes _ _ h in
+      let q10 = first-yes _ _ (q8 .1) in
+      let ok = within 1000000 (at (find (b .users) id .physical) area +ℤ amount) in
+      let small = ltb→lt area 3 (and-l (ltb area 3) ok (q10 .0)) in
+      accepted-law b (posting id area amount) _ refl
+      (posting-sound b id area amount s (q8 .0) small (and-r (ltb area 3) ok (q10 .0)))
+      (posting-moved b id area amount s (q8 .0) small)
+      (lowered-refl (b .trades)) (λ e. absurd (other (posting id area amount) refl e))
+  effect-law b (morningCall id) s h =
+      let q8 = first-yes _ _ h in
+      let q9 = first-yes _ _ (q8 .1) in
+      let q11 = first-yes _ _ (q9 .1) in
+      let q12 = first-yes _ _ (q11 .1) in
+      let u = find (b .users) id in
+      let level = morningLevel limits b u in
+      accepted-law b (morningCall id) _ refl
+      (guarantee-sound b id level s (q8 .0) (leb→le level (u .party .assigned) (q12 .0)))
+      (guarantee-moved b id level) (lowered-refl (b .trades)) (λ e. absurd (other (morningCall id) refl e))
+  effect-law b (afternoonCall id) s h =
+      let q8 = first-yes _ _ h in
+      let q9 = first-yes _ _ (q8 .1) in
+      let q11 = first-yes _ _ (q9 .1) in
+      let q12 = first-yes _ _ (q11 .1) in
+      let u = find (b .users) id in
+      let level = afternoonLevel limits b u in
+      accepted-law b (afternoonCall id) _ refl
+      (guarantee-sound b id level s (q8 .0) (leb→le level (u .party .assigned) (q12 .0)))
+      (guarantee-moved b id level) (lowered-refl (b .trades)) (λ e. absurd (other (afternoonCall id) refl e))
+  effect-law b (reduction id) s h =
+      let r = reduced-law limits b (find (b .users) id) s in
+      accepted-law b (reduction id) _ refl (r .sound) (r .moved) (r .lowered) (λ e. absurd (other (reduction id) refl e))
+  effect-law b run s h =
+      let n = cuttable (b .trades) in
+      let r = run-law limits n b s in
+      accepted-law b run _ (r .number) (r .sound) (r .moved) (r .lowered) (λ e. run-ends limits .enough n b (accept b s) (le-refl n))
+
+  pub step-law : (b : Book) (c : Call) → Sound b → Stepped b c (step limits b c)
+  unfolding step questions decided numbered
+  step-law b c s = go (refusal (questions limits b c)) refl
+    where
+      go : (o : Option ℕ) → refusal (questions limits b c) ≡ o → Stepped b c (decided o (λ n. record { answer = only n; book = b }) (effect limits b c))
+      go none e = effect-law b c s (append-yes (aboutBook b) (about limits b c) e .1)
+      go (some n) e = refused-law b c n s (ltb→lt 0 n (refusal-is (λ i. ltb 0 i) (questions limits b c) n (questions-numbered limits b c) e))

@@ -1,0 +1,83 @@
+-- Demand 3 as one claim about a whole sequence of calls, from bytes s that pass the questions 1 to 7 to bytes t. Assumes nothing.
+use mathlib.Core.Bool.{not}
+use mathlib.Core.List.{List, [], _∷_}
+use mathlib.Core.Path.{_≡_}
+use Prim.Native.Nat.{ℕ, _+_, _*_, _<_}
+use lib.Dec.{T}
+use lib.IntN.{_+ℤ_}
+use lib.ListN.{length, take, drop}
+use Rattle.format.specs.Book.{tradesAt, tradeCount, usersOf, tradesOf, bookOf, bytesOf}
+use Rattle.format.specs.Questions.{bookNumber}
+use Rattle.integers.specs.Sums.{sumℤ}
+use Rattle.laws.specs.Statements.{AllCovered}
+use Rattle.laws.specs.Trades.{Lowered, Pairwise, leftMwh, leftWorth}
+use Rattle.records.specs.Trade.{tradeOf}
+use Rattle.rules.specs.Book.{at, Book, bilateralForDay}
+use Rattle.rules.specs.Calls.{Call, run, Answer, step}
+use Rattle.rules.specs.Levels.{Limits}
+use Rattle.sequence.specs.Links.{Link, isAccepted, callsOf}
+use Rattle.sequence.specs.Totals.{postedIn, reportedMwh, reportedWorth}
+
+-- ---- "Each answer, and the book after each call, are those that these rules give from the opening book and the arguments of the calls so far"
+
+-- what the rules give: the answers and the books after a list of calls, from a book
+pub record Event : Type 0 where
+  pub answer : Answer
+  pub book : Book
+
+module _ (limits : Limits) where
+  unfoldable pub events : Book → List Call → List Event
+  events b [] = []
+  events b (c ∷ cs) = record { answer = step limits b c .answer; book = step limits b c .book } ∷ events (step limits b c .book) cs
+
+  -- the book at the end
+  unfoldable pub final : Book → List Call → Book
+  final b [] = b
+  final b (c ∷ cs) = final (step limits b c .book) cs
+
+-- call by call: the answer that was given, and the bytes of the book
+pub data AsDefined : List Link → List Event → Type 0 where
+  asNone : AsDefined [] []
+  asAlso : {l : Link} {e : Event} {ls : List Link} {es : List Event} → l .answer ≡ e .answer → l .left ≡ bytesOf (e .book) → AsDefined ls es → AsDefined (l ∷ ls) (e ∷ es)
+
+-- ---- "Every trade byte is as in the opening book, except standing where kind and day are 0."
+
+-- the 20 bytes of the trade at a place
+unfoldable pub tradeBytesAt : List ℕ → ℕ → List ℕ
+tradeBytesAt s place = take 20 (drop (tradesAt s + 20 * place) s)
+
+pub record TradeBytes (s t : List ℕ) : Type 0 where
+  pub size : length t ≡ length s
+  pub header : take 32 t ≡ take 32 s
+  -- all but standing, which is the last field of four bytes
+  pub terms : (i : ℕ) → i < tradeCount s → take 16 (tradeBytesAt t i) ≡ take 16 (tradeBytesAt s i)
+  pub others : (i : ℕ) → i < tradeCount s → T (not (bilateralForDay (tradeOf (tradeBytesAt s i)))) → tradeBytesAt t i ≡ tradeBytesAt s i
+
+-- ---- one call of the sequence
+
+pub record Kept (limits : Limits) (l : Link) : Type 0 where
+  -- the book stays accepted
+  pub accepted : bookNumber (l .left) ≡ 0
+  -- "no trade raised or below zero"
+  pub lowered : Pairwise Lowered (tradesOf (l .given)) (tradesOf (l .left))
+  -- a refused call leaves the bytes
+  pub refused : T (not (isAccepted l)) → l .left ≡ l .given
+  -- "no accepted run ends while a short user has a sale to cut", judged on the book that it leaves
+  pub covered : l .call ≡ run → T (isAccepted l) → AllCovered limits (bookOf (l .left))
+
+pub data Each (limits : Limits) : List Link → Type 0 where
+  eachNone : Each limits []
+  eachAlso : {l : Link} {ls : List Link} → Kept limits l → Each limits ls → Each limits (l ∷ ls)
+
+-- ---- the claim
+
+pub record Claim (limits : Limits) (s : List ℕ) (ls : List Link) (t : List ℕ) : Type 0 where
+  pub defined : AsDefined ls (events limits (bookOf s) (callsOf ls))
+  pub book : bookOf t ≡ final limits (bookOf s) (callsOf ls)
+  pub accepted : bookNumber t ≡ 0
+  pub each : Each limits ls
+  pub positions : (a : ℕ) → a < 3
+      → sumℤ (λ u. at (u .position) a) (usersOf t) ≡ sumℤ (λ u. at (u .physical) a) (usersOf s) +ℤ sumℤ (postedIn a) ls
+  pub mwh : leftMwh (tradesOf s) (tradesOf t) ≡ sumℤ reportedMwh ls
+  pub worth : leftWorth (bookOf s .header .prices) (tradesOf s) (tradesOf t) ≡ sumℤ reportedWorth ls
+  pub trades : TradeBytes s t
