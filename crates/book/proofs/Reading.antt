@@ -1,6 +1,6 @@
 -- Laws of the loop that reads records from bytes into an array, for any type of record: its start, a turn and its end. Assumes nothing.
 use Prim.Native.Nat.{ℕ, zero, suc, _+_, _-_, _*_, _<_, _≤_}
-use mathlib.Core.Path.{_≡_, refl, sym, ap, _∙_}
+use mathlib.Core.Path.{_≡_, sym, ap, _∙_}
 use mathlib.Core.List.{List, [], _∷_, _++_, map, map-append, append-assoc, append-nil}
 use native.Mathlib.Omega.{arith}
 use native.Mathlib.Nat.{mul-zero, mul-suc, not-suc-le-zero, sub-zero}
@@ -36,37 +36,38 @@ module _ {R M : Type 0} (face : R → M) (len : ℕ) (one : List ℕ → M) wher
       let k : suc m - 1 ≡ m = omega arith in
       rw (k, add-one, take-suc-set rs i r h, map-append face (take i rs) (r ∷ []), append-assoc, e, drop-drop)
 
-  module _ (room : ℕ) (blank : R) (s : List ℕ) (at n : ℕ) where
-    pub reading-start : (z : R) → z ≡ blank → Reading face len one room blank s at n (replicate room z) 0 at
-    reading-start z e =
-        record {
-          place = omega (arith, mul-zero len);
-          within = omega arith;
-          records = rw sub-zero;
-          rest = rw (e, sub-zero);
-          full = length-replicate room z;
-        }
+module _ {R M : Type 0} {face : R → M} {len : ℕ} {one : List ℕ → M} {room : ℕ} {blank : R} {s : List ℕ} {at n : ℕ} where
+  pub reading-start : {z : R} → z ≡ blank → Reading face len one room blank s at n (replicate room z) 0 at
+  reading-start {z} e =
+      record {
+        place = omega (arith, mul-zero len);
+        within = omega arith;
+        records = rw sub-zero;
+        rest = rw (e, sub-zero);
+        full = length-replicate room z;
+      }
 
-    pub reading-turn : (i a : ℕ) (rs : List R) (r : R) → i < n → n ≤ room → face r ≡ one (take (a + len - a) (drop a s))
-        → Reading face len one room blank s at n rs i a → Reading face len one room blank s at n (set rs i r) (i + 1) (a + len)
-    reading-turn i a rs r h k e before =
-        let m : n - (i + 1) ≡ n - i - 1 = omega arith in
-        let l : a + len - a ≡ len = omega arith in
-        record {
-          place = rw (add-one, mul-suc) (omega (arith, before .place));
-          within = omega arith;
-          records = rw m (records-set (n - i) i a rs r s (omega arith) (omega (arith, before .full)) (rw l at e) ∙ before .records);
-          rest = rest-set room i blank r rs (before .rest);
-          full = simp length-set (before .full);
-        }
+  pub reading-turn : {rs : List R} {i a : ℕ} {r : R}
+      → Reading face len one room blank s at n rs i a → i < n → n ≤ room → face r ≡ one (take (a + len - a) (drop a s))
+      → Reading face len one room blank s at n (set rs i r) (i + 1) (a + len)
+  reading-turn {rs} {i} {a} {r} before h k e =
+      let m : n - (i + 1) ≡ n - i - 1 = omega arith in
+      let l : a + len - a ≡ len = omega arith in
+      record {
+        place = rw (add-one, mul-suc) (omega (arith, before .place));
+        within = omega arith;
+        records = rw m (records-set face len one (n - i) i a rs r s (omega arith) (omega (arith, before .full)) (rw l at e) ∙ before .records);
+        rest = rest-set room i blank r rs (before .rest);
+        full = simp length-set (before .full);
+      }
 
-    pub reading-end : (i a : ℕ) (rs : List R) → n ≤ i → Reading face len one room blank s at n rs i a → Filled face len one room blank n (drop at s) rs
-    unfolding recordsOf
-    reading-end i a rs h before =
-        let e : i ≡ n = omega (arith, before .within) in
-        let z : n - n ≡ 0 = omega arith in
-        record {
-          records = sym (append-nil (map face (take n rs))) ∙ (rw (e, z) at (before .records));
-          rest = rw e at (before .rest);
-          full = before .full;
-        }
+  pub reading-end : {rs : List R} {i a : ℕ} → Reading face len one room blank s at n rs i a → n ≤ i → Filled face len one room blank n (drop at s) rs
+  unfolding recordsOf
+  reading-end {rs} {i} before h =
+      let e : i ≡ n = omega (arith, before .within) in
+      let z : n - n ≡ 0 = omega arith in
+      record {
+        records = sym (append-nil (map face (take n rs))) ∙ (rw (e, z) at (before .records));
+        rest = rw e at (before .rest);
+        full = before .full;
+      }

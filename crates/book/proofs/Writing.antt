@@ -1,6 +1,6 @@
 -- Laws of the loop that writes the records of an array to bytes, for any type of record: its start, a turn and its end; and of a book whose parts are written one after the other. Assumes nothing.
 use Prim.Native.Nat.{ℕ, _+_, _-_, _*_, _<_, _≤_}
-use mathlib.Core.Path.{_≡_, refl, sym, ap, ap₂, _∙_}
+use mathlib.Core.Path.{_≡_, refl, ap, _∙_}
 use mathlib.Core.List.{List, [], _∷_, _++_, map}
 use native.Mathlib.Omega.{arith}
 use native.Mathlib.Nat.{mul-zero, mul-suc, sub-zero}
@@ -32,14 +32,15 @@ pub record Writing {R : Type 0} (bytes : R → List ℕ) (len : ℕ) (rs : List 
   pub kept : length out ≡ length first
   pub records : sets out a (bytesOfRecords bytes (take (n - i) (drop i rs))) ≡ sets first at (bytesOfRecords bytes (take n rs))
 
-module _ {R : Type 0} (bytes : R → List ℕ) (len : ℕ) (sized : (r : R) → length (bytes r) ≡ len) (rs : List R) (first : List ℕ) (at n : ℕ) where
+module _ {R : Type 0} {bytes : R → List ℕ} {len : ℕ} {rs : List R} {first : List ℕ} {at n : ℕ} where
   pub writing-start : Writing bytes len rs first at n first 0 at
   writing-start = record { place = omega (arith, mul-zero len); within = omega arith; kept = refl; records = rw sub-zero }
 
-  -- d is what stands past the end of the array: no record of it is written
-  pub writing-turn : (d : R) (out part : List ℕ) (i a : ℕ) → i < n → n ≤ length rs → a + len ≤ length out → part ≡ bytes (getD rs i d)
-      → Writing bytes len rs first at n out i a → Writing bytes len rs first at n (putMid a (a + len - a) out part) (i + 1) (a + len)
-  writing-turn d out part i a h k f e before =
+  -- d stands for an element past the end of the array, which no turn reaches
+  pub writing-turn : (d : R) {out part : List ℕ} {i a : ℕ} → ((r : R) → length (bytes r) ≡ len)
+      → Writing bytes len rs first at n out i a → i < n → n ≤ length rs → a + len ≤ length out → part ≡ bytes (getD rs i d)
+      → Writing bytes len rs first at n (putMid a (a + len - a) out part) (i + 1) (a + len)
+  writing-turn d {out} {part} {i} {a} sized before h k f e =
       let r = getD rs i d in
       let m : n - (i + 1) ≡ n - i - 1 = omega arith in
       let l : a + len - a ≡ len = omega arith in
@@ -51,9 +52,9 @@ module _ {R : Type 0} (bytes : R → List ℕ) (len : ℕ) (sized : (r : R) → 
         records = rw (p, m, ← bytesOfRecords-step bytes len (n - i) i a rs d out (omega arith) (omega arith) (sized r)) (before .records);
       }
 
-  pub writing-end : (out : List ℕ) (i a : ℕ) → n ≤ i → Writing bytes len rs first at n out i a → out ≡ sets first at (bytesOfRecords bytes (take n rs))
+  pub writing-end : {out : List ℕ} {i a : ℕ} → Writing bytes len rs first at n out i a → n ≤ i → out ≡ sets first at (bytesOfRecords bytes (take n rs))
   unfolding bytesOfRecords
-  writing-end out i a h before =
+  writing-end {out} {i} before h =
       let e : n - i ≡ 0 = omega arith in
       rw e at (before .records)
 

@@ -1,5 +1,4 @@
 -- `read_book` reads the counts, then the records where they say these stand, and each other field of the header from its own offset. Assumes nothing.
-use mathlib.Core.Path.{_≡_}
 use native.Mathlib.Omega.{arith}
 use borrow.Author.Needs.{needs}
 use Rattle.format.specs.Book.{versionOf, userCount, tradeCount, userAt, tradesAt, usersOf, tradesOf, bookOf}
@@ -21,7 +20,7 @@ cast-read-users c = search needs
 
 read-users-requires : tie.Need-read-users-requires
 unfolding userCount tradeCount
-read-users-requires c κs = 
+read-users-requires c κs =
     let h = c .before .before .before .before .pre in
     let e = c .before .before .get-u8 .ensures in
     (omega (arith, h .users), omega (arith, h .whole))
@@ -40,7 +39,7 @@ cast-read-trades-2 c = search needs
 
 read-trades-requires : tie.Need-read-trades-requires
 unfolding userCount tradeCount
-read-trades-requires c κs = 
+read-trades-requires c κs =
     let h = c .before .before .before .before .before .pre in
     let e = c .before .before .before .get-u8 .ensures in
     let k = c .before .before .get-u16 .ensures in
@@ -54,7 +53,7 @@ get-u32-requires c κs = search needs
 
 returns : tie.Need-returns
 unfolding asBook bookOf usersOf tradesOf versionOf userCount tradeCount tradesAt userAt
-returns c = 
+returns c =
     let version = c .before in
     let trades = version .before in
     let users = trades .before in
@@ -63,7 +62,7 @@ returns c =
     let user-count = trade-count .before in
     record {
       book = rw
-        (version .get-u162 .ensures, c .get-u32 .ensures, prices .read-prices .ensures, users .read-users .ensures .records, trades .read-trades .ensures .records, trade-count .get-u16 .ensures, user-count .get-u8 .ensures);
+          (version .get-u162 .ensures, c .get-u32 .ensures, prices .read-prices .ensures, users .read-users .ensures .records, trades .read-trades .ensures .records, trade-count .get-u16 .ensures, user-count .get-u8 .ensures);
       users = user-count .get-u8 .ensures;
       trades = trade-count .get-u16 .ensures;
       user-room = users .read-users .ensures .full;

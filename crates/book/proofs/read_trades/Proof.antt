@@ -2,7 +2,6 @@
 use Prim.Native.Nat.{_-_}
 use native.Mathlib.Omega.{arith}
 use lib.ListN.{length-take, length-drop}
-use denote.Ref.{now}
 use borrow.Author.Needs.{needs}
 use Rattle.records.specs.Trade.{tradeOf, asTrade, blankTrade}
 use Rattle.book.proofs.Reading.{Reading, reading-start, reading-turn, reading-end}
@@ -19,9 +18,7 @@ no-trade-requires : tie.Need-no-trade-requires Inv-loop μ-loop
 no-trade-requires c κs = search needs
 
 loop-holds : tie.Need-loop-holds Inv-loop μ-loop
-loop-holds c = 
-    let b = c .before .before .args in
-    reading-start asTrade 20 tradeOf 256 blankTrade (now (b .s)) (b .at) (b .n) (c .no-trade .result) (c .no-trade .ensures)
+loop-holds c = reading-start (c .no-trade .ensures)
 
 add-read-trade : tie.Need-add-read-trade Inv-loop μ-loop
 add-read-trade c = search needs
@@ -54,16 +51,10 @@ loop-less : tie.Need-loop-less Inv-loop μ-loop
 loop-less c = search needs
 
 loop-again : tie.Need-loop-again Inv-loop μ-loop
-loop-again c = 
-    let l = c .before .before .before in
-    let b = l .before .before .before .args in
-    reading-turn asTrade 20 tradeOf 256 blankTrade (now (b .s)) (b .at) (b .n) (l .loop .i) (l .loop .a) (l .loop .trades) (c .read-trade .result) (omega arith) (omega arith) (c .read-trade .ensures) (l .loop .inv)
+loop-again c = reading-turn (c .before .before .before .loop .inv) (omega arith) (omega arith) (c .read-trade .ensures)
 
 returns : tie.Need-returns Inv-loop μ-loop
-returns c = 
-    let l = c .before in
-    let b = l .before .before .before .args in
-    reading-end asTrade 20 tradeOf 256 blankTrade (now (b .s)) (b .at) (b .n) (l .loop .i) (l .loop .a) (l .loop .trades) (omega arith) (l .loop .inv)
+returns c = reading-end (c .before .loop .inv) (omega arith)
 
 pub read-trades-spec : {M : Type 1} → statement M
 read-trades-spec =

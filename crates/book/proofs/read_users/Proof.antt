@@ -2,7 +2,6 @@
 use Prim.Native.Nat.{_-_}
 use native.Mathlib.Omega.{arith}
 use lib.ListN.{length-take, length-drop}
-use denote.Ref.{now}
 use borrow.Author.Needs.{needs}
 use Rattle.records.specs.User.{userOf, asUser, blankUser}
 use Rattle.book.proofs.Reading.{Reading, reading-start, reading-turn, reading-end}
@@ -19,9 +18,7 @@ no-user-requires : tie.Need-no-user-requires Inv-loop μ-loop
 no-user-requires c κs = search needs
 
 loop-holds : tie.Need-loop-holds Inv-loop μ-loop
-loop-holds c = 
-    let b = c .before .before .args in
-    reading-start asUser 56 userOf 64 blankUser (now (b .s)) (b .at) (b .n) (c .no-user .result) (c .no-user .ensures)
+loop-holds c = reading-start (c .no-user .ensures)
 
 add-read-user : tie.Need-add-read-user Inv-loop μ-loop
 add-read-user c = search needs
@@ -54,16 +51,10 @@ loop-less : tie.Need-loop-less Inv-loop μ-loop
 loop-less c = search needs
 
 loop-again : tie.Need-loop-again Inv-loop μ-loop
-loop-again c = 
-    let l = c .before .before .before in
-    let b = l .before .before .before .args in
-    reading-turn asUser 56 userOf 64 blankUser (now (b .s)) (b .at) (b .n) (l .loop .i) (l .loop .a) (l .loop .users) (c .read-user .result) (omega arith) (omega arith) (c .read-user .ensures) (l .loop .inv)
+loop-again c = reading-turn (c .before .before .before .loop .inv) (omega arith) (omega arith) (c .read-user .ensures)
 
 returns : tie.Need-returns Inv-loop μ-loop
-returns c = 
-    let l = c .before in
-    let b = l .before .before .before .args in
-    reading-end asUser 56 userOf 64 blankUser (now (b .s)) (b .at) (b .n) (l .loop .i) (l .loop .a) (l .loop .users) (omega arith) (l .loop .inv)
+returns c = reading-end (c .before .loop .inv) (omega arith)
 
 pub read-users-spec : {M : Type 1} → statement M
 read-users-spec =

@@ -1,5 +1,5 @@
 -- `write_book` writes header, users and trades one after the other, which over bytes of the book's length gives the book's bytes. Assumes nothing.
-use mathlib.Core.Path.{_≡_, _∙_}
+use mathlib.Core.Path.{_∙_}
 use native.Mathlib.Omega.{arith}
 use denote.Ref.{now}
 use borrow.Author.Needs.{needs}
@@ -35,7 +35,7 @@ same-length : tie.Need-same-length
 same-length c = search needs
 
 returns : tie.Need-returns
-returns c = 
+returns c =
     let trades = c .before .before in
     let users = trades .before .before .before .before in
     let prices = users .before .before .before .before in
@@ -47,7 +47,7 @@ returns c =
     let h = start .pre in
     trades .write-trades .ensures .0
     ∙ rw (users .write-users .ensures .0, prices .write-prices .ensures, header .write-start .ensures)
-      (book-written b (omega arith) (omega arith) (now (start .args .out)) (h .2))
+    (book-written b (omega arith) (omega arith) (now (start .args .out)) (h .2))
 
 pub write-book-spec : {M : Type 1} → statement M
 write-book-spec =
