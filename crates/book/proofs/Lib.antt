@@ -1,0 +1,3 @@
+-- Laws of the loops that read and write records, and of a book that is written part by part.
+pub mod Reading
+pub mod Writing

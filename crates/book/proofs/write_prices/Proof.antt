@@ -1,0 +1,39 @@
+-- `write_prices` sets the five fields one after the other. Assumes nothing.
+use borrow.Author.Needs.{needs}
+use Rattle.fields.specs.Layout.{setFields}
+use Rattle.book.proofs.write_prices.Statement.{statement}
+use Rattle.book.proofs.write_prices.Tie as tie
+
+put-u32-requires : tie.Need-put-u32-requires
+put-u32-requires c κs = search needs
+
+put-u32-requires-2 : tie.Need-put-u32-requires-2
+put-u32-requires-2 c κs = search needs
+
+put-u32-requires-3 : tie.Need-put-u32-requires-3
+put-u32-requires-3 c κs = search needs
+
+put-u32-requires-4 : tie.Need-put-u32-requires-4
+put-u32-requires-4 c κs = search needs
+
+put-u32-requires-5 : tie.Need-put-u32-requires-5
+put-u32-requires-5 c κs = search needs
+
+same-length : tie.Need-same-length
+same-length c = search needs
+
+returns : tie.Need-returns
+unfolding setFields
+returns c = cc
+
+pub write-prices-spec : {M : Type 1} → statement M
+write-prices-spec =
+    tie.close
+    (tie.spec
+    put-u32-requires
+    put-u32-requires-2
+    put-u32-requires-3
+    put-u32-requires-4
+    put-u32-requires-5
+    same-length
+    returns)

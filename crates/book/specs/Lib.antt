@@ -1,0 +1,2 @@
+-- The book as the code's struct, and the book of the rules that it is.
+pub mod Book
