@@ -14,43 +14,53 @@ use Rattle.dealings.specs.declared.Amounts.{Amounts}
 use Rattle.dealings.specs.declared.Dealings.{Dealings}
 use Rattle.dealings.specs.Energies.{amountOf, Within, Raised, Totals}
 use Rattle.dealings.specs.Dealt.{Dealt, Counted, AllWithin}
+use Rattle.dealings.proofs.Raising.{raised-same}
 
--- of one trade
-pub dealt-one : (side : Terms → ℕ) (counts : ℕ → Bool) (t : model.Trade) (area day : ℕ)
-    → dealt side counts (t ∷ []) area day ≡ cond (counts (side (t .terms))) (cond (eqb (t .terms .area) area && eqb (t .terms .day) day) (t .standing) 0) 0
-unfolding dealt sum
-dealt-one side counts t area day = omega arith
+-- what a trade gives to the area's sum on a side, for a day
+abbrev pub given : (Terms → ℕ) → ℕ → ℕ → model.Trade → ℕ → ℕ
+given side id day t area =
+    cond (eqb (side (t .terms)) id) (cond (eqb (t .terms .area) area && eqb (t .terms .day) day) (t .standing) 0) 0
 
-module _ {A : Type 0} (f : A → model.Trade) (xs : List A) (i : ℕ) (d : A) (h : i < length xs) where
-  -- of one trade more
-  pub dealt-next : (side : Terms → ℕ) (counts : ℕ → Bool) (area day : ℕ)
-      → dealt side counts (map f (take (i + 1) xs)) area day
-      ≡ dealt side counts (map f (take i xs)) area day + dealt side counts (f (getD xs i d) ∷ []) area day
+-- the user's sum on a side in each area, for a day: sold or bought
+abbrev pub total : (Terms → ℕ) → ℕ → ℕ → List model.Trade → ℕ → ℕ
+total side id day ts area = dealt side (λ party. eqb party id) ts area day
+
+module _ (side : Terms → ℕ) (id day : ℕ) where
+  -- the sum over one trade is what it gives
+  pub raised-one : (t : model.Trade) {most : ℕ} {v r : Amounts} → Raised (given side id day t) most v r → Raised (total side id day (t ∷ [])) most v r
   unfolding dealt sum
-  dealt-next side counts area day =
-      let g : model.Trade → ℕ = λ t. cond (counts (side (t .terms))) (cond (eqb (t .terms .area) area && eqb (t .terms .day) day) (t .standing) 0) 0 in
+  raised-one t g = raised-same (λ area. omega arith) (omega arith) g
+
+  -- the sum over one trade more
+  total-next : {A : Type 0} (f : A → model.Trade) (xs : List A) (i : ℕ) (d : A) → i < length xs → (area : ℕ)
+      → total side id day (map f (take (i + 1) xs)) area
+      ≡ total side id day (map f (take i xs)) area + total side id day (f (getD xs i d) ∷ []) area
+  unfolding dealt sum
+  total-next f xs i d h area =
+      let g : model.Trade → ℕ = λ t. given side id day t area in
       omega (arith, sum-map g f (take (i + 1) xs), sum-map g f (take i xs), sum-take-suc (λ x. g (f x)) xs i d h)
 
--- energies that were totals and are raised are the greater totals
-totals-raised : {total given raised : ℕ → ℕ} {most more all : ℕ} {v r : Amounts} → ((area : ℕ) → raised area ≡ total area + given area) → most + more ≤ all
-    → Totals total most v → Raised given more v r → Totals raised all r
-totals-raised e h t g =
-    record {
-      each = λ area below. omega (arith, g .each area below, t .each area below, e area);
-      low = record { pvb = omega arith; tvb = omega arith; avb = omega arith };
-    }
+module _ {A : Type 0} (f : A → model.Trade) (xs : List A) (i : ℕ) (d : A) (h : i < length xs) (id : ℕ) where
+  -- totals that are raised by one trade are those of one trade more
+  totals-next : (side : Terms → ℕ) (day : ℕ) {v r : Amounts} → Totals (total side id day (map f (take i xs))) (i * 4294967295) v
+      → Raised (total side id day (f (getD xs i d) ∷ [])) 4294967295 v r
+      → Totals (total side id day (map f (take (i + 1) xs))) ((i + 1) * 4294967295) r
+  totals-next side day t g =
+      record {
+        each = λ area below. omega (arith, g .each area below, t .each area below, total-next side id day f xs i d h area);
+        low = record { pvb = omega arith; tvb = omega arith; avb = omega arith };
+      }
 
--- the same of all four, by one trade more
-pub dealt-counted : {A : Type 0} (f : A → model.Trade) (xs : List A) (i : ℕ) (none : A) → i < length xs → {id : ℕ} {d r : Dealings}
-    → Dealt i id (map f (take i xs)) d → Counted id (f (getD xs i none)) d r → Dealt (i + 1) id (map f (take (i + 1) xs)) r
-unfolding model.sold model.bought
-dealt-counted f xs i none h {id} p q =
-    record {
-      sold = totals-raised (λ area. dealt-next f xs i none h (λ s. s .seller) (λ party. eqb party id) area 0) (omega arith) (p .sold) (q .sold);
-      bought = totals-raised (λ area. dealt-next f xs i none h (λ s. s .buyer) (λ party. eqb party id) area 0) (omega arith) (p .bought) (q .bought);
-      sold-next = totals-raised (λ area. dealt-next f xs i none h (λ s. s .seller) (λ party. eqb party id) area 1) (omega arith) (p .sold-next) (q .sold-next);
-      bought-next = totals-raised (λ area. dealt-next f xs i none h (λ s. s .buyer) (λ party. eqb party id) area 1) (omega arith) (p .bought-next) (q .bought-next);
-    }
+  -- so are the dealings
+  pub dealt-next : {v r : Dealings} → Dealt i id (map f (take i xs)) v → Counted id (f (getD xs i d)) v r → Dealt (i + 1) id (map f (take (i + 1) xs)) r
+  unfolding model.sold model.bought
+  dealt-next p q =
+      record {
+        sold = totals-next (λ s. s .seller) 0 (p .sold) (q .sold);
+        bought = totals-next (λ s. s .buyer) 0 (p .bought) (q .bought);
+        sold-next = totals-next (λ s. s .seller) 1 (p .sold-next) (q .sold-next);
+        bought-next = totals-next (λ s. s .buyer) 1 (p .bought-next) (q .bought-next);
+      }
 
 -- ---- a greater bound
 
@@ -86,9 +96,9 @@ module _ {n id : ℕ} {ts : List model.Trade} {d : Dealings} where
 abbrev pub zeros : Amounts
 zeros = record { pvb = record { 0 = 0 }; tvb = record { 0 = 0 }; avb = record { 0 = 0 } }
 
-totals-none : (side : Terms → ℕ) (counts : ℕ → Bool) (day : ℕ) → Totals (λ area. dealt side counts [] area day) 0 zeros
+totals-none : (side : Terms → ℕ) (id day : ℕ) → Totals (total side id day []) 0 zeros
 unfolding dealt sum amountOf
-totals-none side counts day = record { each = each; low = record { pvb = omega arith; tvb = omega arith; avb = omega arith } }
+totals-none side id day = record { each = each; low = record { pvb = omega arith; tvb = omega arith; avb = omega arith } }
   where
     each : (area : ℕ) → area < 3 → amountOf zeros area ≡ 0
     each zero h = refl
@@ -99,8 +109,8 @@ pub dealt-none : (id : ℕ) → Dealt 0 id [] (record { sold = zeros; bought = z
 unfolding model.sold model.bought
 dealt-none id =
     record {
-      sold = totals-none (λ s. s .seller) (λ party. eqb party id) 0;
-      bought = totals-none (λ s. s .buyer) (λ party. eqb party id) 0;
-      sold-next = totals-none (λ s. s .seller) (λ party. eqb party id) 1;
-      bought-next = totals-none (λ s. s .buyer) (λ party. eqb party id) 1;
+      sold = totals-none (λ s. s .seller) id 0;
+      bought = totals-none (λ s. s .buyer) id 0;
+      sold-next = totals-none (λ s. s .seller) id 1;
+      bought-next = totals-none (λ s. s .buyer) id 1;
     }

@@ -34,7 +34,7 @@ module _ {given : ℕ → ℕ} {most : ℕ} {v r : Amounts} where
   unfolding amountOf
   raised-by p t a low =
       record {
-        each = λ area h. each area h;
+        each = each;
         pvb = omega (arith, low 0);
         tvb = omega (arith, low 1);
         avb = omega (arith, low 2);

@@ -7,7 +7,7 @@ use borrow.Author.Needs.{needs}
 use lib.ListN.{take}
 use Rattle.records.specs.Trade.{asTrade}
 use Rattle.dealings.specs.Dealt.{Dealt}
-use Rattle.dealings.proofs.Gathered.{dealt-counted, dealt-within, dealt-most}
+use Rattle.dealings.proofs.Gathered.{dealt-next, dealt-within, dealt-most}
 use Rattle.dealings.proofs.dealings_of.Statement.{statement}
 use Rattle.dealings.proofs.dealings_of.Tie as tie
 
@@ -43,7 +43,7 @@ loop-again c =
     let l = c .before .before .before .loop in
     let s = c .before .before .before .before .before in (
       omega arith,
-      dealt-counted asTrade (s .args .t1) (l .i) _ (omega (arith, s .good .0)) (l .inv .1) (c .counted .ensures),
+      dealt-next asTrade (s .args .t1) (l .i) _ (omega (arith, s .good .0)) (s .args .id) (l .inv .1) (c .counted .ensures),
     )
 
 returns : tie.Need-returns Inv-loop μ-loop
