@@ -3,7 +3,7 @@ use mathlib.Core.Path.{_≡_, refl}
 use mathlib.Core.Bool.{_||_}
 use Prim.Native.Nat.{ℕ, _<_}
 use Rattle.rules.specs.Book.{at, Book, User}
-use Rattle.rules.specs.Levels.{Limits, Holding, holding, sells, buys, partyTo, flagged, calledIn}
+use Rattle.rules.specs.Levels.{Limits, holding, sells, buys, partyTo, flagged, calledIn}
 use Rattle.rules.specs.Reduction.{eligible, hasEligible}
 use Rattle.dealings.specs.declared.Dealings.{Dealings}
 use Rattle.dealings.specs.Energies.{amountOf}
