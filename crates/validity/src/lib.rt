@@ -6,7 +6,6 @@ ghost use Rattle.rules.specs.Questions.{userValid};
 ghost use Rattle.records.specs.User.{userZeros, asUser};
 ghost use Rattle.records.specs.Trade.{tradeZeros, asTrade};
 ghost use Rattle.validity.specs.Given.{tradeValidGiven};
-
 use records::Trade;
 use records::User;
 
