@@ -1,13 +1,9 @@
 // A user and a trade as the engine keeps them, and in the bytes of a book: 56 and 20 of them. Each is read and written here.
 ghost use mathlib.Core.Path.{_≡_};
 ghost use Prim.Native.Nat.{_+_, _≤_};
-ghost use mathlib.Core.List.{[], _∷_};
 ghost use lib.ListN.{length};
 ghost use Rattle.rules.specs.Book.{bilateralForDay};
-ghost use Rattle.rules.specs.Signed.{signedOf, bitsOf};
-ghost use Rattle.fields.specs.Field.{field, setField};
 ghost use Rattle.fields.specs.Layout.{setFields};
-ghost use Rattle.units.specs.Amounts.{net, balance};
 ghost use Rattle.records.specs.User.{amountsAt, amountWidths, amountValues, asAmounts, userOf, userBytes, asUser, blankUser};
 ghost use Rattle.records.specs.Trade.{tradeOf, tradeBytes, asTrade, blankTrade};
 use units::Balance;
@@ -36,28 +32,15 @@ pub struct Trade {
     pub standing: u32,
 }
 
-// The signed amount of 4 bytes at `at`.
-fn get_net(s: &[u8], at: usize) -> Net
-    requires { ⌜ at + 4 ≤ length (now s) ⌝ }
-    ensures { λ r. ⌜ net r ≡ signedOf 32 (field 4 at (now (s .entry))) ⌝ }
-{
-    Net::of_bits(fields::get_u32(s, at))
-}
-
 // The signed amounts of the three areas, 12 bytes from `at`.
 fn get_amounts(s: &[u8], at: usize) -> [Net; 3]
     requires { ⌜ at + 12 ≤ length (now s) ⌝ }
     ensures { λ r. ⌜ asAmounts r ≡ amountsAt at (now (s .entry)) ⌝ }
 {
-    [get_net(s, at), get_net(s, at + 4), get_net(s, at + 8)]
-}
-
-// Writes a signed amount to the 4 bytes at `at`.
-fn put_net(s: &mut [u8], at: usize, x: Net)
-    requires { ⌜ at + 4 ≤ length (now s) ⌝ }
-    ensures { λ _. ⌜ now (s .exit) ≡ setField 4 at (bitsOf 32 (net x)) (now (s .entry)) ⌝ }
-{
-    fields::put_u32(s, at, x.bits());
+    let pvb = Net::of_bits(fields::get_u32(s, at));
+    let tvb = Net::of_bits(fields::get_u32(s, at + 4));
+    let avb = Net::of_bits(fields::get_u32(s, at + 8));
+    [pvb, tvb, avb]
 }
 
 // Writes the signed amounts of the three areas to the 12 bytes from `at`.
@@ -65,30 +48,13 @@ fn put_amounts(s: &mut [u8], at: usize, v: [Net; 3])
     requires { ⌜ at + 12 ≤ length (now s) ⌝ }
     ensures { λ _. ⌜ now (s .exit) ≡ setFields amountWidths at (amountValues (asAmounts v)) (now (s .entry)) ⌝ }
 {
+    let pvb = v[0];
+    let tvb = v[1];
+    let avb = v[2];
     let next = at + 4;
-    put_net(s, at, v[0]);
-    put_net(s, next, v[1]);
-    put_net(s, next + 4, v[2]);
-}
-
-// Writes a user's id, role and zero bytes to the first 8 bytes.
-fn put_head(c: &mut [u8], id: u32, role: u8)
-    requires { ⌜ 8 ≤ length (now c) ⌝ }
-    ensures { λ _. ⌜ now (c .exit) ≡ setFields (4 ∷ 1 ∷ 3 ∷ []) 0 (id ∷ role ∷ 0 ∷ []) (now (c .entry)) ⌝ }
-{
-    fields::put_u32(c, 0, id);
-    fields::put_u8(c, 4, role);
-    fields::put(c, 5, 3, 0);
-}
-
-// Writes a user's money to the 24 bytes from 32: charges, assigned and blocked guarantee.
-fn put_money(c: &mut [u8], charges: Balance, assigned: Cents, blocked: Cents)
-    requires { ⌜ 56 ≤ length (now c) ⌝ }
-    ensures { λ _. ⌜ now (c .exit) ≡ setFields (8 ∷ 8 ∷ 8 ∷ []) 32 (bitsOf 64 (balance charges) ∷ assigned .0 ∷ blocked .0 ∷ []) (now (c .entry)) ⌝ }
-{
-    fields::put_u64(c, 32, charges.bits());
-    fields::put_u64(c, 40, assigned.0);
-    fields::put_u64(c, 48, blocked.0);
+    fields::put_u32(s, at, pvb.bits());
+    fields::put_u32(s, next, tvb.bits());
+    fields::put_u32(s, next + 4, avb.bits());
 }
 
 // The user that 56 bytes hold.
@@ -118,12 +84,14 @@ pub fn write_user(c: &mut [u8], u: User)
     let physical = u.physical;
     let position = u.position;
     let charges = u.charges;
-    let assigned = u.assigned;
-    let blocked = u.blocked;
-    put_head(c, u.id, u.role);
+    fields::put_u32(c, 0, u.id);
+    fields::put_u8(c, 4, u.role);
+    fields::put(c, 5, 3, 0);
     put_amounts(c, 8, physical);
     put_amounts(c, 20, position);
-    put_money(c, charges, assigned, blocked);
+    fields::put_u64(c, 32, charges.bits());
+    fields::put_u64(c, 40, u.assigned.0);
+    fields::put_u64(c, 48, u.blocked.0);
 }
 
 // The user whose every field is 0.
@@ -158,17 +126,6 @@ pub fn read_trade(c: &[u8]) -> Trade
     }
 }
 
-// Writes a trade's area, kind, day and zero byte to the 4 bytes from 8.
-fn put_codes(c: &mut [u8], area: u8, kind: u8, day: u8)
-    requires { ⌜ 12 ≤ length (now c) ⌝ }
-    ensures { λ _. ⌜ now (c .exit) ≡ setFields (1 ∷ 1 ∷ 1 ∷ 1 ∷ []) 8 (area ∷ kind ∷ day ∷ 0 ∷ []) (now (c .entry)) ⌝ }
-{
-    fields::put_u8(c, 8, area);
-    fields::put_u8(c, 9, kind);
-    fields::put_u8(c, 10, day);
-    fields::put_u8(c, 11, 0);
-}
-
 // Writes a trade to 20 bytes, the zero byte with it.
 pub fn write_trade(c: &mut [u8], t: Trade)
     requires { ⌜ length (now c) ≡ 20 ⌝ }
@@ -176,7 +133,10 @@ pub fn write_trade(c: &mut [u8], t: Trade)
 {
     fields::put_u32(c, 0, t.seller);
     fields::put_u32(c, 4, t.buyer);
-    put_codes(c, t.area, t.kind, t.day);
+    fields::put_u8(c, 8, t.area);
+    fields::put_u8(c, 9, t.kind);
+    fields::put_u8(c, 10, t.day);
+    fields::put_u8(c, 11, 0);
     fields::put_u32(c, 12, t.notified);
     fields::put_u32(c, 16, t.standing);
 }
