@@ -5,13 +5,13 @@ use crate::questions::{questions_1_to_9, ACCEPTED};
 use crate::units::{Area, Cents, Mwh, Price};
 
 /// "Either level is at least 10,000,000 (100,000 euros)."
-const LEAST_LEVEL: Cents = Cents(10_000_000);
+pub const LEAST_LEVEL: Cents = Cents(10_000_000);
 
 /// Flagged above 30,000 MWh at the least reference price.
 const FLAG_ENERGY: Mwh = Mwh(30_000);
 
 /// A level counts above blocked by more than this (question 11).
-const MARGIN: Cents = Cents(1_000_000);
+pub const MARGIN: Cents = Cents(1_000_000);
 
 #[derive(Clone, Copy, Debug, Default, PartialEq, Eq)]
 pub struct LevelAnswer {
@@ -69,7 +69,7 @@ fn afternoon_need(book: &Book, user: &User, area: Area) -> Mwh {
 }
 
 /// Sum of max(0, −position) × w.
-fn short_positions(book: &Book, user: &User) -> Cents {
+pub fn short_positions(book: &Book, user: &User) -> Cents {
     over_areas(book, |area| -user.position[area.index()])
 }
 
@@ -82,7 +82,12 @@ fn over_areas(book: &Book, energy: impl Fn(Area) -> Mwh) -> Cents {
 /// "Flagged: sum of max(0, −position) × w, minus blocked, exceeds 30,000 ×
 /// the least w."
 pub fn flagged(book: &Book, user: &User) -> bool {
-    short_positions(book, user) - user.blocked > FLAG_ENERGY * least_reference_price(book)
+    short_positions(book, user) - user.blocked > flag_limit(book)
+}
+
+/// 30,000 × the least w.
+pub fn flag_limit(book: &Book) -> Cents {
+    FLAG_ENERGY * least_reference_price(book)
 }
 
 /// The least of the three reference prices of the book.
