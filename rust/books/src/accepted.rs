@@ -19,6 +19,9 @@ const ENERGY_LIMIT: i128 = 100_000;
 /// The most reductions that the run of a drawn book takes, but for long books.
 pub const MOST_REDUCTIONS: u64 = 400;
 
+/// The most reductions that the run of a long book takes.
+pub const MOST_LONG_REDUCTIONS: u64 = 3_000;
+
 /// Few users and trades.
 pub fn small(random: &mut Random) -> Book {
     let (users, trades) = (1 + random.below(4), random.below(8));
@@ -116,7 +119,9 @@ fn header(random: &mut Random) -> Book {
 }
 
 fn date(random: &mut Random) -> u32 {
-    let known = [20_200_101, 20_200_229, 20_991_231, 20_240_229, 20_960_229, 20_210_228, 20_231_130];
+    let known = [
+        20_200_101, 20_200_229, 20_991_231, 20_240_229, 20_960_229, 20_210_228, 20_231_130,
+    ];
     let year = 2020 + random.word() % 80;
     let drawn = year * 10_000 + (1 + random.word() % 12) * 100 + 1 + random.word() % 28;
     if random.one_in(3) {
@@ -137,7 +142,13 @@ fn prices(random: &mut Random) -> Prices {
 }
 
 fn price_list([p, q, l, x, i]: [i128; 5]) -> Prices {
-    Prices { p: Price(p), q: Price(q), l: Price(l), x: Price(x), i: Price(i) }
+    Prices {
+        p: Price(p),
+        q: Price(q),
+        l: Price(l),
+        x: Price(x),
+        i: Price(i),
+    }
 }
 
 /// Strictly rising ids, none of them 0.
@@ -174,7 +185,11 @@ fn physical_scale(random: &mut Random) -> i128 {
 fn user(random: &mut Random, id: u32, physical: i128) -> User {
     User {
         id,
-        role: if random.one_in(7) { CLEARING_HOUSE } else { SHIPPER },
+        role: if random.one_in(7) {
+            CLEARING_HOUSE
+        } else {
+            SHIPPER
+        },
         physical: Area::ALL.map(|_| entry(random, physical)),
         charges: Cents(charges(random)),
         ..User::default()
@@ -216,7 +231,11 @@ fn trade(random: &mut Random, book: &Book, energy: i128, bilateral: usize) -> Tr
         seller,
         buyer,
         area: random.pick(&[0, 1, 2]),
-        kind: if today { BILATERAL } else { random.pick(&[0, 1, 2]) },
+        kind: if today {
+            BILATERAL
+        } else {
+            random.pick(&[0, 1, 2])
+        },
         day: if today { TODAY } else { random.pick(&[0, 1]) },
         notified: Mwh(notified),
         standing: Mwh(notified),
@@ -239,7 +258,11 @@ fn standing(random: &mut Random, notified: Mwh) -> Mwh {
 /// Two users who differ; the first ones trade more often.
 fn parties(random: &mut Random, book: &Book) -> (u32, u32) {
     let count = book.users.len();
-    let seller = if random.one_in(3) { 0 } else { random.below(count) };
+    let seller = if random.one_in(3) {
+        0
+    } else {
+        random.below(count)
+    };
     let buyer = (seller + 1 + random.below(count - 1)) % count;
     (book.users[seller].id, book.users[buyer].id)
 }
@@ -298,12 +321,19 @@ pub fn chain(random: &mut Random) -> Book {
     book.prices = price_list([2000, 2100, 300, 100, 50]);
     let count = 3 + random.below(12);
     for id in ids(random, count) {
-        book.users.push(User { id, ..User::default() });
+        book.users.push(User {
+            id,
+            ..User::default()
+        });
     }
     let area = random.pick(&[0, 0, 1, 2]);
     let rising = random.one_in(2);
     for step in 0..count - 1 {
-        let (from, to) = if rising { (step, step + 1) } else { (count - 1 - step, count - 2 - step) };
+        let (from, to) = if rising {
+            (step, step + 1)
+        } else {
+            (count - 1 - step, count - 2 - step)
+        };
         let energy = Mwh(random.between(20_000, 40_000));
         book.trades.push(Trade {
             seller: book.users[from].id,
@@ -336,7 +366,10 @@ pub fn shares(random: &mut Random) -> Book {
     }
     let buyers = 1 + random.below(5);
     for id in ids(random, buyers + 1) {
-        book.users.push(User { id, ..User::default() });
+        book.users.push(User {
+            id,
+            ..User::default()
+        });
     }
     let sizes = [(); 2].map(|()| random.between(1, 9));
     let most = random.pick(&[4, 12, 40, 255]);
@@ -394,7 +427,8 @@ pub fn midday(random: &mut Random) -> Book {
     let mut book = header(random);
     for id in ids(random, users) {
         let mut user = user(random, id, 40_000);
-        user.physical = Area::ALL.map(|_| Mwh(random.pick(&[0, 0, -29_999, -30_000, -30_001, -40_000])));
+        user.physical =
+            Area::ALL.map(|_| Mwh(random.pick(&[0, 0, -29_999, -30_000, -30_001, -40_000])));
         book.users.push(user);
     }
     let energy = random.pick(&[1, 3, 100]);
@@ -417,9 +451,12 @@ pub fn long(random: &mut Random) -> Book {
     let tariff = random.between(1, 5_000);
     book.prices = price_list([tariff, tariff, 0, 0, 0]);
     for id in ids(random, 2) {
-        book.users.push(User { id, ..User::default() });
+        book.users.push(User {
+            id,
+            ..User::default()
+        });
     }
-    let energy = random.between(100, 3_000);
+    let energy = random.between(100, i128::from(MOST_LONG_REDUCTIONS));
     book.users[0].physical[0] = Mwh(energy);
     book.trades.push(Trade {
         seller: book.users[0].id,

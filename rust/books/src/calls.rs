@@ -5,20 +5,45 @@ use reference::transfer::Image;
 /// One call, with its arguments. The book is lent apart.
 #[derive(Clone, Debug, PartialEq, Eq)]
 pub enum Call {
-    Posting { id: u32, area: u32, amount: i64 },
-    Show { id: u32 },
+    Posting {
+        id: u32,
+        area: u32,
+        amount: i64,
+    },
+    Show {
+        id: u32,
+    },
     /// The book is the morning book; the afternoon book comes with the call.
-    ShowPicked { afternoon: Vec<u8>, pick: bool, id: u32 },
-    MorningLevel { id: u32 },
-    AfternoonLevel { id: u32 },
-    MorningCall { id: u32 },
-    AfternoonCall { id: u32 },
-    Warning { id: u32 },
-    Reduction { id: u32 },
+    ShowPicked {
+        afternoon: Vec<u8>,
+        pick: bool,
+        id: u32,
+    },
+    MorningLevel {
+        id: u32,
+    },
+    AfternoonLevel {
+        id: u32,
+    },
+    MorningCall {
+        id: u32,
+    },
+    AfternoonCall {
+        id: u32,
+    },
+    Warning {
+        id: u32,
+    },
+    Reduction {
+        id: u32,
+    },
     Run,
     Read,
     /// The image is written into a part of this length, each byte 0xAA before.
-    Write { image: Box<Image>, length: usize },
+    Write {
+        image: Box<Image>,
+        length: usize,
+    },
     Day,
 }
 
@@ -74,11 +99,19 @@ pub struct Answer {
 
 impl Answer {
     pub fn of_fields(number: u32, fields: &[i128]) -> Answer {
-        Answer { number, fields: fields.to_vec(), part: Vec::new() }
+        Answer {
+            number,
+            fields: fields.to_vec(),
+            part: Vec::new(),
+        }
     }
 
     pub fn of_part(number: u32, part: &[u8]) -> Answer {
-        Answer { number, fields: Vec::new(), part: part.to_vec() }
+        Answer {
+            number,
+            fields: Vec::new(),
+            part: part.to_vec(),
+        }
     }
 }
 
@@ -92,7 +125,11 @@ pub fn answer(book: &mut [u8], call: &Call) -> Answer {
             let (number, part) = reference::show(book, *id);
             Answer::of_part(number, part)
         }
-        Call::ShowPicked { afternoon, pick, id } => {
+        Call::ShowPicked {
+            afternoon,
+            pick,
+            id,
+        } => {
             let (number, part) = reference::show_picked(book, afternoon, *pick, *id);
             Answer::of_part(number, part)
         }
@@ -126,6 +163,27 @@ pub fn answer(book: &mut [u8], call: &Call) -> Answer {
     }
 }
 
+/// What another implementation says of this call where it differs from the
+/// reference, in the answer or in the book afterwards; none if they agree.
+pub fn disagreement(
+    book: &[u8],
+    call: &Call,
+    other: impl FnOnce(&mut [u8], &Call) -> Answer,
+) -> Option<String> {
+    let (mut expected_book, mut found_book) = (book.to_vec(), book.to_vec());
+    let expected = answer(&mut expected_book, call);
+    let found = other(&mut found_book, call);
+    if expected != found {
+        return Some(format!(
+            "{call:?}: {found:?}, by the reference {expected:?}"
+        ));
+    }
+    if expected_book != found_book {
+        return Some(format!("{call:?}: another book afterwards"));
+    }
+    None
+}
+
 fn level(answer: reference::LevelAnswer) -> Answer {
     Answer::of_fields(answer.number, &[answer.level])
 }
@@ -135,6 +193,12 @@ fn guarantee_call(answer: reference::CallAnswer) -> Answer {
 }
 
 fn reduction(answer: reference::ReductionAnswer) -> Answer {
-    let fields = [answer.mwh, answer.worth, answer.target, answer.short, answer.over];
+    let fields = [
+        answer.mwh,
+        answer.worth,
+        answer.target,
+        answer.short,
+        answer.over,
+    ];
     Answer::of_fields(answer.number, &fields)
 }

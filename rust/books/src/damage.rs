@@ -155,7 +155,11 @@ impl Damage {
             Damage::TradeCount => change_byte(random, &mut bytes[6..8]),
             Damage::Date => put(bytes, 8, &bad_date(random).to_le_bytes()),
             Damage::Price(place) => {
-                put(bytes, 12 + 4 * place, &bad_price(random, place).to_le_bytes());
+                put(
+                    bytes,
+                    12 + 4 * place,
+                    &bad_price(random, place).to_le_bytes(),
+                );
             }
             _ => return false,
         }
@@ -294,7 +298,9 @@ fn u64_at(bytes: &[u8], at: usize) -> u64 {
 
 /// Bytes that are no book, or a book only by its header.
 pub fn raw(random: &mut Random, accepted: &[u8]) -> Vec<u8> {
-    let length = random.pick(&[0, 1, 3, 31, 32, 33, 87, 88, 89, 108, 164, 600, 8736, 8737, 9377]);
+    let length = random.pick(&[
+        0, 1, 3, 31, 32, 33, 87, 88, 89, 108, 164, 600, 8736, 8737, 9377,
+    ]);
     match random.below(10) {
         0 => Vec::new(),
         1 => vec![0; length],

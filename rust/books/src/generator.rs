@@ -4,7 +4,9 @@ use reference::book::{length, User, HEADER_LENGTH, LONGEST, MOST_USERS};
 use reference::questions::questions_1_to_7;
 use reference::transfer::Image;
 
-use crate::accepted::{chain, ends_within, largest, long, midday, shares, small, usual, MOST_REDUCTIONS};
+use crate::accepted::{
+    chain, ends_within, largest, long, midday, shares, small, usual, MOST_LONG_REDUCTIONS,
+};
 use crate::calls::Call;
 use crate::damage::{counts, raw, Damage};
 use crate::random::Random;
@@ -72,7 +74,9 @@ pub struct Generator {
 
 impl Generator {
     pub fn new(seed: u64) -> Generator {
-        Generator { random: Random::new(seed) }
+        Generator {
+            random: Random::new(seed),
+        }
     }
 
     /// The random numbers, for choices of the caller.
@@ -118,7 +122,9 @@ impl Generator {
 
     /// An accepted book that is not large.
     fn few(&mut self) -> Vec<u8> {
-        let kind = self.random.pick(&[Kind::Small, Kind::Small, Kind::Usual, Kind::Midday]);
+        let kind = self
+            .random
+            .pick(&[Kind::Small, Kind::Small, Kind::Usual, Kind::Midday]);
         self.book(kind)
     }
 
@@ -198,7 +204,9 @@ impl Generator {
         match self.random.below(16) {
             0 => 0,
             1 => self.random.pick(&[i64::MIN, i64::MAX, i64::MIN + 1, any]),
-            2 => self.random.pick(&[wide, -wide, wide + 5, -wide - 5, 1 << 31]),
+            2 => self
+                .random
+                .pick(&[wide, -wide, wide + 5, -wide - 5, 1 << 31]),
             3 => most,
             4 => most + 1,
             5 => least,
@@ -213,12 +221,17 @@ impl Generator {
         i64::try_from(self.random.between(0, most)).unwrap_or(0)
     }
 
-    /// Any call on this book. A run of more than 400 reductions is not drawn.
+    /// Any call on this book. A run of more than 3,000 reductions is not
+    /// drawn.
     pub fn call(&mut self, book: &[u8]) -> Call {
         let Arguments { id, pick, .. } = self.arguments(book);
         match self.random.below(16) {
             0 => Call::Show { id },
-            1 => Call::ShowPicked { afternoon: self.small_book(), pick, id },
+            1 => Call::ShowPicked {
+                afternoon: self.small_book(),
+                pick,
+                id,
+            },
             2 => Call::MorningLevel { id },
             3 => Call::AfternoonLevel { id },
             4 => Call::Warning { id },
@@ -232,7 +245,9 @@ impl Generator {
     /// A call that changes the book: a posting, a guarantee call, a reduction
     /// or a run.
     pub fn changing_call(&mut self, book: &[u8]) -> Call {
-        let Arguments { id, area, amount, .. } = self.arguments(book);
+        let Arguments {
+            id, area, amount, ..
+        } = self.arguments(book);
         match self.random.below(10) {
             0..=2 => Call::Posting { id, area, amount },
             3 => Call::MorningCall { id },
@@ -243,7 +258,9 @@ impl Generator {
     }
 
     fn small_book(&mut self) -> Vec<u8> {
-        let kind = self.random.pick(&[Kind::Small, Kind::Small, Kind::Damaged, Kind::Raw]);
+        let kind = self
+            .random
+            .pick(&[Kind::Small, Kind::Small, Kind::Damaged, Kind::Raw]);
         self.book(kind)
     }
 
@@ -258,10 +275,15 @@ impl Generator {
             self.damage_header(&mut image);
         }
         let length = match self.random.below(8) {
-            0 => self.random.pick(&[0, 31, 32, right - 1, right + 1, LONGEST, LONGEST + 1]),
+            0 => self
+                .random
+                .pick(&[0, 31, 32, right - 1, right + 1, LONGEST, LONGEST + 1]),
             _ => right,
         };
-        Call::Write { image: Box::new(image), length }
+        Call::Write {
+            image: Box::new(image),
+            length,
+        }
     }
 
     /// The image of these records, one of them perhaps damaged. Records past
@@ -296,10 +318,10 @@ impl Generator {
     }
 }
 
-/// Whether the run of these bytes is refused or takes at most 400 reductions.
+/// Whether the run of these bytes is refused or takes at most 3,000 reductions.
 pub fn is_short_run(bytes: &[u8]) -> bool {
     match questions_1_to_7(bytes) {
-        Ok(book) => ends_within(&book, MOST_REDUCTIONS),
+        Ok(book) => ends_within(&book, MOST_LONG_REDUCTIONS),
         Err(_) => true,
     }
 }

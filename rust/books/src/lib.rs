@@ -9,7 +9,7 @@ pub mod damage;
 pub mod generator;
 pub mod random;
 
-pub use calls::{answer, Answer, Call};
+pub use calls::{answer, disagreement, Answer, Call};
 pub use damage::Damage;
 pub use generator::{Arguments, Generator, Kind};
 pub use random::Random;

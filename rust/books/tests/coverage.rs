@@ -8,8 +8,8 @@ use std::collections::BTreeMap;
 use books::{answer, Answer, Call, Generator};
 use reference::book::{Book, User, MOST_TRADES, MOST_USERS};
 use reference::levels::{
-    afternoon_level_of, flag_limit, flagged, morning_level_of, party_to_cut_trade,
-    short_positions, LEAST_LEVEL, MARGIN,
+    afternoon_level_of, flag_limit, flagged, morning_level_of, party_to_cut_trade, short_positions,
+    LEAST_LEVEL, MARGIN,
 };
 use reference::questions::questions_1_to_7;
 use reference::reduction::{cuts, reduce, sales, target, tier_worth, tiers, Sale};
@@ -47,7 +47,7 @@ fn numbers(name: &str) -> Vec<u32> {
     }
 }
 
-const BRANCHES: [&str; 50] = [
+const BRANCHES: [&str; 51] = [
     "book: one user",
     "book: 64 users, 256 trades",
     "book: no trades",
@@ -91,6 +91,7 @@ const BRANCHES: [&str; 50] = [
     "run: 1 reduction",
     "run: 2 reductions",
     "run: 3 to 400 reductions",
+    "run: more than 400 reductions",
     "run: a user reduced more than once",
     "run: a cut makes the buyer short and reduced",
     "run: a user short of cover at the end",
@@ -125,24 +126,36 @@ fn print_and_judge(counts: &Counts) {
     let mut required: Vec<String> = BRANCHES.iter().map(|branch| branch.to_string()).collect();
     required.extend((0..=14).map(|number| format!("number {number}")));
     for name in Call::NAMES {
-        required.extend(numbers(name).iter().map(|number| format!("{name}: {number}")));
+        required.extend(
+            numbers(name)
+                .iter()
+                .map(|number| format!("{name}: {number}")),
+        );
     }
     for (name, count) in &counts.reached {
         println!("{count:>7} {name}");
     }
     let possible = |name: &&String| !required.contains(name);
     let unexpected: Vec<&String> = counts.reached.keys().filter(possible).collect();
-    assert!(unexpected.is_empty(), "reached, but not possible: {unexpected:?}");
+    assert!(
+        unexpected.is_empty(),
+        "reached, but not possible: {unexpected:?}"
+    );
     let reached = |name: &&String| !counts.reached.contains_key(*name);
     let missing: Vec<&String> = required.iter().filter(reached).collect();
     assert!(missing.is_empty(), "never reached: {missing:?}");
 }
 
 fn count_book(counts: &mut Counts, bytes: &[u8]) {
-    let Ok(book) = questions_1_to_7(bytes) else { return };
+    let Ok(book) = questions_1_to_7(bytes) else {
+        return;
+    };
     let (users, trades) = (book.users.len(), book.trades.len());
     counts.add_if(users == 1, "book: one user");
-    counts.add_if((users, trades) == (MOST_USERS, MOST_TRADES), "book: 64 users, 256 trades");
+    counts.add_if(
+        (users, trades) == (MOST_USERS, MOST_TRADES),
+        "book: 64 users, 256 trades",
+    );
     counts.add_if(trades == 0, "book: no trades");
     let any = |test: fn(&User) -> bool| book.users.iter().any(test);
     counts.add_if(any(|user| user.id == u32::MAX), "book: id 4294967295");
@@ -169,8 +182,14 @@ fn count_user(counts: &mut Counts, book: &Book, user: &User) {
         (false, false) => {}
     }
     let above = short_positions(book, user) - user.blocked - flag_limit(book);
-    counts.add_if(above.0 == 0, "user: short positions - blocked at the limit of the flag");
-    counts.add_if(above.0 == 1, "user: short positions - blocked one above the limit of the flag");
+    counts.add_if(
+        above.0 == 0,
+        "user: short positions - blocked at the limit of the flag",
+    );
+    counts.add_if(
+        above.0 == 1,
+        "user: short positions - blocked one above the limit of the flag",
+    );
     count_levels(counts, book, user);
 }
 
@@ -178,10 +197,16 @@ fn count_levels(counts: &mut Counts, book: &Book, user: &User) {
     let level = afternoon_level_of(book, user);
     let lacking = level - user.blocked;
     counts.add_if(lacking == MARGIN, "user: level - blocked at the margin");
-    counts.add_if(lacking == MARGIN + Cents(1), "user: level - blocked one above the margin");
+    counts.add_if(
+        lacking == MARGIN + Cents(1),
+        "user: level - blocked one above the margin",
+    );
     counts.add_if(lacking.0 < 0, "user: blocked above the level");
     counts.add_if(user.assigned == level, "user: assigned at the level");
-    counts.add_if(user.assigned + Cents(1) == level, "user: assigned one below the level");
+    counts.add_if(
+        user.assigned + Cents(1) == level,
+        "user: assigned one below the level",
+    );
     counts.add(if level == LEAST_LEVEL {
         "user: afternoon level at the floor"
     } else {
@@ -225,12 +250,14 @@ fn count_reduction(counts: &mut Counts, book: &Book, place: usize, answer: &Answ
     let (one, two) = (sales(book, &one), sales(book, &two));
     let asked = target(book, user);
     let rest = (asked - tier_worth(&one)).or_zero();
-    counts.add(match (one.is_empty(), two.is_empty(), rest == Cents::ZERO) {
-        (false, true, _) => "reduction: tier one only, tier two empty",
-        (false, false, true) => "reduction: tier one only, tier two stands",
-        (true, _, _) => "reduction: tier two only",
-        (false, false, false) => "reduction: both tiers",
-    });
+    counts.add(
+        match (one.is_empty(), two.is_empty(), rest == Cents::ZERO) {
+            (false, true, _) => "reduction: tier one only, tier two empty",
+            (false, false, true) => "reduction: tier one only, tier two stands",
+            (true, _, _) => "reduction: tier two only",
+            (false, false, false) => "reduction: both tiers",
+        },
+    );
     count_tier(counts, &one, asked);
     count_tier(counts, &two, rest);
     let (short, over) = (answer.fields[3], answer.fields[4]);
@@ -260,12 +287,24 @@ fn count_shares(counts: &mut Counts, sales: &[Sale], asked: Cents, worth: Cents)
         .zip(cuts(sales, asked))
         .map(|(sale, cut)| (product(sale) % worth.0, cut.0 > product(sale) / worth.0))
         .collect();
-    counts.add_if(rounded.iter().all(|(_, more)| !more), "reduction: whole parts suffice");
+    counts.add_if(
+        rounded.iter().all(|(_, more)| !more),
+        "reduction: whole parts suffice",
+    );
     let tariffs = || sales.iter().map(|sale| sale.tariff);
-    counts.add_if(tariffs().min() != tariffs().max(), "reduction: remainders of more than one area");
-    let tie = rounded.iter().enumerate().any(|(place, (remainder, more))| {
-        *more && rounded[place..].iter().any(|(other, also)| other == remainder && !also)
-    });
+    counts.add_if(
+        tariffs().min() != tariffs().max(),
+        "reduction: remainders of more than one area",
+    );
+    let tie = rounded
+        .iter()
+        .enumerate()
+        .any(|(place, (remainder, more))| {
+            *more
+                && rounded[place..]
+                    .iter()
+                    .any(|(other, also)| other == remainder && !also)
+        });
     counts.add_if(tie, "reduction: tie of remainders decided by place");
 }
 
@@ -274,7 +313,8 @@ fn count_run(counts: &mut Counts, book: &Book, answer: &Answer) {
         0 => "run: 0 reductions",
         1 => "run: 1 reduction",
         2 => "run: 2 reductions",
-        _ => "run: 3 to 400 reductions",
+        3..=400 => "run: 3 to 400 reductions",
+        _ => "run: more than 400 reductions",
     });
     let mut after = book.clone();
     let mut times = vec![0; book.users.len()];
@@ -283,8 +323,12 @@ fn count_run(counts: &mut Counts, book: &Book, answer: &Answer) {
         times[place] += 1;
     }
     assert_eq!(times.iter().sum::<i128>(), answer.fields[0]);
-    counts.add_if(times.iter().any(|times| *times > 1), "run: a user reduced more than once");
-    let made_short = |place: &usize| times[*place] > 0 && !short_of_cover(book, &book.users[*place]);
+    counts.add_if(
+        times.iter().any(|times| *times > 1),
+        "run: a user reduced more than once",
+    );
+    let made_short =
+        |place: &usize| times[*place] > 0 && !short_of_cover(book, &book.users[*place]);
     let any = (0..times.len()).any(|place| made_short(&place));
     counts.add_if(any, "run: a cut makes the buyer short and reduced");
     let short = after.users.iter().any(|user| short_of_cover(&after, user));

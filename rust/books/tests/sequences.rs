@@ -40,7 +40,10 @@ fn random_sequences() {
         sums.refused += done.refused;
         sums.runs += done.runs;
     }
-    println!("accepted {}, refused {}, runs {}", sums.accepted, sums.refused, sums.runs);
+    println!(
+        "accepted {}, refused {}, runs {}",
+        sums.accepted, sums.refused, sums.runs
+    );
     assert!(sums.accepted > 1_000 && sums.refused > 1_000 && sums.runs > 100);
 }
 
@@ -124,8 +127,15 @@ fn totals_equal_what_left(opening: &Book, after: &Book, sums: &Sums) {
 fn trade_bytes_kept(opening: &Book, after: &Book) {
     assert_eq!(opening.trades.len(), after.trades.len());
     for (old, new) in opening.trades.iter().zip(&after.trades) {
-        let standing = if old.is_bilateral_today() { new.standing } else { old.standing };
-        let kept = reference::book::Trade { standing, ..old.clone() };
+        let standing = if old.is_bilateral_today() {
+            new.standing
+        } else {
+            old.standing
+        };
+        let kept = reference::book::Trade {
+            standing,
+            ..old.clone()
+        };
         assert_eq!(*new, kept);
     }
 }

@@ -40,7 +40,10 @@ fn answer(bytes: &mut [u8], called: Result<Called, u32>) -> CallAnswer {
                 added: called.added.0,
             }
         }
-        Err(number) => CallAnswer { number, ..CallAnswer::default() },
+        Err(number) => CallAnswer {
+            number,
+            ..CallAnswer::default()
+        },
     }
 }
 
@@ -53,7 +56,11 @@ fn morning_called(bytes: &[u8], id: u32) -> Result<Called, u32> {
     ask(12, user.assigned >= level)?;
     let added = level - user.blocked;
     book.users[place].blocked = level;
-    Ok(Called { after: book.to_bytes(), level, added })
+    Ok(Called {
+        after: book.to_bytes(),
+        level,
+        added,
+    })
 }
 
 fn afternoon_called(bytes: &[u8], id: u32) -> Result<Called, u32> {
@@ -64,5 +71,9 @@ fn afternoon_called(bytes: &[u8], id: u32) -> Result<Called, u32> {
     ask(12, user.assigned >= level)?;
     let added = level - user.blocked;
     book.users[place].blocked = level;
-    Ok(Called { after: book.to_bytes(), level, added })
+    Ok(Called {
+        after: book.to_bytes(),
+        level,
+        added,
+    })
 }

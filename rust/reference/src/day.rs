@@ -28,7 +28,12 @@ fn printed(mut book: Book) -> String {
 
 /// Id, state, afternoon level, three positions.
 fn line(book: &Book, user: &User) -> String {
-    let mut line = format!("{} {} {}", user.id, state(book, user), printed_level(book, user).0);
+    let mut line = format!(
+        "{} {} {}",
+        user.id,
+        state(book, user),
+        printed_level(book, user).0
+    );
     for position in user.position {
         // Writing to a string does not fail.
         let _ = write!(line, " {}", position.0);

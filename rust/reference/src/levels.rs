@@ -35,7 +35,10 @@ fn level_answer(bytes: &[u8], id: u32, level_of: fn(&Book, &User) -> Cents) -> L
             number: ACCEPTED,
             level: level_of(&book, &book.users[place]).0,
         },
-        Err(number) => LevelAnswer { number, ..LevelAnswer::default() },
+        Err(number) => LevelAnswer {
+            number,
+            ..LevelAnswer::default()
+        },
     }
 }
 

@@ -35,7 +35,10 @@ pub fn questions_1_to_7(bytes: &[u8]) -> Result<Book, u32> {
     let header = Header::from_bytes(bytes);
     ask(2, header.version == 1)?;
     ask(3, counts_and_length(&header, bytes.len()))?;
-    ask(4, date_in_range(header.date) && prices_in_range(&header.prices))?;
+    ask(
+        4,
+        date_in_range(header.date) && prices_in_range(&header.prices),
+    )?;
     let book = Book::from_bytes(&header, bytes);
     ask(5, users_valid(&book) && users_zero_bytes(&header, bytes))?;
     ask(6, trades_valid(&book) && trades_zero_bytes(&header, bytes))?;
@@ -79,7 +82,7 @@ fn month_length(year: u32, month: u32) -> u32 {
 }
 
 fn is_leap(year: u32) -> bool {
-    year % 4 == 0 && (year % 100 != 0 || year % 400 == 0)
+    year.is_multiple_of(4) && (!year.is_multiple_of(100) || year.is_multiple_of(400))
 }
 
 /// Question 4, the prices: P and Q 1 to 100,000, tolls 0 to 100,000.
@@ -115,12 +118,16 @@ fn ids_rising(book: &Book) -> bool {
 /// Question 5, the three zero bytes of each user.
 fn users_zero_bytes(header: &Header, bytes: &[u8]) -> bool {
     let users = &bytes[HEADER_LENGTH..length(header.users, 0)];
-    users.chunks_exact(USER_LENGTH).all(|user| user[5..8] == [0, 0, 0])
+    users
+        .chunks_exact(USER_LENGTH)
+        .all(|user| user[5..8] == [0, 0, 0])
 }
 
 /// Question 6, but for the zero byte.
 fn trades_valid(book: &Book) -> bool {
-    book.trades.iter().all(|trade| trade_valid(trade) && parties_valid(book, trade))
+    book.trades
+        .iter()
+        .all(|trade| trade_valid(trade) && parties_valid(book, trade))
 }
 
 fn trade_valid(trade: &Trade) -> bool {
@@ -142,13 +149,17 @@ fn parties_valid(book: &Book, trade: &Trade) -> bool {
 /// Question 6, the zero byte of each trade.
 fn trades_zero_bytes(header: &Header, bytes: &[u8]) -> bool {
     let trades = &bytes[length(header.users, 0)..];
-    trades.chunks_exact(TRADE_LENGTH).all(|trade| trade[11] == 0)
+    trades
+        .chunks_exact(TRADE_LENGTH)
+        .all(|trade| trade[11] == 0)
 }
 
 /// Question 7.
 fn positions_as_defined(book: &Book) -> bool {
     book.users.iter().all(|user| {
-        Area::ALL.iter().all(|area| user.position[area.index()] == book.defined_position(user, *area))
+        Area::ALL
+            .iter()
+            .all(|area| user.position[area.index()] == book.defined_position(user, *area))
     })
 }
 

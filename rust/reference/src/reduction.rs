@@ -23,7 +23,10 @@ pub fn reduction(bytes: &mut [u8], id: u32) -> ReductionAnswer {
             bytes.copy_from_slice(&after);
             answer
         }
-        Err(number) => ReductionAnswer { number, ..ReductionAnswer::default() },
+        Err(number) => ReductionAnswer {
+            number,
+            ..ReductionAnswer::default()
+        },
     }
 }
 
@@ -110,10 +113,15 @@ pub fn cuts(sales: &[Sale], asked: Cents) -> Vec<Mwh> {
 /// remainder first, ties by earlier place".
 fn shares(sales: &[Sale], asked: Cents, worth: Cents) -> Vec<Mwh> {
     let product = |sale: &Sale| sale.standing.0 * asked.0;
-    let mut cuts: Vec<Mwh> = sales.iter().map(|sale| Mwh(product(sale) / worth.0)).collect();
+    let mut cuts: Vec<Mwh> = sales
+        .iter()
+        .map(|sale| Mwh(product(sale) / worth.0))
+        .collect();
     let mut remainders: Vec<i128> = sales.iter().map(|sale| product(sale) % worth.0).collect();
     while loss(sales, &cuts) < asked {
-        let Some(place) = largest(&remainders) else { break };
+        let Some(place) = largest(&remainders) else {
+            break;
+        };
         cuts[place] = cuts[place] + Mwh(1);
         remainders[place] = 0;
     }
@@ -122,7 +130,11 @@ fn shares(sales: &[Sale], asked: Cents, worth: Cents) -> Vec<Mwh> {
 
 /// The loss of a tier at t.
 fn loss(sales: &[Sale], cuts: &[Mwh]) -> Cents {
-    sales.iter().zip(cuts).map(|(sale, cut)| *cut * sale.tariff).sum()
+    sales
+        .iter()
+        .zip(cuts)
+        .map(|(sale, cut)| *cut * sale.tariff)
+        .sum()
 }
 
 /// The place of the largest remainder above 0, the earliest of equal ones.

@@ -21,14 +21,20 @@ pub fn run(bytes: &mut [u8]) -> RunAnswer {
             bytes.copy_from_slice(&book.to_bytes());
             answer
         }
-        Err(number) => RunAnswer { number, ..RunAnswer::default() },
+        Err(number) => RunAnswer {
+            number,
+            ..RunAnswer::default()
+        },
     }
 }
 
 /// The run of an accepted book. Each reduction cuts at least one MWh, so that
 /// the run ends.
 pub fn run_book(book: &mut Book) -> RunAnswer {
-    let mut answer = RunAnswer { number: ACCEPTED, ..RunAnswer::default() };
+    let mut answer = RunAnswer {
+        number: ACCEPTED,
+        ..RunAnswer::default()
+    };
     while let Some(place) = next_reduction(book) {
         let reduction = reduce(book, place);
         answer.reductions += 1;
@@ -50,8 +56,5 @@ pub fn next_reduction(book: &Book) -> Option<usize> {
 /// assigned < level."
 pub fn short_of_cover(book: &Book, user: &User) -> bool {
     let level = afternoon_level_of(book, user);
-    user.is_shipper()
-        && called_in(book, user)
-        && above_margin(user, level)
-        && user.assigned < level
+    user.is_shipper() && called_in(book, user) && above_margin(user, level) && user.assigned < level
 }

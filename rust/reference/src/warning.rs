@@ -18,7 +18,10 @@ pub fn warning(bytes: &[u8], id: u32) -> WarningAnswer {
             number: ACCEPTED,
             warned: warned(&book, &book.users[place]),
         },
-        Err(number) => WarningAnswer { number, ..WarningAnswer::default() },
+        Err(number) => WarningAnswer {
+            number,
+            ..WarningAnswer::default()
+        },
     }
 }
 

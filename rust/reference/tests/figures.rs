@@ -17,7 +17,10 @@ const PRICES: Prices = Prices {
 
 /// A book of two users, 101 and 102, with these trades between them.
 fn book(first: User, trades: Vec<Trade>) -> Book {
-    let second = User { id: 102, ..User::default() };
+    let second = User {
+        id: 102,
+        ..User::default()
+    };
     let mut book = Book {
         version: 1,
         date: 20_240_229,
@@ -34,7 +37,15 @@ fn book(first: User, trades: Vec<Trade>) -> Book {
 
 fn trade(seller: u32, buyer: u32, area: u8, day: u8, energy: i128) -> Trade {
     let energy = Mwh(energy);
-    Trade { seller, buyer, area, kind: 0, day, notified: energy, standing: energy }
+    Trade {
+        seller,
+        buyer,
+        area,
+        kind: 0,
+        day,
+        notified: energy,
+        standing: energy,
+    }
 }
 
 fn physical(pvb: i128, tvb: i128) -> [Mwh; 3] {
@@ -43,7 +54,12 @@ fn physical(pvb: i128, tvb: i128) -> [Mwh; 3] {
 
 fn short_by_40_000(blocked: i128) -> Book {
     let blocked = Cents(blocked);
-    let user = User { physical: physical(-40_000, 0), blocked, assigned: blocked, ..User::default() };
+    let user = User {
+        physical: physical(-40_000, 0),
+        blocked,
+        assigned: blocked,
+        ..User::default()
+    };
     book(user, Vec::new())
 }
 
@@ -57,7 +73,13 @@ fn flags() {
 
 #[test]
 fn floor() {
-    let book = book(User { charges: Cents(-5_000_000), ..User::default() }, Vec::new());
+    let book = book(
+        User {
+            charges: Cents(-5_000_000),
+            ..User::default()
+        },
+        Vec::new(),
+    );
     assert_eq!(morning_level_of(&book, &book.users[0]), Cents(10_000_000));
     assert_eq!(afternoon_level_of(&book, &book.users[0]), Cents(10_000_000));
 }
@@ -74,26 +96,43 @@ fn margin() {
     assert_eq!((answer.number, answer.level, answer.added), (11, 0, 0));
     let mut above = book(guarantees(8_999_999), Vec::new()).to_bytes();
     let answer = reference::morning_call(&mut above, 101);
-    assert_eq!((answer.number, answer.level, answer.added), (0, 10_000_000, 1_000_001));
+    assert_eq!(
+        (answer.number, answer.level, answer.added),
+        (0, 10_000_000, 1_000_001)
+    );
 }
 
 #[test]
 fn afternoon_level_of_a_tank() {
-    let user = User { physical: physical(0, 500), charges: Cents(10_000_000), ..User::default() };
+    let user = User {
+        physical: physical(0, 500),
+        charges: Cents(10_000_000),
+        ..User::default()
+    };
     let book = book(user, vec![trade(101, 102, 1, TOMORROW, 800)]);
     assert_eq!(afternoon_level_of(&book, &book.users[0]), Cents(10_720_000));
 }
 
 #[test]
 fn morning_level_of_the_hub() {
-    let user = User { physical: physical(-100, 0), charges: Cents(10_000_000), ..User::default() };
-    let trades = vec![trade(101, 102, 0, TODAY, 40), trade(102, 101, 0, TOMORROW, 30)];
+    let user = User {
+        physical: physical(-100, 0),
+        charges: Cents(10_000_000),
+        ..User::default()
+    };
+    let trades = vec![
+        trade(101, 102, 0, TODAY, 40),
+        trade(102, 101, 0, TOMORROW, 30),
+    ];
     let book = book(user, trades);
     assert_eq!(morning_level_of(&book, &book.users[0]), Cents(10_220_000));
 }
 
 fn tier(standings: [i128; 2]) -> [Sale; 2] {
-    standings.map(|standing| Sale { standing: Mwh(standing), tariff: PRICES.p })
+    standings.map(|standing| Sale {
+        standing: Mwh(standing),
+        tariff: PRICES.p,
+    })
 }
 
 #[test]
@@ -116,7 +155,13 @@ fn short_by(target: i128, standings: [i128; 2]) -> Vec<u8> {
         assigned: Cents(level - target),
         ..User::default()
     };
-    book(user, standings.map(|standing| trade(101, 102, 0, TODAY, standing)).to_vec()).to_bytes()
+    book(
+        user,
+        standings
+            .map(|standing| trade(101, 102, 0, TODAY, standing))
+            .to_vec(),
+    )
+    .to_bytes()
 }
 
 #[test]
@@ -124,7 +169,10 @@ fn reductions() {
     let mut bytes = short_by(7_000, [3, 4]);
     let answer = reference::reduction(&mut bytes, 101);
     assert_eq!((answer.number, answer.mwh, answer.worth), (0, 4, 8_000));
-    assert_eq!((answer.target, answer.short, answer.over), (7_000, 0, 1_000));
+    assert_eq!(
+        (answer.target, answer.short, answer.over),
+        (7_000, 0, 1_000)
+    );
     let mut bytes = short_by(12_001, [3, 3]);
     let answer = reference::reduction(&mut bytes, 101);
     assert_eq!((answer.number, answer.mwh, answer.worth), (0, 6, 12_000));
@@ -154,7 +202,9 @@ fn dates() {
     for date in [20_200_229, 20_210_228, 20_200_101, 20_991_231, 20_230_430] {
         assert!(accepted(date), "{date}");
     }
-    for date in [20_210_229, 20_230_431, 20_191_231, 21_000_101, 20_231_301, 20_230_001, 0] {
+    for date in [
+        20_210_229, 20_230_431, 20_191_231, 21_000_101, 20_231_301, 20_230_001, 0,
+    ] {
         assert!(!accepted(date), "{date}");
     }
     let days = (0..22_000_000).filter(|date| accepted(*date)).count();

@@ -5,7 +5,9 @@
 mod support;
 
 use std::fs;
+use std::io::Write;
 use std::path::PathBuf;
+use std::process::{Command, Stdio};
 
 use reference::book::LONGEST;
 use support::{hex, sha256};
@@ -35,12 +37,32 @@ fn every_printed_day() {
         if path.extension().is_some_and(|extension| extension == "gdb") {
             let book = fs::read(&path).expect("book");
             let expected = fs::read(path.with_extension("out")).expect("printed day");
-            assert_eq!(reference::day(&book).into_bytes(), expected, "{}", path.display());
+            assert_eq!(
+                reference::day(&book).into_bytes(),
+                expected,
+                "{}",
+                path.display()
+            );
+            assert_eq!(program_day(&book), expected, "{}", path.display());
             replayed += 1;
         }
     }
     println!("printed days replayed: {replayed}");
     assert_eq!(replayed, 90);
+}
+
+/// What the program `day` prints for this input.
+fn program_day(input: &[u8]) -> Vec<u8> {
+    let mut program = Command::new(env!("CARGO_BIN_EXE_day"))
+        .stdin(Stdio::piped())
+        .stdout(Stdio::piped())
+        .spawn()
+        .expect("program");
+    let mut standard_input = program.stdin.take().expect("standard input");
+    // The program need not read a longer input to its end.
+    let _ = standard_input.write_all(input);
+    drop(standard_input);
+    program.wait_with_output().expect("output").stdout
 }
 
 #[test]
@@ -103,7 +125,10 @@ fn fields(words: &[&str], book: &mut [u8]) -> String {
         }
         "run" => {
             let answer = reference::run(book);
-            format!("{} {} {} {}", answer.number, answer.reductions, answer.mwh, answer.worth)
+            format!(
+                "{} {} {} {}",
+                answer.number, answer.reductions, answer.mwh, answer.worth
+            )
         }
         "read" => {
             let (number, image) = reference::read(book);

@@ -12,5 +12,7 @@ fn main() -> io::Result<()> {
     let most = u64::try_from(LONGEST + 1).unwrap_or(u64::MAX);
     let mut bytes = Vec::new();
     io::stdin().lock().take(most).read_to_end(&mut bytes)?;
-    io::stdout().lock().write_all(reference::day(&bytes).as_bytes())
+    io::stdout()
+        .lock()
+        .write_all(reference::day(&bytes).as_bytes())
 }
