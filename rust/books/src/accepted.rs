@@ -39,6 +39,16 @@ pub fn largest(random: &mut Random) -> Book {
     general(random, MOST_USERS, MOST_TRADES)
 }
 
+/// A book that is as it should be, but for one user or one trade too many, or
+/// no user at all.
+pub fn miscounted(random: &mut Random) -> Book {
+    match random.below(3) {
+        0 => drawn(random, MOST_USERS + 1, 3),
+        1 => drawn(random, MOST_USERS, MOST_TRADES + 1),
+        _ => header(random),
+    }
+}
+
 /// A book of this size; its run is kept short.
 fn general(random: &mut Random, users: usize, trades: usize) -> Book {
     for _ in 0..20 {
@@ -89,13 +99,30 @@ fn drawn(random: &mut Random, users: usize, trades: usize) -> Book {
     book
 }
 
-/// Positions as defined, then guarantees drawn for each user.
+/// Positions as defined, some of them 0, then guarantees drawn for each user.
 fn finish(random: &mut Random, book: &mut Book) {
     set_positions(book);
+    for user in &mut book.users {
+        for area in 0..3 {
+            if random.one_in(12) {
+                set_position_to_zero(user, area);
+            }
+        }
+    }
     for place in 0..book.users.len() {
         let (assigned, blocked) = guarantees(random, book, place);
         book.users[place].assigned = assigned;
         book.users[place].blocked = blocked;
+    }
+}
+
+/// Changes the physical entry such that the position is 0, if the entry stays
+/// in range.
+fn set_position_to_zero(user: &mut User, area: usize) {
+    let entry = user.physical[area] - user.position[area];
+    if (-PHYSICAL_LIMIT..=PHYSICAL_LIMIT).contains(&entry.0) {
+        user.physical[area] = entry;
+        user.position[area] = Mwh::ZERO;
     }
 }
 
@@ -118,23 +145,42 @@ fn header(random: &mut Random) -> Book {
     }
 }
 
+/// A real day of 2020 to 2099, often the last one of a month.
 fn date(random: &mut Random) -> u32 {
-    let known = [
-        20_200_101, 20_200_229, 20_991_231, 20_240_229, 20_960_229, 20_210_228, 20_231_130,
-    ];
     let year = 2020 + random.word() % 80;
-    let drawn = year * 10_000 + (1 + random.word() % 12) * 100 + 1 + random.word() % 28;
-    if random.one_in(3) {
-        random.pick(&known)
-    } else {
-        drawn
+    let (month, day) = random.pick(&[
+        (1, 31),
+        (2, 28),
+        (3, 31),
+        (4, 30),
+        (5, 31),
+        (6, 30),
+        (7, 31),
+        (8, 31),
+        (9, 30),
+        (10, 31),
+        (11, 30),
+        (12, 31),
+    ]);
+    match random.below(8) {
+        0 => 20_200_101,
+        1 => 20_991_231,
+        2 => (year - year % 4) * 10_000 + 229,
+        3 | 4 => year * 10_000 + month * 100 + day,
+        _ => year * 10_000 + month * 100 + 1 + random.word() % day,
     }
 }
 
 fn prices(random: &mut Random) -> Prices {
-    match random.below(6) {
+    match random.below(8) {
         0 => price_list([1, 1, 0, 0, 0]),
         1 => price_list([100_000; 5]),
+        // Any of the three areas may have the least reference price.
+        4 | 5 => {
+            let [p, q] = [(); 2].map(|()| random.pick(&[1000, 2000, 3000]));
+            let [l, x, i] = [(); 3].map(|()| random.pick(&[0, 10, 100, 1500]));
+            price_list([p, q, l, x, i])
+        }
         2 => price_list([(); 5].map(|()| random.between(1, 100_000))),
         3 => price_list([(); 5].map(|()| random.between(1, 5))),
         _ => price_list([2000, 2100, 300, 100, 50]),
@@ -401,6 +447,10 @@ fn short_seller(random: &mut Random, book: &mut Book) {
     for area in 0..3 {
         let entry = random.pick(&[0, 50_000, -50_000, -600_000]);
         book.users[0].physical[area] = Mwh(entry);
+        if random.one_in(4) {
+            set_positions(book);
+            set_position_to_zero(&mut book.users[0], area);
+        }
     }
     if random.one_in(2) {
         // Called in by a trade standing below notified.

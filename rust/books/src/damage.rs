@@ -2,6 +2,7 @@
 
 use reference::book::{length, Header, HEADER_LENGTH, TRADE_LENGTH, USER_LENGTH};
 
+use crate::accepted::miscounted;
 use crate::random::Random;
 
 #[derive(Clone, Copy, Debug, PartialEq, Eq)]
@@ -244,21 +245,17 @@ fn repeat_id(random: &mut Random, bytes: &mut [u8], users: usize) -> bool {
     true
 }
 
+/// No real day, or not of 2020 to 2099.
 fn bad_date(random: &mut Random) -> u32 {
-    random.pick(&[
-        0,
-        20_191_231,
-        21_000_101,
-        20_210_229,
-        20_230_431,
-        20_230_001,
-        20_231_301,
-        20_230_100,
-        20_230_132,
-        20_240_230,
-        120_230_101,
-        u32::MAX,
-    ])
+    let day_past_month = random.pick(&[
+        132, 230, 332, 431, 532, 631, 732, 832, 931, 1032, 1131, 1232, 100, 1200, 1, 1301,
+    ]);
+    let common_year = random.pick(&[2021, 2022, 2023, 2097, 2098, 2099]);
+    match random.below(3) {
+        0 => 20_240_000 + day_past_month,
+        1 => common_year * 10_000 + 229,
+        _ => random.pick(&[0, 20_191_231, 21_000_101, 120_230_101, u32::MAX]),
+    }
 }
 
 /// P and Q may not be 0 either.
@@ -301,7 +298,7 @@ pub fn raw(random: &mut Random, accepted: &[u8]) -> Vec<u8> {
     let length = random.pick(&[
         0, 1, 3, 31, 32, 33, 87, 88, 89, 108, 164, 600, 8736, 8737, 9377,
     ]);
-    match random.below(10) {
+    match random.below(12) {
         0 => Vec::new(),
         1 => vec![0; length],
         2 => vec![0xFF; length],
@@ -311,6 +308,7 @@ pub fn raw(random: &mut Random, accepted: &[u8]) -> Vec<u8> {
         6 => huge_counts(random, accepted),
         7 => shifted_counts(accepted),
         8 => random_records(random, accepted),
+        9 | 10 => miscounted(random).to_bytes(),
         _ => any_byte(random, accepted),
     }
 }

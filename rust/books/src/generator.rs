@@ -2,6 +2,7 @@
 
 use reference::book::{length, User, HEADER_LENGTH, LONGEST, MOST_USERS};
 use reference::questions::questions_1_to_7;
+use reference::run::next_reduction;
 use reference::transfer::Image;
 
 use crate::accepted::{
@@ -253,6 +254,9 @@ impl Generator {
             3 => Call::MorningCall { id },
             4 => Call::AfternoonCall { id },
             5 if is_short_run(book) => Call::Run,
+            6 => Call::Reduction {
+                id: reducible(book).unwrap_or(id),
+            },
             _ => Call::Reduction { id },
         }
     }
@@ -316,6 +320,13 @@ impl Generator {
             _ => image[6] = self.random.byte(),
         }
     }
+}
+
+/// The id of the user whom a run would reduce next.
+fn reducible(bytes: &[u8]) -> Option<u32> {
+    let book = questions_1_to_7(bytes).ok()?;
+    let place = next_reduction(&book)?;
+    Some(book.users[place].id)
 }
 
 /// Whether the run of these bytes is refused or takes at most 3,000 reductions.

@@ -14,7 +14,7 @@ use reference::levels::{
 use reference::questions::questions_1_to_7;
 use reference::reduction::{cuts, reduce, sales, target, tier_worth, tiers, Sale};
 use reference::run::{next_reduction, short_of_cover};
-use reference::units::{Cents, Mwh};
+use reference::units::{Area, Cents, Mwh};
 use reference::warning::warned_by_seller;
 
 #[derive(Default)]
@@ -47,13 +47,16 @@ fn numbers(name: &str) -> Vec<u32> {
     }
 }
 
-const BRANCHES: [&str; 51] = [
+const BRANCHES: [&str; 56] = [
     "book: one user",
     "book: 64 users, 256 trades",
     "book: no trades",
     "book: id 4294967295",
     "book: physical 1,000,000",
     "book: physical -1,000,000",
+    "book: least w in area 0",
+    "book: least w in area 1",
+    "book: least w in area 2",
     "user: clearing house",
     "user: flagged clearing house",
     "user: called in by flag alone",
@@ -74,6 +77,8 @@ const BRANCHES: [&str; 51] = [
     "warning: by the seller's flag alone",
     "warning: by both",
     "warning: none",
+    "warning: none, a seller is a flagged clearing house",
+    "reduction: tier one, and a sale where the position is 0",
     "reduction: tier one only, tier two empty",
     "reduction: tier one only, tier two stands",
     "reduction: tier two only",
@@ -163,6 +168,10 @@ fn count_book(counts: &mut Counts, bytes: &[u8]) {
     let least = any(|user| user.physical.contains(&Mwh(-1_000_000)));
     counts.add_if(most, "book: physical 1,000,000");
     counts.add_if(least, "book: physical -1,000,000");
+    let [pvb, tvb, avb] = Area::ALL.map(|area| area.reference_price(&book.prices));
+    counts.add_if(pvb < tvb.min(avb), "book: least w in area 0");
+    counts.add_if(tvb < pvb.min(avb), "book: least w in area 1");
+    counts.add_if(avb < pvb.min(tvb), "book: least w in area 2");
     for user in &book.users {
         count_user(counts, &book, user);
     }
@@ -242,11 +251,37 @@ fn count_warning(counts: &mut Counts, book: &Book, id: u32) {
         (false, true) => "warning: by the seller's flag alone",
         (false, false) => "warning: none",
     });
+    if !flagged(book, user) && !warned_by_seller(book, user) {
+        let clearing = buys_from_flagged_clearing_house(book, user);
+        counts.add_if(
+            clearing,
+            "warning: none, a seller is a flagged clearing house",
+        );
+    }
+}
+
+fn buys_from_flagged_clearing_house(book: &Book, user: &User) -> bool {
+    book.trades.iter().any(|trade| {
+        let seller = book.users.iter().find(|seller| seller.id == trade.seller);
+        trade.buyer == user.id
+            && trade.is_bilateral_today()
+            && trade.standing > Mwh::ZERO
+            && seller.is_some_and(|seller| !seller.is_shipper() && flagged(book, seller))
+    })
 }
 
 fn count_reduction(counts: &mut Counts, book: &Book, place: usize, answer: &Answer) {
     let user = &book.users[place];
     let (one, two) = tiers(book, user);
+    let at_zero = |place: &usize| {
+        let area = usize::from(book.trades[*place].area);
+        user.position[area] == Mwh::ZERO
+    };
+    let zero = !one.is_empty() && two.iter().any(at_zero);
+    counts.add_if(
+        zero,
+        "reduction: tier one, and a sale where the position is 0",
+    );
     let (one, two) = (sales(book, &one), sales(book, &two));
     let asked = target(book, user);
     let rest = (asked - tier_worth(&one)).or_zero();
