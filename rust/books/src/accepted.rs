@@ -471,6 +471,40 @@ fn short_seller(random: &mut Random, book: &mut Book) {
     book.users[0].assigned = Cents((level - target).clamp(0, MONEY_LIMIT));
 }
 
+/// Sales, prices and levels of the largest size, all sold by one user.
+pub fn extreme(random: &mut Random) -> Book {
+    let mut book = header(random);
+    book.prices = price_list([100_000; 5]);
+    for id in ids(random, MOST_USERS) {
+        book.users.push(User {
+            id,
+            physical: Area::ALL.map(|_| Mwh(random.pick(&[PHYSICAL_LIMIT, -PHYSICAL_LIMIT]))),
+            ..User::default()
+        });
+    }
+    let areas: &[u8] = random.pick(&[&[0], &[0, 0, 0, 1], &[2], &[0, 1, 2]]);
+    for place in 0..MOST_TRADES {
+        let energy = Mwh(ENERGY_LIMIT - random.between(0, 1));
+        book.trades.push(Trade {
+            seller: book.users[0].id,
+            buyer: book.users[1 + place % (MOST_USERS - 1)].id,
+            area: random.pick(areas),
+            notified: energy,
+            standing: energy,
+            ..Trade::default()
+        });
+    }
+    set_positions(&mut book);
+    let drawn = random.between(-MONEY_LIMIT, MONEY_LIMIT);
+    book.users[0].charges = Cents(random.pick(&[0, drawn, MONEY_LIMIT, -MONEY_LIMIT]));
+    book.users[0].assigned = Cents(random.between(0, MONEY_LIMIT));
+    if ends_within(&book, MOST_REDUCTIONS) {
+        book
+    } else {
+        largest(random)
+    }
+}
+
 /// Flags and sales around the limit of the flag.
 pub fn midday(random: &mut Random) -> Book {
     let (users, trades) = (2 + random.below(5), 1 + random.below(8));

@@ -184,6 +184,9 @@ impl Damage {
             Damage::Assigned => {
                 let assigned = random.pick(&[1_000_000_000_001, 1_u64 << 63, u64::MAX]);
                 put(user, 40, &assigned.to_le_bytes());
+                if random.one_in(2) {
+                    put(user, 48, &assigned.to_le_bytes());
+                }
             }
             Damage::Blocked => {
                 let assigned = u64_at(user, 40);

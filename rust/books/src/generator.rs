@@ -6,7 +6,7 @@ use reference::run::next_reduction;
 use reference::transfer::Image;
 
 use crate::accepted::{
-    chain, ends_within, largest, long, midday, shares, small, usual, MOST_LONG_REDUCTIONS,
+    chain, ends_within, extreme, largest, long, midday, shares, small, usual, MOST_LONG_REDUCTIONS,
 };
 use crate::calls::Call;
 use crate::damage::{counts, raw, Damage};
@@ -20,6 +20,8 @@ pub enum Kind {
     Usual,
     /// 64 users and 256 trades.
     Largest,
+    /// 64 users and 256 trades of the largest amounts and prices.
+    Extreme,
     /// Cuts that make the buyer short in turn.
     Chain,
     /// Many sales of few sizes by one user.
@@ -35,10 +37,11 @@ pub enum Kind {
 }
 
 impl Kind {
-    pub const ALL: [Kind; 9] = [
+    pub const ALL: [Kind; 10] = [
         Kind::Small,
         Kind::Usual,
         Kind::Largest,
+        Kind::Extreme,
         Kind::Chain,
         Kind::Shares,
         Kind::Midday,
@@ -48,10 +51,11 @@ impl Kind {
     ];
 
     /// The kinds that pass questions 1 to 7.
-    pub const ACCEPTED: [Kind; 7] = [
+    pub const ACCEPTED: [Kind; 8] = [
         Kind::Small,
         Kind::Usual,
         Kind::Largest,
+        Kind::Extreme,
         Kind::Chain,
         Kind::Shares,
         Kind::Midday,
@@ -93,6 +97,7 @@ impl Generator {
             Kind::Small => small(random).to_bytes(),
             Kind::Usual => usual(random).to_bytes(),
             Kind::Largest => largest(random).to_bytes(),
+            Kind::Extreme => extreme(random).to_bytes(),
             Kind::Chain => chain(random).to_bytes(),
             Kind::Shares => shares(random).to_bytes(),
             Kind::Midday => midday(random).to_bytes(),
@@ -108,7 +113,7 @@ impl Generator {
     /// A book of any kind, the large ones less often.
     pub fn any_book(&mut self) -> Vec<u8> {
         let kind = match self.random.below(24) {
-            0 => Kind::Largest,
+            0 => self.random.pick(&[Kind::Largest, Kind::Extreme]),
             1 => Kind::Long,
             2 | 3 => Kind::Raw,
             4..=6 => Kind::Damaged,
@@ -151,6 +156,23 @@ impl Generator {
                 return bytes;
             }
         }
+    }
+
+    /// An otherwise accepted book for each of the dates next to the ends of the
+    /// months and of the years 2020 to 2099, real or not.
+    pub fn dated_books(&mut self) -> Vec<Vec<u8>> {
+        let mut books = Vec::new();
+        for year in [2019, 2020, 2021, 2023, 2024, 2096, 2099, 2100] {
+            for month in 0..=13 {
+                for day in [0, 1, 28, 29, 30, 31, 32] {
+                    let date: u32 = year * 10_000 + month * 100 + day;
+                    let mut bytes = self.book(Kind::Small);
+                    bytes[8..12].copy_from_slice(&date.to_le_bytes());
+                    books.push(bytes);
+                }
+            }
+        }
+        books
     }
 
     /// Arguments for a call on this book.

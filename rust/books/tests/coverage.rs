@@ -47,7 +47,7 @@ fn numbers(name: &str) -> Vec<u32> {
     }
 }
 
-const BRANCHES: [&str; 56] = [
+const BRANCHES: [&str; 57] = [
     "book: one user",
     "book: 64 users, 256 trades",
     "book: no trades",
@@ -84,6 +84,7 @@ const BRANCHES: [&str; 56] = [
     "reduction: tier two only",
     "reduction: both tiers",
     "reduction: 0 < A < V",
+    "reduction: 10^12 < A < V",
     "reduction: A = V",
     "reduction: A > V",
     "reduction: whole parts suffice",
@@ -310,6 +311,7 @@ fn count_tier(counts: &mut Counts, sales: &[Sale], asked: Cents) {
     counts.add_if(asked > worth, "reduction: A > V");
     if asked < worth {
         counts.add("reduction: 0 < A < V");
+        counts.add_if(asked.0 > 1_000_000_000_000, "reduction: 10^12 < A < V");
         count_shares(counts, sales, asked, worth);
     }
 }

@@ -26,6 +26,23 @@ fn each_damage_fails_its_question() {
     }
 }
 
+/// The dates among those drawn that are real days of 2020 to 2099, counted by
+/// month: 1, 28, 29, 30 and 31 where the month has them.
+#[test]
+fn dated_books_are_accepted_on_real_days() {
+    let mut generator = Generator::new(7);
+    let books = generator.dated_books();
+    let accepted = books
+        .iter()
+        .filter(|book| reference::check(book) == 0)
+        .count();
+    assert!(books
+        .iter()
+        .all(|book| [0, 4].contains(&reference::check(book))));
+    // Six years, three of them leap years; 7 months of 31 days, 4 of 30.
+    assert_eq!(accepted, 6 * (7 * 5 + 4 * 4 + 2) + 3);
+}
+
 #[test]
 fn an_accepted_book_is_read_and_written_back() {
     let mut generator = Generator::new(3);

@@ -31,7 +31,17 @@ fn random_sequences() {
         let kind = match turn % 30 {
             0 => Kind::Largest,
             1 => Kind::Long,
-            place => Kind::ACCEPTED[[0, 1, 3, 4, 5][place % 5]],
+            2 => Kind::Extreme,
+            place => {
+                let kinds = [
+                    Kind::Small,
+                    Kind::Usual,
+                    Kind::Chain,
+                    Kind::Shares,
+                    Kind::Midday,
+                ];
+                kinds[place % 5]
+            }
         };
         let opening = generator.book(kind);
         let calls = generator.random().below(30);
