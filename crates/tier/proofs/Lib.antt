@@ -2,4 +2,5 @@
 pub mod Stores
 pub mod Lots
 pub mod Turns
+pub mod Parts
 pub mod Cuts

@@ -24,9 +24,9 @@ pub stored-none : (vs cs : List ℕ) → length cs ≡ length vs → Stored vs c
 stored-none vs cs e = record {
   long = e;
   left =
-    sets-eq vs cs 0 (omega arith)
-    ∙ ap (λ (r : List ℕ). vs ++ r) (drop-past cs (0 + length vs) (omega arith))
-    ∙ append-nil vs;
+      sets-eq vs cs 0 (omega arith)
+      ∙ ap (λ (r : List ℕ). vs ++ r) (drop-past cs (0 + length vs) (omega arith))
+      ∙ append-nil vs;
 }
 
 pub stored-more : (vs cs : List ℕ) (i n : ℕ) → i < length vs → n ≡ getD vs i 0 → Stored vs cs i → Stored vs (set cs i n) (i + 1)

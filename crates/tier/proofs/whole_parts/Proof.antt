@@ -1,34 +1,25 @@
--- `tier::whole_parts`: the places passed hold the whole parts and the remainders of the rules' shares, and the loss is theirs so far. Assumes nothing.
-use mathlib.Core.Path.{_≡_, refl, sym, ap, _∙_}
-use mathlib.Core.List.{map}
-use Prim.Native.Nat.{ℕ, _+_, _*_, _/_, _%_, _≤_, _<_, _-_}
+-- `tier::whole_parts`: the trades passed have the rules' shares, and the loss is theirs so far. Assumes nothing.
+use mathlib.Core.Path.{_≡_, sym, _∙_}
+use Prim.Native.Nat.{_+_, _*_, _-_}
 use native.Mathlib.Omega.{arith}
 use borrow.Author.Needs.{needs}
-use lib.ListN.{length, take, length-map}
-use Rattle.rules.specs.Shares as shares
-use Rattle.tier.specs.Turns.{sharesOf}
-use Rattle.tier.proofs.Stores.{Stored, stored-none, stored-more, stored-all, at-map}
+use lib.ListN.{length, getD}
 use Rattle.tier.proofs.Lots.{one-worth-le}
-use Rattle.tier.proofs.Turns.{shares-of-lots, shares-length, loss-more, whole-part-le}
+use Rattle.tier.proofs.Parts.{Parted, parted-none, parted-more, parted-all}
 use Rattle.tier.proofs.whole_parts.Statement.{statement}
 use Rattle.tier.proofs.whole_parts.Tie as tie
-use Rattle.tier.proofs.whole_parts.Reads as reads
-use Rattle.tier.proofs.whole_parts.Lts as lts
-use Rattle.tier.proofs.Share.of.Reads as of-reads
-use Rattle.units.proofs.Price.worth.Reads as worth-reads
 
 abbrev Inv-loop : tie.InvT-loop
-Inv-loop standing tariffs asked worth cuts₀ rests₀ loss₀ i₀ cuts rests loss i =
-    let whole = map (λ s. s * asked .0 / worth .0) standing in
-    let remainders = map (λ s. s * asked .0 % worth .0) standing in
-    (i ≤ length standing) × Stored whole cuts i × Stored remainders rests i
-    × (loss .0 ≡ shares.loss (take i (sharesOf whole remainders tariffs))) × (loss .0 ≤ 10000000000 * i)
+Inv-loop standing tariffs asked worth cuts₀ rests₀ loss₀ i₀ cuts rests loss i = Parted standing tariffs (asked .0) (worth .0) cuts rests (loss .0) i
 
 abbrev μ-loop : tie.MeasureT-loop
 μ-loop standing tariffs asked worth cuts₀ rests₀ loss₀ i₀ cuts rests loss i = length standing - i
 
 loop-holds : tie.Need-loop-holds Inv-loop μ-loop
-loop-holds c = ?
+loop-holds c =
+    let b = c .before .before .before .before in
+    let a = b .args in
+    parted-none (a .standing .now) (a .tariffs .now) (a .asked .0) (a .worth .0) (a .cuts .now) (a .rests .now) (b .pre .0)
 
 mul-t12 : tie.Need-mul-t12 Inv-loop μ-loop
 mul-t12 c = search needs
@@ -37,7 +28,10 @@ shared-slice-read-t15 : tie.Need-shared-slice-read-t15 Inv-loop μ-loop
 shared-slice-read-t15 c = omega arith
 
 of-requires : tie.Need-of-requires Inv-loop μ-loop
-of-requires c κs = ?
+of-requires c κs =
+    let l = c .before .before in
+    let b = l .before .before .before .before .before in
+    (b .pre .0 .tier .standing-most (l .loop .i), b .pre .1 .0, b .pre .1 .1)
 
 mul-cuts : tie.Need-mul-cuts Inv-loop μ-loop
 mul-cuts c = search needs
@@ -58,10 +52,16 @@ shared-slice-read-t20 : tie.Need-shared-slice-read-t20 Inv-loop μ-loop
 shared-slice-read-t20 c = omega arith
 
 worth-requires : tie.Need-worth-requires Inv-loop μ-loop
-worth-requires c κs = ?
+worth-requires c κs =
+    let l = c .before .before .before .before .before in
+    let b = l .before .before .before .before .before in
+    (omega (arith, b .pre .0 .tier .tariff-most (l .loop .i)), omega (arith, c .before .before .of .ensures .1))
 
 add-t15 : tie.Need-add-t15 Inv-loop μ-loop
-add-t15 c = omega arith
+add-t15 c =
+    let l = c .before .before .before .before .before .before .before .before in
+    let b = l .before .before .before .before .before in
+    omega (arith, one-worth-le (c .before .before .before .before .before .of .ensures .1) (b .pre .0 .tier .tariff-most (l .loop .i)), b .pre .0 .tier .few)
 
 add-i : tie.Need-add-i Inv-loop μ-loop
 add-i c = omega arith
@@ -70,16 +70,27 @@ loop-less : tie.Need-loop-less Inv-loop μ-loop
 loop-less c = omega arith
 
 loop-again : tie.Need-loop-again Inv-loop μ-loop
-loop-again c = ?
+loop-again c =
+    let s = c .before .before .before .before .before in
+    let l = s .before .before .before in
+    let b = l .before .before .before .before .before in
+    let a = b .args in
+    parted-more (a .standing .now) (a .tariffs .now) (a .asked .0) (a .worth .0) (b .pre .0 .tier) (l .loop .inv)
+    (s .of .result .cut .0) (s .of .result .remainder) _ (omega arith) (s .of .ensures .0 .0) (s .of .ensures .0 .1) (s .of .ensures .1)
+    (omega (arith, c .before .before .worth .ensures .0))
 
 same-length : tie.Need-same-length Inv-loop μ-loop
-same-length c = ?
+same-length c = c .before .loop .inv .cuts-length ∙ sym (c .before .before .before .before .before .before .pre .0 .cuts-length)
 
 same-length-2 : tie.Need-same-length-2 Inv-loop μ-loop
-same-length-2 c = ?
+same-length-2 c = c .before .loop .inv .rests-length ∙ sym (c .before .before .before .before .before .before .pre .0 .rests-length)
 
 returns : tie.Need-returns Inv-loop μ-loop
-returns c = ?
+returns c =
+    let l = c .before in
+    let b = l .before .before .before .before .before in
+    let a = b .args in
+    parted-all (a .standing .now) (a .tariffs .now) (a .asked .0) (a .worth .0) (b .pre .0 .tier) (l .loop .inv) (omega arith) (b .pre .1 .0)
 
 pub whole-parts-spec : {M : Type 1} → statement M
 whole-parts-spec =
