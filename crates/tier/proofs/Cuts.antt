@@ -7,8 +7,8 @@ use lib.ListN.{length, getD}
 use borrow.Author.Tests.{eq-eqb, ne-eqb, le-leb, lt-leb}
 use Rattle.rules.specs.Shares.{tierWorth, Share, shareOf, byTurns, inProportion, tierCuts}
 use Rattle.laws.proofs.Shares.{within-at, tier-within, tier-length}
-use Rattle.tier.specs.Lots.{lotsOf}
-use Rattle.tier.proofs.Lots.{lots-length, lots-standing}
+use Rattle.worths.specs.Lots.{lotsOf}
+use Rattle.worths.proofs.Lots.{lots-length, lots-standing}
 
 -- no cut of any trade, whatever the trades are
 none-same : {A B : Type 0} (xs : List A) (ys : List B) → length xs ≡ length ys → map {B = ℕ} (λ x. 0) xs ≡ map (λ y. 0) ys

@@ -1,6 +1,5 @@
--- Laws of a tier: a list stored place by place, the trades and their worth, the shares and their turns, the cuts.
+-- Laws of a tier's cuts: a list stored place by place, the shares and their turns, the whole parts, the cuts by cases.
 pub mod Stores
-pub mod Lots
 pub mod Turns
 pub mod Parts
 pub mod Cuts

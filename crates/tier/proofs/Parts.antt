@@ -7,10 +7,10 @@ use native.Mathlib.Omega.{arith}
 use lib.ListN.{length, take, getD, set, length-map, length-set}
 use lib.Seq.{take-all}
 use Rattle.rules.specs.Shares.{shareOf, loss}
-use Rattle.tier.specs.Lots.{lotsOf, Tier, Lent}
-use Rattle.tier.specs.Turns.{sharesOf, Sharing}
+use Rattle.worths.specs.Lots.{lotsOf, Tier}
+use Rattle.tier.specs.Turns.{Lent, sharesOf, Sharing}
 use Rattle.tier.proofs.Stores.{Stored, stored-none, stored-more, stored-all, at-map}
-use Rattle.tier.proofs.Lots.{one-worth-le}
+use Rattle.worths.proofs.Lots.{one-worth-le}
 use Rattle.tier.proofs.Turns.{shares-of-lots, shares-length, loss-more, whole-part-le}
 
 -- the whole parts of the shares

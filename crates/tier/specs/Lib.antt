@@ -1,4 +1,2 @@
--- What the slices of a tier stand for, what is asked of them, and the tally.
-pub mod Lots
+-- What is lent to a tier's cuts, and the shares between two turns.
 pub mod Turns
-pub mod Tallies

@@ -1,33 +1,15 @@
-// A tier of a reduction: its worth, what each of its trades loses, and the running tally. A tier is two slices of one length, what
-// stands of each trade and its tariff; a trade of the book that is not of the tier stands at 0 in it.
+// What each trade of a tier loses: shares in proportion to what stands, then one MWh more by turns, largest remainder first.
+// A tier is two slices of one length: what stands of each trade, and its tariff.
 ghost use mathlib.Core.Path.{_≡_};
 ghost use mathlib.Core.List.{map};
-ghost use Prim.Native.Nat.{ℕ, _+_, _*_, _/_, _%_, _≤_, _<_, _^_};
+ghost use Prim.Native.Nat.{ℕ, _+_, _*_, _/_, _%_, _≤_, _<_};
 ghost use lib.ListN.{length, getD};
-ghost use Rattle.rules.specs.Areas.{Prices, tariff};
-ghost use Rattle.rules.specs.Book.{Trade};
-ghost use Rattle.rules.specs.Shares.{tierWorth, shareOf, largestRemainder, oneMore, byTurns, tierCuts};
-ghost use Rattle.rules.specs.Reduction.{nothing, tallied};
-ghost use Rattle.tier.specs.Lots.{lotsOf, Tier, Lent};
-ghost use Rattle.tier.specs.Turns.{sharesOf, Sharing, Earliest};
-ghost use Rattle.tier.specs.Tallies.{asTally};
+ghost use Rattle.rules.specs.Shares.{shareOf, largestRemainder, oneMore, byTurns, tierCuts};
+ghost use Rattle.worths.specs.Lots.{lotsOf};
+ghost use Rattle.tier.specs.Turns.{Lent, sharesOf, Sharing, Earliest};
 use units::Cents;
 use units::Mwh;
 use units::Price;
-
-// A tier's worth V: the first trade's standing × t plus the worth of the rest.
-pub fn worth_of(standing: &[u64], tariffs: &[u32]) -> Cents
-    requires { ⌜ Tier (now standing) (now tariffs) ⌝ }
-    ensures { λ r. ⌜ r .0 ≡ tierWorth (lotsOf (now (standing .entry)) (now (tariffs .entry))) ⌝ }
-    ensures { λ r. ⌜ r .0 ≤ 10000000000 * length (now (standing .entry)) ⌝ }
-{
-    if standing.len() == 0 {
-        return Cents(0);
-    }
-    let first = Price(tariffs[0]).worth(Mwh(standing[0]));
-    let rest = worth_of(&standing[1..], &tariffs[1..]);
-    Cents(first.0 + rest.0)
-}
 
 // One trade's share: its whole part in MWh, and the remainder, in MWh × cents.
 struct Share {
@@ -169,55 +151,17 @@ pub fn tier_cuts<'a>(
     requires { ⌜ Lent (now standing) (now tariffs) (now cuts) (now rests) ⌝ }
     ensures { λ _. ⌜ now (cuts .exit) ≡ tierCuts (asked .0) (lotsOf (now (standing .entry)) (now (tariffs .entry))) ⌝ }
 {
-    let worth = worth_of(standing, tariffs);
+    let worth = worths::worth_of(standing, tariffs);
     let a = asked.0;
     let v = worth.0;
-    if a == 0 {
+    if (a == 0) | (v == 0) {
         cut_none(cuts);
         return;
     }
-    if v == 0 {
-        cut_none(cuts);
+    if v <= a {
+        cut_all(cuts, standing);
         return;
     }
-    if a < v {
-        let loss = whole_parts(standing, tariffs, asked, worth, cuts, rests);
-        by_turns(cuts, rests, tariffs, asked, loss);
-        return;
-    }
-    cut_all(cuts, standing);
-}
-
-// The running tally of a reduction: the MWh cut and their worth, each cut × t.
-pub struct Tally {
-    pub mwh: Mwh,
-    pub worth: Cents,
-}
-
-impl Tally {
-    // The tally of no trade.
-    pub fn none() -> Tally
-        ensures { λ r. ⌜ asTally r ≡ nothing ⌝ }
-        ensures { λ r. ⌜ (r .mwh .0 ≡ 0) × (r .worth .0 ≡ 0) ⌝ }
-    {
-        Tally {
-            mwh: Mwh(0),
-            worth: Cents(0),
-        }
-    }
-
-    // The tally with one trade's cut, at the trade's tariff.
-    pub fn with(mut self, cut: Mwh, price: Price) -> Tally
-        requires { ⌜ (self .mwh .0 ≤ 2 ^ 50) × (self .worth .0 ≤ 2 ^ 50) ⌝ }
-        requires { ⌜ (cut .0 ≤ 100000) × (price .0 ≤ 100000) ⌝ }
-        ensures { λ r. ⌜ ((f : Prices) (t : Trade) → price .0 ≡ tariff f (t .terms .area) → asTally r ≡ tallied f (cut .0) t (asTally self)) ⌝ }
-        ensures { λ r. ⌜ (r .mwh .0 ≤ self .mwh .0 + 100000) × (r .worth .0 ≤ self .worth .0 + 10000000000) ⌝ }
-    {
-        let added = price.worth(cut);
-        let mwh = Mwh(self.mwh.0 + cut.0);
-        let worth = Cents(self.worth.0 + added.0);
-        self.mwh = mwh;
-        self.worth = worth;
-        self
-    }
+    let loss = whole_parts(standing, tariffs, asked, worth, cuts, rests);
+    by_turns(cuts, rests, tariffs, asked, loss);
 }

@@ -9,8 +9,6 @@ use borrow.Author.Needs.{needs}
 use lib.ListN.{length, getD}
 use Rattle.tier.proofs.largest.Statement.{statement}
 use Rattle.tier.proofs.largest.Tie as tie
-use Rattle.tier.proofs.largest.Reads as reads
-use Rattle.tier.proofs.largest.Lts as lts
 
 abbrev Inv-loop : tie.InvT-loop
 Inv-loop rests best₀ i₀ best i =

@@ -1,10 +1,13 @@
--- `tier::tier_cuts`: each of the definition's cases is a path of the code. Assumes nothing.
-use mathlib.Core.Path.{_∙_}
-use native.Mathlib.Omega.{arith}
 use borrow.Author.Needs.{needs}
-use Rattle.tier.proofs.Cuts.{cuts-unasked, cuts-empty, cuts-part, cuts-whole}
 use Rattle.tier.proofs.tier_cuts.Statement.{statement}
 use Rattle.tier.proofs.tier_cuts.Tie as tie
+use Rattle.tier.proofs.tier_cuts.Reads as reads
+use Rattle.tier.proofs.tier_cuts.Lts as lts
+use Rattle.tier.proofs.by_turns.Reads as by-turns-reads
+use Rattle.tier.proofs.cut_all.Reads as cut-all-reads
+use Rattle.tier.proofs.cut_none.Reads as cut-none-reads
+use Rattle.tier.proofs.whole_parts.Reads as whole-parts-reads
+use Rattle.worths.proofs.worth_of.Reads as worth-of-reads
 
 worth-of-requires : tie.Need-worth-of-requires
 worth-of-requires c κs = search needs
@@ -16,36 +19,22 @@ same-length : tie.Need-same-length
 same-length c = search needs
 
 returns : tie.Need-returns
-returns c =
-    let w = c .before .before .before .before .before in
-    let b = w .before .before .before .before .before in
-    let a = b .args in
-    c .before .before .cut-none .ensures
-    ∙ cuts-unasked (a .standing .now) (a .tariffs .now) (b .pre .tier .tariffs-length) (a .asked .0) (w .worth-of .result .0) (w .worth-of .ensures .0) (c .before .before .before .before .if1 .taken) (a .cuts .now) (b .pre .cuts-length)
+returns c = ?
 
-cut-none-requires-2 : tie.Need-cut-none-requires-2
-cut-none-requires-2 c κs = search needs
+cut-all-requires : tie.Need-cut-all-requires
+cut-all-requires c κs = search needs
 
 same-length-2 : tie.Need-same-length-2
 same-length-2 c = search needs
 
 returns-2 : tie.Need-returns-2
-returns-2 c =
-    let w = c .before .before .before .before .before .before in
-    let b = w .before .before .before .before .before in
-    let a = b .args in
-    c .before .before .cut-none2 .ensures
-    ∙ cuts-empty (a .standing .now) (a .tariffs .now) (b .pre .tier .tariffs-length) (a .asked .0) (w .worth-of .result .0) (w .worth-of .ensures .0) (c .before .before .before .before .before .if1 .left) (c .before .before .before .before .if2 .taken) (a .cuts .now) (b .pre .cuts-length)
+returns-2 c = ?
 
 whole-parts-requires : tie.Need-whole-parts-requires
 whole-parts-requires c κs = search needs
 
 by-turns-requires : tie.Need-by-turns-requires
-by-turns-requires c κs =
-    let w = c .before .before .before .before .before .before .before .before .before .before .before .before in
-    let b = w .before .before .before .before .before in
-    let l = c .before .before .before .before .before .before .before .before .before .if3 .taken in
-    (c .before .before .before .before .before .before .whole-parts .ensures .0, (omega (arith, b .pre .tier .tariffs-length), omega (arith, b .pre .tier .few)))
+by-turns-requires c κs = ?
 
 same-length-3 : tie.Need-same-length-3
 same-length-3 c = search needs
@@ -54,26 +43,7 @@ same-length-4 : tie.Need-same-length-4
 same-length-4 c = search needs
 
 returns-3 : tie.Need-returns-3
-returns-3 c =
-    let w = c .before .before .before .before .before .before .before .before .before .before .before .before .before .before .before .before .before in
-    let b = w .before .before .before .before .before in
-    let a = b .args in
-    c .before .before .before .before .by-turns .ensures
-    ∙ cuts-part (a .standing .now) (a .tariffs .now) (b .pre .tier .tariffs-length) (a .asked .0) (w .worth-of .result .0) (w .worth-of .ensures .0) (c .before .before .before .before .before .before .before .before .before .before .before .before .before .before .before .before .if1 .left) (c .before .before .before .before .before .before .before .before .before .before .before .before .before .before .if3 .taken) _ (c .before .before .before .before .before .before .before .before .before .before .before .whole-parts .ensures .1)
-
-cut-all-requires : tie.Need-cut-all-requires
-cut-all-requires c κs = search needs
-
-same-length-5 : tie.Need-same-length-5
-same-length-5 c = search needs
-
-returns-4 : tie.Need-returns-4
-returns-4 c =
-    let w = c .before .before .before .before .before .before .before in
-    let b = w .before .before .before .before .before in
-    let a = b .args in
-    c .before .before .cut-all .ensures
-    ∙ cuts-whole (a .standing .now) (a .tariffs .now) (b .pre .tier .tariffs-length) (a .asked .0) (w .worth-of .result .0) (w .worth-of .ensures .0) (c .before .before .before .before .before .before .if1 .left) (c .before .before .before .before .before .if2 .left) (c .before .before .before .before .if3 .left)
+returns-3 c = ?
 
 pub tier-cuts-spec : {M : Type 1} → statement M
 tier-cuts-spec =
@@ -83,14 +53,11 @@ tier-cuts-spec =
     cut-none-requires
     same-length
     returns
-    cut-none-requires-2
+    cut-all-requires
     same-length-2
     returns-2
     whole-parts-requires
     by-turns-requires
     same-length-3
     same-length-4
-    returns-3
-    cut-all-requires
-    same-length-5
-    returns-4)
+    returns-3)

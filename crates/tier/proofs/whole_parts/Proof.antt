@@ -4,7 +4,7 @@ use Prim.Native.Nat.{_+_, _*_, _-_}
 use native.Mathlib.Omega.{arith}
 use borrow.Author.Needs.{needs}
 use lib.ListN.{length, getD}
-use Rattle.tier.proofs.Lots.{one-worth-le}
+use Rattle.worths.proofs.Lots.{one-worth-le}
 use Rattle.tier.proofs.Parts.{Parted, parted-none, parted-more, parted-all}
 use Rattle.tier.proofs.whole_parts.Statement.{statement}
 use Rattle.tier.proofs.whole_parts.Tie as tie

@@ -17,9 +17,3 @@ pub record Tier (standing tariffs : List ℕ) : Type 0 where
   pub few : length standing ≤ 256
   pub standing-most : (i : ℕ) → getD standing i 0 ≤ 100000
   pub tariff-most : (i : ℕ) → getD tariffs i 0 ≤ 100000
-
--- a tier, with a place for each trade's cut and for its remainder
-pub record Lent (standing tariffs cuts rests : List ℕ) : Type 0 where
-  pub tier : Tier standing tariffs
-  pub cuts-length : length cuts ≡ length standing
-  pub rests-length : length rests ≡ length standing

@@ -1,13 +1,13 @@
 -- The trades of a tier and their worth: a list of lots from two lists of numbers, trade by trade. Assumes nothing.
 use mathlib.Core.Path.{_≡_, refl, ap, _∙_}
 use mathlib.Core.List.{List, [], _∷_, map}
-use Prim.Native.Nat.{ℕ, zero, suc, _+_, _*_, _-_, _≤_, _<_}
+use Prim.Native.Nat.{ℕ, suc, _+_, _*_, _-_, _≤_, _<_}
 use native.Mathlib.Nat.{not-suc-le-zero, mul-le-mul}
 use native.Mathlib.Omega.{arith}
 use lib.ListN.{length, take, drop, getD, length-drop}
 use lib.Seq.{take-all, getD-drop}
-use Rattle.rules.specs.Shares.{Lot, tierWorth}
-use Rattle.tier.specs.Lots.{lotsOf, Tier}
+use Rattle.rules.specs.Shares.{tierWorth}
+use Rattle.worths.specs.Lots.{lotsOf, Tier}
 
 -- there are as many as in either list
 pub lots-length : (ss ts : List ℕ) → length ts ≡ length ss → length (lotsOf ss ts) ≡ length ss
@@ -22,14 +22,6 @@ unfolding lotsOf
 lots-standing [] ts e = refl
 lots-standing (s ∷ ss) [] e = absurd (omega arith)
 lots-standing (s ∷ ss) (t ∷ ts) e = ap (λ (ns : List ℕ). s ∷ ns) (lots-standing ss ts (omega arith))
-
--- the trade at a place
-pub lots-at : (ss ts : List ℕ) (i : ℕ) (d : Lot) → length ts ≡ length ss → i < length ss → getD (lotsOf ss ts) i d ≡ record { standing = getD ss i 0; tariff = getD ts i 0 }
-unfolding lotsOf
-lots-at [] ts i d e h = absurd (not-suc-le-zero h)
-lots-at (s ∷ ss) [] i d e h = absurd (omega arith)
-lots-at (s ∷ ss) (t ∷ ts) zero d e h = refl
-lots-at (s ∷ ss) (t ∷ ts) (suc i) d e h = lots-at ss ts i d (omega arith) (omega arith)
 
 -- the worth of no trade
 pub worth-none : (ss ts : List ℕ) → length ss ≡ 0 → tierWorth (lotsOf ss ts) ≡ 0

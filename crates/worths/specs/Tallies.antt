@@ -1,6 +1,6 @@
 -- The tally of the rules that the code's tally is. Assumes nothing.
 use Rattle.rules.specs.Reduction as reduction
-use Rattle.tier.specs.declared.Tally.{Tally}
+use Rattle.worths.specs.declared.Tally.{Tally}
 
 -- the same two numbers
 abbrev pub asTally : Tally → reduction.Tally

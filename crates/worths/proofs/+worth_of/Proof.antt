@@ -1,18 +1,18 @@
--- `tier::worth_of`: the trades that remain are one fewer in each call, and the worth of the rest is added to the first one's. Assumes nothing.
+-- `worths::worth_of`: the trades that remain are one fewer in each call, and the worth of the rest is added to the first one's. Assumes nothing.
 use native.Mathlib.Omega.{arith}
 use borrow.Author.Needs.{needs}
 use lib.ListN.{length}
 use mathlib.Core.Path.{sym}
-use Rattle.tier.proofs.Lots.{worth-none, worth-first, rest-length, tier-rest, one-worth-le}
+use Rattle.worths.proofs.Lots.{worth-none, worth-first, rest-length, tier-rest, one-worth-le}
 use Prim.Native.Nat.{ℕ, _<_}
 use borrow.Fn.Kinds.{In}
 use borrow.Fn.PlainCycle.{Measures, is, falls, and}
-use Rattle.tier.proofs.worth_of.Reads as worth-of
-use Rattle.tier.proofs.worth_of.Kinds as worth-of-kinds
-use Rattle.tier.proofs.+worth_of.Lts-worth_of as worth-of-lts
+use Rattle.worths.proofs.worth_of.Reads as worth-of
+use Rattle.worths.proofs.worth_of.Kinds as worth-of-kinds
+use Rattle.worths.proofs.+worth_of.Lts-worth_of as worth-of-lts
 use Rattle.units.proofs.Price.worth.Reads as worth-reads
-use Rattle.tier.proofs.+worth_of.{statement}
-use Rattle.tier.proofs.+worth_of.Tie.{close}
+use Rattle.worths.proofs.+worth_of.{statement}
+use Rattle.worths.proofs.+worth_of.Tie.{close}
 
 abbrev μ-worth-of : Measures 2 worth-of-kinds.ps ℕ
 μ-worth-of κs a = length (a .0 .now)

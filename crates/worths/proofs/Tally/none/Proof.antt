@@ -1,8 +1,8 @@
 -- `Tally::none`: both numbers are 0, as in the rules. Assumes nothing.
 use mathlib.Core.Path.{refl}
 use Rattle.rules.specs.Reduction.{nothing}
-use Rattle.tier.proofs.Tally.none.Statement.{statement}
-use Rattle.tier.proofs.Tally.none.Tie as tie
+use Rattle.worths.proofs.Tally.none.Statement.{statement}
+use Rattle.worths.proofs.Tally.none.Tie as tie
 
 returns : tie.Need-returns
 unfolding nothing

@@ -3,13 +3,10 @@ use mathlib.Core.Path.{_≡_, ap, _∙_}
 use Prim.Native.Nat.{ℕ, _+_, _*_}
 use native.Mathlib.Omega.{arith}
 use Rattle.rules.specs.Reduction.{tallied}
-use Rattle.tier.proofs.Lots.{one-worth-le}
+use Rattle.worths.proofs.Lots.{one-worth-le}
 use borrow.Author.Needs.{needs}
-use Rattle.tier.proofs.Tally.with.Statement.{statement}
-use Rattle.tier.proofs.Tally.with.Tie as tie
-use Rattle.tier.proofs.Tally.with.Reads as reads
-use Rattle.tier.proofs.Tally.with.Lts as lts
-use Rattle.units.proofs.Price.worth.Reads as worth-reads
+use Rattle.worths.proofs.Tally.with.Statement.{statement}
+use Rattle.worths.proofs.Tally.with.Tie as tie
 
 worth-requires : tie.Need-worth-requires
 worth-requires c κs = search needs
