@@ -1,10 +1,12 @@
 -- The cuts of a tier by cases, and what callers need of them: as many as trades, each at most what stands. Assumes nothing.
 use mathlib.Core.Path.{_≡_, refl, sym, ap, ap₂, _∙_}
+use mathlib.Core.Bool.{true, false, _||_}
 use mathlib.Core.List.{List, [], _∷_, map}
 use Prim.Native.Nat.{ℕ, _≤_, _<_}
 use native.Mathlib.Omega.{arith}
+use lib.Dec.{eqb}
 use lib.ListN.{length, getD}
-use borrow.Author.Tests.{eq-eqb, ne-eqb, le-leb, lt-leb}
+use borrow.Author.Tests.{le-leb, lt-leb}
 use Rattle.rules.specs.Shares.{tierWorth, Share, shareOf, byTurns, inProportion, tierCuts}
 use Rattle.laws.proofs.Shares.{within-at, tier-within, tier-length}
 use Rattle.worths.specs.Lots.{lotsOf}
@@ -19,43 +21,25 @@ none-same (x ∷ xs) (y ∷ ys) e = ap (λ (ns : List ℕ). 0 ∷ ns) (none-same
 
 -- a tier worth v that is asked for some amount
 module _ (standing tariffs : List ℕ) (e : length tariffs ≡ length standing) (asked v : ℕ) (w : v ≡ tierWorth (lotsOf standing tariffs)) where
-  -- nothing is asked
-  pub cuts-unasked : asked ≡ 0 → (ns : List ℕ) → length ns ≡ length standing → map (λ n. 0) ns ≡ tierCuts asked (lotsOf standing tariffs)
+  -- nothing is asked, or nothing is there
+  pub cuts-none : (eqb asked 0 || eqb v 0) ≡ true → (ns : List ℕ) → length ns ≡ length standing → map (λ n. 0) ns ≡ tierCuts asked (lotsOf standing tariffs)
   unfolding tierCuts
-  cuts-unasked z ns l =
-      rw (eq-eqb asked 0 z) (none-same ns (lotsOf standing tariffs) (l ∙ sym (lots-length standing tariffs e)))
+  cuts-none t ns l =
+      rw (← w, t) (none-same ns (lotsOf standing tariffs) (l ∙ sym (lots-length standing tariffs e)))
 
-  -- nothing is there
-  pub cuts-empty : (asked ≡ 0 → ⊥) → v ≡ 0 → (ns : List ℕ) → length ns ≡ length standing → map (λ n. 0) ns ≡ tierCuts asked (lotsOf standing tariffs)
+  -- as much is asked as there is, or more
+  pub cuts-whole : (eqb asked 0 || eqb v 0) ≡ false → v ≤ asked → standing ≡ tierCuts asked (lotsOf standing tariffs)
   unfolding tierCuts
-  cuts-empty n z ns l =
-      rw (ne-eqb asked 0 n, eq-eqb (tierWorth (lotsOf standing tariffs)) 0 (sym w ∙ z))
-      (none-same ns (lotsOf standing tariffs) (l ∙ sym (lots-length standing tariffs e)))
+  cuts-whole f l = rw (← w, f, le-leb v asked l) (sym (lots-standing standing tariffs e))
 
-  -- less is asked than there is
-  pub cuts-part : (asked ≡ 0 → ⊥) → asked < v → (ss : List Share) → ss ≡ map (shareOf asked v) (lotsOf standing tariffs)
-      → map (λ s. s .cut) (byTurns (length tariffs) asked ss) ≡ tierCuts asked (lotsOf standing tariffs)
+  -- less is asked
+  pub cuts-part : (eqb asked 0 || eqb v 0) ≡ false → asked < v → (ss : List Share) → ss ≡ map (shareOf asked v) (lotsOf standing tariffs)
+      → {cs : List ℕ} → cs ≡ map (λ s. s .cut) (byTurns (length tariffs) asked ss) → cs ≡ tierCuts asked (lotsOf standing tariffs)
   unfolding tierCuts inProportion
-  cuts-part n l ss f =
-      rw (
-        ne-eqb asked 0 n,
-        ne-eqb (tierWorth (lotsOf standing tariffs)) 0 (λ z. omega arith),
-        lt-leb (tierWorth (lotsOf standing tariffs)) asked (omega arith),
-      )
-      (ap₂ (λ (n : ℕ) (ns : List Share). map (λ s. s .cut) (byTurns n asked ns))
-      (e ∙ sym (lots-length standing tariffs e))
-      (f ∙ ap (λ (n : ℕ). map (shareOf asked n) (lotsOf standing tariffs)) w))
-
-  -- as much is asked or more
-  pub cuts-whole : (asked ≡ 0 → ⊥) → (v ≡ 0 → ⊥) → v ≤ asked → standing ≡ tierCuts asked (lotsOf standing tariffs)
-  unfolding tierCuts
-  cuts-whole n m l =
-      rw (
-        ne-eqb asked 0 n,
-        ne-eqb (tierWorth (lotsOf standing tariffs)) 0 (λ z. m (w ∙ z)),
-        le-leb (tierWorth (lotsOf standing tariffs)) asked (omega arith),
-      )
-      (sym (lots-standing standing tariffs e))
+  cuts-part f l ss q h =
+      h
+      ∙ rw (← w, f, lt-leb v asked l)
+      (ap₂ (λ (n : ℕ) (ns : List Share). map (λ s. s .cut) (byTurns n asked ns)) (e ∙ sym (lots-length standing tariffs e)) q)
 
 module _ (asked : ℕ) (standing tariffs : List ℕ) (e : length tariffs ≡ length standing) where
   -- each cut is at most what stands, and 0 past the end

@@ -69,7 +69,7 @@ loop-less c =
     let found = largest-at-place (l .loop .cuts) (l .loop .rests) (a .tariffs .now) (l .loop .lost .0) (l .loop .inv .sharing) (f .largest .result) (f .largest .ensures) in
     let p : 0 < largestRemainder (sharesOf (l .loop .cuts) (l .loop .rests) (a .tariffs .now)) = omega (arith, found, q .before .before .if2 .left) in
     let m = c .before .before .before .before in
-    turning-falls (l .loop .inv) p (m .one-more .ensures .1)
+    turning-falls (l .loop .inv) (m .one-more .last .0) (m .one-more .last .1 .0) p (m .one-more .ensures .1)
 
 loop-again : tie.Need-loop-again Inv-loop μ-loop
 loop-again c =
