@@ -2,7 +2,7 @@
 // A tier is two slices of one length: what stands of each trade, and its tariff.
 ghost use mathlib.Core.Path.{_≡_};
 ghost use mathlib.Core.List.{map};
-ghost use Prim.Native.Nat.{ℕ, _+_, _*_, _/_, _%_, _≤_, _<_};
+ghost use Prim.Native.Nat.{_+_, _*_, _/_, _%_, _≤_, _<_};
 ghost use lib.ListN.{length, getD};
 ghost use Rattle.rules.specs.Shares.{shareOf, largestRemainder, oneMore, byTurns, tierCuts};
 ghost use Rattle.worths.specs.Lots.{lotsOf};

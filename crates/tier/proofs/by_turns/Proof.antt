@@ -1,10 +1,9 @@
 -- `tier::by_turns`: the turns that are left of the shares give what all turns give of those at the start; each turn takes one remainder. Assumes nothing.
-use mathlib.Core.Path.{_≡_, sym, _∙_}
+use mathlib.Core.Path.{sym, _∙_}
 use mathlib.Core.Logic.{inl, inr}
 use Prim.Native.Nat.{_<_}
 use native.Mathlib.Omega.{arith}
 use borrow.Author.Needs.{needs}
-use lib.ListN.{length}
 use Rattle.rules.specs.Shares.{largestRemainder}
 use Rattle.laws.proofs.Ranks.{pending}
 use Rattle.tier.specs.Turns.{sharesOf}

@@ -1,9 +1,9 @@
 -- `tier::whole_parts`: the trades passed have the rules' shares, and the loss is theirs so far. Assumes nothing.
-use mathlib.Core.Path.{_≡_, sym, _∙_}
-use Prim.Native.Nat.{_+_, _*_, _-_}
+use mathlib.Core.Path.{sym, _∙_}
+use Prim.Native.Nat.{_-_}
 use native.Mathlib.Omega.{arith}
 use borrow.Author.Needs.{needs}
-use lib.ListN.{length, getD}
+use lib.ListN.{length}
 use Rattle.worths.proofs.Lots.{one-worth-le}
 use Rattle.tier.proofs.Parts.{Parted, parted-none, parted-more, parted-all}
 use Rattle.tier.proofs.whole_parts.Statement.{statement}

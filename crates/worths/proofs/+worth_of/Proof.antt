@@ -1,6 +1,5 @@
 -- `worths::worth_of`: the trades that remain are one fewer in each call, and the worth of the rest is added to the first one's. Assumes nothing.
 use native.Mathlib.Omega.{arith}
-use borrow.Author.Needs.{needs}
 use lib.ListN.{length}
 use mathlib.Core.Path.{sym}
 use Rattle.worths.proofs.Lots.{worth-none, worth-first, rest-length, tier-rest, one-worth-le}
