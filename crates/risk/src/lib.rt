@@ -141,8 +141,7 @@ pub fn state_at(b: Book, i: usize, limits: Limits) -> State
     if called_in_at(b, i, limits) {
         let level = afternoon_level_at(b, i, limits);
         if levels::exceeds_margin(limits, level, user) {
-            let assigned = user.assigned;
-            if assigned.0 < level.0 {
+            if user.assigned.0 < level.0 {
                 return State::Short;
             }
             return State::Call;
