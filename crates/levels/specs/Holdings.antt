@@ -1,5 +1,5 @@
 -- What a user holds in an area: from its record and its dealings, and as the code's struct. Assumes nothing.
-use Prim.Native.Nat.{ℕ, _≤_, _^_}
+use Prim.Native.Nat.{ℕ, _≤_}
 use Rattle.rules.specs.Book.{at}
 use Rattle.rules.specs.Levels as rules
 use Rattle.units.specs.Amounts.{net}
@@ -33,9 +33,9 @@ asHolding h =
       boughtNext = h .«bought_next» .0;
     }
 
--- what 256 trades can have, or less
-pub record Moderate (h : Holding) : Type 0 where
-  pub sold : h .sold .0 ≤ 2 ^ 40
-  pub bought : h .bought .0 ≤ 2 ^ 40
-  pub sold-next : h .«sold_next» .0 ≤ 2 ^ 40
-  pub bought-next : h .«bought_next» .0 ≤ 2 ^ 40
+-- nothing sold or bought is above `most`
+pub record HoldingWithin (most : ℕ) (h : Holding) : Type 0 where
+  pub sold : h .sold .0 ≤ most
+  pub bought : h .bought .0 ≤ most
+  pub sold-next : h .«sold_next» .0 ≤ most
+  pub bought-next : h .«bought_next» .0 ≤ most

@@ -16,12 +16,12 @@ ghost use Rattle.integers.specs.Parts.{posPart, negPart};
 ghost use Rattle.rules.specs.Areas.{referencePrice};
 ghost use Rattle.rules.specs.Book.{Book, at};
 ghost use Rattle.rules.specs.Levels.{today, holding, morningNeed, stock, afternoonNeed, exposure, morningSum, afternoonSum, leastReferencePrice, floored, flagged, exceedsMargin};
-ghost use Rattle.units.specs.Amounts.{net, balance};
+ghost use Rattle.units.specs.Amounts.{balance};
 ghost use Rattle.units.specs.Prices.{asPrices, InRange};
 ghost use Rattle.records.specs.User.{asAmounts, asUser};
 ghost use Rattle.dealings.specs.Dealt.{AllWithin};
-ghost use Rattle.levels.specs.Limits.{asLimits, Limited};
-ghost use Rattle.levels.specs.Holdings.{held, asHolding, Moderate};
+ghost use Rattle.levels.specs.Limits.{asLimits, LimitsInRange};
+ghost use Rattle.levels.specs.Holdings.{held, asHolding, HoldingWithin};
 
 // The three figures that the rules take as given: MWh of a flag, cents of a call, cents of the least level.
 pub struct Limits {
@@ -34,7 +34,7 @@ impl Limits {
     // The figures of today: 30,000 MWh, 10,000 euros, 100,000 euros.
     pub fn today() -> Limits
         ensures { λ r. ⌜ asLimits r ≡ today ⌝ }
-        ensures { λ r. ⌜ Limited (asLimits r) ⌝ }
+        ensures { λ r. ⌜ LimitsInRange (asLimits r) ⌝ }
     {
         Limits {
             flag_mwh: Mwh(30000),
@@ -60,7 +60,7 @@ impl Holding {
         requires { ⌜ area < 3 ⌝ }
         requires { ⌜ AllWithin (2 ^ 40) dealings ⌝ }
         ensures { λ r. ⌜ asHolding r ≡ held user dealings area ⌝ }
-        ensures { λ r. ⌜ Moderate r ⌝ }
+        ensures { λ r. ⌜ HoldingWithin (2 ^ 40) r ⌝ }
     {
         let place = area as usize;
         let physical = user.physical;
@@ -81,7 +81,7 @@ impl Holding {
 
     // The morning's need, over d and d+1, and never below 0.
     pub fn morning_need(self) -> Mwh
-        requires { ⌜ Moderate self ⌝ }
+        requires { ⌜ HoldingWithin (2 ^ 40) self ⌝ }
         ensures { λ r. ⌜ r .0 ≡ posPart (morningNeed (asHolding self)) ⌝ }
         ensures { λ r. ⌜ r .0 ≤ 2 ^ 42 ⌝ }
     {
@@ -110,7 +110,7 @@ impl Holding {
 
     // The afternoon's need in an area, for d+1, and never below 0.
     pub fn afternoon_need(self, area: u8) -> Mwh
-        requires { ⌜ Moderate self ⌝ }
+        requires { ⌜ HoldingWithin (2 ^ 40) self ⌝ }
         ensures { λ r. ⌜ r .0 ≡ posPart (afternoonNeed area (asHolding self)) ⌝ }
         ensures { λ r. ⌜ r .0 ≤ 2 ^ 42 ⌝ }
     {
@@ -183,7 +183,7 @@ pub fn exposure(prices: Prices, user: User) -> Cents
 
 // Charges and a worth together, and never below the floor.
 fn floored(limits: Limits, charges: Balance, worth: Cents) -> Cents
-    requires { ⌜ Limited (asLimits limits) ⌝ }
+    requires { ⌜ LimitsInRange (asLimits limits) ⌝ }
     requires { ⌜ worth .0 ≤ 1800000 * 2 ^ 42 ⌝ }
     ensures { λ r. ⌜ r .0 ≡ floored (asLimits limits) (balance charges +ℤ pos (worth .0)) ⌝ }
 {
@@ -199,7 +199,7 @@ fn floored(limits: Limits, charges: Balance, worth: Cents) -> Cents
 
 // The morning level of a user with its dealings.
 pub fn morning_level(limits: Limits, prices: Prices, user: User, dealings: Dealings) -> Cents
-    requires { ⌜ Limited (asLimits limits) ⌝ }
+    requires { ⌜ LimitsInRange (asLimits limits) ⌝ }
     requires { ⌜ InRange (asPrices prices) ⌝ }
     requires { ⌜ AllWithin (2 ^ 40) dealings ⌝ }
     ensures { λ r. ⌜ r .0 ≡ floored (asLimits limits) (morningSum (asPrices prices) (held user dealings) (balance (user .charges))) ⌝ }
@@ -213,7 +213,7 @@ pub fn morning_level(limits: Limits, prices: Prices, user: User, dealings: Deali
 
 // The afternoon level of a user with its dealings.
 pub fn afternoon_level(limits: Limits, prices: Prices, user: User, dealings: Dealings) -> Cents
-    requires { ⌜ Limited (asLimits limits) ⌝ }
+    requires { ⌜ LimitsInRange (asLimits limits) ⌝ }
     requires { ⌜ InRange (asPrices prices) ⌝ }
     requires { ⌜ AllWithin (2 ^ 40) dealings ⌝ }
     ensures { λ r. ⌜ r .0 ≡ floored (asLimits limits) (afternoonSum (asPrices prices) (held user dealings) (balance (user .charges))) ⌝ }
@@ -252,7 +252,7 @@ pub fn least_reference_price(prices: Prices) -> Price
 
 // Do the user's short positions, less the blocked guarantee, exceed the flag at the least reference price? In any book of these prices.
 pub fn flagged(limits: Limits, prices: Prices, user: User) -> bool
-    requires { ⌜ Limited (asLimits limits) ⌝ }
+    requires { ⌜ LimitsInRange (asLimits limits) ⌝ }
     requires { ⌜ InRange (asPrices prices) ⌝ }
     requires { ⌜ user .blocked .0 ≤ 1000000000000 ⌝ }
     ensures { λ r. ⌜ ((b : Book) → b .header .prices ≡ asPrices prices → r ≡ flagged (asLimits limits) b (asUser user)) ⌝ }
@@ -266,7 +266,7 @@ pub fn flagged(limits: Limits, prices: Prices, user: User) -> bool
 
 // Does a level exceed the user's blocked guarantee by more than the margin?
 pub fn exceeds_margin(limits: Limits, level: Cents, user: User) -> bool
-    requires { ⌜ Limited (asLimits limits) ⌝ }
+    requires { ⌜ LimitsInRange (asLimits limits) ⌝ }
     requires { ⌜ user .blocked .0 ≤ 1000000000000 ⌝ }
     ensures { λ r. ⌜ r ≡ exceedsMargin (asLimits limits) (level .0) (asUser user) ⌝ }
 {

@@ -17,7 +17,7 @@ use Rattle.laws.proofs.Sound.{Sound}
 use Rattle.laws.proofs.Bounds.{prices-le, tariffs-pos}
 use Rattle.records.specs.User.{asUser, blankUser}
 use Rattle.records.proofs.Users.{asUser-blank}
-use Rattle.format.specs.Book.{bookOf, userCount, tradeCount, usersOf, tradesOf}
+use Rattle.format.specs.Book.{bookOf, usersOf, tradesOf}
 use Rattle.format.proofs.Passed.{length-usersOf, length-tradesOf}
 use Rattle.book.specs.declared.Book.{Book}
 use Rattle.book.specs.Book.{asBook, BookRead}

@@ -14,7 +14,7 @@ ghost use Rattle.rules.specs.Day.{state, printedLevel};
 ghost use Rattle.records.specs.User.{asUser, blankUser};
 ghost use Rattle.book.specs.Book.{asBook};
 ghost use Rattle.dealings.specs.Dealt.{Dealt};
-ghost use Rattle.levels.specs.Limits.{asLimits, Limited};
+ghost use Rattle.levels.specs.Limits.{asLimits, LimitsInRange};
 ghost use Rattle.risk.specs.Ready.{userIn, Ready};
 ghost use Rattle.risk.specs.States.{stateOf};
 
@@ -49,7 +49,7 @@ pub fn dealings_at(b: Book, i: usize) -> Dealings
 // The morning level of the user at a place.
 pub fn morning_level_at(b: Book, i: usize, limits: Limits) -> Cents
     requires { ⌜ Ready b i ⌝ }
-    requires { ⌜ Limited (asLimits limits) ⌝ }
+    requires { ⌜ LimitsInRange (asLimits limits) ⌝ }
     ensures { λ r. ⌜ r .0 ≡ morningLevel (asLimits limits) (asBook b) (asUser (userIn b i)) ⌝ }
 {
     let prices = b.prices;
@@ -60,7 +60,7 @@ pub fn morning_level_at(b: Book, i: usize, limits: Limits) -> Cents
 // The afternoon level of the user at a place.
 pub fn afternoon_level_at(b: Book, i: usize, limits: Limits) -> Cents
     requires { ⌜ Ready b i ⌝ }
-    requires { ⌜ Limited (asLimits limits) ⌝ }
+    requires { ⌜ LimitsInRange (asLimits limits) ⌝ }
     ensures { λ r. ⌜ r .0 ≡ afternoonLevel (asLimits limits) (asBook b) (asUser (userIn b i)) ⌝ }
 {
     let prices = b.prices;
@@ -71,7 +71,7 @@ pub fn afternoon_level_at(b: Book, i: usize, limits: Limits) -> Cents
 // What the afternoon level exceeds the assigned guarantee by: what a reduction is asked for.
 pub fn target_at(b: Book, i: usize, limits: Limits) -> Cents
     requires { ⌜ Ready b i ⌝ }
-    requires { ⌜ Limited (asLimits limits) ⌝ }
+    requires { ⌜ LimitsInRange (asLimits limits) ⌝ }
     ensures { λ r. ⌜ r .0 ≡ target (asLimits limits) (asBook b) (asUser (userIn b i)) ⌝ }
 {
     let user = user_at(b, i);
@@ -86,7 +86,7 @@ pub fn target_at(b: Book, i: usize, limits: Limits) -> Cents
 // Is the user at a place flagged?
 pub fn flagged_at(b: Book, i: usize, limits: Limits) -> bool
     requires { ⌜ Ready b i ⌝ }
-    requires { ⌜ Limited (asLimits limits) ⌝ }
+    requires { ⌜ LimitsInRange (asLimits limits) ⌝ }
     ensures { λ r. ⌜ r ≡ flagged (asLimits limits) (asBook b) (asUser (userIn b i)) ⌝ }
 {
     let prices = b.prices;
@@ -97,7 +97,7 @@ pub fn flagged_at(b: Book, i: usize, limits: Limits) -> bool
 // Is the user at a place called in: flagged, or party to a trade standing below notified?
 pub fn called_in_at(b: Book, i: usize, limits: Limits) -> bool
     requires { ⌜ Ready b i ⌝ }
-    requires { ⌜ Limited (asLimits limits) ⌝ }
+    requires { ⌜ LimitsInRange (asLimits limits) ⌝ }
     ensures { λ r. ⌜ r ≡ calledIn (asLimits limits) (asBook b) (asUser (userIn b i)) ⌝ }
 {
     if flagged_at(b, i, limits) {
@@ -131,7 +131,7 @@ pub enum State {
 // The state of the user at a place.
 pub fn state_at(b: Book, i: usize, limits: Limits) -> State
     requires { ⌜ Ready b i ⌝ }
-    requires { ⌜ Limited (asLimits limits) ⌝ }
+    requires { ⌜ LimitsInRange (asLimits limits) ⌝ }
     ensures { λ r. ⌜ stateOf r ≡ state (asLimits limits) (asBook b) (asUser (userIn b i)) ⌝ }
 {
     let user = user_at(b, i);
@@ -154,7 +154,7 @@ pub fn state_at(b: Book, i: usize, limits: Limits) -> State
 // Is the user at a place short of cover?
 pub fn short_of_cover_at(b: Book, i: usize, limits: Limits) -> bool
     requires { ⌜ Ready b i ⌝ }
-    requires { ⌜ Limited (asLimits limits) ⌝ }
+    requires { ⌜ LimitsInRange (asLimits limits) ⌝ }
     ensures { λ r. ⌜ r ≡ shortOfCover (asLimits limits) (asBook b) (asUser (userIn b i)) ⌝ }
 {
     let state = state_at(b, i, limits);
@@ -169,7 +169,7 @@ pub fn short_of_cover_at(b: Book, i: usize, limits: Limits) -> bool
 // The level that is printed of the user at a place: the afternoon level, and 0 of a clearing house.
 pub fn printed_level_at(b: Book, i: usize, limits: Limits) -> Cents
     requires { ⌜ Ready b i ⌝ }
-    requires { ⌜ Limited (asLimits limits) ⌝ }
+    requires { ⌜ LimitsInRange (asLimits limits) ⌝ }
     ensures { λ r. ⌜ r .0 ≡ printedLevel (asLimits limits) (asBook b) (asUser (userIn b i)) ⌝ }
 {
     let user = user_at(b, i);

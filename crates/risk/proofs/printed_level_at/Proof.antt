@@ -1,5 +1,5 @@
 -- `printed_level_at` tells a shipper from a clearing house, as the definition does. Assumes nothing.
-use mathlib.Core.Path.{ap, sym, _∙_}
+use mathlib.Core.Path.{ap}
 use native.Mathlib.Omega.{arith}
 use borrow.Author.Tests.{eq-eqb, ne-eqb}
 use Rattle.rules.specs.Levels.{shipper}

@@ -37,26 +37,28 @@ exceeds-margin-requires c κs =
 returns-2 : tie.Need-returns-2
 unfolding asUser
 returns-2 c =
-    let a = c .before .before .before .before .before .before .before .before .before .before .before .args in
-    let e = c .before .before .before .before .before .before .before .before .before .before .user-at .ensures in
+    let turn = c .before .before .before in
+    let a = turn .before .before .before .before .before .before .before .before .args in
+    let e = turn .before .before .before .before .before .before .before .user-at .ensures in
     let l = asLimits (a .limits) in
     let u = asUser (userIn (a .b) (a .i)) in
     state-short l (asBook (a .b)) u (omega (arith, ap (λ (v : User). v .role) e))
-    (sym (c .before .before .before .before .before .before .before .called-in-at .ensures) ∙ c .before .before .before .before .before .before .if2 .taken)
-    (sym (ap₂ (λ (n : ℕ) (v : User). exceedsMargin l n (asUser v)) (c .before .before .before .before .before .afternoon-level-at .ensures) e) ∙ sym (c .before .before .before .before .exceeds-margin .ensures) ∙ c .before .before .before .if3 .taken)
-    (omega (arith, ap (λ (v : User). v .assigned .0) e, c .before .before .before .before .before .afternoon-level-at .ensures))
+    (sym (turn .before .before .before .before .called-in-at .ensures) ∙ turn .before .before .before .if2 .taken)
+    (sym (ap₂ (λ (n : ℕ) (v : User). exceedsMargin l n (asUser v)) (turn .before .before .afternoon-level-at .ensures) e) ∙ sym (turn .before .exceeds-margin .ensures) ∙ turn .if3 .taken)
+    (omega (arith, ap (λ (v : User). v .assigned .0) e, turn .before .before .afternoon-level-at .ensures))
 
 returns-3 : tie.Need-returns-3
 unfolding asUser
 returns-3 c =
-    let a = c .before .before .before .before .before .before .before .before .before .before .before .args in
-    let e = c .before .before .before .before .before .before .before .before .before .before .user-at .ensures in
+    let turn = c .before .before .before in
+    let a = turn .before .before .before .before .before .before .before .before .args in
+    let e = turn .before .before .before .before .before .before .before .user-at .ensures in
     let l = asLimits (a .limits) in
     let u = asUser (userIn (a .b) (a .i)) in
     state-call l (asBook (a .b)) u (omega (arith, ap (λ (v : User). v .role) e))
-    (sym (c .before .before .before .before .before .before .before .called-in-at .ensures) ∙ c .before .before .before .before .before .before .if2 .taken)
-    (sym (ap₂ (λ (n : ℕ) (v : User). exceedsMargin l n (asUser v)) (c .before .before .before .before .before .afternoon-level-at .ensures) e) ∙ sym (c .before .before .before .before .exceeds-margin .ensures) ∙ c .before .before .before .if3 .taken)
-    (omega (arith, ap (λ (v : User). v .assigned .0) e, c .before .before .before .before .before .afternoon-level-at .ensures))
+    (sym (turn .before .before .before .before .called-in-at .ensures) ∙ turn .before .before .before .if2 .taken)
+    (sym (ap₂ (λ (n : ℕ) (v : User). exceedsMargin l n (asUser v)) (turn .before .before .afternoon-level-at .ensures) e) ∙ sym (turn .before .exceeds-margin .ensures) ∙ turn .if3 .taken)
+    (omega (arith, ap (λ (v : User). v .assigned .0) e, turn .before .before .afternoon-level-at .ensures))
 
 returns-4 : tie.Need-returns-4
 unfolding asUser
