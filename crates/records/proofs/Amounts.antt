@@ -6,7 +6,7 @@ use native.Mathlib.Omega.{arith}
 use lib.IntN.{ℤ, _+ℤ_}
 use lib.ListN.{length, getD, set}
 use Rattle.rules.specs.Signed.{signedOf, bitsOf}
-use Rattle.rules.specs.Book.{PerArea, at}
+use Rattle.rules.specs.Book.{at}
 use Rattle.rules.specs.Changes.{add}
 use Rattle.fields.specs.Field.{field, AllBytes}
 use Rattle.fields.specs.Layout.{fieldsAt}
@@ -14,7 +14,7 @@ use Rattle.fields.proofs.Field.{field-lt}
 use Rattle.units.specs.declared.Net.{Net}
 use Rattle.units.specs.Amounts.{net}
 use Rattle.units.proofs.TwosComplement.{signedOf-bitsOf, bitsOf-lt, bitsOf-signedOf}
-use Rattle.records.specs.User.{amountsAt, amountWidths, amountValues, asAmounts, FitsSigned, FitsAmounts}
+use Rattle.records.specs.User.{amountsAt, amountWidths, amountValues, asAmounts, FitsSigned}
 
 -- ---- as an array
 

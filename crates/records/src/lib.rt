@@ -98,11 +98,12 @@ pub fn write_user(c: &mut [u8], u: User)
 pub fn no_user() -> User
     ensures { λ r. ⌜ r ≡ blankUser ⌝ }
 {
+    let none = [Net::ZERO; 3];
     User {
         id: 0,
         role: 0,
-        physical: [Net::ZERO; 3],
-        position: [Net::ZERO; 3],
+        physical: none,
+        position: none,
         charges: Balance::ZERO,
         assigned: Cents(0),
         blocked: Cents(0),

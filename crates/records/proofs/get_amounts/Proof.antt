@@ -30,7 +30,9 @@ of-bits-requires-3 c κs = search needs
 
 returns : tie.Need-returns
 unfolding amountsAt asAmounts
-returns c = cc
+returns c =
+    rw
+    (c .of-bits3 .ensures, c .before .get-u323 .ensures, c .before .before .of-bits2 .ensures, c .before .before .before .get-u322 .ensures, c .before .before .before .before .of-bits .ensures, c .before .before .before .before .before .get-u32 .ensures)
 
 pub get-amounts-spec : {M : Type 1} → statement M
 get-amounts-spec =

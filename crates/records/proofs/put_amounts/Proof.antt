@@ -43,7 +43,12 @@ same-length c = search needs
 
 returns : tie.Need-returns
 unfolding amountWidths amountValues setFields asAmounts
-returns c = cc
+returns c =
+    let w3 = c .before .before in
+    let w2 = w3 .before .before .before .before .before in
+    let w1 = w2 .before .before .before .before .before in
+    rw
+    (w3 .put-u323 .ensures, w3 .before .bits3 .ensures, w2 .put-u322 .ensures, w2 .before .bits2 .ensures, w1 .put-u32 .ensures, w1 .before .bits .ensures)
 
 pub put-amounts-spec : {M : Type 1} → statement M
 put-amounts-spec =
