@@ -1,0 +1,2 @@
+-- Laws of the questions as the code asks them.
+pub mod Positions
