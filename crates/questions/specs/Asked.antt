@@ -42,6 +42,12 @@ positionAs position physical bought sold = eqbℤ position (physical +ℤ pos bo
 unfoldable pub fieldsNumber : List ℕ → ℕ
 fieldsNumber s = numberOf (refusal (aboutFields s))
 
+-- bytes that were asked the questions 4 to 7: the number, and the book, or a blank one where a question refuses
+pub record FieldsAsked (s : List ℕ) (number : ℕ) (b : Book) : Type 0 where
+  pub asked : number ≡ fieldsNumber s
+  pub book : number ≡ 0 → BookRead s b
+  pub blank : (number ≡ 0 → ⊥) → b ≡ blankBook
+
 -- bytes that were asked the questions 1 to 7: the number, and the book, or a blank one where a question refuses
 pub record Opened (s : List ℕ) (number : ℕ) (b : Book) : Type 0 where
   pub asked : number ≡ bookNumber s

@@ -13,7 +13,7 @@ ghost use Rattle.records.specs.User.{userZeros, asUser};
 ghost use Rattle.records.specs.Trade.{tradeZeros, asTrade};
 ghost use Rattle.format.specs.Questions.{marked, versioned, sized, formNumber, bookNumber, Formed};
 ghost use Rattle.book.specs.Book.{BookRead};
-ghost use Rattle.questions.specs.Asked.{zerosIn, idsOf, placeIn, tradeAmong, positionAs, fieldsNumber, Opened};
+ghost use Rattle.questions.specs.Asked.{zerosIn, idsOf, placeIn, tradeAmong, positionAs, fieldsNumber, FieldsAsked, Opened};
 use book::Book;
 use records::Trade;
 use records::User;
@@ -271,24 +271,34 @@ pub struct Opening {
     pub book: Book,
 }
 
+// Asks the questions 4 to 7 of bytes of the right form, and reads the book where they pass.
+pub fn ask_fields(s: &[u8]) -> Opening
+    requires { ⌜ Formed (now s) ⌝ }
+    ensures { λ r. ⌜ FieldsAsked (now (s .entry)) (r .number) (r .book) ⌝ }
+{
+    let b = book::read_book(s);
+    let k = fields_number(s, b);
+    if k != 0 {
+        let blank = book::no_book();
+        return Opening {
+            number: k,
+            book: blank,
+        };
+    }
+    Opening { number: 0, book: b }
+}
+
 // Asks the questions 1 to 7 of any bytes, and reads the book where they pass.
 pub fn open(s: &[u8]) -> Opening
     ensures { λ r. ⌜ Opened (now (s .entry)) (r .number) (r .book) ⌝ }
 {
     let k = form(s);
     if k != 0 {
+        let blank = book::no_book();
         return Opening {
             number: k,
-            book: book::no_book(),
+            book: blank,
         };
     }
-    let b = book::read_book(s);
-    let q = fields_number(s, b);
-    if q != 0 {
-        return Opening {
-            number: q,
-            book: book::no_book(),
-        };
-    }
-    Opening { number: 0, book: b }
+    ask_fields(s)
 }
