@@ -1,0 +1,2 @@
+-- What follows for the questions of a call on a user.
+pub mod Asked
