@@ -1,0 +1,2 @@
+-- Laws of a tier's trades and their worth.
+pub mod Lots

@@ -1,0 +1,3 @@
+-- What a tier's two slices and the tally stand for.
+pub mod Lots
+pub mod Tallies

@@ -1,0 +1,204 @@
+//! Calls as values, and their answers by the reference.
+
+use reference::transfer::Image;
+
+/// One call, with its arguments. The book is lent apart.
+#[derive(Clone, Debug, PartialEq, Eq)]
+pub enum Call {
+    Posting {
+        id: u32,
+        area: u32,
+        amount: i64,
+    },
+    Show {
+        id: u32,
+    },
+    /// The book is the morning book; the afternoon book comes with the call.
+    ShowPicked {
+        afternoon: Vec<u8>,
+        pick: bool,
+        id: u32,
+    },
+    MorningLevel {
+        id: u32,
+    },
+    AfternoonLevel {
+        id: u32,
+    },
+    MorningCall {
+        id: u32,
+    },
+    AfternoonCall {
+        id: u32,
+    },
+    Warning {
+        id: u32,
+    },
+    Reduction {
+        id: u32,
+    },
+    Run,
+    Read,
+    /// The image is written into a part of this length, each byte 0xAA before.
+    Write {
+        image: Box<Image>,
+        length: usize,
+    },
+    Day,
+}
+
+impl Call {
+    pub const NAMES: [&'static str; 13] = [
+        "posting",
+        "show",
+        "show picked",
+        "morning level",
+        "afternoon level",
+        "morning call",
+        "afternoon call",
+        "warning",
+        "reduction",
+        "run",
+        "read",
+        "write",
+        "day",
+    ];
+
+    pub fn name(&self) -> &'static str {
+        let place = match self {
+            Call::Posting { .. } => 0,
+            Call::Show { .. } => 1,
+            Call::ShowPicked { .. } => 2,
+            Call::MorningLevel { .. } => 3,
+            Call::AfternoonLevel { .. } => 4,
+            Call::MorningCall { .. } => 5,
+            Call::AfternoonCall { .. } => 6,
+            Call::Warning { .. } => 7,
+            Call::Reduction { .. } => 8,
+            Call::Run => 9,
+            Call::Read => 10,
+            Call::Write { .. } => 11,
+            Call::Day => 12,
+        };
+        Call::NAMES[place]
+    }
+}
+
+/// The number, the other fields in the order of document 01, and the bytes
+/// handed back. The number of a printed day is that of its refusal.
+#[derive(Clone, Debug, Default, PartialEq, Eq)]
+pub struct Answer {
+    pub number: u32,
+    /// Level; level, added; warned; MWh, worth, T, short, over; reductions,
+    /// MWh, worth; else empty.
+    pub fields: Vec<i128>,
+    /// The shown record, the image read, the part written into, or the printed
+    /// day; else empty.
+    pub part: Vec<u8>,
+}
+
+impl Answer {
+    pub fn of_fields(number: u32, fields: &[i128]) -> Answer {
+        Answer {
+            number,
+            fields: fields.to_vec(),
+            part: Vec::new(),
+        }
+    }
+
+    pub fn of_part(number: u32, part: &[u8]) -> Answer {
+        Answer {
+            number,
+            fields: Vec::new(),
+            part: part.to_vec(),
+        }
+    }
+}
+
+/// The answer of the reference; the book is changed as the call says.
+pub fn answer(book: &mut [u8], call: &Call) -> Answer {
+    match call {
+        Call::Posting { id, area, amount } => {
+            Answer::of_fields(reference::posting(book, *id, *area, *amount), &[])
+        }
+        Call::Show { id } => {
+            let (number, part) = reference::show(book, *id);
+            Answer::of_part(number, part)
+        }
+        Call::ShowPicked {
+            afternoon,
+            pick,
+            id,
+        } => {
+            let (number, part) = reference::show_picked(book, afternoon, *pick, *id);
+            Answer::of_part(number, part)
+        }
+        Call::MorningLevel { id } => level(reference::morning_level(book, *id)),
+        Call::AfternoonLevel { id } => level(reference::afternoon_level(book, *id)),
+        Call::MorningCall { id } => guarantee_call(reference::morning_call(book, *id)),
+        Call::AfternoonCall { id } => guarantee_call(reference::afternoon_call(book, *id)),
+        Call::Warning { id } => {
+            let warning = reference::warning(book, *id);
+            Answer::of_fields(warning.number, &[i128::from(warning.warned)])
+        }
+        Call::Reduction { id } => reduction(reference::reduction(book, *id)),
+        Call::Run => {
+            let run = reference::run(book);
+            let fields = [i128::from(run.reductions), run.mwh, run.worth];
+            Answer::of_fields(run.number, &fields)
+        }
+        Call::Read => {
+            let (number, image) = reference::read(book);
+            Answer::of_part(number, &image)
+        }
+        Call::Write { image, length } => {
+            let mut part = vec![0xAA; *length];
+            let number = reference::write(image, &mut part);
+            Answer::of_part(number, &part)
+        }
+        Call::Day => {
+            let text = reference::day(book);
+            Answer::of_part(reference::check(book), text.as_bytes())
+        }
+    }
+}
+
+/// What another implementation says of this call where it differs from the
+/// reference, in the answer or in the book afterwards; none if they agree.
+pub fn disagreement(
+    book: &[u8],
+    call: &Call,
+    other: impl FnOnce(&mut [u8], &Call) -> Answer,
+) -> Option<String> {
+    let (mut expected_book, mut found_book) = (book.to_vec(), book.to_vec());
+    let expected = answer(&mut expected_book, call);
+    let found = other(&mut found_book, call);
+    if expected != found {
+        return Some(format!(
+            "{call:?}: {found:?}, by the reference {expected:?}"
+        ));
+    }
+    if expected_book != found_book {
+        return Some(format!("{call:?}: another book afterwards"));
+    }
+    None
+}
+
+fn level(answer: reference::LevelAnswer) -> Answer {
+    Answer::of_fields(answer.number, &[answer.level])
+}
+
+fn guarantee_call(answer: reference::CallAnswer) -> Answer {
+    Answer::of_fields(answer.number, &[answer.level, answer.added])
+}
+
+fn reduction(answer: reference::ReductionAnswer) -> Answer {
+    let fields = [
+        answer.mwh,
+        answer.worth,
+        answer.target,
+        answer.short,
+        answer.over,
+    ];
+    Answer::of_fields(answer.number, &fields)
+}

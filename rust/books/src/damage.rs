@@ -1,0 +1,361 @@
+//! Damaged books: one field of an accepted book made invalid.
+
+use reference::book::{length, Header, HEADER_LENGTH, TRADE_LENGTH, USER_LENGTH};
+
+use crate::accepted::miscounted;
+use crate::random::Random;
+
+#[derive(Clone, Copy, Debug, PartialEq, Eq)]
+pub enum Damage {
+    Cut,
+    Mark,
+    Version,
+    NoUsers,
+    UserCount,
+    TradeCount,
+    Longer,
+    Shorter,
+    Date,
+    /// One of P, Q, L, X, I.
+    Price(usize),
+    IdZero,
+    IdNotRising,
+    Role,
+    UserZeroByte(usize),
+    Physical(usize),
+    Charges,
+    Assigned,
+    Blocked,
+    Seller,
+    Buyer,
+    SameParties,
+    TradeArea,
+    TradeKind,
+    TradeDay,
+    TradeZeroByte,
+    NotifiedZero,
+    NotifiedLarge,
+    StandingAbove,
+    StandingBelow,
+    Position(usize),
+    StandingAlone,
+}
+
+impl Damage {
+    pub const ALL: [Damage; 41] = [
+        Damage::Cut,
+        Damage::Mark,
+        Damage::Version,
+        Damage::NoUsers,
+        Damage::UserCount,
+        Damage::TradeCount,
+        Damage::Longer,
+        Damage::Shorter,
+        Damage::Date,
+        Damage::Price(0),
+        Damage::Price(1),
+        Damage::Price(2),
+        Damage::Price(3),
+        Damage::Price(4),
+        Damage::IdZero,
+        Damage::IdNotRising,
+        Damage::Role,
+        Damage::UserZeroByte(0),
+        Damage::UserZeroByte(1),
+        Damage::UserZeroByte(2),
+        Damage::Physical(0),
+        Damage::Physical(1),
+        Damage::Physical(2),
+        Damage::Charges,
+        Damage::Assigned,
+        Damage::Blocked,
+        Damage::Seller,
+        Damage::Buyer,
+        Damage::SameParties,
+        Damage::TradeArea,
+        Damage::TradeKind,
+        Damage::TradeDay,
+        Damage::TradeZeroByte,
+        Damage::NotifiedZero,
+        Damage::NotifiedLarge,
+        Damage::StandingAbove,
+        Damage::StandingBelow,
+        Damage::Position(0),
+        Damage::Position(1),
+        Damage::Position(2),
+        Damage::StandingAlone,
+    ];
+
+    /// The question that an accepted book with this damage alone fails.
+    pub fn number(self) -> u32 {
+        match self {
+            Damage::Cut | Damage::Mark => 1,
+            Damage::Version => 2,
+            Damage::NoUsers
+            | Damage::UserCount
+            | Damage::TradeCount
+            | Damage::Longer
+            | Damage::Shorter => 3,
+            Damage::Date | Damage::Price(_) => 4,
+            Damage::IdZero
+            | Damage::IdNotRising
+            | Damage::Role
+            | Damage::UserZeroByte(_)
+            | Damage::Physical(_)
+            | Damage::Charges
+            | Damage::Assigned
+            | Damage::Blocked => 5,
+            Damage::Seller
+            | Damage::Buyer
+            | Damage::SameParties
+            | Damage::TradeArea
+            | Damage::TradeKind
+            | Damage::TradeDay
+            | Damage::TradeZeroByte
+            | Damage::NotifiedZero
+            | Damage::NotifiedLarge
+            | Damage::StandingAbove
+            | Damage::StandingBelow => 6,
+            Damage::Position(_) | Damage::StandingAlone => 7,
+        }
+    }
+
+    /// Damages an accepted book, whose counts are lent; no if the book has no
+    /// place for this damage.
+    pub fn apply(self, random: &mut Random, bytes: &mut Vec<u8>, counts: (usize, usize)) -> bool {
+        let (users, trades) = counts;
+        if self.number() <= 4 {
+            return self.apply_to_header(random, bytes);
+        }
+        let user = length(random.below(users), 0);
+        if let Some(record) = bytes.get_mut(user..user + USER_LENGTH) {
+            if self.apply_to_user(random, record) {
+                return true;
+            }
+        }
+        if self == Damage::IdNotRising {
+            return repeat_id(random, bytes, users);
+        }
+        let trade = length(users, random.below(trades));
+        match bytes.get_mut(trade..trade + TRADE_LENGTH) {
+            Some(record) if trades > 0 => self.apply_to_trade(random, record),
+            _ => false,
+        }
+    }
+
+    fn apply_to_header(self, random: &mut Random, bytes: &mut Vec<u8>) -> bool {
+        match self {
+            Damage::Cut => bytes.truncate(random.below(HEADER_LENGTH)),
+            Damage::Longer => bytes.extend_from_slice(&[0]),
+            Damage::Shorter if bytes.len() > HEADER_LENGTH => bytes.truncate(bytes.len() - 1),
+            _ if bytes.len() < HEADER_LENGTH => return false,
+            Damage::Mark => change_byte(random, &mut bytes[..3]),
+            Damage::Version => change_byte(random, &mut bytes[3..5]),
+            Damage::NoUsers => bytes[5] = 0,
+            Damage::UserCount => change_byte(random, &mut bytes[5..6]),
+            Damage::TradeCount => change_byte(random, &mut bytes[6..8]),
+            Damage::Date => put(bytes, 8, &bad_date(random).to_le_bytes()),
+            Damage::Price(place) => {
+                put(
+                    bytes,
+                    12 + 4 * place,
+                    &bad_price(random, place).to_le_bytes(),
+                );
+            }
+            _ => return false,
+        }
+        true
+    }
+
+    fn apply_to_user(self, random: &mut Random, user: &mut [u8]) -> bool {
+        match self {
+            Damage::IdZero => put(user, 0, &[0; 4]),
+            Damage::Role => user[4] = random.pick(&[2, 3, 128, 255]),
+            Damage::UserZeroByte(place) => user[5 + place] = random.pick(&[1, 128, 255]),
+            Damage::Physical(area) => {
+                let entry = random.pick(&[1_000_001, -1_000_001, i32::MAX, i32::MIN]);
+                put(user, 8 + 4 * area, &entry.to_le_bytes());
+            }
+            Damage::Charges => {
+                let limit = 1_000_000_000_001_i64;
+                let charges = random.pick(&[limit, -limit, i64::MAX, i64::MIN]);
+                put(user, 32, &charges.to_le_bytes());
+            }
+            Damage::Assigned => {
+                let assigned = random.pick(&[1_000_000_000_001, 1_u64 << 63, u64::MAX]);
+                put(user, 40, &assigned.to_le_bytes());
+                if random.one_in(2) {
+                    put(user, 48, &assigned.to_le_bytes());
+                }
+            }
+            Damage::Blocked => {
+                let assigned = u64_at(user, 40);
+                let blocked = random.pick(&[assigned.wrapping_add(1), 1_u64 << 63, u64::MAX]);
+                put(user, 48, &blocked.to_le_bytes());
+            }
+            Damage::Position(area) => change_byte(random, &mut user[20 + 4 * area..24 + 4 * area]),
+            _ => return false,
+        }
+        true
+    }
+
+    fn apply_to_trade(self, random: &mut Random, trade: &mut [u8]) -> bool {
+        let notified = u32_at(trade, 12);
+        match self {
+            // 0 is the id of no user.
+            Damage::Seller => put(trade, 0, &[0; 4]),
+            Damage::Buyer => put(trade, 4, &[0; 4]),
+            Damage::SameParties => trade.copy_within(0..4, 4),
+            Damage::TradeArea => trade[8] = random.pick(&[3, 4, 255]),
+            Damage::TradeKind => trade[9] = random.pick(&[3, 128, 255]),
+            Damage::TradeDay => trade[10] = random.pick(&[2, 128, 255]),
+            Damage::TradeZeroByte => trade[11] = random.pick(&[1, 128, 255]),
+            Damage::NotifiedZero => put(trade, 12, &[0; 8]),
+            Damage::NotifiedLarge => {
+                let large = random.pick(&[100_001, u32::MAX]);
+                put(trade, 12, &large.to_le_bytes());
+                put(trade, 16, &large.to_le_bytes());
+            }
+            Damage::StandingAbove => {
+                let above = random.pick(&[notified.wrapping_add(1), u32::MAX]);
+                put(trade, 16, &above.to_le_bytes());
+            }
+            Damage::StandingBelow => {
+                trade[9 + random.below(2)] = 1;
+                put(trade, 16, &notified.wrapping_sub(1).to_le_bytes());
+            }
+            Damage::StandingAlone => {
+                let standing = u32_at(trade, 16);
+                if trade[9..11] != [0, 0] || standing == 0 {
+                    return false;
+                }
+                put(trade, 16, &(standing - 1).to_le_bytes());
+            }
+            _ => return false,
+        }
+        true
+    }
+}
+
+/// Gives a user the id of another user before.
+fn repeat_id(random: &mut Random, bytes: &mut [u8], users: usize) -> bool {
+    let (first, second) = (random.below(users), random.below(users));
+    let (first, second) = (length(first.min(second), 0), length(first.max(second), 0));
+    if first == second || bytes.len() < second + 4 {
+        return false;
+    }
+    bytes.copy_within(first..first + 4, second);
+    true
+}
+
+/// No real day, or not of 2020 to 2099.
+fn bad_date(random: &mut Random) -> u32 {
+    let day_past_month = random.pick(&[
+        132, 230, 332, 431, 532, 631, 732, 832, 931, 1032, 1131, 1232, 100, 1200, 1, 1301,
+    ]);
+    let common_year = random.pick(&[2021, 2022, 2023, 2097, 2098, 2099]);
+    match random.below(3) {
+        0 => 20_240_000 + day_past_month,
+        1 => common_year * 10_000 + 229,
+        _ => random.pick(&[0, 20_191_231, 21_000_101, 120_230_101, u32::MAX]),
+    }
+}
+
+/// P and Q may not be 0 either.
+fn bad_price(random: &mut Random, place: usize) -> u32 {
+    let large = random.pick(&[100_001, u32::MAX]);
+    if place < 2 && random.one_in(2) {
+        0
+    } else {
+        large
+    }
+}
+
+/// Gives one of the bytes another value.
+fn change_byte(random: &mut Random, bytes: &mut [u8]) {
+    let place = random.below(bytes.len());
+    let change = random.byte().max(1);
+    bytes[place] ^= change;
+}
+
+/// The counts of a book of at least 32 bytes.
+pub fn counts(bytes: &[u8]) -> (usize, usize) {
+    let header = Header::from_bytes(bytes);
+    (header.users, header.trades)
+}
+
+fn put(bytes: &mut [u8], at: usize, value: &[u8]) {
+    bytes[at..at + value.len()].copy_from_slice(value);
+}
+
+fn u32_at(bytes: &[u8], at: usize) -> u32 {
+    u32::from_le_bytes([bytes[at], bytes[at + 1], bytes[at + 2], bytes[at + 3]])
+}
+
+fn u64_at(bytes: &[u8], at: usize) -> u64 {
+    u64::from(u32_at(bytes, at)) + (u64::from(u32_at(bytes, at + 4)) << 32)
+}
+
+/// Bytes that are no book, or a book only by its header.
+pub fn raw(random: &mut Random, accepted: &[u8]) -> Vec<u8> {
+    let length = random.pick(&[
+        0, 1, 3, 31, 32, 33, 87, 88, 89, 108, 164, 600, 8736, 8737, 9377,
+    ]);
+    match random.below(12) {
+        0 => Vec::new(),
+        1 => vec![0; length],
+        2 => vec![0xFF; length],
+        3 => random.bytes(length),
+        4 => [b"GDB".to_vec(), random.bytes(length)].concat(),
+        5 => [accepted[..5].to_vec(), random.bytes(length)].concat(),
+        6 => huge_counts(random, accepted),
+        7 => shifted_counts(accepted),
+        8 => random_records(random, accepted),
+        9 | 10 => miscounted(random).to_bytes(),
+        _ => any_byte(random, accepted),
+    }
+}
+
+/// Counts up to 255 users and 65,535 trades, sometimes of the length they say.
+fn huge_counts(random: &mut Random, accepted: &[u8]) -> Vec<u8> {
+    let mut bytes = accepted.to_vec();
+    bytes[5] = random.pick(&[0, 64, 65, 255]);
+    let trades: u16 = random.pick(&[0, 256, 257, 300, u16::MAX]);
+    put(&mut bytes, 6, &trades.to_le_bytes());
+    if trades < 1_000 && random.one_in(2) {
+        let (users, trades) = counts(&bytes);
+        bytes.resize(length(users, trades), 0);
+    }
+    bytes
+}
+
+/// Five users more and fourteen trades fewer, or the other way round, have the
+/// same length.
+fn shifted_counts(accepted: &[u8]) -> Vec<u8> {
+    let mut bytes = accepted.to_vec();
+    let (users, trades) = counts(&bytes);
+    let (users, trades) = if trades >= 14 && users + 5 <= 64 {
+        (users + 5, trades - 14)
+    } else if users > 5 {
+        (users - 5, trades + 14)
+    } else {
+        (users, trades)
+    };
+    bytes[5] = users.to_le_bytes()[0];
+    put(&mut bytes, 6, &trades.to_le_bytes()[..2]);
+    bytes
+}
+
+/// An accepted header with random bytes for the records.
+fn random_records(random: &mut Random, accepted: &[u8]) -> Vec<u8> {
+    let records = random.bytes(accepted.len() - HEADER_LENGTH);
+    [accepted[..HEADER_LENGTH].to_vec(), records].concat()
+}
+
+/// One byte anywhere with any value.
+fn any_byte(random: &mut Random, accepted: &[u8]) -> Vec<u8> {
+    let mut bytes = accepted.to_vec();
+    let place = random.below(bytes.len());
+    bytes[place] = random.byte();
+    bytes
+}

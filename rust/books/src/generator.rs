@@ -1,0 +1,360 @@
+//! The generator: books of a kind, arguments and calls for a book.
+
+use reference::book::{length, User, HEADER_LENGTH, LONGEST, MOST_USERS};
+use reference::questions::questions_1_to_7;
+use reference::run::next_reduction;
+use reference::transfer::Image;
+
+use crate::accepted::{
+    chain, ends_within, extreme, largest, long, midday, shares, small, usual, MOST_LONG_REDUCTIONS,
+};
+use crate::calls::Call;
+use crate::damage::{counts, raw, Damage};
+use crate::random::Random;
+
+#[derive(Clone, Copy, Debug, PartialEq, Eq)]
+pub enum Kind {
+    /// Up to 4 users and 7 trades.
+    Small,
+    /// Up to 21 users and 59 trades.
+    Usual,
+    /// 64 users and 256 trades.
+    Largest,
+    /// 64 users and 256 trades of the largest amounts and prices.
+    Extreme,
+    /// Cuts that make the buyer short in turn.
+    Chain,
+    /// Many sales of few sizes by one user.
+    Shares,
+    /// Flags around their limit.
+    Midday,
+    /// A run of up to 3,000 reductions.
+    Long,
+    /// An accepted book with one field damaged, sometimes two.
+    Damaged,
+    /// Bytes that are no book.
+    Raw,
+}
+
+impl Kind {
+    pub const ALL: [Kind; 10] = [
+        Kind::Small,
+        Kind::Usual,
+        Kind::Largest,
+        Kind::Extreme,
+        Kind::Chain,
+        Kind::Shares,
+        Kind::Midday,
+        Kind::Long,
+        Kind::Damaged,
+        Kind::Raw,
+    ];
+
+    /// The kinds that pass questions 1 to 7.
+    pub const ACCEPTED: [Kind; 8] = [
+        Kind::Small,
+        Kind::Usual,
+        Kind::Largest,
+        Kind::Extreme,
+        Kind::Chain,
+        Kind::Shares,
+        Kind::Midday,
+        Kind::Long,
+    ];
+}
+
+/// Arguments of the calls: of the book, or hostile.
+#[derive(Clone, Copy, Debug, PartialEq, Eq)]
+pub struct Arguments {
+    pub id: u32,
+    pub area: u32,
+    pub amount: i64,
+    pub pick: bool,
+}
+
+#[derive(Clone, Debug)]
+pub struct Generator {
+    random: Random,
+}
+
+impl Generator {
+    pub fn new(seed: u64) -> Generator {
+        Generator {
+            random: Random::new(seed),
+        }
+    }
+
+    /// The random numbers, for choices of the caller.
+    pub fn random(&mut self) -> &mut Random {
+        &mut self.random
+    }
+
+    /// A book of this kind. The run of an accepted one takes at most 400
+    /// reductions, that of a long one 3,000.
+    pub fn book(&mut self, kind: Kind) -> Vec<u8> {
+        let random = &mut self.random;
+        match kind {
+            Kind::Small => small(random).to_bytes(),
+            Kind::Usual => usual(random).to_bytes(),
+            Kind::Largest => largest(random).to_bytes(),
+            Kind::Extreme => extreme(random).to_bytes(),
+            Kind::Chain => chain(random).to_bytes(),
+            Kind::Shares => shares(random).to_bytes(),
+            Kind::Midday => midday(random).to_bytes(),
+            Kind::Long => long(random).to_bytes(),
+            Kind::Damaged => self.damaged(),
+            Kind::Raw => {
+                let accepted = self.few();
+                raw(&mut self.random, &accepted)
+            }
+        }
+    }
+
+    /// A book of any kind, the large ones less often.
+    pub fn any_book(&mut self) -> Vec<u8> {
+        let kind = match self.random.below(24) {
+            0 => self.random.pick(&[Kind::Largest, Kind::Extreme]),
+            1 => Kind::Long,
+            2 | 3 => Kind::Raw,
+            4..=6 => Kind::Damaged,
+            7 | 8 => Kind::Chain,
+            9..=12 => Kind::Shares,
+            13..=15 => Kind::Midday,
+            16..=19 => Kind::Usual,
+            _ => Kind::Small,
+        };
+        self.book(kind)
+    }
+
+    /// An accepted book that is not large.
+    fn few(&mut self) -> Vec<u8> {
+        let kind = self
+            .random
+            .pick(&[Kind::Small, Kind::Small, Kind::Usual, Kind::Midday]);
+        self.book(kind)
+    }
+
+    fn damaged(&mut self) -> Vec<u8> {
+        let damage = self.random.pick(&Damage::ALL);
+        let mut bytes = self.damaged_by(damage);
+        if self.random.one_in(4) {
+            let second = self.random.pick(&Damage::ALL);
+            if bytes.len() >= HEADER_LENGTH {
+                let (users, trades) = counts(&bytes);
+                second.apply(&mut self.random, &mut bytes, (users, trades));
+            }
+        }
+        bytes
+    }
+
+    /// An accepted book with this damage alone.
+    pub fn damaged_by(&mut self, damage: Damage) -> Vec<u8> {
+        loop {
+            let mut bytes = self.few();
+            let counts = counts(&bytes);
+            if damage.apply(&mut self.random, &mut bytes, counts) {
+                return bytes;
+            }
+        }
+    }
+
+    /// An otherwise accepted book for each of the dates next to the ends of the
+    /// months and of the years 2020 to 2099, real or not.
+    pub fn dated_books(&mut self) -> Vec<Vec<u8>> {
+        let mut books = Vec::new();
+        for year in [2019, 2020, 2021, 2023, 2024, 2096, 2099, 2100] {
+            for month in 0..=13 {
+                for day in [0, 1, 28, 29, 30, 31, 32] {
+                    let date: u32 = year * 10_000 + month * 100 + day;
+                    let mut bytes = self.book(Kind::Small);
+                    bytes[8..12].copy_from_slice(&date.to_le_bytes());
+                    books.push(bytes);
+                }
+            }
+        }
+        books
+    }
+
+    /// Arguments for a call on this book.
+    pub fn arguments(&mut self, book: &[u8]) -> Arguments {
+        let users = match questions_1_to_7(book) {
+            Ok(book) => book.users,
+            Err(_) => Vec::new(),
+        };
+        let user = match users.len() {
+            0 => User::default(),
+            // The first user sells most.
+            _ if self.random.one_in(3) => users[0].clone(),
+            count => users[self.random.below(count)].clone(),
+        };
+        let area = self.area();
+        Arguments {
+            id: self.id(user.id),
+            area,
+            amount: self.amount(&user, area),
+            pick: self.random.one_in(2),
+        }
+    }
+
+    fn id(&mut self, id: u32) -> u32 {
+        match self.random.below(24) {
+            0 => 0,
+            1 => u32::MAX,
+            2 => id.wrapping_add(1),
+            3 => id.wrapping_sub(1),
+            4 => self.random.word(),
+            _ => id,
+        }
+    }
+
+    fn area(&mut self) -> u32 {
+        match self.random.below(16) {
+            0 => 3,
+            1 => u32::MAX,
+            2 => self.random.pick(&[4, 255, 256, 257, 65_536, 1 << 31]),
+            _ => self.random.pick(&[0, 1, 2]),
+        }
+    }
+
+    /// An amount, often such that the new entry is at or next to the limit.
+    fn amount(&mut self, user: &User, area: u32) -> i64 {
+        let place = usize::try_from(area).unwrap_or(0).min(2);
+        let entry = i64::try_from(user.physical[place].0).unwrap_or(0);
+        let most = 1_000_000 - entry;
+        let least = -1_000_000 - entry;
+        let any = i64::from_le_bytes(self.random.bits().to_le_bytes());
+        let wide = 1_i64 << 32;
+        match self.random.below(16) {
+            0 => 0,
+            1 => self.random.pick(&[i64::MIN, i64::MAX, i64::MIN + 1, any]),
+            2 => self
+                .random
+                .pick(&[wide, -wide, wide + 5, -wide - 5, 1 << 31]),
+            3 => most,
+            4 => most + 1,
+            5 => least,
+            6 => least - 1,
+            7..=9 => -self.energy(100_000),
+            10 => -self.energy(1_000_000),
+            _ => self.energy(5_000) - 2_500,
+        }
+    }
+
+    fn energy(&mut self, most: i128) -> i64 {
+        i64::try_from(self.random.between(0, most)).unwrap_or(0)
+    }
+
+    /// Any call on this book. A run of more than 3,000 reductions is not
+    /// drawn.
+    pub fn call(&mut self, book: &[u8]) -> Call {
+        let Arguments { id, pick, .. } = self.arguments(book);
+        match self.random.below(16) {
+            0 => Call::Show { id },
+            1 => Call::ShowPicked {
+                afternoon: self.small_book(),
+                pick,
+                id,
+            },
+            2 => Call::MorningLevel { id },
+            3 => Call::AfternoonLevel { id },
+            4 => Call::Warning { id },
+            5 => Call::Read,
+            6 => self.write(),
+            7 if is_short_run(book) => Call::Day,
+            _ => self.changing_call(book),
+        }
+    }
+
+    /// A call that changes the book: a posting, a guarantee call, a reduction
+    /// or a run.
+    pub fn changing_call(&mut self, book: &[u8]) -> Call {
+        let Arguments {
+            id, area, amount, ..
+        } = self.arguments(book);
+        match self.random.below(10) {
+            0..=2 => Call::Posting { id, area, amount },
+            3 => Call::MorningCall { id },
+            4 => Call::AfternoonCall { id },
+            5 if is_short_run(book) => Call::Run,
+            6 => Call::Reduction {
+                id: reducible(book).unwrap_or(id),
+            },
+            _ => Call::Reduction { id },
+        }
+    }
+
+    fn small_book(&mut self) -> Vec<u8> {
+        let kind = self
+            .random
+            .pick(&[Kind::Small, Kind::Small, Kind::Damaged, Kind::Raw]);
+        self.book(kind)
+    }
+
+    /// A write of fields that are accepted, or damaged, into a part of the
+    /// right length, or of another.
+    pub fn write(&mut self) -> Call {
+        let bytes = self.few();
+        let (users, trades) = counts(&bytes);
+        let mut image = self.image(bytes, users, trades);
+        let right = length(users, trades);
+        if self.random.one_in(3) {
+            self.damage_header(&mut image);
+        }
+        let length = match self.random.below(8) {
+            0 => self
+                .random
+                .pick(&[0, 31, 32, right - 1, right + 1, LONGEST, LONGEST + 1]),
+            _ => right,
+        };
+        Call::Write {
+            image: Box::new(image),
+            length,
+        }
+    }
+
+    /// The image of these records, one of them perhaps damaged. Records past
+    /// the counts are not always 0. Mark and zero bytes stay as they are.
+    fn image(&mut self, bytes: Vec<u8>, users: usize, trades: usize) -> Image {
+        let mut bytes = bytes;
+        if self.random.one_in(2) {
+            let damage = self.random.pick(&Damage::ALL);
+            let zero_byte = matches!(damage, Damage::UserZeroByte(_) | Damage::TradeZeroByte);
+            if damage.number() > 3 && !zero_byte {
+                damage.apply(&mut self.random, &mut bytes, (users, trades));
+            }
+        }
+        let (records, sales) = bytes.split_at(length(users, 0));
+        let mut image = [0; LONGEST];
+        image[..records.len()].copy_from_slice(records);
+        image[length(MOST_USERS, 0)..][..sales.len()].copy_from_slice(sales);
+        if users < MOST_USERS && self.random.one_in(3) {
+            image[length(users, 0)] = 7;
+            image[LONGEST - 1] = 7;
+        }
+        image
+    }
+
+    fn damage_header(&mut self, image: &mut Image) {
+        match self.random.below(4) {
+            0 => image[3 + self.random.below(2)] = self.random.pick(&[0, 2, 255]),
+            1 => image[5] = self.random.pick(&[0, 65, 255]),
+            2 => image[7] = self.random.pick(&[2, 255]),
+            _ => image[6] = self.random.byte(),
+        }
+    }
+}
+
+/// The id of the user whom a run would reduce next.
+fn reducible(bytes: &[u8]) -> Option<u32> {
+    let book = questions_1_to_7(bytes).ok()?;
+    let place = next_reduction(&book)?;
+    Some(book.users[place].id)
+}
+
+/// Whether the run of these bytes is refused or takes at most 3,000 reductions.
+pub fn is_short_run(bytes: &[u8]) -> bool {
+    match questions_1_to_7(bytes) {
+        Ok(book) => ends_within(&book, MOST_LONG_REDUCTIONS),
+        Err(_) => true,
+    }
+}

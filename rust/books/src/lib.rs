@@ -1,0 +1,15 @@
+//! Test support: a seeded generator of day books and calls that reach every
+//! branch of document 01, and the answers of the reference to them.
+
+#![forbid(unsafe_code)]
+
+pub mod accepted;
+pub mod calls;
+pub mod damage;
+pub mod generator;
+pub mod random;
+
+pub use calls::{answer, disagreement, Answer, Call};
+pub use damage::Damage;
+pub use generator::{Arguments, Generator, Kind};
+pub use random::Random;

@@ -1,0 +1,70 @@
+//! "Printed day".
+
+use std::fmt::Write;
+
+use crate::book::{Book, User};
+use crate::levels::{above_margin, afternoon_level_of, called_in};
+use crate::questions::questions_1_to_7;
+use crate::run::{run_book, short_of_cover};
+use crate::units::Cents;
+
+/// What the program `day` prints for this input.
+pub fn day(bytes: &[u8]) -> String {
+    match questions_1_to_7(bytes) {
+        Ok(book) => printed(book),
+        Err(number) => format!("refused {number}\n"),
+    }
+}
+
+/// Runs the book, then prints the totals and one line per user.
+fn printed(mut book: Book) -> String {
+    let run = run_book(&mut book);
+    let mut text = format!("run {} {} {}\n", run.reductions, run.mwh, run.worth);
+    for user in &book.users {
+        text.push_str(&line(&book, user));
+    }
+    text
+}
+
+/// Id, state, afternoon level, three positions.
+fn line(book: &Book, user: &User) -> String {
+    let mut line = format!(
+        "{} {} {}",
+        user.id,
+        state(book, user),
+        printed_level(book, user).0
+    );
+    for position in user.position {
+        // Writing to a string does not fail.
+        let _ = write!(line, " {}", position.0);
+    }
+    line.push('\n');
+    line
+}
+
+/// "Clearing house, level printed 0."
+fn printed_level(book: &Book, user: &User) -> Cents {
+    if user.is_shipper() {
+        afternoon_level_of(book, user)
+    } else {
+        Cents::ZERO
+    }
+}
+
+fn state(book: &Book, user: &User) -> &'static str {
+    if !user.is_shipper() {
+        "clear"
+    } else if short_of_cover(book, user) {
+        "short"
+    } else if to_be_called(book, user) {
+        "call"
+    } else {
+        "quiet"
+    }
+}
+
+/// "Called in, level − blocked > 1,000,000, assigned ≥ level."
+fn to_be_called(book: &Book, user: &User) -> bool {
+    let level = afternoon_level_of(book, user);
+    called_in(book, user) && above_margin(user, level) && user.assigned >= level
+}

@@ -1,0 +1,117 @@
+//! "Levels and calls": the two levels, flagged and called in.
+
+use crate::book::{Book, User, TODAY, TOMORROW};
+use crate::questions::{questions_1_to_9, ACCEPTED};
+use crate::units::{Area, Cents, Mwh, Price};
+
+/// "Either level is at least 10,000,000 (100,000 euros)."
+pub const LEAST_LEVEL: Cents = Cents(10_000_000);
+
+/// Flagged above 30,000 MWh at the least reference price.
+const FLAG_ENERGY: Mwh = Mwh(30_000);
+
+/// A level counts above blocked by more than this (question 11).
+pub const MARGIN: Cents = Cents(1_000_000);
+
+#[derive(Clone, Copy, Debug, Default, PartialEq, Eq)]
+pub struct LevelAnswer {
+    pub number: u32,
+    pub level: i128,
+}
+
+/// The morning level of a shipper.
+pub fn morning_level(bytes: &[u8], id: u32) -> LevelAnswer {
+    level_answer(bytes, id, morning_level_of)
+}
+
+/// The afternoon level of a shipper.
+pub fn afternoon_level(bytes: &[u8], id: u32) -> LevelAnswer {
+    level_answer(bytes, id, afternoon_level_of)
+}
+
+fn level_answer(bytes: &[u8], id: u32, level_of: fn(&Book, &User) -> Cents) -> LevelAnswer {
+    match questions_1_to_9(bytes, id) {
+        Ok((book, place)) => LevelAnswer {
+            number: ACCEPTED,
+            level: level_of(&book, &book.users[place]).0,
+        },
+        Err(number) => LevelAnswer {
+            number,
+            ..LevelAnswer::default()
+        },
+    }
+}
+
+/// "Level = charges + sum of max(0, need) × w", in the morning.
+pub fn morning_level_of(book: &Book, user: &User) -> Cents {
+    let needs = over_areas(book, |area| morning_need(book, user, area));
+    LEAST_LEVEL.max(user.charges + needs)
+}
+
+/// "Need = −physical + sold − bought over d and d+1."
+fn morning_need(book: &Book, user: &User, area: Area) -> Mwh {
+    let today = book.sold(user, area, TODAY) - book.bought(user, area, TODAY);
+    let tomorrow = book.sold(user, area, TOMORROW) - book.bought(user, area, TOMORROW);
+    -user.physical[area.index()] + today + tomorrow
+}
+
+/// "Level = charges + sum of max(0, need) × w + sum of max(0, −position) × w",
+/// in the afternoon.
+pub fn afternoon_level_of(book: &Book, user: &User) -> Cents {
+    let needs = over_areas(book, |area| afternoon_need(book, user, area));
+    LEAST_LEVEL.max(user.charges + needs + short_positions(book, user))
+}
+
+/// "Need = sold − bought for d+1, minus max(0, position) in areas 1 and 2."
+fn afternoon_need(book: &Book, user: &User, area: Area) -> Mwh {
+    let tomorrow = book.sold(user, area, TOMORROW) - book.bought(user, area, TOMORROW);
+    match area {
+        Area::Pvb => tomorrow,
+        Area::Tvb | Area::Avb => tomorrow - user.position[area.index()].or_zero(),
+    }
+}
+
+/// Sum of max(0, −position) × w.
+pub fn short_positions(book: &Book, user: &User) -> Cents {
+    over_areas(book, |area| -user.position[area.index()])
+}
+
+/// Sum over the areas of max(0, energy) × w.
+fn over_areas(book: &Book, energy: impl Fn(Area) -> Mwh) -> Cents {
+    let priced = |area: &Area| energy(*area).or_zero() * area.reference_price(&book.prices);
+    Area::ALL.iter().map(priced).sum()
+}
+
+/// "Flagged: sum of max(0, −position) × w, minus blocked, exceeds 30,000 ×
+/// the least w."
+pub fn flagged(book: &Book, user: &User) -> bool {
+    short_positions(book, user) - user.blocked > flag_limit(book)
+}
+
+/// 30,000 × the least w.
+pub fn flag_limit(book: &Book) -> Cents {
+    FLAG_ENERGY * least_reference_price(book)
+}
+
+/// The least of the three reference prices of the book.
+fn least_reference_price(book: &Book) -> Price {
+    let [pvb, tvb, avb] = Area::ALL.map(|area| area.reference_price(&book.prices));
+    pvb.min(tvb).min(avb)
+}
+
+/// "Called in: flagged, or party to a trade standing below notified."
+pub fn called_in(book: &Book, user: &User) -> bool {
+    flagged(book, user) || party_to_cut_trade(book, user)
+}
+
+/// Seller or buyer of a trade standing below notified.
+pub fn party_to_cut_trade(book: &Book, user: &User) -> bool {
+    book.trades.iter().any(|trade| {
+        (trade.seller == user.id || trade.buyer == user.id) && trade.standing < trade.notified
+    })
+}
+
+/// "Level − blocked > 1,000,000", in signed numbers.
+pub fn above_margin(user: &User, level: Cents) -> bool {
+    level - user.blocked > MARGIN
+}

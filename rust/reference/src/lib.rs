@@ -1,0 +1,35 @@
+//! Reference implementation of document 01: the day book, imbalance risk,
+//! guarantee calls and reduced trades.
+//!
+//! It is plain and slow on purpose. The modules follow the order of the
+//! document, and the comments cite its sections in quotes. Every number is
+//! computed in 128 bits, where no value of any book can wrap.
+//!
+//! Every call takes the book as bytes. A refused call returns the number of
+//! the first question that failed, every other field 0, and leaves the book.
+
+#![forbid(unsafe_code)]
+
+pub mod book;
+pub mod calls;
+pub mod day;
+pub mod levels;
+pub mod posting;
+pub mod questions;
+pub mod reduction;
+pub mod run;
+pub mod show;
+pub mod transfer;
+pub mod units;
+pub mod warning;
+
+pub use calls::{afternoon_call, morning_call, CallAnswer};
+pub use day::day;
+pub use levels::{afternoon_level, morning_level, LevelAnswer};
+pub use posting::posting;
+pub use questions::check;
+pub use reduction::{reduction, ReductionAnswer};
+pub use run::{run, RunAnswer};
+pub use show::{show, show_picked};
+pub use transfer::{read, write, Image};
+pub use warning::{warning, WarningAnswer};

@@ -1,0 +1,47 @@
+//! "Warnings and shown records": the midday warning.
+
+use crate::book::{Book, Trade, User};
+use crate::levels::flagged;
+use crate::questions::{questions_1_to_9, ACCEPTED};
+use crate::units::Mwh;
+
+#[derive(Clone, Copy, Debug, Default, PartialEq, Eq)]
+pub struct WarningAnswer {
+    pub number: u32,
+    pub warned: bool,
+}
+
+/// Whether a shipper is warned at midday.
+pub fn warning(bytes: &[u8], id: u32) -> WarningAnswer {
+    match questions_1_to_9(bytes, id) {
+        Ok((book, place)) => WarningAnswer {
+            number: ACCEPTED,
+            warned: warned(&book, &book.users[place]),
+        },
+        Err(number) => WarningAnswer {
+            number,
+            ..WarningAnswer::default()
+        },
+    }
+}
+
+fn warned(book: &Book, user: &User) -> bool {
+    flagged(book, user) || warned_by_seller(book, user)
+}
+
+/// "Buyer of a kind 0, day 0 trade standing above 0 whose seller is a flagged
+/// shipper."
+pub fn warned_by_seller(book: &Book, user: &User) -> bool {
+    book.trades.iter().any(|trade| {
+        trade.buyer == user.id
+            && trade.is_bilateral_today()
+            && trade.standing > Mwh::ZERO
+            && seller_is_flagged_shipper(book, trade)
+    })
+}
+
+fn seller_is_flagged_shipper(book: &Book, trade: &Trade) -> bool {
+    book.users
+        .iter()
+        .any(|user| user.id == trade.seller && user.is_shipper() && flagged(book, user))
+}
