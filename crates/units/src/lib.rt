@@ -196,14 +196,14 @@ impl Balance {
 }
 
 // The energy that a signed amount brings in, and the energy that it takes out: one of the two is 0.
-struct Flow {
-    inflow: Mwh,
-    outflow: Mwh,
+pub struct Flow {
+    pub inflow: Mwh,
+    pub outflow: Mwh,
 }
 
 impl Flow {
     // The flow of a signed amount, in MWh.
-    fn of(amount: i64) -> Flow
+    pub fn of(amount: i64) -> Flow
         ensures { λ r. ⌜ (r .inflow .0 ≡ posPart amount) × (r .outflow .0 ≡ negPart amount) ⌝ }
         ensures { λ r. ⌜ (r .inflow .0 < 2 ^ 63) × (r .outflow .0 ≤ 2 ^ 63) ⌝ }
     {
