@@ -23,7 +23,7 @@ module _ (s : List ℕ) (id : ℕ) (rest : List Question) where
   unfolding idKnown bookOf
   entry-found {place} {b} f =
       refusal-next (aboutBytes s) (idKnown (bookOf s) id ∷ rest) (book-passed s (f .passes))
-      ∙ yes-first 8 (known (usersOf s) id) rest (rw (known-place s id (rw (f .place) at (f .known))) tt)
+      ∙ yes-first 8 (known (usersOf s) id) rest (rw (known-place s id (rw (f .stands) at (f .known))) tt)
 
 -- an id that is in no place is refused by 8
 pub entry-unknown : (s : List ℕ) (id : ℕ) → bookNumber s ≡ 0 → userCount s ≤ placeOf (usersOf s) id → refusal (aboutBytes s ++ (idKnown (bookOf s) id ∷ [])) ≡ some 8

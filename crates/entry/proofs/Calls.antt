@@ -53,10 +53,10 @@ module _ (s : List ℕ) (id place : ℕ) (b : Book) (f : Found s id place b) whe
   -- the struct's record at the place is the user of the id
   pub found-user : (d : User) → asUser (getD (b .users) place d) ≡ find (usersOf s) id
   found-user d =
-      user-at s b (f .read) place d (f .known) (passed s (f .passes) .form .users) ∙ ap (λ (i : ℕ). getD (usersOf s) i nobody) (f .place) ∙ sym (find-place (usersOf s) id)
+      user-at s b (f .read) place d (f .known) (passed s (f .passes) .form .users) ∙ ap (λ (i : ℕ). getD (usersOf s) i nobody) (f .stands) ∙ sym (find-place (usersOf s) id)
 
   pub found-known : T (known (usersOf s) id)
-  found-known = rw (known-place s id (rw (f .place) at (f .known))) tt
+  found-known = rw (known-place s id (rw (f .stands) at (f .known))) tt
 
   pub found-valid : T (userValid (find (usersOf s) id))
   unfolding bookOf

@@ -15,7 +15,7 @@ use Rattle.book.specs.Book.{BookRead}
 pub record Found (s : List ℕ) (id place : ℕ) (b : Book) : Type 0 where
   pub passes : bookNumber s ≡ 0
   pub read : BookRead s b
-  pub place : place ≡ placeOf (usersOf s) id
+  pub stands : place ≡ placeOf (usersOf s) id
   pub known : place < userCount s
 
 -- the number of the first question that is answered by no; else the user is found

@@ -11,8 +11,8 @@ use Rattle.format.specs.Steps.{shownPart}
 
 -- the number, and the 56 bytes of the user's record or the empty part
 pub record Shown (s : List ℕ) (id number : ℕ) (part : List ℕ) : Type 0 where
-  pub number : number ≡ numberOf (refusal (aboutBytes s ++ aboutQuery (bookOf s) (shownRecord id)))
-  pub part : part ≡ shownPart s id
+  pub asked : number ≡ numberOf (refusal (aboutBytes s ++ aboutQuery (bookOf s) (shownRecord id)))
+  pub shows : part ≡ shownPart s id
 
 -- "The pick is a yes or no, yes for the afternoon."
 unfoldable pub picked : Bool → List ℕ → List ℕ → List ℕ

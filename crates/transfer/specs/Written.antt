@@ -25,7 +25,7 @@ aboutWriting b n =
 
 -- the number, and the whole of the part afterwards
 pub record Written (b : Book) (s : List ℕ) (number : ℕ) (t : List ℕ) : Type 0 where
-  pub number : number ≡ numberOf (refusal (aboutWriting b (length s)))
+  pub asked : number ≡ numberOf (refusal (aboutWriting b (length s)))
   pub part : t ≡ decided (refusal (aboutWriting b (length s))) (λ n. s) (bytesOf (asBook b))
 
 -- a struct of version 1 whose counts are in range
