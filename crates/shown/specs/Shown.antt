@@ -16,4 +16,4 @@ pub record Shown (s : List ℕ) (id number : ℕ) (part : List ℕ) : Type 0 whe
 
 -- "The pick is a yes or no, yes for the afternoon."
 unfoldable pub picked : Bool → List ℕ → List ℕ → List ℕ
-picked yes morning afternoon = cond yes afternoon morning
+picked pick morning afternoon = cond pick afternoon morning

@@ -1,7 +1,6 @@
 -- `trades_valid`: the trades that are left have the whole answer, until one is not valid or none is left; a party is a user where its place is below n.
 -- Assumes nothing.
 use Prim.Native.Nat.{_-_}
-use mathlib.Core.Path.{_≡_, sym, _∙_}
 use native.Mathlib.Omega.{arith}
 use lib.ListN.{take}
 use denote.Ref.{now}
