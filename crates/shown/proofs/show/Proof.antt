@@ -7,7 +7,7 @@ use denote.Ref.{now}
 use lib.ListN.{length}
 use Rattle.rules.specs.Questions.{refusal, numberOf, decided}
 use Rattle.rules.specs.Queries.{aboutQuery}
-use Rattle.format.specs.Book.{userAt}
+use Rattle.format.specs.Book.{userAt, bookOf}
 use Rattle.format.specs.Questions.{Formed}
 use Rattle.format.specs.Steps.{shownPart}
 use Rattle.format.proofs.Passed.{passed}
@@ -65,7 +65,7 @@ part-result-end : tie.Need-part-result-end
 part-result-end c = omega (arith, inside c)
 
 returns-2 : tie.Need-returns-2
-unfolding aboutQuery shownPart decided numberOf refusal userAt
+unfolding aboutQuery shownPart decided numberOf refusal userAt bookOf
 returns-2 c =
     let e = c .before .before .before in
     let f = found (c .before) in
