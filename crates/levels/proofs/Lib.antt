@@ -1,0 +1,3 @@
+-- Laws of needs, holdings and levels.
+pub mod Needs
+pub mod Sums

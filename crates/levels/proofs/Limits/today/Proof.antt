@@ -1,0 +1,12 @@
+-- `Limits::today`: the three figures are those of the rules. Assumes nothing.
+use borrow.Author.Needs.{needs}
+use Rattle.rules.specs.Levels.{today}
+use Rattle.levels.proofs.Limits.today.Statement.{statement}
+use Rattle.levels.proofs.Limits.today.Tie as tie
+
+returns : tie.Need-returns
+unfolding today
+returns c = search needs
+
+pub today-spec : {M : Type 1} → statement M
+today-spec = tie.close (tie.spec returns)

@@ -1,0 +1,3 @@
+-- Laws of a user of a book by its place, and of states.
+pub mod Places
+pub mod Tests
