@@ -8,7 +8,7 @@ use Rattle.fields.specs.Layout.{recordsOf}
 use Rattle.units.specs.Prices.{asPrices}
 use Rattle.records.specs.User.{asUser, blankUser}
 use Rattle.records.specs.Trade.{asTrade, blankTrade}
-use Rattle.format.specs.Book.{bookOf, userCount, tradeCount}
+use Rattle.format.specs.Book.{bookOf, bytesOf, userCount, tradeCount}
 use Rattle.book.specs.declared.Book.{Book}
 
 -- a struct's header, and its records up to the counts
@@ -48,3 +48,9 @@ pub record BookRead (s : List ℕ) (b : Book) : Type 0 where
   pub trade-room : length (b .trades) ≡ 256
   pub user-rest : drop (b .«user_count») (b .users) ≡ replicate (64 - b .«user_count») blankUser
   pub trade-rest : drop (b .«trade_count») (b .trades) ≡ replicate (256 - b .«trade_count») blankTrade
+
+-- bytes to which a struct was written: those of the book that it is; and the room of its arrays
+pub record BookWritten (b : Book) (s : List ℕ) : Type 0 where
+  pub bytes : s ≡ bytesOf (asBook b)
+  pub user-room : length (b .users) ≡ 64
+  pub trade-room : length (b .trades) ≡ 256

@@ -8,9 +8,9 @@ ghost use Rattle.fields.specs.Layout.{setFields, bytesOfRecords};
 ghost use Rattle.records.specs.User.{userOf, userBytes, asUser, blankUser};
 ghost use Rattle.records.specs.Trade.{tradeOf, tradeBytes, asTrade, blankTrade};
 ghost use Rattle.units.specs.Prices.{asPrices};
-ghost use Rattle.format.specs.Book.{mark, pricesAt, bytesOf};
+ghost use Rattle.format.specs.Book.{mark, pricesAt};
 ghost use Rattle.format.specs.Questions.{Formed};
-ghost use Rattle.book.specs.Book.{asBook, Filled, BookRead, blankBook};
+ghost use Rattle.book.specs.Book.{asBook, Filled, BookRead, BookWritten, blankBook};
 use records::Trade;
 use records::User;
 use units::Prices;
@@ -178,7 +178,7 @@ fn write_prices(out: &mut [u8], prices: Prices)
 // Writes a book over bytes of its length.
 pub fn write_book(out: &mut [u8], b: Book)
     requires { ⌜ (b .«user_count» ≤ 64) × (b .«trade_count» ≤ 256) × (length (now out) ≡ 32 + 56 * b .«user_count» + 20 * b .«trade_count») ⌝ }
-    ensures { λ _. ⌜ now (out .exit) ≡ bytesOf (asBook b) ⌝ }
+    ensures { λ _. ⌜ BookWritten b (now (out .exit)) ⌝ }
 {
     let n = b.user_count as usize;
     let m = b.trade_count as usize;

@@ -9,13 +9,13 @@ use lib.Dec.{T, eqb, leb→le, ltb→lt, eqb-refl, eqb→eq, leb, le→leb}
 use lib.IntN.{ℤ}
 use lib.ListN.{length, length-append, drop, getD}
 use lib.Seq.{drop-at, take-at, drop-drop}
-use Rattle.fields.proofs.Field.{all-bytes-append}
+use Rattle.fields.proofs.Field.{all-bytes-append, field-append, length-toBytes}
 use Rattle.fields.proofs.Pack.{all-bytes-pack, length-pack, fieldsAt-pack}
 use Rattle.fields.proofs.Records.{all-bytes-records, length-bytesOfRecords, recordsOf-bytesOfRecords}
-use Rattle.fields.specs.Field.{AllBytes, field}
+use Rattle.fields.specs.Field.{AllBytes, field, toBytes}
 use Rattle.fields.specs.Layout.{Every, bytesOfRecords, pack, recordsOf, size, FitAll, fieldsAt}
 use Rattle.format.specs.Book.{bytesOf, headerValues, headerWidths, bookOf, lengthOf, mark, markOf, tradeCount, tradesAt, tradesOf, userAt, userCount, usersOf, versionOf, pricesAt}
-use Rattle.format.specs.Questions.{partsOf, aboutBytes, aboutFields, aboutForm, bookNumber, marked, sized, tradeZerosValid, userZerosValid, versioned}
+use Rattle.format.specs.Questions.{partsOf, aboutBytes, aboutFields, aboutForm, bookNumber, marked, sized, tradeZerosValid, userZerosValid, versioned, Formed}
 use Rattle.laws.proofs.Bounds.{entry-le, position-bound, within-le, prices-le}
 use Rattle.laws.proofs.Refusals.{yes-first}
 use Rattle.laws.proofs.Sound.{Sound}
@@ -128,6 +128,43 @@ written-zeros z len bytes l e [] q = tt
 written-zeros z len bytes l e (r ∷ rs) q =
     rw (append-assoc (bytes r) (bytesOfRecords bytes rs) q, take-at (bytes r) (bytesOfRecords bytes rs ++ q) len (l r), drop-at (bytes r) (bytesOfRecords bytes rs ++ q) len (l r), e r)
     (written-zeros z len bytes l e rs q)
+
+-- ---- the form of what was written, whatever the other fields are
+
+module _ (b : Book) where
+  -- the header's bytes from the version on, from the user count on, and so on
+  from-trades : List ℕ
+  from-trades =
+      let h = b .header in
+      pack (4 ∷ 4 ∷ 4 ∷ 4 ∷ 4 ∷ 4 ∷ []) (h .date ∷ h .prices .p ∷ h .prices .q ∷ h .prices .l ∷ h .prices .x ∷ h .prices .i ∷ [])
+      ++ (bytesOfRecords userBytes (b .users) ++ bytesOfRecords tradeBytes (b .trades))
+
+  start-bytes : bytesOf b
+      ≡ toBytes 3 mark ++ (toBytes 2 (b .header .version) ++ (toBytes 1 (length (b .users)) ++ (toBytes 2 (length (b .trades)) ++ from-trades)))
+  unfolding bytesOf headerWidths headerValues pack from-trades
+  start-bytes = simp append-assoc
+
+  module _ (v : b .header .version ≡ 1) (some : 1 ≤ length (b .users)) (users : length (b .users) ≤ 64) (trades : length (b .trades) ≤ 256) where
+    pub formed-bytesOf : Formed (bytesOf b)
+    unfolding markOf versionOf userCount tradeCount mark
+    formed-bytesOf =
+        let n = length (b .users) in
+        let m = length (b .trades) in
+        let rest = toBytes 2 m ++ from-trades in
+        let e = start-bytes in
+        let k : markOf (bytesOf b) ≡ mark = rw e (field-append 3 0 mark [] (toBytes 2 (b .header .version) ++ (toBytes 1 n ++ rest)) refl (omega arith)) in
+        let w : versionOf (bytesOf b) ≡ 1 = rw e (field-append 2 3 (b .header .version) (toBytes 3 mark) (toBytes 1 n ++ rest) (length-toBytes 3 mark) (omega arith) ∙ v) in
+        let u : userCount (bytesOf b) ≡ n = rw (e, ← append-assoc) (field-append 1 5 n (toBytes 3 mark ++ toBytes 2 (b .header .version)) rest (rw (length-append, length-toBytes, length-toBytes) refl) (omega arith)) in
+        let t : tradeCount (bytesOf b) ≡ m = rw (e, ← append-assoc, ← append-assoc) (field-append 2 6 m ((toBytes 3 mark ++ toBytes 2 (b .header .version)) ++ toBytes 1 n) from-trades (rw (length-append, length-append, length-toBytes, length-toBytes, length-toBytes) refl) (omega arith)) in
+        record {
+          head = omega (arith, length-bytesOf b);
+          mark = k;
+          version = w;
+          some = omega arith;
+          users = omega arith;
+          trades = omega arith;
+          whole = length-bytesOf b ∙ omega (arith, u, t);
+        }
 
 module _ (b : Book) (s : Sound b) where
   -- ---- the header

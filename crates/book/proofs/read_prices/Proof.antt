@@ -21,7 +21,12 @@ get-u32-requires-5 c κs = search needs
 
 returns : tie.Need-returns
 unfolding pricesAt
-returns c = cc
+returns c =
+    let x = c .before in
+    let l = x .before in
+    let q = l .before in
+    let p = q .before in
+    rw (p .get-u32 .ensures, q .get-u322 .ensures, l .get-u323 .ensures, x .get-u324 .ensures, c .get-u325 .ensures)
 
 pub read-prices-spec : {M : Type 1} → statement M
 read-prices-spec =

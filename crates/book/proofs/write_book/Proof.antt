@@ -45,9 +45,13 @@ returns c =
     let n = users .write-users .ensures .1 in
     let m = trades .write-trades .ensures .1 in
     let h = start .pre in
-    trades .write-trades .ensures .0
-    ∙ rw (users .write-users .ensures .0, prices .write-prices .ensures, header .write-start .ensures)
-    (book-written b (omega arith) (omega arith) (now (start .args .out)) (h .2))
+    record {
+      bytes = trades .write-trades .ensures .0
+          ∙ rw (users .write-users .ensures .0, prices .write-prices .ensures, header .write-start .ensures)
+          (book-written b (omega arith) (omega arith) (now (start .args .out)) (h .2));
+      user-room = n;
+      trade-room = m;
+    }
 
 pub write-book-spec : {M : Type 1} → statement M
 write-book-spec =

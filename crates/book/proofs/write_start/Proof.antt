@@ -1,4 +1,5 @@
 -- `write_start` sets the first five fields one after the other. Assumes nothing.
+use mathlib.Core.Path.{_∙_}
 use borrow.Author.Needs.{needs}
 use Rattle.fields.specs.Layout.{setFields}
 use Rattle.format.specs.Book.{mark}
@@ -25,7 +26,14 @@ same-length c = search needs
 
 returns : tie.Need-returns
 unfolding setFields mark
-returns c = cc
+returns c =
+    let date = c .before .before in
+    let trades = date .before .before .before .before in
+    let users = trades .before .before .before .before in
+    let version = users .before .before .before .before in
+    let first = version .before .before .before .before in
+    date .put-u32 .ensures
+    ∙ rw (trades .put-u162 .ensures, users .put-u8 .ensures, version .put-u16 .ensures, first .put .ensures)
 
 pub write-start-spec : {M : Type 1} → statement M
 write-start-spec =

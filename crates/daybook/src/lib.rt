@@ -1,0 +1,41 @@
+// The public calls on a lent book in bytes. None asks anything of its caller: any bytes, any id and any amount get the document's number or its answer, and a refused
+// call leaves the book byte for byte the same. What each gives is one definition of specs/ of the crate that computes it.
+ghost use Rattle.questions.specs.Asked.{Opened};
+ghost use Rattle.transfer.specs.Written.{Written};
+ghost use Rattle.shown.specs.Shown.{Shown, picked};
+use book::Book;
+use questions::Opening;
+
+// The book that bytes hold, every field of it, and 0; or a book whose every field is 0 and the number of the first of the questions 1 to 7 that is answered by no.
+pub fn read(bytes: &[u8]) -> Opening
+    ensures { λ r. ⌜ Opened (now (bytes .entry)) (r .number) (r .book) ⌝ }
+{
+    questions::open(bytes)
+}
+
+// Writes a book, up to its counts, to a part of exactly its length, and answers 0; or leaves the part and answers the first question that the bytes would fail.
+pub fn write(book: Book, out: &mut [u8]) -> u32
+    ensures { λ r. ⌜ Written book (now (out .entry)) r (now (out .exit)) ⌝ }
+{
+    transfer::write(book, out)
+}
+
+// The 56 bytes of a user's record as that part of the book, and 0; or the empty part and the number of the first question that is answered by no.
+pub fn show<'a>(book: &'a [u8], id: u32, number: &mut u32) -> &'a [u8]
+    ensures { λ r. ⌜ Shown (now (book .entry)) id (now (number .exit)) (now r) ⌝ }
+{
+    shown::show(book, id, number)
+}
+
+// The same of the picked one of two books: the afternoon's where `afternoon_picked` is yes, else the morning's. Only the picked book is questioned.
+pub fn show_picked<'a>(
+    morning: &'a [u8],
+    afternoon: &'a [u8],
+    afternoon_picked: bool,
+    id: u32,
+    number: &mut u32,
+) -> &'a [u8]
+    ensures { λ r. ⌜ Shown (picked «afternoon_picked» (now (morning .entry)) (now (afternoon .entry))) id (now (number .exit)) (now r) ⌝ }
+{
+    shown::show_picked(morning, afternoon, afternoon_picked, id, number)
+}

@@ -1,0 +1,2 @@
+-- The beginning of a call on a user.
+pub mod Entered

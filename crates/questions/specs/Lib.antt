@@ -1,0 +1,2 @@
+-- What the code asks, in the forms in which it asks it.
+pub mod Asked

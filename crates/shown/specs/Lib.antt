@@ -1,0 +1,2 @@
+-- The shown record.
+pub mod Shown

@@ -1,0 +1,2 @@
+-- What follows for a book that is written.
+pub mod Writing

@@ -1,0 +1,68 @@
+-- `ask_in` asks the part that it wrote, which is the bytes of the book. Assumes nothing.
+use mathlib.Core.List.{_++_}
+use mathlib.Core.Path.{_≡_, sym, ap, _∙_}
+use native.Mathlib.Omega.{arith}
+use lib.ListN.{length, take, drop, length-take}
+use lib.Seq.{take-at}
+use borrow.Author.Needs.{needs}
+use denote.Ref.{now}
+use Rattle.book.specs.Book.{asBook}
+use Rattle.format.specs.Book.{bytesOf}
+use Rattle.questions.specs.Asked.{fieldsNumber}
+use Rattle.transfer.proofs.Writing.{formed-written, length-written}
+use Rattle.transfer.proofs.ask_in.Statement.{statement}
+use Rattle.transfer.proofs.ask_in.Tie as tie
+
+-- the part that was written and lent again is the bytes of the book
+written : (c : tie.After-ask-fields-arg) → take (c .before .before .before .before .before .before .args .len) (c .before .before .before .write-book .last .0 ++ drop (c .before .before .before .before .before .before .args .len) (now (c .before .before .before .before .before .before .args .scratch)))
+    ≡ bytesOf (asBook (c .before .before .before .before .before .before .args .b))
+written c =
+    let w = c .before .before .before in
+    let st = w .before .before .before in
+    let n : length (w .write-book .last .0) ≡ st .args .len = ap length (w .write-book .ensures .bytes) ∙ length-written (st .args .b) (st .pre .0) (w .write-book .ensures .user-room) (w .write-book .ensures .trade-room) ∙ sym (st .pre .1) in
+    take-at (w .write-book .last .0) (drop (st .args .len) (now (st .args .scratch))) (st .args .len) n ∙ w .write-book .ensures .bytes
+
+slice-relend-prefix-write-book : tie.Need-slice-relend-prefix-write-book
+slice-relend-prefix-write-book c = search needs
+
+slice-aggregate-write-book : tie.Need-slice-aggregate-write-book
+slice-aggregate-write-book c = rw length-take (omega (arith, c .before .before .pre .2))
+
+write-book-requires : tie.Need-write-book-requires
+write-book-requires c κs =
+    let p = c .before .before .pre in
+    (p .0 .users, p .0 .trades, rw length-take (omega (arith, p .1, p .2)))
+
+slice-reshare-prefix-ask-fields : tie.Need-slice-reshare-prefix-ask-fields
+slice-reshare-prefix-ask-fields c = search needs
+
+slice-aggregate-ask-fields : tie.Need-slice-aggregate-ask-fields
+slice-aggregate-ask-fields c =
+    let w = c .before .before .before in
+    let st = w .before .before .before in
+    sym (ap length (written c) ∙ length-written (st .args .b) (st .pre .0) (w .write-book .ensures .user-room) (w .write-book .ensures .trade-room) ∙ sym (st .pre .1))
+
+ask-fields-requires : tie.Need-ask-fields-requires
+ask-fields-requires c κs =
+    let w = c .before .before .before in
+    let st = w .before .before .before in
+    rw (written c) (formed-written (st .args .b) (st .pre .0) (w .write-book .ensures .user-room) (w .write-book .ensures .trade-room))
+
+same-length : tie.Need-same-length
+same-length c = search needs
+
+returns : tie.Need-returns
+returns c = c .ask-fields .ensures .asked ∙ ap fieldsNumber (written (c .before))
+
+pub ask-in-spec : {M : Type 1} → statement M
+ask-in-spec =
+    tie.close
+    (tie.spec
+    slice-relend-prefix-write-book
+    slice-aggregate-write-book
+    write-book-requires
+    slice-reshare-prefix-ask-fields
+    slice-aggregate-ask-fields
+    ask-fields-requires
+    same-length
+    returns)

@@ -1,0 +1,2 @@
+-- A book written from its fields.
+pub mod Written
