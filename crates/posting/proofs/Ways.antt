@@ -22,7 +22,7 @@ use Rattle.integers.specs.Parts.{negPart, posPart}
 use Rattle.laws.proofs.Bounds.{entry-le, position-bound}
 use Rattle.posting.specs.Posting.{Ready, postingOf}
 use Rattle.records.specs.User.{userBytes}
-use Rattle.rules.specs.Book.{User, at, find}
+use Rattle.rules.specs.Book.{at, find}
 use Rattle.rules.specs.Calls.{about, effect, entryInRange, idKnown, only}
 use Rattle.rules.specs.Changes.{posted}
 use Rattle.rules.specs.Levels.{today}

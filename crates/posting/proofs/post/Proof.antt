@@ -1,11 +1,11 @@
 -- `post` asks the range of the new entry; where it is accepted, entry and position move by the same amount and all else stays. Assumes nothing.
-use mathlib.Core.Bool.{Bool, true, false}
+use mathlib.Core.Bool.{true, false}
 use mathlib.Core.Path.{_≡_, _∙_, ap, sym}
 use Prim.Native.Nat.{ℕ}
 use native.Mathlib.Omega.{arith}
 use borrow.Author.Needs.{needs}
 use borrow.Author.Tests.{not-false, not-true}
-use lib.IntN.{ℤ, _+ℤ_, _-ℤ_}
+use lib.IntN.{ℤ, _+ℤ_}
 use lib.ListN.{getD}
 use mir.Syntax.{w64}
 use mir.Val.{ofZ, toZ}
@@ -19,7 +19,6 @@ use Rattle.rules.specs.Changes.{add, posted}
 use Rattle.rules.specs.Signed.{within}
 use Rattle.units.proofs.Amounts.{accepted-entry, add-difference}
 use Rattle.units.specs.Amounts.{net}
-use Rattle.units.specs.declared.Net.{Net}
 
 -- ---- the entry and the position of the area, and the answer to the range
 
@@ -35,7 +34,7 @@ entryOf c = at (asAmounts (start c .args .u .physical)) (start c .args .area)
 abbrev positionOf : tie.After-of → ℤ
 positionOf c = at (asAmounts (start c .args .u .position)) (start c .args .area)
 
--- an amount of the area, as the array has it
+-- the amount that is posted is the one of the call
 amount-at : (c : tie.After-of) → toZ w64 (ofZ w64 (amountOf c)) ≡ amountOf c
 amount-at c = toZ-ofZ w64 (amountOf c) (start c .fits .amount)
 
@@ -108,11 +107,11 @@ returns-2 c =
     let entry = net (o .of .result .entry) in
     let e : entry ≡ entryOf o +ℤ b .amount = entered o k .0 in
     let x : net (m .moved .result) ≡ positionOf o +ℤ b .amount =
-        m .moved .ensures ∙ add-difference held old entry (b .amount) (e ∙ ap (λ (z : ℤ). z +ℤ b .amount) (old-is o)) ∙ ap (λ (z : ℤ). z +ℤ b .amount) (sym (held-is o)) in
+    m .moved .ensures ∙ add-difference held old entry (b .amount) (e ∙ ap (λ (z : ℤ). z +ℤ b .amount) (old-is o)) ∙ ap (λ (z : ℤ). z +ℤ b .amount) (sym (held-is o)) in
     let h : asAmounts (r .before .replaced .result) ≡ add (asAmounts (b .u .physical)) (b .area) (b .amount) =
-        ap asAmounts (r .before .replaced .ensures .0) ∙ asAmounts-set (b .u .physical) (b .area) (o .of .result .entry) (b .amount) (r .before .replaced .ensures .1) (start o .pre .area) e in
+    ap asAmounts (r .before .replaced .ensures .0) ∙ asAmounts-set (b .u .physical) (b .area) (o .of .result .entry) (b .amount) (r .before .replaced .ensures .1) (start o .pre .area) e in
     let p : asAmounts (r .replaced2 .result) ≡ add (asAmounts (b .u .position)) (b .area) (b .amount) =
-        ap asAmounts (r .replaced2 .ensures .0) ∙ asAmounts-set (b .u .position) (b .area) (m .moved .result) (b .amount) (r .replaced2 .ensures .1) (start o .pre .area) x in
+    ap asAmounts (r .replaced2 .ensures .0) ∙ asAmounts-set (b .u .position) (b .area) (m .moved .result) (b .amount) (r .replaced2 .ensures .1) (start o .pre .area) x in
     record { test = sym k ∙ tested o; user = λ t. rw (h, p) }
 
 pub post-spec : {M : Type 1} → statement M
