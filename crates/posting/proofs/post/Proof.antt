@@ -1,6 +1,6 @@
 -- `post` asks the range of the new entry; where it is accepted, entry and position move by the same amount and all else stays. Assumes nothing.
 use mathlib.Core.Bool.{true, false}
-use mathlib.Core.Path.{_≡_, _∙_, ap, sym}
+use mathlib.Core.Path.{_≡_, _∙_, ap, ap₂, sym}
 use Prim.Native.Nat.{ℕ}
 use native.Mathlib.Omega.{arith}
 use borrow.Author.Needs.{needs}
@@ -14,7 +14,7 @@ use Rattle.posting.proofs.post.Statement.{statement}
 use Rattle.posting.proofs.post.Tie as tie
 use Rattle.records.proofs.Amounts.{asAmounts-set, at-asAmounts}
 use Rattle.records.specs.User.{asAmounts, asUser}
-use Rattle.rules.specs.Book.{at}
+use Rattle.rules.specs.Book.{PerArea, User, at}
 use Rattle.rules.specs.Changes.{add, posted}
 use Rattle.rules.specs.Signed.{within}
 use Rattle.units.proofs.Amounts.{accepted-entry, add-difference}
@@ -112,7 +112,11 @@ returns-2 c =
     ap asAmounts (r .before .replaced .ensures .0) ∙ asAmounts-set (b .u .physical) (b .area) (o .of .result .entry) (b .amount) (r .before .replaced .ensures .1) (start o .pre .area) e in
     let p : asAmounts (r .replaced2 .result) ≡ add (asAmounts (b .u .position)) (b .area) (b .amount) =
     ap asAmounts (r .replaced2 .ensures .0) ∙ asAmounts-set (b .u .position) (b .area) (m .moved .result) (b .amount) (r .replaced2 .ensures .1) (start o .pre .area) x in
-    record { test = sym k ∙ tested o; user = λ t. rw (h, p) }
+    let u : User = asUser (b .u) in
+    record {
+      test = sym k ∙ tested o;
+      user = λ t. ap₂ (λ (x y : PerArea). record { party = u .party; physical = x; position = y; blocked = u .blocked }) h p;
+    }
 
 pub post-spec : {M : Type 1} → statement M
 post-spec =
