@@ -1,0 +1,2 @@
+-- The ways out of the posting.
+pub mod Ways

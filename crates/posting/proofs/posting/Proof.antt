@@ -1,0 +1,171 @@
+-- `posting` leaves by one of the call's ways out: refused by the entry, no such area, out of range, or the found record written anew in its place. Assumes nothing.
+use mathlib.Core.List.{List}
+use mathlib.Core.Path.{_≡_, _∙_, subst⁻¹, sym}
+use Prim.Native.Nat.{ℕ, _*_, _+_, _-_, _<_, _≤_}
+use native.Mathlib.Omega.{arith}
+use borrow.Author.Needs.{needs}
+use borrow.Author.Tests.{not-false, not-true}
+use borrow.Rule.Slice.PartMut.{putMid}
+use denote.Ref.{now}
+use lib.ListN.{length}
+use lib.Seq.{sets}
+use mir.Syntax.{w64}
+use mir.ValLaws.{toZ-ofZ}
+use Rattle.entry.proofs.Calls.{found-user}
+use Rattle.entry.specs.Entered.{Found}
+use Rattle.fields.proofs.Sets.{part-sets}
+use Rattle.format.proofs.Passed.{passed}
+use Rattle.format.specs.Book.{userAt, usersOf}
+use Rattle.format.specs.Steps.{Called}
+use Rattle.posting.proofs.Ways.{accepted, no-area, out-of-range, ready, refused}
+use Rattle.posting.proofs.posting.Statement.{statement}
+use Rattle.posting.proofs.posting.Tie as tie
+use Rattle.posting.specs.Posting.{PostedTo, postingOf}
+use Rattle.records.proofs.Users.{length-userBytes}
+use Rattle.records.specs.User.{asUser, userBytes}
+use Rattle.rules.specs.Book.{find}
+use Rattle.rules.specs.Calls.{only}
+use Rattle.rules.specs.Levels.{today}
+
+-- ---- the user that the entry found
+
+abbrev start : tie.After-enter → tie.Start
+start c = c .before .before .before
+
+abbrev bytes : tie.After-enter → List ℕ
+bytes c = now (start c .args .book)
+
+found : (c : tie.Else1) → Found (bytes (c .before)) (start (c .before) .args .id) (c .before .enter .result .place) (c .before .enter .result .book)
+found c = c .before .enter .ensures .found (c .if1 .left)
+
+-- the found record lies in the book
+inside : (c : tie.Else1) → (32 + 56 * c .before .enter .result .place + 56 ≤ length (bytes (c .before))) × (c .before .enter .result .place < 64)
+inside c =
+    let f = found c in
+    let w = passed (bytes (c .before)) (f .passes) .form in
+    (omega (arith, f .known, w .whole), omega (arith, f .known, w .users))
+
+abbrev entered : tie.After-post → tie.Else1
+entered c = c .before .before .before .before .before
+
+-- what the posting on its record tells
+told : (c : tie.After-post) → let e = entered c .before in
+    PostedTo (start e .args .area) (start e .args .amount) (find (usersOf (bytes e)) (start e .args .id)) (c .post .result .accepted) (asUser (c .post .result .user))
+told c =
+    let e = entered c .before in
+    let f = found (entered c) in
+    rw (toZ-ofZ w64 (start e .args .amount) (start e .fits .amount), found-user (bytes e) (start e .args .id) (e .enter .result .place) (e .enter .result .book) f _) at (c .post .ensures)
+
+-- ---- the needs
+
+enter-requires : tie.Need-enter-requires
+enter-requires c κs = search needs
+
+same-length : tie.Need-same-length
+same-length c = search needs
+
+returns : tie.Need-returns
+returns c =
+    let e = c .before in
+    let a = start e .args in
+    refused (bytes e) (a .id) (a .area) (a .amount) (e .enter .result .number) (e .enter .ensures .refused (c .if1 .taken))
+
+same-length-2 : tie.Need-same-length-2
+same-length-2 c = search needs
+
+returns-2 : tie.Need-returns-2
+returns-2 c =
+    let e = c .before .before in
+    let a = start e .args in
+    no-area (bytes e) (a .id) (a .area) (a .amount) (found (c .before)) (c .if2 .taken)
+
+mul-user : tie.Need-mul-user
+mul-user c = omega (arith, inside (c .before .before .before))
+
+array-copy-out-user : tie.Need-array-copy-out-user
+array-copy-out-user c = inside (c .before .before .before) .1
+
+post-requires : tie.Need-post-requires
+post-requires c κs =
+    let i = c .before .before .before in
+    let e = i .before .before in
+    let a = start e .args in
+    let f = found (i .before) in
+    rw (found-user (bytes e) (a .id) (e .enter .result .place) (e .enter .result .book) f _) (ready (bytes e) (a .id) (a .area) (a .amount) f (omega (arith, i .if2 .left)))
+
+same-length-3 : tie.Need-same-length-3
+same-length-3 c = search needs
+
+returns-3 : tie.Need-returns-3
+returns-3 c =
+    let p = c .before .before in
+    let e = entered p .before in
+    let a = start e .args in
+    out-of-range (bytes e) (a .id) (a .area) (a .amount) (found (entered p)) (omega (arith, p .before .before .before .before .if2 .left))
+    (sym (told p .test) ∙ not-true (p .post .result .accepted) (c .if3 .taken))
+
+mul-a : tie.Need-mul-a
+mul-a c = omega (arith, inside (entered (c .before .before .before)))
+
+add-a : tie.Need-add-a
+add-a c = omega (arith, inside (entered (c .before .before .before)))
+
+add-write-user : tie.Need-add-write-user
+add-write-user c = omega (arith, inside (entered (c .before .before .before)))
+
+sub-write-user : tie.Need-sub-write-user
+sub-write-user c = search needs
+
+part-write-user-start : tie.Need-part-write-user-start
+part-write-user-start c = search needs
+
+part-write-user-end : tie.Need-part-write-user-end
+part-write-user-end c = omega (arith, inside (entered (c .before .before .before)))
+
+write-user-requires : tie.Need-write-user-requires
+write-user-requires c κs = search needs
+
+same-length-4 : tie.Need-same-length-4
+same-length-4 c = search needs
+
+returns-4 : tie.Need-returns-4
+unfolding userAt
+returns-4 c =
+    let w = c .before .before in
+    let n = w .before .before .before in
+    let p = n .before .before in
+    let e = entered p .before in
+    let a = start e .args in
+    let s = bytes e in
+    let at = 32 + 56 * e .enter .result .place in
+    let ok = not-false (p .post .result .accepted) (n .if3 .left) in
+    let v = asUser (p .post .result .user) in
+    let k : at + 56 - at ≡ 56 = omega arith in
+    let stored : putMid at (at + 56 - at) s (w .write-user .last .0) ≡ sets s at (userBytes v) =
+    rw (k, w .write-user .ensures) (part-sets s (userBytes v) at 56 (length-userBytes v) (inside (entered p) .0)) in
+    subst⁻¹ (Called today s (postingOf (a .id) (a .area) (a .amount)) (only 0)) (stored ∙ rw (told p .user ok))
+    (accepted s (a .id) (a .area) (a .amount) (found (entered p)) (λ j. e .before .before .slice-known .given j .fits) (omega (arith, p .before .before .before .before .if2 .left)) (sym (told p .test) ∙ ok))
+
+pub posting-spec : {M : Type 1} → statement M
+posting-spec =
+    tie.close
+    (tie.spec
+    enter-requires
+    same-length
+    returns
+    same-length-2
+    returns-2
+    mul-user
+    array-copy-out-user
+    post-requires
+    same-length-3
+    returns-3
+    mul-a
+    add-a
+    add-write-user
+    sub-write-user
+    part-write-user-start
+    part-write-user-end
+    write-user-requires
+    same-length-4
+    returns-4)

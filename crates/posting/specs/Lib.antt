@@ -1,0 +1,2 @@
+-- The posting.
+pub mod Posting
