@@ -1,4 +1,12 @@
+-- `fill_cuts`: the two tiers' cuts, what is left for tier two by tier one's worth, and their sums, as the definition has them. Assumes nothing.
+use mathlib.Core.Path.{_≡_, ap, ap₂, _∙_}
+use mathlib.Core.List.{List}
+use Prim.Native.Nat.{ℕ, _-_}
 use borrow.Author.Needs.{needs}
+use Rattle.rules.specs.Shares.{tierCuts}
+use Rattle.rules.specs.Reduction.{together}
+use Rattle.worths.specs.Lots.{lotsOf}
+use Rattle.cuts.proofs.Together.{cuts-small}
 use Rattle.cuts.proofs.fill_cuts.Statement.{statement}
 use Rattle.cuts.proofs.fill_cuts.Tie as tie
 
@@ -15,7 +23,12 @@ tier-cuts-requires-2 : tie.Need-tier-cuts-requires-2
 tier-cuts-requires-2 c κs = search needs
 
 add-cuts-requires : tie.Need-add-cuts-requires
-add-cuts-requires c κs = ?
+add-cuts-requires c κs =
+    let t2 = c .before .before .before .before .before .before .before in
+    let t1 = t2 .before .before .before .before .before .before .before in
+    let l = t1 .before .before .before in
+    let s = l .before .before .before .before .before .before .before .before .before in
+    cuts-small (s .args .asked .0) (l .left-of .result .0) (s .pre .tier-one) (s .pre .tier-two) (t1 .tier-cuts .ensures) (t2 .tier-cuts2 .ensures) (s .pre .cuts-length)
 
 same-length : tie.Need-same-length
 same-length c = search needs
@@ -30,7 +43,16 @@ same-length-4 : tie.Need-same-length-4
 same-length-4 c = search needs
 
 returns : tie.Need-returns
-returns c = ?
+returns c =
+    let u = c .before .before in
+    let t2 = u .before .before .before .before .before .before .before .before in
+    let t1 = t2 .before .before .before .before .before .before .before in
+    let l = t1 .before .before .before in
+    let s = l .before .before .before .before .before .before .before .before .before in
+    let a = s .args in
+    let left = l .left-of .ensures ∙ ap (λ (n : ℕ). a .asked .0 - n) (l .before .worth-of .ensures .0) in
+    u .add-cuts .ensures
+    ∙ ap₂ together (t1 .tier-cuts .ensures) (t2 .tier-cuts2 .ensures ∙ ap (λ (n : ℕ). tierCuts n (lotsOf (a .two .now) (a .tariffs .now))) left)
 
 pub fill-cuts-spec : {M : Type 1} → statement M
 fill-cuts-spec =
