@@ -1,1 +1,2 @@
--- Empty.
+-- What the cuts of a reduction ask for and do.
+pub mod Settlement
