@@ -1,1 +1,2 @@
--- Empty.
+-- What a reduction asks of a book, and what it gives.
+pub mod Reduction

@@ -97,6 +97,7 @@ module _ (f : Prices) (rs : List Trade) (cs : List ℕ) (room : length rs ≡ 25
         let e = rewritten-end (omega arith) (p .trades) in
         let n : i ≡ length cs = e .0 ∙ l in
         record {
+          room = p .trades .long;
           trades = rw n at (e .1);
           tally = sym (tally-none f cs (drop i ts) i (asTally y) h) ∙ p .tally;
         }

@@ -29,6 +29,7 @@ pub record Cuttable (rs : List Trade) (cs : List ℕ) : Type 0 where
 
 -- the trades with their cuts, and the tally of the cuts
 pub record CutOf (f : Prices) (rs : List Trade) (cs : List ℕ) (r : Cutting) : Type 0 where
+  pub room : length (r .trades) ≡ 256
   pub trades : map asTrade (take (length cs) (r .trades)) ≡ cutAll cs (map asTrade (take (length cs) rs))
   pub tally : asTally (r .tally) ≡ tallyAll f cs (map asTrade (take (length cs) rs)) nothing
 

@@ -104,7 +104,7 @@ fn with_positions(u: User, dealings: Dealings) -> User
 // The first n users, with their positions computed anew from the first m trades.
 pub fn reposition(users: [User; 64], n: usize, trades: [Trade; 256], m: usize) -> [User; 64]
     requires { ⌜ Placeable users n trades m ⌝ }
-    ensures { λ r. ⌜ map asUser (take n r) ≡ map (repositioned (map asTrade (take m trades))) (map asUser (take n users)) ⌝ }
+    ensures { λ r. ⌜ (map asUser (take n r) ≡ map (repositioned (map asTrade (take m trades))) (map asUser (take n users))) × (length r ≡ 64) ⌝ }
 {
     let mut out = users;
     let mut i = 0;

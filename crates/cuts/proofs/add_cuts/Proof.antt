@@ -17,7 +17,7 @@ abbrev μ-loop : tie.MeasureT-loop
 μ-loop first second cuts₀ i₀ cuts i = length first - i
 
 loop-holds : tie.Need-loop-holds Inv-loop μ-loop
-loop-holds c = 
+loop-holds c =
     let first = c .args .first .now in
     let second = c .args .second .now in
     (omega arith, stored-none (together first second) (c .args .cuts .now) (c .pre .cuts-length ∙ sym (together-length first second (c .pre .second-length))))
@@ -35,7 +35,7 @@ shared-slice-read-cuts-2 : tie.Need-shared-slice-read-cuts-2 Inv-loop μ-loop
 shared-slice-read-cuts-2 c = omega arith
 
 add-cuts : tie.Need-add-cuts Inv-loop μ-loop
-add-cuts c = 
+add-cuts c =
     let l = c .before .before .before in
     let s = l .before in
     let first = s .args .first .now in
@@ -47,7 +47,7 @@ mul-cuts-3 : tie.Need-mul-cuts-3 Inv-loop μ-loop
 mul-cuts-3 c = search needs
 
 slice-write-cuts : tie.Need-slice-write-cuts Inv-loop μ-loop
-slice-write-cuts c = 
+slice-write-cuts c =
     let l = c .before .before .before in
     let s = l .before in
     let first = s .args .first .now in
@@ -62,7 +62,7 @@ loop-less : tie.Need-loop-less Inv-loop μ-loop
 loop-less c = omega arith
 
 loop-again : tie.Need-loop-again Inv-loop μ-loop
-loop-again c = 
+loop-again c =
     let l = c .before .before .before in
     let s = l .before in
     let first = s .args .first .now in
@@ -71,7 +71,7 @@ loop-again c =
     (omega arith, stored-more (together first second) (l .loop .cuts) (l .loop .i) _ (omega arith) (sym (together-at first second (s .pre .second-length) (l .loop .i))) (l .loop .inv .1))
 
 same-length : tie.Need-same-length Inv-loop μ-loop
-same-length c = 
+same-length c =
     let l = c .before in
     let s = l .before in
     let first = s .args .first .now in
@@ -80,7 +80,7 @@ same-length c =
     l .loop .inv .1 .long ∙ e ∙ sym (s .pre .cuts-length)
 
 returns : tie.Need-returns Inv-loop μ-loop
-returns c = 
+returns c =
     let l = c .before in
     let s = l .before in
     let first = s .args .first .now in

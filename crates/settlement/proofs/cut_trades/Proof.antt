@@ -21,7 +21,7 @@ none-requires : tie.Need-none-requires Inv-loop μ-loop
 none-requires c κs = search needs
 
 loop-holds : tie.Need-loop-holds Inv-loop μ-loop
-loop-holds c = 
+loop-holds c =
     let s = c .before .before in
     let a = s .args in
     through-start (asPrices (a .prices)) (a .t1) (a .cuts .now) (omega (arith, s .good .0)) (s .pre .1 .few) (c .none .ensures .0) (c .none .ensures .1 .0) (c .none .ensures .1 .1)
@@ -30,7 +30,7 @@ mul-t : tie.Need-mul-t Inv-loop μ-loop
 mul-t c = search needs
 
 array-copy-out-t : tie.Need-array-copy-out-t Inv-loop μ-loop
-array-copy-out-t c = 
+array-copy-out-t c =
     let l = c .before in
     let s = l .before .before .before in
     let a = s .args in
@@ -44,7 +44,7 @@ shared-slice-read-t18 : tie.Need-shared-slice-read-t18 Inv-loop μ-loop
 shared-slice-read-t18 c = omega arith
 
 lowered-requires : tie.Need-lowered-requires Inv-loop μ-loop
-lowered-requires c κs = 
+lowered-requires c κs =
     let l = c .before .before .before in
     let s = l .before .before .before in
     let a = s .args in
@@ -55,7 +55,7 @@ mul-out : tie.Need-mul-out Inv-loop μ-loop
 mul-out c = search needs
 
 array-set-from-out : tie.Need-array-set-from-out Inv-loop μ-loop
-array-set-from-out c = 
+array-set-from-out c =
     let l = c .before .before .before .before in
     let s = l .before .before .before in
     let a = s .args in
@@ -63,7 +63,7 @@ array-set-from-out c =
     omega (arith, s .pre .1 .few, l .loop .inv .trades .long)
 
 price-of-requires : tie.Need-price-of-requires Inv-loop μ-loop
-price-of-requires c κs = 
+price-of-requires c κs =
     let l = c .before .before .before .before in
     let s = l .before .before .before in
     let a = s .args in
@@ -71,7 +71,7 @@ price-of-requires c κs =
     s .pre .0
 
 with-requires : tie.Need-with-requires Inv-loop μ-loop
-with-requires c κs = 
+with-requires c κs =
     let l = c .before .before .before .before .before in
     let s = l .before .before .before in
     let a = s .args in
@@ -86,7 +86,7 @@ loop-less c = omega arith
 
 loop-again : tie.Need-loop-again Inv-loop μ-loop
 unfolding asTrade
-loop-again c = 
+loop-again c =
     let l = c .before .before .before .before .before .before in
     let s = l .before .before .before in
     let a = s .args in
@@ -95,7 +95,7 @@ loop-again c =
     (c .with .ensures .0 f _ (c .before .price-of .ensures .0)) (c .with .ensures .1 .0) (c .with .ensures .1 .1)
 
 returns : tie.Need-returns Inv-loop μ-loop
-returns c = 
+returns c =
     let l = c .before in
     let s = l .before .before .before in
     let a = s .args in

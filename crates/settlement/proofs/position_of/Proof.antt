@@ -14,7 +14,7 @@ raised-requires : tie.Need-raised-requires
 raised-requires c κs = search needs
 
 lowered-requires : tie.Need-lowered-requires
-lowered-requires c κs = 
+lowered-requires c κs =
     let a = c .before .args in
     let x = net (a .entry) in
     let b = a .bought .0 in
@@ -25,7 +25,7 @@ lowered-requires c κs =
     )
 
 returns : tie.Need-returns
-returns c = 
+returns c =
     c .lowered .ensures ∙ ap (λ (z : ℤ). z -ℤ pos (c .before .before .args .sold .0)) (c .before .raised .ensures)
 
 pub position-of-spec : {M : Type 1} → statement M

@@ -25,7 +25,7 @@ mul-u : tie.Need-mul-u Inv-loop μ-loop
 mul-u c = search needs
 
 array-copy-out-u : tie.Need-array-copy-out-u Inv-loop μ-loop
-array-copy-out-u c = 
+array-copy-out-u c =
     let l = c .before in
     let s = l .before in
     let a = s .args in
@@ -33,7 +33,7 @@ array-copy-out-u c =
     omega (arith, s .pre .users-few, s .good .0)
 
 dealings-of-requires : tie.Need-dealings-of-requires Inv-loop μ-loop
-dealings-of-requires c κs = 
+dealings-of-requires c κs =
     let l = c .before .before in
     let s = l .before in
     let a = s .args in
@@ -41,7 +41,7 @@ dealings-of-requires c κs =
     s .pre .trades-few
 
 with-positions-requires : tie.Need-with-positions-requires Inv-loop μ-loop
-with-positions-requires c κs = 
+with-positions-requires c κs =
     let l = c .before .before .before in
     let s = l .before in
     let a = s .args in
@@ -52,7 +52,7 @@ mul-out : tie.Need-mul-out Inv-loop μ-loop
 mul-out c = search needs
 
 array-set-from-out : tie.Need-array-set-from-out Inv-loop μ-loop
-array-set-from-out c = 
+array-set-from-out c =
     let l = c .before .before .before .before in
     let s = l .before in
     let a = s .args in
@@ -66,7 +66,7 @@ loop-less : tie.Need-loop-less Inv-loop μ-loop
 loop-less c = omega arith
 
 loop-again : tie.Need-loop-again Inv-loop μ-loop
-loop-again c = 
+loop-again c =
     let l = c .before .before .before .before in
     let s = l .before in
     let a = s .args in
@@ -74,12 +74,12 @@ loop-again c =
     anew-more (a .t1) (a .n) (omega (arith, s .good .0)) (s .pre .users-few) ts (l .loop .inv) _ _ (omega arith) (c .with-positions .ensures ts (c .before .dealings-of .ensures))
 
 returns : tie.Need-returns Inv-loop μ-loop
-returns c = 
+returns c =
     let l = c .before in
     let s = l .before in
     let a = s .args in
     let ts = map asTrade (take (a .m) (a .trades)) in
-    anew-end (a .t1) (a .n) (omega (arith, s .good .0)) (s .pre .users-few) ts (l .loop .inv) (omega arith)
+    (anew-end (a .t1) (a .n) (omega (arith, s .good .0)) (s .pre .users-few) ts (l .loop .inv) (omega arith), l .loop .inv .long)
 
 pub reposition-spec : {M : Type 1} → statement M
 reposition-spec =

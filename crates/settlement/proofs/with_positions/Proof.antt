@@ -18,19 +18,19 @@ array-copy-out-avb c = search needs
 
 position-of-requires : tie.Need-position-of-requires
 unfolding at asAmounts
-position-of-requires c κs = 
+position-of-requires c κs =
     let s = c .before .before .before .before .before .before in
     (s .pre .entry 0 (omega arith), s .pre .bought .pvb, s .pre .sold .pvb)
 
 position-of-requires-2 : tie.Need-position-of-requires-2
 unfolding at asAmounts
-position-of-requires-2 c κs = 
+position-of-requires-2 c κs =
     let s = c .before .before .before .before .before .before .before in
     (s .pre .entry 1 (omega arith), s .pre .bought .tvb, s .pre .sold .tvb)
 
 position-of-requires-3 : tie.Need-position-of-requires-3
 unfolding at asAmounts
-position-of-requires-3 c κs = 
+position-of-requires-3 c κs =
     let s = c .before .before .before .before .before .before .before .before in
     (s .pre .entry 2 (omega arith), s .pre .bought .avb, s .pre .sold .avb)
 

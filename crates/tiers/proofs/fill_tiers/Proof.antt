@@ -16,7 +16,7 @@ abbrev μ-loop : tie.MeasureT-loop
 μ-loop seller prices tariffs₀ one₀ two₀ trades i₀ tariffs one two i = length tariffs₀ - i
 
 loop-holds : tie.Need-loop-holds Inv-loop μ-loop
-loop-holds c = 
+loop-holds c =
     let s = c .before .before .before in
     let a = s .args in
     filling-start (asPrices (a .prices)) (a .seller) (length (a .tariffs .now)) (a .t1) (omega (arith, s .good .0, s .pre .1 .few)) refl (s .pre .1)
@@ -25,7 +25,7 @@ mul-t : tie.Need-mul-t Inv-loop μ-loop
 mul-t c = search needs
 
 array-copy-out-t : tie.Need-array-copy-out-t Inv-loop μ-loop
-array-copy-out-t c = 
+array-copy-out-t c =
     let l = c .before in
     let s = l .before .before .before .before in
     let a = s .args in
@@ -42,7 +42,7 @@ mul-tariffs : tie.Need-mul-tariffs Inv-loop μ-loop
 mul-tariffs c = search needs
 
 slice-write-tariffs : tie.Need-slice-write-tariffs Inv-loop μ-loop
-slice-write-tariffs c = 
+slice-write-tariffs c =
     let l = c .before .before .before .before in
     let s = l .before .before .before .before in
     let a = s .args in
@@ -56,7 +56,7 @@ mul-one : tie.Need-mul-one Inv-loop μ-loop
 mul-one c = search needs
 
 slice-write-one : tie.Need-slice-write-one Inv-loop μ-loop
-slice-write-one c = 
+slice-write-one c =
     let l = c .before .before .before .before .before in
     let s = l .before .before .before .before in
     let a = s .args in
@@ -70,7 +70,7 @@ mul-two : tie.Need-mul-two Inv-loop μ-loop
 mul-two c = search needs
 
 slice-write-two : tie.Need-slice-write-two Inv-loop μ-loop
-slice-write-two c = 
+slice-write-two c =
     let l = c .before .before .before .before .before .before in
     let s = l .before .before .before .before in
     let a = s .args in
@@ -81,7 +81,7 @@ slice-write-two c =
     omega arith
 
 add-i : tie.Need-add-i Inv-loop μ-loop
-add-i c = 
+add-i c =
     let l = c .before .before .before .before .before .before in
     let s = l .before .before .before .before in
     let a = s .args in
@@ -92,7 +92,7 @@ add-i c =
     omega arith
 
 loop-less : tie.Need-loop-less Inv-loop μ-loop
-loop-less c = 
+loop-less c =
     let l = c .before .before .before .before .before .before in
     let s = l .before .before .before .before in
     let a = s .args in
@@ -103,7 +103,7 @@ loop-less c =
     omega arith
 
 loop-again : tie.Need-loop-again Inv-loop μ-loop
-loop-again c = 
+loop-again c =
     let l = c .before .before .before .before .before .before in
     let s = l .before .before .before .before in
     let a = s .args in
@@ -114,7 +114,7 @@ loop-again c =
     filling-more f (a .seller) n (a .t1) fits (l .loop .inv) _ (omega arith) (c .before .before .before .lot-of .ensures)
 
 same-length : tie.Need-same-length Inv-loop μ-loop
-same-length c = 
+same-length c =
     let l = c .before in
     let s = l .before .before .before .before in
     let a = s .args in
@@ -125,7 +125,7 @@ same-length c =
     e .0
 
 same-length-2 : tie.Need-same-length-2 Inv-loop μ-loop
-same-length-2 c = 
+same-length-2 c =
     let l = c .before in
     let s = l .before .before .before .before in
     let a = s .args in
@@ -136,7 +136,7 @@ same-length-2 c =
     e .1 ∙ sym (s .pre .1 .one-length)
 
 same-length-3 : tie.Need-same-length-3 Inv-loop μ-loop
-same-length-3 c = 
+same-length-3 c =
     let l = c .before in
     let s = l .before .before .before .before in
     let a = s .args in
@@ -147,7 +147,7 @@ same-length-3 c =
     e .2 ∙ sym (s .pre .1 .two-length)
 
 returns : tie.Need-returns Inv-loop μ-loop
-returns c = 
+returns c =
     let l = c .before in
     let s = l .before .before .before .before in
     let a = s .args in
