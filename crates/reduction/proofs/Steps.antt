@@ -26,7 +26,7 @@ use Rattle.book.specs.Book.{asBook}
 use Rattle.worths.specs.Lots.{lotsOf}
 use Rattle.cuts.specs.Cuts.{Lent}
 use Rattle.settlement.specs.Settlement.{Cuttable}
-use Rattle.settlement.proofs.Positions.{all-at}
+use Rattle.arrays.proofs.Fronts.{front-length, front-at, all-at}
 use Rattle.tiers.specs.declared.Seller.{Seller}
 use Rattle.tiers.specs.Tiers as tiers
 use Rattle.tiers.proofs.Tiers.{tier-one-is, tier-two-is, tiers-in-range}
@@ -44,12 +44,12 @@ module _ (b : Book) (h : Accepted b) where
   -- it has as many trades as its count says
   pub trades-length : length (asBook b .trades) ≡ b .«trade_count»
   unfolding asBook
-  trades-length = length-map (take (b .«trade_count») (b .trades)) asTrade ∙ length-take-le (b .«trade_count») (b .trades) (omega (arith, h .trades-few, h .trade-room))
+  trades-length = front-length asTrade (b .«trade_count») (b .trades) (omega (arith, h .trades-few, h .trade-room))
 
   -- the trade at a place
   trade-at : (i : ℕ) (d : Trade) → i < b .«trade_count» → getD (asBook b .trades) i (asTrade d) ≡ asTrade (getD (b .trades) i d)
   unfolding asBook
-  trade-at i d l = List·getD-map asTrade (take (b .«trade_count») (b .trades)) i d ∙ ap asTrade (getD-take (b .«trade_count») (b .trades) i d l)
+  trade-at i d l = front-at asTrade (b .«trade_count») (b .trades) i d l
 
   -- ---- the cuts
 
@@ -128,9 +128,9 @@ module _ (b : Book) (h : Accepted b) where
         none = record { seller = 0; buyer = 0; area = 0; kind = 0; day = 0; notified = 0; standing = 0 }
 
 -- a front of n elements is within the whole
-pub front-fits : (part rest : List ℕ) {n : ℕ} → length part ≡ n → n ≤ length (part ++ rest)
-front-fits part rest e = simp length-append (omega arith)
+pub part-fits : (part rest : List ℕ) {n : ℕ} → length part ≡ n → n ≤ length (part ++ rest)
+part-fits part rest e = simp length-append (omega arith)
 
 -- and has n elements
-pub front-length : (part rest : List ℕ) {n : ℕ} → length part ≡ n → length (take n (part ++ rest)) ≡ n
-front-length part rest {n} e = ap length (take-at part rest n e) ∙ e
+pub part-length : (part rest : List ℕ) {n : ℕ} → length part ≡ n → length (take n (part ++ rest)) ≡ n
+part-length part rest {n} e = ap length (take-at part rest n e) ∙ e

@@ -23,6 +23,7 @@ use Rattle.records.specs.User.{asUser}
 use Rattle.records.specs.Trade.{asTrade}
 use Rattle.book.specs.declared.Book.{Book}
 use Rattle.book.specs.Book.{asBook}
+use Rattle.arrays.proofs.Fronts.{front-length, front-at, getD-inside}
 use Rattle.settlement.specs.declared.Cutting.{Cutting}
 use Rattle.settlement.specs.Settlement.{CutOf, Placeable}
 use Rattle.reduction.specs.Reduction.{Accepted, CutFor, Reducible, ReducedBy, userAt}
@@ -63,22 +64,15 @@ module _ (b : Book) (h : Accepted b) (u : model.User) (asked : ℕ) where
       let ns = cutAll cs (asBook b .trades) in
       rw (e, t) (sym (retraded-anew (asBook b) ns (h .sound) (framed (cuts-lowered cs (asBook b .trades) (cuts-bilateral (asBook b) u asked)))))
 
--- what stands at a place does not depend on what stands past the end
-getD-inside : {A : Type 0} (xs : List A) (i : ℕ) (d e : A) → i < length xs → getD xs i d ≡ getD xs i e
-getD-inside [] i d e l = absurd (not-suc-le-zero l)
-getD-inside (x ∷ xs) zero d e l = refl
-getD-inside (x ∷ xs) (suc i) d e l = getD-inside xs i d e (le-of-suc-le-suc l)
-
 module _ (b : Book) (place : ℕ) (h : Reducible b place) where
   -- the struct at the place is the user there
   user-is : (d : User) → asUser (getD (b .users) place d) ≡ userAt b place
   unfolding asBook
   user-is d =
-      let us = take (b .«user_count») (b .users) in
-      let n : length (map asUser us) ≡ b .«user_count» = length-map us asUser ∙ length-take-le (b .«user_count») (b .users) (omega (arith, h .accepted .users-few, h .accepted .user-room)) in
-      ap asUser (sym (getD-take (b .«user_count») (b .users) place d (h .inside)))
-      ∙ sym (List·getD-map asUser us place d)
-      ∙ getD-inside (map asUser us) place (asUser d) model.nobody (omega (arith, h .inside))
+      let n = b .«user_count» in
+      sym (front-at asUser n (b .users) place d (h .inside))
+      ∙ getD-inside (map asUser (take n (b .users))) place (asUser d) model.nobody
+      (omega (arith, h .inside, front-length asUser n (b .users) (omega (arith, h .accepted .users-few, h .accepted .user-room))))
 
   -- a reduction by its steps
   pub reduced-by-steps : (d : User) (asked : ℕ) {r : Cutting} → CutFor b (asUser (getD (b .users) place d)) asked r → {us : List User}

@@ -26,14 +26,8 @@ use Rattle.dealings.specs.declared.Dealings.{Dealings}
 use Rattle.dealings.specs.Energies.{amountOf, Within, Totals}
 use Rattle.dealings.specs.Dealt.{Dealt}
 use Rattle.settlement.specs.Settlement.{Entry, Bounded}
-use Rattle.settlement.proofs.Rewriting.{Rewritten, rewritten-more, rewritten-end}
-
--- a test that all elements pass holds at each place
-pub all-at : {A : Type 0} (p : A → Bool) (xs : List A) → T (all p xs) → (i : ℕ) (d : A) → i < length xs → T (p (getD xs i d))
-unfolding all
-all-at p [] h i d k = absurd (not-suc-le-zero k)
-all-at p (x ∷ xs) h zero d k = and-l (p x) (all p xs) h
-all-at p (x ∷ xs) h (suc i) d k = all-at p xs (and-r (p x) (all p xs) h) i d (le-of-suc-le-suc k)
+use Rattle.arrays.proofs.Fronts.{front-length, front-at, all-at}
+use Rattle.arrays.proofs.Rewriting.{Rewritten, rewritten-more, rewritten-end}
 
 -- energies that are the totals of one side for d are at most what stands
 totals-within : (side : Terms → ℕ) (id most low : ℕ) (ts : List model.Trade) {v : Amounts} → sum (λ t. t .standing) ts ≤ most
@@ -83,15 +77,12 @@ placed ts u {d} p t a e hp ht ha =
 -- ---- the loop over the users
 
 module _ (us : List User) (n : ℕ) (room : length us ≡ 64) (few : n ≤ 64) where
-  user-at : (i : ℕ) (d : User) → i < n → getD (map asUser (take n us)) i (asUser d) ≡ asUser (getD us i d)
-  user-at i d h = List·getD-map asUser (take n us) i d ∙ ap asUser (getD-take n us i d h)
-
   users-length : length (map asUser (take n us)) ≡ n
-  users-length = length-map (take n us) asUser ∙ length-take-le n us (omega arith)
+  users-length = front-length asUser n us (omega arith)
 
   -- a valid user at each place
   pub valid-at : T (all userValid (map asUser (take n us))) → (i : ℕ) (d : User) → i < n → T (userValid (asUser (getD us i d)))
-  valid-at v i d h = rw (user-at i d h) at (all-at userValid (map asUser (take n us)) v i (asUser d) (omega (arith, users-length)))
+  valid-at v i d h = rw (front-at asUser n us i d h) at (all-at userValid (map asUser (take n us)) v i (asUser d) (omega (arith, users-length)))
 
   module _ (ts : List model.Trade) {out : List User} {i : ℕ} (p : Rewritten asUser 64 (map (repositioned ts) (map asUser (take n us))) out i) where
     anew-length : length (map (repositioned ts) (map asUser (take n us))) ≡ n
@@ -102,7 +93,7 @@ module _ (us : List User) (n : ℕ) (room : length us ≡ 64) (few : n ≤ 64) w
         → Rewritten asUser 64 (map (repositioned ts) (map asUser (take n us))) (set out i r) (i + 1)
     anew-more d r h e =
         rewritten-more (repositioned ts (asUser d)) r (omega arith) (omega (arith, anew-length))
-        (e ∙ ap (repositioned ts) (sym (user-at i d h)) ∙ sym (List·getD-map (repositioned ts) (map asUser (take n us)) i (asUser d))) p
+        (e ∙ ap (repositioned ts) (sym (front-at asUser n us i d h)) ∙ sym (List·getD-map (repositioned ts) (map asUser (take n us)) i (asUser d))) p
 
     -- after the last user
     pub anew-end : n ≤ i → map asUser (take n out) ≡ map (repositioned ts) (map asUser (take n us))

@@ -16,7 +16,8 @@ use Rattle.records.specs.Trade.{asTrade}
 use Rattle.worths.specs.declared.Tally.{Tally}
 use Rattle.worths.specs.Tallies.{asTally}
 use Rattle.settlement.specs.Settlement.{Cuttable, CutOf}
-use Rattle.settlement.proofs.Rewriting.{Rewritten, rewritten-start, rewritten-more, rewritten-end}
+use Rattle.arrays.proofs.Fronts.{front-length, front-at}
+use Rattle.arrays.proofs.Rewriting.{Rewritten, rewritten-start, rewritten-more, rewritten-end}
 
 -- ---- cuts and tally by place
 
@@ -57,10 +58,7 @@ pub record Through (f : Prices) (rs : List Trade) (cs : List ℕ) (out : List Tr
 
 module _ (f : Prices) (rs : List Trade) (cs : List ℕ) (room : length rs ≡ 256) (few : length cs ≤ 256) where
   trades-length : length (cutTrades rs cs) ≡ length cs
-  trades-length = length-map (take (length cs) rs) asTrade ∙ length-take-le (length cs) rs (omega arith)
-
-  trade-at : (i : ℕ) (d : Trade) → i < length cs → getD (cutTrades rs cs) i (asTrade d) ≡ asTrade (getD rs i d)
-  trade-at i d h = List·getD-map asTrade (take (length cs) rs) i d ∙ ap asTrade (getD-take (length cs) rs i d h)
+  trades-length = front-length asTrade (length cs) rs (omega arith)
 
   pub through-start : {y : Tally} → asTally y ≡ nothing → y .mwh .0 ≡ 0 → y .worth .0 ≡ 0 → Through f rs cs rs y 0
   through-start e m w =
@@ -78,7 +76,7 @@ module _ (f : Prices) (rs : List Trade) (cs : List ℕ) (room : length rs ≡ 25
     through-more d r next h e t m w =
         let ts = cutTrades rs cs in
         let k : i < length ts = omega (arith, trades-length) in
-        let here = trade-at i d h in
+        let here = front-at asTrade (length cs) rs i d h in
         record {
           trades =
               rewritten-more (asTrade d) r (omega arith) (omega (arith, cut-length cs ts))

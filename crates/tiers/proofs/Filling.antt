@@ -1,17 +1,16 @@
 -- The loop that fills the tariffs and both tiers, trade by trade: its start, a turn and its end. Assumes nothing.
-use mathlib.Core.Path.{_≡_, sym, ap, _∙_}
+use mathlib.Core.Path.{_≡_, refl, sym, ap, _∙_}
 use mathlib.Core.List.{List, [], _∷_, map}
 use Prim.Native.Nat.{ℕ, zero, suc, _+_, _≤_, _<_}
 use native.Mathlib.Nat.{not-suc-le-zero, le-of-suc-le-suc}
 use native.Mathlib.Omega.{arith}
-use lib.ListN.{length, take, getD, set, length-map, List·getD-map}
-use lib.Seq.{getD-take, length-take-le}
-use mathlib.Core.Path.{refl}
+use lib.ListN.{length, take, getD, set, length-map}
 use Rattle.rules.specs.Areas.{Prices}
 use Rattle.rules.specs.Book as model
 use Rattle.laws.specs.Trades.{standingIf, tariffOf}
 use Rattle.records.specs.declared.Trade.{Trade}
 use Rattle.records.specs.Trade.{asTrade}
+use Rattle.arrays.proofs.Fronts.{front-length, front-at}
 use Rattle.tier.proofs.Stores.{Stored, stored-none, stored-more, stored-all}
 use Rattle.tiers.specs.declared.Seller.{Seller}
 use Rattle.tiers.specs.declared.Lot.{Lot}
@@ -35,16 +34,13 @@ at-place g (x ∷ xs) zero d h = refl
 at-place g (x ∷ xs) (suc i) d h = at-place g xs i d (le-of-suc-le-suc h)
 
 module _ (f : Prices) (s : Seller) (n : ℕ) (rs : List Trade) (fits : n ≤ length rs) where
-  pub trades-length : length (tradesOf n rs) ≡ n
-  trades-length = length-map (take n rs) asTrade ∙ length-take-le n rs fits
-
   column-length : (g : model.Trade → ℕ) → length (map g (tradesOf n rs)) ≡ n
-  column-length g = length-map (tradesOf n rs) g ∙ trades-length
+  column-length g = length-map (tradesOf n rs) g ∙ front-length asTrade n rs fits
 
   column-at : (g : model.Trade → ℕ) (i : ℕ) (d : Trade) → i < n → getD (map g (tradesOf n rs)) i 0 ≡ g (asTrade (getD rs i d))
   column-at g i d h =
-      at-place g (tradesOf n rs) i (asTrade d) (omega (arith, trades-length))
-      ∙ ap g (List·getD-map asTrade (take n rs) i d ∙ ap asTrade (getD-take n rs i d h))
+      at-place g (tradesOf n rs) i (asTrade d) (omega (arith, front-length asTrade n rs fits))
+      ∙ ap g (front-at asTrade n rs i d h)
 
   -- before the first trade
   pub filling-start : {ts ms ns : List ℕ} → length ts ≡ n → Room ts ms ns → Filling f s n rs ts ms ns 0

@@ -4,7 +4,7 @@ use borrow.Author.Needs.{needs}
 use lib.ListN.{length, drop, replicate}
 use lib.Seq.{length-take-le, take-at}
 use Rattle.records.specs.User.{asUser}
-use Rattle.reduction.proofs.Steps.{prices-in-range, cuts-count, cuts-cuttable, front-fits, front-length}
+use Rattle.reduction.proofs.Steps.{prices-in-range, cuts-count, cuts-cuttable, part-fits, part-length}
 use Rattle.reduction.proofs.Whole.{cut-for-of}
 use Rattle.reduction.proofs.cut_for.Statement.{statement}
 use Rattle.reduction.proofs.cut_for.Tie as tie
@@ -76,7 +76,7 @@ array-share-prefix-cuts c =
     let s = w .before .before .before .before .before .before .before .before .before .before .before in
     let a = s .args in
     let count = ap length (w .fill-cuts .ensures) ∙ cuts-count (a .b) (s .pre) (asUser (a .u)) (a .asked .0) in
-    front-fits (w .fill-cuts .last .1 .1 .1 .1 .1 .1 .1 .1 .1 .0) (drop (a .b .«trade_count») (replicate 256 0)) count
+    part-fits (w .fill-cuts .last .1 .1 .1 .1 .1 .1 .1 .1 .1 .0) (drop (a .b .«trade_count») (replicate 256 0)) count
 
 slice-aggregate-cut-trades : tie.Need-slice-aggregate-cut-trades
 slice-aggregate-cut-trades c =
@@ -84,7 +84,7 @@ slice-aggregate-cut-trades c =
     let s = w .before .before .before .before .before .before .before .before .before .before .before in
     let a = s .args in
     let count = ap length (w .fill-cuts .ensures) ∙ cuts-count (a .b) (s .pre) (asUser (a .u)) (a .asked .0) in
-    sym (front-length (w .fill-cuts .last .1 .1 .1 .1 .1 .1 .1 .1 .1 .0) (drop (a .b .«trade_count») (replicate 256 0)) count)
+    sym (part-length (w .fill-cuts .last .1 .1 .1 .1 .1 .1 .1 .1 .1 .0) (drop (a .b .«trade_count») (replicate 256 0)) count)
 
 cut-trades-requires : tie.Need-cut-trades-requires
 cut-trades-requires c κs =

@@ -7,7 +7,7 @@ use lib.ListN.{length, take}
 use Rattle.laws.specs.Books.{repositioned}
 use Rattle.records.specs.User.{asUser}
 use Rattle.records.specs.Trade.{asTrade}
-use Rattle.settlement.proofs.Rewriting.{Rewritten, rewritten-start}
+use Rattle.arrays.proofs.Rewriting.{Rewritten, rewritten-start}
 use Rattle.settlement.proofs.Positions.{bounded-of, valid-at, anew-more, anew-end}
 use Rattle.settlement.proofs.reposition.Statement.{statement}
 use Rattle.settlement.proofs.reposition.Tie as tie
