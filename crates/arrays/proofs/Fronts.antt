@@ -1,14 +1,14 @@
 -- The front of an array: what its first n elements stand for, and tests that all elements of a list pass. Assumes nothing.
-use mathlib.Core.Path.{_≡_, refl, ap, _∙_}
 use mathlib.Core.Bool.{Bool}
 use mathlib.Core.List.{List, [], _∷_, map}
+use mathlib.Core.Path.{_≡_, refl, ap, _∙_}
 use Prim.Native.Nat.{ℕ, zero, suc, _≤_, _<_}
 use native.Mathlib.Nat.{not-suc-le-zero, le-of-suc-le-suc}
 use lib.Dec.{T}
 use lib.ListN.{length, take, getD, length-map, List·getD-map}
 use lib.Seq.{getD-take, length-take-le}
-use Rattle.rules.specs.Lists.{all}
 use Rattle.laws.proofs.Tests.{and-l, and-r}
+use Rattle.rules.specs.Lists.{all}
 
 module _ {R M : Type 0} (face : R → M) (n : ℕ) (rs : List R) where
   -- the front has n elements

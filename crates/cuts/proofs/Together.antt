@@ -1,14 +1,14 @@
 -- Two cuts of each trade as one, place by place. Assumes nothing.
-use mathlib.Core.Path.{_≡_, refl, ap, _∙_}
 use mathlib.Core.List.{List, [], _∷_}
+use mathlib.Core.Path.{_≡_, refl, ap, _∙_}
 use Prim.Native.Nat.{ℕ, zero, suc, _+_}
 use native.Mathlib.Omega.{arith}
 use lib.ListN.{length, getD, List·getD-eq-default}
-use Rattle.rules.specs.Shares.{tierCuts}
-use Rattle.rules.specs.Reduction.{together}
-use Rattle.worths.specs.Lots.{lotsOf, Tier}
-use Rattle.tier.proofs.Cuts.{cut-le-standing, cuts-length}
 use Rattle.cuts.specs.Cuts.{Small}
+use Rattle.rules.specs.Reduction.{together}
+use Rattle.rules.specs.Shares.{tierCuts}
+use Rattle.tier.proofs.Cuts.{cut-le-standing, cuts-length}
+use Rattle.worths.specs.Lots.{lotsOf, Tier}
 
 -- as many as in either list
 pub together-length : (cs ds : List ℕ) → length ds ≡ length cs → length (together cs ds) ≡ length cs

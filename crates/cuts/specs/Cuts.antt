@@ -1,6 +1,6 @@
 -- What is lent to the cuts of a reduction: two tiers of the same trades, and room. Assumes nothing.
-use mathlib.Core.Path.{_≡_}
 use mathlib.Core.List.{List}
+use mathlib.Core.Path.{_≡_}
 use Prim.Native.Nat.{ℕ, _≤_}
 use lib.ListN.{length, getD}
 use Rattle.worths.specs.Lots.{Tier}

@@ -2,7 +2,6 @@
 // Every list has a place for each trade of the book.
 ghost use mathlib.Core.Path.{_≡_};
 ghost use Prim.Native.Nat.{_-_};
-ghost use lib.ListN.{length};
 ghost use Rattle.rules.specs.Shares.{tierWorth, tierCuts};
 ghost use Rattle.rules.specs.Reduction.{together};
 ghost use Rattle.worths.specs.Lots.{lotsOf};

@@ -1,17 +1,17 @@
 -- What callers need of a reduction: a book that was read and passed can be reduced, so can the book afterwards, and the tally gives the rules' answer. Assumes nothing.
-use mathlib.Core.Path.{_≡_, sym, ap, subst}
 use mathlib.Core.List.{List}
+use mathlib.Core.Path.{_≡_, sym, ap, subst}
 use Prim.Native.Nat.{ℕ}
 use native.Mathlib.Omega.{arith}
-use Rattle.rules.specs.Calls.{ofCuts, reducedBy}
+use Rattle.book.specs.Book.{asBook, BookRead}
+use Rattle.book.specs.declared.Book.{Book}
+use Rattle.format.proofs.Passed.{Passed}
 use Rattle.laws.proofs.Run.{reducedBy-law}
 use Rattle.laws.proofs.Sound.{Sound}
-use Rattle.format.proofs.Passed.{Passed}
-use Rattle.book.specs.declared.Book.{Book}
-use Rattle.book.specs.Book.{asBook, BookRead}
-use Rattle.worths.specs.Tallies.{asTally}
-use Rattle.reduction.specs.declared.Reduced.{Reduced}
 use Rattle.reduction.specs.Reduction.{Accepted, Reducible, ReducedBy, userAt}
+use Rattle.reduction.specs.declared.Reduced.{Reduced}
+use Rattle.rules.specs.Calls.{ofCuts, reducedBy}
+use Rattle.worths.specs.Tallies.{asTally}
 
 -- bytes that passed the questions 1 to 7 are read into an accepted book
 pub accepted-read : (s : List ℕ) (b : Book) → Passed s → BookRead s b → Accepted b

@@ -1,36 +1,36 @@
 -- What an accepted book gives the steps of a reduction: prices in range, tiers in range, cuts that can be taken off its trades. Assumes nothing.
-use mathlib.Core.Path.{_≡_, refl, sym, ap, ap₂, subst, _∙_}
 use mathlib.Core.Bool.{Bool}
 use mathlib.Core.List.{List, [], _∷_, _++_, map}
+use mathlib.Core.Path.{_≡_, sym, ap, subst, _∙_}
 use Prim.Native.Nat.{ℕ, zero, suc, _-_, _≤_, _<_}
 use native.Mathlib.Nat.{not-suc-le-zero, le-of-suc-le-suc}
 use native.Mathlib.Omega.{arith}
 use lib.Dec.{T}
-use lib.ListN.{length, take, getD, length-append, length-map, List·getD-map, List·getD-eq-default}
-use lib.Seq.{getD-take, length-take-le, take-at}
+use lib.ListN.{length, take, getD, length-append, length-map, List·getD-eq-default}
+use lib.Seq.{take-at}
+use Rattle.arrays.proofs.Fronts.{front-length, front-at, all-at}
+use Rattle.book.specs.Book.{asBook}
+use Rattle.book.specs.declared.Book.{Book}
+use Rattle.cuts.specs.Cuts.{Lent}
 use Rattle.integers.proofs.Linear.{by-order}
-use Rattle.rules.specs.Book as model
-use Rattle.rules.specs.Shares.{tierWorth, tierCuts}
-use Rattle.rules.specs.Reduction.{eligible, tierOne, tierTwo, together, cuts}
-use Rattle.laws.specs.Trades.{cutWithin, cutsWithin}
 use Rattle.laws.proofs.Bounds.{prices-le, tariffs-pos, standing-le}
 use Rattle.laws.proofs.Cuts.{cuts-within, cuts-length}
 use Rattle.laws.proofs.Reduction.{cut-le}
 use Rattle.laws.proofs.Tests.{and-l, and-r}
-use Rattle.rules.specs.Questions.{tradeValid}
-use Rattle.units.specs.Prices.{asPrices, InRange}
-use Rattle.records.specs.declared.Trade.{Trade}
+use Rattle.laws.specs.Trades.{cutWithin, cutsWithin}
 use Rattle.records.specs.Trade.{asTrade}
-use Rattle.book.specs.declared.Book.{Book}
-use Rattle.book.specs.Book.{asBook}
-use Rattle.worths.specs.Lots.{lotsOf}
-use Rattle.cuts.specs.Cuts.{Lent}
+use Rattle.records.specs.declared.Trade.{Trade}
+use Rattle.reduction.specs.Reduction.{Accepted}
+use Rattle.rules.specs.Questions.{tradeValid}
+use Rattle.rules.specs.Reduction.{eligible, together, cuts}
+use Rattle.rules.specs.Shares.{tierWorth, tierCuts}
 use Rattle.settlement.specs.Settlement.{Cuttable}
-use Rattle.arrays.proofs.Fronts.{front-length, front-at, all-at}
-use Rattle.tiers.specs.declared.Seller.{Seller}
-use Rattle.tiers.specs.Tiers as tiers
 use Rattle.tiers.proofs.Tiers.{tier-one-is, tier-two-is, tiers-in-range}
-use Rattle.reduction.specs.Reduction.{Accepted, Room}
+use Rattle.tiers.specs.declared.Seller.{Seller}
+use Rattle.units.specs.Prices.{asPrices, InRange}
+use Rattle.worths.specs.Lots.{lotsOf}
+use Rattle.rules.specs.Book as model
+use Rattle.tiers.specs.Tiers as tiers
 
 module _ (b : Book) (h : Accepted b) where
   -- its prices are in range

@@ -1,33 +1,30 @@
 -- The steps of a reduction together: trades cut and positions anew are the rules' book, whose positions are settled cut by cut. Assumes nothing.
-use mathlib.Core.Path.{_≡_, refl, sym, ap, ap₂, subst, _∙_}
-use mathlib.Core.List.{List, [], _∷_, map}
-use Prim.Native.Nat.{ℕ, zero, suc, _≤_, _<_}
-use native.Mathlib.Nat.{not-suc-le-zero, le-of-suc-le-suc}
+use mathlib.Core.List.{List, map}
+use mathlib.Core.Path.{_≡_, refl, sym, ap, subst, _∙_}
+use Prim.Native.Nat.{ℕ}
 use native.Mathlib.Omega.{arith}
-use lib.ListN.{length, take, getD, length-map, List·getD-map}
-use lib.Seq.{getD-take, length-take-le}
-use Rattle.integers.specs.Sums.{sum}
-use Rattle.rules.specs.Book as model
-use Rattle.rules.specs.Reduction.{cuts, cutAll, withTrades}
-use Rattle.rules.specs.Calls.{reducedBy}
-use Rattle.laws.specs.Books.{repositioned, anew}
+use lib.ListN.{length, take, getD}
+use Rattle.arrays.proofs.Fronts.{front-length, front-at, getD-inside}
+use Rattle.book.specs.Book.{asBook}
+use Rattle.book.specs.declared.Book.{Book}
 use Rattle.laws.proofs.Bounds.{trades-le}
 use Rattle.laws.proofs.Cuts.{cuts-bilateral}
 use Rattle.laws.proofs.Reduction.{cuts-lowered, cuts-sound}
 use Rattle.laws.proofs.Settle.{retraded-anew}
 use Rattle.laws.proofs.Trades.{framed}
-use Rattle.units.specs.Prices.{asPrices}
-use Rattle.records.specs.declared.User.{User}
-use Rattle.records.specs.declared.Trade.{Trade}
-use Rattle.records.specs.User.{asUser}
+use Rattle.laws.specs.Books.{repositioned, anew}
 use Rattle.records.specs.Trade.{asTrade}
-use Rattle.book.specs.declared.Book.{Book}
-use Rattle.book.specs.Book.{asBook}
-use Rattle.arrays.proofs.Fronts.{front-length, front-at, getD-inside}
-use Rattle.settlement.specs.declared.Cutting.{Cutting}
-use Rattle.settlement.specs.Settlement.{CutOf, Placeable}
-use Rattle.reduction.specs.Reduction.{Accepted, CutFor, Reducible, ReducedBy, userAt}
+use Rattle.records.specs.User.{asUser}
+use Rattle.records.specs.declared.Trade.{Trade}
+use Rattle.records.specs.declared.User.{User}
 use Rattle.reduction.proofs.Steps.{cuts-count}
+use Rattle.reduction.specs.Reduction.{Accepted, CutFor, Reducible, ReducedBy, userAt}
+use Rattle.rules.specs.Calls.{reducedBy}
+use Rattle.rules.specs.Reduction.{cuts, cutAll, withTrades}
+use Rattle.settlement.specs.Settlement.{CutOf, Placeable}
+use Rattle.settlement.specs.declared.Cutting.{Cutting}
+use Rattle.units.specs.Prices.{asPrices}
+use Rattle.rules.specs.Book as model
 
 module _ (b : Book) (h : Accepted b) (u : model.User) (asked : ℕ) where
   -- trades that are cut by the rules' cuts

@@ -1,18 +1,18 @@
 -- What a reduction asks of a book as the code has it, and what it gives. Assumes nothing.
-use mathlib.Core.Path.{_≡_}
 use mathlib.Core.List.{List, map}
+use mathlib.Core.Path.{_≡_}
 use Prim.Native.Nat.{ℕ, _≤_, _<_}
 use lib.ListN.{length, take, getD}
-use Rattle.rules.specs.Book as model
-use Rattle.rules.specs.Reduction.{cuts, cutAll, nothing, tallyAll}
-use Rattle.rules.specs.Calls.{reducedBy}
+use Rattle.book.specs.Book.{asBook}
+use Rattle.book.specs.declared.Book.{Book}
 use Rattle.laws.proofs.Sound.{Sound}
 use Rattle.records.specs.Trade.{asTrade}
-use Rattle.worths.specs.Tallies.{asTally}
-use Rattle.book.specs.declared.Book.{Book}
-use Rattle.book.specs.Book.{asBook}
-use Rattle.settlement.specs.declared.Cutting.{Cutting}
 use Rattle.reduction.specs.declared.Reduced.{Reduced}
+use Rattle.rules.specs.Calls.{reducedBy}
+use Rattle.rules.specs.Reduction.{cuts, cutAll, nothing, tallyAll}
+use Rattle.settlement.specs.declared.Cutting.{Cutting}
+use Rattle.worths.specs.Tallies.{asTally}
+use Rattle.rules.specs.Book as model
 
 -- a struct that holds an accepted book: its counts are within its arrays
 pub record Accepted (b : Book) : Type 0 where

@@ -1,6 +1,5 @@
 // One reduction of a book: the cuts of a user's eligible trades for an amount, the trades and the tally after them, and every position anew.
 ghost use mathlib.Core.Path.{_≡_};
-ghost use lib.ListN.{length};
 ghost use Rattle.rules.specs.Reduction as rules;
 ghost use Rattle.records.specs.User.{asUser};
 ghost use Rattle.book.specs.Book.{asBook};

@@ -1,33 +1,29 @@
 -- Positions computed anew: what the dealings and the physical entries are at the most, and the user that has them. Assumes nothing.
-use mathlib.Core.Path.{_≡_, refl, sym, ap, ap₂, _∙_}
 use mathlib.Core.List.{List, [], _∷_, map}
-use mathlib.Core.Bool.{Bool}
-use Prim.Native.Nat.{ℕ, zero, suc, _+_, _≤_, _<_}
+use mathlib.Core.Path.{_≡_, sym, ap, ap₂, _∙_}
+use Prim.Native.Nat.{ℕ, _+_, _≤_, _<_}
 use native.Mathlib.Omega.{arith}
-use native.Mathlib.Nat.{not-suc-le-zero, le-of-suc-le-suc}
 use lib.Dec.{T, eqb}
-use lib.IntN.{ℤ, pos, _+ℤ_, _-ℤ_}
+use lib.IntN.{pos, _+ℤ_, _-ℤ_}
 use lib.ListN.{length, take, getD, set, length-map, List·getD-map}
-use lib.Seq.{getD-take, length-take-le}
-use Rattle.integers.specs.Sums.{sum}
-use Rattle.rules.specs.Lists.{all}
-use Rattle.rules.specs.Book as model
-use Rattle.rules.specs.Book.{at, PerArea, Terms, dealt, sold, bought, definedPosition}
-use Rattle.rules.specs.Questions.{userValid}
-use Rattle.laws.specs.Books.{repositioned}
-use Rattle.laws.proofs.Bounds.{dealtInAll, dealt-le, entry-le}
-use Rattle.laws.proofs.Tests.{and-l, and-r}
-use Rattle.units.specs.declared.Net.{Net}
-use Rattle.units.specs.Amounts.{net}
-use Rattle.records.specs.declared.User.{User}
-use Rattle.records.specs.User.{asUser, asAmounts}
-use Rattle.dealings.specs.declared.Amounts.{Amounts}
-use Rattle.dealings.specs.declared.Dealings.{Dealings}
-use Rattle.dealings.specs.Energies.{amountOf, Within, Totals}
-use Rattle.dealings.specs.Dealt.{Dealt}
-use Rattle.settlement.specs.Settlement.{Entry, Bounded}
 use Rattle.arrays.proofs.Fronts.{front-length, front-at, all-at}
 use Rattle.arrays.proofs.Rewriting.{Rewritten, rewritten-more, rewritten-end}
+use Rattle.dealings.specs.Dealt.{Dealt}
+use Rattle.dealings.specs.Energies.{amountOf, Within, Totals}
+use Rattle.dealings.specs.declared.Amounts.{Amounts}
+use Rattle.dealings.specs.declared.Dealings.{Dealings}
+use Rattle.integers.specs.Sums.{sum}
+use Rattle.laws.proofs.Bounds.{dealtInAll, dealt-le, entry-le}
+use Rattle.laws.specs.Books.{repositioned}
+use Rattle.records.specs.User.{asUser, asAmounts}
+use Rattle.records.specs.declared.User.{User}
+use Rattle.rules.specs.Book.{at, Terms, dealt, sold, bought, definedPosition}
+use Rattle.rules.specs.Lists.{all}
+use Rattle.rules.specs.Questions.{userValid}
+use Rattle.settlement.specs.Settlement.{Bounded}
+use Rattle.units.specs.Amounts.{net}
+use Rattle.units.specs.declared.Net.{Net}
+use Rattle.rules.specs.Book as model
 
 -- energies that are the totals of one side for d are at most what stands
 totals-within : (side : Terms → ℕ) (id most low : ℕ) (ts : List model.Trade) {v : Amounts} → sum (λ t. t .standing) ts ≤ most

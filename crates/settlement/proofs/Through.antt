@@ -1,23 +1,23 @@
 -- Trades that are cut one by one with the running tally: the start, a turn and the end of the loop over the cuts. Assumes nothing.
-use mathlib.Core.Path.{_≡_, refl, sym, ap, ap₂, _∙_}
 use mathlib.Core.List.{List, [], _∷_, map}
+use mathlib.Core.Path.{_≡_, refl, sym, ap, _∙_}
 use Prim.Native.Nat.{ℕ, zero, suc, _+_, _*_, _≤_, _<_}
 use native.Mathlib.Nat.{not-suc-le-zero, le-of-suc-le-suc}
 use native.Mathlib.Numerals.{add-one}
 use native.Mathlib.Omega.{arith}
-use lib.ListN.{length, take, drop, getD, set, length-map, List·getD-map, drop-of-length-le}
-use lib.Seq.{drop-cons, getD-take, length-take-le}
-use Rattle.rules.specs.Areas.{Prices, tariff}
-use Rattle.rules.specs.Book as model
-use Rattle.rules.specs.Reduction.{cutBy, cutAll, nothing, tallied, tallyAll}
-use Rattle.rules.specs.Reduction as reduction
-use Rattle.records.specs.declared.Trade.{Trade}
-use Rattle.records.specs.Trade.{asTrade}
-use Rattle.worths.specs.declared.Tally.{Tally}
-use Rattle.worths.specs.Tallies.{asTally}
-use Rattle.settlement.specs.Settlement.{Cuttable, CutOf}
+use lib.ListN.{length, take, drop, getD, set, drop-of-length-le}
+use lib.Seq.{drop-cons}
 use Rattle.arrays.proofs.Fronts.{front-length, front-at}
 use Rattle.arrays.proofs.Rewriting.{Rewritten, rewritten-start, rewritten-more, rewritten-end}
+use Rattle.records.specs.Trade.{asTrade}
+use Rattle.records.specs.declared.Trade.{Trade}
+use Rattle.rules.specs.Areas.{Prices}
+use Rattle.rules.specs.Reduction.{cutBy, cutAll, nothing, tallied, tallyAll}
+use Rattle.settlement.specs.Settlement.{CutOf}
+use Rattle.worths.specs.Tallies.{asTally}
+use Rattle.worths.specs.declared.Tally.{Tally}
+use Rattle.rules.specs.Book as model
+use Rattle.rules.specs.Reduction as reduction
 
 -- ---- cuts and tally by place
 

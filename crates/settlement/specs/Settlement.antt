@@ -1,25 +1,25 @@
 -- Cuts that can be taken off trades, what they do, and users whose positions can be computed anew. Assumes nothing.
-use mathlib.Core.Path.{_≡_}
 use mathlib.Core.List.{List, map}
+use mathlib.Core.Path.{_≡_}
 use Prim.Native.Nat.{ℕ, _≤_, _<_}
 use lib.Dec.{T}
 use lib.IntN.{ℤ}
 use lib.ListN.{length, take, getD}
+use Rattle.dealings.specs.Energies.{Within}
+use Rattle.dealings.specs.declared.Dealings.{Dealings}
 use Rattle.integers.specs.Parts.{posPart, negPart}
 use Rattle.integers.specs.Sums.{sum}
+use Rattle.records.specs.Trade.{asTrade}
+use Rattle.records.specs.User.{asUser, asAmounts}
+use Rattle.records.specs.declared.Trade.{Trade}
+use Rattle.records.specs.declared.User.{User}
 use Rattle.rules.specs.Areas.{Prices}
-use Rattle.rules.specs.Lists.{all}
 use Rattle.rules.specs.Book.{at}
+use Rattle.rules.specs.Lists.{all}
 use Rattle.rules.specs.Questions.{userValid}
 use Rattle.rules.specs.Reduction.{cutAll, nothing, tallyAll}
-use Rattle.records.specs.declared.User.{User}
-use Rattle.records.specs.declared.Trade.{Trade}
-use Rattle.records.specs.User.{asUser, asAmounts}
-use Rattle.records.specs.Trade.{asTrade}
-use Rattle.dealings.specs.declared.Dealings.{Dealings}
-use Rattle.dealings.specs.Energies.{Within}
-use Rattle.worths.specs.Tallies.{asTally}
 use Rattle.settlement.specs.declared.Cutting.{Cutting}
+use Rattle.worths.specs.Tallies.{asTally}
 
 -- a cut for each of the first trades, at most what stands of it and at most 100,000
 pub record Cuttable (rs : List Trade) (cs : List ℕ) : Type 0 where

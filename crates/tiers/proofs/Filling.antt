@@ -1,20 +1,20 @@
 -- The loop that fills the tariffs and both tiers, trade by trade: its start, a turn and its end. Assumes nothing.
-use mathlib.Core.Path.{_≡_, refl, sym, ap, _∙_}
 use mathlib.Core.List.{List, [], _∷_, map}
+use mathlib.Core.Path.{_≡_, refl, sym, ap, _∙_}
 use Prim.Native.Nat.{ℕ, zero, suc, _+_, _≤_, _<_}
 use native.Mathlib.Nat.{not-suc-le-zero, le-of-suc-le-suc}
 use native.Mathlib.Omega.{arith}
 use lib.ListN.{length, take, getD, set, length-map}
-use Rattle.rules.specs.Areas.{Prices}
-use Rattle.rules.specs.Book as model
-use Rattle.laws.specs.Trades.{standingIf, tariffOf}
-use Rattle.records.specs.declared.Trade.{Trade}
-use Rattle.records.specs.Trade.{asTrade}
 use Rattle.arrays.proofs.Fronts.{front-length, front-at}
+use Rattle.laws.specs.Trades.{standingIf, tariffOf}
+use Rattle.records.specs.Trade.{asTrade}
+use Rattle.records.specs.declared.Trade.{Trade}
+use Rattle.rules.specs.Areas.{Prices}
 use Rattle.tier.proofs.Stores.{Stored, stored-none, stored-more, stored-all}
-use Rattle.tiers.specs.declared.Seller.{Seller}
-use Rattle.tiers.specs.declared.Lot.{Lot}
 use Rattle.tiers.specs.Tiers.{inOne, inTwo, LotOf, Room, TiersOf}
+use Rattle.tiers.specs.declared.Lot.{Lot}
+use Rattle.tiers.specs.declared.Seller.{Seller}
+use Rattle.rules.specs.Book as model
 
 -- the first n trades of an array
 abbrev pub tradesOf : ℕ → List Trade → List model.Trade

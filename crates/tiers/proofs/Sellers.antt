@@ -1,21 +1,21 @@
 -- How short a user is in each area, from the amounts of three areas; and the tests of the two tiers are those of the rules. Assumes nothing.
-use mathlib.Core.Path.{_≡_, refl}
+use mathlib.Core.Bool.{true, false, not, cond, _&&_}
 use mathlib.Core.List.{List}
-use mathlib.Core.Bool.{Bool, true, false, not, cond, _&&_}
+use mathlib.Core.Path.{_≡_}
 use Prim.Native.Nat.{ℕ, zero, suc}
 use lib.ListN.{getD}
+use Rattle.dealings.specs.Energies.{amountOf}
+use Rattle.dealings.specs.Parties.{isEligible}
+use Rattle.dealings.specs.declared.Amounts.{Amounts}
 use Rattle.integers.specs.Parts.{negPart}
+use Rattle.records.specs.User.{asAmounts}
 use Rattle.rules.specs.Book.{at, Book, User, Trade}
 use Rattle.rules.specs.Levels.{holding, sells}
 use Rattle.rules.specs.Reduction.{eligible, shortIn}
-use Rattle.units.specs.declared.Net.{Net}
-use Rattle.units.specs.Amounts.{net}
-use Rattle.records.specs.User.{asAmounts}
-use Rattle.dealings.specs.declared.Amounts.{Amounts}
-use Rattle.dealings.specs.Energies.{amountOf}
-use Rattle.dealings.specs.Parties.{isEligible}
-use Rattle.tiers.specs.declared.Seller.{Seller}
 use Rattle.tiers.specs.Tiers.{SellerOf, isShort, inOne, inTwo}
+use Rattle.tiers.specs.declared.Seller.{Seller}
+use Rattle.units.specs.Amounts.{net}
+use Rattle.units.specs.declared.Net.{Net}
 
 -- each area's amount below 0; every code past 1 reads AVB
 pub short-of : (v : List Net) {s : Amounts} → s .pvb .0 ≡ negPart (net (getD v 0 (record { 0 = 0 }))) → s .tvb .0 ≡ negPart (net (getD v 1 (record { 0 = 0 })))

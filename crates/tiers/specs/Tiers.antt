@@ -1,18 +1,18 @@
 -- The seller of a reduction, the tests of the two tiers, and the three lists that the code fills. Assumes nothing.
-use mathlib.Core.Path.{_≡_}
 use mathlib.Core.Bool.{Bool, not, _&&_}
 use mathlib.Core.List.{List, map}
+use mathlib.Core.Path.{_≡_}
 use Prim.Native.Nat.{ℕ, _≤_}
 use lib.Dec.{ltb}
 use lib.ListN.{length}
-use Rattle.integers.specs.Parts.{negPart}
-use Rattle.rules.specs.Areas.{Prices}
-use Rattle.rules.specs.Book.{at, User, Trade}
-use Rattle.laws.specs.Trades.{standingIf, tariffOf}
 use Rattle.dealings.specs.Energies.{amountOf}
 use Rattle.dealings.specs.Parties.{isEligible}
-use Rattle.tiers.specs.declared.Seller.{Seller}
+use Rattle.integers.specs.Parts.{negPart}
+use Rattle.laws.specs.Trades.{standingIf, tariffOf}
+use Rattle.rules.specs.Areas.{Prices}
+use Rattle.rules.specs.Book.{at, User, Trade}
 use Rattle.tiers.specs.declared.Lot.{Lot}
+use Rattle.tiers.specs.declared.Seller.{Seller}
 
 -- the seller that a user is: the id, and how short the position is in each area
 pub record SellerOf (u : User) (s : Seller) : Type 0 where

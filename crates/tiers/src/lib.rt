@@ -1,7 +1,5 @@
 // The two tiers of a reduction, read off the trades of a book: the tariff of each trade, and what stands of it in tier one and in tier two.
-ghost use mathlib.Core.Path.{_≡_};
 ghost use mathlib.Core.List.{map};
-ghost use Prim.Native.Nat.{_≤_};
 ghost use lib.ListN.{length, take};
 ghost use Rattle.units.specs.Prices.{asPrices, InRange};
 ghost use Rattle.records.specs.User.{asUser};

@@ -1,13 +1,13 @@
 -- `add_cuts`: the places passed hold the sums. Assumes nothing.
-use mathlib.Core.Path.{_≡_, sym, _∙_}
+use mathlib.Core.Path.{sym, _∙_}
 use Prim.Native.Nat.{_≤_, _-_}
 use native.Mathlib.Omega.{arith}
-use borrow.Author.Needs.{needs}
 use lib.ListN.{length}
-use Rattle.rules.specs.Reduction.{together}
-use Rattle.tier.proofs.Stores.{Stored, stored-none, stored-more, stored-all}
+use borrow.Author.Needs.{needs}
 use Rattle.cuts.proofs.Together.{together-length, together-at}
 use Rattle.cuts.proofs.add_cuts.Statement.{statement}
+use Rattle.rules.specs.Reduction.{together}
+use Rattle.tier.proofs.Stores.{Stored, stored-none, stored-more, stored-all}
 use Rattle.cuts.proofs.add_cuts.Tie as tie
 
 abbrev Inv-loop : tie.InvT-loop

@@ -1,13 +1,12 @@
 -- `fill_cuts`: the two tiers' cuts, what is left for tier two by tier one's worth, and their sums, as the definition has them. Assumes nothing.
-use mathlib.Core.Path.{_≡_, ap, ap₂, _∙_}
-use mathlib.Core.List.{List}
+use mathlib.Core.Path.{ap, ap₂, _∙_}
 use Prim.Native.Nat.{ℕ, _-_}
 use borrow.Author.Needs.{needs}
-use Rattle.rules.specs.Shares.{tierCuts}
-use Rattle.rules.specs.Reduction.{together}
-use Rattle.worths.specs.Lots.{lotsOf}
 use Rattle.cuts.proofs.Together.{cuts-small}
 use Rattle.cuts.proofs.fill_cuts.Statement.{statement}
+use Rattle.rules.specs.Reduction.{together}
+use Rattle.rules.specs.Shares.{tierCuts}
+use Rattle.worths.specs.Lots.{lotsOf}
 use Rattle.cuts.proofs.fill_cuts.Tie as tie
 
 worth-of-requires : tie.Need-worth-of-requires

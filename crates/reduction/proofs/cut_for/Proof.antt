@@ -1,8 +1,8 @@
 -- `cut_for`: the front of the array holds the rules' cuts, which can be taken off the trades. Assumes nothing.
 use mathlib.Core.Path.{sym, ap, _∙_}
-use borrow.Author.Needs.{needs}
 use lib.ListN.{length, drop, replicate}
 use lib.Seq.{length-take-le, take-at}
+use borrow.Author.Needs.{needs}
 use Rattle.records.specs.User.{asUser}
 use Rattle.reduction.proofs.Steps.{prices-in-range, cuts-count, cuts-cuttable, part-fits, part-length}
 use Rattle.reduction.proofs.Whole.{cut-for-of}

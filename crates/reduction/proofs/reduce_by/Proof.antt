@@ -1,6 +1,5 @@
 -- `reduce_by`: positions are computed anew from the trades that are cut, which is the rules' book. Assumes nothing.
 use borrow.Author.Needs.{needs}
-use Rattle.records.specs.User.{asUser}
 use Rattle.reduction.proofs.Whole.{cut-placeable, reduced-by-steps}
 use Rattle.reduction.proofs.reduce_by.Statement.{statement}
 use Rattle.reduction.proofs.reduce_by.Tie as tie

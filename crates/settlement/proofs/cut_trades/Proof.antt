@@ -1,14 +1,12 @@
 -- `cut_trades`: the trades passed are cut, and the tally of what is left gives the whole tally. Assumes nothing.
-use mathlib.Core.Path.{_≡_}
 use Prim.Native.Nat.{_-_}
 use native.Mathlib.Omega.{arith}
+use lib.ListN.{length}
 use borrow.Author.Needs.{needs}
-use lib.ListN.{length, getD}
-use Rattle.rules.specs.Areas.{tariff}
-use Rattle.units.specs.Prices.{asPrices}
 use Rattle.records.specs.Trade.{asTrade}
 use Rattle.settlement.proofs.Through.{Through, through-start, through-more, through-end}
 use Rattle.settlement.proofs.cut_trades.Statement.{statement}
+use Rattle.units.specs.Prices.{asPrices}
 use Rattle.settlement.proofs.cut_trades.Tie as tie
 
 abbrev Inv-loop : tie.InvT-loop

@@ -1,8 +1,8 @@
 -- `lowered` lowers what stands and keeps the terms. Assumes nothing.
 use mathlib.Core.Path.{refl}
 use borrow.Author.Needs.{needs}
-use Rattle.rules.specs.Reduction.{cutBy}
 use Rattle.records.specs.Trade.{asTrade}
+use Rattle.rules.specs.Reduction.{cutBy}
 use Rattle.settlement.proofs.lowered.Statement.{statement}
 use Rattle.settlement.proofs.lowered.Tie as tie
 

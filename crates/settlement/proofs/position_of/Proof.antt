@@ -4,10 +4,10 @@ use Prim.Native.Nat.{_+_}
 use native.Mathlib.Omega.{arith}
 use lib.IntN.{ℤ, pos, _+ℤ_, _-ℤ_}
 use borrow.Author.Needs.{needs}
-use Rattle.integers.specs.Parts.{posPart, negPart}
 use Rattle.integers.proofs.Linear.{parts-add, posPart-pos, negPart-pos, negPart-of}
-use Rattle.units.specs.Amounts.{net}
+use Rattle.integers.specs.Parts.{posPart, negPart}
 use Rattle.settlement.proofs.position_of.Statement.{statement}
+use Rattle.units.specs.Amounts.{net}
 use Rattle.settlement.proofs.position_of.Tie as tie
 
 raised-requires : tie.Need-raised-requires

@@ -2,12 +2,12 @@
 use mathlib.Core.List.{map}
 use Prim.Native.Nat.{_-_}
 use native.Mathlib.Omega.{arith}
+use lib.ListN.{take}
 use borrow.Author.Needs.{needs}
-use lib.ListN.{length, take}
-use Rattle.laws.specs.Books.{repositioned}
-use Rattle.records.specs.User.{asUser}
-use Rattle.records.specs.Trade.{asTrade}
 use Rattle.arrays.proofs.Rewriting.{Rewritten, rewritten-start}
+use Rattle.laws.specs.Books.{repositioned}
+use Rattle.records.specs.Trade.{asTrade}
+use Rattle.records.specs.User.{asUser}
 use Rattle.settlement.proofs.Positions.{bounded-of, valid-at, anew-more, anew-end}
 use Rattle.settlement.proofs.reposition.Statement.{statement}
 use Rattle.settlement.proofs.reposition.Tie as tie

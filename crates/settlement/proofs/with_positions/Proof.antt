@@ -1,8 +1,8 @@
 -- `with_positions`: each position is the entry of its area with what was bought and sold there. Assumes nothing.
 use native.Mathlib.Omega.{arith}
 use borrow.Author.Needs.{needs}
-use Rattle.rules.specs.Book.{at}
 use Rattle.records.specs.User.{asAmounts}
+use Rattle.rules.specs.Book.{at}
 use Rattle.settlement.proofs.Positions.{placed}
 use Rattle.settlement.proofs.with_positions.Statement.{statement}
 use Rattle.settlement.proofs.with_positions.Tie as tie

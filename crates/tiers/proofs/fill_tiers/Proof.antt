@@ -1,12 +1,12 @@
 -- `fill_tiers`: the places passed hold what the trade's lot says. Assumes nothing.
-use mathlib.Core.Path.{_≡_, refl, sym, _∙_}
+use mathlib.Core.Path.{refl, sym, _∙_}
 use Prim.Native.Nat.{_≤_, _-_}
 use native.Mathlib.Omega.{arith}
-use borrow.Author.Needs.{needs}
 use lib.ListN.{length}
-use Rattle.units.specs.Prices.{asPrices}
+use borrow.Author.Needs.{needs}
 use Rattle.tiers.proofs.Filling.{Filling, filling-start, filling-more, filling-end, filling-lengths}
 use Rattle.tiers.proofs.fill_tiers.Statement.{statement}
+use Rattle.units.specs.Prices.{asPrices}
 use Rattle.tiers.proofs.fill_tiers.Tie as tie
 
 abbrev Inv-loop : tie.InvT-loop

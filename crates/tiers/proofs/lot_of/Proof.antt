@@ -1,15 +1,14 @@
 -- `lot_of`: the tests are the definition's, on the struct's own fields; each path gives the tiers what their cases say. Assumes nothing.
-use mathlib.Core.Path.{_≡_, sym, ap, _∙_}
-use native.Mathlib.Omega.{arith}
+use mathlib.Core.Path.{sym, ap, _∙_}
 use lib.Dec.{ltb}
 use borrow.Author.Needs.{needs}
 use borrow.Author.Tests.{lt-ltb, le-ltb}
-use Rattle.rules.specs.Book.{bilateralForDay}
-use Rattle.records.specs.Trade.{asTrade}
 use Rattle.dealings.specs.Parties.{isEligible}
-use Rattle.tiers.specs.Tiers.{isShort}
+use Rattle.records.specs.Trade.{asTrade}
+use Rattle.rules.specs.Book.{bilateralForDay}
 use Rattle.tiers.proofs.Sellers.{of-none, of-one, of-two}
 use Rattle.tiers.proofs.lot_of.Statement.{statement}
+use Rattle.tiers.specs.Tiers.{isShort}
 use Rattle.tiers.proofs.lot_of.Tie as tie
 
 tariff-requires : tie.Need-tariff-requires

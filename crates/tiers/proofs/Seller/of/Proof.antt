@@ -2,8 +2,8 @@
 use mathlib.Core.Path.{refl}
 use borrow.Author.Needs.{needs}
 use Rattle.records.specs.User.{asUser}
-use Rattle.tiers.proofs.Sellers.{short-of}
 use Rattle.tiers.proofs.Seller.of.Statement.{statement}
+use Rattle.tiers.proofs.Sellers.{short-of}
 use Rattle.tiers.proofs.Seller.of.Tie as tie
 
 array-copy-out-pvb : tie.Need-array-copy-out-pvb
