@@ -24,7 +24,7 @@ use Rattle.rules.specs.Signed.{within}
 
 -- ---- trades: at most 256 of at most 100,000 MWh
 
-standing-le : (us : List User) (t : Trade) → T (tradeValid us t) → t .standing ≤ 100000
+pub standing-le : (us : List User) (t : Trade) → T (tradeValid us t) → t .standing ≤ 100000
 unfolding tradeValid amountsValid
 standing-le us t h =
     let a = leb→le (t .standing) (t .terms .notified) (search (and-l, and-r)) in
@@ -37,7 +37,7 @@ standing-sum us [] h = omega arith
 standing-sum us (t ∷ ts) h =
     omega (arith, standing-sum us ts (and-r (tradeValid us t) (all (tradeValid us) ts) h), standing-le us t (and-l (tradeValid us t) (all (tradeValid us) ts) h))
 
-trades-le : (b : Book) → Sound b → sum (λ t. t .standing) (b .trades) ≤ 25600000
+pub trades-le : (b : Book) → Sound b → sum (λ t. t .standing) (b .trades) ≤ 25600000
 unfolding countsValid
 trades-le b s =
     let n = leb→le (length (b .trades)) 256 (and-r (leb 1 (length (b .users)) && leb (length (b .users)) 64) (leb (length (b .trades)) 256) (s .counts)) in
@@ -68,7 +68,7 @@ and-cond false false q n = refl
 unfoldable pub dealtInAll : (ℕ → ℕ → ℕ) → ℕ
 dealtInAll amount = amount 0 0 + amount 1 0 + amount 2 0 + (amount 0 1 + amount 1 1 + amount 2 1)
 
-dealt-le : (side : Terms → ℕ) (counts : ℕ → Bool) (ts : List Trade) → dealtInAll (dealt side counts ts) ≤ sum (λ t. t .standing) ts
+pub dealt-le : (side : Terms → ℕ) (counts : ℕ → Bool) (ts : List Trade) → dealtInAll (dealt side counts ts) ≤ sum (λ t. t .standing) ts
 unfolding dealtInAll dealt sum
 dealt-le side counts [] = omega arith
 dealt-le side counts (t ∷ ts) =

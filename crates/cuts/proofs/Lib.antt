@@ -1,0 +1,2 @@
+-- Laws of cuts that are added.
+pub mod Together

@@ -1,0 +1,2 @@
+-- What is lent to the cuts of a reduction.
+pub mod Cuts
