@@ -1,9 +1,18 @@
 // The public calls on a lent book in bytes. None asks anything of its caller: any bytes, any id and any amount get the document's number or its answer, and a refused
 // call leaves the book byte for byte the same. What each gives is one definition of specs/ of the crate that computes it.
+ghost use mathlib.Core.Path.{_≡_};
+ghost use Rattle.rules.specs.Levels.{today};
+ghost use Rattle.rules.specs.Calls.{only, morningCall, afternoonCall};
+ghost use Rattle.rules.specs.Queries.{morningLevelOf, afternoonLevelOf};
+ghost use Rattle.format.specs.Steps.{Called, replyBytes};
+ghost use Rattle.posting.specs.Posting.{postingOf};
+ghost use Rattle.guarantee.specs.Answers.{replyOf, answerOf};
 ghost use Rattle.questions.specs.Asked.{Opened};
 ghost use Rattle.transfer.specs.Written.{Written};
 ghost use Rattle.shown.specs.Shown.{Shown, picked};
 use book::Book;
+use guarantee::CallAnswer;
+use guarantee::LevelAnswer;
 use questions::Opening;
 
 // The book that bytes hold, every field of it, and 0; or a book whose every field is 0 and the number of the first of the questions 1 to 7 that is answered by no.
@@ -38,4 +47,39 @@ pub fn show_picked<'a>(
     ensures { λ r. ⌜ Shown (picked «afternoon_picked» (now (morning .entry)) (now (afternoon .entry))) id (now (number .exit)) (now r) ⌝ }
 {
     shown::show_picked(morning, afternoon, afternoon_picked, id, number)
+}
+
+// Adds a signed amount to a user's physical entry and position in an area, and answers 0; or the number of the first question that is answered by no.
+pub fn posting(book: &mut [u8], id: u32, area: u32, amount: i64) -> u32
+    ensures { λ r. ⌜ Called today (now (book .entry)) (postingOf id area amount) (only r) (now (book .exit)) ⌝ }
+{
+    posting::posting(book, id, area, amount)
+}
+
+// The morning level of a user.
+pub fn morning_level(book: &[u8], id: u32) -> LevelAnswer
+    ensures { λ r. ⌜ replyOf r ≡ replyBytes today (now (book .entry)) (morningLevelOf id) ⌝ }
+{
+    guarantee::morning_level(book, id)
+}
+
+// The afternoon level of a user.
+pub fn afternoon_level(book: &[u8], id: u32) -> LevelAnswer
+    ensures { λ r. ⌜ replyOf r ≡ replyBytes today (now (book .entry)) (afternoonLevelOf id) ⌝ }
+{
+    guarantee::afternoon_level(book, id)
+}
+
+// Raises a user's blocked guarantee to its morning level.
+pub fn morning_call(book: &mut [u8], id: u32) -> CallAnswer
+    ensures { λ r. ⌜ Called today (now (book .entry)) (morningCall id) (answerOf r) (now (book .exit)) ⌝ }
+{
+    guarantee::morning_call(book, id)
+}
+
+// Raises a user's blocked guarantee to its afternoon level.
+pub fn afternoon_call(book: &mut [u8], id: u32) -> CallAnswer
+    ensures { λ r. ⌜ Called today (now (book .entry)) (afternoonCall id) (answerOf r) (now (book .exit)) ⌝ }
+{
+    guarantee::afternoon_call(book, id)
 }

@@ -1,0 +1,2 @@
+-- The ways out of a level and of a guarantee call.
+pub mod Ways

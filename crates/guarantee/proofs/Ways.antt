@@ -1,0 +1,171 @@
+-- The ways out of a level and of a guarantee call: refused by the entry, by a question of its own, or answered. Assumes nothing.
+use mathlib.Core.Bool.{Bool, true, false, _&&_}
+use mathlib.Core.List.{List, [], _∷_, _++_}
+use mathlib.Core.Option.{some}
+use mathlib.Core.Path.{_≡_, refl, sym, ap, _∙_}
+use Prim.Native.Nat.{ℕ, _+_, _-_, _*_, _≤_, _<_}
+use borrow.Author.Tests.{eq-eqb, ne-eqb, le-leb, lt-leb, ltb-true}
+use Rattle.rules.specs.Book.{Book, User, find}
+use Rattle.rules.specs.Levels.{Limits, shipper, calledIn, exceedsMargin}
+use Rattle.rules.specs.Questions.{refusal, decided}
+use Rattle.rules.specs.Calls.{about, assignedSuffices, calledInBeyondMargin, effect, guaranteed, idKnown, isShipper, marginExceeded, ofLevel, only, Answer, Call}
+use Rattle.rules.specs.Queries.{aboutQuery, aLevel, found, onlyNumber}
+use Rattle.format.specs.Book.{bookOf, userAt, usersOf}
+use Rattle.format.specs.Questions.{aboutBytes}
+use Rattle.format.specs.Steps.{Called, InBytes, inBytes, replyBytes, stepBytes}
+use Rattle.format.proofs.OneUser.{changed-bytes}
+use Rattle.fields.specs.Field.{AllBytes}
+use Rattle.rules.specs.Changes.{blockedTo}
+use lib.Seq.{sets}
+use Rattle.book.specs.declared.Book as struct
+use Rattle.book.specs.Book.{asBook}
+use Rattle.records.specs.User.{asUser, blankUser, userBytes}
+use Rattle.records.specs.declared.User as code
+use Rattle.risk.specs.Ready.{userIn, Ready}
+use Rattle.risk.proofs.Places.{ready-read}
+use Rattle.format.proofs.Passed.{passed}
+use native.Mathlib.Omega.{arith}
+use Rattle.entry.specs.Entered.{Found}
+use Rattle.entry.proofs.Calls.{call-found, call-refused, found-user, query-refused, query-found}
+use Rattle.guarantee.specs.Times.{levelOf, dueOf, queryOf, callOf}
+use Rattle.guarantee.specs.Answers.{lastQuestions, raised}
+
+-- ---- the user that the entry found
+
+module _ {s : List ℕ} {id place : ℕ} {b : struct.Book} (f : Found s id place b) where
+  pub found-ready : Ready b place
+  found-ready = ready-read (f .read) (passed s (f .passes) .sound) place (omega (arith, f .known, f .read .users))
+
+  -- it stands at the place
+  pub found-in : asUser (userIn b place) ≡ find (bookOf s .users) id
+  unfolding userIn bookOf
+  found-in = found-user s id place b f blankUser
+
+  pub found-role : {u : code.User} → u ≡ userIn b place → u .role ≡ find (bookOf s .users) id .party .role
+  unfolding asUser
+  found-role e = ap (λ (v : code.User). v .role) e ∙ ap (λ (v : User). v .party .role) found-in
+
+  -- its level is the same in the bytes
+  pub level-same : (afternoon : Bool) {l m : Limits} → l ≡ m → levelOf afternoon l (asBook b) (asUser (userIn b place)) ≡ levelOf afternoon m (bookOf s) (find (bookOf s .users) id)
+  level-same afternoon e = cc (e, f .read .book, found-in)
+
+-- ---- a level
+
+query-asks : (b : Book) (id : ℕ) (afternoon : Bool) → aboutQuery b (queryOf afternoon id) ≡ idKnown b id ∷ (isShipper (find (b .users) id) ∷ [])
+unfolding aboutQuery
+query-asks b id true = refl
+query-asks b id false = refl
+
+query-finds : (limits : Limits) (b : Book) (id : ℕ) (afternoon : Bool) → found limits b (queryOf afternoon id) ≡ aLevel (levelOf afternoon limits b (find (b .users) id))
+unfolding found levelOf
+query-finds limits b id true = refl
+query-finds limits b id false = refl
+
+module _ (limits : Limits) (s : List ℕ) (id : ℕ) (afternoon : Bool) where
+  pub level-refused : (n : ℕ) → refusal (aboutBytes s ++ (idKnown (bookOf s) id ∷ [])) ≡ some n → onlyNumber n ≡ replyBytes limits s (queryOf afternoon id)
+  level-refused n h = rw (query-refused limits s id (isShipper (find (bookOf s .users) id) ∷ []) (queryOf afternoon id) (query-asks (bookOf s) id afternoon) n h)
+
+  module _ {place : ℕ} {b : struct.Book} (f : Found s id place b) where
+    pub level-of-house : (find (bookOf s .users) id .party .role ≡ 0 → ⊥) → onlyNumber 9 ≡ replyBytes limits s (queryOf afternoon id)
+    unfolding isShipper shipper refusal decided
+    level-of-house h =
+        rw (query-found limits s id (isShipper (find (bookOf s .users) id) ∷ []) (queryOf afternoon id) (query-asks (bookOf s) id afternoon) f, ne-eqb (find (bookOf s .users) id .party .role) 0 h)
+
+    pub level-found : find (bookOf s .users) id .party .role ≡ 0 → aLevel (levelOf afternoon limits (bookOf s) (find (bookOf s .users) id)) ≡ replyBytes limits s (queryOf afternoon id)
+    unfolding isShipper shipper refusal decided
+    level-found h =
+        rw (query-found limits s id (isShipper (find (bookOf s .users) id) ∷ []) (queryOf afternoon id) (query-asks (bookOf s) id afternoon) f, eq-eqb (find (bookOf s .users) id .party .role) 0 h, query-finds limits (bookOf s) id afternoon)
+
+-- ---- question 11
+
+module _ (limits : Limits) (b : Book) (level : ℕ) (u : User) where
+  pub due-within : (afternoon : Bool) → exceedsMargin limits level u ≡ false → false ≡ dueOf afternoon limits b level u
+  unfolding dueOf
+  due-within true h = rw h
+  due-within false h = sym h
+
+  -- a call that is due raises the blocked guarantee
+  pub due-above : (afternoon : Bool) → dueOf afternoon limits b level u ≡ true → u .blocked ≤ level
+  unfolding dueOf exceedsMargin
+  due-above true h = omega (arith, ltb-true (limits .margin + u .blocked) level (first (exceedsMargin limits level u) (calledIn limits b u) h))
+    where
+      first : (p q : Bool) → (p && q) ≡ true → p ≡ true
+      first true q e = refl
+      first false q e = e
+  due-above false h = omega (arith, ltb-true (limits .margin + u .blocked) level h)
+
+-- ---- the end of a call
+
+module _ (s : List ℕ) (place : ℕ) (u : User) (level : ℕ) {due : Bool} where
+  pub raised-undue : due ≡ false → raised s place u level due ≡ record { answer = only 11; bytes = s }
+  unfolding raised lastQuestions refusal decided
+  raised-undue e = rw e
+
+  pub raised-short : due ≡ true → u .party .assigned < level → raised s place u level due ≡ record { answer = only 12; bytes = s }
+  unfolding raised lastQuestions assignedSuffices refusal decided
+  raised-short e h = rw (e, lt-leb level (u .party .assigned) h)
+
+  pub raised-full : due ≡ true → level ≤ u .party .assigned
+      → raised s place u level due ≡ record { answer = ofLevel level (level - u .blocked); bytes = sets s (32 + 56 * place) (userBytes (blockedTo level u)) }
+  unfolding raised lastQuestions assignedSuffices refusal decided
+  raised-full e h = rw (e, le-leb level (u .party .assigned) h)
+
+-- ---- a call
+
+call-asks : (limits : Limits) (b : Book) (id : ℕ) (afternoon : Bool) → let u = find (b .users) id in let level = levelOf afternoon limits b u in
+    about limits b (callOf afternoon id) ≡ idKnown b id ∷ (isShipper u ∷ lastQuestions (dueOf afternoon limits b level u) level u)
+unfolding about levelOf dueOf lastQuestions marginExceeded calledInBeyondMargin
+call-asks limits b id true = refl
+call-asks limits b id false = refl
+
+call-effects : (limits : Limits) (b : Book) (id : ℕ) (afternoon : Bool) → effect limits b (callOf afternoon id) ≡ guaranteed b id (levelOf afternoon limits b (find (b .users) id))
+unfolding effect levelOf
+call-effects limits b id true = refl
+call-effects limits b id false = refl
+
+-- what a call gives is its contract
+pub called : {limits : Limits} {s t : List ℕ} {a x : Answer} (c : Call) → a ≡ x → stepBytes limits s c ≡ record { answer = x; bytes = t } → Called limits s c a t
+called c h e = record { answer = h ∙ sym (ap (λ (r : InBytes). r .answer) e); bytes = sym (ap (λ (r : InBytes). r .bytes) e) }
+
+module _ (limits : Limits) (s : List ℕ) (id : ℕ) (afternoon : Bool) where
+  -- the user, its level, and the answer to question 11
+  abbrev user : User
+  user = find (bookOf s .users) id
+
+  abbrev level : ℕ
+  level = levelOf afternoon limits (bookOf s) user
+
+  abbrev due : Bool
+  due = dueOf afternoon limits (bookOf s) level user
+
+  pub call-unentered : (n : ℕ) → refusal (aboutBytes s ++ (idKnown (bookOf s) id ∷ [])) ≡ some n → stepBytes limits s (callOf afternoon id) ≡ record { answer = only n; bytes = s }
+  call-unentered n h = call-refused limits s id (isShipper user ∷ lastQuestions due level user) (callOf afternoon id) (call-asks limits (bookOf s) id afternoon) n h
+
+  module _ {place : ℕ} {b : struct.Book} (f : Found s id place b) where
+    pub call-of-house : (find (bookOf s .users) id .party .role ≡ 0 → ⊥) → stepBytes limits s (callOf afternoon id) ≡ record { answer = only 9; bytes = s }
+    unfolding isShipper shipper refusal decided
+    call-of-house h =
+        rw (call-found limits s id (isShipper user ∷ lastQuestions due level user) (callOf afternoon id) (call-asks limits (bookOf s) id afternoon) f, ne-eqb (user .party .role) 0 h)
+
+    -- one user's record is changed
+    effect-bytes : AllBytes s → inBytes (effect limits (bookOf s) (callOf afternoon id))
+        ≡ record { answer = ofLevel level (level - user .blocked); bytes = sets s (32 + 56 * place) (userBytes (blockedTo level user)) }
+    unfolding inBytes guaranteed userAt bookOf
+    effect-bytes h =
+        rw (call-effects limits (bookOf s) id afternoon, f .stands)
+        (ap (λ (l : List ℕ). record { answer = ofLevel level (level - user .blocked); bytes = l })
+        (changed-bytes s h (passed s (f .passes)) id (blockedTo level) (rw (f .stands) at (f .known))))
+
+    pub call-raised : AllBytes s → user .party .role ≡ 0 → stepBytes limits s (callOf afternoon id) ≡ raised s place user level due
+    unfolding isShipper shipper refusal raised
+    call-raised h k =
+        rw (call-found limits s id (isShipper user ∷ lastQuestions due level user) (callOf afternoon id) (call-asks limits (bookOf s) id afternoon) f, eq-eqb (user .party .role) 0 k)
+        (ap (decided (refusal (lastQuestions due level user)) (λ n. record { answer = only n; bytes = s })) (effect-bytes h))
+
+    -- with the user, the level and the answer to question 11 of the struct
+    pub call-ends : AllBytes s → {l : Limits} {u : code.User} {n : ℕ} {d : Bool} → l ≡ limits → u ≡ userIn b place → u .role ≡ 0
+        → n ≡ levelOf afternoon l (asBook b) (asUser (userIn b place)) → d ≡ dueOf afternoon l (asBook b) n (asUser (userIn b place))
+        → raised s place (asUser u) n d ≡ stepBytes limits s (callOf afternoon id)
+    call-ends h {l} {u} {n} {d} e v k m w =
+        let x : raised s place (asUser u) n d ≡ raised s place user level due = cc (e, v, m, w, found-in f, f .read .book) in
+        x ∙ sym (call-raised h (sym (found-role f v) ∙ k))

@@ -1,0 +1,185 @@
+// The levels and the guarantee calls on a lent book in bytes: the morning or the afternoon level of a user, and the call that raises its blocked guarantee to it.
+// Both times of the day go one way, with the level of the time.
+use book::Book;
+use levels::Limits;
+use records::User;
+use units::Cents;
+ghost use mathlib.Core.Path.{_≡_};
+ghost use Prim.Native.Nat.{_≤_};
+ghost use Rattle.rules.specs.Levels.{today};
+ghost use Rattle.rules.specs.Changes.{blockedTo};
+ghost use Rattle.rules.specs.Calls.{only, morningCall, afternoonCall};
+ghost use Rattle.rules.specs.Queries.{morningLevelOf, afternoonLevelOf};
+ghost use Rattle.records.specs.User.{asUser};
+ghost use Rattle.format.specs.Steps.{replyBytes, Called};
+ghost use Rattle.book.specs.Book.{asBook};
+ghost use Rattle.levels.specs.Limits.{asLimits, LimitsInRange};
+ghost use Rattle.risk.specs.Ready.{userIn, Ready};
+ghost use Rattle.guarantee.specs.Times.{levelOf, dueOf, queryOf, callOf};
+ghost use Rattle.guarantee.specs.Answers.{replyOf, answerOf, Raisable, raised};
+
+// ---- the levels
+
+// The level of the user at a place: the afternoon's or the morning's.
+fn level_at(b: Book, i: usize, limits: Limits, afternoon: bool) -> Cents
+    requires { ⌜ Ready b i ⌝ }
+    requires { ⌜ LimitsInRange (asLimits limits) ⌝ }
+    ensures { λ r. ⌜ r .0 ≡ levelOf afternoon (asLimits limits) (asBook b) (asUser (userIn b i)) ⌝ }
+{
+    if afternoon {
+        return risk::afternoon_level_at(b, i, limits);
+    }
+    risk::morning_level_at(b, i, limits)
+}
+
+// A level, and 0; or 0 cents and the number of the first question that is answered by no.
+pub struct LevelAnswer {
+    pub number: u32,
+    pub level: Cents,
+}
+
+// The level of the user of an id, at one time of the day.
+fn level(book: &[u8], id: u32, afternoon: bool) -> LevelAnswer
+    ensures { λ r. ⌜ replyOf r ≡ replyBytes today (now (book .entry)) (queryOf afternoon id) ⌝ }
+{
+    let entry = entry::enter(book, id);
+    let number = entry.number;
+    let place = entry.place;
+    if number != 0 {
+        return LevelAnswer {
+            number: number,
+            level: Cents(0),
+        };
+    }
+    let b = entry.book;
+    let user = risk::user_at(b, place);
+    if user.role != 0 {
+        return LevelAnswer {
+            number: 9,
+            level: Cents(0),
+        };
+    }
+    let limits = Limits::today();
+    let level = level_at(b, place, limits, afternoon);
+    LevelAnswer {
+        number: 0,
+        level: level,
+    }
+}
+
+// The morning level of the user of an id.
+pub fn morning_level(book: &[u8], id: u32) -> LevelAnswer
+    ensures { λ r. ⌜ replyOf r ≡ replyBytes today (now (book .entry)) (morningLevelOf id) ⌝ }
+{
+    level(book, id, false)
+}
+
+// The afternoon level of the user of an id.
+pub fn afternoon_level(book: &[u8], id: u32) -> LevelAnswer
+    ensures { λ r. ⌜ replyOf r ≡ replyBytes today (now (book .entry)) (afternoonLevelOf id) ⌝ }
+{
+    level(book, id, true)
+}
+
+// ---- the calls
+
+// The level and what was added to the blocked guarantee, and 0; or 0 cents and the number of the first question that is answered by no.
+pub struct CallAnswer {
+    pub number: u32,
+    pub level: Cents,
+    pub added: Cents,
+}
+
+// A number alone.
+fn refused(number: u32) -> CallAnswer
+    ensures { λ r. ⌜ answerOf r ≡ only number ⌝ }
+{
+    CallAnswer {
+        number: number,
+        level: Cents(0),
+        added: Cents(0),
+    }
+}
+
+// Question 11 of the user at a place: does the level exceed blocked by more than the margin, and in the afternoon, is the user called in?
+fn is_due(b: Book, i: usize, limits: Limits, level: Cents, afternoon: bool) -> bool
+    requires { ⌜ Ready b i ⌝ }
+    requires { ⌜ LimitsInRange (asLimits limits) ⌝ }
+    ensures { λ r. ⌜ r ≡ dueOf afternoon (asLimits limits) (asBook b) (level .0) (asUser (userIn b i)) ⌝ }
+{
+    let user = risk::user_at(b, i);
+    if !levels::exceeds_margin(limits, level, user) {
+        return false;
+    }
+    if afternoon {
+        return risk::called_in_at(b, i, limits);
+    }
+    true
+}
+
+// The user with its blocked guarantee raised to a level.
+fn blocked_to(mut user: User, level: Cents) -> User
+    requires { ⌜ user .blocked .0 ≤ level .0 ⌝ }
+    ensures { λ r. ⌜ asUser r ≡ blockedTo (level .0) (asUser user) ⌝ }
+{
+    user.blocked = level;
+    user
+}
+
+// The end of a call on the user at a place, with its level and the answer to question 11: asks question 12, and raises the user's record in the book.
+fn raise(book: &mut [u8], place: usize, user: User, level: Cents, due: bool) -> CallAnswer
+    requires { ⌜ Raisable (now book) place (asUser user) (level .0) due ⌝ }
+    ensures { λ r. ⌜ (answerOf r ≡ raised (now (book .entry)) place (asUser user) (level .0) due .answer) × (now (book .exit) ≡ raised (now (book .entry)) place (asUser user) (level .0) due .bytes) ⌝ }
+{
+    let assigned = user.assigned;
+    let blocked = user.blocked;
+    if !due {
+        return refused(11);
+    }
+    if assigned.0 < level.0 {
+        return refused(12);
+    }
+    let guaranteed = blocked_to(user, level);
+    let a = 32 + 56 * place;
+    records::write_user(&mut book[a..a + 56], guaranteed);
+    CallAnswer {
+        number: 0,
+        level: level,
+        added: Cents(level.0 - blocked.0),
+    }
+}
+
+// The guarantee call on the user of an id, at one time of the day.
+fn call(book: &mut [u8], id: u32, afternoon: bool) -> CallAnswer
+    ensures { λ r. ⌜ Called today (now (book .entry)) (callOf afternoon id) (answerOf r) (now (book .exit)) ⌝ }
+{
+    let entry = entry::enter(book, id);
+    let number = entry.number;
+    let place = entry.place;
+    if number != 0 {
+        return refused(number);
+    }
+    let b = entry.book;
+    let user = risk::user_at(b, place);
+    if user.role != 0 {
+        return refused(9);
+    }
+    let limits = Limits::today();
+    let level = level_at(b, place, limits, afternoon);
+    let due = is_due(b, place, limits, level, afternoon);
+    raise(book, place, user, level, due)
+}
+
+// The morning call on the user of an id: blocked reaches the morning level.
+pub fn morning_call(book: &mut [u8], id: u32) -> CallAnswer
+    ensures { λ r. ⌜ Called today (now (book .entry)) (morningCall id) (answerOf r) (now (book .exit)) ⌝ }
+{
+    call(book, id, false)
+}
+
+// The afternoon call on the user of an id: blocked reaches the afternoon level.
+pub fn afternoon_call(book: &mut [u8], id: u32) -> CallAnswer
+    ensures { λ r. ⌜ Called today (now (book .entry)) (afternoonCall id) (answerOf r) (now (book .exit)) ⌝ }
+{
+    call(book, id, true)
+}
