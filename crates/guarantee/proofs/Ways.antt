@@ -10,7 +10,7 @@ use Rattle.rules.specs.Levels.{Limits, shipper, calledIn, exceedsMargin}
 use Rattle.rules.specs.Questions.{refusal, decided}
 use Rattle.rules.specs.Calls.{about, assignedSuffices, calledInBeyondMargin, effect, guaranteed, idKnown, isShipper, marginExceeded, ofLevel, only, Answer, Call}
 use Rattle.rules.specs.Queries.{aboutQuery, aLevel, found, onlyNumber}
-use Rattle.format.specs.Book.{bookOf, userAt, usersOf}
+use Rattle.format.specs.Book.{bookOf, userAt}
 use Rattle.format.specs.Questions.{aboutBytes}
 use Rattle.format.specs.Steps.{Called, InBytes, inBytes, replyBytes, stepBytes}
 use Rattle.format.proofs.OneUser.{changed-bytes}

@@ -1,5 +1,5 @@
 -- The ways out of a warning, of a trade that warns, and of a flagged shipper by its place. Assumes nothing.
-use mathlib.Core.Bool.{Bool, true, false, _&&_, _||_}
+use mathlib.Core.Bool.{Bool, true, false, _&&_}
 use mathlib.Core.List.{List, [], _∷_, _++_}
 use mathlib.Core.Option.{some}
 use mathlib.Core.Path.{_≡_, refl, sym, ap, _∙_}
@@ -7,9 +7,8 @@ use Prim.Native.Nat.{ℕ, _+_, _*_, _≤_, _<_}
 use native.Mathlib.Nat.{zero-mul}
 use native.Mathlib.Omega.{arith}
 use borrow.Author.Tests.{eq-eqb, le-ltb, lt-ltb, ne-eqb}
-use lib.Dec.{ltb}
 use lib.ListN.{List·getD-eq-default, getD, length, length-map, length-take}
-use Rattle.rules.specs.Areas.{areas, referencePrice}
+use Rattle.rules.specs.Areas.{areas}
 use Rattle.rules.specs.Book.{Book, Trade, User, at, bilateralForDay, find, nobody}
 use Rattle.rules.specs.Calls.{idKnown, isShipper}
 use Rattle.rules.specs.Levels.{Limits, buys, exposure, flagged, holding, leastReferencePrice, sellerOf, shipper}
@@ -28,7 +27,7 @@ use Rattle.book.specs.declared.Book as struct
 use Rattle.records.specs.User.{asUser, blankUser}
 use Rattle.records.specs.declared.User as code
 use Rattle.risk.proofs.Places.{ready-read, user-in-book}
-use Rattle.risk.specs.Ready.{Ready, userIn}
+use Rattle.risk.specs.Ready.{userIn}
 use Rattle.entry.proofs.Calls.{found-user, query-found, query-refused}
 use Rattle.entry.specs.Entered.{Found}
 use Rattle.warning.specs.Warned.{ReadyAll, flaggedShipper, warnsBuyer}

@@ -26,7 +26,7 @@ fn place_of(b: Book, id: u32) -> usize
     questions::place(&ids, n, id)
 }
 
-// Is the user of an id a flagged shipper?
+// Is the seller of an id a flagged shipper?
 fn is_flagged_shipper(b: Book, id: u32, limits: Limits) -> bool
     requires { ⌜ ReadyAll b ⌝ }
     requires { ⌜ LimitsInRange (asLimits limits) ⌝ }
@@ -37,8 +37,8 @@ fn is_flagged_shipper(b: Book, id: u32, limits: Limits) -> bool
     if n <= i {
         return false;
     }
-    let user = risk::user_at(b, i);
-    if user.role != 0 {
+    let seller = risk::user_at(b, i);
+    if seller.role != 0 {
         return false;
     }
     risk::flagged_at(b, i, limits)

@@ -1,9 +1,7 @@
 -- `any_warns`: what is left to look at has the whole answer, until a trade warns or none is left. Assumes nothing.
 use mathlib.Core.Path.{sym, _∙_}
-use mathlib.Core.Bool.{Bool}
 use Prim.Native.Nat.{_≤_, _-_}
 use native.Mathlib.Omega.{arith}
-use Rattle.rules.specs.Book.{Trade}
 use Rattle.records.specs.Trade.{asTrade}
 use Rattle.book.specs.Book.{asBook}
 use Rattle.levels.specs.Limits.{asLimits}

@@ -1,6 +1,5 @@
 -- `is_flagged_shipper`: who is in no place is not flagged; else the user at the place is asked. Assumes nothing.
 use mathlib.Core.Path.{_≡_, sym, ap, _∙_}
-use Prim.Native.Nat.{_<_}
 use native.Mathlib.Omega.{arith}
 use Rattle.rules.specs.Book.{find}
 use Rattle.rules.specs.Levels.{flagged}

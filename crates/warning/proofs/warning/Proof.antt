@@ -1,6 +1,5 @@
 -- `warning` is refused by the entry, refused for a clearing house, or answered by the flag and then by the trades. Assumes nothing.
 use mathlib.Core.Path.{_≡_, sym, ap, _∙_}
-use mathlib.Core.Bool.{Bool}
 use mathlib.Core.List.{List}
 use Prim.Native.Nat.{ℕ}
 use native.Mathlib.Omega.{arith}
