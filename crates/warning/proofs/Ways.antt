@@ -6,8 +6,10 @@ use mathlib.Core.Path.{_≡_, refl, sym, ap, _∙_}
 use Prim.Native.Nat.{ℕ, _+_, _*_, _≤_, _<_}
 use native.Mathlib.Nat.{zero-mul}
 use native.Mathlib.Omega.{arith}
-use borrow.Author.Tests.{eq-eqb, le-ltb, lt-ltb, ne-eqb}
 use lib.ListN.{List·getD-eq-default, getD, length, length-map, length-take}
+use borrow.Author.Tests.{eq-eqb, le-ltb, lt-ltb, ne-eqb}
+use Rattle.integers.specs.Sums.{sum}
+use Rattle.integers.specs.Parts.{negPart}
 use Rattle.rules.specs.Areas.{areas}
 use Rattle.rules.specs.Book.{Book, Trade, User, at, bilateralForDay, find, nobody}
 use Rattle.rules.specs.Calls.{idKnown, isShipper}
@@ -15,8 +17,8 @@ use Rattle.rules.specs.Levels.{Limits, buys, exposure, flagged, holding, leastR
 use Rattle.rules.specs.Lists.{any}
 use Rattle.rules.specs.Queries.{aWarning, aboutQuery, found, onlyNumber, warned, warning, warns}
 use Rattle.rules.specs.Questions.{decided, refusal}
-use Rattle.integers.specs.Sums.{sum}
-use Rattle.integers.specs.Parts.{negPart}
+use Rattle.records.specs.User.{asUser, blankUser}
+use Rattle.records.specs.declared.User as code
 use Rattle.format.specs.Book.{bookOf}
 use Rattle.format.specs.Questions.{aboutBytes}
 use Rattle.format.specs.Steps.{placeOf, replyBytes}
@@ -24,8 +26,6 @@ use Rattle.format.proofs.OneUser.{find-place}
 use Rattle.format.proofs.Passed.{passed}
 use Rattle.book.specs.Book.{asBook}
 use Rattle.book.specs.declared.Book as struct
-use Rattle.records.specs.User.{asUser, blankUser}
-use Rattle.records.specs.declared.User as code
 use Rattle.risk.proofs.Places.{ready-read, user-in-book}
 use Rattle.risk.specs.Ready.{userIn}
 use Rattle.entry.proofs.Calls.{found-user, query-found, query-refused}
