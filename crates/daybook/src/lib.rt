@@ -7,6 +7,7 @@ ghost use Rattle.rules.specs.Queries.{morningLevelOf, afternoonLevelOf};
 ghost use Rattle.format.specs.Steps.{Called, replyBytes};
 ghost use Rattle.posting.specs.Posting.{postingOf};
 ghost use Rattle.guarantee.specs.Answers.{replyOf, answerOf};
+ghost use Rattle.warning.specs.Warned as warned;
 ghost use Rattle.questions.specs.Asked.{Opened};
 ghost use Rattle.transfer.specs.Written.{Written};
 ghost use Rattle.shown.specs.Shown.{Shown, picked};
@@ -14,6 +15,7 @@ use book::Book;
 use guarantee::CallAnswer;
 use guarantee::LevelAnswer;
 use questions::Opening;
+use warning::WarningAnswer;
 
 // The book that bytes hold, every field of it, and 0; or a book whose every field is 0 and the number of the first of the questions 1 to 7 that is answered by no.
 pub fn read(bytes: &[u8]) -> Opening
@@ -82,4 +84,11 @@ pub fn afternoon_call(book: &mut [u8], id: u32) -> CallAnswer
     ensures { λ r. ⌜ Called today (now (book .entry)) (afternoonCall id) (answerOf r) (now (book .exit)) ⌝ }
 {
     guarantee::afternoon_call(book, id)
+}
+
+// Whether a user is warned at midday.
+pub fn warning(book: &[u8], id: u32) -> WarningAnswer
+    ensures { λ r. ⌜ warned.replyOf r ≡ replyBytes today (now (book .entry)) (warned.warningOf id) ⌝ }
+{
+    warning::warning(book, id)
 }

@@ -4,27 +4,27 @@ use mathlib.Core.List.{List, [], _∷_, _++_}
 use mathlib.Core.Option.{some}
 use mathlib.Core.Path.{_≡_, refl, sym, ap, _∙_}
 use Prim.Native.Nat.{ℕ, _+_, _-_, _*_, _≤_, _<_}
+use native.Mathlib.Omega.{arith}
+use lib.Seq.{sets}
 use borrow.Author.Tests.{eq-eqb, ne-eqb, le-leb, lt-leb, ltb-true}
 use Rattle.rules.specs.Book.{Book, User, find}
 use Rattle.rules.specs.Levels.{Limits, shipper, calledIn, exceedsMargin}
 use Rattle.rules.specs.Questions.{refusal, decided}
 use Rattle.rules.specs.Calls.{about, assignedSuffices, calledInBeyondMargin, effect, guaranteed, idKnown, isShipper, marginExceeded, ofLevel, only, Answer, Call}
 use Rattle.rules.specs.Queries.{aboutQuery, aLevel, found, onlyNumber}
-use Rattle.format.specs.Book.{bookOf, userAt, usersOf}
+use Rattle.rules.specs.Changes.{blockedTo}
+use Rattle.fields.specs.Field.{AllBytes}
+use Rattle.records.specs.User.{asUser, blankUser, userBytes}
+use Rattle.records.specs.declared.User as code
+use Rattle.format.specs.Book.{bookOf, userAt}
 use Rattle.format.specs.Questions.{aboutBytes}
 use Rattle.format.specs.Steps.{Called, InBytes, inBytes, replyBytes, stepBytes}
 use Rattle.format.proofs.OneUser.{changed-bytes}
-use Rattle.fields.specs.Field.{AllBytes}
-use Rattle.rules.specs.Changes.{blockedTo}
-use lib.Seq.{sets}
+use Rattle.format.proofs.Passed.{passed}
 use Rattle.book.specs.declared.Book as struct
 use Rattle.book.specs.Book.{asBook}
-use Rattle.records.specs.User.{asUser, blankUser, userBytes}
-use Rattle.records.specs.declared.User as code
 use Rattle.risk.specs.Ready.{userIn, Ready}
 use Rattle.risk.proofs.Places.{ready-read}
-use Rattle.format.proofs.Passed.{passed}
-use native.Mathlib.Omega.{arith}
 use Rattle.entry.specs.Entered.{Found}
 use Rattle.entry.proofs.Calls.{call-found, call-refused, found-user, query-refused, query-found}
 use Rattle.guarantee.specs.Times.{levelOf, dueOf, queryOf, callOf}

@@ -129,7 +129,8 @@ fn blocked_to(mut user: User, level: Cents) -> User
 // The end of a call on the user at a place, with its level and the answer to question 11: asks question 12, and raises the user's record in the book.
 fn raise(book: &mut [u8], place: usize, user: User, level: Cents, due: bool) -> CallAnswer
     requires { ⌜ Raisable (now book) place (asUser user) (level .0) due ⌝ }
-    ensures { λ r. ⌜ (answerOf r ≡ raised (now (book .entry)) place (asUser user) (level .0) due .answer) × (now (book .exit) ≡ raised (now (book .entry)) place (asUser user) (level .0) due .bytes) ⌝ }
+    ensures { λ r. ⌜ answerOf r ≡ raised (now (book .entry)) place (asUser user) (level .0) due .answer ⌝ }
+    ensures { λ _. ⌜ now (book .exit) ≡ raised (now (book .entry)) place (asUser user) (level .0) due .bytes ⌝ }
 {
     let assigned = user.assigned;
     let blocked = user.blocked;

@@ -2,10 +2,8 @@
 use mathlib.Core.Path.{_≡_, ap}
 use Prim.Native.Nat.{ℕ, _+_, _-_}
 use native.Mathlib.Omega.{arith}
-use Rattle.rules.specs.Book.{User}
 use Rattle.rules.specs.Changes.{blockedTo}
 use Rattle.records.specs.User.{asUser}
-use borrow.Author.Needs.{needs}
 use Rattle.guarantee.proofs.blocked_to.Statement.{statement}
 use Rattle.guarantee.proofs.blocked_to.Tie as tie
 

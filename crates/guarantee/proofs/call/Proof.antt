@@ -1,5 +1,5 @@
 -- `call` is refused by the entry, refused for a clearing house, or ends as the questions 11 and 12 leave it. Assumes nothing.
-use mathlib.Core.Path.{_≡_, sym, ap, _∙_}
+use mathlib.Core.Path.{sym, ap, _∙_}
 use mathlib.Core.List.{List}
 use Prim.Native.Nat.{ℕ}
 use native.Mathlib.Omega.{arith}

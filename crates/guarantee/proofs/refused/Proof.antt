@@ -1,7 +1,6 @@
 -- `refused` has 0 in every field but the number. Assumes nothing.
 use mathlib.Core.Path.{refl}
 use Rattle.rules.specs.Calls.{only}
-use borrow.Author.Needs.{needs}
 use Rattle.guarantee.proofs.refused.Statement.{statement}
 use Rattle.guarantee.proofs.refused.Tie as tie
 

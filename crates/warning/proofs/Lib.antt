@@ -1,0 +1,2 @@
+-- The ways out of a warning.
+pub mod Ways

@@ -1,0 +1,142 @@
+-- The ways out of a warning, of a trade that warns, and of a flagged shipper by its place. Assumes nothing.
+use mathlib.Core.Bool.{Bool, true, false, _&&_}
+use mathlib.Core.List.{List, [], _∷_, _++_}
+use mathlib.Core.Option.{some}
+use mathlib.Core.Path.{_≡_, refl, sym, ap, _∙_}
+use Prim.Native.Nat.{ℕ, _+_, _*_, _≤_, _<_}
+use native.Mathlib.Nat.{zero-mul}
+use native.Mathlib.Omega.{arith}
+use lib.ListN.{List·getD-eq-default, getD, length, length-map, length-take}
+use borrow.Author.Tests.{eq-eqb, le-ltb, lt-ltb, ne-eqb}
+use Rattle.integers.specs.Sums.{sum}
+use Rattle.integers.specs.Parts.{negPart}
+use Rattle.rules.specs.Areas.{areas}
+use Rattle.rules.specs.Book.{Book, Trade, User, at, bilateralForDay, find, nobody}
+use Rattle.rules.specs.Calls.{idKnown, isShipper}
+use Rattle.rules.specs.Levels.{Limits, buys, exposure, flagged, holding, leastReferencePrice, sellerOf, shipper}
+use Rattle.rules.specs.Lists.{any}
+use Rattle.rules.specs.Queries.{aWarning, aboutQuery, found, onlyNumber, warned, warning, warns}
+use Rattle.rules.specs.Questions.{decided, refusal}
+use Rattle.records.specs.User.{asUser, blankUser}
+use Rattle.records.specs.declared.User as code
+use Rattle.format.specs.Book.{bookOf}
+use Rattle.format.specs.Questions.{aboutBytes}
+use Rattle.format.specs.Steps.{placeOf, replyBytes}
+use Rattle.format.proofs.OneUser.{find-place}
+use Rattle.format.proofs.Passed.{passed}
+use Rattle.book.specs.Book.{asBook}
+use Rattle.book.specs.declared.Book as struct
+use Rattle.risk.proofs.Places.{ready-read, user-in-book}
+use Rattle.risk.specs.Ready.{userIn}
+use Rattle.entry.proofs.Calls.{found-user, query-found, query-refused}
+use Rattle.entry.specs.Entered.{Found}
+use Rattle.warning.specs.Warned.{ReadyAll, flaggedShipper, warnsBuyer}
+
+-- ---- a user by its place
+
+pub users-le : (b : struct.Book) → length (asBook b .users) ≤ b .«user_count»
+unfolding asBook
+users-le b = rw (length-map, length-take) (omega arith)
+
+-- the user at the place of an id is the user of the id
+pub user-of-place : (b : struct.Book) (id i : ℕ) → i ≡ placeOf (asBook b .users) id → i < b .«user_count» → asUser (userIn b i) ≡ find (asBook b .users) id
+user-of-place b id i e h =
+    sym (find-place (asBook b .users) id ∙ ap (λ (n : ℕ). getD (asBook b .users) n nobody) (sym e) ∙ user-in-book b i h)
+
+pub role-is : {u x : code.User} {v : User} → u ≡ x → asUser x ≡ v → u .role ≡ v .party .role
+unfolding asUser
+role-is e h = ap (λ (y : code.User). y .role) e ∙ ap (λ (y : User). y .party .role) h
+
+-- ---- a flagged shipper
+
+-- nobody has no short position
+unflagged-nobody : (limits : Limits) (b : Book) → flagged limits b nobody ≡ false
+unfolding flagged exposure holding nobody at sum areas negPart
+unflagged-nobody limits b = simp zero-mul (le-ltb (limits .flagMwh * leastReferencePrice (b .header .prices) + nobody .blocked) (0 + (0 + (0 + 0))) (omega arith))
+
+module _ (limits : Limits) (b : Book) where
+  pub shipper-unknown : (id : ℕ) → length (b .users) ≤ placeOf (b .users) id → false ≡ flaggedShipper limits b (find (b .users) id)
+  unfolding flaggedShipper
+  shipper-unknown id h =
+      let e : find (b .users) id ≡ nobody = find-place (b .users) id ∙ List·getD-eq-default (b .users) nobody h in
+      rw (e, unflagged-nobody limits b) (go (shipper nobody))
+    where
+      go : (p : Bool) → false ≡ (p && false)
+      go true = refl
+      go false = refl
+
+  pub shipper-no : (u : User) → (u .party .role ≡ 0 → ⊥) → false ≡ flaggedShipper limits b u
+  unfolding flaggedShipper shipper
+  shipper-no u h = rw (ne-eqb (u .party .role) 0 h)
+
+  pub shipper-yes : (u : User) → u .party .role ≡ 0 → flagged limits b u ≡ flaggedShipper limits b u
+  unfolding flaggedShipper shipper
+  shipper-yes u h = rw (eq-eqb (u .party .role) 0 h)
+
+  -- ---- a trade that warns its buyer
+
+  pub other-buyer : (id : ℕ) (t : Trade) → (t .terms .buyer ≡ id → ⊥) → false ≡ warnsBuyer limits b id t
+  unfolding warnsBuyer
+  other-buyer id t h = rw (ne-eqb (t .terms .buyer) id h)
+
+  module _ (id : ℕ) (t : Trade) (h : t .terms .buyer ≡ id) where
+    pub other-kind : bilateralForDay t ≡ false → false ≡ warnsBuyer limits b id t
+    unfolding warnsBuyer warns
+    other-kind k = rw (eq-eqb (t .terms .buyer) id h, k)
+
+    module _ (k : bilateralForDay t ≡ true) where
+      pub nothing-stands : t .standing ≡ 0 → false ≡ warnsBuyer limits b id t
+      unfolding warnsBuyer warns
+      nothing-stands e = rw (eq-eqb (t .terms .buyer) id h, k, le-ltb 0 (t .standing) (omega arith))
+
+      pub by-seller : (t .standing ≡ 0 → ⊥) → flaggedShipper limits b (find (b .users) (t .terms .seller)) ≡ warnsBuyer limits b id t
+      unfolding warnsBuyer warns flaggedShipper sellerOf
+      by-seller e = rw (eq-eqb (t .terms .buyer) id h, k, lt-ltb 0 (t .standing) (omega arith))
+
+  -- ---- who is warned
+
+  pub warned-flagged : (u : User) → flagged limits b u ≡ true → true ≡ warned limits b u
+  unfolding warned
+  warned-flagged u h = rw h
+
+  pub warned-buyer : (u : User) → flagged limits b u ≡ false → any (warnsBuyer limits b (u .party .id)) (b .trades) ≡ warned limits b u
+  unfolding warned warnsBuyer buys
+  warned-buyer u h = rw h
+
+-- ---- the user that the entry found
+
+module _ {s : List ℕ} {id place : ℕ} {b : struct.Book} (f : Found s id place b) where
+  pub found-ready : ReadyAll b
+  found-ready =
+      let p = passed s (f .passes) in
+      record { few = omega (arith, f .read .users, p .form .users); each = ready-read (f .read) (p .sound) }
+
+  pub found-place : place < b .«user_count»
+  found-place = omega (arith, f .known, f .read .users)
+
+  -- it stands at the place
+  pub found-in : asUser (userIn b place) ≡ find (bookOf s .users) id
+  unfolding userIn bookOf
+  found-in = found-user s id place b f blankUser
+
+  -- its warning is the same in the bytes
+  pub warned-same : {l m : Limits} → l ≡ m → warned l (asBook b) (asUser (userIn b place)) ≡ warned m (bookOf s) (find (bookOf s .users) id)
+  warned-same e = cc (e, f .read .book, found-in)
+
+-- ---- a warning
+
+module _ (limits : Limits) (s : List ℕ) (id : ℕ) where
+  pub warning-refused : (n : ℕ) → refusal (aboutBytes s ++ (idKnown (bookOf s) id ∷ [])) ≡ some n → onlyNumber n ≡ replyBytes limits s (warning id)
+  unfolding aboutQuery
+  warning-refused n h = rw (query-refused limits s id (isShipper (find (bookOf s .users) id) ∷ []) (warning id) refl n h)
+
+  module _ {place : ℕ} {b : struct.Book} (f : Found s id place b) where
+    pub warning-of-house : (find (bookOf s .users) id .party .role ≡ 0 → ⊥) → onlyNumber 9 ≡ replyBytes limits s (warning id)
+    unfolding aboutQuery isShipper shipper refusal decided
+    warning-of-house h =
+        rw (query-found limits s id (isShipper (find (bookOf s .users) id) ∷ []) (warning id) refl f, ne-eqb (find (bookOf s .users) id .party .role) 0 h)
+
+    pub warning-found : find (bookOf s .users) id .party .role ≡ 0 → aWarning (warned limits (bookOf s) (find (bookOf s .users) id)) ≡ replyBytes limits s (warning id)
+    unfolding aboutQuery isShipper shipper refusal decided found
+    warning-found h =
+        rw (query-found limits s id (isShipper (find (bookOf s .users) id) ∷ []) (warning id) refl f, eq-eqb (find (bookOf s .users) id .party .role) 0 h)

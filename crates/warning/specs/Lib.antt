@@ -1,0 +1,2 @@
+-- Who is warned.
+pub mod Warned
