@@ -1,5 +1,6 @@
-// A call on the largest book (64 users, 256 trades), repeated, for timing from the shell: the first argument is the call (r read, w write, s show) and the second how
-// often it is made. Only the number of the last call is printed. One byte of a toll changes from turn to turn, so that no turn can be left out.
+// A call on the largest book (64 users, 256 trades), repeated, for timing from the shell: the first argument is the call (r read, w write, s show, l afternoon level) and the
+// second how often it is made. Only the number of the last call is printed. One byte of a toll changes from turn to turn, so that no turn can be left out.
+use book::Book;
 use libc::STDOUT_FILENO;
 
 // The id of the last user of the book, the last that a search finds.
@@ -38,49 +39,34 @@ fn alter(book: &mut [u8], turn: u64) {
     }
 }
 
-fn read_again(book: &mut [u8], times: u64) -> u32 {
-    let mut number = 0;
-    let mut turn = 0;
-    while turn < times {
-        alter(book, turn);
+// One call; b is the book in its fields.
+fn once(call: u8, book: &mut [u8], b: Book) -> u32 {
+    if call == b'r' {
         let opening = daybook::read(book);
-        number = opening.number;
-        turn += 1;
+        return opening.number;
     }
+    if call == b'w' {
+        return daybook::write(b, book);
+    }
+    if call == b'l' {
+        let answer = daybook::afternoon_level(book, LAST_ID);
+        return answer.number;
+    }
+    let mut number = 0;
+    daybook::show(book, LAST_ID, &mut number);
     number
 }
 
-fn write_again(book: &mut [u8], times: u64) -> u32 {
+fn repeat(call: u8, book: &mut [u8], times: u64) -> u32 {
     let opening = daybook::read(book);
     let mut number = opening.number;
     let mut turn = 0;
     while turn < times {
         alter(book, turn);
-        number = daybook::write(opening.book, book);
+        number = once(call, book, opening.book);
         turn += 1;
     }
     number
-}
-
-fn show_again(book: &mut [u8], times: u64) -> u32 {
-    let mut number = 0;
-    let mut turn = 0;
-    while turn < times {
-        alter(book, turn);
-        daybook::show(book, LAST_ID, &mut number);
-        turn += 1;
-    }
-    number
-}
-
-fn repeat(call: u8, book: &mut [u8], times: u64) -> u32 {
-    if call == b'r' {
-        read_again(book, times)
-    } else if call == b'w' {
-        write_again(book, times)
-    } else {
-        show_again(book, times)
-    }
 }
 
 fn main() {

@@ -1,17 +1,20 @@
--- `timing::read_again` is safe and ends: the book keeps its length, and `turn` counts up to `times`.
+-- `timing::repeat` is safe and ends: the book keeps its length, and `turn` counts up to `times`.
 -- Assumes nothing.
 use Prim.Native.Nat.{_≤_, _-_}
 use mathlib.Core.Path.{_≡_}
 use lib.ListN.{length}
 use borrow.Author.Needs.{needs}
-use Rattle.timing.proofs.read_again.Statement.{statement}
-use Rattle.timing.proofs.read_again.Tie as tie
+use Rattle.timing.proofs.repeat.Statement.{statement}
+use Rattle.timing.proofs.repeat.Tie as tie
 
 abbrev Inv-loop : tie.InvT-loop
-Inv-loop book₀ times number₀ turn₀ book number turn = (length book₀ ≡ length book) × (turn ≤ times)
+Inv-loop call book₀ times opening number₀ turn₀ book number turn = (length book₀ ≡ length book) × (turn ≤ times)
 
 abbrev μ-loop : tie.MeasureT-loop
-μ-loop book₀ times number₀ turn₀ book number turn = times - turn
+μ-loop call book₀ times opening number₀ turn₀ book number turn = times - turn
+
+read-requires : tie.Need-read-requires Inv-loop μ-loop
+read-requires c κs = search needs
 
 loop-holds : tie.Need-loop-holds Inv-loop μ-loop
 loop-holds c = search needs
@@ -19,8 +22,8 @@ loop-holds c = search needs
 alter-requires : tie.Need-alter-requires Inv-loop μ-loop
 alter-requires c κs = search needs
 
-read-requires : tie.Need-read-requires Inv-loop μ-loop
-read-requires c κs = search needs
+once-requires : tie.Need-once-requires Inv-loop μ-loop
+once-requires c κs = search needs
 
 add-turn : tie.Need-add-turn Inv-loop μ-loop
 add-turn c = search needs
@@ -37,15 +40,16 @@ same-length c = search needs
 returns : tie.Need-returns Inv-loop μ-loop
 returns c = search needs
 
-pub read-again-spec : {M : Type 1} → statement M
-read-again-spec =
+pub repeat-spec : {M : Type 1} → statement M
+repeat-spec =
     tie.close
     (tie.spec
     Inv-loop
     μ-loop
+    read-requires
     loop-holds
     alter-requires
-    read-requires
+    once-requires
     add-turn
     loop-less
     loop-again
