@@ -8,6 +8,7 @@ ghost use Rattle.format.specs.Steps.{Called, replyBytes};
 ghost use Rattle.posting.specs.Posting.{postingOf};
 ghost use Rattle.guarantee.specs.Answers.{replyOf, answerOf};
 ghost use Rattle.warning.specs.Warned as warned;
+ghost use Rattle.reduce.specs.Answers as reducing;
 ghost use Rattle.questions.specs.Asked.{Opened};
 ghost use Rattle.transfer.specs.Written.{Written};
 ghost use Rattle.shown.specs.Shown.{Shown, picked};
@@ -15,6 +16,7 @@ use book::Book;
 use guarantee::CallAnswer;
 use guarantee::LevelAnswer;
 use questions::Opening;
+use reduce::ReductionAnswer;
 use warning::WarningAnswer;
 
 // The book that bytes hold, every field of it, and 0; or a book whose every field is 0 and the number of the first of the questions 1 to 7 that is answered by no.
@@ -91,4 +93,11 @@ pub fn warning(book: &[u8], id: u32) -> WarningAnswer
     ensures { λ r. ⌜ warned.replyOf r ≡ replyBytes today (now (book .entry)) (warned.warningOf id) ⌝ }
 {
     warning::warning(book, id)
+}
+
+// Cuts a user's bilateral sales for what its afternoon level exceeds its assigned guarantee by.
+pub fn reduction(book: &mut [u8], id: u32) -> ReductionAnswer
+    ensures { λ r. ⌜ Called today (now (book .entry)) (reducing.reductionOf id) (reducing.answerOf r) (now (book .exit)) ⌝ }
+{
+    reduce::reduction(book, id)
 }

@@ -10,44 +10,32 @@ use borrow.Author.Tests.{eq-eqb, ne-eqb, le-leb, lt-leb, ltb-true}
 use Rattle.rules.specs.Book.{Book, User, find}
 use Rattle.rules.specs.Levels.{Limits, shipper, calledIn, exceedsMargin}
 use Rattle.rules.specs.Questions.{refusal, decided}
-use Rattle.rules.specs.Calls.{about, assignedSuffices, calledInBeyondMargin, effect, guaranteed, idKnown, isShipper, marginExceeded, ofLevel, only, Answer, Call}
+use Rattle.rules.specs.Calls.{about, assignedSuffices, calledInBeyondMargin, effect, guaranteed, idKnown, isShipper, marginExceeded, ofLevel, only}
 use Rattle.rules.specs.Queries.{aboutQuery, aLevel, found, onlyNumber}
 use Rattle.rules.specs.Changes.{blockedTo}
 use Rattle.fields.specs.Field.{AllBytes}
-use Rattle.records.specs.User.{asUser, blankUser, userBytes}
+use Rattle.records.specs.User.{asUser, userBytes}
 use Rattle.records.specs.declared.User as code
 use Rattle.format.specs.Book.{bookOf, userAt}
 use Rattle.format.specs.Questions.{aboutBytes}
-use Rattle.format.specs.Steps.{Called, InBytes, inBytes, replyBytes, stepBytes}
+use Rattle.format.specs.Steps.{inBytes, replyBytes, stepBytes}
 use Rattle.format.proofs.OneUser.{changed-bytes}
 use Rattle.format.proofs.Passed.{passed}
 use Rattle.book.specs.declared.Book as struct
 use Rattle.book.specs.Book.{asBook}
-use Rattle.risk.specs.Ready.{userIn, Ready}
-use Rattle.risk.proofs.Places.{ready-read}
+use Rattle.risk.specs.Ready.{userIn}
 use Rattle.entry.specs.Entered.{Found}
-use Rattle.entry.proofs.Calls.{call-found, call-refused, found-user, query-refused, query-found}
+use Rattle.entry.proofs.Calls.{call-found, call-refused, query-refused, query-found}
+use Rattle.found.proofs.User.{found-in, found-role}
 use Rattle.guarantee.specs.Times.{levelOf, dueOf, queryOf, callOf}
 use Rattle.guarantee.specs.Answers.{lastQuestions, raised}
 
 -- ---- the user that the entry found
 
 module _ {s : List ℕ} {id place : ℕ} {b : struct.Book} (f : Found s id place b) where
-  pub found-ready : Ready b place
-  found-ready = ready-read (f .read) (passed s (f .passes) .sound) place (omega (arith, f .known, f .read .users))
-
-  -- it stands at the place
-  pub found-in : asUser (userIn b place) ≡ find (bookOf s .users) id
-  unfolding userIn bookOf
-  found-in = found-user s id place b f blankUser
-
-  pub found-role : {u : code.User} → u ≡ userIn b place → u .role ≡ find (bookOf s .users) id .party .role
-  unfolding asUser
-  found-role e = ap (λ (v : code.User). v .role) e ∙ ap (λ (v : User). v .party .role) found-in
-
   -- its level is the same in the bytes
   pub level-same : (afternoon : Bool) {l m : Limits} → l ≡ m → levelOf afternoon l (asBook b) (asUser (userIn b place)) ≡ levelOf afternoon m (bookOf s) (find (bookOf s .users) id)
-  level-same afternoon e = cc (e, f .read .book, found-in)
+  level-same afternoon e = cc (e, f .read .book, found-in f)
 
 -- ---- a level
 
@@ -122,10 +110,6 @@ call-effects : (limits : Limits) (b : Book) (id : ℕ) (afternoon : Bool) → ef
 unfolding effect levelOf
 call-effects limits b id true = refl
 call-effects limits b id false = refl
-
--- what a call gives is its contract
-pub called : {limits : Limits} {s t : List ℕ} {a x : Answer} (c : Call) → a ≡ x → stepBytes limits s c ≡ record { answer = x; bytes = t } → Called limits s c a t
-called c h e = record { answer = h ∙ sym (ap (λ (r : InBytes). r .answer) e); bytes = sym (ap (λ (r : InBytes). r .bytes) e) }
 
 module _ (limits : Limits) (s : List ℕ) (id : ℕ) (afternoon : Bool) where
   -- the user, its level, and the answer to question 11

@@ -17,8 +17,7 @@ use Rattle.rules.specs.Levels.{Limits, buys, exposure, flagged, holding, leastR
 use Rattle.rules.specs.Lists.{any}
 use Rattle.rules.specs.Queries.{aWarning, aboutQuery, found, onlyNumber, warned, warning, warns}
 use Rattle.rules.specs.Questions.{decided, refusal}
-use Rattle.records.specs.User.{asUser, blankUser}
-use Rattle.records.specs.declared.User as code
+use Rattle.records.specs.User.{asUser}
 use Rattle.format.specs.Book.{bookOf}
 use Rattle.format.specs.Questions.{aboutBytes}
 use Rattle.format.specs.Steps.{placeOf, replyBytes}
@@ -26,9 +25,10 @@ use Rattle.format.proofs.OneUser.{find-place}
 use Rattle.format.proofs.Passed.{passed}
 use Rattle.book.specs.Book.{asBook}
 use Rattle.book.specs.declared.Book as struct
-use Rattle.risk.proofs.Places.{ready-read, user-in-book}
+use Rattle.risk.proofs.Places.{user-in-book}
 use Rattle.risk.specs.Ready.{userIn}
-use Rattle.entry.proofs.Calls.{found-user, query-found, query-refused}
+use Rattle.entry.proofs.Calls.{query-found, query-refused}
+use Rattle.found.proofs.User.{found-each, found-in}
 use Rattle.entry.specs.Entered.{Found}
 use Rattle.warning.specs.Warned.{ReadyAll, flaggedShipper, warnsBuyer}
 
@@ -42,10 +42,6 @@ users-le b = rw (length-map, length-take) (omega arith)
 pub user-of-place : (b : struct.Book) (id i : ℕ) → i ≡ placeOf (asBook b .users) id → i < b .«user_count» → asUser (userIn b i) ≡ find (asBook b .users) id
 user-of-place b id i e h =
     sym (find-place (asBook b .users) id ∙ ap (λ (n : ℕ). getD (asBook b .users) n nobody) (sym e) ∙ user-in-book b i h)
-
-pub role-is : {u x : code.User} {v : User} → u ≡ x → asUser x ≡ v → u .role ≡ v .party .role
-unfolding asUser
-role-is e h = ap (λ (y : code.User). y .role) e ∙ ap (λ (y : User). y .party .role) h
 
 -- ---- a flagged shipper
 
@@ -106,22 +102,12 @@ module _ (limits : Limits) (b : Book) where
 -- ---- the user that the entry found
 
 module _ {s : List ℕ} {id place : ℕ} {b : struct.Book} (f : Found s id place b) where
-  pub found-ready : ReadyAll b
-  found-ready =
-      let p = passed s (f .passes) in
-      record { few = omega (arith, f .read .users, p .form .users); each = ready-read (f .read) (p .sound) }
-
-  pub found-place : place < b .«user_count»
-  found-place = omega (arith, f .known, f .read .users)
-
-  -- it stands at the place
-  pub found-in : asUser (userIn b place) ≡ find (bookOf s .users) id
-  unfolding userIn bookOf
-  found-in = found-user s id place b f blankUser
+  pub found-all : ReadyAll b
+  found-all = record { few = omega (arith, f .read .users, passed s (f .passes) .form .users); each = found-each f }
 
   -- its warning is the same in the bytes
   pub warned-same : {l m : Limits} → l ≡ m → warned l (asBook b) (asUser (userIn b place)) ≡ warned m (bookOf s) (find (bookOf s .users) id)
-  warned-same e = cc (e, f .read .book, found-in)
+  warned-same e = cc (e, f .read .book, found-in f)
 
 -- ---- a warning
 

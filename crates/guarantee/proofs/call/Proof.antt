@@ -14,7 +14,8 @@ use Rattle.levels.specs.Limits.{asLimits}
 use Rattle.risk.specs.Ready.{userIn}
 use Rattle.entry.specs.Entered.{Found}
 use Rattle.guarantee.specs.Times.{callOf}
-use Rattle.guarantee.proofs.Ways.{found-ready, found-role, due-above, called, call-unentered, call-of-house, call-ends}
+use Rattle.found.proofs.User.{found-ready, found-role, called}
+use Rattle.guarantee.proofs.Ways.{due-above, call-unentered, call-of-house, call-ends}
 use borrow.Author.Needs.{needs}
 use Rattle.guarantee.proofs.call.Statement.{statement}
 use Rattle.guarantee.proofs.call.Tie as tie

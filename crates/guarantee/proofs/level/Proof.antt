@@ -7,7 +7,8 @@ use denote.Ref.{now}
 use Rattle.rules.specs.Levels.{today}
 use Rattle.rules.specs.Queries.{aLevel, onlyNumber}
 use Rattle.entry.specs.Entered.{Found}
-use Rattle.guarantee.proofs.Ways.{found-ready, found-role, level-same, level-refused, level-of-house, level-found}
+use Rattle.found.proofs.User.{found-ready, found-role}
+use Rattle.guarantee.proofs.Ways.{level-same, level-refused, level-of-house, level-found}
 use borrow.Author.Needs.{needs}
 use Rattle.guarantee.proofs.level.Statement.{statement}
 use Rattle.guarantee.proofs.level.Tie as tie

@@ -7,7 +7,8 @@ use Rattle.records.specs.User.{asUser}
 use Rattle.book.specs.Book.{asBook}
 use Rattle.levels.specs.Limits.{asLimits}
 use Rattle.risk.specs.Ready.{userIn}
-use Rattle.warning.proofs.Ways.{users-le, user-of-place, role-is, shipper-unknown, shipper-no, shipper-yes}
+use Rattle.found.proofs.User.{role-is}
+use Rattle.warning.proofs.Ways.{users-le, user-of-place, shipper-unknown, shipper-no, shipper-yes}
 use borrow.Author.Needs.{needs}
 use Rattle.warning.proofs.is_flagged_shipper.Statement.{statement}
 use Rattle.warning.proofs.is_flagged_shipper.Tie as tie

@@ -14,7 +14,8 @@ use Rattle.levels.specs.Limits.{asLimits}
 use Rattle.risk.specs.Ready.{userIn}
 use Rattle.entry.specs.Entered.{Found}
 use Rattle.warning.specs.Warned.{warnsBuyer}
-use Rattle.warning.proofs.Ways.{role-is, found-ready, found-place, found-in, warned-flagged, warned-buyer, warned-same, warning-refused, warning-of-house, warning-found}
+use Rattle.found.proofs.User.{found-ready, found-place, found-role}
+use Rattle.warning.proofs.Ways.{found-all, warned-flagged, warned-buyer, warned-same, warning-refused, warning-of-house, warning-found}
 use borrow.Author.Needs.{needs}
 use Rattle.warning.proofs.warning.Statement.{statement}
 use Rattle.warning.proofs.warning.Tie as tie
@@ -38,7 +39,7 @@ returns c =
     warning-refused today (bytes e) (asked e) (e .enter .result .number) (e .enter .ensures .refused (c .if1 .taken))
 
 user-at-requires : tie.Need-user-at-requires
-user-at-requires c κs = omega (arith, found-place (found (c .before)), found-ready (found (c .before)) .few)
+user-at-requires c κs = omega (arith, found-place (found (c .before)), found-ready (found (c .before)) .users)
 
 returns-2 : tie.Need-returns-2
 unfolding onlyNumber
@@ -46,7 +47,7 @@ returns-2 c =
     let u = c .before .before in
     let e = u .before .before .before in
     let f = found (u .before .before) in
-    warning-of-house today (bytes e) (asked e) f (λ h. c .if2 .taken (role-is (u .user-at .ensures) (found-in f) ∙ h))
+    warning-of-house today (bytes e) (asked e) f (λ h. c .if2 .taken (found-role f (u .user-at .ensures) ∙ h))
 
 today-requires : tie.Need-today-requires
 today-requires c κs = search needs
@@ -54,7 +55,7 @@ today-requires c κs = search needs
 flagged-at-requires : tie.Need-flagged-at-requires
 flagged-at-requires c κs =
     let f = found (c .before .before .before .before .before) in
-    (found-ready f .each (c .before .before .before .before .before .before .enter .result .place) (found-place f), c .today .ensures .1)
+    (found-ready f, c .today .ensures .1)
 
 returns-3 : tie.Need-returns-3
 unfolding aWarning
@@ -68,7 +69,7 @@ returns-3 c =
     ap aWarning
     (warned-flagged (asLimits (t .today .result)) (asBook b) (asUser (userIn b (e .enter .result .place))) (sym (g .flagged-at .ensures) ∙ c .if3 .taken)
     ∙ warned-same f (t .today .ensures .0))
-    ∙ warning-found today (bytes e) (asked e) f (sym (role-is (u .user-at .ensures) (found-in f)) ∙ t .before .if2 .left)
+    ∙ warning-found today (bytes e) (asked e) f (sym (found-role f (u .user-at .ensures)) ∙ t .before .if2 .left)
 
 cast-count : tie.Need-cast-count
 cast-count c = search needs
@@ -78,7 +79,7 @@ any-warns-requires c κs =
     let t = c .before .before .before .before in
     let o = t .before .before .before .before .before in
     let f = found o in
-    (found-ready f, (t .today .ensures .1, found-ready f .each (o .before .enter .result .place) (found-place f) .trades))
+    (found-all f, (t .today .ensures .1, found-ready f .trades))
 
 -- the trades tell whether the user is warned that is not flagged
 by-trades : (c : tie.After-any-warns) → let n = c .before .before .before in let t = n .before .before in let e = t .before .before .before .before .before .before in
@@ -106,7 +107,7 @@ returns-4 c =
     (by-trades c
     ∙ warned-buyer (asLimits (t .today .result)) (asBook b) (asUser (userIn b (e .enter .result .place))) (sym (g .flagged-at .ensures) ∙ n .if3 .left)
     ∙ warned-same f (t .today .ensures .0))
-    ∙ warning-found today (bytes e) (asked e) f (sym (role-is (u .user-at .ensures) (found-in f)) ∙ t .before .if2 .left)
+    ∙ warning-found today (bytes e) (asked e) f (sym (found-role f (u .user-at .ensures)) ∙ t .before .if2 .left)
 
 pub warning-spec : {M : Type 1} → statement M
 warning-spec =

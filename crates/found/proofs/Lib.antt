@@ -1,0 +1,2 @@
+-- The user that the entry of a call found.
+pub mod User

@@ -1,0 +1,2 @@
+-- The answers of a reduction, and the questions that are its own.
+pub mod Answers
