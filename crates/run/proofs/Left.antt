@@ -14,7 +14,7 @@ use Rattle.rules.specs.Calls.{Answer, Result, cuttable, nextReduced, ofRun, onl
 use Rattle.rules.specs.Levels.{Limits}
 use Rattle.rules.specs.Reduction.{target}
 use Rattle.run.proofs.Next.{users-length}
-use Rattle.run.specs.Reductions.{NextAt, RanOf, Reducing, ReducedOnce, nth, reducedAt, wholeRun}
+use Rattle.run.specs.Reductions.{NextAt, RanOf, Reducing, ReducedOnce, nth, reducedAt, totals, wholeRun}
 use Rattle.run.specs.declared.Ran.{Ran}
 use Rattle.rules.specs.Book as model
 
@@ -57,7 +57,7 @@ run-answer limits (suc n) b = onward-answer limits b (nextReduced limits b (b .u
 unfoldable pub continued : Ran → Result → Result
 continued r rest =
     record {
-      answer = ofRun (r .reductions + rest .answer .reductions) (r .mwh .0 + rest .answer .mwh) (r .worth .0 + rest .answer .worth);
+      answer = ofRun (r .totals .reductions + rest .answer .reductions) (r .totals .mwh .0 + rest .answer .mwh) (r .totals .worth .0 + rest .answer .worth);
       book = rest .book;
     }
 
@@ -71,15 +71,18 @@ pub record Left (limits : Limits) (b : Book) (r : Ran) : Type 0 where
   pub whole : continued r (wholeRun limits (asBook (r .book))) ≡ wholeRun limits (asBook b)
   pub users : r .book .«user_count» ≡ b .«user_count»
   pub trades : r .book .«trade_count» ≡ b .«trade_count»
-  pub reductions-most : r .reductions + cuttable (asBook (r .book) .trades) ≤ 25600000
-  pub mwh-most : r .mwh .0 + cuttable (asBook (r .book) .trades) ≤ 25600000
-  pub worth-most : r .worth .0 + 100000 * cuttable (asBook (r .book) .trades) ≤ 2560000000000
+  pub reductions-most : r .totals .reductions + cuttable (asBook (r .book) .trades) ≤ 25600000
+  pub mwh-most : r .totals .mwh .0 + cuttable (asBook (r .book) .trades) ≤ 25600000
+  pub worth-most : r .totals .worth .0 + 100000 * cuttable (asBook (r .book) .trades) ≤ 2560000000000
 
 module _ (limits : Limits) (b : Book) where
   -- before the first reduction
-  pub left-start : (r : Ran) → Accepted b → r .book ≡ b → r .reductions ≡ 0 → r .mwh .0 ≡ 0 → r .worth .0 ≡ 0 → Left limits b r
-  unfolding continued
-  left-start r h e x y z =
+  pub left-start : (r : Ran) → Accepted b → r .book ≡ b → totals (r .totals) ≡ ofRun 0 0 0 → Left limits b r
+  unfolding continued ofRun
+  left-start r h e empty =
+      let x : r .totals .reductions ≡ 0 = ap (λ (a : Answer). a .reductions) empty in
+      let y : r .totals .mwh .0 ≡ 0 = ap (λ (a : Answer). a .mwh) empty in
+      let z : r .totals .worth .0 ≡ 0 = ap (λ (a : Answer). a .worth) empty in
       let a = wholeRun limits (asBook b) .answer in
       let most = cuttable-most (asBook b) (h .sound) in
       record {
@@ -99,9 +102,11 @@ module _ (limits : Limits) (b : Book) where
     left-reducing h =
         record {
           reducible = record { accepted = l .accepted; inside = h };
-          reductions-most = omega (arith, l .reductions-most);
-          mwh-most = omega (arith, l .mwh-most);
-          worth-most = omega (arith, l .worth-most);
+          within = record {
+            reductions-most = omega (arith, l .reductions-most);
+            mwh-most = omega (arith, l .mwh-most);
+            worth-most = omega (arith, l .worth-most);
+          };
         }
 
     module _ (h : place < r .book .«user_count») {n : Ran} (o : ReducedOnce limits r place n) where
@@ -146,7 +151,7 @@ module _ (limits : Limits) (b : Book) where
         let c = asBook (r .book) in
         let e : continued r (record { answer = only 0; book = c }) ≡ wholeRun limits (asBook b) =
         ap (continued r) (sym (run-stops limits (cuttable (c .trades)) c (next-none-at limits (r .book) (l .accepted) at h))) ∙ l .whole in
-        let f : _≡_ {A = Result} (record { answer = ofRun (r .reductions) (r .mwh .0) (r .worth .0); book = c }) (wholeRun limits (asBook b)) =
+        let f : _≡_ {A = Result} (record { answer = totals (r .totals); book = c }) (wholeRun limits (asBook b)) =
         same-totals c (omega arith) (omega arith) (omega arith) ∙ e in
         record {
           answer = ap (λ (x : Result). x .answer) f;

@@ -11,10 +11,10 @@ use Rattle.reduction.specs.Reduction.{Reducible, ReducedBy, userAt}
 use Rattle.reduction.specs.declared.Reduced.{Reduced}
 use Rattle.risk.proofs.Places.{user-in-book}
 use Rattle.risk.specs.Ready.{userIn}
-use Rattle.rules.specs.Calls.{Answer, ofCuts, reduced, reducedBy}
+use Rattle.rules.specs.Calls.{Answer, ofCuts, ofRun, reduced, reducedBy}
 use Rattle.rules.specs.Levels.{Limits}
 use Rattle.rules.specs.Reduction.{target}
-use Rattle.run.specs.Reductions.{Reducing, ReducedOnce}
+use Rattle.run.specs.Reductions.{ReducedOnce, totals}
 use Rattle.run.specs.declared.Ran.{Ran}
 
 module _ (b : Book) (place asked : ℕ) {d : Reduced} (o : ReducedBy b place asked d) where
@@ -33,18 +33,18 @@ module _ (b : Book) (place asked : ℕ) {d : Reduced} (o : ReducedBy b place ask
 
 -- the reduction by its steps
 pub reduced-once : (limits : Limits) (r : Ran) (place asked : ℕ) {d : Reduced} {n : Ran} → Reducible (r .book) place → asked ≡ target limits (asBook (r .book)) (asUser (userIn (r .book) place))
-    → ReducedBy (r .book) place asked d → n .book ≡ d .book → n .reductions ≡ r .reductions + 1 → n .mwh .0 ≡ r .mwh .0 + d .tally .mwh .0
-    → n .worth .0 ≡ r .worth .0 + d .tally .worth .0 → ReducedOnce limits r place n
-unfolding reduced
-reduced-once limits r place asked {d} {n} h e o same reductions mwh worth =
+    → ReducedBy (r .book) place asked d → n .book ≡ d .book
+    → totals (n .totals) ≡ ofRun (r .totals .reductions + 1) (r .totals .mwh .0 + d .tally .mwh .0) (r .totals .worth .0 + d .tally .worth .0) → ReducedOnce limits r place n
+unfolding reduced ofRun
+reduced-once limits r place asked {d} {n} h e o same sums =
     let b = r .book in
     let t = target limits (asBook b) (userAt b place) in
     let p = subst (λ (k : ℕ). ReducedBy b place k d) (e ∙ ap (target limits (asBook b)) (sym (user-in-book b place (h .inside)))) o in
     record {
       book = ap asBook same ∙ p .book;
-      reductions = reductions;
-      mwh = omega (arith, mwh, reported b place t p .0);
-      worth = omega (arith, worth, reported b place t p .1);
+      reductions = ap (λ (a : Answer). a .reductions) sums;
+      mwh = omega (arith, ap (λ (a : Answer). a .mwh) sums, reported b place t p .0);
+      worth = omega (arith, ap (λ (a : Answer). a .worth) sums, reported b place t p .1);
       accepted = rw same (accepted-reduced b place t h p);
       users = rw same (p .users);
       trades = rw same (p .trades);

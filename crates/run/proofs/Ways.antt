@@ -14,19 +14,19 @@ use Rattle.format.specs.Steps.{Called, InBytes, inBytes, stepBytes}
 use Rattle.questions.specs.Asked.{Opened}
 use Rattle.reduction.proofs.Callers.{accepted-read}
 use Rattle.reduction.specs.Reduction.{Accepted}
-use Rattle.rules.specs.Calls.{about, effect, only, ofRun}
+use Rattle.rules.specs.Calls.{Answer, about, effect, only}
 use Rattle.rules.specs.Levels.{Limits}
 use Rattle.rules.specs.Questions.{decided, refusal}
 use Rattle.run.specs.Answers.{runCall}
-use Rattle.run.specs.Reductions.{RanOf, wholeRun}
+use Rattle.run.specs.Reductions.{RanOf, totals, wholeRun}
 use Rattle.run.specs.declared.Ran.{Ran}
 use Rattle.rules.specs.Book as model
 
 module _ (limits : Limits) (s : List ℕ) where
-  pub run-refused : (n : ℕ) → n ≡ bookNumber s → (n ≡ 0 → ⊥) → Called limits s runCall (only n) s
-  run-refused n e h =
+  pub run-refused : (n : ℕ) → n ≡ bookNumber s → (n ≡ 0 → ⊥) → {a : Answer} → a ≡ only n → Called limits s runCall a s
+  run-refused n e h same =
       let r = step-refused limits s runCall n e h in
-      record { answer = sym (ap (λ (x : InBytes). x .answer) r); bytes = sym (ap (λ (x : InBytes). x .bytes) r) }
+      record { answer = same ∙ sym (ap (λ (x : InBytes). x .answer) r); bytes = sym (ap (λ (x : InBytes). x .bytes) r) }
 
   -- a run asks no question of its own
   run-passed : bookNumber s ≡ 0 → stepBytes limits s runCall ≡ inBytes (wholeRun limits (bookOf s))
@@ -54,11 +54,11 @@ module _ (limits : Limits) (s : List ℕ) (n : ℕ) (b : Book) (o : Opened s n b
     in-bytes : wholeRun limits (asBook b) ≡ wholeRun limits (bookOf s)
     in-bytes = ap (wholeRun limits) (read .book)
 
-    pub run-called : {t : List ℕ} → BookWritten (r .book) t → Called limits s runCall (ofRun (r .reductions) (r .mwh .0) (r .worth .0)) t
+    pub run-called : {t : List ℕ} {a : Answer} → BookWritten (r .book) t → a ≡ totals (r .totals) → Called limits s runCall a t
     unfolding inBytes
-    run-called w =
+    run-called w same =
         let e : stepBytes limits s runCall ≡ inBytes (wholeRun limits (asBook b)) = run-passed limits s passes ∙ ap inBytes (sym in-bytes) in
         record {
-          answer = ran .answer ∙ sym (ap (λ (x : InBytes). x .answer) e);
+          answer = same ∙ ran .answer ∙ sym (ap (λ (x : InBytes). x .answer) e);
           bytes = w .bytes ∙ ap bytesOf (ran .book) ∙ sym (ap (λ (x : InBytes). x .bytes) e);
         }

@@ -3,8 +3,11 @@ use book::Book;
 use levels::Limits;
 use units::Cents;
 use units::Mwh;
+use worths::Tally;
 ghost use mathlib.Core.Path.{_≡_};
 ghost use mathlib.Core.Bool.{_&&_};
+ghost use Prim.Native.Nat.{_+_, _≤_};
+ghost use Rattle.rules.specs.Calls.{only, ofRun};
 ghost use Rattle.rules.specs.Levels.{today, shortOfCover};
 ghost use Rattle.rules.specs.Reduction.{hasEligible};
 ghost use Rattle.records.specs.User.{asUser};
@@ -13,7 +16,7 @@ ghost use Rattle.book.specs.Book.{asBook};
 ghost use Rattle.levels.specs.Limits.{asLimits, LimitsInRange};
 ghost use Rattle.risk.specs.Ready.{userIn, Ready};
 ghost use Rattle.reduction.specs.Reduction.{Accepted};
-ghost use Rattle.run.specs.Reductions.{NextAt, Reducing, ReducedOnce, RanOf};
+ghost use Rattle.run.specs.Reductions.{NextAt, totals, Within, Reducing, ReducedOnce, RanOf};
 ghost use Rattle.run.specs.Answers.{runCall, answerOf};
 
 // ---- the next user
@@ -49,12 +52,44 @@ pub fn next_reduced(b: Book, limits: Limits) -> usize
 
 // ---- the run of a book by value
 
-// A run so far: the book that it leaves, the number of its reductions, the MWh cut and their worth.
-pub struct Ran {
-    pub book: Book,
+// The totals of a run: the number of its reductions, the MWh cut and their worth.
+pub struct Totals {
     pub reductions: u64,
     pub mwh: Mwh,
     pub worth: Cents,
+}
+
+impl Totals {
+    // The totals of no reduction.
+    fn none() -> Totals
+        ensures { λ r. ⌜ totals r ≡ ofRun 0 0 0 ⌝ }
+    {
+        Totals {
+            reductions: 0,
+            mwh: Mwh(0),
+            worth: Cents(0),
+        }
+    }
+
+    // The totals with one more reduction, by its tally.
+    fn with(mut self, tally: Tally) -> Totals
+        requires { ⌜ Within self ⌝ }
+        requires { ⌜ (tally .mwh .0 ≤ 25600000) × (tally .worth .0 ≤ 2560000000000) ⌝ }
+        ensures { λ r. ⌜ totals r ≡ ofRun (self .reductions + 1) (self .mwh .0 + tally .mwh .0) (self .worth .0 + tally .worth .0) ⌝ }
+    {
+        let mwh = Mwh(self.mwh.0 + tally.mwh.0);
+        let worth = Cents(self.worth.0 + tally.worth.0);
+        self.reductions = self.reductions + 1;
+        self.mwh = mwh;
+        self.worth = worth;
+        self
+    }
+}
+
+// A run so far: the book that it leaves, and its totals.
+pub struct Ran {
+    pub book: Book,
+    pub totals: Totals,
 }
 
 // A run with one more reduction: that of the user at a place, for its target.
@@ -64,17 +99,15 @@ fn reduce_next(ran: Ran, place: usize, limits: Limits) -> Ran
     ensures { λ r. ⌜ ReducedOnce (asLimits limits) ran place r ⌝ }
 {
     let b = ran.book;
+    let totals = ran.totals;
     let asked = risk::target_at(b, place, limits);
     let reduced = reduction::reduce_by(b, place, asked);
     let book = reduced.book;
     let tally = reduced.tally;
-    let mwh = Mwh(ran.mwh.0 + tally.mwh.0);
-    let worth = Cents(ran.worth.0 + tally.worth.0);
+    let totals = totals.with(tally);
     Ran {
         book: book,
-        reductions: ran.reductions + 1,
-        mwh: mwh,
-        worth: worth,
+        totals: totals,
     }
 }
 
@@ -85,11 +118,10 @@ pub fn run_book(b: Book) -> Ran
 {
     let limits = Limits::today();
     let n = b.user_count as usize;
+    let none = Totals::none();
     let mut ran = Ran {
         book: b,
-        reductions: 0,
-        mwh: Mwh(0),
-        worth: Cents(0),
+        totals: none,
     };
     let mut place = next_reduced(b, limits);
     while place < n {
@@ -110,6 +142,32 @@ pub struct RunAnswer {
     pub worth: Cents,
 }
 
+// The answer of a refused run: the number alone.
+fn refused(number: u32) -> RunAnswer
+    ensures { λ r. ⌜ answerOf r ≡ only number ⌝ }
+{
+    RunAnswer {
+        number: number,
+        reductions: 0,
+        mwh: Mwh(0),
+        worth: Cents(0),
+    }
+}
+
+// The answer of an accepted run: its totals.
+fn accepted(t: Totals) -> RunAnswer
+    ensures { λ r. ⌜ answerOf r ≡ totals t ⌝ }
+{
+    let mwh = t.mwh;
+    let worth = t.worth;
+    RunAnswer {
+        number: 0,
+        reductions: t.reductions,
+        mwh: mwh,
+        worth: worth,
+    }
+}
+
 // Runs the book that the bytes hold, and writes what the run leaves over them.
 pub fn run(book: &mut [u8]) -> RunAnswer
     ensures { λ r. ⌜ Called today (now (book .entry)) runCall (answerOf r) (now (book .exit)) ⌝ }
@@ -117,23 +175,12 @@ pub fn run(book: &mut [u8]) -> RunAnswer
     let opening = questions::open(book);
     let number = opening.number;
     if number != 0 {
-        return RunAnswer {
-            number: number,
-            reductions: 0,
-            mwh: Mwh(0),
-            worth: Cents(0),
-        };
+        return refused(number);
     }
     let b = opening.book;
     let ran = run_book(b);
     let after = ran.book;
-    let mwh = ran.mwh;
-    let worth = ran.worth;
+    let totals = ran.totals;
     book::write_book(book, after);
-    RunAnswer {
-        number: 0,
-        reductions: ran.reductions,
-        mwh: mwh,
-        worth: worth,
-    }
+    accepted(totals)
 }

@@ -23,21 +23,25 @@ today-requires c κs = search needs
 cast-n : tie.Need-cast-n Inv-loop μ-loop
 cast-n c = search needs
 
+none-requires : tie.Need-none-requires Inv-loop μ-loop
+none-requires c κs = search needs
+
 next-reduced-requires : tie.Need-next-reduced-requires Inv-loop μ-loop
-next-reduced-requires c κs = (c .before .before .pre, c .before .today .ensures .1)
+next-reduced-requires c κs = let t = c .before .before in (t .before .pre, t .today .ensures .1)
 
 loop-holds : tie.Need-loop-holds Inv-loop μ-loop
 loop-holds c =
-    let t = c .before .before in
-    (left-start (asLimits (t .today .result)) (t .before .args .b) _ (t .before .pre) refl refl refl refl, c .next-reduced .ensures)
+    let n = c .before in
+    let t = n .before .before in
+    (left-start (asLimits (t .today .result)) (t .before .args .b) _ (t .before .pre) refl (n .none .ensures), c .next-reduced .ensures)
 
 reduce-next-requires : tie.Need-reduce-next-requires Inv-loop μ-loop
 reduce-next-requires c κs =
     let l = c .before .loop in
-    (left-reducing _ _ (l .inv .0) (l .inv .1) (omega (arith, c .loop-test .taken, l .inv .0 .users)), c .before .before .before .before .today .ensures .1)
+    (left-reducing _ _ (l .inv .0) (l .inv .1) (omega (arith, c .loop-test .taken, l .inv .0 .users)), c .before .before .before .before .before .today .ensures .1)
 
 next-reduced-requires-2 : tie.Need-next-reduced-requires-2 Inv-loop μ-loop
-next-reduced-requires-2 c κs = (c .before .reduce-next .ensures .accepted, c .before .before .before .before .before .before .today .ensures .1)
+next-reduced-requires-2 c κs = (c .before .reduce-next .ensures .accepted, c .before .before .before .before .before .before .before .today .ensures .1)
 
 loop-less : tie.Need-loop-less Inv-loop μ-loop
 loop-less c =
@@ -54,7 +58,7 @@ loop-again c =
 returns : tie.Need-returns Inv-loop μ-loop
 returns c =
     let l = c .before .loop in
-    let t = c .before .before .before .before in
+    let t = c .before .before .before .before .before in
     subst (λ (limits : Limits). RanOf limits (t .before .args .b) (l .ran)) (t .today .ensures .0)
     (left-end _ _ (l .inv .0) (l .inv .1) (omega (arith, c .loop-test .left, l .inv .0 .users)))
 
@@ -66,6 +70,7 @@ run-book-spec =
     μ-loop
     today-requires
     cast-n
+    none-requires
     next-reduced-requires
     loop-holds
     reduce-next-requires
