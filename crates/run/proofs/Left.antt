@@ -1,6 +1,6 @@
 -- What is left of a run: added to the totals so far it is the whole run. What can still be cut bounds the totals. Assumes nothing.
 use mathlib.Core.List.{List, [], _∷_}
-use mathlib.Core.Option.{Option, none, some}
+use mathlib.Core.Option.{none, some}
 use mathlib.Core.Path.{_≡_, refl, sym, ap, _∙_}
 use Prim.Native.Nat.{ℕ, zero, suc, _+_, _*_, _≤_, _<_}
 use native.Mathlib.Nat.{not-suc-le-zero, le-of-suc-le-suc}
@@ -8,9 +8,9 @@ use native.Mathlib.Omega.{arith}
 use lib.ListN.{length, getD}
 use Rattle.book.specs.Book.{asBook}
 use Rattle.book.specs.declared.Book.{Book}
-use Rattle.laws.proofs.Fuel.{cuttable-most, reduced-less, reducedBy-mwh, reducedBy-worth, run-goes-on, run-stops}
+use Rattle.laws.proofs.Fuel.{cuttable-most, reduced-less, reducedBy-mwh, reducedBy-worth, run-answer, run-goes-on, run-stops}
 use Rattle.reduction.specs.Reduction.{Accepted, userAt}
-use Rattle.rules.specs.Calls.{Answer, Result, cuttable, nextReduced, ofRun, only, onward, reduced, runFor}
+use Rattle.rules.specs.Calls.{Answer, Result, cuttable, nextReduced, ofRun, only, onward, reduced}
 use Rattle.rules.specs.Levels.{Limits}
 use Rattle.rules.specs.Reduction.{target}
 use Rattle.run.proofs.Next.{users-length}
@@ -20,12 +20,14 @@ use Rattle.rules.specs.Book as model
 
 -- ---- the user at a place
 
+-- below the number of users
 nth-inside : (us : List model.User) (i : ℕ) → i < length us → nth us i ≡ some (getD us i model.nobody)
 unfolding nth
 nth-inside [] i h = absurd (not-suc-le-zero h)
 nth-inside (u ∷ us) zero h = refl
 nth-inside (u ∷ us) (suc i) h = nth-inside us i (le-of-suc-le-suc h)
 
+-- past the last
 nth-past : (us : List model.User) (i : ℕ) → length us ≤ i → nth us i ≡ none
 unfolding nth
 nth-past [] i h = refl
@@ -33,25 +35,15 @@ nth-past (u ∷ us) zero h = absurd (not-suc-le-zero h)
 nth-past (u ∷ us) (suc i) h = nth-past us i (le-of-suc-le-suc h)
 
 module _ (limits : Limits) (b : Book) (h : Accepted b) {place : ℕ} (at : NextAt limits b place) where
+  -- there is a next user, at this place
   next-some-at : place < b .«user_count» → nextReduced limits (asBook b) (asBook b .users) ≡ some (userAt b place)
   next-some-at l = at .next ∙ nth-inside (asBook b .users) place (omega (arith, users-length b h))
 
+  -- there is none
   next-none-at : b .«user_count» ≤ place → nextReduced limits (asBook b) (asBook b .users) ≡ none
   next-none-at l = at .next ∙ nth-past (asBook b .users) place (omega (arith, users-length b h))
 
 -- ---- the whole run
-
--- its answer has the three totals and nothing else
-onward-answer : (limits : Limits) (b : model.Book) (o : Option model.User) (more : model.Book → Result)
-    → let a = onward limits b o more .answer in a ≡ ofRun (a .reductions) (a .mwh) (a .worth)
-unfolding onward only ofRun
-onward-answer limits b none more = refl
-onward-answer limits b (some u) more = refl
-
-run-answer : (limits : Limits) (n : ℕ) (b : model.Book) → let a = runFor limits n b .answer in a ≡ ofRun (a .reductions) (a .mwh) (a .worth)
-unfolding runFor only ofRun
-run-answer limits zero b = refl
-run-answer limits (suc n) b = onward-answer limits b (nextReduced limits b (b .users)) (runFor limits n)
 
 -- totals so far, with those of what is left
 unfoldable pub continued : Ran → Result → Result
@@ -61,11 +53,13 @@ continued r rest =
       book = rest .book;
     }
 
+-- results of equal totals and one book
 same-totals : {x y z k m n : ℕ} (b : model.Book) → x ≡ k → y ≡ m → z ≡ n → _≡_ {A = Result} (record { answer = ofRun x y z; book = b }) (record { answer = ofRun k m n; book = b })
 same-totals b e f g = rw (e, f, g)
 
--- ---- what is left where the totals so far are these
+-- ---- what is left
 
+-- the run of b has come to r: r's totals and what is left of r's book are the whole run of b, and each total is bounded by what can no longer be cut
 pub record Left (limits : Limits) (b : Book) (r : Ran) : Type 0 where
   pub accepted : Accepted (r .book)
   pub whole : continued r (wholeRun limits (asBook (r .book))) ≡ wholeRun limits (asBook b)
@@ -83,7 +77,6 @@ module _ (limits : Limits) (b : Book) where
       let x : r .totals .reductions ≡ 0 = ap (λ (a : Answer). a .reductions) empty in
       let y : r .totals .mwh .0 ≡ 0 = ap (λ (a : Answer). a .mwh) empty in
       let z : r .totals .worth .0 ≡ 0 = ap (λ (a : Answer). a .worth) empty in
-      let a = wholeRun limits (asBook b) .answer in
       let most = cuttable-most (asBook b) (h .sound) in
       record {
         accepted = rw e h;

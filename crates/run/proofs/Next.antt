@@ -50,10 +50,12 @@ module _ (limits : Limits) (b : model.Book) where
 -- ---- the users of a book
 
 module _ (b : Book) (h : Accepted b) where
+  -- it has as many as its count says
   pub users-length : length (asBook b .users) ≡ b .«user_count»
   unfolding asBook
   users-length = front-length asUser (b .«user_count») (b .users) (omega (arith, h .users-few, h .user-room))
 
+  -- the risk of each can be told
   pub ready-accepted : (i : ℕ) → i < b .«user_count» → Ready b i
   ready-accepted i l = ready b i l (omega (arith, users-length)) (h .users-few) (h .trades-few) (h .sound)
 
@@ -63,10 +65,12 @@ pub record NextLeft (limits : Limits) (b : Book) (i : ℕ) : Type 0 where
   pub left : nextReduced limits (asBook b) (asBook b .users) ≡ nextReduced limits (asBook b) (drop i (asBook b .users))
 
 module _ (limits : Limits) (b : Book) (h : Accepted b) where
+  -- before the first
   pub next-start : NextLeft limits b 0
   next-start = record { within = omega arith; left = refl }
 
   module _ (i : ℕ) (l : NextLeft limits b i) (inside : i < b .«user_count») where
+    -- this user is the next
     pub next-found : {found : Bool} → found ≡ (shortOfCover limits (asBook b) (asUser (userIn b i)) && hasEligible (asBook b) (asUser (userIn b i))) → found ≡ true → NextAt limits b i
     next-found told e =
         record {
@@ -74,6 +78,7 @@ module _ (limits : Limits) (b : Book) (h : Accepted b) where
           within = l .within;
         }
 
+    -- it is not
     pub next-turn : {found : Bool} → found ≡ (shortOfCover limits (asBook b) (asUser (userIn b i)) && hasEligible (asBook b) (asUser (userIn b i))) → found ≡ false → NextLeft limits b (i + 1)
     next-turn told e =
         record {
@@ -81,6 +86,7 @@ module _ (limits : Limits) (b : Book) (h : Accepted b) where
           left = l .left ∙ rw add-one (next-after limits (asBook b) (asBook b .users) i (omega (arith, users-length b h)) (rw (user-in-book b i inside) (sym told ∙ e)));
         }
 
+  -- none is left
   pub next-none-left : (i : ℕ) → NextLeft limits b i → b .«user_count» ≤ i → NextAt limits b (b .«user_count»)
   next-none-left i l past =
       let e : i ≡ b .«user_count» = omega (arith, l .within) in

@@ -1,5 +1,5 @@
 -- One more reduction of a run: it is the rules' reduction of the user at the place for its target, and its totals are those of a book. Assumes nothing.
-use mathlib.Core.Path.{_≡_, refl, sym, ap, subst, _∙_}
+use mathlib.Core.Path.{_≡_, sym, ap, subst, _∙_}
 use Prim.Native.Nat.{ℕ, _+_, _≤_}
 use native.Mathlib.Omega.{arith}
 use Rattle.book.specs.Book.{asBook}

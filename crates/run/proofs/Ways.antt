@@ -20,9 +20,9 @@ use Rattle.rules.specs.Questions.{decided, refusal}
 use Rattle.run.specs.Answers.{runCall}
 use Rattle.run.specs.Reductions.{RanOf, totals, wholeRun}
 use Rattle.run.specs.declared.Ran.{Ran}
-use Rattle.rules.specs.Book as model
 
 module _ (limits : Limits) (s : List ℕ) where
+  -- refused
   pub run-refused : (n : ℕ) → n ≡ bookNumber s → (n ≡ 0 → ⊥) → {a : Answer} → a ≡ only n → Called limits s runCall a s
   run-refused n e h same =
       let r = step-refused limits s runCall n e h in
@@ -35,16 +35,19 @@ module _ (limits : Limits) (s : List ℕ) where
 
 -- bytes that passed, the book that was read from them, and its run
 module _ (limits : Limits) (s : List ℕ) (n : ℕ) (b : Book) (o : Opened s n b) (yes : n ≡ 0) where
+  -- what the opening tells
   passes : bookNumber s ≡ 0
   passes = sym (o .asked) ∙ yes
 
   read : BookRead s b
   read = o .book yes
 
+  -- the book can be run
   pub opened-accepted : Accepted b
   opened-accepted = accepted-read s b (passed s passes) read
 
   module _ {r : Ran} (ran : RanOf limits b r) where
+    -- what the run leaves can be written over the bytes
     pub ran-fits : (r .book .«user_count» ≤ 64) × (r .book .«trade_count» ≤ 256) × (length s ≡ 32 + 56 * r .book .«user_count» + 20 * r .book .«trade_count»)
     ran-fits =
         let f = passed s passes .form in
@@ -54,6 +57,7 @@ module _ (limits : Limits) (s : List ℕ) (n : ℕ) (b : Book) (o : Opened s n b
     in-bytes : wholeRun limits (asBook b) ≡ wholeRun limits (bookOf s)
     in-bytes = ap (wholeRun limits) (read .book)
 
+    -- accepted
     pub run-called : {t : List ℕ} {a : Answer} → BookWritten (r .book) t → a ≡ totals (r .totals) → Called limits s runCall a t
     unfolding inBytes
     run-called w same =

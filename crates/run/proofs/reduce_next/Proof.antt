@@ -1,6 +1,5 @@
 -- `reduce_next`: the rules' reduction of the user at the place for its target, whose tally is within the totals of a book. Assumes nothing.
 use mathlib.Core.Path.{refl}
-use borrow.Author.Needs.{needs}
 use Rattle.levels.specs.Limits.{asLimits}
 use Rattle.run.proofs.Next.{ready-accepted}
 use Rattle.run.proofs.Once.{reduced-once, tally-most}
