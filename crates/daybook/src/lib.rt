@@ -9,6 +9,7 @@ ghost use Rattle.posting.specs.Posting.{postingOf};
 ghost use Rattle.guarantee.specs.Answers.{replyOf, answerOf};
 ghost use Rattle.warning.specs.Warned as warned;
 ghost use Rattle.reduce.specs.Answers as reducing;
+ghost use Rattle.run.specs.Answers as running;
 ghost use Rattle.questions.specs.Asked.{Opened};
 ghost use Rattle.transfer.specs.Written.{Written};
 ghost use Rattle.shown.specs.Shown.{Shown, picked};
@@ -17,6 +18,7 @@ use guarantee::CallAnswer;
 use guarantee::LevelAnswer;
 use questions::Opening;
 use reduce::ReductionAnswer;
+use run::RunAnswer;
 use warning::WarningAnswer;
 
 // The book that bytes hold, every field of it, and 0; or a book whose every field is 0 and the number of the first of the questions 1 to 7 that is answered by no.
@@ -100,4 +102,11 @@ pub fn reduction(book: &mut [u8], id: u32) -> ReductionAnswer
     ensures { λ r. ⌜ Called today (now (book .entry)) (reducing.reductionOf id) (reducing.answerOf r) (now (book .exit)) ⌝ }
 {
     reduce::reduction(book, id)
+}
+
+// Reduces the user of the lowest id among those short of cover with an eligible trade, until there is none.
+pub fn run(book: &mut [u8]) -> RunAnswer
+    ensures { λ r. ⌜ Called today (now (book .entry)) running.runCall (running.answerOf r) (now (book .exit)) ⌝ }
+{
+    run::run(book)
 }

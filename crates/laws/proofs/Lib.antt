@@ -20,5 +20,7 @@ pub mod Reduction
 pub mod Run
 -- numeric bounds
 pub mod Bounds
+-- a run whose fuel suffices
+pub mod Fuel
 -- the main laws, as specs/Statements.antt has them
 pub mod Main

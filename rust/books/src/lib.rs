@@ -8,6 +8,7 @@ pub mod calls;
 pub mod damage;
 pub mod generator;
 pub mod random;
+pub mod written;
 
 pub use calls::{answer, disagreement, Answer, Call};
 pub use damage::Damage;

@@ -1,0 +1,76 @@
+// What the programs print on standard output: numbers, signed energies and the lines of a printed day.
+use book::Book;
+use levels::Limits;
+use libc::STDOUT_FILENO;
+use printed::Line;
+use risk::State;
+use units::Net;
+ghost use Rattle.warning.specs.Warned.{ReadyAll};
+
+// A space and a number.
+pub fn number(n: u64) {
+    io::write_all(STDOUT_FILENO, b" ");
+    io::print_decimal(STDOUT_FILENO, n);
+}
+
+// A space and an energy, with `-` before it where it is below 0.
+pub fn net(energy: Net) {
+    let short = energy.short();
+    if 0 < short.0 {
+        io::write_all(STDOUT_FILENO, b" -");
+        io::print_decimal(STDOUT_FILENO, short.0);
+        return;
+    }
+    let long = energy.long();
+    number(long.0);
+}
+
+// The energies of the three areas.
+pub fn nets(energies: [Net; 3]) {
+    net(energies[0]);
+    net(energies[1]);
+    net(energies[2]);
+}
+
+// A space and the word of a state.
+fn word(state: State) {
+    match state {
+        State::Clear => {
+            io::write_all(STDOUT_FILENO, b" clear");
+        }
+        State::Short => {
+            io::write_all(STDOUT_FILENO, b" short");
+        }
+        State::Call => {
+            io::write_all(STDOUT_FILENO, b" call");
+        }
+        State::Quiet => {
+            io::write_all(STDOUT_FILENO, b" quiet");
+        }
+    }
+}
+
+// A line of a printed day.
+fn line(line: Line) {
+    let state = line.state;
+    let level = line.level;
+    let position = line.position;
+    io::print_decimal(STDOUT_FILENO, line.id as u64);
+    word(state);
+    number(level.0);
+    nets(position);
+    io::write_all(STDOUT_FILENO, b"\n");
+}
+
+// The line of every user of a book, in its order.
+pub fn lines(b: Book)
+    requires { ⌜ ReadyAll b ⌝ }
+{
+    let limits = Limits::today();
+    let n = b.user_count as usize;
+    let mut i = 0;
+    while i < n {
+        line(printed::line_at(b, i, limits));
+        i += 1;
+    }
+}

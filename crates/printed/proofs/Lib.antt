@@ -1,0 +1,2 @@
+-- Laws of a line by its user's place.
+pub mod Places

@@ -1,0 +1,2 @@
+-- The lines of the rules that the code's are.
+pub mod Lines
