@@ -19,7 +19,7 @@ pub fn number(n: u64) {
 }
 
 // A space and an energy, with `-` before it where it is below 0.
-pub fn net(energy: Net) {
+fn net(energy: Net) {
     let short = energy.short();
     if 0 < short.0 {
         io::write_all(STDOUT_FILENO, b" -");
@@ -68,7 +68,7 @@ fn line(line: Line) {
 }
 
 // The line of every user of a book, in its order.
-pub fn lines(b: Book)
+fn lines(b: Book)
     requires { ⌜ ReadyAll b ⌝ }
 {
     let limits = Limits::today();
