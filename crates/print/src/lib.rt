@@ -1,11 +1,16 @@
-// What the programs print on standard output: numbers, signed energies and the lines of a printed day.
+// What the programs print on standard output: numbers, signed energies, and the day of a book.
 use book::Book;
 use levels::Limits;
 use libc::STDOUT_FILENO;
 use printed::Line;
 use risk::State;
+use run::RunAnswer;
 use units::Net;
+ghost use mathlib.Core.Path.{_≡_};
+ghost use Rattle.rules.specs.Levels.{today};
+ghost use Rattle.format.specs.Steps.{stepBytes};
 ghost use Rattle.warning.specs.Warned.{ReadyAll};
+ghost use Rattle.run.specs.Answers.{runCall};
 
 // A space and a number.
 pub fn number(n: u64) {
@@ -14,7 +19,7 @@ pub fn number(n: u64) {
 }
 
 // A space and an energy, with `-` before it where it is below 0.
-pub fn net(energy: Net) {
+fn net(energy: Net) {
     let short = energy.short();
     if 0 < short.0 {
         io::write_all(STDOUT_FILENO, b" -");
@@ -63,7 +68,7 @@ fn line(line: Line) {
 }
 
 // The line of every user of a book, in its order.
-pub fn lines(b: Book)
+fn lines(b: Book)
     requires { ⌜ ReadyAll b ⌝ }
 {
     let limits = Limits::today();
@@ -73,4 +78,38 @@ pub fn lines(b: Book)
         line(printed::line_at(b, i, limits));
         i += 1;
     }
+}
+
+// The line of a refused book.
+fn refusal(question: u32) {
+    io::write_all(STDOUT_FILENO, b"refused");
+    number(question as u64);
+    io::write_all(STDOUT_FILENO, b"\n");
+}
+
+// The line of a run: its reductions, MWh and worth.
+fn totals(answer: RunAnswer) {
+    let mwh = answer.mwh;
+    let worth = answer.worth;
+    io::write_all(STDOUT_FILENO, b"run");
+    number(answer.reductions);
+    number(mwh.0);
+    number(worth.0);
+    io::write_all(STDOUT_FILENO, b"\n");
+}
+
+// Runs a book in bytes and prints its day: the run, and the line of every user in the book that the run leaves; or the number of the question that refuses it.
+pub fn day(book: &mut [u8])
+    ensures { λ _. ⌜ now (book .exit) ≡ stepBytes today (now (book .entry)) runCall .bytes ⌝ }
+{
+    let answer = daybook::run(book);
+    let question = answer.number;
+    if question != 0 {
+        refusal(question);
+        return;
+    }
+    totals(answer);
+    let opening = daybook::read(book);
+    let b = opening.book;
+    lines(b);
 }
