@@ -1,0 +1,20 @@
+-- A part lent by a caller in C has a length of the caller's: one of another length than the function asks for gets the number 255, and nothing is changed. Assumes nothing.
+use mathlib.Core.Path.{_≡_}
+use mathlib.Core.Bool.{cond}
+use mathlib.Core.List.{List}
+use Prim.Native.Nat.{ℕ}
+use lib.Dec.{eqb}
+use lib.ListN.{length}
+
+-- the number for a lent part of another length than the function asks for
+abbrev pub wrongLength : ℕ
+wrongLength = 255
+
+-- by the length of a lent part: the one where it has n places, the other where it has not
+unfoldable pub byLength : {A : Type 0} → ℕ → List ℕ → A → A → A
+byLength n part given other = cond (eqb (length part) n) given other
+
+-- What a function leaves that stores n values in a lent part: its number and the whole of the part afterwards.
+pub record Stored (n : ℕ) (lent : List ℕ) (asked : ℕ) (values : List ℕ) (result : ℕ) (after : List ℕ) : Type 0 where
+  pub number : result ≡ byLength n lent asked wrongLength
+  pub part : after ≡ byLength n lent values lent

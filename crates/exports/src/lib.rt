@@ -1,0 +1,110 @@
+// The C interface over the public calls of `daybook`; include/daybook.h declares it. A slice is a pointer and a length in C. No function asks anything of what it is lent:
+// a part for answers of another length than the function's gets the number 255, and nothing is asked or changed.
+ghost use mathlib.Core.Path.{_≡_};
+ghost use lib.ListN.{length};
+ghost use Rattle.rules.specs.Levels.{today};
+ghost use Rattle.rules.specs.Calls.{only, morningCall, afternoonCall};
+ghost use Rattle.rules.specs.Queries.{morningLevelOf, afternoonLevelOf};
+ghost use Rattle.format.specs.Steps.{Called};
+ghost use Rattle.posting.specs.Posting.{postingOf};
+ghost use Rattle.warning.specs.Warned.{warningOf};
+ghost use Rattle.exports.specs.Answers.{levelNumbers, warningNumbers, callNumbers, Replied, Answered};
+
+// The number for a lent part of another length than the function asks for.
+const WRONG_LENGTH: u32 = 255;
+
+// Stores the numbers of an answer in a part of as many places.
+fn store(answer: &mut [u64], numbers: &[u64])
+    requires { ⌜ length (now answer) ≡ length (now numbers) ⌝ }
+    ensures { λ _. ⌜ now (answer .exit) ≡ now (numbers .entry) ⌝ }
+{
+    let mut i = 0;
+    while i < answer.len() {
+        answer[i] = numbers[i];
+        i += 1;
+    }
+}
+
+// Adds a signed amount to a user's physical entry and position in an area.
+#[no_mangle]
+pub extern "C" fn daybook_posting(book: &mut [u8], id: u32, area: u32, amount: i64) -> u32
+    ensures { λ r. ⌜ Called today (now (book .entry)) (postingOf id area amount) (only r) (now (book .exit)) ⌝ }
+{
+    daybook::posting(book, id, area, amount)
+}
+
+// The morning level of a user: 1 number.
+#[no_mangle]
+pub extern "C" fn daybook_morning_level(book: &[u8], id: u32, answer: &mut [u64]) -> u32
+    ensures { λ r. ⌜ Replied 1 levelNumbers (now (book .entry)) (morningLevelOf id) (now (answer .entry)) r (now (answer .exit)) ⌝ }
+{
+    if answer.len() != 1 {
+        return WRONG_LENGTH;
+    }
+    let reply = daybook::morning_level(book, id);
+    let level = reply.level;
+    let numbers = [level.0];
+    store(answer, &numbers);
+    reply.number
+}
+
+// The afternoon level of a user: 1 number.
+#[no_mangle]
+pub extern "C" fn daybook_afternoon_level(book: &[u8], id: u32, answer: &mut [u64]) -> u32
+    ensures { λ r. ⌜ Replied 1 levelNumbers (now (book .entry)) (afternoonLevelOf id) (now (answer .entry)) r (now (answer .exit)) ⌝ }
+{
+    if answer.len() != 1 {
+        return WRONG_LENGTH;
+    }
+    let reply = daybook::afternoon_level(book, id);
+    let level = reply.level;
+    let numbers = [level.0];
+    store(answer, &numbers);
+    reply.number
+}
+
+// Raises a user's blocked guarantee to its morning level: 2 numbers, the level and what was added.
+#[no_mangle]
+pub extern "C" fn daybook_morning_call(book: &mut [u8], id: u32, answer: &mut [u64]) -> u32
+    ensures { λ r. ⌜ Answered 2 callNumbers (now (book .entry)) (morningCall id) (now (answer .entry)) r (now (answer .exit)) (now (book .exit)) ⌝ }
+{
+    if answer.len() != 2 {
+        return WRONG_LENGTH;
+    }
+    let call = daybook::morning_call(book, id);
+    let level = call.level;
+    let added = call.added;
+    let numbers = [level.0, added.0];
+    store(answer, &numbers);
+    call.number
+}
+
+// Raises a user's blocked guarantee to its afternoon level: 2 numbers, the level and what was added.
+#[no_mangle]
+pub extern "C" fn daybook_afternoon_call(book: &mut [u8], id: u32, answer: &mut [u64]) -> u32
+    ensures { λ r. ⌜ Answered 2 callNumbers (now (book .entry)) (afternoonCall id) (now (answer .entry)) r (now (answer .exit)) (now (book .exit)) ⌝ }
+{
+    if answer.len() != 2 {
+        return WRONG_LENGTH;
+    }
+    let call = daybook::afternoon_call(book, id);
+    let level = call.level;
+    let added = call.added;
+    let numbers = [level.0, added.0];
+    store(answer, &numbers);
+    call.number
+}
+
+// Whether a user is warned at midday: 1 number, 1 for yes and 0 for no.
+#[no_mangle]
+pub extern "C" fn daybook_warning(book: &[u8], id: u32, answer: &mut [u64]) -> u32
+    ensures { λ r. ⌜ Replied 1 warningNumbers (now (book .entry)) (warningOf id) (now (answer .entry)) r (now (answer .exit)) ⌝ }
+{
+    if answer.len() != 1 {
+        return WRONG_LENGTH;
+    }
+    let reply = daybook::warning(book, id);
+    let numbers = [reply.warned as u64];
+    store(answer, &numbers);
+    reply.number
+}
