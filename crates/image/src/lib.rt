@@ -34,9 +34,9 @@ fn copy_book(image: &mut [u8], s: &[u8], n: usize)
     ensures { λ _. ⌜ now (image .exit) ≡ imageOf (now (s .entry)) ⌝ }
 {
     let at = 32 + 56 * n;
-    fill(&mut image[..32], &s[..32]);
+    fill(&mut image[0..32], &s[0..32]);
     fill(&mut image[32..3616], &s[32..at]);
-    fill(&mut image[3616..], &s[at..]);
+    fill(&mut image[3616..8736], &s[at..]);
 }
 
 // The number of the first of the questions 1 to 7 that the bytes of a book fail, and an image of 0; or 0 and the image of the book's fields.

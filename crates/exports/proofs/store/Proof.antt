@@ -5,7 +5,7 @@ use native.Mathlib.Omega.{arith}
 use lib.ListN.{length, getD, drop, length-set}
 use lib.Seq.{sets, drop-length}
 use Rattle.fields.proofs.Sets.{sets-whole}
-use Rattle.exports.proofs.Storing.{store-step}
+use Rattle.image.proofs.Storing.{store-step}
 use borrow.Author.Needs.{needs}
 use Rattle.exports.proofs.store.Statement.{statement}
 use Rattle.exports.proofs.store.Tie as tie
