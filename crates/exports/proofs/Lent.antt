@@ -9,7 +9,7 @@ use Rattle.rules.specs.Levels.{today}
 use Rattle.rules.specs.Calls.{Call, Answer}
 use Rattle.rules.specs.Queries.{Query, Reply}
 use Rattle.format.specs.Steps.{stepBytes, replyBytes, Called}
-use Rattle.exports.specs.Lent.{byLength, wrongLength, Stored}
+use Rattle.exports.specs.Lent.{byLength, wrongLength, Given}
 use Rattle.exports.specs.Answers.{Replied, Answered}
 
 module _ (n : ℕ) (lent : List ℕ) where
@@ -23,27 +23,27 @@ module _ (n : ℕ) (lent : List ℕ) where
   of-other given other e = sym (ap (λ (t : Bool). cond t given other) (ne-eqb (length lent) n e))
 
   -- the part is of the length that is asked for
-  pub stored : (asked : ℕ) (values : List ℕ) (result : ℕ) (after : List ℕ) → length lent ≡ n → result ≡ asked → after ≡ values → Stored n lent asked values result after
-  stored asked values result after e number part =
-      record { number = number ∙ of-length asked wrongLength e; part = part ∙ of-length values lent e }
+  pub stored : (asked : ℕ) (values before : List ℕ) (result : ℕ) (after : List ℕ) → length lent ≡ n → result ≡ asked → after ≡ values → Given n lent asked values before result after
+  stored asked values before result after e number part =
+      record { number = number ∙ of-length asked wrongLength e; part = part ∙ of-length values before e }
 
   -- it is of another length
-  pub refused : (asked : ℕ) (values : List ℕ) → (length lent ≡ n → ⊥) → Stored n lent asked values wrongLength lent
-  refused asked values e = record { number = of-other asked wrongLength e; part = of-other values lent e }
+  pub refused : (asked : ℕ) (values before : List ℕ) → (length lent ≡ n → ⊥) → Given n lent asked values before wrongLength before
+  refused asked values before e = record { number = of-other asked wrongLength e; part = of-other values before e }
 
   -- a query whose reply was stored
   pub replied : (numbers : Reply → List ℕ) (s : List ℕ) (q : Query) (r : Reply) (after : List ℕ) → length lent ≡ n → r ≡ replyBytes today s q → after ≡ numbers r → Replied n numbers s q lent (r .number) after
-  replied numbers s q r after e reply part = stored _ _ _ after e (ap (λ (a : Reply). a .number) reply) (part ∙ ap numbers reply)
+  replied numbers s q r after e reply part = stored _ _ lent _ after e (ap (λ (a : Reply). a .number) reply) (part ∙ ap numbers reply)
 
   module _ (numbers : Answer → List ℕ) (s : List ℕ) (c : Call) where
     -- a call whose answer was stored
     pub answered : (a : Answer) (after t : List ℕ) → length lent ≡ n → Called today s c a t → after ≡ numbers a → Answered n numbers s c lent (a .number) after t
     answered a after t e called part =
         record {
-          answer = stored _ _ _ after e (ap (λ (b : Answer). b .number) (called .answer)) (part ∙ ap numbers (called .answer));
+          answer = stored _ _ lent _ after e (ap (λ (b : Answer). b .number) (called .answer)) (part ∙ ap numbers (called .answer));
           book = called .bytes ∙ of-length (stepBytes today s c .bytes) s e;
         }
 
     -- a call that was not made
     pub not-called : (length lent ≡ n → ⊥) → Answered n numbers s c lent wrongLength lent s
-    not-called e = record { answer = refused _ _ e; book = of-other (stepBytes today s c .bytes) s e }
+    not-called e = record { answer = refused _ _ lent e; book = of-other (stepBytes today s c .bytes) s e }

@@ -8,7 +8,8 @@ ghost use Rattle.rules.specs.Queries.{morningLevelOf, afternoonLevelOf};
 ghost use Rattle.format.specs.Steps.{Called};
 ghost use Rattle.posting.specs.Posting.{postingOf};
 ghost use Rattle.warning.specs.Warned.{warningOf};
-ghost use Rattle.exports.specs.Answers.{levelNumbers, warningNumbers, callNumbers, Replied, Answered};
+ghost use Rattle.shown.specs.Shown.{picked};
+ghost use Rattle.exports.specs.Answers.{levelNumbers, warningNumbers, callNumbers, isYes, Replied, Answered, Copied, ReadInto, WrittenFrom};
 
 // The number for a lent part of another length than the function asks for.
 const WRONG_LENGTH: u32 = 255;
@@ -23,6 +24,62 @@ fn store(answer: &mut [u64], numbers: &[u64])
         answer[i] = numbers[i];
         i += 1;
     }
+}
+
+// Reads a book's fields into an image of 8,736 bytes.
+#[no_mangle]
+pub extern "C" fn daybook_read(book: &[u8], image: &mut [u8]) -> u32
+    ensures { λ r. ⌜ ReadInto (now (book .entry)) (now (image .entry)) r (now (image .exit)) ⌝ }
+{
+    if image.len() != 8736 {
+        return WRONG_LENGTH;
+    }
+    image::read(book, image)
+}
+
+// Writes the book whose fields an image of 8,736 bytes has.
+#[no_mangle]
+pub extern "C" fn daybook_write(image: &[u8], out: &mut [u8]) -> u32
+    ensures { λ r. ⌜ WrittenFrom (now (image .entry)) (now (out .entry)) r (now (out .exit)) ⌝ }
+{
+    if image.len() != 8736 {
+        return WRONG_LENGTH;
+    }
+    image::write(image, out)
+}
+
+// Copies the 56 bytes of a user's record.
+#[no_mangle]
+pub extern "C" fn daybook_show(book: &[u8], id: u32, record: &mut [u8]) -> u32
+    ensures { λ r. ⌜ Copied (now (book .entry)) id (now («record» .entry)) r (now («record» .exit)) ⌝ }
+{
+    if record.len() != 56 {
+        return WRONG_LENGTH;
+    }
+    let mut number = 0;
+    let part = daybook::show(book, id, &mut number);
+    image::fill(record, part);
+    number
+}
+
+// The same of the picked one of two books: the morning's where `afternoon_picked` is 0, else the afternoon's.
+#[no_mangle]
+pub extern "C" fn daybook_show_picked<'a>(
+    morning: &'a [u8],
+    afternoon: &'a [u8],
+    afternoon_picked: u32,
+    id: u32,
+    record: &mut [u8],
+) -> u32
+    ensures { λ r. ⌜ Copied (picked (isYes «afternoon_picked») (now (morning .entry)) (now (afternoon .entry))) id (now («record» .entry)) r (now («record» .exit)) ⌝ }
+{
+    if record.len() != 56 {
+        return WRONG_LENGTH;
+    }
+    let mut number = 0;
+    let part = daybook::show_picked(morning, afternoon, afternoon_picked != 0, id, &mut number);
+    image::fill(record, part);
+    number
 }
 
 // Adds a signed amount to a user's physical entry and position in an area.

@@ -8,7 +8,7 @@ use Rattle.exports.proofs.daybook_afternoon_level.Statement.{statement}
 use Rattle.exports.proofs.daybook_afternoon_level.Tie as tie
 
 returns : tie.Need-returns
-returns c = refused 1 (now (c .before .before .before .args .answer)) _ _ (c .if1 .taken)
+returns c = refused 1 (now (c .before .before .before .args .answer)) _ _ _ (c .if1 .taken)
 
 afternoon-level-requires : tie.Need-afternoon-level-requires
 afternoon-level-requires c κs = search needs

@@ -8,7 +8,7 @@ use Rattle.exports.proofs.daybook_morning_level.Statement.{statement}
 use Rattle.exports.proofs.daybook_morning_level.Tie as tie
 
 returns : tie.Need-returns
-returns c = refused 1 (now (c .before .before .before .args .answer)) _ _ (c .if1 .taken)
+returns c = refused 1 (now (c .before .before .before .args .answer)) _ _ _ (c .if1 .taken)
 
 morning-level-requires : tie.Need-morning-level-requires
 morning-level-requires c κs = search needs

@@ -19,7 +19,7 @@ cast-bit true = refl
 cast-bit false = refl
 
 returns : tie.Need-returns
-returns c = refused 1 (now (c .before .before .before .args .answer)) _ _ (c .if1 .taken)
+returns c = refused 1 (now (c .before .before .before .args .answer)) _ _ _ (c .if1 .taken)
 
 warning-requires : tie.Need-warning-requires
 warning-requires c κs = search needs
