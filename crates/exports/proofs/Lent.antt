@@ -32,15 +32,16 @@ module _ (n : ℕ) (lent : List ℕ) where
   refused asked values before e = record { number = of-other asked wrongLength e; part = of-other values before e }
 
   -- a query whose reply was stored
-  pub replied : (numbers : Reply → List ℕ) (s : List ℕ) (q : Query) (r : Reply) (after : List ℕ) → length lent ≡ n → r ≡ replyBytes today s q → after ≡ numbers r → Replied n numbers s q lent (r .number) after
-  replied numbers s q r after e reply part = stored _ _ lent _ after e (ap (λ (a : Reply). a .number) reply) (part ∙ ap numbers reply)
+  pub replied : (numbers : Reply → List ℕ) (s : List ℕ) (q : Query) (r : Reply) (result : ℕ) (after : List ℕ) → length lent ≡ n → r ≡ replyBytes today s q → result ≡ r .number → after ≡ numbers r → Replied n numbers s q lent result after
+  replied numbers s q r result after e reply number part =
+      stored _ _ lent result after e (number ∙ ap (λ (a : Reply). a .number) reply) (part ∙ ap numbers reply)
 
   module _ (numbers : Answer → List ℕ) (s : List ℕ) (c : Call) where
     -- a call whose answer was stored
-    pub answered : (a : Answer) (after t : List ℕ) → length lent ≡ n → Called today s c a t → after ≡ numbers a → Answered n numbers s c lent (a .number) after t
-    answered a after t e called part =
+    pub answered : (a : Answer) (result : ℕ) (after t : List ℕ) → length lent ≡ n → Called today s c a t → result ≡ a .number → after ≡ numbers a → Answered n numbers s c lent result after t
+    answered a result after t e called number part =
         record {
-          answer = stored _ _ lent _ after e (ap (λ (b : Answer). b .number) (called .answer)) (part ∙ ap numbers (called .answer));
+          answer = stored _ _ lent result after e (number ∙ ap (λ (b : Answer). b .number) (called .answer)) (part ∙ ap numbers (called .answer));
           book = called .bytes ∙ of-length (stepBytes today s c .bytes) s e;
         }
 

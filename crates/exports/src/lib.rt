@@ -7,12 +7,30 @@ ghost use Rattle.rules.specs.Calls.{only, morningCall, afternoonCall};
 ghost use Rattle.rules.specs.Queries.{morningLevelOf, afternoonLevelOf};
 ghost use Rattle.format.specs.Steps.{Called};
 ghost use Rattle.posting.specs.Posting.{postingOf};
-ghost use Rattle.warning.specs.Warned.{warningOf};
+ghost use Rattle.guarantee.specs.Answers as levels;
+ghost use Rattle.warning.specs.Warned as warned;
 ghost use Rattle.shown.specs.Shown.{picked};
 ghost use Rattle.exports.specs.Answers.{levelNumbers, warningNumbers, callNumbers, isYes, Replied, Answered, Copied, ReadInto, WrittenFrom};
+use guarantee::CallAnswer;
+use guarantee::LevelAnswer;
+use warning::WarningAnswer;
 
 // The number for a lent part of another length than the function asks for.
 const WRONG_LENGTH: u32 = 255;
+
+// The bytes of an image, and of a shown record.
+const IMAGE_SIZE: usize = 8736;
+
+const RECORD_SIZE: usize = 56;
+
+// How many numbers an answer has.
+const LEVEL_NUMBERS: usize = 1;
+
+const WARNING_NUMBERS: usize = 1;
+
+const CALL_NUMBERS: usize = 2;
+
+// ---- storing
 
 // Stores the numbers of an answer in a part of as many places.
 fn store(answer: &mut [u64], numbers: &[u64])
@@ -26,12 +44,47 @@ fn store(answer: &mut [u64], numbers: &[u64])
     }
 }
 
+// Stores a level, and passes its number on.
+fn store_level(answer: &mut [u64], reply: LevelAnswer) -> u32
+    requires { ⌜ length (now answer) ≡ 1 ⌝ }
+    ensures { λ r. ⌜ (r ≡ reply .number) × (now (answer .exit) ≡ levelNumbers (levels.replyOf reply)) ⌝ }
+{
+    let level = reply.level;
+    let numbers = [level.0];
+    store(answer, &numbers);
+    reply.number
+}
+
+// Stores whether a user is warned, and passes the number on.
+fn store_warning(answer: &mut [u64], reply: WarningAnswer) -> u32
+    requires { ⌜ length (now answer) ≡ 1 ⌝ }
+    ensures { λ r. ⌜ (r ≡ reply .number) × (now (answer .exit) ≡ warningNumbers (warned.replyOf reply)) ⌝ }
+{
+    let numbers = [reply.warned as u64];
+    store(answer, &numbers);
+    reply.number
+}
+
+// Stores a guarantee call's level and what it added, and passes its number on.
+fn store_call(answer: &mut [u64], call: CallAnswer) -> u32
+    requires { ⌜ length (now answer) ≡ 2 ⌝ }
+    ensures { λ r. ⌜ (r ≡ call .number) × (now (answer .exit) ≡ callNumbers (levels.answerOf call)) ⌝ }
+{
+    let level = call.level;
+    let added = call.added;
+    let numbers = [level.0, added.0];
+    store(answer, &numbers);
+    call.number
+}
+
+// ---- the functions of the interface
+
 // Reads a book's fields into an image of 8,736 bytes.
 #[no_mangle]
 pub extern "C" fn daybook_read(book: &[u8], image: &mut [u8]) -> u32
     ensures { λ r. ⌜ ReadInto (now (book .entry)) (now (image .entry)) r (now (image .exit)) ⌝ }
 {
-    if image.len() != 8736 {
+    if image.len() != IMAGE_SIZE {
         return WRONG_LENGTH;
     }
     image::read(book, image)
@@ -42,7 +95,7 @@ pub extern "C" fn daybook_read(book: &[u8], image: &mut [u8]) -> u32
 pub extern "C" fn daybook_write(image: &[u8], out: &mut [u8]) -> u32
     ensures { λ r. ⌜ WrittenFrom (now (image .entry)) (now (out .entry)) r (now (out .exit)) ⌝ }
 {
-    if image.len() != 8736 {
+    if image.len() != IMAGE_SIZE {
         return WRONG_LENGTH;
     }
     image::write(image, out)
@@ -53,7 +106,7 @@ pub extern "C" fn daybook_write(image: &[u8], out: &mut [u8]) -> u32
 pub extern "C" fn daybook_show(book: &[u8], id: u32, record: &mut [u8]) -> u32
     ensures { λ r. ⌜ Copied (now (book .entry)) id (now («record» .entry)) r (now («record» .exit)) ⌝ }
 {
-    if record.len() != 56 {
+    if record.len() != RECORD_SIZE {
         return WRONG_LENGTH;
     }
     let mut number = 0;
@@ -73,7 +126,7 @@ pub extern "C" fn daybook_show_picked<'a>(
 ) -> u32
     ensures { λ r. ⌜ Copied (picked (isYes «afternoon_picked») (now (morning .entry)) (now (afternoon .entry))) id (now («record» .entry)) r (now («record» .exit)) ⌝ }
 {
-    if record.len() != 56 {
+    if record.len() != RECORD_SIZE {
         return WRONG_LENGTH;
     }
     let mut number = 0;
@@ -95,14 +148,11 @@ pub extern "C" fn daybook_posting(book: &mut [u8], id: u32, area: u32, amount: i
 pub extern "C" fn daybook_morning_level(book: &[u8], id: u32, answer: &mut [u64]) -> u32
     ensures { λ r. ⌜ Replied 1 levelNumbers (now (book .entry)) (morningLevelOf id) (now (answer .entry)) r (now (answer .exit)) ⌝ }
 {
-    if answer.len() != 1 {
+    if answer.len() != LEVEL_NUMBERS {
         return WRONG_LENGTH;
     }
     let reply = daybook::morning_level(book, id);
-    let level = reply.level;
-    let numbers = [level.0];
-    store(answer, &numbers);
-    reply.number
+    store_level(answer, reply)
 }
 
 // The afternoon level of a user: 1 number.
@@ -110,14 +160,11 @@ pub extern "C" fn daybook_morning_level(book: &[u8], id: u32, answer: &mut [u64]
 pub extern "C" fn daybook_afternoon_level(book: &[u8], id: u32, answer: &mut [u64]) -> u32
     ensures { λ r. ⌜ Replied 1 levelNumbers (now (book .entry)) (afternoonLevelOf id) (now (answer .entry)) r (now (answer .exit)) ⌝ }
 {
-    if answer.len() != 1 {
+    if answer.len() != LEVEL_NUMBERS {
         return WRONG_LENGTH;
     }
     let reply = daybook::afternoon_level(book, id);
-    let level = reply.level;
-    let numbers = [level.0];
-    store(answer, &numbers);
-    reply.number
+    store_level(answer, reply)
 }
 
 // Raises a user's blocked guarantee to its morning level: 2 numbers, the level and what was added.
@@ -125,15 +172,11 @@ pub extern "C" fn daybook_afternoon_level(book: &[u8], id: u32, answer: &mut [u6
 pub extern "C" fn daybook_morning_call(book: &mut [u8], id: u32, answer: &mut [u64]) -> u32
     ensures { λ r. ⌜ Answered 2 callNumbers (now (book .entry)) (morningCall id) (now (answer .entry)) r (now (answer .exit)) (now (book .exit)) ⌝ }
 {
-    if answer.len() != 2 {
+    if answer.len() != CALL_NUMBERS {
         return WRONG_LENGTH;
     }
     let call = daybook::morning_call(book, id);
-    let level = call.level;
-    let added = call.added;
-    let numbers = [level.0, added.0];
-    store(answer, &numbers);
-    call.number
+    store_call(answer, call)
 }
 
 // Raises a user's blocked guarantee to its afternoon level: 2 numbers, the level and what was added.
@@ -141,27 +184,21 @@ pub extern "C" fn daybook_morning_call(book: &mut [u8], id: u32, answer: &mut [u
 pub extern "C" fn daybook_afternoon_call(book: &mut [u8], id: u32, answer: &mut [u64]) -> u32
     ensures { λ r. ⌜ Answered 2 callNumbers (now (book .entry)) (afternoonCall id) (now (answer .entry)) r (now (answer .exit)) (now (book .exit)) ⌝ }
 {
-    if answer.len() != 2 {
+    if answer.len() != CALL_NUMBERS {
         return WRONG_LENGTH;
     }
     let call = daybook::afternoon_call(book, id);
-    let level = call.level;
-    let added = call.added;
-    let numbers = [level.0, added.0];
-    store(answer, &numbers);
-    call.number
+    store_call(answer, call)
 }
 
 // Whether a user is warned at midday: 1 number, 1 for yes and 0 for no.
 #[no_mangle]
 pub extern "C" fn daybook_warning(book: &[u8], id: u32, answer: &mut [u64]) -> u32
-    ensures { λ r. ⌜ Replied 1 warningNumbers (now (book .entry)) (warningOf id) (now (answer .entry)) r (now (answer .exit)) ⌝ }
+    ensures { λ r. ⌜ Replied 1 warningNumbers (now (book .entry)) (warned.warningOf id) (now (answer .entry)) r (now (answer .exit)) ⌝ }
 {
-    if answer.len() != 1 {
+    if answer.len() != WARNING_NUMBERS {
         return WRONG_LENGTH;
     }
     let reply = daybook::warning(book, id);
-    let numbers = [reply.warned as u64];
-    store(answer, &numbers);
-    reply.number
+    store_warning(answer, reply)
 }

@@ -1,6 +1,5 @@
--- `daybook_afternoon_call` makes the call of the afternoon where the lent part has two places, and stores the level and what was added there. Assumes nothing.
+-- `daybook_afternoon_call` makes the call of the afternoon where the lent part has two places, and stores its level and what was added there. Assumes nothing.
 use denote.Ref.{now}
-use Rattle.guarantee.specs.Answers.{answerOf}
 use Rattle.exports.specs.Answers.{callNumbers}
 use Rattle.exports.proofs.Lent.{answered, not-called}
 use borrow.Author.Needs.{needs}
@@ -13,11 +12,8 @@ returns c = not-called 2 (now (c .before .before .before .args .answer)) callNum
 afternoon-call-requires : tie.Need-afternoon-call-requires
 afternoon-call-requires c κs = search needs
 
-slice-aggregate-store : tie.Need-slice-aggregate-store
-slice-aggregate-store c = search needs
-
-store-requires : tie.Need-store-requires
-store-requires c κs = search needs
+store-call-requires : tie.Need-store-call-requires
+store-call-requires c κs = search needs
 
 same-length : tie.Need-same-length
 same-length c = search needs
@@ -26,10 +22,10 @@ same-length-2 : tie.Need-same-length-2
 same-length-2 c = search needs
 
 returns-2 : tie.Need-returns-2
-unfolding callNumbers
 returns-2 c =
-    let asked = c .before .before .before .before .before .before .before .before .before in
-    answered 2 _ callNumbers _ _ (answerOf (asked .afternoon-call .result)) _ _ (asked .before .before .if1 .left) (asked .afternoon-call .ensures) (c .before .before .store .ensures)
+    let kept = c .before .before in
+    let made = kept .before .before .before .before in
+    answered 2 _ callNumbers _ _ _ _ _ _ (made .before .before .if1 .left) (made .afternoon-call .ensures) (kept .store-call .ensures .0) (kept .store-call .ensures .1)
 
 pub daybook-afternoon-call-spec : {M : Type 1} → statement M
 daybook-afternoon-call-spec =
@@ -37,8 +33,7 @@ daybook-afternoon-call-spec =
     (tie.spec
     returns
     afternoon-call-requires
-    slice-aggregate-store
-    store-requires
+    store-call-requires
     same-length
     same-length-2
     returns-2)

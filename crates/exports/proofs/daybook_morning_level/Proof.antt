@@ -1,6 +1,5 @@
 -- `daybook_morning_level` stores the level of the morning in a part of one place, and leaves another part as it is. Assumes nothing.
 use denote.Ref.{now}
-use Rattle.guarantee.specs.Answers.{replyOf}
 use Rattle.exports.specs.Answers.{levelNumbers}
 use Rattle.exports.proofs.Lent.{refused, replied}
 use borrow.Author.Needs.{needs}
@@ -13,28 +12,18 @@ returns c = refused 1 (now (c .before .before .before .args .answer)) _ _ _ (c .
 morning-level-requires : tie.Need-morning-level-requires
 morning-level-requires c κs = search needs
 
-slice-aggregate-store : tie.Need-slice-aggregate-store
-slice-aggregate-store c = search needs
-
-store-requires : tie.Need-store-requires
-store-requires c κs = search needs
+store-level-requires : tie.Need-store-level-requires
+store-level-requires c κs = search needs
 
 same-length : tie.Need-same-length
 same-length c = search needs
 
 returns-2 : tie.Need-returns-2
-unfolding levelNumbers
 returns-2 c =
-    let asked = c .before .before .before .before .before .before in
-    replied 1 _ levelNumbers _ _ (replyOf (asked .morning-level .result)) _ (asked .before .if1 .left) (asked .morning-level .ensures) (c .before .before .store .ensures)
+    let kept = c .before .before in
+    let asked = kept .before .before in
+    replied 1 _ levelNumbers _ _ _ _ _ (asked .before .if1 .left) (asked .morning-level .ensures) (kept .store-level .ensures .0) (kept .store-level .ensures .1)
 
 pub daybook-morning-level-spec : {M : Type 1} → statement M
 daybook-morning-level-spec =
-    tie.close
-    (tie.spec
-    returns
-    morning-level-requires
-    slice-aggregate-store
-    store-requires
-    same-length
-    returns-2)
+    tie.close (tie.spec returns morning-level-requires store-level-requires same-length returns-2)
