@@ -7,7 +7,7 @@ use native.Mathlib.Omega.{arith}
 use lib.ListN.{length, take, drop, length-take}
 use Rattle.rules.specs.Questions.{refusal, decided}
 use Rattle.rules.specs.Queries.{shownRecord, aboutQuery}
-use Rattle.format.specs.Book.{versionOf, userAt, bookOf}
+use Rattle.format.specs.Book.{userAt, bookOf}
 use Rattle.format.specs.Questions.{aboutBytes}
 use Rattle.format.specs.Steps.{placeOf, shownPart}
 use Rattle.shown.specs.Shown.{Shown}

@@ -14,11 +14,11 @@ wrongLength = 255
 unfoldable pub byLength : {A : Type 0} → ℕ → List ℕ → A → A → A
 byLength n part given other = cond (eqb (length part) n) given other
 
--- What a function leaves that asks for n places of one part and changes a part of so far `before`: its number, and the whole of that part afterwards.
+-- What a function leaves that asks of a lent part that it has n places, and changes a part, which is `before` at entry: its number, and the whole of that part afterwards.
 pub record Given (n : ℕ) (lent : List ℕ) (asked : ℕ) (values before : List ℕ) (result : ℕ) (after : List ℕ) : Type 0 where
   pub number : result ≡ byLength n lent asked wrongLength
   pub part : after ≡ byLength n lent values before
 
--- the same of a function that stores n values in the lent part itself
+-- the same where both are one part: n values are stored in it
 abbrev pub Stored : ℕ → List ℕ → ℕ → List ℕ → ℕ → List ℕ → Type 0
 Stored n lent asked values result after = Given n lent asked values lent result after

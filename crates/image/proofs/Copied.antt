@@ -17,7 +17,7 @@ pub padded-front : (room : ℕ) (s : List ℕ) → take (length s) s ++ drop (le
 unfolding padded
 padded-front room s = rw (take-length, drop-replicate)
 
-length-padded : (room : ℕ) (s : List ℕ) → length s ≤ room → length (padded room s) ≡ room
+pub length-padded : (room : ℕ) (s : List ℕ) → length s ≤ room → length (padded room s) ≡ room
 unfolding padded
 length-padded room s h = rw (length-append, length-replicate) (omega (arith, h))
 

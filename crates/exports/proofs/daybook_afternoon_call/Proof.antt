@@ -23,9 +23,9 @@ same-length-2 c = search needs
 
 returns-2 : tie.Need-returns-2
 returns-2 c =
-    let kept = c .before .before in
-    let made = kept .before .before .before .before in
-    answered 2 _ callNumbers _ _ _ _ _ _ (made .before .before .if1 .left) (made .afternoon-call .ensures) (kept .store-call .ensures .0) (kept .store-call .ensures .1)
+    let storing = c .before .before in
+    let made = storing .before .before .before .before in
+    answered 2 _ callNumbers _ _ _ _ _ _ (made .before .before .if1 .left) (made .afternoon-call .ensures) (storing .store-call .ensures .0) (storing .store-call .ensures .1)
 
 pub daybook-afternoon-call-spec : {M : Type 1} → statement M
 daybook-afternoon-call-spec =

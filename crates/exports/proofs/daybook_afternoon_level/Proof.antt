@@ -20,9 +20,9 @@ same-length c = search needs
 
 returns-2 : tie.Need-returns-2
 returns-2 c =
-    let kept = c .before .before in
-    let asked = kept .before .before in
-    replied 1 _ levelNumbers _ _ _ _ _ (asked .before .if1 .left) (asked .afternoon-level .ensures) (kept .store-level .ensures .0) (kept .store-level .ensures .1)
+    let storing = c .before .before in
+    let asked = storing .before .before in
+    replied 1 _ levelNumbers _ _ _ _ _ (asked .before .if1 .left) (asked .afternoon-level .ensures) (storing .store-level .ensures .0) (storing .store-level .ensures .1)
 
 pub daybook-afternoon-level-spec : {M : Type 1} → statement M
 daybook-afternoon-level-spec =

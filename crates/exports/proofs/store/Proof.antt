@@ -1,12 +1,11 @@
 -- `store` stores the numbers from the first up: what is left to store gives the whole. Assumes nothing.
-use mathlib.Core.Path.{_≡_, refl, sym, ap, _∙_}
-use Prim.Native.Nat.{ℕ, _-_, _≤_}
+use mathlib.Core.Path.{_≡_, sym, _∙_}
+use Prim.Native.Nat.{_-_, _≤_}
 use native.Mathlib.Omega.{arith}
 use lib.ListN.{length, getD, drop, length-set}
-use lib.Seq.{sets, drop-length}
+use lib.Seq.{sets}
 use Rattle.fields.proofs.Sets.{sets-whole}
-use Rattle.image.proofs.Storing.{store-step}
-use borrow.Author.Needs.{needs}
+use Rattle.image.proofs.Storing.{store-step, stored-all}
 use Rattle.exports.proofs.store.Statement.{statement}
 use Rattle.exports.proofs.store.Tie as tie
 
@@ -54,8 +53,7 @@ same-length c =
 returns : tie.Need-returns Inv-loop μ-loop
 returns c =
     let l = c .before .loop in
-    let k : l .i ≡ length (c .before .before .args .numbers .now) = omega arith in
-    sym (ap (sets (l .answer) (l .i)) (ap (λ (i : ℕ). drop i (c .before .before .args .numbers .now)) k ∙ drop-length (c .before .before .args .numbers .now))) ∙ l .inv .2
+    stored-all (c .before .before .args .numbers .now) (l .answer) (l .i) (omega arith) (l .inv .2)
 
 pub store-spec : {M : Type 1} → statement M
 store-spec =

@@ -30,8 +30,8 @@ same-length c = search needs
 returns : tie.Need-returns
 unfolding warningNumbers
 returns c =
-    let kept = c .before .before in
-    (refl, kept .store .ensures ∙ ap (λ (n : ℕ). n ∷ []) (cast-bit (kept .before .before .before .before .before .args .reply .warned)))
+    let storing = c .before .before in
+    (refl, storing .store .ensures ∙ ap (λ (n : ℕ). n ∷ []) (cast-bit (storing .before .before .before .before .before .args .reply .warned)))
 
 pub store-warning-spec : {M : Type 1} → statement M
 store-warning-spec =

@@ -1,11 +1,11 @@
 -- `clear` stores a 0 at each place from the first up: what is left to store gives the whole. Assumes nothing.
-use mathlib.Core.Path.{_≡_, refl, sym, ap, _∙_}
+use mathlib.Core.Path.{_≡_, refl, sym, _∙_}
 use Prim.Native.Nat.{ℕ, _-_, _≤_, _<_}
 use native.Mathlib.Omega.{arith}
 use lib.ListN.{length, drop, replicate, length-set, length-replicate, getD-replicate}
-use lib.Seq.{sets, drop-length}
+use lib.Seq.{sets}
 use Rattle.fields.proofs.Sets.{sets-whole}
-use Rattle.image.proofs.Storing.{store-step}
+use Rattle.image.proofs.Storing.{store-step, stored-all}
 use Rattle.image.proofs.clear.Statement.{statement}
 use Rattle.image.proofs.clear.Tie as tie
 
@@ -45,8 +45,7 @@ returns : tie.Need-returns Inv-loop μ-loop
 returns c =
     let l = c .before .loop in
     let n = length (c .before .before .args .out .now) in
-    let k : l .i ≡ length {A = ℕ} (replicate n 0) = rw length-replicate (omega arith) in
-    sym (ap (sets (l .out) (l .i)) (ap (λ (i : ℕ). drop i (replicate n 0)) k ∙ drop-length (replicate n 0))) ∙ l .inv .2
+    stored-all (replicate n 0) (l .out) (l .i) (rw length-replicate (omega arith)) (l .inv .2)
 
 pub clear-spec : {M : Type 1} → statement M
 clear-spec =
