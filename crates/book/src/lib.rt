@@ -27,7 +27,7 @@ pub struct Book {
 }
 
 // The n users that stand from `at`, and blank ones past them.
-fn read_users(s: &[u8], at: usize, n: usize) -> [User; 64]
+pub fn read_users(s: &[u8], at: usize, n: usize) -> [User; 64]
     requires { ⌜ (n ≤ 64) × (at + 56 * n ≤ length (now s)) ⌝ }
     ensures { λ r. ⌜ Filled asUser 56 userOf 64 blankUser n (drop at (now (s .entry))) r ⌝ }
 {
@@ -44,7 +44,7 @@ fn read_users(s: &[u8], at: usize, n: usize) -> [User; 64]
 }
 
 // The n trades that stand from `at`, and blank ones past them.
-fn read_trades(s: &[u8], at: usize, n: usize) -> [Trade; 256]
+pub fn read_trades(s: &[u8], at: usize, n: usize) -> [Trade; 256]
     requires { ⌜ (n ≤ 256) × (at + 20 * n ≤ length (now s)) ⌝ }
     ensures { λ r. ⌜ Filled asTrade 20 tradeOf 256 blankTrade n (drop at (now (s .entry))) r ⌝ }
 {
@@ -61,7 +61,7 @@ fn read_trades(s: &[u8], at: usize, n: usize) -> [Trade; 256]
 }
 
 // The prices and tolls of the header.
-fn read_prices(s: &[u8]) -> Prices
+pub fn read_prices(s: &[u8]) -> Prices
     requires { ⌜ 32 ≤ length (now s) ⌝ }
     ensures { λ r. ⌜ asPrices r ≡ pricesAt 12 (now (s .entry)) ⌝ }
 {

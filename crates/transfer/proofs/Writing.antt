@@ -18,12 +18,13 @@ use Rattle.laws.proofs.Tests.{and-l, and-r}
 use Rattle.questions.specs.Asked.{fieldsNumber}
 use Rattle.records.specs.Trade.{asTrade}
 use Rattle.records.specs.User.{asUser}
+use Rattle.rules.specs.Book as model
 use Rattle.rules.specs.Lists.{all}
 use Rattle.rules.specs.Questions.{decided, numberOf, refusal}
-use Rattle.transfer.specs.Written.{InCounts, Written, aboutWriting, countsInRange}
+use Rattle.transfer.specs.Written.{InCounts, WrittenAs, aboutWriting, countsInRange}
 
 -- the tests of version and counts, as facts
-pub in-counts : (b : Book) → eqb (b .version) 1 ≡ true → countsInRange b ≡ true → InCounts b
+pub in-counts : (b : Book) → eqb (b .version) 1 ≡ true → countsInRange (b .«user_count») (b .«trade_count») ≡ true → InCounts b
 unfolding countsInRange
 in-counts b v k =
     let t : T ((leb 1 (b .«user_count») && leb (b .«user_count») 64) && leb (b .«trade_count») 256) = rw k tt in
@@ -54,29 +55,29 @@ fields-numbered : (s : List ℕ) → T (numbered (aboutFields s))
 unfolding numbered aboutFields all
 fields-numbered s = tt
 
-module _ (b : Book) (s : List ℕ) where
-  pub written-2 : eqb (b .version) 1 ≡ false → Written b s 2 s
+module _ (users trades : ℕ) (b : model.Book) (s : List ℕ) where
+  pub written-2 : eqb (b .header .version) 1 ≡ false → WrittenAs users trades b s 2 s
   unfolding aboutWriting refusal numberOf decided
   written-2 h = record { asked = rw h; part = rw h }
 
-  module _ (v : eqb (b .version) 1 ≡ true) where
-    pub written-3 : (countsInRange b && eqb (length s) (32 + 56 * b .«user_count» + 20 * b .«trade_count»)) ≡ false → Written b s 3 s
+  module _ (v : eqb (b .header .version) 1 ≡ true) where
+    pub written-3 : (countsInRange users trades && eqb (length s) (32 + 56 * users + 20 * trades)) ≡ false → WrittenAs users trades b s 3 s
     unfolding aboutWriting refusal numberOf decided
     written-3 h = record { asked = rw (v, h); part = rw (v, h) }
 
-    module _ (k : (countsInRange b && eqb (length s) (32 + 56 * b .«user_count» + 20 * b .«trade_count»)) ≡ true) where
-      fields-left : refusal (aboutWriting b (length s)) ≡ refusal (aboutFields (bytesOf (asBook b)))
+    module _ (k : (countsInRange users trades && eqb (length s) (32 + 56 * users + 20 * trades)) ≡ true) where
+      fields-left : refusal (aboutWriting users trades b (length s)) ≡ refusal (aboutFields (bytesOf b))
       unfolding aboutWriting refusal
       fields-left = rw (v, k)
 
-      pub written-refused : (n : ℕ) → n ≡ fieldsNumber (bytesOf (asBook b)) → (n ≡ 0 → ⊥) → Written b s n s
+      pub written-refused : (n : ℕ) → n ≡ fieldsNumber (bytesOf b) → (n ≡ 0 → ⊥) → WrittenAs users trades b s n s
       unfolding fieldsNumber decided numberOf
       written-refused n e h =
-          let o = number-some (refusal (aboutFields (bytesOf (asBook b)))) n e h in
+          let o = number-some (refusal (aboutFields (bytesOf b))) n e h in
           record { asked = rw (fields-left, o); part = rw (fields-left, o) }
 
-      pub written-0 : fieldsNumber (bytesOf (asBook b)) ≡ 0 → (t : List ℕ) → t ≡ bytesOf (asBook b) → Written b s 0 t
+      pub written-0 : fieldsNumber (bytesOf b) ≡ 0 → (t : List ℕ) → t ≡ bytesOf b → WrittenAs users trades b s 0 t
       unfolding fieldsNumber decided numberOf
       written-0 e t f =
-          let o = number-none (aboutFields (bytesOf (asBook b))) (fields-numbered (bytesOf (asBook b))) e in
+          let o = number-none (aboutFields (bytesOf b)) (fields-numbered (bytesOf b)) e in
           record { asked = rw (fields-left, o); part = rw (fields-left, o) f }

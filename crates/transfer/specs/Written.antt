@@ -6,6 +6,7 @@ use mathlib.Core.List.{List, _∷_}
 use Prim.Native.Nat.{ℕ, _+_, _*_, _≤_}
 use lib.Dec.{leb, eqb}
 use lib.ListN.{length}
+use Rattle.rules.specs.Book as model
 use Rattle.rules.specs.Questions.{Question, refusal, numberOf, decided}
 use Rattle.format.specs.Book.{bytesOf}
 use Rattle.format.specs.Questions.{aboutFields}
@@ -13,20 +14,25 @@ use Rattle.book.specs.declared.Book.{Book}
 use Rattle.book.specs.Book.{asBook}
 
 -- counts in range: 1 to 64 users, at most 256 trades
-unfoldable pub countsInRange : Book → Bool
-countsInRange b = (leb 1 (b .«user_count») && leb (b .«user_count») 64) && leb (b .«trade_count») 256
+unfoldable pub countsInRange : ℕ → ℕ → Bool
+countsInRange users trades = (leb 1 users && leb users 64) && leb trades 256
 
--- The questions of a struct that is to be written into a part of n bytes. The mark is always written, so 1 is not asked; past 3 they are those of the bytes written.
-unfoldable pub aboutWriting : Book → ℕ → List Question
-aboutWriting b n =
-    record { number = 2; holds = eqb (b .version) 1 }
-    ∷ (record { number = 3; holds = countsInRange b && eqb n (32 + 56 * b .«user_count» + 20 * b .«trade_count») }
-    ∷ aboutFields (bytesOf (asBook b)))
+-- The questions of a book that is to be written with these counts into a part of n bytes. The mark is always written, so 1 is not asked; past 3 they are those of the
+-- bytes written.
+unfoldable pub aboutWriting : ℕ → ℕ → model.Book → ℕ → List Question
+aboutWriting users trades b n =
+    record { number = 2; holds = eqb (b .header .version) 1 }
+    ∷ (record { number = 3; holds = countsInRange users trades && eqb n (32 + 56 * users + 20 * trades) }
+    ∷ aboutFields (bytesOf b))
 
 -- the number, and the whole of the part afterwards
-pub record Written (b : Book) (s : List ℕ) (number : ℕ) (t : List ℕ) : Type 0 where
-  pub asked : number ≡ numberOf (refusal (aboutWriting b (length s)))
-  pub part : t ≡ decided (refusal (aboutWriting b (length s))) (λ n. s) (bytesOf (asBook b))
+pub record WrittenAs (users trades : ℕ) (b : model.Book) (s : List ℕ) (number : ℕ) (t : List ℕ) : Type 0 where
+  pub asked : number ≡ numberOf (refusal (aboutWriting users trades b (length s)))
+  pub part : t ≡ decided (refusal (aboutWriting users trades b (length s))) (λ n. s) (bytesOf b)
+
+-- of a struct: its counts, and the book that it is
+abbrev pub Written : Book → List ℕ → ℕ → List ℕ → Type 0
+Written b s number t = WrittenAs (b .«user_count») (b .«trade_count») (asBook b) s number t
 
 -- a struct of version 1 whose counts are in range
 pub record InCounts (b : Book) : Type 0 where

@@ -7,6 +7,7 @@ use lib.ListN.{length}
 use borrow.Author.Needs.{needs}
 use borrow.Author.Tests.{eq-eqb, ne-eqb, not-true, not-false}
 use denote.Ref.{now}
+use Rattle.book.specs.Book.{asBook}
 use Rattle.transfer.proofs.Writing.{written-2, written-3, written-refused, written-0, in-counts}
 use Rattle.transfer.proofs.write.Statement.{statement}
 use Rattle.transfer.specs.Written.{countsInRange}
@@ -17,12 +18,12 @@ use Rattle.transfer.proofs.write.Tie as tie
 version : (c : tie.Else1) → eqb (c .before .before .before .before .before .args .b .version) 1 ≡ true
 version c = eq-eqb (c .before .before .before .before .before .args .b .version) 1 (c .if1 .left)
 
-counted : (c : tie.Else2) → countsInRange (c .before .before .before .before .before .before .args .b) ≡ true
+counted : (c : tie.Else2) → countsInRange (c .before .before .before .before .before .before .args .b .«user_count») (c .before .before .before .before .before .before .args .b .«trade_count») ≡ true
 unfolding countsInRange
 counted c = not-false _ (c .if2 .left)
 
 -- counts in range, and the part of the length that they ask for
-sized : (c : tie.Else3) → (countsInRange (c .before .before .before .before .before .before .before .args .b) && eqb (length (now (c .before .before .before .before .before .before .before .args .out))) (32 + 56 * c .before .before .before .before .before .before .before .args .b .«user_count» + 20 * c .before .before .before .before .before .before .before .args .b .«trade_count»)) ≡ true
+sized : (c : tie.Else3) → (countsInRange (c .before .before .before .before .before .before .before .args .b .«user_count») (c .before .before .before .before .before .before .before .args .b .«trade_count») && eqb (length (now (c .before .before .before .before .before .before .before .args .out))) (32 + 56 * c .before .before .before .before .before .before .before .args .b .«user_count» + 20 * c .before .before .before .before .before .before .before .args .b .«trade_count»)) ≡ true
 sized c =
     let a = c .before .before .before .before .before .before .before .args in
     ap₂ (λ (x y : Bool). x && y) (counted (c .before)) (eq-eqb (length (now (a .out))) (32 + 56 * a .b .«user_count» + 20 * a .b .«trade_count») (c .if3 .left))
@@ -34,16 +35,17 @@ cast-m : tie.Need-cast-m
 cast-m c = search needs
 
 returns : tie.Need-returns
+unfolding asBook
 returns c =
     let a = c .before .before .before .before .before .args in
-    written-2 (a .b) (now (a .out)) (ne-eqb (a .b .version) 1 (c .if1 .taken))
+    written-2 (a .b .«user_count») (a .b .«trade_count») (asBook (a .b)) (now (a .out)) (ne-eqb (a .b .version) 1 (c .if1 .taken))
 
 returns-2 : tie.Need-returns-2
-unfolding countsInRange
+unfolding countsInRange asBook
 returns-2 c =
     let a = c .before .before .before .before .before .before .args in
-    let e : countsInRange (a .b) ≡ false = not-true _ (c .if2 .taken) in
-    written-3 (a .b) (now (a .out)) (version (c .before)) (ap (λ (x : Bool). x && eqb (length (now (a .out))) (32 + 56 * a .b .«user_count» + 20 * a .b .«trade_count»)) e)
+    let e : countsInRange (a .b .«user_count») (a .b .«trade_count») ≡ false = not-true _ (c .if2 .taken) in
+    written-3 (a .b .«user_count») (a .b .«trade_count») (asBook (a .b)) (now (a .out)) (version (c .before)) (ap (λ (x : Bool). x && eqb (length (now (a .out))) (32 + 56 * a .b .«user_count» + 20 * a .b .«trade_count»)) e)
 
 mul-len : tie.Need-mul-len
 mul-len c = search needs
@@ -58,18 +60,20 @@ add-len-2 : tie.Need-add-len-2
 add-len-2 c = search needs
 
 returns-3 : tie.Need-returns-3
+unfolding asBook
 returns-3 c =
     let a = c .before .before .before .before .before .before .before .args in
-    written-3 (a .b) (now (a .out)) (version (c .before .before)) (ap₂ (λ (x y : Bool). x && y) (counted (c .before)) (ne-eqb (length (now (a .out))) (32 + 56 * a .b .«user_count» + 20 * a .b .«trade_count») (c .if3 .taken)))
+    written-3 (a .b .«user_count») (a .b .«trade_count») (asBook (a .b)) (now (a .out)) (version (c .before .before)) (ap₂ (λ (x y : Bool). x && y) (counted (c .before)) (ne-eqb (length (now (a .out))) (32 + 56 * a .b .«user_count» + 20 * a .b .«trade_count») (c .if3 .taken)))
 
 ask-written-requires : tie.Need-ask-written-requires
 ask-written-requires c κs = (in-counts (c .before .before .before .before .before .before .before .args .b) (version (c .before .before)) (counted (c .before)), refl)
 
 returns-4 : tie.Need-returns-4
+unfolding asBook
 returns-4 c =
     let e = c .before .before in
     let a = e .before .before .before .before .before .before .before .args in
-    written-refused (a .b) (now (a .out)) (version (e .before .before)) (sized e) (c .before .ask-written .result) (c .before .ask-written .ensures) (c .if4 .taken)
+    written-refused (a .b .«user_count») (a .b .«trade_count») (asBook (a .b)) (now (a .out)) (version (e .before .before)) (sized e) (c .before .ask-written .result) (c .before .ask-written .ensures) (c .if4 .taken)
 
 write-book-requires : tie.Need-write-book-requires
 write-book-requires c κs =
@@ -82,12 +86,13 @@ same-length : tie.Need-same-length
 same-length c = search needs
 
 returns-5 : tie.Need-returns-5
+unfolding asBook
 returns-5 c =
     let w = c .before .before in
     let g = w .before .before in
     let e = g .before .before in
     let a = e .before .before .before .before .before .before .before .args in
-    written-0 (a .b) (now (a .out)) (version (e .before .before)) (sized e) (sym (g .before .ask-written .ensures) ∙ g .if4 .left) _ (w .write-book .ensures .bytes)
+    written-0 (a .b .«user_count») (a .b .«trade_count») (asBook (a .b)) (now (a .out)) (version (e .before .before)) (sized e) (sym (g .before .ask-written .ensures) ∙ g .if4 .left) _ (w .write-book .ensures .bytes)
 
 pub write-spec : {M : Type 1} → statement M
 write-spec =

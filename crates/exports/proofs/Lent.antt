@@ -1,0 +1,50 @@
+-- A lent part of the length that is asked for holds what is stored in it; one of another length gets the number 255 and is left as it is. Assumes nothing.
+use mathlib.Core.Path.{_≡_, sym, ap, _∙_}
+use mathlib.Core.Bool.{Bool, cond}
+use mathlib.Core.List.{List}
+use Prim.Native.Nat.{ℕ}
+use lib.ListN.{length}
+use borrow.Author.Tests.{eq-eqb, ne-eqb}
+use Rattle.rules.specs.Levels.{today}
+use Rattle.rules.specs.Calls.{Call, Answer}
+use Rattle.rules.specs.Queries.{Query, Reply}
+use Rattle.format.specs.Steps.{stepBytes, replyBytes, Called}
+use Rattle.exports.specs.Lent.{byLength, wrongLength, Given}
+use Rattle.exports.specs.Answers.{Replied, Answered}
+
+module _ (n : ℕ) (lent : List ℕ) where
+  -- by the length: the one where it is that of the part, the other where it is not
+  pub of-length : {A : Type 0} (given other : A) → length lent ≡ n → given ≡ byLength n lent given other
+  unfolding byLength
+  of-length given other e = sym (ap (λ (t : Bool). cond t given other) (eq-eqb (length lent) n e))
+
+  pub of-other : {A : Type 0} (given other : A) → (length lent ≡ n → ⊥) → other ≡ byLength n lent given other
+  unfolding byLength
+  of-other given other e = sym (ap (λ (t : Bool). cond t given other) (ne-eqb (length lent) n e))
+
+  -- the part is of the length that is asked for
+  pub stored : (asked : ℕ) (values before : List ℕ) (result : ℕ) (after : List ℕ) → length lent ≡ n → result ≡ asked → after ≡ values → Given n lent asked values before result after
+  stored asked values before result after e number part =
+      record { number = number ∙ of-length asked wrongLength e; part = part ∙ of-length values before e }
+
+  -- it is of another length
+  pub refused : (asked : ℕ) (values before : List ℕ) → (length lent ≡ n → ⊥) → Given n lent asked values before wrongLength before
+  refused asked values before e = record { number = of-other asked wrongLength e; part = of-other values before e }
+
+  -- a query whose reply was stored
+  pub replied : (numbers : Reply → List ℕ) (s : List ℕ) (q : Query) (r : Reply) (result : ℕ) (after : List ℕ) → length lent ≡ n → r ≡ replyBytes today s q → result ≡ r .number → after ≡ numbers r → Replied n numbers s q lent result after
+  replied numbers s q r result after e reply number part =
+      stored _ _ lent result after e (number ∙ ap (λ (a : Reply). a .number) reply) (part ∙ ap numbers reply)
+
+  module _ (numbers : Answer → List ℕ) (s : List ℕ) (c : Call) where
+    -- a call whose answer was stored
+    pub answered : (a : Answer) (result : ℕ) (after t : List ℕ) → length lent ≡ n → Called today s c a t → result ≡ a .number → after ≡ numbers a → Answered n numbers s c lent result after t
+    answered a result after t e called number part =
+        record {
+          answer = stored _ _ lent result after e (number ∙ ap (λ (b : Answer). b .number) (called .answer)) (part ∙ ap numbers (called .answer));
+          book = called .bytes ∙ of-length (stepBytes today s c .bytes) s e;
+        }
+
+    -- a call that was not made
+    pub not-called : (length lent ≡ n → ⊥) → Answered n numbers s c lent wrongLength lent s
+    not-called e = record { answer = refused _ _ lent e; book = of-other (stepBytes today s c .bytes) s e }

@@ -1,0 +1,204 @@
+// The C interface over the public calls of `daybook`; include/daybook.h declares it. A slice is a pointer and a length in C. No function asks anything of what it is lent:
+// a part for answers of another length than the function's gets the number 255, and nothing is asked or changed.
+ghost use mathlib.Core.Path.{_≡_};
+ghost use lib.ListN.{length};
+ghost use Rattle.rules.specs.Levels.{today};
+ghost use Rattle.rules.specs.Calls.{only, morningCall, afternoonCall};
+ghost use Rattle.rules.specs.Queries.{morningLevelOf, afternoonLevelOf};
+ghost use Rattle.format.specs.Steps.{Called};
+ghost use Rattle.posting.specs.Posting.{postingOf};
+ghost use Rattle.guarantee.specs.Answers as levels;
+ghost use Rattle.warning.specs.Warned as warned;
+ghost use Rattle.shown.specs.Shown.{picked};
+ghost use Rattle.exports.specs.Answers.{levelNumbers, warningNumbers, callNumbers, isYes, Replied, Answered, Copied, ReadInto, WrittenFrom};
+use guarantee::CallAnswer;
+use guarantee::LevelAnswer;
+use warning::WarningAnswer;
+
+// The number for a lent part of another length than the function asks for.
+const WRONG_LENGTH: u32 = 255;
+
+// The bytes of an image, and of a shown record.
+const IMAGE_SIZE: usize = 8736;
+
+const RECORD_SIZE: usize = 56;
+
+// How many numbers an answer has.
+const LEVEL_NUMBERS: usize = 1;
+
+const WARNING_NUMBERS: usize = 1;
+
+const CALL_NUMBERS: usize = 2;
+
+// ---- storing
+
+// Stores the numbers of an answer in a part of as many places.
+fn store(answer: &mut [u64], numbers: &[u64])
+    requires { ⌜ length (now answer) ≡ length (now numbers) ⌝ }
+    ensures { λ _. ⌜ now (answer .exit) ≡ now (numbers .entry) ⌝ }
+{
+    let mut i = 0;
+    while i < answer.len() {
+        answer[i] = numbers[i];
+        i += 1;
+    }
+}
+
+// Stores a level, and passes its number on.
+fn store_level(answer: &mut [u64], reply: LevelAnswer) -> u32
+    requires { ⌜ length (now answer) ≡ 1 ⌝ }
+    ensures { λ r. ⌜ (r ≡ reply .number) × (now (answer .exit) ≡ levelNumbers (levels.replyOf reply)) ⌝ }
+{
+    let level = reply.level;
+    let numbers = [level.0];
+    store(answer, &numbers);
+    reply.number
+}
+
+// Stores whether a user is warned, and passes the number on.
+fn store_warning(answer: &mut [u64], reply: WarningAnswer) -> u32
+    requires { ⌜ length (now answer) ≡ 1 ⌝ }
+    ensures { λ r. ⌜ (r ≡ reply .number) × (now (answer .exit) ≡ warningNumbers (warned.replyOf reply)) ⌝ }
+{
+    let numbers = [reply.warned as u64];
+    store(answer, &numbers);
+    reply.number
+}
+
+// Stores a guarantee call's level and what it added, and passes its number on.
+fn store_call(answer: &mut [u64], call: CallAnswer) -> u32
+    requires { ⌜ length (now answer) ≡ 2 ⌝ }
+    ensures { λ r. ⌜ (r ≡ call .number) × (now (answer .exit) ≡ callNumbers (levels.answerOf call)) ⌝ }
+{
+    let level = call.level;
+    let added = call.added;
+    let numbers = [level.0, added.0];
+    store(answer, &numbers);
+    call.number
+}
+
+// ---- the functions of the interface
+
+// Reads a book's fields into an image of 8,736 bytes.
+#[no_mangle]
+pub extern "C" fn daybook_read(book: &[u8], image: &mut [u8]) -> u32
+    ensures { λ r. ⌜ ReadInto (now (book .entry)) (now (image .entry)) r (now (image .exit)) ⌝ }
+{
+    if image.len() != IMAGE_SIZE {
+        return WRONG_LENGTH;
+    }
+    image::read(book, image)
+}
+
+// Writes the book whose fields an image of 8,736 bytes has.
+#[no_mangle]
+pub extern "C" fn daybook_write(image: &[u8], out: &mut [u8]) -> u32
+    ensures { λ r. ⌜ WrittenFrom (now (image .entry)) (now (out .entry)) r (now (out .exit)) ⌝ }
+{
+    if image.len() != IMAGE_SIZE {
+        return WRONG_LENGTH;
+    }
+    image::write(image, out)
+}
+
+// Copies the 56 bytes of a user's record.
+#[no_mangle]
+pub extern "C" fn daybook_show(book: &[u8], id: u32, record: &mut [u8]) -> u32
+    ensures { λ r. ⌜ Copied (now (book .entry)) id (now («record» .entry)) r (now («record» .exit)) ⌝ }
+{
+    if record.len() != RECORD_SIZE {
+        return WRONG_LENGTH;
+    }
+    let mut number = 0;
+    let part = daybook::show(book, id, &mut number);
+    image::fill(record, part);
+    number
+}
+
+// The same of the picked one of two books: the morning's where `afternoon_picked` is 0, else the afternoon's.
+#[no_mangle]
+pub extern "C" fn daybook_show_picked<'a>(
+    morning: &'a [u8],
+    afternoon: &'a [u8],
+    afternoon_picked: u32,
+    id: u32,
+    record: &mut [u8],
+) -> u32
+    ensures { λ r. ⌜ Copied (picked (isYes «afternoon_picked») (now (morning .entry)) (now (afternoon .entry))) id (now («record» .entry)) r (now («record» .exit)) ⌝ }
+{
+    if record.len() != RECORD_SIZE {
+        return WRONG_LENGTH;
+    }
+    let mut number = 0;
+    let part = daybook::show_picked(morning, afternoon, afternoon_picked != 0, id, &mut number);
+    image::fill(record, part);
+    number
+}
+
+// Adds a signed amount to a user's physical entry and position in an area.
+#[no_mangle]
+pub extern "C" fn daybook_posting(book: &mut [u8], id: u32, area: u32, amount: i64) -> u32
+    ensures { λ r. ⌜ Called today (now (book .entry)) (postingOf id area amount) (only r) (now (book .exit)) ⌝ }
+{
+    daybook::posting(book, id, area, amount)
+}
+
+// The morning level of a user: 1 number.
+#[no_mangle]
+pub extern "C" fn daybook_morning_level(book: &[u8], id: u32, answer: &mut [u64]) -> u32
+    ensures { λ r. ⌜ Replied 1 levelNumbers (now (book .entry)) (morningLevelOf id) (now (answer .entry)) r (now (answer .exit)) ⌝ }
+{
+    if answer.len() != LEVEL_NUMBERS {
+        return WRONG_LENGTH;
+    }
+    let reply = daybook::morning_level(book, id);
+    store_level(answer, reply)
+}
+
+// The afternoon level of a user: 1 number.
+#[no_mangle]
+pub extern "C" fn daybook_afternoon_level(book: &[u8], id: u32, answer: &mut [u64]) -> u32
+    ensures { λ r. ⌜ Replied 1 levelNumbers (now (book .entry)) (afternoonLevelOf id) (now (answer .entry)) r (now (answer .exit)) ⌝ }
+{
+    if answer.len() != LEVEL_NUMBERS {
+        return WRONG_LENGTH;
+    }
+    let reply = daybook::afternoon_level(book, id);
+    store_level(answer, reply)
+}
+
+// Raises a user's blocked guarantee to its morning level: 2 numbers, the level and what was added.
+#[no_mangle]
+pub extern "C" fn daybook_morning_call(book: &mut [u8], id: u32, answer: &mut [u64]) -> u32
+    ensures { λ r. ⌜ Answered 2 callNumbers (now (book .entry)) (morningCall id) (now (answer .entry)) r (now (answer .exit)) (now (book .exit)) ⌝ }
+{
+    if answer.len() != CALL_NUMBERS {
+        return WRONG_LENGTH;
+    }
+    let call = daybook::morning_call(book, id);
+    store_call(answer, call)
+}
+
+// Raises a user's blocked guarantee to its afternoon level: 2 numbers, the level and what was added.
+#[no_mangle]
+pub extern "C" fn daybook_afternoon_call(book: &mut [u8], id: u32, answer: &mut [u64]) -> u32
+    ensures { λ r. ⌜ Answered 2 callNumbers (now (book .entry)) (afternoonCall id) (now (answer .entry)) r (now (answer .exit)) (now (book .exit)) ⌝ }
+{
+    if answer.len() != CALL_NUMBERS {
+        return WRONG_LENGTH;
+    }
+    let call = daybook::afternoon_call(book, id);
+    store_call(answer, call)
+}
+
+// Whether a user is warned at midday: 1 number, 1 for yes and 0 for no.
+#[no_mangle]
+pub extern "C" fn daybook_warning(book: &[u8], id: u32, answer: &mut [u64]) -> u32
+    ensures { λ r. ⌜ Replied 1 warningNumbers (now (book .entry)) (warned.warningOf id) (now (answer .entry)) r (now (answer .exit)) ⌝ }
+{
+    if answer.len() != WARNING_NUMBERS {
+        return WRONG_LENGTH;
+    }
+    let reply = daybook::warning(book, id);
+    store_warning(answer, reply)
+}

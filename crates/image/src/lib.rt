@@ -1,0 +1,87 @@
+// The fields of a book as an image of 8,736 bytes, for callers that have no struct `Book`: header, 64 users and 256 trades in the book's format, 0 past the counts.
+ghost use mathlib.Core.Path.{_≡_};
+ghost use Prim.Native.Nat.{_+_, _*_, _≤_};
+ghost use lib.ListN.{length, replicate};
+ghost use Rattle.format.specs.Book.{userCount, tradeCount};
+ghost use Rattle.format.specs.Questions.{Formed};
+ghost use Rattle.transfer.specs.Written.{WrittenAs};
+ghost use Rattle.image.specs.Image.{padded, imageOf, imageBook, ImageRead, FieldsOf};
+use book::Book;
+
+// Makes every byte of a part 0.
+fn clear(out: &mut [u8])
+    ensures { λ _. ⌜ now (out .exit) ≡ replicate (length (now (out .entry))) 0 ⌝ }
+{
+    let mut i = 0;
+    while i < out.len() {
+        out[i] = 0;
+        i += 1;
+    }
+}
+
+// Copies bytes to the front of a part, and makes the rest of it 0.
+pub fn fill(out: &mut [u8], front: &[u8])
+    requires { ⌜ length (now front) ≤ length (now out) ⌝ }
+    ensures { λ _. ⌜ now (out .exit) ≡ padded (length (now (out .entry))) (now (front .entry)) ⌝ }
+{
+    clear(out);
+    bytes::copy(front, out);
+}
+
+// Copies the bytes of a book of n users to an image.
+fn copy_book(image: &mut [u8], s: &[u8], n: usize)
+    requires { ⌜ Formed (now s) × (n ≡ userCount (now s)) × (length (now image) ≡ 8736) ⌝ }
+    ensures { λ _. ⌜ now (image .exit) ≡ imageOf (now (s .entry)) ⌝ }
+{
+    let at = 32 + 56 * n;
+    fill(&mut image[0..32], &s[0..32]);
+    fill(&mut image[32..3616], &s[32..at]);
+    fill(&mut image[3616..8736], &s[at..]);
+}
+
+// The number of the first of the questions 1 to 7 that the bytes of a book fail, and an image of 0; or 0 and the image of the book's fields.
+pub fn read(book: &[u8], image: &mut [u8]) -> u32
+    requires { ⌜ length (now image) ≡ 8736 ⌝ }
+    ensures { λ r. ⌜ ImageRead (now (book .entry)) r (now (image .exit)) ⌝ }
+{
+    let opening = daybook::read(book);
+    let number = opening.number;
+    if number != 0 {
+        clear(image);
+        return number;
+    }
+    let b = opening.book;
+    let n = b.user_count as usize;
+    copy_book(image, book, n);
+    0
+}
+
+// The struct with an image's fields: every user and every trade of the image, whatever its counts say; neither its mark nor its zero bytes are looked at.
+fn book_of(image: &[u8]) -> Book
+    requires { ⌜ length (now image) ≡ 8736 ⌝ }
+    ensures { λ r. ⌜ FieldsOf (now (image .entry)) r ⌝ }
+{
+    let user_count = fields::get_u8(image, 5);
+    let trade_count = fields::get_u16(image, 6);
+    let prices = book::read_prices(image);
+    let users = book::read_users(image, 32, 64);
+    let trades = book::read_trades(image, 3616, 256);
+    Book {
+        version: fields::get_u16(image, 3),
+        user_count: user_count,
+        trade_count: trade_count,
+        date: fields::get_u32(image, 8),
+        prices: prices,
+        users: users,
+        trades: trades,
+    }
+}
+
+// Writes the book that an image's fields are to a part of exactly its length, and answers 0; or leaves the part and answers the first question that the bytes would fail.
+pub fn write(image: &[u8], out: &mut [u8]) -> u32
+    requires { ⌜ length (now image) ≡ 8736 ⌝ }
+    ensures { λ r. ⌜ WrittenAs (userCount (now (image .entry))) (tradeCount (now (image .entry))) (imageBook (now (image .entry))) (now (out .entry)) r (now (out .exit)) ⌝ }
+{
+    let b = book_of(image);
+    daybook::write(b, out)
+}

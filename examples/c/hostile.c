@@ -1,0 +1,358 @@
+/* Calls every function of daybook.h on hostile input: hostile BOOK. Each part is a block of exactly its length, so that valgrind sees a byte read or written outside it
+   (the script `valgrind` beside this file). What a caller can tell is held against the header: the numbers, the 0 of a refused answer, and what stays unchanged. */
+#include <inttypes.h>
+#include <stdio.h>
+#include <stdlib.h>
+#include <string.h>
+
+#include "daybook.h"
+
+enum { LONGEST = 8800, FILLER = 0xA5 };
+
+static unsigned long calls;
+
+/* ---- parts */
+
+static void *block(size_t size)
+{
+    void *p = malloc(size);
+    if (p == NULL && size != 0) {
+        fprintf(stderr, "no memory\n");
+        exit(2);
+    }
+    return p;
+}
+
+static uint8_t *copy_of(const uint8_t *bytes, size_t size)
+{
+    uint8_t *p = block(size);
+    if (size != 0)
+        memcpy(p, bytes, size);
+    return p;
+}
+
+static int all_bytes(const void *part, size_t size, uint8_t value)
+{
+    const uint8_t *p = part;
+    for (size_t i = 0; i < size; i++)
+        if (p[i] != value)
+            return 0;
+    return 1;
+}
+
+static void expect(int holds, const char *call, const char *what, uint32_t number)
+{
+    if (!holds) {
+        fprintf(stderr, "%s: %s (number %" PRIu32 ")\n", call, what, number);
+        exit(1);
+    }
+}
+
+/* A fixed sequence of numbers that look random. */
+static uint64_t state = 88172645463325252u;
+
+static uint64_t next(void)
+{
+    state ^= state << 13;
+    state ^= state >> 7;
+    state ^= state << 17;
+    return state;
+}
+
+/* ---- the functions with an answer in numbers, under one type */
+
+typedef uint32_t answering(uint8_t *book, size_t size, uint32_t id, uint64_t *answer, size_t count);
+
+static uint32_t morning_level(uint8_t *book, size_t size, uint32_t id, uint64_t *answer, size_t count)
+{
+    return daybook_morning_level(book, size, id, answer, count);
+}
+
+static uint32_t afternoon_level(uint8_t *book, size_t size, uint32_t id, uint64_t *answer, size_t count)
+{
+    return daybook_afternoon_level(book, size, id, answer, count);
+}
+
+static uint32_t warning(uint8_t *book, size_t size, uint32_t id, uint64_t *answer, size_t count)
+{
+    return daybook_warning(book, size, id, answer, count);
+}
+
+static const struct {
+    const char *name;
+    answering *call;
+    size_t count;
+    int changes; /* may an accepted call change the book? */
+} answers[] = {
+    {"morning_level", morning_level, DAYBOOK_LEVEL_NUMBERS, 0},
+    {"afternoon_level", afternoon_level, DAYBOOK_LEVEL_NUMBERS, 0},
+    {"warning", warning, DAYBOOK_WARNING_NUMBERS, 0},
+    {"morning_call", daybook_morning_call, DAYBOOK_CALL_NUMBERS, 1},
+    {"afternoon_call", daybook_afternoon_call, DAYBOOK_CALL_NUMBERS, 1},
+};
+
+enum { ANSWERS = sizeof answers / sizeof answers[0] };
+
+/* What holds of every function with a lent part: 255 exactly where the part is of another length, and then the part is left; else a number of the questions, and 0 in the
+   whole part where it is refused. */
+static void expect_part(const char *call, uint32_t number, const void *part, size_t size, size_t asked)
+{
+    calls++;
+    if (size != asked) {
+        expect(number == DAYBOOK_WRONG_LENGTH, call, "another length is not refused", number);
+        expect(all_bytes(part, size, FILLER), call, "a part of another length is changed", number);
+        return;
+    }
+    expect(number <= 14, call, "no number of a question", number);
+    if (number != 0)
+        expect(all_bytes(part, size, 0), call, "a refused answer is not 0", number);
+}
+
+static void ask(size_t which, const uint8_t *bytes, size_t size, uint32_t id, size_t count)
+{
+    const char *name = answers[which].name;
+    uint8_t *book = copy_of(bytes, size);
+    uint64_t *answer = block(count * sizeof *answer);
+    memset(answer, FILLER, count * sizeof *answer);
+    uint32_t number = answers[which].call(book, size, id, answer, count);
+    expect_part(name, number, answer, count * sizeof *answer, answers[which].count * sizeof *answer);
+    if (number != 0 || !answers[which].changes)
+        expect(size == 0 || memcmp(book, bytes, size) == 0, name, "the book is changed", number);
+    free(answer);
+    free(book);
+}
+
+static void post(const uint8_t *bytes, size_t size, uint32_t id, uint32_t area, int64_t amount)
+{
+    uint8_t *book = copy_of(bytes, size);
+    uint32_t number = daybook_posting(book, size, id, area, amount);
+    calls++;
+    expect(number <= 10, "posting", "no number of a question", number);
+    if (number != 0)
+        expect(size == 0 || memcmp(book, bytes, size) == 0, "posting", "the book is changed", number);
+    free(book);
+}
+
+static void show(const uint8_t *bytes, size_t size, uint32_t id, size_t lent)
+{
+    uint8_t *book = copy_of(bytes, size);
+    uint8_t *record = block(lent);
+    memset(record, FILLER, lent);
+    uint32_t number = daybook_show(book, size, id, record, lent);
+    expect_part("show", number, record, lent, DAYBOOK_RECORD_SIZE);
+
+    /* picked from two, the other of which is one byte long */
+    uint8_t *other = block(1);
+    other[0] = FILLER;
+    for (uint32_t pick = 0; pick <= 2; pick++) {
+        uint8_t *picked = block(lent);
+        memset(picked, FILLER, lent);
+        uint32_t again = pick == 0 ? daybook_show_picked(book, size, other, 1, pick, id, picked, lent)
+                                   : daybook_show_picked(other, 1, book, size, pick, id, picked, lent);
+        expect_part("show_picked", again, picked, lent, DAYBOOK_RECORD_SIZE);
+        expect(again == number, "show_picked", "another number than show", again);
+        expect(memcmp(picked, record, lent) == 0, "show_picked", "another record than show", again);
+        free(picked);
+    }
+    free(other);
+    free(record);
+    free(book);
+}
+
+/* Reads a book into an image; where it is accepted, writes it back, which gives the same bytes. */
+static void read_book(const uint8_t *bytes, size_t size, size_t lent)
+{
+    uint8_t *book = copy_of(bytes, size);
+    uint8_t *image = block(lent);
+    memset(image, FILLER, lent);
+    uint32_t number = daybook_read(book, size, image, lent);
+    expect_part("read", number, image, lent, DAYBOOK_IMAGE_SIZE);
+    if (number == 0) {
+        uint8_t *out = block(size);
+        memset(out, FILLER, size);
+        uint32_t again = daybook_write(image, lent, out, size);
+        calls++;
+        expect(again == 0, "write", "refuses what read accepts", again);
+        expect(memcmp(out, bytes, size) == 0, "write", "writes other bytes than were read", again);
+        free(out);
+    }
+    free(image);
+    free(book);
+}
+
+static void write_book(const uint8_t *bytes, size_t size, size_t lent)
+{
+    uint8_t *image = copy_of(bytes, size);
+    uint8_t *out = block(lent);
+    memset(out, FILLER, lent);
+    uint32_t number = daybook_write(image, size, out, lent);
+    calls++;
+    if (size != DAYBOOK_IMAGE_SIZE)
+        expect(number == DAYBOOK_WRONG_LENGTH, "write", "another length is not refused", number);
+    else
+        expect(number <= 7 && number != 1, "write", "no number of a question", number);
+    if (number != 0)
+        expect(all_bytes(out, lent, FILLER), "write", "the part is changed", number);
+    free(out);
+    free(image);
+}
+
+/* Every function once, on bytes taken for a book and for an image. */
+static void every(const uint8_t *bytes, size_t size, uint32_t id)
+{
+    for (size_t which = 0; which < ANSWERS; which++)
+        ask(which, bytes, size, id, answers[which].count);
+    post(bytes, size, id, (uint32_t)(next() % 4), (int64_t)next());
+    show(bytes, size, id, DAYBOOK_RECORD_SIZE);
+    read_book(bytes, size, DAYBOOK_IMAGE_SIZE);
+    write_book(bytes, size, (size_t)(next() % 300));
+}
+
+/* ---- the inputs */
+
+/* Random bytes of every length; at every fourth with the sample's header, and the counts that the length allows, so that the fields are asked too. */
+static void random_bytes(const uint8_t *sample)
+{
+    for (size_t size = 0; size <= LONGEST; size++) {
+        uint8_t *bytes = block(size);
+        for (size_t i = 0; i < size; i++)
+            bytes[i] = (uint8_t)next();
+        if (size % 4 == 0 && size >= DAYBOOK_HEADER_SIZE + DAYBOOK_USER_SIZE) {
+            memcpy(bytes, sample, DAYBOOK_HEADER_SIZE);
+            size_t users = (size - DAYBOOK_HEADER_SIZE) / DAYBOOK_USER_SIZE;
+            users = users > DAYBOOK_MAX_USERS ? DAYBOOK_MAX_USERS : users;
+            while (users > 1 && (size - DAYBOOK_HEADER_SIZE - users * DAYBOOK_USER_SIZE) % DAYBOOK_TRADE_SIZE != 0)
+                users--;
+            size_t trades = (size - DAYBOOK_HEADER_SIZE - users * DAYBOOK_USER_SIZE) / DAYBOOK_TRADE_SIZE;
+            bytes[5] = (uint8_t)users;
+            bytes[6] = (uint8_t)trades;
+            bytes[7] = (uint8_t)(trades >> 8);
+        }
+        every(bytes, size, (uint32_t)next());
+        free(bytes);
+    }
+}
+
+/* The sample with one byte changed, each byte in three ways. */
+static void damaged_books(const uint8_t *sample, size_t size, uint32_t id)
+{
+    const uint8_t changes[] = {0x01, 0x80, 0xFF};
+    for (size_t at = 0; at < size; at++)
+        for (size_t k = 0; k < sizeof changes; k++) {
+            uint8_t *bytes = copy_of(sample, size);
+            bytes[at] ^= changes[k];
+            every(bytes, size, id);
+            free(bytes);
+        }
+}
+
+/* The image of the sample with one byte of the header, of the first users or of the first trades changed, written to a part of the sample's length. */
+static void damaged_images(const uint8_t *sample, size_t size)
+{
+    uint8_t *image = block(DAYBOOK_IMAGE_SIZE);
+    uint32_t number = daybook_read(sample, size, image, DAYBOOK_IMAGE_SIZE);
+    expect(number == 0, "read", "the sample is refused", number);
+    for (size_t at = 0; at < DAYBOOK_IMAGE_SIZE; at++) {
+        if (at == 200)
+            at = 3600;
+        if (at == 3700)
+            at = DAYBOOK_IMAGE_SIZE - 50;
+        image[at] ^= 0xFF;
+        write_book(image, DAYBOOK_IMAGE_SIZE, size);
+        image[at] ^= 0xFF;
+    }
+    free(image);
+}
+
+/* Ids, areas and amounts at the ends of their types and of their ranges. */
+static void hostile_arguments(const uint8_t *sample, size_t size, uint32_t id)
+{
+    const uint32_t ids[] = {0, 1, id, id + 1, 0x7FFFFFFF, 0x80000000, 0xFFFFFFFF};
+    const uint32_t areas[] = {0, 1, 2, 3, 0x100, 0x80000000, 0xFFFFFFFF};
+    const int64_t amounts[] = {0, 1, -1, 1000000, -1000000, 2000001, -2000001, INT64_C(4294967296), INT64_MAX, INT64_MIN};
+    for (size_t i = 0; i < sizeof ids / sizeof ids[0]; i++) {
+        every(sample, size, ids[i]);
+        for (size_t a = 0; a < sizeof areas / sizeof areas[0]; a++)
+            for (size_t k = 0; k < sizeof amounts / sizeof amounts[0]; k++)
+                post(sample, size, ids[i], areas[a], amounts[k]);
+    }
+}
+
+/* Lent parts of every length near the one that is asked for, and of none. */
+static void wrong_lengths(const uint8_t *sample, size_t size, uint32_t id)
+{
+    for (size_t which = 0; which < ANSWERS; which++)
+        for (size_t count = 0; count <= answers[which].count + 3; count++)
+            ask(which, sample, size, id, count);
+    for (size_t lent = 0; lent <= 2 * DAYBOOK_RECORD_SIZE; lent++)
+        show(sample, size, id, lent);
+    const size_t lengths[] = {0, 1, 31, 32, 8735, 8736, 8737, 2 * 8736};
+    uint8_t *zeros = calloc(2, DAYBOOK_IMAGE_SIZE);
+    for (size_t i = 0; i < sizeof lengths / sizeof lengths[0]; i++) {
+        read_book(sample, size, lengths[i]);
+        for (size_t k = 0; k < sizeof lengths / sizeof lengths[0]; k++)
+            write_book(zeros, lengths[i], lengths[k]);
+    }
+    free(zeros);
+}
+
+/* The largest book: 64 users with the ids 1 to 64, and 256 sales of 1 MWh from the first to the second. */
+static void largest_book(const uint8_t *sample)
+{
+    uint8_t *book = calloc(1, DAYBOOK_IMAGE_SIZE);
+    memcpy(book, sample, DAYBOOK_HEADER_SIZE);
+    book[5] = DAYBOOK_MAX_USERS;
+    book[6] = 0;
+    book[7] = 1;
+    for (size_t i = 0; i < DAYBOOK_MAX_USERS; i++)
+        book[DAYBOOK_HEADER_SIZE + DAYBOOK_USER_SIZE * i] = (uint8_t)(i + 1);
+    const int32_t sold = -256, bought = 256;
+    for (size_t k = 0; k < 4; k++) {
+        book[DAYBOOK_HEADER_SIZE + 20 + k] = (uint8_t)((uint32_t)sold >> (8 * k));
+        book[DAYBOOK_HEADER_SIZE + DAYBOOK_USER_SIZE + 20 + k] = (uint8_t)((uint32_t)bought >> (8 * k));
+    }
+    for (size_t i = 0; i < DAYBOOK_MAX_TRADES; i++) {
+        uint8_t *trade = book + DAYBOOK_HEADER_SIZE + DAYBOOK_USER_SIZE * DAYBOOK_MAX_USERS + DAYBOOK_TRADE_SIZE * i;
+        trade[0] = 1;
+        trade[4] = 2;
+        trade[12] = 1;
+        trade[16] = 1;
+    }
+    uint8_t *image = block(DAYBOOK_IMAGE_SIZE);
+    uint32_t number = daybook_read(book, DAYBOOK_IMAGE_SIZE, image, DAYBOOK_IMAGE_SIZE);
+    expect(number == 0, "read", "the largest book is refused", number);
+    for (uint32_t id = 0; id <= DAYBOOK_MAX_USERS + 1; id += 13)
+        every(book, DAYBOOK_IMAGE_SIZE, id);
+    free(image);
+    free(book);
+}
+
+int main(int argc, char **argv)
+{
+    static uint8_t sample[DAYBOOK_IMAGE_SIZE];
+    if (argc != 2) {
+        fprintf(stderr, "usage: hostile BOOK\n");
+        return 2;
+    }
+    FILE *file = fopen(argv[1], "rb");
+    if (file == NULL) {
+        perror(argv[1]);
+        return 2;
+    }
+    size_t size = fread(sample, 1, sizeof sample, file);
+    fclose(file);
+    if (size < DAYBOOK_HEADER_SIZE + DAYBOOK_USER_SIZE) {
+        fprintf(stderr, "%s: no book\n", argv[1]);
+        return 2;
+    }
+    uint32_t id = sample[32] | (uint32_t)sample[33] << 8 | (uint32_t)sample[34] << 16 | (uint32_t)sample[35] << 24;
+
+    random_bytes(sample);
+    damaged_books(sample, size, id);
+    damaged_images(sample, size);
+    hostile_arguments(sample, size, id);
+    wrong_lengths(sample, size, id);
+    largest_book(sample);
+    printf("%lu calls, as the header says\n", calls);
+    return 0;
+}

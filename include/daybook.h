@@ -1,0 +1,99 @@
+/* Jozmerod for C: the public calls on a gas day's book of users and trades, held in bytes.
+ *
+ * Link with target/staticlib/libexports.a (`rt staticlib exports` writes it). The library allocates nothing, keeps nothing between calls and prints nothing; the functions
+ * are proved in crates/exports to give, for any bytes and any arguments, what document 01 says.
+ *
+ * A pointer is never NULL and has as many elements behind it as the length after it says; a part that a function may change overlaps no other part of the same call.
+ * These two are the only things that the caller answers for. Amounts of money are cents, amounts of gas MWh.
+ *
+ * Every function returns 0 where it did what is asked, or the number of the first question that is answered by no:
+ *
+ *    1  at least 32 bytes, starting with the mark?
+ *    2  version 1?
+ *    3  counts in range, and length exactly 32 + 56 * users + 20 * trades?
+ *    4  date, prices and tolls in range?
+ *    5  every user field valid, positions apart?
+ *    6  every trade valid?
+ *    7  every position as defined?
+ *    8  id in the book?
+ *    9  a shipper? (not asked for a posting or a shown record)
+ *   10  posting: area 0 to 2, and the new physical entry within 1,000,000 either way?
+ *   11  call, reduction: level - blocked > 1,000,000, and, but for the morning call, user called in?
+ *   12  call: assigned >= level?
+ *   13  reduction: assigned < level?
+ *   14  reduction: has the user an eligible trade?
+ *  255  the part lent for the answer, the record or the image is not of the length that the function asks for
+ *
+ * After a number from 1 to 14 the answer, the record or the image is all 0 and the book is byte for byte the same. After 255 nothing at all is changed.
+ */
+#ifndef DAYBOOK_H
+#define DAYBOOK_H
+
+#include <stddef.h>
+#include <stdint.h>
+
+/* The number for a lent part of another length than the function asks for. */
+#define DAYBOOK_WRONG_LENGTH 255
+
+/* Sizes in bytes: a book is a header, its users and its trades. */
+#define DAYBOOK_HEADER_SIZE 32
+#define DAYBOOK_USER_SIZE 56
+#define DAYBOOK_TRADE_SIZE 20
+
+/* A book has 1 to 64 users and at most 256 trades. */
+#define DAYBOOK_MAX_USERS 64
+#define DAYBOOK_MAX_TRADES 256
+
+/* A shown record: the user's bytes. */
+#define DAYBOOK_RECORD_SIZE DAYBOOK_USER_SIZE
+
+/* An image: the header, then always 64 users and 256 trades, those past the counts 0. The largest book has as many bytes. */
+#define DAYBOOK_IMAGE_SIZE \
+    (DAYBOOK_HEADER_SIZE + DAYBOOK_USER_SIZE * DAYBOOK_MAX_USERS + DAYBOOK_TRADE_SIZE * DAYBOOK_MAX_TRADES)
+
+/* How many numbers an answer has. */
+#define DAYBOOK_LEVEL_NUMBERS 1
+#define DAYBOOK_CALL_NUMBERS 2
+#define DAYBOOK_WARNING_NUMBERS 1
+
+#ifdef __cplusplus
+extern "C" {
+#endif
+
+/* Asks the questions 1 to 7 of a book, and copies its fields to the image, of DAYBOOK_IMAGE_SIZE bytes. */
+uint32_t daybook_read(const uint8_t *book, size_t book_len, uint8_t *image, size_t image_len);
+
+/* Writes the book whose fields the image has, up to its counts, to `out`, which must have exactly the book's length. The mark and the zero bytes are written whatever the
+   image has there. Refused with the first of the questions 2 to 7 that the bytes so written would fail, 3 where `out` is of another length; `out` is then unchanged. */
+uint32_t daybook_write(const uint8_t *image, size_t image_len, uint8_t *out, size_t out_len);
+
+/* Copies the record of the user of an id, DAYBOOK_RECORD_SIZE bytes. */
+uint32_t daybook_show(const uint8_t *book, size_t book_len, uint32_t id, uint8_t *record, size_t record_len);
+
+/* The same of the picked one of two books: the morning's where `afternoon_picked` is 0, else the afternoon's. Only the picked book is questioned. */
+uint32_t daybook_show_picked(const uint8_t *morning, size_t morning_len, const uint8_t *afternoon, size_t afternoon_len,
+                             uint32_t afternoon_picked, uint32_t id, uint8_t *record, size_t record_len);
+
+/* Adds a signed amount of MWh to a user's physical entry and position in an area: 0 PVB, 1 TVB, 2 AVB. */
+uint32_t daybook_posting(uint8_t *book, size_t book_len, uint32_t id, uint32_t area, int64_t amount);
+
+/* The morning level of a user; DAYBOOK_LEVEL_NUMBERS: the level. */
+uint32_t daybook_morning_level(const uint8_t *book, size_t book_len, uint32_t id, uint64_t *answer, size_t answer_len);
+
+/* The afternoon level of a user; DAYBOOK_LEVEL_NUMBERS: the level. */
+uint32_t daybook_afternoon_level(const uint8_t *book, size_t book_len, uint32_t id, uint64_t *answer, size_t answer_len);
+
+/* Raises a user's blocked guarantee to the morning level; DAYBOOK_CALL_NUMBERS: the level, what was added. */
+uint32_t daybook_morning_call(uint8_t *book, size_t book_len, uint32_t id, uint64_t *answer, size_t answer_len);
+
+/* Raises a user's blocked guarantee to the afternoon level; DAYBOOK_CALL_NUMBERS: the level, what was added. */
+uint32_t daybook_afternoon_call(uint8_t *book, size_t book_len, uint32_t id, uint64_t *answer, size_t answer_len);
+
+/* Whether a user is warned at midday; DAYBOOK_WARNING_NUMBERS: 1 for yes, 0 for no. */
+uint32_t daybook_warning(const uint8_t *book, size_t book_len, uint32_t id, uint64_t *answer, size_t answer_len);
+
+#ifdef __cplusplus
+}
+#endif
+
+#endif
