@@ -6,7 +6,8 @@ use reference::run::next_reduction;
 use reference::transfer::Image;
 
 use crate::accepted::{
-    chain, ends_within, extreme, largest, long, midday, shares, small, usual, MOST_LONG_REDUCTIONS,
+    any_size, chain, ends_within, extreme, general, largest, long, midday, shares, small, usual,
+    MOST_LONG_REDUCTIONS,
 };
 use crate::calls::Call;
 use crate::damage::{counts, raw, Damage};
@@ -18,6 +19,8 @@ pub enum Kind {
     Small,
     /// Up to 21 users and 59 trades.
     Usual,
+    /// Any number of users and of trades.
+    AnySize,
     /// 64 users and 256 trades.
     Largest,
     /// 64 users and 256 trades of the largest amounts and prices.
@@ -37,9 +40,10 @@ pub enum Kind {
 }
 
 impl Kind {
-    pub const ALL: [Kind; 10] = [
+    pub const ALL: [Kind; 11] = [
         Kind::Small,
         Kind::Usual,
+        Kind::AnySize,
         Kind::Largest,
         Kind::Extreme,
         Kind::Chain,
@@ -51,9 +55,10 @@ impl Kind {
     ];
 
     /// The kinds that pass questions 1 to 7.
-    pub const ACCEPTED: [Kind; 8] = [
+    pub const ACCEPTED: [Kind; 9] = [
         Kind::Small,
         Kind::Usual,
+        Kind::AnySize,
         Kind::Largest,
         Kind::Extreme,
         Kind::Chain,
@@ -96,6 +101,7 @@ impl Generator {
         match kind {
             Kind::Small => small(random).to_bytes(),
             Kind::Usual => usual(random).to_bytes(),
+            Kind::AnySize => any_size(random).to_bytes(),
             Kind::Largest => largest(random).to_bytes(),
             Kind::Extreme => extreme(random).to_bytes(),
             Kind::Chain => chain(random).to_bytes(),
@@ -110,10 +116,18 @@ impl Generator {
         }
     }
 
+    /// An accepted book of this many users, 1 to 64, and trades, at most 256;
+    /// a single user trades with nobody. Its run takes at most 400 reductions.
+    pub fn sized(&mut self, users: usize, trades: usize) -> Vec<u8> {
+        general(&mut self.random, users, trades).to_bytes()
+    }
+
     /// A book of any kind, the large ones less often.
     pub fn any_book(&mut self) -> Vec<u8> {
         let kind = match self.random.below(24) {
-            0 => self.random.pick(&[Kind::Largest, Kind::Extreme]),
+            0 => self
+                .random
+                .pick(&[Kind::Largest, Kind::Extreme, Kind::AnySize]),
             1 => Kind::Long,
             2 | 3 => Kind::Raw,
             4..=6 => Kind::Damaged,
