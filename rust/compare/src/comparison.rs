@@ -46,6 +46,7 @@ impl Display for Difference {
 
 /// A comparison with one seed.
 pub struct Comparison {
+    name: String,
     seed: u64,
     generator: Generator,
     book: Vec<u8>,
@@ -60,9 +61,11 @@ pub struct Comparison {
 }
 
 impl Comparison {
-    /// The books of differences are written to files of this folder.
-    pub fn new(seed: u64, folder: &Path) -> Comparison {
+    /// The books of differences are written to files of this folder, the name
+    /// being part of theirs.
+    pub fn new(name: &str, seed: u64, folder: &Path) -> Comparison {
         Comparison {
+            name: name.to_string(),
             seed,
             generator: Generator::new(seed),
             book: Vec::new(),
@@ -142,9 +145,8 @@ impl Comparison {
             return;
         }
         let place = self.counts.all();
-        let file = self
-            .folder
-            .join(format!("difference-{}-{place}.gdb", self.seed));
+        let file = format!("difference-{}-{}-{place}.gdb", self.name, self.seed);
+        let file = self.folder.join(file);
         fs::write(&file, before).expect("a file for the book");
         let difference = Difference {
             seed: self.seed,

@@ -24,7 +24,7 @@ fn main() -> ExitCode {
     };
     println!("seed {seed}");
     let start = Instant::now();
-    let mut comparison = Comparison::new(seed, Path::new("."));
+    let mut comparison = Comparison::new("program", seed, Path::new("."));
     comparison.random_calls(calls);
     println!("{}", comparison.counts);
     println!("{} calls compared", comparison.counts.all());

@@ -3,12 +3,14 @@
 use std::env;
 use std::path::{Path, PathBuf};
 
-/// The number of drawn calls that the tests compare.
-pub const CALLS: u64 = 200_000;
+use crate::comparison::Comparison;
 
-/// DAYBOOK_CALLS, else 200,000.
+/// The least number of drawn calls that the tests compare.
+const CALLS: u64 = 200_000;
+
+/// DAYBOOK_CALLS where that is more than 200,000, else 200,000.
 pub fn calls() -> u64 {
-    number("DAYBOOK_CALLS", CALLS)
+    number("DAYBOOK_CALLS", CALLS).max(CALLS)
 }
 
 /// DAYBOOK_SEED, else 1.
@@ -26,8 +28,13 @@ fn number(name: &str, otherwise: u64) -> u64 {
     }
 }
 
+/// The comparison of a test.
+pub fn comparison(test: &str) -> Comparison {
+    Comparison::new(test, seed(), &folder())
+}
+
 /// The folder for the books of differences: that of the compiled tests.
-pub fn folder() -> PathBuf {
+fn folder() -> PathBuf {
     let program = env::current_exe().expect("path of the test");
     program.parent().unwrap_or(Path::new(".")).to_path_buf()
 }

@@ -3,7 +3,7 @@
 #![forbid(unsafe_code)]
 
 use books::{Call, Generator, Kind};
-use compare::settings::{folder, seed};
+use compare::settings::{comparison, seed};
 use compare::Comparison;
 use daybook::archive::{self, WRONG_LENGTH};
 
@@ -59,7 +59,7 @@ fn ids(book: &[u8]) -> Vec<u32> {
 
 #[test]
 fn every_id() {
-    let mut comparison = Comparison::new(seed(), &folder());
+    let mut comparison = comparison("every_id");
     for kind in Kind::ACCEPTED {
         let book = comparison.generator().book(kind);
         for id in ids(&book) {
@@ -71,7 +71,7 @@ fn every_id() {
 
 #[test]
 fn every_area_and_amount() {
-    let mut comparison = Comparison::new(seed(), &folder());
+    let mut comparison = comparison("every_area_and_amount");
     for kind in [Kind::Small, Kind::Usual, Kind::Extreme, Kind::Midday] {
         let book = comparison.generator().book(kind);
         for id in ids(&book).into_iter().take(40) {
@@ -102,7 +102,7 @@ fn postings(comparison: &mut Comparison, book: &[u8], id: u32) {
 /// Writes of any counts and lengths, and of images of random bytes.
 #[test]
 fn writes() {
-    let mut comparison = Comparison::new(seed(), &folder());
+    let mut comparison = comparison("writes");
     for _ in 0..4_000 {
         let call = comparison.generator().write();
         comparison.call(&mut Vec::new(), &call);
@@ -129,7 +129,7 @@ fn writes() {
 /// being any bytes.
 #[test]
 fn picks() {
-    let mut comparison = Comparison::new(seed(), &folder());
+    let mut comparison = comparison("picks");
     for _ in 0..2_000 {
         let mut morning = comparison.generator().any_book();
         let afternoon = comparison.generator().any_book();

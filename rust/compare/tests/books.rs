@@ -4,8 +4,9 @@
 #![forbid(unsafe_code)]
 
 use books::{Arguments, Damage, Kind};
-use compare::settings::{folder, seed};
+use compare::settings::comparison;
 use compare::Comparison;
+use reference::book::length;
 
 /// Books of a kind, or with a damage.
 const OF_EACH: usize = 12;
@@ -20,11 +21,13 @@ fn every_call(comparison: &mut Comparison, book: &[u8]) {
 
 #[test]
 fn every_size() {
-    let mut comparison = Comparison::new(seed(), &folder());
+    let mut comparison = comparison("every_size");
     let sizes = (1..=64).map(|users| (users, 4 * users));
     let sizes = sizes.chain((0..=256).map(|trades| (1 + trades % 64, trades)));
     for (users, trades) in sizes {
         let book = comparison.generator().sized(users, trades);
+        let trades = if users > 1 { trades } else { 0 };
+        assert_eq!(book.len(), length(users, trades), "{users} users");
         every_call(&mut comparison, &book);
     }
     comparison.expect_none();
@@ -32,7 +35,7 @@ fn every_size() {
 
 #[test]
 fn every_kind() {
-    let mut comparison = Comparison::new(seed(), &folder());
+    let mut comparison = comparison("every_kind");
     for kind in Kind::ALL {
         for _ in 0..OF_EACH {
             let book = comparison.generator().book(kind);
@@ -44,7 +47,7 @@ fn every_kind() {
 
 #[test]
 fn every_damage() {
-    let mut comparison = Comparison::new(seed(), &folder());
+    let mut comparison = comparison("every_damage");
     for damage in Damage::ALL {
         for _ in 0..OF_EACH {
             let book = comparison.generator().damaged_by(damage);
@@ -57,7 +60,7 @@ fn every_damage() {
 
 #[test]
 fn every_date() {
-    let mut comparison = Comparison::new(seed(), &folder());
+    let mut comparison = comparison("every_date");
     for book in comparison.generator().dated_books() {
         every_call(&mut comparison, &book);
     }
@@ -67,7 +70,7 @@ fn every_date() {
 /// Each byte of a book with each of a few values, and each bit changed.
 #[test]
 fn every_byte() {
-    let mut comparison = Comparison::new(seed(), &folder());
+    let mut comparison = comparison("every_byte");
     let book = comparison.generator().book(Kind::Midday);
     for place in 0..book.len() {
         let values = (0..8).map(|bit| book[place] ^ (1 << bit));
@@ -83,7 +86,7 @@ fn every_byte() {
 /// Random bytes of every length up to one past the longest book.
 #[test]
 fn random_bytes() {
-    let mut comparison = Comparison::new(seed(), &folder());
+    let mut comparison = comparison("random_bytes");
     for length in (0..=400)
         .chain((401..=8737).step_by(83))
         .chain([8736, 8737])
@@ -105,7 +108,7 @@ fn random_bytes() {
 /// Each prefix of an accepted book, and the book with bytes after it.
 #[test]
 fn every_length() {
-    let mut comparison = Comparison::new(seed(), &folder());
+    let mut comparison = comparison("every_length");
     let book = comparison.generator().book(Kind::Small);
     for length in 0..book.len() + 60 {
         let mut bytes = book.clone();

@@ -3,18 +3,15 @@
 
 #![forbid(unsafe_code)]
 
-use compare::settings::{calls, folder, seed, CALLS};
-use compare::Comparison;
+use compare::settings::{calls, comparison, seed};
 
 #[test]
 fn random_calls() {
-    let (calls, seed) = (calls(), seed());
-    let mut comparison = Comparison::new(seed, &folder());
-    comparison.random_calls(calls);
-    println!("seed {seed}\n{}", comparison.counts);
+    let mut comparison = comparison("random_calls");
+    comparison.random_calls(calls());
+    println!("seed {}\n{}", seed(), comparison.counts);
+    println!("{} calls compared", comparison.counts.all());
     comparison.expect_none();
     assert_eq!(comparison.counts.not_allowed(), []);
-    if calls >= CALLS {
-        assert_eq!(comparison.counts.not_reached(), []);
-    }
+    assert_eq!(comparison.counts.not_reached(), []);
 }

@@ -11,7 +11,7 @@ use compare::{engine, typed};
 const CALLS: usize = if cfg!(feature = "reduction") {
     books::vectors::CALLS
 } else {
-    1_863
+    1_834
 };
 
 #[test]
