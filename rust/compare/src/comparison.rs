@@ -101,8 +101,8 @@ impl Comparison {
     /// Makes the call on copies of the book by both sides and compares them.
     /// The book becomes the reference's. A call that the engine lacks is made
     /// by the reference alone and not counted.
-    pub fn call(&mut self, book: &mut Vec<u8>, call: &Call) {
-        let before = book.clone();
+    pub fn call(&mut self, book: &mut [u8], call: &Call) {
+        let before = book.to_vec();
         let expected = books::answer(book, call);
         if !engine::has(call) {
             return;

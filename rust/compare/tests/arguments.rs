@@ -105,7 +105,7 @@ fn writes() {
     let mut comparison = comparison("writes");
     for _ in 0..4_000 {
         let call = comparison.generator().write();
-        comparison.call(&mut Vec::new(), &call);
+        comparison.call(&mut [], &call);
     }
     for (users, trades) in (0..=255).flat_map(|users| [0, 1, 256, 257, 65_535].map(|t| (users, t)))
     {
@@ -114,13 +114,13 @@ fn writes() {
             image[5] = users;
             image[6..8].copy_from_slice(&u16::to_le_bytes(trades));
         }
-        comparison.call(&mut Vec::new(), &call);
+        comparison.call(&mut [], &call);
     }
     for _ in 0..500 {
         let random = comparison.generator().random();
         let image = Box::new(random.bytes(8736).try_into().expect("an image"));
         let length = random.below(9_000);
-        comparison.call(&mut Vec::new(), &Call::Write { image, length });
+        comparison.call(&mut [], &Call::Write { image, length });
     }
     comparison.expect_none();
 }
