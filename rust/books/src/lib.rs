@@ -12,7 +12,7 @@ pub mod random;
 pub mod sha256;
 pub mod vectors;
 
-pub use calls::{answer, disagreement, Answer, Call};
+pub use calls::{answer, Answer, Call};
 pub use damage::Damage;
 pub use generator::{Arguments, Generator, Kind};
 pub use random::Random;

@@ -159,8 +159,10 @@ impl Comparison {
         self.kept.push(difference);
     }
 
-    /// Fails if there was a difference.
+    /// Says how many calls were compared, and fails if there was a difference.
     pub fn expect_none(&self) {
+        let calls = self.counts.all();
+        println!("{}: seed {}, {calls} calls compared", self.name, self.seed);
         assert_eq!(self.differences, 0, "differences, seed {}", self.seed);
     }
 

@@ -3,14 +3,13 @@
 
 #![forbid(unsafe_code)]
 
-use compare::settings::{calls, comparison, seed};
+use compare::settings::{calls, comparison};
 
 #[test]
 fn random_calls() {
     let mut comparison = comparison("random_calls");
     comparison.random_calls(calls());
-    println!("seed {}\n{}", seed(), comparison.counts);
-    println!("{} calls compared", comparison.counts.all());
+    println!("{}", comparison.counts);
     comparison.expect_none();
     assert_eq!(comparison.counts.not_allowed(), []);
     assert_eq!(comparison.counts.not_reached(), []);
