@@ -327,13 +327,13 @@ impl Generator {
     }
 
     /// The image of these records, one of them perhaps damaged. Records past
-    /// the counts are not always 0. Mark and zero bytes stay as they are.
+    /// the counts are not always 0, and neither are the zero bytes; the mark may
+    /// be another one. Writing looks at none of these.
     fn image(&mut self, bytes: Vec<u8>, users: usize, trades: usize) -> Image {
         let mut bytes = bytes;
         if self.random.one_in(2) {
             let damage = self.random.pick(&Damage::ALL);
-            let zero_byte = matches!(damage, Damage::UserZeroByte(_) | Damage::TradeZeroByte);
-            if damage.number() > 3 && !zero_byte {
+            if damage.number() > 3 || damage == Damage::Mark {
                 damage.apply(&mut self.random, &mut bytes, (users, trades));
             }
         }

@@ -75,7 +75,8 @@ fn record(call: impl FnOnce(&mut [u8]) -> u32) -> Answer {
     }
 }
 
-/// The printed day, put together of the engine's calls on a copy of the book.
+/// The printed day, put together of the engine's calls on a copy of the book. A
+/// run that left a book which is refused has its number.
 #[cfg(feature = "reduction")]
 fn day(book: &[u8]) -> Answer {
     let mut book = book.to_vec();
@@ -84,11 +85,15 @@ fn day(book: &[u8]) -> Answer {
         let text = format!("refused {}\n", run.number);
         return Answer::of_part(run.number, text.as_bytes());
     }
+    let after = match daybook::read(&book) {
+        Ok(after) => after,
+        Err(refusal) => return Answer::of_part(refusal.number(), &book),
+    };
     let mut text = format!(
         "run {} {} {}\n",
         run.fields[0], run.fields[1], run.fields[2]
     );
-    for user in daybook::read(&book).expect("a book after its run").users {
+    for user in after.users {
         let (state, level) = state(&book, user.id);
         let [pvb, tvb, avb] = user.position;
         text.push_str(&format!("{} {state} {level} {pvb} {tvb} {avb}\n", user.id));
