@@ -1,6 +1,6 @@
 //! The generator: books of a kind, arguments and calls for a book.
 
-use reference::book::{length, User, HEADER_LENGTH, LONGEST, MOST_USERS};
+use reference::book::{length, User, HEADER_LENGTH, LONGEST, MOST_USERS, USER_LENGTH};
 use reference::questions::questions_1_to_7;
 use reference::run::next_reduction;
 use reference::transfer::Image;
@@ -191,10 +191,7 @@ impl Generator {
 
     /// Arguments for a call on this book.
     pub fn arguments(&mut self, book: &[u8]) -> Arguments {
-        let users = match questions_1_to_7(book) {
-            Ok(book) => book.users,
-            Err(_) => Vec::new(),
-        };
+        let users = users_in_place(book);
         let user = match users.len() {
             0 => User::default(),
             // The first user sells most.
@@ -356,6 +353,17 @@ impl Generator {
             _ => image[6] = self.random.byte(),
         }
     }
+}
+
+/// The users whose records stand in the bytes, up to the count, whether the
+/// bytes are an accepted book or not.
+fn users_in_place(bytes: &[u8]) -> Vec<User> {
+    if bytes.len() < HEADER_LENGTH {
+        return Vec::new();
+    }
+    let (count, _) = counts(bytes);
+    let records = bytes[HEADER_LENGTH..].chunks_exact(USER_LENGTH);
+    records.take(count).map(User::from_bytes).collect()
 }
 
 /// The id of the user whom a run would reduce next.
