@@ -34,6 +34,12 @@ pub fn usual(random: &mut Random) -> Book {
     general(random, users, trades)
 }
 
+/// Any number of users and of trades.
+pub fn any_size(random: &mut Random) -> Book {
+    let (users, trades) = (1 + random.below(MOST_USERS), random.below(MOST_TRADES + 1));
+    general(random, users, trades)
+}
+
 /// 64 users and 256 trades.
 pub fn largest(random: &mut Random) -> Book {
     general(random, MOST_USERS, MOST_TRADES)
@@ -49,8 +55,8 @@ pub fn miscounted(random: &mut Random) -> Book {
     }
 }
 
-/// A book of this size; its run is kept short.
-fn general(random: &mut Random, users: usize, trades: usize) -> Book {
+/// A book of this size; its run is kept short. A single user has no trades.
+pub fn general(random: &mut Random, users: usize, trades: usize) -> Book {
     for _ in 0..20 {
         let book = drawn(random, users, trades);
         if ends_within(&book, MOST_REDUCTIONS) {

@@ -163,27 +163,6 @@ pub fn answer(book: &mut [u8], call: &Call) -> Answer {
     }
 }
 
-/// What another implementation says of this call where it differs from the
-/// reference, in the answer or in the book afterwards; none if they agree.
-pub fn disagreement(
-    book: &[u8],
-    call: &Call,
-    other: impl FnOnce(&mut [u8], &Call) -> Answer,
-) -> Option<String> {
-    let (mut expected_book, mut found_book) = (book.to_vec(), book.to_vec());
-    let expected = answer(&mut expected_book, call);
-    let found = other(&mut found_book, call);
-    if expected != found {
-        return Some(format!(
-            "{call:?}: {found:?}, by the reference {expected:?}"
-        ));
-    }
-    if expected_book != found_book {
-        return Some(format!("{call:?}: another book afterwards"));
-    }
-    None
-}
-
 fn level(answer: reference::LevelAnswer) -> Answer {
     Answer::of_fields(answer.number, &[answer.level])
 }

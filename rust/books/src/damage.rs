@@ -150,7 +150,10 @@ impl Damage {
             Damage::Shorter if bytes.len() > HEADER_LENGTH => bytes.truncate(bytes.len() - 1),
             _ if bytes.len() < HEADER_LENGTH => return false,
             Damage::Mark => change_byte(random, &mut bytes[..3]),
-            Damage::Version => change_byte(random, &mut bytes[3..5]),
+            Damage::Version => {
+                let version: u16 = random.pick(&[0, 2, 3, 255, 256, 257, u16::MAX]);
+                put(bytes, 3, &version.to_le_bytes());
+            }
             Damage::NoUsers => bytes[5] = 0,
             Damage::UserCount => change_byte(random, &mut bytes[5..6]),
             Damage::TradeCount => change_byte(random, &mut bytes[6..8]),

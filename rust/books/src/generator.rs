@@ -1,12 +1,13 @@
 //! The generator: books of a kind, arguments and calls for a book.
 
-use reference::book::{length, User, HEADER_LENGTH, LONGEST, MOST_USERS};
+use reference::book::{length, User, HEADER_LENGTH, LONGEST, MOST_USERS, USER_LENGTH};
 use reference::questions::questions_1_to_7;
 use reference::run::next_reduction;
 use reference::transfer::Image;
 
 use crate::accepted::{
-    chain, ends_within, extreme, largest, long, midday, shares, small, usual, MOST_LONG_REDUCTIONS,
+    any_size, chain, ends_within, extreme, general, largest, long, midday, shares, small, usual,
+    MOST_LONG_REDUCTIONS,
 };
 use crate::calls::Call;
 use crate::damage::{counts, raw, Damage};
@@ -18,6 +19,8 @@ pub enum Kind {
     Small,
     /// Up to 21 users and 59 trades.
     Usual,
+    /// Any number of users and of trades.
+    AnySize,
     /// 64 users and 256 trades.
     Largest,
     /// 64 users and 256 trades of the largest amounts and prices.
@@ -37,9 +40,10 @@ pub enum Kind {
 }
 
 impl Kind {
-    pub const ALL: [Kind; 10] = [
+    pub const ALL: [Kind; 11] = [
         Kind::Small,
         Kind::Usual,
+        Kind::AnySize,
         Kind::Largest,
         Kind::Extreme,
         Kind::Chain,
@@ -51,9 +55,10 @@ impl Kind {
     ];
 
     /// The kinds that pass questions 1 to 7.
-    pub const ACCEPTED: [Kind; 8] = [
+    pub const ACCEPTED: [Kind; 9] = [
         Kind::Small,
         Kind::Usual,
+        Kind::AnySize,
         Kind::Largest,
         Kind::Extreme,
         Kind::Chain,
@@ -96,6 +101,7 @@ impl Generator {
         match kind {
             Kind::Small => small(random).to_bytes(),
             Kind::Usual => usual(random).to_bytes(),
+            Kind::AnySize => any_size(random).to_bytes(),
             Kind::Largest => largest(random).to_bytes(),
             Kind::Extreme => extreme(random).to_bytes(),
             Kind::Chain => chain(random).to_bytes(),
@@ -110,10 +116,18 @@ impl Generator {
         }
     }
 
+    /// An accepted book of this many users, 1 to 64, and trades, at most 256;
+    /// a single user trades with nobody. Its run takes at most 400 reductions.
+    pub fn sized(&mut self, users: usize, trades: usize) -> Vec<u8> {
+        general(&mut self.random, users, trades).to_bytes()
+    }
+
     /// A book of any kind, the large ones less often.
     pub fn any_book(&mut self) -> Vec<u8> {
         let kind = match self.random.below(24) {
-            0 => self.random.pick(&[Kind::Largest, Kind::Extreme]),
+            0 => self
+                .random
+                .pick(&[Kind::Largest, Kind::Extreme, Kind::AnySize]),
             1 => Kind::Long,
             2 | 3 => Kind::Raw,
             4..=6 => Kind::Damaged,
@@ -177,10 +191,7 @@ impl Generator {
 
     /// Arguments for a call on this book.
     pub fn arguments(&mut self, book: &[u8]) -> Arguments {
-        let users = match questions_1_to_7(book) {
-            Ok(book) => book.users,
-            Err(_) => Vec::new(),
-        };
+        let users = users_in_place(book);
         let user = match users.len() {
             0 => User::default(),
             // The first user sells most.
@@ -313,13 +324,13 @@ impl Generator {
     }
 
     /// The image of these records, one of them perhaps damaged. Records past
-    /// the counts are not always 0. Mark and zero bytes stay as they are.
+    /// the counts are not always 0, and neither are the zero bytes; the mark may
+    /// be another one. Writing looks at none of these.
     fn image(&mut self, bytes: Vec<u8>, users: usize, trades: usize) -> Image {
         let mut bytes = bytes;
         if self.random.one_in(2) {
             let damage = self.random.pick(&Damage::ALL);
-            let zero_byte = matches!(damage, Damage::UserZeroByte(_) | Damage::TradeZeroByte);
-            if damage.number() > 3 && !zero_byte {
+            if damage.number() > 3 || damage == Damage::Mark {
                 damage.apply(&mut self.random, &mut bytes, (users, trades));
             }
         }
@@ -342,6 +353,17 @@ impl Generator {
             _ => image[6] = self.random.byte(),
         }
     }
+}
+
+/// The users whose records stand in the bytes, up to the count, whether the
+/// bytes are an accepted book or not.
+fn users_in_place(bytes: &[u8]) -> Vec<User> {
+    if bytes.len() < HEADER_LENGTH {
+        return Vec::new();
+    }
+    let (count, _) = counts(bytes);
+    let records = bytes[HEADER_LENGTH..].chunks_exact(USER_LENGTH);
+    records.take(count).map(User::from_bytes).collect()
 }
 
 /// The id of the user whom a run would reduce next.

@@ -1,5 +1,6 @@
 //! Test support: a seeded generator of day books and calls that reach every
-//! branch of document 01, and the answers of the reference to them.
+//! branch of document 01, the answers of the reference to them, and the outside
+//! vectors.
 
 #![forbid(unsafe_code)]
 
@@ -8,9 +9,11 @@ pub mod calls;
 pub mod damage;
 pub mod generator;
 pub mod random;
+pub mod sha256;
+pub mod vectors;
 pub mod written;
 
-pub use calls::{answer, disagreement, Answer, Call};
+pub use calls::{answer, Answer, Call};
 pub use damage::Damage;
 pub use generator::{Arguments, Generator, Kind};
 pub use random::Random;

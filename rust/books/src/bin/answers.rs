@@ -21,7 +21,9 @@ fn call_of(kind: u8, id: u32, area: u32, amount: i64) -> Call {
 
 fn main() {
     let mut file = Vec::new();
-    std::io::stdin().read_to_end(&mut file).expect("standard input");
+    std::io::stdin()
+        .read_to_end(&mut file)
+        .expect("standard input");
     let mut rest = &file[..];
     let mut place = 0;
     while rest.len() >= 19 {

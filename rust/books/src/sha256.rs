@@ -1,4 +1,4 @@
-//! Test support: sha256, plain and small.
+//! sha256, plain and small, for the books named by it in the outside vectors.
 
 /// The round constants: the fractions of the cube roots of the first 64 primes.
 const ROUNDS: [u32; 64] = [

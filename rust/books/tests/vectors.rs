@@ -1,0 +1,21 @@
+//! Replays every call of the outside vectors against the reference.
+
+#![forbid(unsafe_code)]
+
+use books::sha256::sha256;
+use books::{answer, vectors};
+
+#[test]
+fn sha256_of_known_texts() {
+    let empty = "e3b0c44298fc1c149afbf4c8996fb92427ae41e4649b934ca495991b7852b855";
+    assert_eq!(sha256(b""), empty);
+    let abc = "ba7816bf8f01cfea414140de5dae2223b00361a396177a9cb410ff61f20015ad";
+    assert_eq!(sha256(b"abc"), abc);
+}
+
+#[test]
+fn every_call() {
+    let replayed = vectors::replay(|book, call| Some(answer(book, call)));
+    println!("calls replayed: {replayed}");
+    assert_eq!(replayed, vectors::CALLS);
+}

@@ -1,0 +1,100 @@
+//! How often each call got each number.
+
+use std::fmt::{self, Display, Formatter};
+
+use books::Call;
+
+/// The numbers of document 01: 0 for an accepted call, 1 to 14 for a refusal.
+pub const NUMBERS: usize = 15;
+
+/// Calls that were compared, by kind and number.
+#[derive(Clone, Debug, Default, PartialEq, Eq)]
+pub struct Counts {
+    counts: [[u64; NUMBERS]; Call::NAMES.len()],
+}
+
+impl Counts {
+    /// One more call with this answer's number.
+    pub fn add(&mut self, call: &Call, number: u32) {
+        let number = usize::try_from(number).unwrap_or(NUMBERS);
+        self.counts[kind(call.name())][number.min(NUMBERS - 1)] += 1;
+    }
+
+    /// The calls of all kinds.
+    pub fn all(&self) -> u64 {
+        self.counts.iter().flatten().sum()
+    }
+
+    /// The calls of a kind with a number.
+    pub fn of(&self, name: &str, number: usize) -> u64 {
+        self.counts[kind(name)][number]
+    }
+
+    /// The kinds and numbers that document 01 allows and that did not occur,
+    /// among the kinds that were made at all.
+    pub fn not_reached(&self) -> Vec<(&'static str, usize)> {
+        let made = |name: &str| self.counts[kind(name)].iter().sum::<u64>() > 0;
+        Call::NAMES
+            .into_iter()
+            .filter(|name| made(name))
+            .flat_map(|name| possible(name).into_iter().map(move |number| (name, number)))
+            .filter(|(name, number)| self.of(name, *number) == 0)
+            .collect()
+    }
+
+    /// The kinds and numbers that occurred although document 01 does not allow
+    /// them.
+    pub fn not_allowed(&self) -> Vec<(&'static str, usize)> {
+        Call::NAMES
+            .into_iter()
+            .flat_map(|name| (0..NUMBERS).map(move |number| (name, number)))
+            .filter(|(name, number)| self.of(name, *number) > 0 && !possible(name).contains(number))
+            .collect()
+    }
+}
+
+/// The place of a kind of call among the names.
+fn kind(name: &str) -> usize {
+    let place = Call::NAMES.iter().position(|known| *known == name);
+    place.expect("a kind of call")
+}
+
+/// The numbers that a kind of call can get.
+pub fn possible(name: &str) -> Vec<usize> {
+    let (last, more): (usize, &[usize]) = match name {
+        "posting" => (8, &[10]),
+        "show" | "show picked" => (8, &[]),
+        "morning level" | "afternoon level" | "warning" => (9, &[]),
+        "morning call" | "afternoon call" => (9, &[11, 12]),
+        "reduction" => (9, &[11, 13, 14]),
+        _ => (7, &[]),
+    };
+    let mut numbers: Vec<usize> = (0..=last).chain(more.iter().copied()).collect();
+    // Writing puts the mark itself.
+    numbers.retain(|number| name != "write" || *number != 1);
+    numbers
+}
+
+impl Display for Counts {
+    /// A line for each kind of call that was made, a column for each number.
+    fn fmt(&self, formatter: &mut Formatter<'_>) -> fmt::Result {
+        write!(formatter, "{:<16}", "call")?;
+        for number in 0..NUMBERS {
+            write!(formatter, "{number:>9}")?;
+        }
+        for (name, counts) in Call::NAMES.iter().zip(&self.counts) {
+            if counts.iter().sum::<u64>() == 0 {
+                continue;
+            }
+            write!(formatter, "\n{name:<16}")?;
+            for (number, count) in counts.iter().enumerate() {
+                if possible(name).contains(&number) || *count > 0 {
+                    write!(formatter, "{count:>9}")?;
+                } else {
+                    write!(formatter, "{:>9}", "-")?;
+                }
+            }
+        }
+        Ok(())
+    }
+}

@@ -1,0 +1,117 @@
+//! The engine's answers by the archive's C interface.
+
+use books::{Answer, Call};
+use daybook::archive;
+use daybook::{IMAGE_LENGTH, USER_LENGTH};
+
+/// What a part for an answer holds before the call: a refusal has to put 0
+/// there.
+const BEFORE: u8 = 0xA5;
+
+/// Whether the engine has this call.
+pub fn has(call: &Call) -> bool {
+    cfg!(feature = "reduction") || !matches!(call, Call::Reduction { .. } | Call::Run | Call::Day)
+}
+
+/// The engine's answer to a call that it has; the book is changed as the call
+/// says.
+pub fn answer(book: &mut [u8], call: &Call) -> Answer {
+    match call {
+        Call::Posting { id, area, amount } => {
+            Answer::of_fields(archive::posting(book, *id, *area, *amount), &[])
+        }
+        Call::Show { id } => record(|part| archive::show(book, *id, part)),
+        Call::ShowPicked {
+            afternoon,
+            pick,
+            id,
+        } => record(|part| archive::show_picked(book, afternoon, u32::from(*pick), *id, part)),
+        Call::MorningLevel { id } => fields::<1>(|part| archive::morning_level(book, *id, part)),
+        Call::AfternoonLevel { id } => {
+            fields::<1>(|part| archive::afternoon_level(book, *id, part))
+        }
+        Call::MorningCall { id } => fields::<2>(|part| archive::morning_call(book, *id, part)),
+        Call::AfternoonCall { id } => fields::<2>(|part| archive::afternoon_call(book, *id, part)),
+        Call::Warning { id } => fields::<1>(|part| archive::warning(book, *id, part)),
+        Call::Read => {
+            let mut image = [BEFORE; IMAGE_LENGTH];
+            let number = archive::read(book, &mut image);
+            Answer::of_part(number, &image)
+        }
+        Call::Write { image, length } => {
+            let mut part = vec![0xAA; *length];
+            let number = archive::write(&image[..], &mut part);
+            Answer::of_part(number, &part)
+        }
+        #[cfg(feature = "reduction")]
+        Call::Reduction { id } => fields::<5>(|part| archive::reduction(book, *id, part)),
+        #[cfg(feature = "reduction")]
+        Call::Run => fields::<3>(|part| archive::run(book, part)),
+        #[cfg(feature = "reduction")]
+        Call::Day => day(book),
+        #[cfg(not(feature = "reduction"))]
+        Call::Reduction { .. } | Call::Run | Call::Day => {
+            panic!("the engine lacks {}", call.name())
+        }
+    }
+}
+
+/// The number and the fields that a call puts into its answer.
+fn fields<const COUNT: usize>(call: impl FnOnce(&mut [u64]) -> u32) -> Answer {
+    let mut part = [u64::from_le_bytes([BEFORE; 8]); COUNT];
+    let number = call(&mut part);
+    Answer::of_fields(number, &part.map(i128::from))
+}
+
+/// The number and the record shown. The reference's part is empty after a
+/// refusal, the record of the C interface is then 0.
+fn record(call: impl FnOnce(&mut [u8]) -> u32) -> Answer {
+    let mut part = [BEFORE; USER_LENGTH];
+    let number = call(&mut part);
+    if number != 0 && part == [0; USER_LENGTH] {
+        Answer::of_part(number, &[])
+    } else {
+        Answer::of_part(number, &part)
+    }
+}
+
+/// The printed day, put together of the engine's calls on a copy of the book. A
+/// run that left a book which is refused has its number.
+#[cfg(feature = "reduction")]
+fn day(book: &[u8]) -> Answer {
+    let mut book = book.to_vec();
+    let run = answer(&mut book, &Call::Run);
+    if run.number != 0 {
+        let text = format!("refused {}\n", run.number);
+        return Answer::of_part(run.number, text.as_bytes());
+    }
+    let after = match daybook::read(&book) {
+        Ok(after) => after,
+        Err(refusal) => return Answer::of_part(refusal.number(), &book),
+    };
+    let mut text = format!(
+        "run {} {} {}\n",
+        run.fields[0], run.fields[1], run.fields[2]
+    );
+    for user in after.users {
+        let (state, level) = state(&book, user.id);
+        let [pvb, tvb, avb] = user.position;
+        text.push_str(&format!("{} {state} {level} {pvb} {tvb} {avb}\n", user.id));
+    }
+    Answer::of_part(0, text.as_bytes())
+}
+
+/// The state and the level of a printed day, from what the afternoon call
+/// would answer.
+#[cfg(feature = "reduction")]
+fn state(book: &[u8], id: u32) -> (&'static str, i128) {
+    let mut book = book.to_vec();
+    let level = answer(&mut book, &Call::AfternoonLevel { id }).fields[0];
+    let state = match answer(&mut book, &Call::AfternoonCall { id }).number {
+        0 => "call",
+        9 => "clear",
+        12 => "short",
+        _ => "quiet",
+    };
+    (state, level)
+}

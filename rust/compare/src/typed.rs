@@ -1,0 +1,89 @@
+//! The engine's answers by the Rust types of `daybook`.
+
+use books::{Answer, Call};
+use daybook::{Book, GuaranteeCall, Image, Level, Refusal, Trade, User, IMAGE_LENGTH};
+
+/// Whether the call has a function of its own in `daybook`; a printed day is
+/// put together of others.
+pub fn has(call: &Call) -> bool {
+    crate::engine::has(call) && *call != Call::Day
+}
+
+/// The answer to a call that `daybook` has; the book is changed as the call
+/// says.
+pub fn answer(book: &mut [u8], call: &Call) -> Answer {
+    match call {
+        Call::Posting { id, area, amount } => {
+            fields(daybook::posting(book, *id, *area, *amount).map(|()| []))
+        }
+        Call::Show { id } => record(daybook::show(book, *id)),
+        Call::ShowPicked {
+            afternoon,
+            pick,
+            id,
+        } => record(daybook::show_picked(book, afternoon, *pick, *id)),
+        Call::MorningLevel { id } => level(daybook::morning_level(book, *id)),
+        Call::AfternoonLevel { id } => level(daybook::afternoon_level(book, *id)),
+        Call::MorningCall { id } => guarantee_call(daybook::morning_call(book, *id)),
+        Call::AfternoonCall { id } => guarantee_call(daybook::afternoon_call(book, *id)),
+        Call::Warning { id } => fields(daybook::warning(book, *id).map(|warned| [warned.into()])),
+        Call::Read => match daybook::read(book) {
+            Ok(fields) => Answer::of_part(0, &fields.to_image()),
+            Err(refusal) => Answer::of_part(refusal.number(), &[0; IMAGE_LENGTH]),
+        },
+        Call::Write { image, length } => {
+            let mut part = vec![0xAA; *length];
+            let written = daybook::write(&book_of(image), &mut part);
+            Answer::of_part(number(&written), &part)
+        }
+        #[cfg(feature = "reduction")]
+        Call::Reduction { id } => {
+            let reduction = daybook::reduction(book, *id);
+            fields(reduction.map(|done| {
+                [done.mwh, done.worth, done.target, done.short, done.over].map(i128::from)
+            }))
+        }
+        #[cfg(feature = "reduction")]
+        Call::Run => {
+            let run = daybook::run(book);
+            fields(run.map(|done| [done.reductions, done.mwh, done.worth].map(i128::from)))
+        }
+        _ => panic!("no function of daybook: {}", call.name()),
+    }
+}
+
+fn number<T>(answer: &Result<T, Refusal>) -> u32 {
+    match answer {
+        Ok(_) => 0,
+        Err(refusal) => refusal.number(),
+    }
+}
+
+/// The number and the fields, each of them 0 after a refusal.
+fn fields<const COUNT: usize>(answer: Result<[i128; COUNT], Refusal>) -> Answer {
+    Answer::of_fields(number(&answer), &answer.unwrap_or([0; COUNT]))
+}
+
+fn level(answer: Result<Level, Refusal>) -> Answer {
+    fields(answer.map(|level| [level.0.into()]))
+}
+
+fn guarantee_call(answer: Result<GuaranteeCall, Refusal>) -> Answer {
+    fields(answer.map(|call| [call.level.0.into(), call.added.into()]))
+}
+
+fn record(answer: Result<User, Refusal>) -> Answer {
+    match answer {
+        Ok(user) => Answer::of_part(0, &user.to_bytes()),
+        Err(refusal) => Answer::of_part(refusal.number(), &[]),
+    }
+}
+
+/// The book of an image with any counts; records past its places are 0.
+fn book_of(image: &Image) -> Book {
+    let mut book = Book::from_image(image);
+    let trades = u16::from_le_bytes([image[6], image[7]]);
+    book.users.resize(usize::from(image[5]), User::default());
+    book.trades.resize(usize::from(trades), Trade::default());
+    book
+}

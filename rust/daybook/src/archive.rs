@@ -1,0 +1,248 @@
+//! The C interface of the archive, each function with its parts as slices.
+//!
+//! This is the only module with unsafe code. A function answers 0 or the
+//! number 1 to 14 of document 01; after a refusal the part for the answer is 0
+//! and the book is unchanged. An image, record or answer of another length
+//! than said gets [`WRONG_LENGTH`], and nothing is read, asked or changed.
+
+#![allow(unsafe_code)]
+
+/// The number for a part of another length than the function takes.
+pub const WRONG_LENGTH: u32 = 255;
+
+unsafe extern "C" {
+    fn daybook_read(book: *const u8, book_len: usize, image: *mut u8, image_len: usize) -> u32;
+    fn daybook_write(image: *const u8, image_len: usize, out: *mut u8, out_len: usize) -> u32;
+    fn daybook_show(
+        book: *const u8,
+        book_len: usize,
+        id: u32,
+        record: *mut u8,
+        record_len: usize,
+    ) -> u32;
+    fn daybook_show_picked(
+        morning: *const u8,
+        morning_len: usize,
+        afternoon: *const u8,
+        afternoon_len: usize,
+        afternoon_picked: u32,
+        id: u32,
+        record: *mut u8,
+        record_len: usize,
+    ) -> u32;
+    fn daybook_posting(book: *mut u8, book_len: usize, id: u32, area: u32, amount: i64) -> u32;
+    fn daybook_morning_level(
+        book: *const u8,
+        book_len: usize,
+        id: u32,
+        answer: *mut u64,
+        answer_len: usize,
+    ) -> u32;
+    fn daybook_afternoon_level(
+        book: *const u8,
+        book_len: usize,
+        id: u32,
+        answer: *mut u64,
+        answer_len: usize,
+    ) -> u32;
+    fn daybook_morning_call(
+        book: *mut u8,
+        book_len: usize,
+        id: u32,
+        answer: *mut u64,
+        answer_len: usize,
+    ) -> u32;
+    fn daybook_afternoon_call(
+        book: *mut u8,
+        book_len: usize,
+        id: u32,
+        answer: *mut u64,
+        answer_len: usize,
+    ) -> u32;
+    fn daybook_warning(
+        book: *const u8,
+        book_len: usize,
+        id: u32,
+        answer: *mut u64,
+        answer_len: usize,
+    ) -> u32;
+    #[cfg(feature = "reduction")]
+    fn daybook_reduction(
+        book: *mut u8,
+        book_len: usize,
+        id: u32,
+        answer: *mut u64,
+        answer_len: usize,
+    ) -> u32;
+    #[cfg(feature = "reduction")]
+    fn daybook_run(book: *mut u8, book_len: usize, answer: *mut u64, answer_len: usize) -> u32;
+}
+
+/// Reads a book into an image of 8,736 bytes.
+pub fn read(book: &[u8], image: &mut [u8]) -> u32 {
+    // SAFETY: each pointer comes with the length of its slice, both slices live through the call,
+    // and the image, lent by &mut, does not overlap the book.
+    unsafe { daybook_read(book.as_ptr(), book.len(), image.as_mut_ptr(), image.len()) }
+}
+
+/// Writes an image of 8,736 bytes, up to its counts, into a part.
+pub fn write(image: &[u8], part: &mut [u8]) -> u32 {
+    // SAFETY: each pointer comes with the length of its slice, both slices live through the call,
+    // and the part, lent by &mut, does not overlap the image.
+    unsafe { daybook_write(image.as_ptr(), image.len(), part.as_mut_ptr(), part.len()) }
+}
+
+/// Copies a user's record into 56 bytes.
+pub fn show(book: &[u8], id: u32, record: &mut [u8]) -> u32 {
+    // SAFETY: each pointer comes with the length of its slice, both slices live through the call,
+    // and the record, lent by &mut, does not overlap the book.
+    unsafe {
+        daybook_show(
+            book.as_ptr(),
+            book.len(),
+            id,
+            record.as_mut_ptr(),
+            record.len(),
+        )
+    }
+}
+
+/// Copies a user's record of the picked book into 56 bytes: the morning's
+/// where `afternoon_picked` is 0, else the afternoon's.
+pub fn show_picked(
+    morning: &[u8],
+    afternoon: &[u8],
+    afternoon_picked: u32,
+    id: u32,
+    record: &mut [u8],
+) -> u32 {
+    // SAFETY: each pointer comes with the length of its slice, the slices live through the call,
+    // and the record, lent by &mut, overlaps neither book. The books are only read.
+    unsafe {
+        daybook_show_picked(
+            morning.as_ptr(),
+            morning.len(),
+            afternoon.as_ptr(),
+            afternoon.len(),
+            afternoon_picked,
+            id,
+            record.as_mut_ptr(),
+            record.len(),
+        )
+    }
+}
+
+/// Adds an amount to a user's physical entry and position in an area.
+pub fn posting(book: &mut [u8], id: u32, area: u32, amount: i64) -> u32 {
+    // SAFETY: the pointer comes with the length of its slice, which is lent by &mut and lives
+    // through the call.
+    unsafe { daybook_posting(book.as_mut_ptr(), book.len(), id, area, amount) }
+}
+
+/// The morning level, as the one part of the answer.
+pub fn morning_level(book: &[u8], id: u32, answer: &mut [u64]) -> u32 {
+    // SAFETY: each pointer comes with the length of its slice in elements, both slices live through
+    // the call, and the answer, lent by &mut, does not overlap the book.
+    unsafe {
+        daybook_morning_level(
+            book.as_ptr(),
+            book.len(),
+            id,
+            answer.as_mut_ptr(),
+            answer.len(),
+        )
+    }
+}
+
+/// The afternoon level, as the one part of the answer.
+pub fn afternoon_level(book: &[u8], id: u32, answer: &mut [u64]) -> u32 {
+    // SAFETY: each pointer comes with the length of its slice in elements, both slices live through
+    // the call, and the answer, lent by &mut, does not overlap the book.
+    unsafe {
+        daybook_afternoon_level(
+            book.as_ptr(),
+            book.len(),
+            id,
+            answer.as_mut_ptr(),
+            answer.len(),
+        )
+    }
+}
+
+/// The guarantee call of the morning; the answer is the level and the amount
+/// added.
+pub fn morning_call(book: &mut [u8], id: u32, answer: &mut [u64]) -> u32 {
+    // SAFETY: each pointer comes with the length of its slice in elements, both slices live through
+    // the call, and being lent by &mut they do not overlap.
+    unsafe {
+        daybook_morning_call(
+            book.as_mut_ptr(),
+            book.len(),
+            id,
+            answer.as_mut_ptr(),
+            answer.len(),
+        )
+    }
+}
+
+/// The guarantee call of the afternoon; the answer is the level and the amount
+/// added.
+pub fn afternoon_call(book: &mut [u8], id: u32, answer: &mut [u64]) -> u32 {
+    // SAFETY: each pointer comes with the length of its slice in elements, both slices live through
+    // the call, and being lent by &mut they do not overlap.
+    unsafe {
+        daybook_afternoon_call(
+            book.as_mut_ptr(),
+            book.len(),
+            id,
+            answer.as_mut_ptr(),
+            answer.len(),
+        )
+    }
+}
+
+/// The midday warning; the answer is 1 for warned, else 0.
+pub fn warning(book: &[u8], id: u32, answer: &mut [u64]) -> u32 {
+    // SAFETY: each pointer comes with the length of its slice in elements, both slices live through
+    // the call, and the answer, lent by &mut, does not overlap the book.
+    unsafe {
+        daybook_warning(
+            book.as_ptr(),
+            book.len(),
+            id,
+            answer.as_mut_ptr(),
+            answer.len(),
+        )
+    }
+}
+
+/// The reduction; the answer is MWh, worth, target, short and over.
+#[cfg(feature = "reduction")]
+pub fn reduction(book: &mut [u8], id: u32, answer: &mut [u64]) -> u32 {
+    // SAFETY: each pointer comes with the length of its slice in elements, both slices live through
+    // the call, and being lent by &mut they do not overlap.
+    unsafe {
+        daybook_reduction(
+            book.as_mut_ptr(),
+            book.len(),
+            id,
+            answer.as_mut_ptr(),
+            answer.len(),
+        )
+    }
+}
+
+/// The run; the answer is the number of reductions, MWh and worth.
+#[cfg(feature = "reduction")]
+pub fn run(book: &mut [u8], answer: &mut [u64]) -> u32 {
+    // SAFETY: each pointer comes with the length of its slice in elements, both slices live through
+    // the call, and being lent by &mut they do not overlap.
+    unsafe {
+        daybook_run(
+            book.as_mut_ptr(),
+            book.len(),
+            answer.as_mut_ptr(),
+            answer.len(),
+        )
+    }
+}

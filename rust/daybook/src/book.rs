@@ -1,0 +1,231 @@
+//! A book's fields, and the image in which they pass the C interface.
+
+/// Bytes of an image: the header, 64 users and 256 trades.
+pub const IMAGE_LENGTH: usize = HEADER_LENGTH + MOST_USERS * USER_LENGTH + TRADES_LENGTH;
+
+/// Bytes of a user's record.
+pub const USER_LENGTH: usize = 56;
+
+/// Bytes of a trade's record.
+pub const TRADE_LENGTH: usize = 20;
+
+/// The most users of an accepted book.
+pub const MOST_USERS: usize = 64;
+
+/// The most trades of an accepted book.
+pub const MOST_TRADES: usize = 256;
+
+const HEADER_LENGTH: usize = 32;
+const TRADES_LENGTH: usize = MOST_TRADES * TRADE_LENGTH;
+const TRADES_AT: usize = IMAGE_LENGTH - TRADES_LENGTH;
+
+/// The fields of a book in the book's format, always with places for 64 users
+/// and 256 trades; those past the counts are 0 after reading, and are not
+/// looked at in writing. Mark and zero bytes are not looked at either.
+pub type Image = [u8; IMAGE_LENGTH];
+
+/// The fields of a book. The counts are the lengths of the lists.
+#[derive(Clone, Debug, Default, PartialEq, Eq)]
+pub struct Book {
+    /// 1 in an accepted book.
+    pub version: u16,
+    /// Year × 10,000 + month × 100 + day.
+    pub date: u32,
+    pub prices: Prices,
+    /// 1 to 64 in an accepted book, ids strictly rising.
+    pub users: Vec<User>,
+    /// At most 256 in an accepted book.
+    pub trades: Vec<Trade>,
+}
+
+/// Prices in cents per MWh.
+#[derive(Clone, Copy, Debug, Default, PartialEq, Eq)]
+pub struct Prices {
+    /// P, the daily buying imbalance tariff of PVB.
+    pub pvb_tariff: u32,
+    /// Q, that of TVB and AVB.
+    pub tank_and_store_tariff: u32,
+    /// L.
+    pub liquefaction_toll: u32,
+    /// X.
+    pub exit_toll: u32,
+    /// I.
+    pub injection_toll: u32,
+}
+
+/// A user's record. Amounts per area stand in the order PVB, TVB, AVB.
+#[derive(Clone, Copy, Debug, Default, PartialEq, Eq)]
+pub struct User {
+    pub id: u32,
+    /// 0 shipper, 1 clearing house.
+    pub role: u8,
+    /// Physical entries in MWh.
+    pub physical: [i32; 3],
+    /// Positions in MWh.
+    pub position: [i32; 3],
+    /// Unpaid charges and invoices net of credits, in cents.
+    pub charges: i64,
+    /// Assigned guarantee in cents.
+    pub assigned: u64,
+    /// Blocked guarantee in cents.
+    pub blocked: u64,
+}
+
+/// A trade's record.
+#[derive(Clone, Copy, Debug, Default, PartialEq, Eq)]
+pub struct Trade {
+    /// The seller's id.
+    pub seller: u32,
+    /// The buyer's id.
+    pub buyer: u32,
+    /// 0 PVB, 1 TVB, 2 AVB.
+    pub area: u8,
+    /// 0 bilateral, 1 platform, 2 central counterparty.
+    pub kind: u8,
+    /// 0 for the gas day, 1 for the day after.
+    pub day: u8,
+    /// MWh notified.
+    pub notified: u32,
+    /// MWh standing.
+    pub standing: u32,
+}
+
+impl Book {
+    /// Bytes of this book, written up to its counts.
+    pub fn length(&self) -> usize {
+        HEADER_LENGTH + USER_LENGTH * self.users.len() + TRADE_LENGTH * self.trades.len()
+    }
+
+    /// The fields of an image. A count above the places of the image gives the
+    /// records of all its places.
+    pub fn from_image(image: &Image) -> Book {
+        let users = image[HEADER_LENGTH..TRADES_AT].chunks_exact(USER_LENGTH);
+        let trades = image[TRADES_AT..].chunks_exact(TRADE_LENGTH);
+        let trade_count = u16::from_le_bytes(field(image, 6));
+        Book {
+            version: u16::from_le_bytes(field(image, 3)),
+            date: u32::from_le_bytes(field(image, 8)),
+            prices: Prices {
+                pvb_tariff: u32::from_le_bytes(field(image, 12)),
+                tank_and_store_tariff: u32::from_le_bytes(field(image, 16)),
+                liquefaction_toll: u32::from_le_bytes(field(image, 20)),
+                exit_toll: u32::from_le_bytes(field(image, 24)),
+                injection_toll: u32::from_le_bytes(field(image, 28)),
+            },
+            users: users
+                .take(usize::from(image[5]))
+                .map(|record| User::from_bytes(&field(record, 0)))
+                .collect(),
+            trades: trades
+                .take(usize::from(trade_count))
+                .map(|record| Trade::from_bytes(&field(record, 0)))
+                .collect(),
+        }
+    }
+
+    /// The image of the fields. Of too many users or trades the first ones are
+    /// put into it, with a count that is out of range, so that writing is
+    /// refused as question 3 says.
+    pub fn to_image(&self) -> Image {
+        let mut image = [0; IMAGE_LENGTH];
+        let users = u8::try_from(self.users.len()).unwrap_or(u8::MAX);
+        let trades = u16::try_from(self.trades.len()).unwrap_or(u16::MAX);
+        put(&mut image, 0, *b"GDB");
+        put(&mut image, 3, self.version.to_le_bytes());
+        put(&mut image, 5, [users]);
+        put(&mut image, 6, trades.to_le_bytes());
+        put(&mut image, 8, self.date.to_le_bytes());
+        put(&mut image, 12, self.prices.pvb_tariff.to_le_bytes());
+        put(
+            &mut image,
+            16,
+            self.prices.tank_and_store_tariff.to_le_bytes(),
+        );
+        put(&mut image, 20, self.prices.liquefaction_toll.to_le_bytes());
+        put(&mut image, 24, self.prices.exit_toll.to_le_bytes());
+        put(&mut image, 28, self.prices.injection_toll.to_le_bytes());
+        for (place, user) in self.users.iter().take(MOST_USERS).enumerate() {
+            put(
+                &mut image,
+                HEADER_LENGTH + USER_LENGTH * place,
+                user.to_bytes(),
+            );
+        }
+        for (place, trade) in self.trades.iter().take(MOST_TRADES).enumerate() {
+            put(
+                &mut image,
+                TRADES_AT + TRADE_LENGTH * place,
+                trade.to_bytes(),
+            );
+        }
+        image
+    }
+}
+
+impl User {
+    /// The fields of a record. The three zero bytes are not looked at.
+    pub fn from_bytes(bytes: &[u8; USER_LENGTH]) -> User {
+        User {
+            id: u32::from_le_bytes(field(bytes, 0)),
+            role: bytes[4],
+            physical: [8, 12, 16].map(|at| i32::from_le_bytes(field(bytes, at))),
+            position: [20, 24, 28].map(|at| i32::from_le_bytes(field(bytes, at))),
+            charges: i64::from_le_bytes(field(bytes, 32)),
+            assigned: u64::from_le_bytes(field(bytes, 40)),
+            blocked: u64::from_le_bytes(field(bytes, 48)),
+        }
+    }
+
+    /// The record of the fields.
+    pub fn to_bytes(&self) -> [u8; USER_LENGTH] {
+        let mut bytes = [0; USER_LENGTH];
+        put(&mut bytes, 0, self.id.to_le_bytes());
+        put(&mut bytes, 4, [self.role]);
+        for area in 0..3 {
+            put(&mut bytes, 8 + 4 * area, self.physical[area].to_le_bytes());
+            put(&mut bytes, 20 + 4 * area, self.position[area].to_le_bytes());
+        }
+        put(&mut bytes, 32, self.charges.to_le_bytes());
+        put(&mut bytes, 40, self.assigned.to_le_bytes());
+        put(&mut bytes, 48, self.blocked.to_le_bytes());
+        bytes
+    }
+}
+
+impl Trade {
+    /// The fields of a record. The zero byte is not looked at.
+    pub fn from_bytes(bytes: &[u8; TRADE_LENGTH]) -> Trade {
+        Trade {
+            seller: u32::from_le_bytes(field(bytes, 0)),
+            buyer: u32::from_le_bytes(field(bytes, 4)),
+            area: bytes[8],
+            kind: bytes[9],
+            day: bytes[10],
+            notified: u32::from_le_bytes(field(bytes, 12)),
+            standing: u32::from_le_bytes(field(bytes, 16)),
+        }
+    }
+
+    /// The record of the fields.
+    pub fn to_bytes(&self) -> [u8; TRADE_LENGTH] {
+        let mut bytes = [0; TRADE_LENGTH];
+        put(&mut bytes, 0, self.seller.to_le_bytes());
+        put(&mut bytes, 4, self.buyer.to_le_bytes());
+        put(&mut bytes, 8, [self.area, self.kind, self.day]);
+        put(&mut bytes, 12, self.notified.to_le_bytes());
+        put(&mut bytes, 16, self.standing.to_le_bytes());
+        bytes
+    }
+}
+
+/// The bytes of a field of this width at a place of a record.
+fn field<const WIDTH: usize>(record: &[u8], at: usize) -> [u8; WIDTH] {
+    let mut bytes = [0; WIDTH];
+    bytes.copy_from_slice(&record[at..at + WIDTH]);
+    bytes
+}
+
+/// Writes a field at a place of a record.
+fn put<const WIDTH: usize>(record: &mut [u8], at: usize, bytes: [u8; WIDTH]) {
+    record[at..at + WIDTH].copy_from_slice(&bytes);
+}

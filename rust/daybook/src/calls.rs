@@ -1,0 +1,172 @@
+//! The calls of document 01, in Rust types.
+
+use crate::archive;
+use crate::book::{Book, User, IMAGE_LENGTH, USER_LENGTH};
+use crate::refusal::Refusal;
+
+/// A level in cents.
+#[derive(Clone, Copy, Debug, Default, PartialEq, Eq, PartialOrd, Ord)]
+pub struct Level(pub u64);
+
+/// An accepted guarantee call.
+#[derive(Clone, Copy, Debug, Default, PartialEq, Eq)]
+pub struct GuaranteeCall {
+    pub level: Level,
+    /// Cents added to the blocked guarantee.
+    pub added: u64,
+}
+
+/// An accepted reduction.
+#[cfg(feature = "reduction")]
+#[derive(Clone, Copy, Debug, Default, PartialEq, Eq)]
+pub struct Reduction {
+    /// MWh cut.
+    pub mwh: u64,
+    /// Cents that the cuts are worth.
+    pub worth: u64,
+    /// T, the afternoon level less the assigned guarantee, in cents.
+    pub target: u64,
+    /// Cents by which the worth stays below the target.
+    pub short: u64,
+    /// Cents by which the worth exceeds the target.
+    pub over: u64,
+}
+
+/// A finished run.
+#[cfg(feature = "reduction")]
+#[derive(Clone, Copy, Debug, Default, PartialEq, Eq)]
+pub struct Run {
+    /// The number of reductions.
+    pub reductions: u64,
+    /// MWh cut by all of them.
+    pub mwh: u64,
+    /// Cents that the cuts are worth.
+    pub worth: u64,
+}
+
+/// The fields of a book in bytes.
+pub fn read(book: &[u8]) -> Result<Book, Refusal> {
+    let mut image = [0; IMAGE_LENGTH];
+    answered(archive::read(book, &mut image))?;
+    Ok(Book::from_image(&image))
+}
+
+/// Writes a book's fields into a part, which must be exactly as long as
+/// [`Book::length`] says. A refused write leaves the part.
+pub fn write(book: &Book, part: &mut [u8]) -> Result<(), Refusal> {
+    answered(archive::write(&book.to_image(), part))
+}
+
+/// The record of a user.
+pub fn show(book: &[u8], id: u32) -> Result<User, Refusal> {
+    let mut record = [0; USER_LENGTH];
+    answered(archive::show(book, id, &mut record))?;
+    Ok(User::from_bytes(&record))
+}
+
+/// The record of a user of the afternoon's book where it is picked, else of
+/// the morning's. Only the picked book is questioned.
+pub fn show_picked(
+    morning: &[u8],
+    afternoon: &[u8],
+    afternoon_picked: bool,
+    id: u32,
+) -> Result<User, Refusal> {
+    let mut record = [0; USER_LENGTH];
+    let pick = u32::from(afternoon_picked);
+    answered(archive::show_picked(
+        morning,
+        afternoon,
+        pick,
+        id,
+        &mut record,
+    ))?;
+    Ok(User::from_bytes(&record))
+}
+
+/// Adds a signed amount of MWh to a user's physical entry and position in an
+/// area.
+pub fn posting(book: &mut [u8], id: u32, area: u32, amount: i64) -> Result<(), Refusal> {
+    answered(archive::posting(book, id, area, amount))
+}
+
+/// The morning level of a shipper.
+pub fn morning_level(book: &[u8], id: u32) -> Result<Level, Refusal> {
+    let mut answer = [0; 1];
+    answered(archive::morning_level(book, id, &mut answer))?;
+    Ok(Level(answer[0]))
+}
+
+/// The afternoon level of a shipper.
+pub fn afternoon_level(book: &[u8], id: u32) -> Result<Level, Refusal> {
+    let mut answer = [0; 1];
+    answered(archive::afternoon_level(book, id, &mut answer))?;
+    Ok(Level(answer[0]))
+}
+
+/// Raises a shipper's blocked guarantee to the morning level.
+pub fn morning_call(book: &mut [u8], id: u32) -> Result<GuaranteeCall, Refusal> {
+    let mut answer = [0; 2];
+    answered(archive::morning_call(book, id, &mut answer))?;
+    Ok(guarantee_call(answer))
+}
+
+/// Raises a shipper's blocked guarantee to the afternoon level.
+pub fn afternoon_call(book: &mut [u8], id: u32) -> Result<GuaranteeCall, Refusal> {
+    let mut answer = [0; 2];
+    answered(archive::afternoon_call(book, id, &mut answer))?;
+    Ok(guarantee_call(answer))
+}
+
+/// Whether a shipper is warned at midday.
+pub fn warning(book: &[u8], id: u32) -> Result<bool, Refusal> {
+    let mut answer = [0; 1];
+    answered(archive::warning(book, id, &mut answer))?;
+    Ok(answer[0] != 0)
+}
+
+/// Cuts a shipper's bilateral sales of the day until the level is covered.
+#[cfg(feature = "reduction")]
+pub fn reduction(book: &mut [u8], id: u32) -> Result<Reduction, Refusal> {
+    let mut answer = [0; 5];
+    answered(archive::reduction(book, id, &mut answer))?;
+    let [mwh, worth, target, short, over] = answer;
+    Ok(Reduction {
+        mwh,
+        worth,
+        target,
+        short,
+        over,
+    })
+}
+
+/// Reduces the lowest id that is short of cover and has an eligible trade,
+/// while there is one.
+#[cfg(feature = "reduction")]
+pub fn run(book: &mut [u8]) -> Result<Run, Refusal> {
+    let mut answer = [0; 3];
+    answered(archive::run(book, &mut answer))?;
+    let [reductions, mwh, worth] = answer;
+    Ok(Run {
+        reductions,
+        mwh,
+        worth,
+    })
+}
+
+fn guarantee_call([level, added]: [u64; 2]) -> GuaranteeCall {
+    GuaranteeCall {
+        level: Level(level),
+        added,
+    }
+}
+
+/// The refusal of a number. Every part is lent with its length, so that the
+/// engine is proved to answer 0 to 14.
+fn answered(number: u32) -> Result<(), Refusal> {
+    match Refusal::from_number(number) {
+        Some(refusal) => Err(refusal),
+        None if number == 0 => Ok(()),
+        None => panic!("the archive answered {number}, which is no number of document 01"),
+    }
+}

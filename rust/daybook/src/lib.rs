@@ -1,0 +1,43 @@
+//! The calls of document 01 on a day book, answered by the proved engine.
+//!
+//! A book is lent as its bytes. A call answers what document 01 says, or the
+//! [`Refusal`] of the first question that failed; a refused call leaves the
+//! book byte for byte the same. No call asks anything of its caller: any bytes
+//! and any arguments get an answer.
+//!
+//! The engine is the archive `libexports.a`, made by `rt staticlib exports`
+//! from crates that are proved to meet document 01. This package turns its C
+//! interface into Rust types and computes nothing itself.
+//!
+//! ```
+//! use daybook::{Book, Level, Prices, Refusal, User};
+//!
+//! let prices = Prices { pvb_tariff: 2_000, tank_and_store_tariff: 2_100, ..Prices::default() };
+//! let user = User { id: 101, assigned: 20_000_000, ..User::default() };
+//! let book = Book { version: 1, date: 20_260_318, prices, users: vec![user], trades: vec![] };
+//! let mut bytes = vec![0; book.length()];
+//! daybook::write(&book, &mut bytes)?;
+//! daybook::posting(&mut bytes, 101, 0, -8_000)?;
+//! assert_eq!(daybook::morning_level(&bytes, 101), Ok(Level(16_000_000)));
+//! assert_eq!(daybook::morning_level(&bytes, 102), Err(Refusal::Id));
+//! # Ok::<(), Refusal>(())
+//! ```
+
+#![deny(unsafe_code)]
+
+pub mod archive;
+mod book;
+mod calls;
+mod refusal;
+
+pub use book::{
+    Book, Image, Prices, Trade, User, IMAGE_LENGTH, MOST_TRADES, MOST_USERS, TRADE_LENGTH,
+    USER_LENGTH,
+};
+pub use calls::{
+    afternoon_call, afternoon_level, morning_call, morning_level, posting, read, show, show_picked,
+    warning, write, GuaranteeCall, Level,
+};
+#[cfg(feature = "reduction")]
+pub use calls::{reduction, run, Reduction, Run};
+pub use refusal::Refusal;

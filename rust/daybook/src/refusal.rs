@@ -1,0 +1,93 @@
+//! Refusals: the questions of document 01, by their numbers.
+
+use std::error::Error;
+use std::fmt::{self, Display, Formatter};
+
+/// The first question of document 01 that was answered by no.
+#[derive(Clone, Copy, Debug, PartialEq, Eq, PartialOrd, Ord, Hash)]
+#[repr(u32)]
+pub enum Refusal {
+    Mark = 1,
+    Version = 2,
+    CountsAndLength = 3,
+    DateAndPrices = 4,
+    Users = 5,
+    Trades = 6,
+    Positions = 7,
+    Id = 8,
+    Shipper = 9,
+    Entry = 10,
+    CalledIn = 11,
+    AssignedCoversLevel = 12,
+    AssignedBelowLevel = 13,
+    EligibleTrade = 14,
+}
+
+impl Refusal {
+    /// Every refusal, in the order of the numbers.
+    pub const ALL: [Refusal; 14] = [
+        Refusal::Mark,
+        Refusal::Version,
+        Refusal::CountsAndLength,
+        Refusal::DateAndPrices,
+        Refusal::Users,
+        Refusal::Trades,
+        Refusal::Positions,
+        Refusal::Id,
+        Refusal::Shipper,
+        Refusal::Entry,
+        Refusal::CalledIn,
+        Refusal::AssignedCoversLevel,
+        Refusal::AssignedBelowLevel,
+        Refusal::EligibleTrade,
+    ];
+
+    /// The number of the question.
+    pub fn number(self) -> u32 {
+        self as u32
+    }
+
+    /// The refusal of this number; none for 0 and for numbers above 14.
+    pub fn from_number(number: u32) -> Option<Refusal> {
+        Refusal::ALL
+            .into_iter()
+            .find(|refusal| refusal.number() == number)
+    }
+
+    /// The question, in the words of document 01.
+    pub fn question(self) -> &'static str {
+        match self {
+            Refusal::Mark => "at least 32 bytes, starting with the mark?",
+            Refusal::Version => "version 1?",
+            Refusal::CountsAndLength => {
+                "counts in range and length exactly 32 + 56 × users + 20 × trades?"
+            }
+            Refusal::DateAndPrices => "date, prices and tolls in range?",
+            Refusal::Users => "every user field valid, positions apart?",
+            Refusal::Trades => "every trade valid?",
+            Refusal::Positions => "every position as defined?",
+            Refusal::Id => "id in the book?",
+            Refusal::Shipper => "a shipper?",
+            Refusal::Entry => "area 0 to 2, and the new physical entry within ±1,000,000?",
+            Refusal::CalledIn => {
+                "level − blocked > 1,000,000, and, but for the morning call, user called in?"
+            }
+            Refusal::AssignedCoversLevel => "assigned ≥ level?",
+            Refusal::AssignedBelowLevel => "assigned < level?",
+            Refusal::EligibleTrade => "has the user an eligible trade?",
+        }
+    }
+}
+
+impl Display for Refusal {
+    fn fmt(&self, formatter: &mut Formatter<'_>) -> fmt::Result {
+        write!(
+            formatter,
+            "refused by question {}: {}",
+            self.number(),
+            self.question()
+        )
+    }
+}
+
+impl Error for Refusal {}

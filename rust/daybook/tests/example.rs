@@ -1,0 +1,150 @@
+//! The example of document 01, from its fields to the engine's answers.
+
+#![forbid(unsafe_code)]
+
+use daybook::{Book, GuaranteeCall, Level, Prices, Refusal, Trade, User};
+
+/// The book of document 01's printed day.
+fn book() -> Book {
+    Book {
+        version: 1,
+        date: 20_260_318,
+        prices: Prices {
+            pvb_tariff: 2_000,
+            tank_and_store_tariff: 2_100,
+            liquefaction_toll: 300,
+            exit_toll: 100,
+            injection_toll: 50,
+        },
+        users: vec![
+            User {
+                id: 101,
+                physical: [-10_000, 0, 0],
+                position: [-40_000, 0, 0],
+                assigned: 50_000_000,
+                blocked: 10_000_000,
+                ..User::default()
+            },
+            User {
+                id: 102,
+                position: [30_000, 0, 0],
+                assigned: 10_000_000,
+                blocked: 10_000_000,
+                ..User::default()
+            },
+        ],
+        trades: vec![Trade {
+            seller: 101,
+            buyer: 102,
+            notified: 30_000,
+            standing: 30_000,
+            ..Trade::default()
+        }],
+    }
+}
+
+fn bytes(book: &Book) -> Vec<u8> {
+    let mut bytes = vec![0; book.length()];
+    daybook::write(book, &mut bytes).expect("an accepted book");
+    bytes
+}
+
+#[test]
+fn a_book_is_written_and_read_back() {
+    let book = book();
+    assert_eq!(bytes(&book).len(), 164);
+    assert_eq!(daybook::read(&bytes(&book)), Ok(book));
+}
+
+#[test]
+fn calls_on_the_example() {
+    let mut bytes = bytes(&book());
+    assert_eq!(daybook::show(&bytes, 101), Ok(book().users[0]));
+    assert_eq!(daybook::show(&bytes, 103), Err(Refusal::Id));
+    assert_eq!(
+        daybook::show_picked(&[], &bytes, true, 102),
+        Ok(book().users[1])
+    );
+    assert_eq!(daybook::morning_level(&bytes, 101), Ok(Level(80_000_000)));
+    assert_eq!(daybook::afternoon_level(&bytes, 101), Ok(Level(80_000_000)));
+    assert_eq!(daybook::warning(&bytes, 102), Ok(true));
+    assert_eq!(
+        daybook::afternoon_call(&mut bytes, 101),
+        Err(Refusal::AssignedCoversLevel)
+    );
+    assert_eq!(daybook::posting(&mut bytes, 101, 3, 1), Err(Refusal::Entry));
+    assert_eq!(daybook::posting(&mut bytes, 101, 0, 20_000), Ok(()));
+    assert_eq!(
+        daybook::morning_call(&mut bytes, 101),
+        Ok(GuaranteeCall {
+            level: Level(40_000_000),
+            added: 30_000_000
+        })
+    );
+}
+
+#[cfg(feature = "reduction")]
+#[test]
+fn the_printed_run() {
+    let mut reduced = bytes(&book());
+    let reduction = daybook::Reduction {
+        mwh: 15_000,
+        worth: 30_000_000,
+        target: 30_000_000,
+        short: 0,
+        over: 0,
+    };
+    assert_eq!(daybook::reduction(&mut reduced, 101), Ok(reduction));
+    let mut run = bytes(&book());
+    let done = daybook::Run {
+        reductions: 1,
+        mwh: 15_000,
+        worth: 30_000_000,
+    };
+    assert_eq!(daybook::run(&mut run), Ok(done));
+    assert_eq!(reduced, run);
+    let positions = daybook::read(&run).map(|book| [0, 1].map(|place| book.users[place].position));
+    assert_eq!(positions, Ok([[-25_000, 0, 0], [15_000, 0, 0]]));
+}
+
+/// What cannot be written is refused with its question, and the part stays.
+#[test]
+fn refused_writes() {
+    let mut crowded = book();
+    crowded.users.resize(65, User::default());
+    let mut busy = book();
+    busy.trades.resize(70_000, Trade::default());
+    let versions = Book {
+        version: 2,
+        ..book()
+    };
+    let dated = Book {
+        date: 20_260_230,
+        ..book()
+    };
+    for (book, refusal) in [
+        (crowded, Refusal::CountsAndLength),
+        (busy, Refusal::CountsAndLength),
+        (Book::default(), Refusal::Version),
+        (versions, Refusal::Version),
+        (dated, Refusal::DateAndPrices),
+    ] {
+        let mut part = vec![7; book.length()];
+        assert_eq!(daybook::write(&book, &mut part), Err(refusal));
+        assert!(part.iter().all(|byte| *byte == 7));
+    }
+}
+
+#[test]
+fn refusals_have_the_numbers_of_the_questions() {
+    for (refusal, number) in Refusal::ALL.into_iter().zip(1..) {
+        assert_eq!(refusal.number(), number);
+        assert_eq!(Refusal::from_number(number), Some(refusal));
+    }
+    assert_eq!(Refusal::from_number(0), None);
+    assert_eq!(Refusal::from_number(15), None);
+    assert_eq!(
+        Refusal::Shipper.to_string(),
+        "refused by question 9: a shipper?"
+    );
+}
