@@ -18,10 +18,10 @@ cast-result : tie.Need-cast-result
 cast-result c = search needs
 
 returns : tie.Need-returns
-returns c = search needs
+returns c = omega arith
 
 returns-2 : tie.Need-returns-2
-returns-2 c = search needs
+returns-2 c = omega arith
 
 returns-3 : tie.Need-returns-3
 returns-3 c = let a = c .before .args in omega (arith, List·getD-eq-default (a .cuts .now) 0 {n = a .i} (omega arith))
