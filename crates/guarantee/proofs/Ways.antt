@@ -1,14 +1,13 @@
 -- The ways out of a level and of a guarantee call: refused by the entry, by a question of its own, or answered. Assumes nothing.
-use mathlib.Core.Bool.{Bool, true, false, _&&_}
+use mathlib.Core.Bool.{Bool, true, false}
 use mathlib.Core.List.{List, [], _∷_, _++_}
 use mathlib.Core.Option.{some}
 use mathlib.Core.Path.{_≡_, refl, sym, ap, _∙_}
 use Prim.Native.Nat.{ℕ, _+_, _-_, _*_, _≤_, _<_}
-use native.Mathlib.Omega.{arith}
 use lib.Seq.{sets}
-use borrow.Author.Tests.{eq-eqb, ne-eqb, le-leb, lt-leb, ltb-true}
+use borrow.Author.Tests.{eq-eqb, ne-eqb, le-leb, lt-leb}
 use Rattle.rules.specs.Book.{Book, User, find}
-use Rattle.rules.specs.Levels.{Limits, shipper, calledIn, exceedsMargin}
+use Rattle.rules.specs.Levels.{Limits, shipper, exceedsMargin}
 use Rattle.rules.specs.Questions.{refusal, decided}
 use Rattle.rules.specs.Calls.{about, assignedSuffices, calledInBeyondMargin, effect, guaranteed, idKnown, isShipper, marginExceeded, ofLevel, only}
 use Rattle.rules.specs.Queries.{aboutQuery, aLevel, found, onlyNumber}
@@ -71,16 +70,6 @@ module _ (limits : Limits) (b : Book) (level : ℕ) (u : User) where
   unfolding dueOf
   due-within true h = rw h
   due-within false h = sym h
-
-  -- a call that is due raises the blocked guarantee
-  pub due-above : (afternoon : Bool) → dueOf afternoon limits b level u ≡ true → u .blocked ≤ level
-  unfolding dueOf exceedsMargin
-  due-above true h = omega (arith, ltb-true (limits .margin + u .blocked) level (first (exceedsMargin limits level u) (calledIn limits b u) h))
-    where
-      first : (p q : Bool) → (p && q) ≡ true → p ≡ true
-      first true q e = refl
-      first false q e = e
-  due-above false h = omega (arith, ltb-true (limits .margin + u .blocked) level h)
 
 -- ---- the end of a call
 

@@ -1,6 +1,5 @@
 -- The replies and the answers of the rules that the code's answers are, and how a guarantee call ends. Assumes nothing.
-use mathlib.Core.Path.{_≡_}
-use mathlib.Core.Bool.{Bool, true, false}
+use mathlib.Core.Bool.{Bool, false}
 use mathlib.Core.List.{List, [], _∷_}
 use mathlib.Core.Option.{none}
 use Prim.Native.Nat.{ℕ, _+_, _-_, _*_, _≤_}
@@ -39,11 +38,10 @@ answerOf r =
 unfoldable pub lastQuestions : Bool → ℕ → User → List Question
 lastQuestions due level u = record { number = 11; holds = due } ∷ (assignedSuffices level u ∷ [])
 
--- the user's record lies in the bytes, and a call that is due raises the blocked guarantee
-pub record Raisable (s : List ℕ) (place : ℕ) (u : User) (level : ℕ) (due : Bool) : Type 0 where
+-- the record of the user at the place lies in the bytes
+pub record Raisable (s : List ℕ) (place : ℕ) : Type 0 where
   pub inside : 32 + 56 * place + 56 ≤ length s
   pub few : place ≤ 64
-  pub above : due ≡ true → u .blocked ≤ level
 
 -- what the questions 11 and 12 leave: the bytes as they are, or with the record of the user at the place, whose blocked guarantee reaches the level
 unfoldable pub raised : List ℕ → ℕ → User → ℕ → Bool → InBytes

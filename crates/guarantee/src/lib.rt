@@ -5,9 +5,7 @@ use levels::Limits;
 use records::User;
 use units::Cents;
 ghost use mathlib.Core.Path.{_≡_};
-ghost use Prim.Native.Nat.{_≤_};
 ghost use Rattle.rules.specs.Levels.{today};
-ghost use Rattle.rules.specs.Changes.{blockedTo};
 ghost use Rattle.rules.specs.Calls.{only, morningCall, afternoonCall};
 ghost use Rattle.rules.specs.Queries.{morningLevelOf, afternoonLevelOf};
 ghost use Rattle.records.specs.User.{asUser};
@@ -117,36 +115,28 @@ fn is_due(b: Book, i: usize, limits: Limits, level: Cents, afternoon: bool) -> b
     true
 }
 
-// The user with its blocked guarantee raised to a level.
-fn blocked_to(mut user: User, level: Cents) -> User
-    requires { ⌜ user .blocked .0 ≤ level .0 ⌝ }
-    ensures { λ r. ⌜ asUser r ≡ blockedTo (level .0) (asUser user) ⌝ }
-{
-    user.blocked = level;
-    user
-}
-
 // The end of a call on the user at a place, with its level and the answer to question 11: asks question 12, and raises the user's record in the book.
 fn raise(book: &mut [u8], place: usize, user: User, level: Cents, due: bool) -> CallAnswer
-    requires { ⌜ Raisable (now book) place (asUser user) (level .0) due ⌝ }
+    requires { ⌜ Raisable (now book) place ⌝ }
     ensures { λ r. ⌜ answerOf r ≡ raised (now (book .entry)) place (asUser user) (level .0) due .answer ⌝ }
     ensures { λ _. ⌜ now (book .exit) ≡ raised (now (book .entry)) place (asUser user) (level .0) due .bytes ⌝ }
 {
     let assigned = user.assigned;
-    let blocked = user.blocked;
     if !due {
         return refused(11);
     }
     if assigned.0 < level.0 {
         return refused(12);
     }
-    let guaranteed = blocked_to(user, level);
+    let blocking = blocking::blocked_user(user, level);
+    let guaranteed = blocking.user;
+    let added = blocking.added;
     let a = 32 + 56 * place;
     records::write_user(&mut book[a..a + 56], guaranteed);
     CallAnswer {
         number: 0,
         level: level,
-        added: Cents(level.0 - blocked.0),
+        added: added,
     }
 }
 

@@ -112,12 +112,11 @@ module _ (b : Book) (h : Accepted b) where
         (rw (trade-at i d l) at (all-at (tradeValid (asBook b .users)) (asBook b .trades) (h .sound .trades) i (asTrade d) (omega (arith, trades-length))))
 
     -- they can be taken off the trades
-    pub cuts-cuttable : (cs : List ℕ) → cs ≡ cuts (asBook b) u asked → Cuttable (b .trades) cs
+    pub cuts-cuttable : (cs : List ℕ) → cs ≡ cuts (asBook b) u asked → Cuttable cs
     cuts-cuttable cs e =
-        subst (Cuttable (b .trades)) (sym e)
+        subst Cuttable (sym e)
         record {
           few = omega (arith, cuts-count, h .trades-few);
-          within = λ i d l. cut-within i d (omega (arith, cuts-count));
           most = λ i.
               by-order i (b .«trade_count»)
               (λ l. omega (arith, cut-within i none l, standing-most i none l))

@@ -17,21 +17,24 @@ use Rattle.rules.specs.Areas.{Prices}
 use Rattle.rules.specs.Book.{at}
 use Rattle.rules.specs.Lists.{all}
 use Rattle.rules.specs.Questions.{userValid}
-use Rattle.rules.specs.Reduction.{cutAll, nothing, tallyAll}
+use Rattle.rules.specs.Reduction.{Tally, cutAll, nothing, tallyAll}
 use Rattle.settlement.specs.declared.Cutting.{Cutting}
 use Rattle.worths.specs.Tallies.{asTally}
 
--- a cut for each of the first trades, at most what stands of it and at most 100,000
-pub record Cuttable (rs : List Trade) (cs : List ℕ) : Type 0 where
+-- a cut for each of the first trades, at most 100,000
+pub record Cuttable (cs : List ℕ) : Type 0 where
   pub few : length cs ≤ 256
-  pub within : (i : ℕ) (d : Trade) → i < length cs → getD cs i 0 ≤ getD rs i d .standing
   pub most : (i : ℕ) → getD cs i 0 ≤ 100000
+
+-- the tally of the cuts of the first trades
+abbrev pub tallyOf : Prices → List Trade → List ℕ → Tally
+tallyOf f rs cs = tallyAll f cs (map asTrade (take (length cs) rs)) nothing
 
 -- the trades with their cuts, and the tally of the cuts
 pub record CutOf (f : Prices) (rs : List Trade) (cs : List ℕ) (r : Cutting) : Type 0 where
   pub room : length (r .trades) ≡ 256
   pub trades : map asTrade (take (length cs) (r .trades)) ≡ cutAll cs (map asTrade (take (length cs) rs))
-  pub tally : asTally (r .tally) ≡ tallyAll f cs (map asTrade (take (length cs) rs)) nothing
+  pub tally : asTally (r .tally) ≡ tallyOf f rs cs
 
 -- in the range of a physical entry
 pub record Entry (z : ℤ) : Type 0 where

@@ -6,14 +6,14 @@ ghost use lib.IntN.{pos, _+ℤ_, _-ℤ_};
 ghost use lib.ListN.{length, take};
 ghost use Rattle.rules.specs.Areas.{tariff};
 ghost use Rattle.rules.specs.Book as model;
-ghost use Rattle.rules.specs.Reduction.{cutBy};
 ghost use Rattle.laws.specs.Books.{repositioned};
 ghost use Rattle.units.specs.Amounts.{net};
 ghost use Rattle.units.specs.Prices.{asPrices, InRange};
 ghost use Rattle.records.specs.User.{asUser};
 ghost use Rattle.records.specs.Trade.{asTrade};
 ghost use Rattle.dealings.specs.Dealt.{Dealt};
-ghost use Rattle.settlement.specs.Settlement.{Cuttable, CutOf, Entry, Bounded, Placeable};
+ghost use Rattle.worths.specs.Tallies.{asTally};
+ghost use Rattle.settlement.specs.Settlement.{Cuttable, tallyOf, CutOf, Entry, Bounded, Placeable};
 use dealings::Dealings;
 use records::Trade;
 use records::User;
@@ -33,15 +33,21 @@ fn price_of(t: Trade, prices: Prices) -> Price
     Area(area).tariff(prices)
 }
 
-// The trade with a cut.
-fn lowered(t: Trade, cut: Mwh) -> Trade
-    requires { ⌜ cut .0 ≤ t .standing ⌝ }
-    ensures { λ r. ⌜ asTrade r ≡ cutBy (cut .0) (asTrade t) ⌝ }
+// The tally of the cuts of the first trades, a cut for each.
+fn tally_of(trades: [Trade; 256], prices: Prices, cuts: &[u64]) -> Tally
+    requires { ⌜ InRange (asPrices prices) × Cuttable (now cuts) ⌝ }
+    ensures { λ r. ⌜ asTally r ≡ tallyOf (asPrices prices) trades (now (cuts .entry)) ⌝ }
 {
-    let standing = t.standing as u64;
-    let mut r = t;
-    r.standing = (standing - cut.0) as u32;
-    r
+    let mut tally = Tally::none();
+    let mut i = 0;
+    while i < cuts.len() {
+        let t = trades[i];
+        let cut = Mwh(cuts[i]);
+        let price = price_of(t, prices);
+        tally = tally.with(cut, price);
+        i += 1;
+    }
+    tally
 }
 
 // The trades after their cuts, and the tally of the cuts.
@@ -52,22 +58,13 @@ pub struct Cutting {
 
 // Cuts the first trades, a cut for each, and runs the tally.
 pub fn cut_trades(trades: [Trade; 256], prices: Prices, cuts: &[u64]) -> Cutting
-    requires { ⌜ InRange (asPrices prices) × Cuttable trades (now cuts) ⌝ }
+    requires { ⌜ InRange (asPrices prices) × Cuttable (now cuts) ⌝ }
     ensures { λ r. ⌜ CutOf (asPrices prices) trades (now (cuts .entry)) r ⌝ }
 {
-    let mut out = trades;
-    let mut tally = Tally::none();
-    let mut i = 0;
-    while i < cuts.len() {
-        let t = trades[i];
-        let cut = Mwh(cuts[i]);
-        out[i] = lowered(t, cut);
-        let price = price_of(t, prices);
-        tally = tally.with(cut, price);
-        i += 1;
-    }
+    let tally = tally_of(trades, prices, cuts);
+    let lowered = lowering::cut_all(trades, cuts);
     Cutting {
-        trades: out,
+        trades: lowered,
         tally: tally,
     }
 }

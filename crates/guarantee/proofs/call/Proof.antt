@@ -1,21 +1,16 @@
 -- `call` is refused by the entry, refused for a clearing house, or ends as the questions 11 and 12 leave it. Assumes nothing.
-use mathlib.Core.Path.{sym, ap, _∙_}
+use mathlib.Core.Path.{ap, _∙_}
 use mathlib.Core.List.{List}
 use Prim.Native.Nat.{ℕ}
 use native.Mathlib.Omega.{arith}
 use denote.Ref.{now}
 use Rattle.rules.specs.Levels.{today}
-use Rattle.records.specs.declared.User.{User}
-use Rattle.records.specs.User.{asUser}
-use Rattle.book.specs.Book.{asBook}
 use Rattle.format.specs.Steps.{InBytes}
 use Rattle.format.proofs.Passed.{passed}
-use Rattle.levels.specs.Limits.{asLimits}
-use Rattle.risk.specs.Ready.{userIn}
 use Rattle.entry.specs.Entered.{Found}
 use Rattle.guarantee.specs.Times.{callOf}
 use Rattle.found.proofs.User.{found-ready, found-role, called}
-use Rattle.guarantee.proofs.Ways.{due-above, call-unentered, call-of-house, call-ends}
+use Rattle.guarantee.proofs.Ways.{call-unentered, call-of-house, call-ends}
 use borrow.Author.Needs.{needs}
 use Rattle.guarantee.proofs.call.Statement.{statement}
 use Rattle.guarantee.proofs.call.Tie as tie
@@ -75,24 +70,12 @@ is-due-requires c κs =
     (found-ready (found (c .before .before .before .before .before .before)), c .before .today .ensures .1)
 
 raise-requires : tie.Need-raise-requires
-unfolding asUser
 raise-requires c κs =
-    let l = c .before .before in
-    let u = l .before .before .before .before in
+    let u = c .before .before .before .before .before .before in
     let e = u .before .before .before in
     let f = found (u .before .before) in
     let w = passed (bytes e) (f .passes) .form in
-    let b = e .enter .result .book in
-    let i = e .enter .result .place in
-    record {
-      inside = omega (arith, f .known, w .whole);
-      few = omega (arith, f .known, w .users);
-      above = λ h. omega (
-        arith,
-        due-above (asLimits (l .before .today .result)) (asBook b) (l .level-at .result .0) (asUser (userIn b i)) (e .before .before .before .args .afternoon) (sym (c .before .is-due .ensures) ∙ h),
-        ap (λ (v : User). v .blocked .0) (u .user-at .ensures),
-      );
-    }
+    record { inside = omega (arith, f .known, w .whole); few = omega (arith, f .known, w .users) }
 
 same-length-3 : tie.Need-same-length-3
 same-length-3 c = search needs

@@ -1,6 +1,6 @@
 -- `raise` goes out where the questions 11 and 12 refuse; else the record that comes back is stored in its place. Assumes nothing.
 use mathlib.Core.Path.{_≡_, sym, ap, _∙_}
-use Prim.Native.Nat.{_+_, _-_, _*_, _≤_}
+use Prim.Native.Nat.{_+_, _-_, _*_}
 use native.Mathlib.Omega.{arith}
 use borrow.Author.Tests.{not-true, not-false}
 use borrow.Rule.Slice.PartMut.{putMid}
@@ -23,7 +23,7 @@ refused-requires c κs = search needs
 returns : tie.Need-returns
 returns c =
     let t = c .before in
-    let a = t .before .before .before .before .args in
+    let a = t .before .before .before .args in
     let e = raised-undue (now (a .book)) (a .place) (asUser (a .user)) (a .level .0) (not-true (a .due) (t .if1 .taken)) in
     (c .refused .ensures ∙ sym (ap (λ (x : InBytes). x .answer) e), sym (ap (λ (x : InBytes). x .bytes) e))
 
@@ -35,19 +35,12 @@ unfolding asUser
 returns-2 c =
     let t = c .before in
     let f = t .before .before .before in
-    let a = f .before .before .before .before .args in
+    let a = f .before .before .before .args in
     let e = raised-short (now (a .book)) (a .place) (asUser (a .user)) (a .level .0) (not-false (a .due) (f .if1 .left)) (t .if2 .taken) in
     (c .refused2 .ensures ∙ sym (ap (λ (x : InBytes). x .answer) e), sym (ap (λ (x : InBytes). x .bytes) e))
 
--- a call that is due raises the blocked guarantee
-above : (c : tie.Else1) → let a = c .before .before .before .before .args in asUser (a .user) .blocked ≤ a .level .0
-above c =
-    let s = c .before .before .before .before in
-    s .pre .above (not-false (s .args .due) (c .if1 .left))
-
-blocked-to-requires : tie.Need-blocked-to-requires
-unfolding asUser
-blocked-to-requires c κs = above (c .before .before .before)
+blocked-user-requires : tie.Need-blocked-user-requires
+blocked-user-requires c κs = search needs
 
 mul-a : tie.Need-mul-a
 mul-a c = search needs
@@ -70,34 +63,32 @@ part-write-user-end c = search needs
 write-user-requires : tie.Need-write-user-requires
 write-user-requires c κs = search needs
 
-sub-t17 : tie.Need-sub-t17
-unfolding asUser
-sub-t17 c = omega (arith, above (c .before .before .before .before .before .before .before .before .before .before))
-
 same-length : tie.Need-same-length
 same-length c = search needs
 
 -- the bytes that come back
-written : (c : tie.After-write-user) → let a = c .before .before .before .before .before .before .before .before .before .before .args in let at = 32 + 56 * a .place in
+written : (c : tie.After-write-user) → let a = c .before .before .before .before .before .before .before .before .before .before .before .args in let at = 32 + 56 * a .place in
     putMid at (at + 56 - at) (now (a .book)) (c .write-user .last .0) ≡ sets (now (a .book)) at (userBytes (blockedTo (a .level .0) (asUser (a .user))))
 written c =
-    let b = c .before .before in
-    let t = b .before .before .before .before .before .before .before .before in
+    let b = c .before .before .before .before in
+    let t = b .before .before .before .before .before .before .before in
     let a = t .args in
     let at = 32 + 56 * a .place in
     let v = blockedTo (a .level .0) (asUser (a .user)) in
     let k : at + 56 - at ≡ 56 = omega arith in
-    rw (k, c .write-user .ensures, b .blocked-to .ensures) (part-sets (now (a .book)) (userBytes v) at 56 (length-userBytes v) (t .pre .inside))
+    rw (k, c .write-user .ensures, b .blocked-user .ensures .user) (part-sets (now (a .book)) (userBytes v) at 56 (length-userBytes v) (t .pre .inside))
 
 returns-3 : tie.Need-returns-3
 unfolding ofLevel asUser
 returns-3 c =
-    let w = c .before .before .before .before in
-    let b = w .before .before in
+    let w = c .before .before in
+    let b = w .before .before .before .before in
     let f = b .before .before .before .before in
-    let a = f .before .before .before .before .args in
-    let e = raised-full (now (a .book)) (a .place) (asUser (a .user)) (a .level .0) (not-false (a .due) (f .if1 .left)) (b .before .if2 .left) in
-    (sym (ap (λ (x : InBytes). x .answer) e), written w ∙ sym (ap (λ (x : InBytes). x .bytes) e))
+    let a = f .before .before .before .args in
+    let e = raised-full (now (a .book)) (a .place) (asUser (a .user)) (a .level .0) (not-false (a .due) (f .if1 .left)) (b .before .if2 .left) in (
+      ap (ofLevel (a .level .0)) (b .blocked-user .ensures .added-is) ∙ sym (ap (λ (x : InBytes). x .answer) e),
+      written w ∙ sym (ap (λ (x : InBytes). x .bytes) e),
+    )
 
 pub raise-spec : {M : Type 1} → statement M
 raise-spec =
@@ -107,7 +98,7 @@ raise-spec =
     returns
     refused-requires-2
     returns-2
-    blocked-to-requires
+    blocked-user-requires
     mul-a
     add-a
     add-write-user
@@ -115,6 +106,5 @@ raise-spec =
     part-write-user-start
     part-write-user-end
     write-user-requires
-    sub-t17
     same-length
     returns-3)

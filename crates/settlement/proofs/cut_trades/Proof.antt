@@ -1,123 +1,22 @@
--- `cut_trades`: the trades passed are cut, and the tally of what is left gives the whole tally. Assumes nothing.
-use Prim.Native.Nat.{_-_}
+-- `cut_trades`: the trades are lowered by their cuts, and the tally is that of the cuts. Assumes nothing.
 use native.Mathlib.Omega.{arith}
-use lib.ListN.{length}
 use borrow.Author.Needs.{needs}
-use Rattle.records.specs.Trade.{asTrade}
-use Rattle.settlement.proofs.Through.{Through, through-start, through-more, through-end}
+use Rattle.settlement.proofs.Through.{cut-of}
 use Rattle.settlement.proofs.cut_trades.Statement.{statement}
 use Rattle.units.specs.Prices.{asPrices}
 use Rattle.settlement.proofs.cut_trades.Tie as tie
 
-abbrev Inv-loop : tie.InvT-loop
-Inv-loop prices cuts trades out₀ tally₀ i₀ out tally i = Through (asPrices prices) trades cuts out tally i
+tally-of-requires : tie.Need-tally-of-requires
+tally-of-requires c κs = search needs
 
-abbrev μ-loop : tie.MeasureT-loop
-μ-loop prices cuts trades out₀ tally₀ i₀ out tally i = length cuts - i
+cut-all-requires : tie.Need-cut-all-requires
+cut-all-requires c κs = search needs
 
-none-requires : tie.Need-none-requires Inv-loop μ-loop
-none-requires c κs = search needs
-
-loop-holds : tie.Need-loop-holds Inv-loop μ-loop
-loop-holds c =
-    let s = c .before .before in
-    let a = s .args in
-    through-start (asPrices (a .prices)) (a .t1) (a .cuts .now) (omega (arith, s .good .0)) (s .pre .1 .few) (c .none .ensures .0) (c .none .ensures .1 .0) (c .none .ensures .1 .1)
-
-mul-t : tie.Need-mul-t Inv-loop μ-loop
-mul-t c = search needs
-
-array-copy-out-t : tie.Need-array-copy-out-t Inv-loop μ-loop
-array-copy-out-t c =
-    let l = c .before in
-    let s = l .before .before .before in
-    let a = s .args in
-    let f = asPrices (a .prices) in
-    omega (arith, s .pre .1 .few, s .good .0)
-
-mul-t12 : tie.Need-mul-t12 Inv-loop μ-loop
-mul-t12 c = search needs
-
-shared-slice-read-t18 : tie.Need-shared-slice-read-t18 Inv-loop μ-loop
-shared-slice-read-t18 c = omega arith
-
-lowered-requires : tie.Need-lowered-requires Inv-loop μ-loop
-lowered-requires c κs =
-    let l = c .before .before .before in
-    let s = l .before .before .before in
-    let a = s .args in
-    let f = asPrices (a .prices) in
-    s .pre .1 .within (l .loop .i) _ (omega arith)
-
-mul-out : tie.Need-mul-out Inv-loop μ-loop
-mul-out c = search needs
-
-array-set-from-out : tie.Need-array-set-from-out Inv-loop μ-loop
-array-set-from-out c =
-    let l = c .before .before .before .before in
-    let s = l .before .before .before in
-    let a = s .args in
-    let f = asPrices (a .prices) in
-    omega (arith, s .pre .1 .few, l .loop .inv .trades .long)
-
-price-of-requires : tie.Need-price-of-requires Inv-loop μ-loop
-price-of-requires c κs =
-    let l = c .before .before .before .before in
-    let s = l .before .before .before in
-    let a = s .args in
-    let f = asPrices (a .prices) in
-    s .pre .0
-
-with-requires : tie.Need-with-requires Inv-loop μ-loop
-with-requires c κs =
-    let l = c .before .before .before .before .before in
-    let s = l .before .before .before in
-    let a = s .args in
-    let f = asPrices (a .prices) in
-    ((omega (arith, l .loop .inv .mwh-most, s .pre .1 .few), omega (arith, l .loop .inv .worth-most, s .pre .1 .few)), (s .pre .1 .most (l .loop .i), c .price-of .ensures .1))
-
-add-i : tie.Need-add-i Inv-loop μ-loop
-add-i c = omega arith
-
-loop-less : tie.Need-loop-less Inv-loop μ-loop
-loop-less c = omega arith
-
-loop-again : tie.Need-loop-again Inv-loop μ-loop
-unfolding asTrade
-loop-again c =
-    let l = c .before .before .before .before .before .before in
-    let s = l .before .before .before in
-    let a = s .args in
-    let f = asPrices (a .prices) in
-    through-more f (a .t1) (a .cuts .now) (omega (arith, s .good .0)) (s .pre .1 .few) (l .loop .inv) _ _ _ (omega arith) (c .before .before .lowered .ensures)
-    (c .with .ensures .0 f _ (c .before .price-of .ensures .0)) (c .with .ensures .1 .0) (c .with .ensures .1 .1)
-
-returns : tie.Need-returns Inv-loop μ-loop
+returns : tie.Need-returns
 returns c =
-    let l = c .before in
-    let s = l .before .before .before in
+    let s = c .before .before .before in
     let a = s .args in
-    let f = asPrices (a .prices) in
-    through-end f (a .t1) (a .cuts .now) (omega (arith, s .good .0)) (s .pre .1 .few) (l .loop .inv) (omega arith)
+    cut-of (asPrices (a .prices)) (a .trades) (a .cuts .now) _ _ (omega (arith, s .good .0)) (c .cut-all .ensures) (c .before .tally-of .ensures)
 
 pub cut-trades-spec : {M : Type 1} → statement M
-cut-trades-spec =
-    tie.close
-    (tie.spec
-    Inv-loop
-    μ-loop
-    none-requires
-    loop-holds
-    mul-t
-    array-copy-out-t
-    mul-t12
-    shared-slice-read-t18
-    lowered-requires
-    mul-out
-    array-set-from-out
-    price-of-requires
-    with-requires
-    add-i
-    loop-less
-    loop-again
-    returns)
+cut-trades-spec = tie.close (tie.spec tally-of-requires cut-all-requires returns)

@@ -1,0 +1,2 @@
+-- What the walks share of a user and of an amount of money.
+pub mod Values

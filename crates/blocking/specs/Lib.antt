@@ -1,0 +1,2 @@
+-- What raising a blocked guarantee does.
+pub mod Raising

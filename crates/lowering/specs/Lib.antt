@@ -1,0 +1,2 @@
+-- What lowering trades by their cuts does.
+pub mod Lowering
