@@ -34,6 +34,14 @@ warningNumbers r = bit (r .warned) ∷ []
 unfoldable pub callNumbers : Answer → List ℕ
 callNumbers a = a .level ∷ a .added ∷ []
 
+-- of a reduction: the MWh cut and their worth, the target, and what the worth falls short of it or exceeds it by
+unfoldable pub reductionNumbers : Answer → List ℕ
+reductionNumbers a = a .mwh ∷ a .worth ∷ a .target ∷ a .short ∷ a .over ∷ []
+
+-- of a run: the reductions, the MWh cut and their worth
+unfoldable pub runNumbers : Answer → List ℕ
+runNumbers a = a .reductions ∷ a .mwh ∷ a .worth ∷ []
+
 -- ---- what a function leaves
 
 -- a query with n numbers: its number and the lent part

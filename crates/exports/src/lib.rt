@@ -9,10 +9,14 @@ ghost use Rattle.format.specs.Steps.{Called};
 ghost use Rattle.posting.specs.Posting.{postingOf};
 ghost use Rattle.guarantee.specs.Answers as levels;
 ghost use Rattle.warning.specs.Warned as warned;
+ghost use Rattle.reduce.specs.Answers as reducing;
+ghost use Rattle.run.specs.Answers as running;
 ghost use Rattle.shown.specs.Shown.{picked};
-ghost use Rattle.exports.specs.Answers.{levelNumbers, warningNumbers, callNumbers, isYes, Replied, Answered, Copied, ReadInto, WrittenFrom};
+ghost use Rattle.exports.specs.Answers.{levelNumbers, warningNumbers, callNumbers, reductionNumbers, runNumbers, isYes, Replied, Answered, Copied, ReadInto, WrittenFrom};
 use guarantee::CallAnswer;
 use guarantee::LevelAnswer;
+use reduce::ReductionAnswer;
+use run::RunAnswer;
 use warning::WarningAnswer;
 
 // The number for a lent part of another length than the function asks for.
@@ -29,6 +33,10 @@ const LEVEL_NUMBERS: usize = 1;
 const WARNING_NUMBERS: usize = 1;
 
 const CALL_NUMBERS: usize = 2;
+
+const REDUCTION_NUMBERS: usize = 5;
+
+const RUN_NUMBERS: usize = 3;
 
 // ---- storing
 
@@ -75,6 +83,33 @@ fn store_call(answer: &mut [u64], call: CallAnswer) -> u32
     let numbers = [level.0, added.0];
     store(answer, &numbers);
     call.number
+}
+
+// Stores a reduction's MWh, worth, target, short and over, and passes its number on.
+fn store_reduction(answer: &mut [u64], reduction: ReductionAnswer) -> u32
+    requires { ⌜ length (now answer) ≡ 5 ⌝ }
+    ensures { λ r. ⌜ (r ≡ reduction .number) × (now (answer .exit) ≡ reductionNumbers (reducing.answerOf reduction)) ⌝ }
+{
+    let mwh = reduction.mwh;
+    let worth = reduction.worth;
+    let target = reduction.target;
+    let short = reduction.short;
+    let over = reduction.over;
+    let numbers = [mwh.0, worth.0, target.0, short.0, over.0];
+    store(answer, &numbers);
+    reduction.number
+}
+
+// Stores a run's number of reductions, MWh and worth, and passes its number on.
+fn store_run(answer: &mut [u64], run: RunAnswer) -> u32
+    requires { ⌜ length (now answer) ≡ 3 ⌝ }
+    ensures { λ r. ⌜ (r ≡ run .number) × (now (answer .exit) ≡ runNumbers (running.answerOf run)) ⌝ }
+{
+    let mwh = run.mwh;
+    let worth = run.worth;
+    let numbers = [run.reductions, mwh.0, worth.0];
+    store(answer, &numbers);
+    run.number
 }
 
 // ---- the functions of the interface
@@ -201,4 +236,28 @@ pub extern "C" fn daybook_warning(book: &[u8], id: u32, answer: &mut [u64]) -> u
     }
     let reply = daybook::warning(book, id);
     store_warning(answer, reply)
+}
+
+// Cuts a user's bilateral sales for its target: 5 numbers, the MWh cut, their worth, the target, and what the worth falls short of it or exceeds it by.
+#[no_mangle]
+pub extern "C" fn daybook_reduction(book: &mut [u8], id: u32, answer: &mut [u64]) -> u32
+    ensures { λ r. ⌜ Answered 5 reductionNumbers (now (book .entry)) (reducing.reductionOf id) (now (answer .entry)) r (now (answer .exit)) (now (book .exit)) ⌝ }
+{
+    if answer.len() != REDUCTION_NUMBERS {
+        return WRONG_LENGTH;
+    }
+    let reduction = daybook::reduction(book, id);
+    store_reduction(answer, reduction)
+}
+
+// Reduces users until none that is short of cover has an eligible trade: 3 numbers, the reductions, the MWh cut and their worth.
+#[no_mangle]
+pub extern "C" fn daybook_run(book: &mut [u8], answer: &mut [u64]) -> u32
+    ensures { λ r. ⌜ Answered 3 runNumbers (now (book .entry)) running.runCall (now (answer .entry)) r (now (answer .exit)) (now (book .exit)) ⌝ }
+{
+    if answer.len() != RUN_NUMBERS {
+        return WRONG_LENGTH;
+    }
+    let run = daybook::run(book);
+    store_run(answer, run)
 }
