@@ -14,5 +14,5 @@ pub record RaisedTo (level blocked : ℕ) (r : Raised) : Type 0 where
 
 -- the whole record is the one that was lent with its blocked guarantee at the level, and what it lacked was added
 pub record BlockedTo (level : ℕ) (lent last : User) (added : Cents) : Type 0 where
-  pub user : asUser last ≡ blockedTo level (asUser lent)
+  pub user-is : asUser last ≡ blockedTo level (asUser lent)
   pub added-is : added .0 ≡ level - lent .blocked .0

@@ -14,17 +14,14 @@ pub fn raise(blocked: Cents, level: Cents) -> Raised
     ensures { λ r. ⌜ RaisedTo (level .0) (blocked .0) r ⌝ }
 {
     if blocked.0 < level.0 {
-        let lacking = level.0 - blocked.0;
-        let added = Cents(lacking);
         return Raised {
             blocked: level,
-            added: added,
+            added: Cents(level.0 - blocked.0),
         };
     }
-    let none = Cents(0);
     Raised {
         blocked: blocked,
-        added: none,
+        added: Cents(0),
     }
 }
 
@@ -48,10 +45,10 @@ pub struct Blocking {
 pub fn blocked_user(user: User, level: Cents) -> Blocking
     ensures { λ r. ⌜ BlockedTo (level .0) user (r .user) (r .added) ⌝ }
 {
-    let mut u = user;
-    let added = block(&mut u, level);
+    let mut lent = user;
+    let added = block(&mut lent, level);
     Blocking {
-        user: u,
+        user: lent,
         added: added,
     }
 }

@@ -1,2 +1,2 @@
 -- A value in a local that is lent.
-pub mod Lies
+pub mod Local

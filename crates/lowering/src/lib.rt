@@ -24,12 +24,12 @@ pub fn left_of(cuts: &[u64], i: usize, standing: u32) -> u32
 pub fn lower_all(trades: &mut [Trade], cuts: &[u64])
     ensures { λ _. ⌜ LoweredBy (now (cuts .entry)) (now (trades .entry)) (now (trades .exit)) ⌝ }
 {
-    let mut i: usize = 0;
+    let mut i = 0;
     while i < trades.len() {
         let standing = trades[i].standing;
         let left = left_of(cuts, i, standing);
         trades[i].standing = left;
-        i = i + 1;
+        i += 1;
     }
 }
 

@@ -71,7 +71,7 @@ last-is : (u : User) (n : Cents) {r : Raised} → RaisedTo (n .0) (u .blocked .0
 unfolding asUser blockedTo
 last-is u n {r} e =
     record {
-      user = ap (λ (k : ℕ). record { party = asUser u .party; physical = asUser u .physical; position = asUser u .position; blocked = k }) (e .blocked-is);
+      user-is = ap (λ (k : ℕ). record { party = asUser u .party; physical = asUser u .physical; position = asUser u .position; blocked = k }) (e .blocked-is);
       added-is = e .added-is;
     }
 

@@ -46,7 +46,7 @@ use Rattle.units.proofs.Cents as N
 use Rattle.units.proofs.Cents.Laws as N′
 use Rattle.blocking.proofs.Values.{R, vals-of, mach, cents-of, cent, IsCents, is-cent, is-at}
 use Rattle.blocking.specs.declared.Blocking.{Blocking}
-use Rattle.lending.proofs.Lies.{lies-in, lies-out}
+use Rattle.lending.proofs.Local.{local-in, local-out}
 use Rattle.records.proofs.User as T
 use Rattle.records.proofs.User.Laws as T′
 use Rattle.blocking.proofs.Blocking as B
@@ -111,7 +111,7 @@ module _ {M : Type 1} (𝓤 : URA M) (H : Heap 𝓤) (A : Atoms 𝓤) (W : Given
         assigns ! (addr ! (from ! (stop !))) (from ! (stop !)) (init ! 2 refl (tt, tt)) $
         -- the local is lent, for a lifetime that is made for the call
         move ! (6 ∷ []) $ use1 W (‵ (cellAt fullShare (R .mir) (vals-of h) l₃ 0)) (W .laws .at-raw fullShare T′.mir l₃ 0 (mach h)) $ owned ! R (Is R) ((LL.makes T.the-type T′.the-plain) 𝓤 H A) h _ is-user $ move ! (1 ∷ 0 ∷ []) $
-        use2 W (‵ (partAt R fullShare h l₃ 0)) (lies-in 𝓤 H A W R h l₃ 0 (vals-of h)) $ lft-new ! tt (λ ν. move ! (1 ∷ []) $
+        use2 W (‵ (partAt R fullShare h l₃ 0)) (local-in 𝓤 H A W R h l₃ 0 (vals-of h)) $ lft-new ! tt (λ ν. move ! (1 ∷ []) $
         use1 W (later (some (λ (γ : GName). ‵ (MutRef (named 0) (ν ∷ []) R .own (lent l₃ γ) (vptr l₃ 0 ∷ [])) ⊛ ‵ (flent (ν ∷ []) (Body (mem R) l₃ 0 γ))))) (lends-ref 𝓤 H A W R (named 0) (ν ∷ []) h l₃ 0) $ await ! tt $ pick ! (λ γ. split ! $
         move ! (2 ∷ 0 ∷ []) $ use2 W (raw (Block 𝓤 H A at-mem run .pre (to-block l₃ ν γ))) (goes-block l₃ ν γ) $
         -- [what `block` asks; the lender's part; _6 (2); …; _5 (4); …; _4 (6); …; that _3 dies (8); _2 (9); …; _1 (11); …; room for _0 (13); …]
@@ -123,7 +123,7 @@ module _ {M : Type 1} (𝓤 : URA M) (H : Heap 𝓤) (A : Atoms 𝓤) (W : Given
         land ! (from ! (stop !)) (init ! 7 refl (LL.lawful N.the-type N′.the-laws 𝓤 H A W .typed r _ is .0)) $ rewrite ! 7 (λ (u : Val). ‵ (fat fullShare N′.mir l₄ 0 u)) (is-cent r v is) refl $
         -- the lifetime is ended, and the local is back at that record
         split ! $ lft-end ! tt $ move ! (0 ∷ 3 ∷ 2 ∷ []) $ use3 W (later (‵ (partAt R fullShare (us .0) l₃ 0))) (ref-back 𝓤 H A W R (ν ∷ []) γ (us .0) l₃ 0) $ await ! tt $
-        use1 W (some (λ (vs : List Val). ‵ (cellAt fullShare (R .mir) vs l₃ 0) ⊛ ‵ (R .own (us .0) vs))) (lies-out 𝓤 H A W R (us .0) l₃ 0) $ pick ! (λ vs. split ! $
+        use1 W (some (λ (vs : List Val). ‵ (cellAt fullShare (R .mir) vs l₃ 0) ⊛ ‵ (R .own (us .0) vs))) (local-out 𝓤 H A W R (us .0) l₃ 0) $ pick ! (λ vs. split ! $
         spelt ! R (Is R) (shows 𝓤 H A R) vals-of (LL.tells T.the-type T′.the-laws) fullShare (us .0) vs l₃ 0 $ move ! (1 ∷ []) $ peeks ! R (Is R) (shows 𝓤 H A R) (us .0) (vals-of (us .0)) (λ is-last. drop ! $
         use1 W (‵ (fat fullShare T′.mir l₃ 0 (mach (us .0)))) (W .laws .raw-at fullShare T′.mir l₃ 0 (mach (us .0))) $
         -- [_3; true; _6 (2); …; _5 (4); …; _4 (6); …; that _3 dies (8); _2 (9); …; _1 (11); …; room for _0 (13); …]

@@ -76,7 +76,7 @@ written c =
     let at = 32 + 56 * a .place in
     let v = blockedTo (a .level .0) (asUser (a .user)) in
     let k : at + 56 - at ≡ 56 = omega arith in
-    rw (k, c .write-user .ensures, b .blocked-user .ensures .user) (part-sets (now (a .book)) (userBytes v) at 56 (length-userBytes v) (t .pre .inside))
+    rw (k, c .write-user .ensures, b .blocked-user .ensures .user-is) (part-sets (now (a .book)) (userBytes v) at 56 (length-userBytes v) (t .pre .inside))
 
 returns-3 : tie.Need-returns-3
 unfolding ofLevel asUser

@@ -51,7 +51,7 @@ use denote.Exit.{yes}
 use Rattle.records.specs.declared.Trade.{Trade}
 use Rattle.records.proofs.Trade as T
 use Rattle.records.proofs.Trade.Laws as T′
-use Rattle.lending.proofs.Lies.{lies-in, lies-out}
+use Rattle.lending.proofs.Local.{local-in, local-out}
 use Rattle.lowering.specs.Lowering.{LoweredBy}
 use Rattle.lowering.proofs.Trades.{R, vals-of}
 use Rattle.lowering.proofs.lower_all as lower-all
@@ -145,7 +145,7 @@ module _ {M : Type 1} (𝓤 : URA M) (H : Heap 𝓤) (A : Atoms 𝓤) (W : Given
         rewrite ! 0 (λ (m : ℕ). ‵ (fat fullShare trades-ty l₆ 0 (sliceVal (l₃, 0) m))) (sym t-len) refl $
         -- the trades are lent
         move ! (6 ∷ []) $ use1 W (‵ (cellAt fullShare (TA .mir) (t-vals ts) l₃ 0)) (W .laws .at-raw fullShare (tyArray T′.mir 256) l₃ 0 (only (t-vals ts))) $
-        owned ! TA (Is TA) (array-makes 𝓤 H A W R ((LL.makes T.the-type T′.the-plain) 𝓤 H A) 256) ts _ is-ts $ move ! (1 ∷ 0 ∷ []) $ use2 W (‵ (partAt TA fullShare ts l₃ 0)) (lies-in 𝓤 H A W TA ts l₃ 0 (t-vals ts)) $
+        owned ! TA (Is TA) (array-makes 𝓤 H A W R ((LL.makes T.the-type T′.the-plain) 𝓤 H A) 256) ts _ is-ts $ move ! (1 ∷ 0 ∷ []) $ use2 W (‵ (partAt TA fullShare ts l₃ 0)) (local-in 𝓤 H A W TA ts l₃ 0 (t-vals ts)) $
         use1 W (‵ (arr-parts (shares R) 256 .part fullShare ts l₃ 0)) (array-apart 𝓤 H A W R fullShare tt 256 ts l₃ 0) $ fsplit ! $ drop ! $ use1 W (‵ (cells (mem R) ts l₃ 0)) (whole-in 𝓤 H A W R ts l₃ 0) $
         lft-new ! tt (λ ν. move ! (1 ∷ []) $ use1 W (later (some (λ (γ : GName). ‵ (MutSlice (named 0) (ν ∷ []) R .own (t-ref l₃ γ) (tv l₃)) ⊛ ‵ (flent (ν ∷ []) (Held R (length ts) l₃ 0 γ))))) (lends-slice 𝓤 H A W R (named 0) (ν ∷ []) ts l₃ 0 t-room) $ await ! tt $ pick ! (λ γ. split ! $
         -- [the slice; the lender's part; the token; _6 (3); …; _5 (5); …; _4 (7); …; that _3 dies (9); _2 (10); …; _1 (12); …; room for _0 (14); …; the cuts' token and true (16); what the parameters own (17)]: what the cuts own is had twice
@@ -162,7 +162,7 @@ module _ {M : Type 1} (𝓤 : URA M) (H : Heap 𝓤) (A : Atoms 𝓤) (W : Given
         -- the lifetime is ended, and the array is back
         split ! $ lft-end ! tt $ move ! (0 ∷ 6 ∷ 2 ∷ []) $ use3 W (later (‵ (Arr (mem R) (length ts) .lies (ws .0) l₃ 0))) (slice-back 𝓤 H A W R (ν ∷ []) γ (ws .0) (length ts) l₃ 0) $ await ! tt $ fsplit ! $ drop ! $
         use1 W (‵ (row R fullShare (ws .0) l₃ 0)) (whole-out 𝓤 H A W R (ws .0) l₃ 0) $ feqI ! ℕ (length (ws .0)) 256 (same ∙ t-len) $ fjoin ! $ use1 W (‵ (partAt TA fullShare (ws .0) l₃ 0)) (array-whole 𝓤 H A W R fullShare 256 (ws .0) l₃ 0) $
-        use1 W (some (λ (vs : List Val). ‵ (cellAt fullShare (TA .mir) vs l₃ 0) ⊛ ‵ (TA .own (ws .0) vs))) (lies-out 𝓤 H A W TA (ws .0) l₃ 0) $ pick ! (λ vs. split ! $
+        use1 W (some (λ (vs : List Val). ‵ (cellAt fullShare (TA .mir) vs l₃ 0) ⊛ ‵ (TA .own (ws .0) vs))) (local-out 𝓤 H A W TA (ws .0) l₃ 0) $ pick ! (λ vs. split ! $
         spelt ! TA (Is TA) (shows 𝓤 H A TA) t-vals t-tells fullShare (ws .0) vs l₃ 0 $ move ! (1 ∷ []) $ peeks ! TA (Is TA) (shows 𝓤 H A TA) (ws .0) (t-vals (ws .0)) (λ is-last. drop ! $
         use1 W (‵ (fat fullShare (tyArray T′.mir 256) l₃ 0 (only (t-vals (ws .0))))) (W .laws .raw-at fullShare (tyArray T′.mir 256) l₃ 0 (only (t-vals (ws .0)))) $ move ! (1 ∷ []) $ split ! $
         -- [the cuts' token; true; _3 (2); true; what the cuts own (4); true; _6 (6); …; _5 (8); …; _4 (10); …; that _3 dies (12); _2 (13); …; _1 (15); …; room for _0 (17); …]
