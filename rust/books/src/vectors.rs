@@ -6,7 +6,7 @@ use std::path::PathBuf;
 
 use reference::book::LONGEST;
 
-use crate::calls::{answer, Answer, Call};
+use crate::calls::{Answer, Call};
 use crate::sha256::{hex, sha256};
 
 /// Lines of `calls.txt` that are calls.
@@ -49,27 +49,21 @@ pub fn days() -> Vec<Day> {
     days
 }
 
-/// Replays every call, line by line, against an implementation, which may lack
-/// some calls: then it answers none, and the reference's book is gone on with.
-/// The number of calls that it answered is returned.
-pub fn replay(mut implementation: impl FnMut(&mut [u8], &Call) -> Option<Answer>) -> usize {
+/// Replays every call, line by line, against an implementation, and says how
+/// many there were.
+pub fn replay(implementation: fn(&mut [u8], &Call) -> Answer) -> usize {
     let text = String::from_utf8(file("calls.txt")).expect("text");
     let mut replayed = 0;
     let mut left = Vec::new();
     for line in text.lines().filter(|line| !line.starts_with('#')) {
         let (words, expected) = line.split_once(" -> ").expect("a call and its answer");
         let (mut book, call) = parsed(&words.split(' ').collect::<Vec<&str>>(), &left);
-        match implementation(&mut book, &call) {
-            Some(given) => {
-                assert_eq!(printed(&book, &call, &given), expected, "{words}");
-                replayed += 1;
-            }
-            None => {
-                answer(&mut book, &call);
-            }
-        }
+        let given = implementation(&mut book, &call);
+        assert_eq!(printed(&book, &call, &given), expected, "{words}");
+        replayed += 1;
         left = after(book, &call);
     }
+    println!("calls replayed: {replayed}");
     replayed
 }
 

@@ -99,14 +99,10 @@ impl Comparison {
     }
 
     /// Makes the call on copies of the book by both sides and compares them.
-    /// The book becomes the reference's. A call that the engine lacks is made
-    /// by the reference alone and not counted.
+    /// The book becomes the reference's.
     pub fn call(&mut self, book: &mut [u8], call: &Call) {
         let before = book.to_vec();
         let expected = books::answer(book, call);
-        if !engine::has(call) {
-            return;
-        }
         self.hold(&before, call, (&expected, book), "archive", engine::answer);
         if typed::has(call) {
             self.hold(&before, call, (&expected, book), "daybook", typed::answer);

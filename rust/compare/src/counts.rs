@@ -30,13 +30,10 @@ impl Counts {
         self.counts[kind(name)][number]
     }
 
-    /// The kinds and numbers that document 01 allows and that did not occur,
-    /// among the kinds that were made at all.
+    /// The kinds and numbers that document 01 allows and that did not occur.
     pub fn not_reached(&self) -> Vec<(&'static str, usize)> {
-        let made = |name: &str| self.counts[kind(name)].iter().sum::<u64>() > 0;
         Call::NAMES
             .into_iter()
-            .filter(|name| made(name))
             .flat_map(|name| possible(name).into_iter().map(move |number| (name, number)))
             .filter(|(name, number)| self.of(name, *number) == 0)
             .collect()
@@ -76,16 +73,13 @@ pub fn possible(name: &str) -> Vec<usize> {
 }
 
 impl Display for Counts {
-    /// A line for each kind of call that was made, a column for each number.
+    /// A line for each kind of call, a column for each number.
     fn fmt(&self, formatter: &mut Formatter<'_>) -> fmt::Result {
         write!(formatter, "{:<16}", "call")?;
         for number in 0..NUMBERS {
             write!(formatter, "{number:>9}")?;
         }
         for (name, counts) in Call::NAMES.iter().zip(&self.counts) {
-            if counts.iter().sum::<u64>() == 0 {
-                continue;
-            }
             write!(formatter, "\n{name:<16}")?;
             for (number, count) in counts.iter().enumerate() {
                 if possible(name).contains(&number) || *count > 0 {

@@ -8,13 +8,7 @@ use daybook::{IMAGE_LENGTH, USER_LENGTH};
 /// there.
 const BEFORE: u8 = 0xA5;
 
-/// Whether the engine has this call.
-pub fn has(call: &Call) -> bool {
-    cfg!(feature = "reduction") || !matches!(call, Call::Reduction { .. } | Call::Run | Call::Day)
-}
-
-/// The engine's answer to a call that it has; the book is changed as the call
-/// says.
+/// The engine's answer; the book is changed as the call says.
 pub fn answer(book: &mut [u8], call: &Call) -> Answer {
     match call {
         Call::Posting { id, area, amount } => {
@@ -43,16 +37,9 @@ pub fn answer(book: &mut [u8], call: &Call) -> Answer {
             let number = archive::write(&image[..], &mut part);
             Answer::of_part(number, &part)
         }
-        #[cfg(feature = "reduction")]
         Call::Reduction { id } => fields::<5>(|part| archive::reduction(book, *id, part)),
-        #[cfg(feature = "reduction")]
         Call::Run => fields::<3>(|part| archive::run(book, part)),
-        #[cfg(feature = "reduction")]
         Call::Day => day(book),
-        #[cfg(not(feature = "reduction"))]
-        Call::Reduction { .. } | Call::Run | Call::Day => {
-            panic!("the engine lacks {}", call.name())
-        }
     }
 }
 
@@ -77,7 +64,6 @@ fn record(call: impl FnOnce(&mut [u8]) -> u32) -> Answer {
 
 /// The printed day, put together of the engine's calls on a copy of the book. A
 /// run that left a book which is refused has its number.
-#[cfg(feature = "reduction")]
 fn day(book: &[u8]) -> Answer {
     let mut book = book.to_vec();
     let run = answer(&mut book, &Call::Run);
@@ -103,7 +89,6 @@ fn day(book: &[u8]) -> Answer {
 
 /// The state and the level of a printed day, from what the afternoon call
 /// would answer.
-#[cfg(feature = "reduction")]
 fn state(book: &[u8], id: u32) -> (&'static str, i128) {
     let mut book = book.to_vec();
     let level = answer(&mut book, &Call::AfternoonLevel { id }).fields[0];

@@ -6,7 +6,7 @@ use daybook::{Book, GuaranteeCall, Image, Level, Refusal, Trade, User, IMAGE_LEN
 /// Whether the call has a function of its own in `daybook`; a printed day is
 /// put together of others.
 pub fn has(call: &Call) -> bool {
-    crate::engine::has(call) && *call != Call::Day
+    *call != Call::Day
 }
 
 /// The answer to a call that `daybook` has; the book is changed as the call
@@ -36,19 +36,17 @@ pub fn answer(book: &mut [u8], call: &Call) -> Answer {
             let written = daybook::write(&book_of(image), &mut part);
             Answer::of_part(number(&written), &part)
         }
-        #[cfg(feature = "reduction")]
         Call::Reduction { id } => {
             let reduction = daybook::reduction(book, *id);
             fields(reduction.map(|done| {
                 [done.mwh, done.worth, done.target, done.short, done.over].map(i128::from)
             }))
         }
-        #[cfg(feature = "reduction")]
         Call::Run => {
             let run = daybook::run(book);
             fields(run.map(|done| [done.reductions, done.mwh, done.worth].map(i128::from)))
         }
-        _ => panic!("no function of daybook: {}", call.name()),
+        Call::Day => panic!("a printed day has no function of its own"),
     }
 }
 

@@ -196,11 +196,9 @@ fn wrong_answer(book: &mut [u8], length: usize) {
         assert_eq!(archive::morning_call(book, 1, part), WRONG_LENGTH);
         assert_eq!(archive::afternoon_call(book, 1, part), WRONG_LENGTH);
     }
-    #[cfg(feature = "reduction")]
     if length != 5 {
         assert_eq!(archive::reduction(book, 1, part), WRONG_LENGTH);
     }
-    #[cfg(feature = "reduction")]
     if length != 3 {
         assert_eq!(archive::run(book, part), WRONG_LENGTH);
     }

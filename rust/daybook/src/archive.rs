@@ -66,7 +66,6 @@ unsafe extern "C" {
         answer: *mut u64,
         answer_len: usize,
     ) -> u32;
-    #[cfg(feature = "reduction")]
     fn daybook_reduction(
         book: *mut u8,
         book_len: usize,
@@ -74,7 +73,6 @@ unsafe extern "C" {
         answer: *mut u64,
         answer_len: usize,
     ) -> u32;
-    #[cfg(feature = "reduction")]
     fn daybook_run(book: *mut u8, book_len: usize, answer: *mut u64, answer_len: usize) -> u32;
 }
 
@@ -217,7 +215,6 @@ pub fn warning(book: &[u8], id: u32, answer: &mut [u64]) -> u32 {
 }
 
 /// The reduction; the answer is MWh, worth, target, short and over.
-#[cfg(feature = "reduction")]
 pub fn reduction(book: &mut [u8], id: u32, answer: &mut [u64]) -> u32 {
     // SAFETY: each pointer comes with the length of its slice in elements, both slices live through
     // the call, and being lent by &mut they do not overlap.
@@ -233,7 +230,6 @@ pub fn reduction(book: &mut [u8], id: u32, answer: &mut [u64]) -> u32 {
 }
 
 /// The run; the answer is the number of reductions, MWh and worth.
-#[cfg(feature = "reduction")]
 pub fn run(book: &mut [u8], answer: &mut [u64]) -> u32 {
     // SAFETY: each pointer comes with the length of its slice in elements, both slices live through
     // the call, and being lent by &mut they do not overlap.

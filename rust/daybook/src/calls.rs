@@ -17,7 +17,6 @@ pub struct GuaranteeCall {
 }
 
 /// An accepted reduction.
-#[cfg(feature = "reduction")]
 #[derive(Clone, Copy, Debug, Default, PartialEq, Eq)]
 pub struct Reduction {
     /// MWh cut.
@@ -33,7 +32,6 @@ pub struct Reduction {
 }
 
 /// A finished run.
-#[cfg(feature = "reduction")]
 #[derive(Clone, Copy, Debug, Default, PartialEq, Eq)]
 pub struct Run {
     /// The number of reductions.
@@ -126,7 +124,6 @@ pub fn warning(book: &[u8], id: u32) -> Result<bool, Refusal> {
 }
 
 /// Cuts a shipper's bilateral sales of the day until the level is covered.
-#[cfg(feature = "reduction")]
 pub fn reduction(book: &mut [u8], id: u32) -> Result<Reduction, Refusal> {
     let mut answer = [0; 5];
     answered(archive::reduction(book, id, &mut answer))?;
@@ -142,7 +139,6 @@ pub fn reduction(book: &mut [u8], id: u32) -> Result<Reduction, Refusal> {
 
 /// Reduces the lowest id that is short of cover and has an eligible trade,
 /// while there is one.
-#[cfg(feature = "reduction")]
 pub fn run(book: &mut [u8]) -> Result<Run, Refusal> {
     let mut answer = [0; 3];
     answered(archive::run(book, &mut answer))?;

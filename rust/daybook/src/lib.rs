@@ -35,9 +35,7 @@ pub use book::{
     USER_LENGTH,
 };
 pub use calls::{
-    afternoon_call, afternoon_level, morning_call, morning_level, posting, read, show, show_picked,
-    warning, write, GuaranteeCall, Level,
+    afternoon_call, afternoon_level, morning_call, morning_level, posting, read, reduction, run,
+    show, show_picked, warning, write, GuaranteeCall, Level, Reduction, Run,
 };
-#[cfg(feature = "reduction")]
-pub use calls::{reduction, run, Reduction, Run};
 pub use refusal::Refusal;

@@ -83,7 +83,6 @@ fn calls_on_the_example() {
     );
 }
 
-#[cfg(feature = "reduction")]
 #[test]
 fn the_printed_run() {
     let mut reduced = bytes(&book());
