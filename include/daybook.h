@@ -55,6 +55,8 @@
 #define DAYBOOK_LEVEL_NUMBERS 1
 #define DAYBOOK_CALL_NUMBERS 2
 #define DAYBOOK_WARNING_NUMBERS 1
+#define DAYBOOK_REDUCTION_NUMBERS 5
+#define DAYBOOK_RUN_NUMBERS 3
 
 #ifdef __cplusplus
 extern "C" {
@@ -91,6 +93,14 @@ uint32_t daybook_afternoon_call(uint8_t *book, size_t book_len, uint32_t id, uin
 
 /* Whether a user is warned at midday; DAYBOOK_WARNING_NUMBERS: 1 for yes, 0 for no. */
 uint32_t daybook_warning(const uint8_t *book, size_t book_len, uint32_t id, uint64_t *answer, size_t answer_len);
+
+/* Cuts a user's bilateral sales for what its afternoon level exceeds its assigned guarantee by, and settles the positions; DAYBOOK_REDUCTION_NUMBERS: the MWh cut, their
+   worth, the target, and what the worth falls short of the target or exceeds it by. */
+uint32_t daybook_reduction(uint8_t *book, size_t book_len, uint32_t id, uint64_t *answer, size_t answer_len);
+
+/* Reduces the user of the lowest id that is short of cover and has an eligible trade, until there is none; DAYBOOK_RUN_NUMBERS: the reductions, the MWh cut, their worth.
+   A legal book can ask for some 25 million reductions. */
+uint32_t daybook_run(uint8_t *book, size_t book_len, uint64_t *answer, size_t answer_len);
 
 #ifdef __cplusplus
 }

@@ -78,6 +78,13 @@ static uint32_t warning(uint8_t *book, size_t size, uint32_t id, uint64_t *answe
     return daybook_warning(book, size, id, answer, count);
 }
 
+/* A run is of no user. */
+static uint32_t run(uint8_t *book, size_t size, uint32_t id, uint64_t *answer, size_t count)
+{
+    (void)id;
+    return daybook_run(book, size, answer, count);
+}
+
 static const struct {
     const char *name;
     answering *call;
@@ -89,6 +96,8 @@ static const struct {
     {"warning", warning, DAYBOOK_WARNING_NUMBERS, 0},
     {"morning_call", daybook_morning_call, DAYBOOK_CALL_NUMBERS, 1},
     {"afternoon_call", daybook_afternoon_call, DAYBOOK_CALL_NUMBERS, 1},
+    {"reduction", daybook_reduction, DAYBOOK_REDUCTION_NUMBERS, 1},
+    {"run", run, DAYBOOK_RUN_NUMBERS, 1},
 };
 
 enum { ANSWERS = sizeof answers / sizeof answers[0] };
