@@ -1,7 +1,7 @@
--- The numbers that an answer is in the lent part, in their order; and what each kind of function leaves: its number, the lent part and the book. Assumes nothing.
+-- What each kind of function leaves: its number, the lent part and the book. Assumes nothing.
 use mathlib.Core.Path.{_≡_}
-use mathlib.Core.Bool.{Bool, cond, not}
-use mathlib.Core.List.{List, [], _∷_, _++_}
+use mathlib.Core.Bool.{Bool, not}
+use mathlib.Core.List.{List, _++_}
 use Prim.Native.Nat.{ℕ}
 use lib.Dec.{eqb}
 use lib.ListN.{length}
@@ -15,34 +15,6 @@ use Rattle.format.specs.Steps.{stepBytes, replyBytes, shownPart}
 use Rattle.transfer.specs.Written.{aboutWriting}
 use Rattle.image.specs.Image.{padded, readImage, imageBook}
 use Rattle.exports.specs.Lent.{byLength, Given, Stored}
-
--- ---- the numbers of an answer
-
--- of a level: the level in cents
-unfoldable pub levelNumbers : Reply → List ℕ
-levelNumbers r = r .level ∷ []
-
--- yes as 1 and no as 0
-unfoldable pub bit : Bool → ℕ
-bit b = cond b 1 0
-
--- of a warning: whether the user is warned
-unfoldable pub warningNumbers : Reply → List ℕ
-warningNumbers r = bit (r .warned) ∷ []
-
--- of a guarantee call: the level and what was added, in cents
-unfoldable pub callNumbers : Answer → List ℕ
-callNumbers a = a .level ∷ a .added ∷ []
-
--- of a reduction: the MWh cut and their worth, the target, and what the worth falls short of it or exceeds it by
-unfoldable pub reductionNumbers : Answer → List ℕ
-reductionNumbers a = a .mwh ∷ a .worth ∷ a .target ∷ a .short ∷ a .over ∷ []
-
--- of a run: the reductions, the MWh cut and their worth
-unfoldable pub runNumbers : Answer → List ℕ
-runNumbers a = a .reductions ∷ a .mwh ∷ a .worth ∷ []
-
--- ---- what a function leaves
 
 -- a query with n numbers: its number and the lent part
 abbrev pub Replied : (n : ℕ) → (Reply → List ℕ) → List ℕ → Query → List ℕ → ℕ → List ℕ → Type 0

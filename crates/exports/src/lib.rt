@@ -1,23 +1,16 @@
 // The C interface over the public calls of `daybook`; include/daybook.h declares it. A slice is a pointer and a length in C. No function asks anything of what it is lent:
 // a part for answers of another length than the function's gets the number 255, and nothing is asked or changed.
-ghost use mathlib.Core.Path.{_≡_};
-ghost use lib.ListN.{length};
 ghost use Rattle.rules.specs.Levels.{today};
 ghost use Rattle.rules.specs.Calls.{only, morningCall, afternoonCall};
 ghost use Rattle.rules.specs.Queries.{morningLevelOf, afternoonLevelOf};
 ghost use Rattle.format.specs.Steps.{Called};
 ghost use Rattle.posting.specs.Posting.{postingOf};
-ghost use Rattle.guarantee.specs.Answers as levels;
 ghost use Rattle.warning.specs.Warned as warned;
 ghost use Rattle.reduce.specs.Answers as reducing;
 ghost use Rattle.run.specs.Answers as running;
 ghost use Rattle.shown.specs.Shown.{picked};
-ghost use Rattle.exports.specs.Answers.{levelNumbers, warningNumbers, callNumbers, reductionNumbers, runNumbers, isYes, Replied, Answered, Copied, ReadInto, WrittenFrom};
-use guarantee::CallAnswer;
-use guarantee::LevelAnswer;
-use reduce::ReductionAnswer;
-use run::RunAnswer;
-use warning::WarningAnswer;
+ghost use Rattle.storing.specs.Numbers.{levelNumbers, warningNumbers, callNumbers, reductionNumbers, runNumbers};
+ghost use Rattle.exports.specs.Answers.{isYes, Replied, Answered, Copied, ReadInto, WrittenFrom};
 
 // The number for a lent part of another length than the function asks for.
 const WRONG_LENGTH: u32 = 255;
@@ -37,80 +30,6 @@ const CALL_NUMBERS: usize = 2;
 const REDUCTION_NUMBERS: usize = 5;
 
 const RUN_NUMBERS: usize = 3;
-
-// ---- storing
-
-// Stores the numbers of an answer in a part of as many places.
-fn store(answer: &mut [u64], numbers: &[u64])
-    requires { ⌜ length (now answer) ≡ length (now numbers) ⌝ }
-    ensures { λ _. ⌜ now (answer .exit) ≡ now (numbers .entry) ⌝ }
-{
-    let mut i = 0;
-    while i < answer.len() {
-        answer[i] = numbers[i];
-        i += 1;
-    }
-}
-
-// Stores a level, and passes its number on.
-fn store_level(answer: &mut [u64], reply: LevelAnswer) -> u32
-    requires { ⌜ length (now answer) ≡ 1 ⌝ }
-    ensures { λ r. ⌜ (r ≡ reply .number) × (now (answer .exit) ≡ levelNumbers (levels.replyOf reply)) ⌝ }
-{
-    let level = reply.level;
-    let numbers = [level.0];
-    store(answer, &numbers);
-    reply.number
-}
-
-// Stores whether a user is warned, and passes the number on.
-fn store_warning(answer: &mut [u64], reply: WarningAnswer) -> u32
-    requires { ⌜ length (now answer) ≡ 1 ⌝ }
-    ensures { λ r. ⌜ (r ≡ reply .number) × (now (answer .exit) ≡ warningNumbers (warned.replyOf reply)) ⌝ }
-{
-    let numbers = [reply.warned as u64];
-    store(answer, &numbers);
-    reply.number
-}
-
-// Stores a guarantee call's level and what it added, and passes its number on.
-fn store_call(answer: &mut [u64], call: CallAnswer) -> u32
-    requires { ⌜ length (now answer) ≡ 2 ⌝ }
-    ensures { λ r. ⌜ (r ≡ call .number) × (now (answer .exit) ≡ callNumbers (levels.answerOf call)) ⌝ }
-{
-    let level = call.level;
-    let added = call.added;
-    let numbers = [level.0, added.0];
-    store(answer, &numbers);
-    call.number
-}
-
-// Stores a reduction's MWh, worth, target, short and over, and passes its number on.
-fn store_reduction(answer: &mut [u64], reduction: ReductionAnswer) -> u32
-    requires { ⌜ length (now answer) ≡ 5 ⌝ }
-    ensures { λ r. ⌜ (r ≡ reduction .number) × (now (answer .exit) ≡ reductionNumbers (reducing.answerOf reduction)) ⌝ }
-{
-    let mwh = reduction.mwh;
-    let worth = reduction.worth;
-    let target = reduction.target;
-    let short = reduction.short;
-    let over = reduction.over;
-    let numbers = [mwh.0, worth.0, target.0, short.0, over.0];
-    store(answer, &numbers);
-    reduction.number
-}
-
-// Stores a run's number of reductions, MWh and worth, and passes its number on.
-fn store_run(answer: &mut [u64], run: RunAnswer) -> u32
-    requires { ⌜ length (now answer) ≡ 3 ⌝ }
-    ensures { λ r. ⌜ (r ≡ run .number) × (now (answer .exit) ≡ runNumbers (running.answerOf run)) ⌝ }
-{
-    let mwh = run.mwh;
-    let worth = run.worth;
-    let numbers = [run.reductions, mwh.0, worth.0];
-    store(answer, &numbers);
-    run.number
-}
 
 // ---- the functions of the interface
 
@@ -187,7 +106,7 @@ pub extern "C" fn daybook_morning_level(book: &[u8], id: u32, answer: &mut [u64]
         return WRONG_LENGTH;
     }
     let reply = daybook::morning_level(book, id);
-    store_level(answer, reply)
+    storing::store_level(answer, reply)
 }
 
 // The afternoon level of a user: 1 number.
@@ -199,7 +118,7 @@ pub extern "C" fn daybook_afternoon_level(book: &[u8], id: u32, answer: &mut [u6
         return WRONG_LENGTH;
     }
     let reply = daybook::afternoon_level(book, id);
-    store_level(answer, reply)
+    storing::store_level(answer, reply)
 }
 
 // Raises a user's blocked guarantee to its morning level: 2 numbers, the level and what was added.
@@ -211,7 +130,7 @@ pub extern "C" fn daybook_morning_call(book: &mut [u8], id: u32, answer: &mut [u
         return WRONG_LENGTH;
     }
     let call = daybook::morning_call(book, id);
-    store_call(answer, call)
+    storing::store_call(answer, call)
 }
 
 // Raises a user's blocked guarantee to its afternoon level: 2 numbers, the level and what was added.
@@ -223,7 +142,7 @@ pub extern "C" fn daybook_afternoon_call(book: &mut [u8], id: u32, answer: &mut 
         return WRONG_LENGTH;
     }
     let call = daybook::afternoon_call(book, id);
-    store_call(answer, call)
+    storing::store_call(answer, call)
 }
 
 // Whether a user is warned at midday: 1 number, 1 for yes and 0 for no.
@@ -235,7 +154,7 @@ pub extern "C" fn daybook_warning(book: &[u8], id: u32, answer: &mut [u64]) -> u
         return WRONG_LENGTH;
     }
     let reply = daybook::warning(book, id);
-    store_warning(answer, reply)
+    storing::store_warning(answer, reply)
 }
 
 // Cuts a user's bilateral sales for its target: 5 numbers, the MWh cut, their worth, the target, and what the worth falls short of it or exceeds it by.
@@ -247,7 +166,7 @@ pub extern "C" fn daybook_reduction(book: &mut [u8], id: u32, answer: &mut [u64]
         return WRONG_LENGTH;
     }
     let reduction = daybook::reduction(book, id);
-    store_reduction(answer, reduction)
+    storing::store_reduction(answer, reduction)
 }
 
 // Reduces users until none that is short of cover has an eligible trade: 3 numbers, the reductions, the MWh cut and their worth.
@@ -259,5 +178,5 @@ pub extern "C" fn daybook_run(book: &mut [u8], answer: &mut [u64]) -> u32
         return WRONG_LENGTH;
     }
     let run = daybook::run(book);
-    store_run(answer, run)
+    storing::store_run(answer, run)
 }

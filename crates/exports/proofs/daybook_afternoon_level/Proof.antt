@@ -1,6 +1,6 @@
 -- `daybook_afternoon_level` stores the level of the afternoon in a part of one place, and leaves another part as it is. Assumes nothing.
 use denote.Ref.{now}
-use Rattle.exports.specs.Answers.{levelNumbers}
+use Rattle.storing.specs.Numbers.{levelNumbers}
 use Rattle.exports.proofs.Lent.{refused, replied}
 use borrow.Author.Needs.{needs}
 use Rattle.exports.proofs.daybook_afternoon_level.Statement.{statement}

@@ -1,9 +1,9 @@
 -- `store_reduction` stores an array of the five numbers. Assumes nothing.
 use mathlib.Core.Path.{refl}
-use Rattle.exports.specs.Answers.{reductionNumbers}
+use Rattle.storing.specs.Numbers.{reductionNumbers}
 use borrow.Author.Needs.{needs}
-use Rattle.exports.proofs.store_reduction.Statement.{statement}
-use Rattle.exports.proofs.store_reduction.Tie as tie
+use Rattle.storing.proofs.store_reduction.Statement.{statement}
+use Rattle.storing.proofs.store_reduction.Tie as tie
 
 slice-aggregate-store : tie.Need-slice-aggregate-store
 slice-aggregate-store c = search needs

@@ -1,9 +1,9 @@
 -- `store_level` stores an array of the one number. Assumes nothing.
 use mathlib.Core.Path.{refl}
-use Rattle.exports.specs.Answers.{levelNumbers}
+use Rattle.storing.specs.Numbers.{levelNumbers}
 use borrow.Author.Needs.{needs}
-use Rattle.exports.proofs.store_level.Statement.{statement}
-use Rattle.exports.proofs.store_level.Tie as tie
+use Rattle.storing.proofs.store_level.Statement.{statement}
+use Rattle.storing.proofs.store_level.Tie as tie
 
 slice-aggregate-store : tie.Need-slice-aggregate-store
 slice-aggregate-store c = search needs

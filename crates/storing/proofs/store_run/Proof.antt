@@ -1,9 +1,9 @@
 -- `store_run` stores an array of the three numbers. Assumes nothing.
 use mathlib.Core.Path.{refl}
-use Rattle.exports.specs.Answers.{runNumbers}
+use Rattle.storing.specs.Numbers.{runNumbers}
 use borrow.Author.Needs.{needs}
-use Rattle.exports.proofs.store_run.Statement.{statement}
-use Rattle.exports.proofs.store_run.Tie as tie
+use Rattle.storing.proofs.store_run.Statement.{statement}
+use Rattle.storing.proofs.store_run.Tie as tie
 
 slice-aggregate-store : tie.Need-slice-aggregate-store
 slice-aggregate-store c = search needs

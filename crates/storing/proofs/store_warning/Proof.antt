@@ -4,10 +4,10 @@ use mathlib.Core.Bool.{Bool, true, false}
 use mathlib.Core.List.{[], _∷_}
 use Prim.Native.Nat.{ℕ}
 use mir.Val.{boolByte}
-use Rattle.exports.specs.Answers.{bit, warningNumbers}
+use Rattle.storing.specs.Numbers.{bit, warningNumbers}
 use borrow.Author.Needs.{needs}
-use Rattle.exports.proofs.store_warning.Statement.{statement}
-use Rattle.exports.proofs.store_warning.Tie as tie
+use Rattle.storing.proofs.store_warning.Statement.{statement}
+use Rattle.storing.proofs.store_warning.Tie as tie
 
 -- what the cast makes of yes and no
 cast-bit : (b : Bool) → boolByte b ≡ bit b

@@ -6,8 +6,8 @@ use lib.ListN.{length, getD, drop, length-set}
 use lib.Seq.{sets}
 use Rattle.fields.proofs.Sets.{sets-whole}
 use Rattle.image.proofs.Storing.{store-step, stored-all}
-use Rattle.exports.proofs.store.Statement.{statement}
-use Rattle.exports.proofs.store.Tie as tie
+use Rattle.storing.proofs.store.Statement.{statement}
+use Rattle.storing.proofs.store.Tie as tie
 
 abbrev Inv-loop : tie.InvT-loop
 Inv-loop answer₀ numbers i₀ answer i = (i ≤ length answer) × (length answer ≡ length numbers) × (sets answer i (drop i numbers) ≡ numbers)

@@ -1,9 +1,9 @@
 -- `store_call` stores an array of the two numbers. Assumes nothing.
 use mathlib.Core.Path.{refl}
-use Rattle.exports.specs.Answers.{callNumbers}
+use Rattle.storing.specs.Numbers.{callNumbers}
 use borrow.Author.Needs.{needs}
-use Rattle.exports.proofs.store_call.Statement.{statement}
-use Rattle.exports.proofs.store_call.Tie as tie
+use Rattle.storing.proofs.store_call.Statement.{statement}
+use Rattle.storing.proofs.store_call.Tie as tie
 
 slice-aggregate-store : tie.Need-slice-aggregate-store
 slice-aggregate-store c = search needs
