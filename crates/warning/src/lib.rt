@@ -22,8 +22,8 @@ fn place_of(b: Book, id: u32) -> usize
 {
     let n = b.user_count as usize;
     let users = b.users;
-    let ids = questions::ids_of(users, n);
-    questions::place(&ids, n, id)
+    let ids = places::ids_of(users, n);
+    places::place(&ids, n, id)
 }
 
 // Is the seller of an id a flagged shipper?

@@ -12,8 +12,8 @@ use Rattle.format.specs.Steps.{placeOf}
 use Rattle.format.proofs.Passed.{passed}
 use Rattle.book.specs.declared.Book.{Book}
 use Rattle.book.specs.Book.{BookRead}
-use Rattle.questions.specs.Asked.{placeIn}
-use Rattle.questions.proofs.Known.{placeIn-placeOf}
+use Rattle.places.specs.Ids.{placeIn}
+use Rattle.places.proofs.Known.{placeIn-placeOf}
 use Rattle.questions.proofs.Asked.{users-are}
 use Rattle.entry.proofs.Asked.{entry-unread, entry-unknown}
 use borrow.Author.Needs.{needs}

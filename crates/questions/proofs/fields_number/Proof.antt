@@ -43,15 +43,15 @@ header c = c .header-valid .ensures ∙ header-asked (bytes c) (struct c) (read 
 header-yes : (c : tie.Else1) → headerValid (bookOf (bytes (c .before)) .header) ≡ true
 header-yes c = sym (header (c .before)) ∙ not-false _ (c .if1 .left)
 
-users : (c : tie.After-users-valid) → (c .before .user-zeros .result && c .users-valid .result) ≡ (userZerosValid (bytes (c .before .before .before)) && usersValid (usersOf (bytes (c .before .before .before))))
+users : (c : tie.After-users-valid) → (c .before .user-zeros-valid .result && c .users-valid .result) ≡ (userZerosValid (bytes (c .before .before .before)) && usersValid (usersOf (bytes (c .before .before .before))))
 users c =
     let h = c .before .before .before in
-    ap₂ (λ (x y : Bool). x && y) (c .before .user-zeros .ensures) (c .users-valid .ensures) ∙ users-asked (bytes h) (struct h) (read h)
+    ap₂ (λ (x y : Bool). x && y) (c .before .user-zeros-valid .ensures) (c .users-valid .ensures) ∙ users-asked (bytes h) (struct h) (read h)
 
 users-yes : (c : tie.Else2) → (userZerosValid (bytes (c .before .before .before .before)) && usersValid (usersOf (bytes (c .before .before .before .before)))) ≡ true
 users-yes c = sym (users (c .before)) ∙ not-false _ (c .if2 .left)
 
-trades : (c : tie.After-trades-valid) → (c .before .before .trade-zeros .result && c .trades-valid .result)
+trades : (c : tie.After-trades-valid) → (c .before .before .trade-zeros-valid .result && c .trades-valid .result)
     ≡ (tradeZerosValid (bytes (c .before .before .before .before .before .before .before .before)) && all (tradeValid (usersOf (bytes (c .before .before .before .before .before .before .before .before)))) (tradesOf (bytes (c .before .before .before .before .before .before .before .before))))
 trades c =
     let i = c .before .before .before in
@@ -59,7 +59,7 @@ trades c =
     let us = map asUser (take (struct h .«user_count») (struct h .users)) in
     let ts = map asTrade (take (struct h .«trade_count») (struct h .trades)) in
     let among : c .trades-valid .result ≡ all (tradeValid us) ts = c .trades-valid .ensures ∙ ap (λ (ids : List ℕ). all (tradeAmong ids) ts) (i .ids-of .ensures .0) ∙ all-tradeAmong us ts in
-    ap₂ (λ (x y : Bool). x && y) (c .before .before .trade-zeros .ensures) among ∙ trades-asked (bytes h) (struct h) (read h)
+    ap₂ (λ (x y : Bool). x && y) (c .before .before .trade-zeros-valid .ensures) among ∙ trades-asked (bytes h) (struct h) (read h)
 
 cast-n : tie.Need-cast-n
 cast-n c = search needs
@@ -73,8 +73,8 @@ header-valid-requires c κs = search needs
 returns : tie.Need-returns
 returns c = number-4 (bytes (c .before)) (sym (header (c .before)) ∙ not-true _ (c .if1 .taken))
 
-user-zeros-requires : tie.Need-user-zeros-requires
-user-zeros-requires c κs = search needs
+user-zeros-valid-requires : tie.Need-user-zeros-valid-requires
+user-zeros-valid-requires c κs = search needs
 
 users-valid-requires : tie.Need-users-valid-requires
 users-valid-requires c κs = search needs
@@ -87,14 +87,14 @@ returns-2 c =
 ids-of-requires : tie.Need-ids-of-requires
 ids-of-requires c κs = search needs
 
-mul-trade-zeros : tie.Need-mul-trade-zeros
-mul-trade-zeros c = search needs
+mul-trade-zeros-valid : tie.Need-mul-trade-zeros-valid
+mul-trade-zeros-valid c = search needs
 
-add-trade-zeros : tie.Need-add-trade-zeros
-add-trade-zeros c = search needs
+add-trade-zeros-valid : tie.Need-add-trade-zeros-valid
+add-trade-zeros-valid c = search needs
 
-trade-zeros-requires : tie.Need-trade-zeros-requires
-trade-zeros-requires c κs = search needs
+trade-zeros-valid-requires : tie.Need-trade-zeros-valid-requires
+trade-zeros-valid-requires c κs = search needs
 
 slice-aggregate-trades-valid : tie.Need-slice-aggregate-trades-valid
 slice-aggregate-trades-valid c = search needs
@@ -137,13 +137,13 @@ fields-number-spec =
     cast-m
     header-valid-requires
     returns
-    user-zeros-requires
+    user-zeros-valid-requires
     users-valid-requires
     returns-2
     ids-of-requires
-    mul-trade-zeros
-    add-trade-zeros
-    trade-zeros-requires
+    mul-trade-zeros-valid
+    add-trade-zeros-valid
+    trade-zeros-valid-requires
     slice-aggregate-trades-valid
     trades-valid-requires
     returns-3

@@ -6,8 +6,8 @@ use native.Mathlib.Omega.{arith}
 use lib.ListN.{take}
 use Rattle.records.specs.User.{asUser}
 use Rattle.book.specs.Book.{asBook}
-use Rattle.questions.specs.Asked.{placeIn}
-use Rattle.questions.proofs.Known.{placeIn-placeOf}
+use Rattle.places.specs.Ids.{placeIn}
+use Rattle.places.proofs.Known.{placeIn-placeOf}
 use borrow.Author.Needs.{needs}
 use Rattle.warning.proofs.place_of.Statement.{statement}
 use Rattle.warning.proofs.place_of.Tie as tie
