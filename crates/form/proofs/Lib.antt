@@ -1,2 +1,2 @@
--- Laws of a test of every element, and of the loop that asks for zero bytes.
+-- Laws of the loop that asks for zero bytes.
 pub mod Loops

@@ -11,25 +11,13 @@ use lib.ListN.{length, take, drop, drop-of-length-le}
 use lib.Seq.{drop-cons, drop-drop}
 use borrow.Author.Tests.{eq-eqb, ne-eqb}
 use Rattle.rules.specs.Lists.{all}
+use Rattle.arrays.proofs.Every.{all-next, all-none}
 use Rattle.fields.specs.Field.{field}
 use Rattle.fields.specs.Layout.{recordsOf}
 use Rattle.fields.proofs.Field.{field-part}
 use Rattle.fields.proofs.Records.{length-recordsOf, getD-recordsOf}
 use Rattle.format.specs.Questions.{partsOf}
 use Rattle.form.specs.Zeros.{zerosIn}
-
--- ---- a test of every one
-
-module _ {A : Type 0} (p : A → Bool) where
-  -- by the test of the next one: no, or the answer of those after it
-  pub all-next : {zs : List A} {z : A} {rest : List A} {b : Bool} → zs ≡ z ∷ rest → p z ≡ b → all p zs ≡ (b && all p rest)
-  unfolding all
-  all-next {zs} {z} {rest} e h = ap (all p) e ∙ ap (λ (b : Bool). b && all p rest) h
-
-  -- none is left
-  pub all-none : {zs : List A} → zs ≡ [] → all p zs ≡ true
-  unfolding all
-  all-none e = ap (all p) e
 
 -- ---- the records that are left
 

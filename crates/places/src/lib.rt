@@ -4,7 +4,7 @@ ghost use mathlib.Core.List.{map};
 ghost use Prim.Native.Nat.{_+_, _≤_};
 ghost use lib.ListN.{length, take};
 ghost use Rattle.records.specs.User.{asUser};
-ghost use Rattle.places.specs.Ids.{idsOf, placeIn};
+ghost use Rattle.places.specs.Ids.{idsOf, placeIn, Rising};
 use records::User;
 
 // The ids of the first n users, and 0 past them.
@@ -22,17 +22,26 @@ pub fn ids_of(users: [User; 64], n: usize) -> [u32; 64]
     ids
 }
 
-// The first place of an id among the first n; n where there is none.
+// The place of an id among the first n, which rise; n where there is none. The ids before `low` are below it, those from `high` on are not.
 pub fn place(ids: &[u32], n: usize, id: u32) -> usize
     requires { ⌜ n ≤ length (now ids) ⌝ }
+    requires { ⌜ Rising (take n (now ids)) ⌝ }
     ensures { λ r. ⌜ (r ≡ placeIn (take n (now (ids .entry))) id) × (r ≤ n) ⌝ }
 {
-    let mut i = 0;
-    while i < n {
-        if ids[i] == id {
-            return i;
+    let mut low = 0;
+    let mut high = n;
+    while low < high {
+        let middle = low + (high - low) / 2;
+        if ids[middle] < id {
+            low = middle + 1;
+        } else {
+            high = middle;
         }
-        i += 1;
+    }
+    if low < n {
+        if ids[low] == id {
+            return low;
+        }
     }
     n
 }

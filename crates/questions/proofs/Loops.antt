@@ -13,47 +13,7 @@ use borrow.Author.Tests.{le-ltb, lt-ltb, eq-eqb, ne-eqb}
 use Rattle.rules.specs.Lists.{all}
 use Rattle.rules.specs.Book.{User}
 use Rattle.rules.specs.Questions.{idsRise, userValid, usersValid}
-use Rattle.form.proofs.Loops.{all-next, all-none}
-
--- ---- what is left at an index: the next one and those after it, or none
-
-module _ {A B : Type 0} (f : A → B) (xs : List A) (n i : ℕ) where
-  -- of the first n, each seen through f
-  pub next-mapped : (d : A) → i < n → n ≤ length xs → drop i (map f (take n xs)) ≡ f (getD xs i d) ∷ drop (i + 1) (map f (take n xs))
-  next-mapped d h k =
-      let l : length (map f (take n xs)) ≡ n = length-map (take n xs) f ∙ length-take-le n xs k in
-      let m : i < length (map f (take n xs)) = omega (arith, l) in
-      rw (add-one, drop-cons (map f (take n xs)) i (f d) m, List·getD-map f (take n xs) i d, getD-take n xs i d h)
-
-  pub none-mapped : n ≤ i → drop i (map f (take n xs)) ≡ []
-  none-mapped h =
-      let k : length (take n xs) ≤ i = simp length-take (omega arith) in
-      drop-of-length-le (map f (take n xs)) {i = i} (rw length-map k)
-
--- ---- a test of every one
-
--- where i of the first n passed a test: those left have the whole answer
-pub record AllLeft {A B : Type 0} (p : B → Bool) (f : A → B) (xs : List A) (n i : ℕ) : Type 0 where
-  pub within : i ≤ n
-  pub held : n ≤ length xs
-  pub answer : all p (map f (take n xs)) ≡ all p (drop i (map f (take n xs)))
-
-module _ {A B : Type 0} {p : B → Bool} {f : A → B} {xs : List A} {n : ℕ} where
-  -- before the first
-  pub all-start : n ≤ length xs → AllLeft p f xs n 0
-  all-start k = record { within = omega arith; held = k; answer = refl }
-
-  -- the next one does not pass
-  pub all-no : {i : ℕ} (d : A) → AllLeft p f xs n i → i < n → p (f (getD xs i d)) ≡ false → false ≡ all p (map f (take n xs))
-  all-no {i} d before h e = sym (before .answer ∙ all-next p (next-mapped f xs n i d h (before .held)) e)
-
-  -- it passes
-  pub all-turn : {i : ℕ} (d : A) → AllLeft p f xs n i → i < n → p (f (getD xs i d)) ≡ true → AllLeft p f xs n (i + 1)
-  all-turn {i} d before h e = record { within = omega arith; held = before .held; answer = before .answer ∙ all-next p (next-mapped f xs n i d h (before .held)) e }
-
-  -- none is left
-  pub all-end : {i : ℕ} → AllLeft p f xs n i → n ≤ i → true ≡ all p (map f (take n xs))
-  all-end {i} before h = sym (before .answer ∙ all-none p (none-mapped f xs n i h))
+use Rattle.arrays.proofs.Every.{next-mapped, none-mapped}
 
 -- ---- users whose ids rise
 
