@@ -1,17 +1,20 @@
--- Trades between users by their ids: a trade is valid between the ids where it is between the users. Assumes nothing.
+-- Users and trades by their ids: those of valid users rise, and a trade is valid between the ids where it is between the users. Assumes nothing.
 use Prim.Native.Nat.{ℕ, _≤_}
 use mathlib.Core.Path.{_≡_, refl, sym, ap, ap₂, _∙_}
-use mathlib.Core.Bool.{Bool, _&&_}
+use mathlib.Core.Bool.{Bool, not, _&&_}
 use mathlib.Core.List.{List, [], _∷_}
-use lib.Dec.{ltb}
+use lib.Dec.{T, eqb, ltb}
 use lib.ListN.{length, take}
 use Rattle.rules.specs.Lists.{all}
 use Rattle.rules.specs.Book.{User, Trade}
-use Rattle.rules.specs.Questions.{tradeValid}
+use Rattle.rules.specs.Questions.{amountsValid, codesValid, idsRise, tradeValid, userValid, usersValid}
+use Rattle.laws.proofs.Tests.{all-by, and-i, and-l, and-r}
 use Rattle.validity.specs.Given.{tradeValidGiven}
 use Rattle.validity.proofs.Known.{tradeValidGiven-known}
-use Rattle.places.specs.Ids.{idsOf, placeIn}
+use Rattle.places.specs.Ids.{idsOf, placeIn, among, Rising}
 use Rattle.places.proofs.Known.{among-known, place-among}
+use Rattle.places.proofs.Rising.{rising-ids}
+use Rattle.positions.specs.Sums.{partiesAmong}
 use Rattle.questions.specs.Asked.{tradeAmong}
 
 -- a trade among the first n ids, by the places of its parties: its test is what the test says that is given whether these are below n
@@ -36,3 +39,22 @@ all-same p q h (x ∷ xs) = ap₂ (λ (a b : Bool). a && b) (h x) (all-same p q 
 
 pub all-tradeAmong : (us : List User) (ts : List Trade) → all (tradeAmong (idsOf us)) ts ≡ all (tradeValid us) ts
 all-tradeAmong us ts = all-same (tradeAmong (idsOf us)) (tradeValid us) (tradeAmong-valid us) ts
+
+-- a valid trade can be counted for its parties
+tradeAmong-parties : (ids : List ℕ) (t : Trade) → T (tradeAmong ids t) → T (partiesAmong ids t)
+unfolding tradeAmong tradeValidGiven partiesAmong codesValid
+tradeAmong-parties ids t h =
+    let both = among ids (t .terms .seller) && among ids (t .terms .buyer) in
+    let differ = not (eqb (t .terms .seller) (t .terms .buyer)) in
+    let area = ltb (t .terms .area) 3 in
+    let codes = ltb (t .terms .kind) 3 && ltb (t .terms .day) 2 in
+    and-i both area (and-l both differ (and-l (both && differ) ((area && codes) && amountsValid t) h))
+    (and-l area codes (and-l (area && codes) (amountsValid t) (and-r (both && differ) ((area && codes) && amountsValid t) h)))
+
+pub all-parties : (ids : List ℕ) (ts : List Trade) → T (all (tradeAmong ids) ts) → T (all (partiesAmong ids) ts)
+all-parties ids ts = all-by (tradeAmong ids) (partiesAmong ids) (tradeAmong-parties ids) ts
+
+-- the ids of valid users rise
+pub valid-rising : (us : List User) → T (usersValid us) → Rising (idsOf us)
+unfolding usersValid
+valid-rising us h = rising-ids us (and-l (idsRise 0 us) (all userValid us) h)

@@ -1,11 +1,10 @@
--- The questions 4 to 7 as the code asks them: of lists of ids, of amounts; and what bytes are that were asked all questions. Assumes nothing.
+-- The questions 4 to 7 as the code asks them: of lists of ids; and what bytes are that were asked all questions. Assumes nothing.
 use mathlib.Core.Path.{_≡_}
 use mathlib.Core.Bool.{Bool}
 use mathlib.Core.List.{List}
 use Prim.Native.Nat.{ℕ}
-use lib.IntN.{ℤ, pos, _+ℤ_, _-ℤ_}
 use Rattle.rules.specs.Book.{Trade}
-use Rattle.rules.specs.Questions.{refusal, numberOf, eqbℤ}
+use Rattle.rules.specs.Questions.{refusal, numberOf}
 use Rattle.validity.specs.Given.{tradeValidGiven}
 use Rattle.format.specs.Questions.{aboutFields, bookNumber}
 use Rattle.places.specs.Ids.{among}
@@ -15,10 +14,6 @@ use Rattle.book.specs.Book.{BookRead, blankBook}
 -- a trade is valid between users of these ids
 unfoldable pub tradeAmong : List ℕ → Trade → Bool
 tradeAmong ids t = tradeValidGiven (among ids (t .terms .seller)) (among ids (t .terms .buyer)) t
-
--- a position is its physical entry + bought − sold
-unfoldable pub positionAs : ℤ → ℤ → ℕ → ℕ → Bool
-positionAs position physical bought sold = eqbℤ position (physical +ℤ pos bought -ℤ pos sold)
 
 -- the number of the first of the questions 4 to 7 that is answered by no, 0 where there is none
 unfoldable pub fieldsNumber : List ℕ → ℕ

@@ -2,7 +2,8 @@
 use mathlib.Core.Path.{_≡_, sym, ap, ap₂, _∙_}
 use mathlib.Core.Bool.{Bool, true, _&&_}
 use mathlib.Core.List.{List, map}
-use Prim.Native.Nat.{ℕ}
+use Prim.Native.Nat.{ℕ, _≤_}
+use native.Mathlib.Omega.{arith}
 use borrow.Author.Tests.{not-true, not-false}
 use denote.Ref.{now}
 use lib.ListN.{take}
@@ -15,8 +16,10 @@ use Rattle.format.specs.Questions.{userZerosValid, tradeZerosValid}
 use Rattle.book.specs.declared.Book.{Book}
 use Rattle.book.specs.Book.{BookRead}
 use Rattle.questions.specs.Asked.{tradeAmong}
-use Rattle.questions.proofs.Known.{all-tradeAmong}
-use Rattle.questions.proofs.Asked.{header-asked, users-asked, trades-asked, positions-asked, number-4, number-5, number-6, number-7, number-0}
+use Rattle.laws.proofs.Tests.{and-r}
+use Rattle.places.specs.Ids.{Rising}
+use Rattle.questions.proofs.Known.{all-tradeAmong, all-parties, valid-rising}
+use Rattle.questions.proofs.Asked.{header-asked, users-are, users-asked, trades-asked, positions-asked, number-4, number-5, number-6, number-7, number-0}
 use borrow.Author.Needs.{needs}
 use Rattle.questions.proofs.fields_number.Statement.{statement}
 use Rattle.questions.proofs.fields_number.Tie as tie
@@ -61,6 +64,15 @@ trades c =
     let among : c .trades-valid .result ≡ all (tradeValid us) ts = c .trades-valid .ensures ∙ ap (λ (ids : List ℕ). all (tradeAmong ids) ts) (i .ids-of .ensures .0) ∙ all-tradeAmong us ts in
     ap₂ (λ (x y : Bool). x && y) (c .before .before .trade-zeros-valid .ensures) among ∙ trades-asked (bytes h) (struct h) (read h)
 
+-- the ids rise
+rising : (c : tie.After-ids-of) → Rising (take (c .before .before .before .before .before .before .before .before .before .before .before .before .args .b .«user_count») (c .ids-of .result))
+rising c =
+    let u = c .before in
+    let h = u .before .before .before .before in
+    let us = map asUser (take (struct h .«user_count») (struct h .users)) in
+    let zeros = userZerosValid (bytes h) in
+    rw (c .ids-of .ensures .0) (valid-rising us (rw (users-are (bytes h) (struct h) (read h)) (and-r zeros (usersValid (usersOf (bytes h))) (rw (users-yes u) tt))))
+
 cast-n : tie.Need-cast-n
 cast-n c = search needs
 
@@ -100,7 +112,9 @@ slice-aggregate-trades-valid : tie.Need-slice-aggregate-trades-valid
 slice-aggregate-trades-valid c = search needs
 
 trades-valid-requires : tie.Need-trades-valid-requires
-trades-valid-requires c κs = search needs
+trades-valid-requires c κs =
+    let i = c .before .before in
+    (search needs, rising i, search needs)
 
 returns-3 : tie.Need-returns-3
 returns-3 c =
@@ -108,12 +122,32 @@ returns-3 c =
     let e = u .before .before .before in
     number-6 (bytes (e .before)) (header-yes e) (users-yes u) (sym (trades (c .before)) ∙ not-true _ (c .if3 .taken))
 
+slice-aggregate-positions-valid : tie.Need-slice-aggregate-positions-valid
+slice-aggregate-positions-valid c = search needs
+
 positions-valid-requires : tie.Need-positions-valid-requires
-positions-valid-requires c κs = search needs
+positions-valid-requires c κs =
+    let t = c .before .before in
+    let i = t .before .before .before in
+    let h = i .before .before .before .before .before in
+    let formed = start h .pre .0 in
+    let few : struct h .«user_count» ≤ 64 = omega (arith, read h .users, formed .users) in
+    let many : struct h .«trade_count» ≤ 256 = omega (arith, read h .trades, formed .trades) in
+    let ids = take (struct h .«user_count») (i .ids-of .result) in
+    let ts = map asTrade (take (struct h .«trade_count») (struct h .trades)) in
+    let passed : (t .before .before .trade-zeros-valid .result && t .trades-valid .result) ≡ true = not-false _ (c .before .if3 .left) in
+    record {
+      traded = record {
+        listed = record { held = omega (arith, few, i .ids-of .ensures .1); few = few; rising = rising i };
+        many = many;
+        parties = all-parties ids ts (rw (← t .trades-valid .ensures) (and-r (t .before .before .trade-zeros-valid .result) (t .trades-valid .result) (rw passed tt)));
+      };
+      users-ids = i .ids-of .ensures .0;
+    }
 
 returns-4 : tie.Need-returns-4
 returns-4 c =
-    let t = c .before .before in
+    let t = c .before .before .before in
     let u = t .before .before .before .before .before in
     let e = u .before .before .before in
     let h = e .before in
@@ -122,7 +156,7 @@ returns-4 c =
 
 returns-5 : tie.Need-returns-5
 returns-5 c =
-    let t = c .before .before in
+    let t = c .before .before .before in
     let u = t .before .before .before .before .before in
     let e = u .before .before .before in
     let h = e .before in
@@ -147,6 +181,7 @@ fields-number-spec =
     slice-aggregate-trades-valid
     trades-valid-requires
     returns-3
+    slice-aggregate-positions-valid
     positions-valid-requires
     returns-4
     returns-5)
