@@ -124,10 +124,11 @@ module _ (xs : List ℕ) (n id : ℕ) (held : n ≤ length xs) (rising : Rising 
       -- the id is there
       pub sought-found : low < n → getD xs low 0 ≡ id → low ≡ placeIn (take n xs) id
       sought-found h e =
-          omega
-          (arith,
-          placeIn-at (take n xs) id low (rw (length-take-le n xs held) h) (getD-take n xs low 0 h ∙ e)
-          (λ j k f. omega (arith, sought .below j k, getD-take n xs j 0 (omega arith))))
+          omega (
+            arith,
+            placeIn-at (take n xs) id low (rw (length-take-le n xs held) h) (getD-take n xs low 0 h ∙ e)
+                (λ j k f. omega (arith, sought .below j k, getD-take n xs j 0 (omega arith))),
+          )
 
       -- another id is there
       pub sought-other : low < n → (getD xs low 0 ≡ id → ⊥) → n ≡ placeIn (take n xs) id
@@ -135,9 +136,12 @@ module _ (xs : List ℕ) (n id : ℕ) (held : n ≤ length xs) (rising : Rising 
         where
           none : ((j : ℕ) → j < n → getD xs j 0 ≡ id → ⊥) → n ≡ placeIn (take n xs) id
           none f =
-              omega
-              (arith, length-take-le n xs held,
-              placeIn-none (take n xs) id (λ j k g. f j (omega (arith, length-take-le n xs held)) (omega (arith, getD-take n xs j 0 (omega (arith, length-take-le n xs held))))))
+              omega (
+                arith,
+                length-take-le n xs held,
+                placeIn-none (take n xs) id (λ j k g. f j (omega (arith, length-take-le n xs held)) (omega (arith, getD-take n xs j 0 (omega (arith, length-take-le n xs held))))),
+              )
+
           go : (j : ℕ) → j < n → getD xs j 0 ≡ id → (b : Bool) → ltb j low ≡ b → ⊥
           go j k f true t = omega (arith, sought .below j (ltb-true j low t))
           go j k f false t =
@@ -146,7 +150,9 @@ module _ (xs : List ℕ) (n id : ℕ) (held : n ≤ length xs) (rising : Rising 
       -- every id is below it
       pub sought-past : n ≤ low → n ≡ placeIn (take n xs) id
       sought-past h =
-          omega
-          (arith, length-take-le n xs held,
-          placeIn-none (take n xs) id
-          (λ j k f. omega (arith, length-take-le n xs held, sought .below j (omega (arith, length-take-le n xs held)), getD-take n xs j 0 (omega (arith, length-take-le n xs held)))))
+          omega (
+            arith,
+            length-take-le n xs held,
+            placeIn-none (take n xs) id
+                (λ j k f. omega (arith, length-take-le n xs held, sought .below j (omega (arith, length-take-le n xs held)), getD-take n xs j 0 (omega (arith, length-take-le n xs held)))),
+          )

@@ -95,6 +95,7 @@ module _ (ids : List ℕ) (rising : Rising ids) (party : ℕ) (t : Trade) (sums 
         apart : (3 * i + area ≡ 3 * p + a → ⊥) → given party t (getD ids i 0) area ≡ 0
             → getD (set sums (3 * p + a) (getD sums (3 * p + a) 0 + t .standing)) (3 * i + area) 0 ≡ getD sums (3 * i + area) 0 + given party t (getD ids i 0) area
         apart e g = omega (arith, g, getD-set-other sums (3 * p + a) (3 * i + area) (getD sums (3 * p + a) 0 + t .standing) 0 e)
+
         own : i ≡ p → area ≡ a
             → getD (set sums (3 * p + a) (getD sums (3 * p + a) 0 + t .standing)) (3 * i + area) 0 ≡ getD sums (3 * i + area) 0 + given party t (getD ids i 0) area
         own e f =
@@ -140,8 +141,8 @@ module _ (side : Terms → ℕ) (ids : List ℕ) where
   sums-next f xs i d v r h s c =
       record {
         each = λ j area k l.
-          let g : Trade → ℕ = λ t. cond (eqb (side (t .terms)) (getD ids j 0)) (cond (eqb (t .terms .area) area && eqb (t .terms .day) 0) (t .standing) 0) 0 in
-          omega (arith, c .each j area k l, s .each j area k l, sum-map g f (take (i + 1) xs), sum-map g f (take i xs), sum-take-suc (λ x. g (f x)) xs i d h);
+            let g : Trade → ℕ = λ t. cond (eqb (side (t .terms)) (getD ids j 0)) (cond (eqb (t .terms .area) area && eqb (t .terms .day) 0) (t .standing) 0) 0 in
+            omega (arith, c .each j area k l, s .each j area k l, sum-map g f (take (i + 1) xs), sum-map g f (take i xs), sum-take-suc (λ x. g (f x)) xs i d h);
         low = λ k. omega (arith, c .low k, s .low k);
         room = c .room ∙ s .room;
       }

@@ -31,7 +31,14 @@ fn count(ids: &[u32], n: usize, party: u32, t: Trade, sums: &mut [u64])
 }
 
 // Gathers what each of the first n users sold and bought for the day in the first m trades.
-fn gather(ids: &[u32], n: usize, trades: [Trade; 256], m: usize, sold: &mut [u64], bought: &mut [u64])
+fn gather(
+    ids: &[u32],
+    n: usize,
+    trades: [Trade; 256],
+    m: usize,
+    sold: &mut [u64],
+    bought: &mut [u64],
+)
     requires { ⌜ Gatherable (now ids) n trades m (now sold) (now bought) ⌝ }
     ensures { λ _. ⌜ Sums (take n (now (ids .entry))) (soldForDay (map asTrade (take m trades))) (256 * 4294967295) (now (sold .exit)) ⌝ }
     ensures { λ _. ⌜ Sums (take n (now (ids .entry))) (boughtForDay (map asTrade (take m trades))) (256 * 4294967295) (now (bought .exit)) ⌝ }
@@ -50,7 +57,13 @@ fn gather(ids: &[u32], n: usize, trades: [Trade; 256], m: usize, sold: &mut [u64
 // ---- the positions
 
 // Is a position its physical entry + bought − sold, as the sums at k have them?
-fn is_position<'a>(position: Net, physical: Net, sold: &'a [u64], bought: &'a [u64], k: usize) -> bool
+fn is_position<'a>(
+    position: Net,
+    physical: Net,
+    sold: &'a [u64],
+    bought: &'a [u64],
+    k: usize,
+) -> bool
     requires { ⌜ (k < 192) × Bounded (now sold) × Bounded (now bought) ⌝ }
     ensures { λ r. ⌜ r ≡ positionAs (net position) (net physical) (getD (now (bought .entry)) k 0) (getD (now (sold .entry)) k 0) ⌝ }
 {
@@ -73,7 +86,13 @@ fn user_positions_valid<'a>(u: User, sold: &'a [u64], bought: &'a [u64], i: usiz
 }
 
 // Are all positions of the first n users, whose ids these are, as defined over the first m trades?
-pub fn positions_valid(ids: &[u32], users: [User; 64], n: usize, trades: [Trade; 256], m: usize) -> bool
+pub fn positions_valid(
+    ids: &[u32],
+    users: [User; 64],
+    n: usize,
+    trades: [Trade; 256],
+    m: usize,
+) -> bool
     requires { ⌜ Askable (now ids) users n trades m ⌝ }
     ensures { λ r. ⌜ r ≡ all (positionsValid (map asTrade (take m trades))) (map asUser (take n users)) ⌝ }
 {
