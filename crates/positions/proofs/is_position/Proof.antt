@@ -19,7 +19,7 @@ shared-slice-read-result : tie.Need-shared-slice-read-result
 shared-slice-read-result c = search needs
 
 add-result : tie.Need-add-result
-add-result c = let s = c .before in omega (arith, s .pre .1 .low (s .args .k))
+add-result c = let s = c .before in omega (arith, s .pre .1 .low (s .args .k), s .pre .2 .low (s .args .k))
 
 cast-result-2 : tie.Need-cast-result-2
 cast-result-2 c = search needs
@@ -31,7 +31,7 @@ shared-slice-read-result-2 : tie.Need-shared-slice-read-result-2
 shared-slice-read-result-2 c = search needs
 
 add-result-2 : tie.Need-add-result-2
-add-result-2 c = let s = c .before .before in omega (arith, s .pre .2 .low (s .args .k))
+add-result-2 c = let s = c .before .before in omega (arith, s .pre .1 .low (s .args .k), s .pre .2 .low (s .args .k))
 
 returns : tie.Need-returns
 unfolding positionAs net
