@@ -25,8 +25,8 @@ pub fn enter(s: &[u8], id: u32) -> Entry
     }
     let n = book.user_count as usize;
     let users = book.users;
-    let ids = questions::ids_of(users, n);
-    let place = questions::place(&ids, n, id);
+    let ids = places::ids_of(users, n);
+    let place = places::place(&ids, n, id);
     if n <= place {
         return Entry {
             number: 8,

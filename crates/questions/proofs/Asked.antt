@@ -9,7 +9,9 @@ use Rattle.book.specs.Book.{BookRead, asBook}
 use Rattle.book.specs.declared.Book.{Book}
 use Rattle.format.specs.Book.{bookOf, tradesAt, tradesOf, userAt, usersOf}
 use Rattle.format.specs.Questions.{aboutFields, tradeZerosValid, userZerosValid}
-use Rattle.questions.specs.Asked.{fieldsNumber, zerosIn}
+use Rattle.form.specs.Zeros.{zerosIn}
+use Rattle.fields.specs.Field.{field}
+use Rattle.questions.specs.Asked.{fieldsNumber}
 use Rattle.records.specs.Trade.{asTrade, tradeZeros}
 use Rattle.records.specs.User.{asUser, userZeros}
 use Rattle.rules.specs.Calendar.{realDay}
@@ -32,15 +34,15 @@ module _ (s : List ℕ) (b : Book) (r : BookRead s b) where
   unfolding asBook bookOf
   trades-are = ap (λ (n : model.Book). n .trades) (r .book)
 
-  pub users-asked : (zerosIn userZeros 56 (b .«user_count») (drop 32 s) && usersValid (map asUser (take (b .«user_count») (b .users))))
+  pub users-asked : (zerosIn (λ c. field 3 5 c) 56 (b .«user_count») (drop 32 s) && usersValid (map asUser (take (b .«user_count») (b .users))))
       ≡ (userZerosValid s && usersValid (usersOf s))
-  unfolding zerosIn userZerosValid
+  unfolding zerosIn userZerosValid userZeros
   users-asked = rw (users-are, r .users)
 
-  pub trades-asked : (zerosIn tradeZeros 20 (b .«trade_count») (drop (32 + 56 * b .«user_count») s)
+  pub trades-asked : (zerosIn (λ c. field 1 11 c) 20 (b .«trade_count») (drop (32 + 56 * b .«user_count») s)
       && all (tradeValid (map asUser (take (b .«user_count») (b .users)))) (map asTrade (take (b .«trade_count») (b .trades))))
       ≡ (tradeZerosValid s && all (tradeValid (usersOf s)) (tradesOf s))
-  unfolding zerosIn tradeZerosValid tradesAt userAt
+  unfolding zerosIn tradeZerosValid tradeZeros tradesAt userAt
   trades-asked = rw (users-are, trades-are, r .users, r .trades)
 
   pub positions-asked : all (positionsValid (map asTrade (take (b .«trade_count») (b .trades)))) (map asUser (take (b .«user_count») (b .users)))

@@ -1,45 +1,21 @@
--- Ids beside users: an id is among the ids of users where it is known, at the place that its user has; a trade is valid between the ids where it is
--- between the users. Assumes nothing.
-use Prim.Native.Nat.{ℕ, suc, _≤_}
+-- Users and trades by their ids: those of valid users rise, and a trade is valid between the ids where it is between the users. Assumes nothing.
+use Prim.Native.Nat.{ℕ, _≤_}
 use mathlib.Core.Path.{_≡_, refl, sym, ap, ap₂, _∙_}
-use mathlib.Core.Bool.{Bool, true, false, cond, _&&_, _||_}
+use mathlib.Core.Bool.{Bool, not, _&&_}
 use mathlib.Core.List.{List, [], _∷_}
-use native.Mathlib.Omega.{arith}
-use lib.Dec.{eqb, ltb, leb·suc-suc}
+use lib.Dec.{T, eqb, ltb}
 use lib.ListN.{length, take}
-use lib.Seq.{length-take-le}
-use borrow.Author.Tests.{lt-ltb}
-use Rattle.rules.specs.Lists.{all, any}
+use Rattle.rules.specs.Lists.{all}
 use Rattle.rules.specs.Book.{User, Trade}
-use Rattle.rules.specs.Questions.{known, tradeValid}
+use Rattle.rules.specs.Questions.{amountsValid, codesValid, idsRise, tradeValid, userValid, usersValid}
+use Rattle.laws.proofs.Tests.{all-by, and-i, and-l, and-r}
 use Rattle.validity.specs.Given.{tradeValidGiven}
 use Rattle.validity.proofs.Known.{tradeValidGiven-known}
-use Rattle.format.specs.Steps.{placeOf}
-use Rattle.questions.specs.Asked.{idsOf, placeIn, among, tradeAmong}
-
-pub among-known : (us : List User) (id : ℕ) → among (idsOf us) id ≡ known us id
-unfolding among idsOf known any
-among-known [] id = refl
-among-known (u ∷ us) id = ap (λ (b : Bool). eqb (u .party .id) id || b) (among-known us id)
-
-pub placeIn-placeOf : (us : List User) (id : ℕ) → placeIn (idsOf us) id ≡ placeOf us id
-unfolding placeIn idsOf placeOf
-placeIn-placeOf [] id = refl
-placeIn-placeOf (u ∷ us) id = ap (λ (n : ℕ). cond (eqb (u .party .id) id) 0 (suc n)) (placeIn-placeOf us id)
-
--- the place is below the number of ids where the id is among them
-pub placeIn-among : (xs : List ℕ) (id : ℕ) → ltb (placeIn xs id) (length xs) ≡ among xs id
-unfolding placeIn among any
-placeIn-among [] id = refl
-placeIn-among (x ∷ xs) id = go (eqb x id) (placeIn-among xs id)
-  where
-    go : (c : Bool) → ltb (placeIn xs id) (length xs) ≡ among xs id → ltb (cond c 0 (suc (placeIn xs id))) (suc (length xs)) ≡ (c || among xs id)
-    go true h = lt-ltb 0 (suc (length xs)) (omega arith)
-    go false h = leb·suc-suc (suc (placeIn xs id)) (length xs) ∙ h
-
--- the same among the first n ids
-pub place-among : (xs : List ℕ) (n id : ℕ) → n ≤ length xs → ltb (placeIn (take n xs) id) n ≡ among (take n xs) id
-place-among xs n id h = rw (length-take-le n xs h) at (placeIn-among (take n xs) id)
+use Rattle.places.specs.Ids.{idsOf, placeIn, among, Rising}
+use Rattle.places.proofs.Known.{among-known, place-among}
+use Rattle.places.proofs.Rising.{rising-ids}
+use Rattle.positions.specs.Sums.{partiesAmong}
+use Rattle.questions.specs.Asked.{tradeAmong}
 
 -- a trade among the first n ids, by the places of its parties: its test is what the test says that is given whether these are below n
 pub tradeAmong-places : (xs : List ℕ) (n : ℕ) (t : Trade) (p q : ℕ) {a b : Bool}
@@ -63,3 +39,22 @@ all-same p q h (x ∷ xs) = ap₂ (λ (a b : Bool). a && b) (h x) (all-same p q 
 
 pub all-tradeAmong : (us : List User) (ts : List Trade) → all (tradeAmong (idsOf us)) ts ≡ all (tradeValid us) ts
 all-tradeAmong us ts = all-same (tradeAmong (idsOf us)) (tradeValid us) (tradeAmong-valid us) ts
+
+-- a valid trade can be counted for its parties
+tradeAmong-parties : (ids : List ℕ) (t : Trade) → T (tradeAmong ids t) → T (partiesAmong ids t)
+unfolding tradeAmong tradeValidGiven partiesAmong codesValid
+tradeAmong-parties ids t h =
+    let both = among ids (t .terms .seller) && among ids (t .terms .buyer) in
+    let differ = not (eqb (t .terms .seller) (t .terms .buyer)) in
+    let area = ltb (t .terms .area) 3 in
+    let codes = ltb (t .terms .kind) 3 && ltb (t .terms .day) 2 in
+    and-i both area (and-l both differ (and-l (both && differ) ((area && codes) && amountsValid t) h))
+    (and-l area codes (and-l (area && codes) (amountsValid t) (and-r (both && differ) ((area && codes) && amountsValid t) h)))
+
+pub all-parties : (ids : List ℕ) (ts : List Trade) → T (all (tradeAmong ids) ts) → T (all (partiesAmong ids) ts)
+all-parties ids ts = all-by (tradeAmong ids) (partiesAmong ids) (tradeAmong-parties ids) ts
+
+-- the ids of valid users rise
+pub valid-rising : (us : List User) → T (usersValid us) → Rising (idsOf us)
+unfolding usersValid
+valid-rising us h = rising-ids us (and-l (idsRise 0 us) (all userValid us) h)

@@ -1,5 +1,4 @@
 -- Laws of the questions as the code asks them.
 pub mod Loops
 pub mod Known
-pub mod Positions
 pub mod Asked

@@ -1,109 +1,21 @@
 // The questions 1 to 7, asked of any bytes: the number of the first that is answered by no, or the book that the bytes hold.
 ghost use mathlib.Core.Path.{_≡_};
-ghost use mathlib.Core.Bool.{_&&_};
 ghost use mathlib.Core.List.{map};
-ghost use Prim.Native.Nat.{_+_, _*_, _≤_};
-ghost use lib.ListN.{length, take, drop};
-ghost use Rattle.rules.specs.Calendar.{realDay};
+ghost use Prim.Native.Nat.{_≤_};
+ghost use lib.ListN.{length, take};
 ghost use Rattle.rules.specs.Lists.{all};
-ghost use Rattle.rules.specs.Questions.{pricesValid, usersValid, tradeValid, positionsValid};
-ghost use Rattle.units.specs.Prices.{asPrices};
-ghost use Rattle.units.specs.Amounts.{net};
-ghost use Rattle.records.specs.User.{userZeros, asUser};
-ghost use Rattle.records.specs.Trade.{tradeZeros, asTrade};
-ghost use Rattle.format.specs.Questions.{marked, versioned, sized, formNumber, bookNumber, Formed};
+ghost use Rattle.rules.specs.Questions.{usersValid};
+ghost use Rattle.records.specs.User.{asUser};
+ghost use Rattle.records.specs.Trade.{asTrade};
+ghost use Rattle.format.specs.Questions.{Formed};
 ghost use Rattle.book.specs.Book.{BookRead};
-ghost use Rattle.questions.specs.Asked.{zerosIn, idsOf, placeIn, tradeAmong, positionAs, fieldsNumber, FieldsAsked, Opened};
+ghost use Rattle.places.specs.Ids.{Rising};
+ghost use Rattle.questions.specs.Asked.{tradeAmong, fieldsNumber, FieldsAsked, Opened};
 use book::Book;
 use records::Trade;
 use records::User;
-use units::Mwh;
-use units::Net;
-use units::Prices;
-
-// ---- 1 to 3
-
-// Are there 32 bytes at least, with the mark first?
-fn is_marked(s: &[u8]) -> bool
-    ensures { λ r. ⌜ r ≡ marked (now (s .entry)) ⌝ }
-{
-    if s.len() < 32 {
-        return false;
-    }
-    fields::get(s, 0, 3) == 0x42_44_47
-}
-
-// Is it version 1?
-fn is_versioned(s: &[u8]) -> bool
-    requires { ⌜ 32 ≤ length (now s) ⌝ }
-    ensures { λ r. ⌜ r ≡ versioned (now (s .entry)) ⌝ }
-{
-    fields::get_u16(s, 3) == 1
-}
-
-// Are the counts in range, and are there exactly as many bytes as they ask for?
-fn is_sized(s: &[u8]) -> bool
-    requires { ⌜ 32 ≤ length (now s) ⌝ }
-    ensures { λ r. ⌜ r ≡ sized (now (s .entry)) ⌝ }
-{
-    let n = fields::get_u8(s, 5) as usize;
-    let m = fields::get_u16(s, 6) as usize;
-    ((1 <= n) & (n <= 64)) & ((m <= 256) & (s.len() == 32 + 56 * n + 20 * m))
-}
-
-// The number of the first of the questions 1 to 3 that is answered by no, 0 where there is none.
-fn form(s: &[u8]) -> u32
-    ensures { λ r. ⌜ r ≡ formNumber (now (s .entry)) ⌝ }
-{
-    if !is_marked(s) {
-        return 1;
-    }
-    if !is_versioned(s) {
-        return 2;
-    }
-    if !is_sized(s) {
-        return 3;
-    }
-    0
-}
-
-// ---- 4
-
-// Are P and Q 1 to 100,000, and the tolls at most 100,000?
-fn prices_valid(f: Prices) -> bool
-    ensures { λ r. ⌜ r ≡ pricesValid (asPrices f) ⌝ }
-{
-    (((1 <= f.p) & (f.p <= 100000)) & ((1 <= f.q) & (f.q <= 100000)))
-        & ((f.l <= 100000) & ((f.x <= 100000) & (f.i <= 100000)))
-}
-
-// Are date, prices and tolls in range?
-fn header_valid(date: u32, f: Prices) -> bool
-    ensures { λ r. ⌜ r ≡ (realDay date && pricesValid (asPrices f)) ⌝ }
-{
-    let day = calendar::is_real_day(date);
-    let prices = prices_valid(f);
-    day & prices
-}
 
 // ---- 5
-
-// Are the zero bytes of the n users from byte 32 on 0?
-fn user_zeros(s: &[u8], n: usize) -> bool
-    requires { ⌜ (n ≤ 64) × (32 + 56 * n ≤ length (now s)) ⌝ }
-    ensures { λ r. ⌜ r ≡ zerosIn userZeros 56 n (drop 32 (now (s .entry))) ⌝ }
-{
-    let mut i = 0;
-    let mut a = 32;
-    while i < n {
-        if !validity::user_zeros_valid(&s[a..a + 56]) {
-            return false;
-        }
-        a += 56;
-        i += 1;
-    }
-    true
-}
 
 // Do the ids of the first n users rise from above 0, and is every field valid, positions apart?
 fn users_valid(users: [User; 64], n: usize) -> bool
@@ -128,108 +40,17 @@ fn users_valid(users: [User; 64], n: usize) -> bool
 
 // ---- 6
 
-// Are the zero bytes of the m trades from byte `at` on 0?
-fn trade_zeros(s: &[u8], at: usize, m: usize) -> bool
-    requires { ⌜ (m ≤ 256) × (at + 20 * m ≤ length (now s)) ⌝ }
-    ensures { λ r. ⌜ r ≡ zerosIn tradeZeros 20 m (drop at (now (s .entry))) ⌝ }
-{
-    let mut i = 0;
-    let mut a = at;
-    while i < m {
-        if !validity::trade_zeros_valid(&s[a..a + 20]) {
-            return false;
-        }
-        a += 20;
-        i += 1;
-    }
-    true
-}
-
-// The ids of the first n users, and 0 past them.
-pub fn ids_of(users: [User; 64], n: usize) -> [u32; 64]
-    requires { ⌜ n ≤ 64 ⌝ }
-    ensures { λ r. ⌜ (take n r ≡ idsOf (map asUser (take n users))) × (length r ≡ 64) ⌝ }
-{
-    let mut ids = [0u32; 64];
-    let mut i = 0;
-    while i < n {
-        let u = users[i];
-        ids[i] = u.id;
-        i += 1;
-    }
-    ids
-}
-
-// The first place of an id among the first n; n where there is none.
-pub fn place(ids: &[u32], n: usize, id: u32) -> usize
-    requires { ⌜ n ≤ length (now ids) ⌝ }
-    ensures { λ r. ⌜ (r ≡ placeIn (take n (now (ids .entry))) id) × (r ≤ n) ⌝ }
-{
-    let mut i = 0;
-    while i < n {
-        if ids[i] == id {
-            return i;
-        }
-        i += 1;
-    }
-    n
-}
-
-// Are the first m trades valid, between users of the n ids?
+// Are the first m trades valid, between users of the n ids, which rise?
 fn trades_valid(ids: &[u32], n: usize, trades: [Trade; 256], m: usize) -> bool
-    requires { ⌜ (n ≤ length (now ids)) × (m ≤ 256) ⌝ }
+    requires { ⌜ (n ≤ length (now ids)) × Rising (take n (now ids)) × (m ≤ 256) ⌝ }
     ensures { λ r. ⌜ r ≡ all (tradeAmong (take n (now (ids .entry)))) (map asTrade (take m trades)) ⌝ }
 {
     let mut i = 0;
     while i < m {
         let t = trades[i];
-        let seller = place(ids, n, t.seller) < n;
-        let buyer = place(ids, n, t.buyer) < n;
+        let seller = places::place(ids, n, t.seller) < n;
+        let buyer = places::place(ids, n, t.buyer) < n;
         if !validity::trade_valid(seller, buyer, t) {
-            return false;
-        }
-        i += 1;
-    }
-    true
-}
-
-// ---- 7
-
-// Is a position its physical entry + bought − sold?
-fn is_position(position: Net, physical: Net, bought: Mwh, sold: Mwh) -> bool
-    requires { ⌜ (bought .0 ≤ 256 * 4294967295) × (sold .0 ≤ 256 * 4294967295) ⌝ }
-    ensures { λ r. ⌜ r ≡ positionAs (net position) (net physical) (bought .0) (sold .0) ⌝ }
-{
-    let x = position.0;
-    let h = physical.0;
-    x as u64 + sold.0 == h as u64 + bought.0
-}
-
-// Are the three positions of a user as defined, over the first m trades?
-fn user_positions_valid(u: User, trades: [Trade; 256], m: usize) -> bool
-    requires { ⌜ m ≤ 256 ⌝ }
-    ensures { λ r. ⌜ r ≡ positionsValid (map asTrade (take m trades)) (asUser u) ⌝ }
-{
-    let d = dealings::dealings_of(trades, m, u.id);
-    let position = u.position;
-    let physical = u.physical;
-    let bought = d.bought;
-    let sold = d.sold;
-    let pvb = is_position(position[0], physical[0], bought.pvb, sold.pvb);
-    let tvb = is_position(position[1], physical[1], bought.tvb, sold.tvb);
-    let avb = is_position(position[2], physical[2], bought.avb, sold.avb);
-    pvb & (tvb & avb)
-}
-
-// Are all positions of the first n users as defined?
-fn positions_valid(users: [User; 64], n: usize, trades: [Trade; 256], m: usize) -> bool
-    requires { ⌜ (n ≤ 64) × (m ≤ 256) ⌝ }
-    ensures { λ r. ⌜ r ≡ all (positionsValid (map asTrade (take m trades))) (map asUser (take n users)) ⌝ }
-{
-    let mut i = 0;
-    while i < n {
-        let u = users[i];
-        if !user_positions_valid(u, trades, m) {
             return false;
         }
         i += 1;
@@ -249,17 +70,17 @@ fn fields_number(s: &[u8], b: Book) -> u32
     let prices = b.prices;
     let users = b.users;
     let trades = b.trades;
-    if !header_valid(b.date, prices) {
+    if !form::header_valid(b.date, prices) {
         return 4;
     }
-    if !(user_zeros(s, n) & users_valid(users, n)) {
+    if !(form::user_zeros_valid(s, n) & users_valid(users, n)) {
         return 5;
     }
-    let ids = ids_of(users, n);
-    if !(trade_zeros(s, 32 + 56 * n, m) & trades_valid(&ids, n, trades, m)) {
+    let ids = places::ids_of(users, n);
+    if !(form::trade_zeros_valid(s, 32 + 56 * n, m) & trades_valid(&ids, n, trades, m)) {
         return 6;
     }
-    if !positions_valid(users, n, trades, m) {
+    if !positions::positions_valid(&ids, users, n, trades, m) {
         return 7;
     }
     0
@@ -292,7 +113,7 @@ pub fn ask_fields(s: &[u8]) -> Opening
 pub fn open(s: &[u8]) -> Opening
     ensures { λ r. ⌜ Opened (now (s .entry)) (r .number) (r .book) ⌝ }
 {
-    let k = form(s);
+    let k = form::form_number(s);
     if k != 0 {
         let blank = book::no_book();
         return Opening {

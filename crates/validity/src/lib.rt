@@ -1,21 +1,11 @@
-// Are a user's and a trade's fields valid? Each field of one record by itself, and the zero bytes; what is asked of the records together is asked elsewhere.
+// Are a user's and a trade's fields valid? Each field of one record by itself; what is asked of the records together is asked elsewhere.
 ghost use mathlib.Core.Path.{_≡_};
-ghost use lib.Dec.{eqb};
-ghost use lib.ListN.{length};
 ghost use Rattle.rules.specs.Questions.{userValid};
-ghost use Rattle.records.specs.User.{userZeros, asUser};
-ghost use Rattle.records.specs.Trade.{tradeZeros, asTrade};
+ghost use Rattle.records.specs.User.{asUser};
+ghost use Rattle.records.specs.Trade.{asTrade};
 ghost use Rattle.validity.specs.Given.{tradeValidGiven};
 use records::Trade;
 use records::User;
-
-// Are the three bytes of a user's 56 that no field has 0?
-pub fn user_zeros_valid(c: &[u8]) -> bool
-    requires { ⌜ length (now c) ≡ 56 ⌝ }
-    ensures { λ r. ⌜ r ≡ eqb (userZeros (now (c .entry))) 0 ⌝ }
-{
-    fields::get(c, 5, 3) == 0
-}
 
 // Is every field of a user valid, its position apart? (That ids rise is asked of the users together.)
 pub fn user_valid(u: User) -> bool
@@ -33,14 +23,6 @@ pub fn user_valid(u: User) -> bool
     (u.role < 2)
         & ((pvb_valid & (tvb_valid & avb_valid))
             & (charges_valid & ((u.blocked.0 <= u.assigned.0) & (u.assigned.0 <= 1000000000000))))
-}
-
-// Is the byte of a trade's 20 that no field has 0?
-pub fn trade_zeros_valid(c: &[u8]) -> bool
-    requires { ⌜ length (now c) ≡ 20 ⌝ }
-    ensures { λ r. ⌜ r ≡ eqb (tradeZeros (now (c .entry))) 0 ⌝ }
-{
-    fields::get_u8(c, 11) == 0
 }
 
 // Is the trade valid, given whether its seller and its buyer are users of the book?

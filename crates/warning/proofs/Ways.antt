@@ -103,7 +103,12 @@ module _ (limits : Limits) (b : Book) where
 
 module _ {s : List ℕ} {id place : ℕ} {b : struct.Book} (f : Found s id place b) where
   pub found-all : ReadyAll b
-  found-all = record { few = omega (arith, f .read .users, passed s (f .passes) .form .users); each = found-each f }
+  found-all =
+      record {
+        few = omega (arith, f .read .users, passed s (f .passes) .form .users);
+        rising = rw (f .read .book) (passed s (f .passes) .sound .ids);
+        each = found-each f;
+      }
 
   -- its warning is the same in the bytes
   pub warned-same : {l m : Limits} → l ≡ m → warned l (asBook b) (asUser (userIn b place)) ≡ warned m (bookOf s) (find (bookOf s .users) id)

@@ -17,13 +17,13 @@ ghost use Rattle.warning.specs.Warned.{ReadyAll, flaggedShipper, warnsBu
 
 // The place of the user of an id in a book; the number of users where there is none.
 fn place_of(b: Book, id: u32) -> usize
-    requires { ⌜ b .«user_count» ≤ 64 ⌝ }
+    requires { ⌜ ReadyAll b ⌝ }
     ensures { λ r. ⌜ (r ≡ placeOf (asBook b .users) id) × (r ≤ b .«user_count») ⌝ }
 {
     let n = b.user_count as usize;
     let users = b.users;
-    let ids = questions::ids_of(users, n);
-    questions::place(&ids, n, id)
+    let ids = places::ids_of(users, n);
+    places::place(&ids, n, id)
 }
 
 // Is the seller of an id a flagged shipper?

@@ -6,14 +6,15 @@ use native.Mathlib.Omega.{arith}
 use denote.Ref.{now}
 use lib.ListN.{take}
 use Rattle.records.specs.User.{asUser}
-use Rattle.format.specs.Book.{userCount, usersOf}
+use Rattle.format.specs.Book.{bookOf, userCount, usersOf}
 use Rattle.format.specs.Questions.{bookNumber}
 use Rattle.format.specs.Steps.{placeOf}
 use Rattle.format.proofs.Passed.{passed}
 use Rattle.book.specs.declared.Book.{Book}
 use Rattle.book.specs.Book.{BookRead}
-use Rattle.questions.specs.Asked.{placeIn}
-use Rattle.questions.proofs.Known.{placeIn-placeOf}
+use Rattle.places.specs.Ids.{placeIn, Rising}
+use Rattle.places.proofs.Rising.{rising-ids}
+use Rattle.places.proofs.Known.{placeIn-placeOf}
 use Rattle.questions.proofs.Asked.{users-are}
 use Rattle.entry.proofs.Asked.{entry-unread, entry-unknown}
 use borrow.Author.Needs.{needs}
@@ -36,6 +37,14 @@ read c = c .before .before .open .ensures .book (c .if1 .left)
 
 few : (c : tie.Else1) → struct (c .before .before) .«user_count» ≤ 64
 few c = omega (arith, read c .users, passed (bytes (c .before .before)) (passes c) .form .users)
+
+-- the ids of the book's users rise
+rising : (c : tie.After-ids-of) → Rising (take (struct (c .before .before .before .before .before) .«user_count») (c .ids-of .result))
+unfolding bookOf
+rising c =
+    let e = c .before .before .before in
+    let o = e .before .before in
+    rw (c .ids-of .ensures .0, users-are (bytes o) (struct o) (read e)) (rising-ids (usersOf (bytes o)) (passed (bytes o) (passes e) .sound .ids))
 
 -- the place among the ids is that of the user
 place-is : (c : tie.After-place) → c .place .result ≡ placeOf (usersOf (bytes (c .before .before .before .before .before .before .before))) (c .before .before .before .before .before .before .before .before .before .args .id)
@@ -70,7 +79,7 @@ slice-aggregate-place : tie.Need-slice-aggregate-place
 slice-aggregate-place c = search needs
 
 place-requires : tie.Need-place-requires
-place-requires c κs = omega (arith, few (c .before .before .before .before), c .before .ids-of .ensures .1)
+place-requires c κs = (omega (arith, few (c .before .before .before .before), c .before .ids-of .ensures .1), rising (c .before))
 
 returns-2 : tie.Need-returns-2
 returns-2 c =

@@ -8,7 +8,7 @@ use borrow.Author.Needs.{needs}
 use borrow.Author.Tests.{not-true, not-false}
 use Rattle.records.specs.Trade.{asTrade}
 use Rattle.questions.specs.Asked.{tradeAmong}
-use Rattle.questions.proofs.Loops.{AllLeft, all-start, all-no, all-turn, all-end}
+use Rattle.arrays.proofs.Every.{AllLeft, all-start, all-no, all-turn, all-end}
 use Rattle.questions.proofs.Known.{tradeAmong-places}
 use Rattle.questions.proofs.trades_valid.Statement.{statement}
 use Rattle.questions.proofs.trades_valid.Tie as tie

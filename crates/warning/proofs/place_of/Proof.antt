@@ -6,8 +6,9 @@ use native.Mathlib.Omega.{arith}
 use lib.ListN.{take}
 use Rattle.records.specs.User.{asUser}
 use Rattle.book.specs.Book.{asBook}
-use Rattle.questions.specs.Asked.{placeIn}
-use Rattle.questions.proofs.Known.{placeIn-placeOf}
+use Rattle.places.specs.Ids.{placeIn}
+use Rattle.places.proofs.Known.{placeIn-placeOf}
+use Rattle.places.proofs.Rising.{rising-ids}
 use borrow.Author.Needs.{needs}
 use Rattle.warning.proofs.place_of.Statement.{statement}
 use Rattle.warning.proofs.place_of.Tie as tie
@@ -22,7 +23,14 @@ slice-aggregate-place : tie.Need-slice-aggregate-place
 slice-aggregate-place c = search needs
 
 place-requires : tie.Need-place-requires
-place-requires c κs = omega (arith, c .before .before .before .before .pre, c .before .ids-of .ensures .1)
+unfolding asBook
+place-requires c κs =
+    let ids = c .before in
+    let s = ids .before .before .before in
+    let b = s .args .b in (
+      omega (arith, s .pre .few, ids .ids-of .ensures .1),
+      rw (ids .ids-of .ensures .0) (rising-ids (map asUser (take (b .«user_count») (b .users))) (s .pre .rising)),
+    )
 
 returns : tie.Need-returns
 unfolding asBook

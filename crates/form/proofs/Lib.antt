@@ -1,0 +1,2 @@
+-- Laws of the loop that asks for zero bytes.
+pub mod Loops

@@ -1,0 +1,2 @@
+-- Zero bytes of records.
+pub mod Zeros

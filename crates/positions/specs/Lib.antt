@@ -1,0 +1,3 @@
+-- Sums of what users sold and bought, and positions by them.
+pub mod Sums
+pub mod Positions
