@@ -14,7 +14,7 @@ const DAY: usize = 4;
 /// What the calls need of an accepted book beside its records.
 pub struct Gathered {
     pub rates: Rates,
-    /// The ids, rising; those past the count are 0.
+    /// The ids, rising; past the count the highest of all numbers.
     ids: [u32; MOST_USERS],
     users: usize,
     /// For each user, day and area: standing bought − standing sold.
@@ -91,7 +91,7 @@ pub fn gather(
 ) -> Result<Gathered, u32> {
     let mut gathered = Gathered {
         rates: Rates::new(&header.prices),
-        ids: [0; MOST_USERS],
+        ids: [u32::MAX; MOST_USERS],
         users: usize::from(header.users),
         nets: [[0; 2 * DAY]; MOST_USERS],
         below_notified: 0,
@@ -136,11 +136,17 @@ impl Gathered {
         Ok(())
     }
 
-    /// The place of the user with this id.
+    /// The place of the user with this id: the number of ids below it, found in
+    /// six steps without a branch.
     #[inline]
     fn place_of(&self, id: u32) -> Option<u8> {
-        let place = self.ids[..self.users].binary_search(&id).ok()?;
-        u8::try_from(place).ok()
+        let mut below = 0;
+        for half in [32, 16, 8, 4, 2, 1] {
+            let more = (below + half) % MOST_USERS;
+            below = if self.ids[more - 1] < id { more } else { below };
+        }
+        let found = below < self.users && self.ids[below] == id;
+        found.then_some(below.to_le_bytes()[0])
     }
 
     /// Question 8.

@@ -2,7 +2,7 @@
 
 use crate::calls::shipper;
 use crate::gathered::{records_mut, Gathered, Parties, Records};
-use crate::records::{ask, put, Trade, TradeBytes, UserBytes};
+use crate::records::{ask, put, Trade, TradeBytes, UserBytes, MOST_TRADES};
 use crate::sales::{Reducer, Sale};
 use crate::units::{Cents, Mwh};
 
@@ -32,10 +32,10 @@ pub fn reduction(bytes: &mut [u8], id: u32) -> Result<Reduction, u32> {
 
     let (users, trades) = records_mut(bytes, records.users.len());
     let mut position = account.position;
-    let mut remainders = Vec::with_capacity(sales.len());
+    let mut keys = [0; MOST_TRADES];
     let mut reducer = Reducer {
         rates,
-        remainders: &mut remainders,
+        keys: &mut keys,
     };
     let settle = |sale: &Sale, cut: Mwh| {
         let area = usize::from(sale.area);

@@ -1,5 +1,6 @@
 //! "Reduction": the shares of a seller's sales.
 
+use crate::records::MOST_TRADES;
 use crate::units::{Cents, Mwh, Price, Rates};
 
 /// A sale of kind 0 and day 0 that stands above 0.
@@ -24,12 +25,15 @@ pub struct Tally {
 /// A place's number of bits in the key of a remainder.
 const PLACE_BITS: u32 = 8;
 
-/// The standing sales of one seller, in the order of the book.
+/// Room for a key of each remainder, one for each sale: the remainder, then a
+/// place that is higher for an earlier sale, so that the highest key is the next
+/// to lose one MWh more. A remainder of 0 has the key 0.
+pub type Keys = [u64; MOST_TRADES];
+
+/// Reduces the standing sales of one seller, in the order of the book.
 pub struct Reducer<'a> {
     pub rates: &'a Rates,
-    /// Room for the remainders of the shares, kept from one reduction to the
-    /// next.
-    pub remainders: &'a mut Vec<u64>,
+    pub keys: &'a mut Keys,
 }
 
 impl Reducer<'_> {
@@ -88,8 +92,8 @@ impl Reducer<'_> {
         cut: &mut impl FnMut(&mut Sale, Mwh, Price),
     ) {
         if asked < worth {
-            let loss = self.whole_parts(sales, tier, asked, worth, cut);
-            self.one_more(sales, asked, loss, cut);
+            let (loss, highest) = self.whole_parts(sales, tier, asked, worth, cut);
+            self.one_more(sales, asked, loss, highest, cut);
             return;
         }
         for sale in sales.iter_mut() {
@@ -100,9 +104,8 @@ impl Reducer<'_> {
         }
     }
 
-    /// Cuts the whole parts of standing × A / V and keeps the remainders above
-    /// 0, each with its place such that the largest is the next to lose one MWh
-    /// more. Returns the loss.
+    /// Cuts the whole parts of standing × A / V and keeps the keys of the
+    /// remainders. Returns the loss and the highest key.
     #[inline]
     fn whole_parts(
         &mut self,
@@ -111,17 +114,19 @@ impl Reducer<'_> {
         asked: Cents,
         worth: Cents,
         cut: &mut impl FnMut(&mut Sale, Mwh, Price),
-    ) -> Cents {
+    ) -> (Cents, u64) {
         let mut loss = Cents::ZERO;
-        self.remainders.clear();
-        for (sale, place) in sales.iter_mut().zip((0..1 << PLACE_BITS).rev()) {
+        let mut highest = 0;
+        let worth = worth.0.unsigned_abs();
+        let places = (0..1 << PLACE_BITS).rev();
+        for ((sale, key), place) in sales.iter_mut().zip(self.keys.iter_mut()).zip(places) {
+            *key = 0;
             let area = usize::from(sale.area);
             if !tier[area] {
                 continue;
             }
             // At most 100,000 × 256 × 100,000 × 100,000, which is below 2^58.
             let mut remainder = sale.standing.0.unsigned_abs() * asked.0.unsigned_abs();
-            let worth = worth.0.unsigned_abs();
             if remainder >= worth {
                 let whole = Mwh((remainder / worth).cast_signed());
                 remainder %= worth;
@@ -129,10 +134,11 @@ impl Reducer<'_> {
                 cut(sale, whole, self.rates.tariff[area]);
             }
             if remainder > 0 {
-                self.remainders.push(remainder << PLACE_BITS | place);
+                *key = remainder << PLACE_BITS | place;
+                highest = highest.max(*key);
             }
         }
-        loss
+        (loss, highest)
     }
 
     /// "While the loss at t is below A, trades with a remainder above 0 lose one
@@ -142,28 +148,30 @@ impl Reducer<'_> {
         &mut self,
         sales: &mut [Sale],
         asked: Cents,
-        mut loss: Cents,
+        loss: Cents,
+        highest: u64,
         cut: &mut impl FnMut(&mut Sale, Mwh, Price),
     ) {
+        if loss >= asked || highest == 0 {
+            return;
+        }
+        let keys = &mut self.keys[..sales.len()];
+        let mut loss = loss;
         let mut lose_one = |key: u64| {
             let sale = &mut sales[place(key)];
             let tariff = self.rates.tariff[usize::from(sale.area)];
             cut(sale, Mwh(1), tariff);
-            Mwh(1) * tariff
+            loss += Mwh(1) * tariff;
+            loss < asked
         };
-        if loss < asked {
-            // One more is often enough.
-            if let Some(largest) = self.remainders.iter().copied().max() {
-                loss += lose_one(largest);
-            }
+        // One more is often enough.
+        if !lose_one(highest) {
+            return;
         }
-        if loss < asked {
-            self.remainders
-                .sort_unstable_by(|one, other| other.cmp(one));
-            let mut rest = self.remainders.iter().skip(1);
-            while loss < asked {
-                let Some(key) = rest.next() else { break };
-                loss += lose_one(*key);
+        keys.sort_unstable_by(|one, other| other.cmp(one));
+        for key in keys.iter().skip(1) {
+            if *key == 0 || !lose_one(*key) {
+                return;
             }
         }
     }
@@ -173,5 +181,5 @@ impl Reducer<'_> {
 #[inline]
 fn place(key: u64) -> usize {
     let most = (1 << PLACE_BITS) - 1;
-    usize::try_from(most - (key & most)).unwrap_or(0)
+    usize::from((most - (key & most)).to_le_bytes()[0])
 }
