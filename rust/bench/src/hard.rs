@@ -46,7 +46,8 @@ pub fn print_table(options: &Options) {
 
 /// Runs the book by both sides in turns and prints their medians.
 fn print_row(name: &str, mwh: i128, book: &[u8], options: &Options) {
-    let expected = tuned::run(&mut book.to_vec()).expect("an accepted book");
+    let mut after = book.to_vec();
+    let expected = tuned::run(&mut after).expect("an accepted book");
     let reductions = expected.reductions;
     let has_engine = reductions <= options.engine_most;
     let mut copies = [book.to_vec()];
@@ -57,6 +58,7 @@ fn print_row(name: &str, mwh: i128, book: &[u8], options: &Options) {
             let mut call = |book: &mut [u8]| expect(archive::run(book, &mut answer));
             engine_times.push(sample_time(book, &mut copies, &mut call));
             assert_eq!(answer[0], reductions, "{name}: reductions");
+            assert_eq!(copies[0], after, "{name}: the book afterwards");
         }
         let mut call = |book: &mut [u8]| assert_eq!(tuned::run(book), Ok(expected));
         tuned_times.push(sample_time(book, &mut copies, &mut call));
