@@ -28,11 +28,8 @@ pub fn print_table(subject: &Subject, options: &Options) {
     print_row("afternoon level", level(subject, options));
     print_row("afternoon call", call(subject, options));
     print_row("reduction", reduction(subject, options));
-    let reductions = subject.reductions;
-    print_row(
-        &format!("run of {reductions} reductions"),
-        run(subject, options),
-    );
+    let name = format!("run, reductions: {}", subject.reductions);
+    print_row(&name, run(subject, options));
 }
 
 /// Prints what a reduction takes beyond reading and writing its book.

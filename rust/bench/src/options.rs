@@ -1,5 +1,8 @@
 //! The command line.
 
+use std::ops::RangeInclusive;
+use std::str::FromStr;
+
 /// What is said by `--help` and after a wrong word.
 const USAGE: &str = "usage: daybook-bench [--quick] [OPTION VALUE]...
 
@@ -9,14 +12,28 @@ const USAGE: &str = "usage: daybook-bench [--quick] [OPTION VALUE]...
   --samples N            samples of each call and side; the median is printed
   --batch N              calls in a sample
   --hard-samples N       runs of each hard book and side
-  --hard-mwh NUMBERS     MWh of each sale of the hard books, 100000 at most; commas
+  --hard-mwh NUMBERS     MWh of each sale of the hard books, 2 to 100000; commas
                          between them
   --engine-most N        a hard book of more reductions is not run by the engine
   --seed N               where the search for usual books starts";
 
+/// The names of the books.
+const NAMES: [&str; 8] = [
+    "small",
+    "usual",
+    "largest",
+    "wide",
+    "one-seller",
+    "many-sellers",
+    "chain",
+    "widest",
+];
+
+/// How often something is measured.
+const OFTEN: RangeInclusive<usize> = 1..=1_000_000;
+
 /// What is measured, and how often.
 pub struct Options {
-    /// Empty for all.
     books: Vec<String>,
     pub samples: usize,
     pub batch: usize,
@@ -29,7 +46,7 @@ pub struct Options {
 impl Options {
     pub fn parse(mut words: impl Iterator<Item = String>) -> Result<Options, String> {
         let mut options = Options {
-            books: Vec::new(),
+            books: NAMES.map(String::from).to_vec(),
             samples: 2_001,
             batch: 16,
             hard_samples: 3,
@@ -43,39 +60,48 @@ impl Options {
                 options.hard_samples = 1;
                 options.hard_mwh = vec![10, 1_000];
                 options.engine_most = 10_000;
-                continue;
-            }
-            let value = words.next().ok_or(USAGE)?;
-            match &word[..] {
-                "--books" => options.books = value.split(',').map(String::from).collect(),
-                "--samples" => options.samples = number(&value)?,
-                "--batch" => options.batch = number(&value)?,
-                "--hard-samples" => options.hard_samples = number(&value)?,
-                "--hard-mwh" => {
-                    options.hard_mwh = value.split(',').map(number).collect::<Result<_, _>>()?;
-                }
-                "--engine-most" => options.engine_most = number(&value)?,
-                "--seed" => options.seed = number(&value)?,
-                _ => return Err(USAGE.to_string()),
+            } else {
+                let value = words.next().ok_or(USAGE)?;
+                options.set(&word, &value)?;
             }
         }
-        options.samples = options.samples.max(1);
-        options.batch = options.batch.max(1);
-        options.hard_samples = options.hard_samples.max(1);
-        options
-            .hard_mwh
-            .iter_mut()
-            .for_each(|mwh| *mwh = (*mwh).clamp(2, 100_000));
         Ok(options)
+    }
+
+    /// Sets one option.
+    fn set(&mut self, option: &str, value: &str) -> Result<(), String> {
+        match option {
+            "--books" => self.books = list(value, name)?,
+            "--samples" => self.samples = number(value, OFTEN)?,
+            "--batch" => self.batch = number(value, OFTEN)?,
+            "--hard-samples" => self.hard_samples = number(value, OFTEN)?,
+            "--hard-mwh" => self.hard_mwh = list(value, |word| number(word, 2..=100_000))?,
+            "--engine-most" => self.engine_most = number(value, 0..=u64::MAX)?,
+            "--seed" => self.seed = number(value, 0..=u64::MAX)?,
+            _ => return Err(USAGE.to_string()),
+        }
+        Ok(())
     }
 
     /// Whether the book of this name is measured.
     pub fn has_book(&self, name: &str) -> bool {
-        self.books.is_empty() || self.books.iter().any(|book| book == name)
+        self.books.iter().any(|book| book == name)
     }
 }
 
-fn number<T: std::str::FromStr>(word: &str) -> Result<T, String> {
-    word.parse()
-        .map_err(|_| format!("{word} is no number\n\n{USAGE}"))
+/// The values of words with commas between them.
+fn list<T>(words: &str, value: impl Fn(&str) -> Result<T, String>) -> Result<Vec<T>, String> {
+    words.split(',').map(value).collect()
+}
+
+/// The name of a book.
+fn name(word: &str) -> Result<String, String> {
+    let known = NAMES.contains(&word).then(|| word.to_string());
+    known.ok_or_else(|| format!("{word} is no book\n\n{USAGE}"))
+}
+
+/// A number of a range.
+fn number<T: FromStr + PartialOrd>(word: &str, range: RangeInclusive<T>) -> Result<T, String> {
+    let number = word.parse().ok().filter(|number| range.contains(number));
+    number.ok_or_else(|| format!("{word} is out of range\n\n{USAGE}"))
 }

@@ -13,7 +13,7 @@ pub type Image = [u8; IMAGE_LENGTH];
 /// Where the trades of an image start, its header apart.
 const IMAGE_TRADES: usize = USER_LENGTH * MOST_USERS;
 
-/// The fields of a book.
+/// The fields of a book, copied once the questions are answered.
 pub fn read(bytes: &[u8]) -> Result<Book, u32> {
     let records = Records::of(bytes)?;
     records.gather()?;
