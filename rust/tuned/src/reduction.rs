@@ -59,7 +59,8 @@ pub fn reduction(bytes: &mut [u8], id: u32) -> Result<Reduction, u32> {
 fn own_sales(records: &Records<'_>, gathered: &Gathered, place: usize) -> (Vec<Sale>, [Mwh; 3]) {
     let mut sales = Vec::with_capacity(records.trades.len());
     let mut standing = [Mwh::ZERO; 3];
-    for (trade, (bytes, parties)) in (0..).zip(records.trades.iter().zip(&gathered.parties)) {
+    for (trade, (bytes, parties)) in (0..=u8::MAX).zip(records.trades.iter().zip(&gathered.parties))
+    {
         if usize::from(parties.seller) == place {
             if let Some(sale) = eligible(trade, bytes, *parties) {
                 standing[usize::from(sale.area)] += sale.standing;
