@@ -4,15 +4,16 @@ use std::hint::black_box;
 
 use daybook::{archive, IMAGE_LENGTH};
 
-use crate::measure::{medians, Medians};
+use crate::measure::{times, Times};
 use crate::options::Options;
 use crate::subjects::Subject;
+use crate::table::{print_head, print_times};
 
 /// Prints the times of every call on a book.
 pub fn print_table(subject: &Subject, options: &Options) {
     let book = tuned::read(&subject.book).expect("an accepted book");
     println!(
-        "\n{} book: {} users, {} trades, {} bytes; microseconds, medians of {} samples of {} calls",
+        "\n{} book: {} users, {} trades, {} bytes; microseconds, {} samples of {} calls",
         subject.name,
         book.users.len(),
         book.trades.len(),
@@ -20,7 +21,7 @@ pub fn print_table(subject: &Subject, options: &Options) {
         options.samples,
         options.batch
     );
-    print_head();
+    print_head("call");
     print_row("read to an image", read_image(subject, options));
     print_row("read to fields", read(subject, options));
     print_row("write from an image", write_image(subject, options));
@@ -35,10 +36,10 @@ pub fn print_table(subject: &Subject, options: &Options) {
 /// Prints what a reduction takes beyond reading and writing its book.
 pub fn print_beyond(subject: &Subject, options: &Options) {
     println!(
-        "\n{} book: 256 sales of one seller; microseconds, medians of {} samples of {} calls",
+        "\n{} book: 256 sales of one seller; microseconds, {} samples of {} calls",
         subject.name, options.samples, options.batch
     );
-    print_head();
+    print_head("call");
     let reduction = reduction(subject, options);
     let refused = refused_reduction(subject, options);
     let level = level(subject, options);
@@ -47,40 +48,21 @@ pub fn print_beyond(subject: &Subject, options: &Options) {
     print_row("reduction refused by 13", refused);
     print_row("afternoon level", level);
     print_row("write from an image", write);
-    let less = |one: Medians, other: Medians| Medians {
-        engine: one.engine - other.engine,
-        tuned: one.tuned - other.tuned,
-    };
-    print_row("reduction - refused", less(reduction, refused));
-    print_row(
-        "reduction - level - write",
-        less(less(reduction, level), write),
-    );
+    print_row("reduction - refused", reduction - refused);
+    print_row("reduction - level - write", reduction - level - write);
 }
 
-fn print_head() {
-    println!(
-        "{:<28}{:>12}{:>12}{:>10}",
-        "call", "engine", "tuned", "ratio"
-    );
+fn print_row(name: &str, times: Times) {
+    print_times(name, Some(times.engine), times.tuned);
 }
 
-fn print_row(name: &str, medians: Medians) {
-    println!(
-        "{name:<28}{:>12.3}{:>12.3}{:>10.2}",
-        medians.engine,
-        medians.tuned,
-        medians.ratio()
-    );
-}
-
-/// Medians of a call by both sides, which have to leave the same book.
+/// The times of a call by both sides, which have to leave the same book.
 fn both(
     subject: &Subject,
     options: &Options,
     mut engine: impl FnMut(&mut [u8]),
     mut tuned: impl FnMut(&mut [u8]),
-) -> Medians {
+) -> Times {
     let mut copies = [subject.book.clone(), subject.book.clone()];
     engine(&mut copies[0]);
     tuned(&mut copies[1]);
@@ -90,22 +72,22 @@ fn both(
         subject.name
     );
     let counts = (options.samples, options.batch);
-    medians(&subject.book, counts, engine, tuned)
+    times(&subject.book, counts, engine, tuned)
 }
 
-fn read_image(subject: &Subject, options: &Options) -> Medians {
+fn read_image(subject: &Subject, options: &Options) -> Times {
     let (mut one, mut other) = ([0; IMAGE_LENGTH], [0; IMAGE_LENGTH]);
-    let medians = both(
+    let times = both(
         subject,
         options,
         |book| expect(archive::read(black_box(book), &mut one)),
         |book| accept(tuned::read_image(black_box(book), &mut other)),
     );
     assert_eq!(one, other, "{}: the image", subject.name);
-    medians
+    times
 }
 
-fn read(subject: &Subject, options: &Options) -> Medians {
+fn read(subject: &Subject, options: &Options) -> Times {
     both(
         subject,
         options,
@@ -114,7 +96,7 @@ fn read(subject: &Subject, options: &Options) -> Medians {
     )
 }
 
-fn write_image(subject: &Subject, options: &Options) -> Medians {
+fn write_image(subject: &Subject, options: &Options) -> Times {
     let mut image = [0; IMAGE_LENGTH];
     accept(tuned::read_image(&subject.book, &mut image));
     both(
@@ -125,7 +107,7 @@ fn write_image(subject: &Subject, options: &Options) -> Medians {
     )
 }
 
-fn write(subject: &Subject, options: &Options) -> Medians {
+fn write(subject: &Subject, options: &Options) -> Times {
     let engine_fields = daybook::read(&subject.book).expect("an accepted book");
     let tuned_fields = tuned::read(&subject.book).expect("an accepted book");
     both(
@@ -136,7 +118,7 @@ fn write(subject: &Subject, options: &Options) -> Medians {
     )
 }
 
-fn level(subject: &Subject, options: &Options) -> Medians {
+fn level(subject: &Subject, options: &Options) -> Times {
     let id = subject.called;
     let mut answer = [0; 1];
     both(
@@ -147,7 +129,7 @@ fn level(subject: &Subject, options: &Options) -> Medians {
     )
 }
 
-fn call(subject: &Subject, options: &Options) -> Medians {
+fn call(subject: &Subject, options: &Options) -> Times {
     let id = subject.called;
     let mut answer = [0; 2];
     both(
@@ -158,7 +140,7 @@ fn call(subject: &Subject, options: &Options) -> Medians {
     )
 }
 
-fn reduction(subject: &Subject, options: &Options) -> Medians {
+fn reduction(subject: &Subject, options: &Options) -> Times {
     let id = subject.reduced;
     let mut answer = [0; 5];
     both(
@@ -171,7 +153,7 @@ fn reduction(subject: &Subject, options: &Options) -> Medians {
 
 /// A reduction that the last question but one refuses: the same book, but for
 /// an assigned guarantee that equals the level.
-fn refused_reduction(subject: &Subject, options: &Options) -> Medians {
+fn refused_reduction(subject: &Subject, options: &Options) -> Times {
     let id = subject.reduced;
     let level = tuned::afternoon_level(&subject.book, id).expect("a level");
     let mut fields = tuned::read(&subject.book).expect("an accepted book");
@@ -190,7 +172,7 @@ fn refused_reduction(subject: &Subject, options: &Options) -> Medians {
     )
 }
 
-fn run(subject: &Subject, options: &Options) -> Medians {
+fn run(subject: &Subject, options: &Options) -> Times {
     let mut answer = [0; 3];
     both(
         subject,

@@ -10,6 +10,7 @@ mod hard;
 mod measure;
 mod options;
 mod subjects;
+mod table;
 
 use std::env;
 use std::fs;

@@ -1,30 +1,63 @@
-//! Medians of two sides, measured in turns.
+//! Times of two sides, measured in turns.
 
+use std::ops::Sub;
 use std::time::Instant;
 
-/// The median time of one call by either side, in microseconds.
+/// The time of one call, in microseconds. On a machine that does other things
+/// too, the least time is the steadier one.
 #[derive(Clone, Copy, Debug)]
-pub struct Medians {
-    pub engine: f64,
-    pub tuned: f64,
+pub struct Time {
+    pub median: f64,
+    pub least: f64,
 }
 
-impl Medians {
-    /// Engine / yardstick.
-    pub fn ratio(self) -> f64 {
-        self.engine / self.tuned
+impl Time {
+    /// Of some samples, at least one.
+    pub fn new(mut samples: Vec<f64>) -> Time {
+        samples.sort_unstable_by(f64::total_cmp);
+        Time {
+            median: samples[samples.len() / 2],
+            least: samples[0],
+        }
+    }
+}
+
+/// The time of one call by either side.
+#[derive(Clone, Copy, Debug)]
+pub struct Times {
+    pub engine: Time,
+    pub tuned: Time,
+}
+
+impl Sub for Time {
+    type Output = Time;
+    fn sub(self, other: Time) -> Time {
+        Time {
+            median: self.median - other.median,
+            least: self.least - other.least,
+        }
+    }
+}
+
+impl Sub for Times {
+    type Output = Times;
+    fn sub(self, other: Times) -> Times {
+        Times {
+            engine: self.engine - other.engine,
+            tuned: self.tuned - other.tuned,
+        }
     }
 }
 
 /// Calls both sides on copies of the book. A sample is the mean of a batch of
 /// calls, each on its own copy; samples of the two sides take turns, and so does
 /// the side that goes first.
-pub fn medians(
+pub fn times(
     book: &[u8],
     (samples, batch): (usize, usize),
     mut engine: impl FnMut(&mut [u8]),
     mut tuned: impl FnMut(&mut [u8]),
-) -> Medians {
+) -> Times {
     let mut copies = vec![book.to_vec(); batch];
     let mut engine_times = Vec::with_capacity(samples);
     let mut tuned_times = Vec::with_capacity(samples);
@@ -37,9 +70,9 @@ pub fn medians(
             }
         }
     }
-    Medians {
-        engine: median(engine_times),
-        tuned: median(tuned_times),
+    Times {
+        engine: Time::new(engine_times),
+        tuned: Time::new(tuned_times),
     }
 }
 
@@ -55,10 +88,4 @@ pub fn sample_time(book: &[u8], copies: &mut [Vec<u8>], call: &mut impl FnMut(&m
     }
     let time = start.elapsed();
     1e6 * time.as_secs_f64() / copies.len() as f64
-}
-
-/// The median of some times.
-pub fn median(mut times: Vec<f64>) -> f64 {
-    times.sort_unstable_by(f64::total_cmp);
-    times[times.len() / 2]
 }

@@ -9,7 +9,7 @@ const USAGE: &str = "usage: daybook-bench [--quick] [OPTION VALUE]...
   --quick                some seconds in all: fewer samples, smaller hard books
   --books NAMES          of small, usual, largest, wide, one-seller, many-sellers,
                          chain, widest; commas between them; all if not said
-  --samples N            samples of each call and side; the median is printed
+  --samples N            samples of each call and side
   --batch N              calls in a sample
   --hard-samples N       runs of each hard book and side
   --hard-mwh NUMBERS     MWh of each sale of the hard books, 2 to 100000; commas
