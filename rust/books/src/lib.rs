@@ -8,6 +8,7 @@ pub mod accepted;
 pub mod calls;
 pub mod damage;
 pub mod generator;
+pub mod hard;
 pub mod random;
 pub mod sha256;
 pub mod vectors;

@@ -1,4 +1,4 @@
-//! The comparison: calls made by both sides, answer by answer and byte by
+//! The comparison: calls made by every side, answer by answer and byte by
 //! byte.
 
 use std::fmt::{self, Display, Formatter};
@@ -8,7 +8,7 @@ use std::path::{Path, PathBuf};
 use books::{Answer, Call, Generator, Kind};
 
 use crate::counts::Counts;
-use crate::{engine, typed};
+use crate::{engine, tuned, typed};
 
 /// The most differences that are kept and written to files.
 const MOST_KEPT: usize = 10;
@@ -16,7 +16,7 @@ const MOST_KEPT: usize = 10;
 /// The most calls made one after the other on one book.
 const LONGEST_SEQUENCE: usize = 24;
 
-/// A call that the two sides answered differently.
+/// A call that a side answered otherwise than the reference.
 #[derive(Clone, Debug)]
 pub struct Difference {
     seed: u64,
@@ -98,7 +98,7 @@ impl Comparison {
         }
     }
 
-    /// Makes the call on copies of the book by both sides and compares them.
+    /// Makes the call on copies of the book by every side and compares them.
     /// The book becomes the reference's.
     pub fn call(&mut self, book: &mut [u8], call: &Call) {
         let before = book.to_vec();
@@ -107,11 +107,12 @@ impl Comparison {
         if typed::has(call) {
             self.hold(&before, call, (&expected, book), "daybook", typed::answer);
         }
+        self.hold(&before, call, (&expected, book), "tuned", tuned::answer);
         self.counts.add(call, expected.number);
     }
 
-    /// Holds one way of calling the engine against the expected answer and the
-    /// expected book afterwards.
+    /// Holds the engine, called in one way, or the tuned implementation against
+    /// the expected answer and the expected book afterwards.
     fn hold(
         &mut self,
         before: &[u8],

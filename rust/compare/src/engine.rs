@@ -39,7 +39,7 @@ pub fn answer(book: &mut [u8], call: &Call) -> Answer {
         }
         Call::Reduction { id } => fields::<5>(|part| archive::reduction(book, *id, part)),
         Call::Run => fields::<3>(|part| archive::run(book, part)),
-        Call::Day => day(book),
+        Call::Day => crate::day::printed(book, answer),
     }
 }
 
@@ -60,43 +60,4 @@ fn record(call: impl FnOnce(&mut [u8]) -> u32) -> Answer {
     } else {
         Answer::of_part(number, &part)
     }
-}
-
-/// The printed day, put together of the engine's calls on a copy of the book. A
-/// run that left a book which is refused has its number.
-fn day(book: &[u8]) -> Answer {
-    let mut book = book.to_vec();
-    let run = answer(&mut book, &Call::Run);
-    if run.number != 0 {
-        let text = format!("refused {}\n", run.number);
-        return Answer::of_part(run.number, text.as_bytes());
-    }
-    let after = match daybook::read(&book) {
-        Ok(after) => after,
-        Err(refusal) => return Answer::of_part(refusal.number(), &book),
-    };
-    let mut text = format!(
-        "run {} {} {}\n",
-        run.fields[0], run.fields[1], run.fields[2]
-    );
-    for user in after.users {
-        let (state, level) = state(&book, user.id);
-        let [pvb, tvb, avb] = user.position;
-        text.push_str(&format!("{} {state} {level} {pvb} {tvb} {avb}\n", user.id));
-    }
-    Answer::of_part(0, text.as_bytes())
-}
-
-/// The state and the level of a printed day, from what the afternoon call
-/// would answer.
-fn state(book: &[u8], id: u32) -> (&'static str, i128) {
-    let mut book = book.to_vec();
-    let level = answer(&mut book, &Call::AfternoonLevel { id }).fields[0];
-    let state = match answer(&mut book, &Call::AfternoonCall { id }).number {
-        0 => "call",
-        9 => "clear",
-        12 => "short",
-        _ => "quiet",
-    };
-    (state, level)
 }

@@ -1,15 +1,18 @@
 //! The proved engine compared with the reference: the same call on the same
 //! book, the answers and the books afterwards held against each other.
 //!
-//! Each call is made three times: by the reference, by the archive's C
-//! interface ([`engine`]) and by the Rust types over it ([`typed`]).
+//! Each call is made four times: by the reference, by the archive's C
+//! interface ([`engine`]), by the Rust types over it ([`typed`]), and by the
+//! tuned implementation ([`tuned`]), which the engine's times are held against.
 
 #![forbid(unsafe_code)]
 
 pub mod comparison;
 pub mod counts;
+pub mod day;
 pub mod engine;
 pub mod settings;
+pub mod tuned;
 pub mod typed;
 
 pub use comparison::{Comparison, Difference};

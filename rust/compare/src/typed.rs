@@ -78,7 +78,7 @@ fn record(answer: Result<User, Refusal>) -> Answer {
 }
 
 /// The book of an image with any counts; records past its places are 0.
-fn book_of(image: &Image) -> Book {
+pub fn book_of(image: &Image) -> Book {
     let mut book = Book::from_image(image);
     let trades = u16::from_le_bytes([image[6], image[7]]);
     book.users.resize(usize::from(image[5]), User::default());

@@ -3,7 +3,8 @@
 
 #![forbid(unsafe_code)]
 
-use books::{Arguments, Damage, Kind};
+use books::hard::{chain, many_sellers, one_seller, widest};
+use books::{Arguments, Call, Damage, Kind};
 use compare::settings::comparison;
 use compare::Comparison;
 use reference::book::length;
@@ -63,6 +64,16 @@ fn every_date() {
     let mut comparison = comparison("every_date");
     for book in comparison.generator().dated_books() {
         every_call(&mut comparison, &book);
+    }
+    comparison.expect_none();
+}
+
+/// Runs that take the most reductions for their MWh, with sales of few MWh.
+#[test]
+fn hard_runs() {
+    let mut comparison = comparison("hard_runs");
+    for book in [one_seller(100), many_sellers(4), chain(4), widest(3)] {
+        comparison.call(&mut book.to_bytes(), &Call::Run);
     }
     comparison.expect_none();
 }

@@ -1,11 +1,11 @@
-//! The outside vectors replayed against the engine. The reference replays them
-//! in its own tests.
+//! The outside vectors replayed against the engine and against the tuned
+//! implementation. The reference replays them in its own tests.
 
 #![forbid(unsafe_code)]
 
 use books::vectors::{days, replay, CALLS, DAYS};
-use books::Call;
-use compare::{engine, typed};
+use books::{Answer, Call};
+use compare::{engine, tuned, typed};
 
 #[test]
 fn every_call_of_the_archive() {
@@ -17,14 +17,29 @@ fn every_call_of_daybook() {
     assert_eq!(replay(typed::answer), CALLS);
 }
 
+#[test]
+fn every_call_of_tuned() {
+    assert_eq!(replay(tuned::answer), CALLS);
+}
+
 /// The printed days, put together of the engine's calls.
 #[test]
 fn every_day() {
+    every_day_of(engine::answer);
+}
+
+/// The printed days, put together of the calls of the tuned implementation.
+#[test]
+fn every_day_of_tuned() {
+    every_day_of(tuned::answer);
+}
+
+fn every_day_of(implementation: fn(&mut [u8], &Call) -> Answer) {
     let days = days();
     assert_eq!(days.len(), DAYS);
     for day in days {
         let mut book = day.book.clone();
-        let printed = engine::answer(&mut book, &Call::Day).part;
+        let printed = implementation(&mut book, &Call::Day).part;
         assert_eq!(printed, day.printed, "{}", day.name);
         assert_eq!(book, day.book, "{}", day.name);
     }

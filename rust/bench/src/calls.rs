@@ -1,0 +1,193 @@
+//! The times of single calls.
+
+use std::hint::black_box;
+
+use daybook::{archive, IMAGE_LENGTH};
+
+use crate::measure::{times, Times};
+use crate::options::Options;
+use crate::subjects::Subject;
+use crate::table::{print_head, print_times};
+
+/// Prints the times of every call on a book.
+pub fn print_table(subject: &Subject, options: &Options) {
+    let book = tuned::read(&subject.book).expect("an accepted book");
+    println!(
+        "\n{} book: {} users, {} trades, {} bytes; microseconds, {} samples of {} calls",
+        subject.name,
+        book.users.len(),
+        book.trades.len(),
+        subject.book.len(),
+        options.samples,
+        options.batch
+    );
+    print_head("call");
+    print_row("read to an image", read_image(subject, options));
+    print_row("read to fields", read(subject, options));
+    print_row("write from an image", write_image(subject, options));
+    print_row("write from fields", write(subject, options));
+    print_row("afternoon level", level(subject, options));
+    print_row("afternoon call", call(subject, options));
+    print_row("reduction", reduction(subject, options));
+    let name = format!("run, reductions: {}", subject.reductions);
+    print_row(&name, run(subject, options));
+}
+
+/// Prints what a reduction takes beyond reading and writing its book.
+pub fn print_beyond(subject: &Subject, options: &Options) {
+    println!(
+        "\n{} book: 256 sales of one seller; microseconds, {} samples of {} calls",
+        subject.name, options.samples, options.batch
+    );
+    print_head("call");
+    let reduction = reduction(subject, options);
+    let refused = refused_reduction(subject, options);
+    let level = level(subject, options);
+    let write = write_image(subject, options);
+    print_row("reduction", reduction);
+    print_row("reduction refused by 13", refused);
+    print_row("afternoon level", level);
+    print_row("write from an image", write);
+    print_row("reduction - refused", reduction - refused);
+    print_row("reduction - level - write", reduction - level - write);
+}
+
+fn print_row(name: &str, times: Times) {
+    print_times(name, Some(times.engine), times.tuned);
+}
+
+/// The times of a call by both sides, which have to leave the same book.
+fn both(
+    subject: &Subject,
+    options: &Options,
+    mut engine: impl FnMut(&mut [u8]),
+    mut tuned: impl FnMut(&mut [u8]),
+) -> Times {
+    let mut copies = [subject.book.clone(), subject.book.clone()];
+    engine(&mut copies[0]);
+    tuned(&mut copies[1]);
+    assert_eq!(
+        copies[0], copies[1],
+        "{}: the book afterwards",
+        subject.name
+    );
+    let counts = (options.samples, options.batch);
+    times(&subject.book, counts, engine, tuned)
+}
+
+fn read_image(subject: &Subject, options: &Options) -> Times {
+    let (mut one, mut other) = ([0; IMAGE_LENGTH], [0; IMAGE_LENGTH]);
+    let times = both(
+        subject,
+        options,
+        |book| expect(archive::read(black_box(book), &mut one)),
+        |book| accept(tuned::read_image(black_box(book), &mut other)),
+    );
+    assert_eq!(one, other, "{}: the image", subject.name);
+    times
+}
+
+fn read(subject: &Subject, options: &Options) -> Times {
+    both(
+        subject,
+        options,
+        |book| accept(daybook::read(black_box(book))),
+        |book| accept(tuned::read(black_box(book))),
+    )
+}
+
+fn write_image(subject: &Subject, options: &Options) -> Times {
+    let mut image = [0; IMAGE_LENGTH];
+    accept(tuned::read_image(&subject.book, &mut image));
+    both(
+        subject,
+        options,
+        |book| expect(archive::write(black_box(&image), book)),
+        |book| accept(tuned::write_image(black_box(&image), book)),
+    )
+}
+
+fn write(subject: &Subject, options: &Options) -> Times {
+    let engine_fields = daybook::read(&subject.book).expect("an accepted book");
+    let tuned_fields = tuned::read(&subject.book).expect("an accepted book");
+    both(
+        subject,
+        options,
+        |book| accept(daybook::write(black_box(&engine_fields), book)),
+        |book| accept(tuned::write(black_box(&tuned_fields), book)),
+    )
+}
+
+fn level(subject: &Subject, options: &Options) -> Times {
+    let id = subject.called;
+    let mut answer = [0; 1];
+    both(
+        subject,
+        options,
+        |book| expect(archive::afternoon_level(black_box(book), id, &mut answer)),
+        |book| accept(tuned::afternoon_level(black_box(book), id)),
+    )
+}
+
+fn call(subject: &Subject, options: &Options) -> Times {
+    let id = subject.called;
+    let mut answer = [0; 2];
+    both(
+        subject,
+        options,
+        |book| expect(archive::afternoon_call(book, id, &mut answer)),
+        |book| accept(tuned::afternoon_call(book, id)),
+    )
+}
+
+fn reduction(subject: &Subject, options: &Options) -> Times {
+    let id = subject.reduced;
+    let mut answer = [0; 5];
+    both(
+        subject,
+        options,
+        |book| expect(archive::reduction(book, id, &mut answer)),
+        |book| accept(tuned::reduction(book, id)),
+    )
+}
+
+/// A reduction that the last question but one refuses: the same book, but for
+/// an assigned guarantee that equals the level.
+fn refused_reduction(subject: &Subject, options: &Options) -> Times {
+    let id = subject.reduced;
+    let level = tuned::afternoon_level(&subject.book, id).expect("a level");
+    let mut fields = tuned::read(&subject.book).expect("an accepted book");
+    for user in fields.users.iter_mut().filter(|user| user.id == id) {
+        user.assigned = level.0.unsigned_abs();
+    }
+    let mut book = subject.book.clone();
+    accept(tuned::write(&fields, &mut book));
+    let refused = Subject { book, ..*subject };
+    let mut answer = [0; 5];
+    both(
+        &refused,
+        options,
+        |book| assert_eq!(archive::reduction(book, id, &mut answer), 13),
+        |book| assert_eq!(tuned::reduction(book, id), Err(13)),
+    )
+}
+
+fn run(subject: &Subject, options: &Options) -> Times {
+    let mut answer = [0; 3];
+    both(
+        subject,
+        options,
+        |book| expect(archive::run(book, &mut answer)),
+        |book| accept(tuned::run(book)),
+    )
+}
+
+/// The number of an accepted call.
+pub fn expect(number: u32) {
+    assert_eq!(number, 0, "a refused call");
+}
+
+/// The answer of an accepted call, which the compiler has to have computed.
+fn accept<T, E>(answer: Result<T, E>) {
+    assert!(black_box(&answer).is_ok(), "a refused call");
+}

@@ -1,0 +1,62 @@
+//! The times of runs that take many reductions.
+
+use books::hard::{chain, many_sellers, one_seller, widest};
+use daybook::archive;
+use reference::book::Book;
+
+use crate::calls::expect;
+use crate::measure::{sample_time, Time};
+use crate::options::Options;
+use crate::table::{print_head, print_times};
+
+/// A hard book by its name, for sales of some MWh.
+type Hard = (&'static str, fn(i128) -> Book);
+
+const BOOKS: [Hard; 4] = [
+    ("one-seller", one_seller),
+    ("many-sellers", many_sellers),
+    ("chain", chain),
+    ("widest", widest),
+];
+
+/// Prints the times of the runs of the hard books.
+pub fn print_table(options: &Options) {
+    let chosen = || BOOKS.iter().filter(|(name, _)| options.has_book(name));
+    if chosen().next().is_none() {
+        return;
+    }
+    println!(
+        "\nruns of hard books; microseconds a reduction, {} runs; the engine's where there are at most {} reductions",
+        options.hard_samples, options.engine_most
+    );
+    print_head(&format!("{:<12}{:>7}{:>12}", "book", "MWh", "reductions"));
+    for (name, book) in chosen() {
+        for mwh in &options.hard_mwh {
+            print_row(name, *mwh, &book(*mwh).to_bytes(), options);
+        }
+    }
+}
+
+/// Runs the book by both sides in turns and prints their times.
+fn print_row(name: &str, mwh: i128, book: &[u8], options: &Options) {
+    let mut after = book.to_vec();
+    let expected = tuned::run(&mut after).expect("an accepted book");
+    let reductions = expected.reductions;
+    let has_engine = reductions <= options.engine_most;
+    let mut copies = [book.to_vec()];
+    let (mut engine_samples, mut tuned_samples) = (Vec::new(), Vec::new());
+    for _ in 0..options.hard_samples {
+        if has_engine {
+            let mut answer = [0; 3];
+            let mut call = |book: &mut [u8]| expect(archive::run(book, &mut answer));
+            engine_samples.push(sample_time(book, &mut copies, &mut call) / reductions as f64);
+            assert_eq!(answer[0], reductions, "{name}: reductions");
+            assert_eq!(copies[0], after, "{name}: the book afterwards");
+        }
+        let mut call = |book: &mut [u8]| assert_eq!(tuned::run(book), Ok(expected));
+        tuned_samples.push(sample_time(book, &mut copies, &mut call) / reductions as f64);
+    }
+    let engine = has_engine.then(|| Time::new(engine_samples));
+    let start = format!("{name:<12}{mwh:>7}{reductions:>12}");
+    print_times(&start, engine, Time::new(tuned_samples));
+}

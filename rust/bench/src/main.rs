@@ -1,0 +1,51 @@
+//! Times of the engine against those of the tuned implementation: the same
+//! calls on the same books, on the same machine, in turns.
+//!
+//! `daybook-bench --help` says what can be chosen.
+
+#![forbid(unsafe_code)]
+
+mod calls;
+mod hard;
+mod measure;
+mod options;
+mod subjects;
+mod table;
+
+use std::env;
+use std::fs;
+use std::process::ExitCode;
+
+use options::Options;
+
+fn main() -> ExitCode {
+    let options = match Options::parse(env::args().skip(1)) {
+        Ok(options) => options,
+        Err(message) => {
+            eprintln!("{message}");
+            return ExitCode::from(2);
+        }
+    };
+    print_machine("before");
+    for subject in subjects::usual_books(&options) {
+        calls::print_table(&subject, &options);
+    }
+    if options.has_book("wide") {
+        calls::print_beyond(&subjects::wide(), &options);
+    }
+    hard::print_table(&options);
+    print_machine("after");
+    ExitCode::SUCCESS
+}
+
+/// The processor and the load of the machine.
+fn print_machine(when: &str) {
+    let processors = fs::read_to_string("/proc/cpuinfo").unwrap_or_default();
+    let model = processors
+        .lines()
+        .find_map(|line| line.strip_prefix("model name"))
+        .map_or("", |rest| rest.trim_start_matches([' ', '\t', ':']));
+    let count = std::thread::available_parallelism().map_or(0, usize::from);
+    let load = fs::read_to_string("/proc/loadavg").unwrap_or_default();
+    println!("{model}, {count} processors, load {when}: {}", load.trim());
+}

@@ -1,0 +1,49 @@
+//! The program measures every book; the two sides have to agree on the book
+//! after each call.
+
+#![forbid(unsafe_code)]
+
+use std::process::{Command, Output};
+
+fn bench(arguments: &[&str]) -> Output {
+    Command::new(env!("CARGO_BIN_EXE_daybook-bench"))
+        .args(arguments)
+        .output()
+        .expect("program")
+}
+
+#[test]
+fn every_book_is_measured() {
+    let arguments = "--samples 1 --batch 1 --hard-samples 1 --hard-mwh 3";
+    let output = bench(&arguments.split(' ').collect::<Vec<&str>>());
+    assert!(output.status.success());
+    let text = String::from_utf8(output.stdout).expect("text");
+    for word in [
+        "small book",
+        "usual book",
+        "largest book",
+        "wide book",
+        "one-seller",
+        "many-sellers",
+        "chain",
+        "widest",
+    ] {
+        assert!(text.contains(word), "{word} in\n{text}");
+    }
+}
+
+#[test]
+fn wrong_words_are_refused() {
+    for arguments in [
+        &["--help"][..],
+        &["--books", "none"],
+        &["--samples", "0"],
+        &["--hard-mwh", "100,100001"],
+        &["--slow", "1"],
+    ] {
+        let output = bench(arguments);
+        assert_eq!(output.status.code(), Some(2), "{arguments:?}");
+        let text = String::from_utf8(output.stderr).expect("text");
+        assert!(text.contains("usage: daybook-bench"), "{text}");
+    }
+}

@@ -1,0 +1,34 @@
+//! Document 01 in quick Rust: the yardstick that the engine's times are held
+//! against.
+//!
+//! The rules and the answers are those of the plain `reference`; what differs
+//! is the way. A book is gone through once: each trade's parties are found by
+//! binary search, and what they bought and sold is added up as the trades go
+//! by. A reduction looks at the seller's own sales only. A run keeps its sums
+//! and changes them by each cut; it looks again only at users that a cut
+//! touched.
+//!
+//! Every call takes the book as bytes. A refused call returns the number of the
+//! first question that failed, and leaves the book.
+
+#![forbid(unsafe_code)]
+
+mod account;
+mod calls;
+mod gathered;
+mod records;
+mod reduction;
+mod run;
+mod sales;
+mod transfer;
+mod units;
+
+pub use calls::{
+    afternoon_call, afternoon_level, morning_call, morning_level, posting, show, show_picked,
+    warning, GuaranteeCall,
+};
+pub use records::{Book, Trade, User, IMAGE_LENGTH};
+pub use reduction::{reduction, Reduction};
+pub use run::{run, Run};
+pub use transfer::{read, read_image, write, write_image, Image};
+pub use units::{Cents, Mwh, Price, Prices};
