@@ -1,4 +1,3 @@
--- Laws of the loops that read and write records, and of a book that is written part by part.
-pub mod Reading
+-- Laws of a book that is written part by part, and of the records of one that was read.
 pub mod Writing
 pub mod Records

@@ -4,7 +4,6 @@ use mathlib.Core.List.{List, map}
 use Prim.Native.Nat.{ℕ, _-_}
 use lib.ListN.{length, take, drop, replicate}
 use Rattle.rules.specs.Book as model
-use Rattle.fields.specs.Layout.{recordsOf}
 use Rattle.units.specs.Prices.{asPrices}
 use Rattle.records.specs.User.{asUser, blankUser}
 use Rattle.records.specs.Trade.{asTrade, blankTrade}
@@ -32,12 +31,6 @@ blankBook =
       users = replicate 64 blankUser;
       trades = replicate 256 blankTrade;
     }
-
--- an array into which n records were read: what they are is what the bytes hold, and the rest is blank
-pub record Filled {R M : Type 0} (face : R → M) (len : ℕ) (one : List ℕ → M) (room : ℕ) (blank : R) (n : ℕ) (s : List ℕ) (rs : List R) : Type 0 where
-  pub records : map face (take n rs) ≡ recordsOf len one n s
-  pub rest : drop n rs ≡ replicate (room - n) blank
-  pub full : length rs ≡ room
 
 -- a struct into which a book was read: the book that the bytes hold, their counts, and blank records past these
 pub record BookRead (s : List ℕ) (b : Book) : Type 0 where

@@ -1,16 +1,9 @@
 // The whole book as a struct by value: read from bytes that passed the questions 1 to 3, and written to bytes of the right length.
 ghost use mathlib.Core.Path.{_≡_};
-ghost use mathlib.Core.List.{_∷_, []};
 ghost use Prim.Native.Nat.{_+_, _*_, _≤_};
-ghost use lib.ListN.{length, take, drop};
-ghost use lib.Seq.{sets};
-ghost use Rattle.fields.specs.Layout.{setFields, bytesOfRecords};
-ghost use Rattle.records.specs.User.{userOf, userBytes, asUser, blankUser};
-ghost use Rattle.records.specs.Trade.{tradeOf, tradeBytes, asTrade, blankTrade};
-ghost use Rattle.units.specs.Prices.{asPrices};
-ghost use Rattle.format.specs.Book.{mark, pricesAt};
+ghost use lib.ListN.{length};
 ghost use Rattle.format.specs.Questions.{Formed};
-ghost use Rattle.book.specs.Book.{asBook, Filled, BookRead, BookWritten, blankBook};
+ghost use Rattle.book.specs.Book.{BookRead, BookWritten, blankBook};
 use records::Trade;
 use records::User;
 use units::Prices;
@@ -26,54 +19,6 @@ pub struct Book {
     pub trades: [Trade; 256],
 }
 
-// The n users that stand from `at`, and blank ones past them.
-pub fn read_users(s: &[u8], at: usize, n: usize) -> [User; 64]
-    requires { ⌜ (n ≤ 64) × (at + 56 * n ≤ length (now s)) ⌝ }
-    ensures { λ r. ⌜ Filled asUser 56 userOf 64 blankUser n (drop at (now (s .entry))) r ⌝ }
-{
-    let blank = records::no_user();
-    let mut users = [blank; 64];
-    let mut i = 0;
-    let mut a = at;
-    while i < n {
-        users[i] = records::read_user(&s[a..a + 56]);
-        a += 56;
-        i += 1;
-    }
-    users
-}
-
-// The n trades that stand from `at`, and blank ones past them.
-pub fn read_trades(s: &[u8], at: usize, n: usize) -> [Trade; 256]
-    requires { ⌜ (n ≤ 256) × (at + 20 * n ≤ length (now s)) ⌝ }
-    ensures { λ r. ⌜ Filled asTrade 20 tradeOf 256 blankTrade n (drop at (now (s .entry))) r ⌝ }
-{
-    let blank = records::no_trade();
-    let mut trades = [blank; 256];
-    let mut i = 0;
-    let mut a = at;
-    while i < n {
-        trades[i] = records::read_trade(&s[a..a + 20]);
-        a += 20;
-        i += 1;
-    }
-    trades
-}
-
-// The prices and tolls of the header.
-pub fn read_prices(s: &[u8]) -> Prices
-    requires { ⌜ 32 ≤ length (now s) ⌝ }
-    ensures { λ r. ⌜ asPrices r ≡ pricesAt 12 (now (s .entry)) ⌝ }
-{
-    Prices {
-        p: fields::get_u32(s, 12),
-        q: fields::get_u32(s, 16),
-        l: fields::get_u32(s, 20),
-        x: fields::get_u32(s, 24),
-        i: fields::get_u32(s, 28),
-    }
-}
-
 // The book that bytes of the right form hold.
 pub fn read_book(s: &[u8]) -> Book
     requires { ⌜ Formed (now s) ⌝ }
@@ -81,9 +26,9 @@ pub fn read_book(s: &[u8]) -> Book
 {
     let user_count = fields::get_u8(s, 5);
     let trade_count = fields::get_u16(s, 6);
-    let prices = read_prices(s);
-    let users = read_users(s, 32, user_count as usize);
-    let trades = read_trades(s, 32 + 56 * (user_count as usize), trade_count as usize);
+    let prices = header::read_prices(s);
+    let users = tables::read_users(s, 32, user_count as usize);
+    let trades = tables::read_trades(s, 32 + 56 * (user_count as usize), trade_count as usize);
     Book {
         version: fields::get_u16(s, 3),
         user_count: user_count,
@@ -121,60 +66,6 @@ pub fn no_book() -> Book
     }
 }
 
-// Writes the first n users from `at`.
-fn write_users(out: &mut [u8], at: usize, users: [User; 64], n: usize)
-    requires { ⌜ (n ≤ 64) × (at + 56 * n ≤ length (now out)) ⌝ }
-    ensures { λ _. ⌜ (now (out .exit) ≡ sets (now (out .entry)) at (bytesOfRecords (λ u. userBytes (asUser u)) (take n users))) × (length users ≡ 64) ⌝ }
-{
-    let mut i = 0;
-    let mut a = at;
-    while i < n {
-        let u = users[i];
-        records::write_user(&mut out[a..a + 56], u);
-        a += 56;
-        i += 1;
-    }
-}
-
-// Writes the first n trades from `at`.
-fn write_trades(out: &mut [u8], at: usize, trades: [Trade; 256], n: usize)
-    requires { ⌜ (n ≤ 256) × (at + 20 * n ≤ length (now out)) ⌝ }
-    ensures { λ _. ⌜ (now (out .exit) ≡ sets (now (out .entry)) at (bytesOfRecords (λ t. tradeBytes (asTrade t)) (take n trades))) × (length trades ≡ 256) ⌝ }
-{
-    let mut i = 0;
-    let mut a = at;
-    while i < n {
-        let t = trades[i];
-        records::write_trade(&mut out[a..a + 20], t);
-        a += 20;
-        i += 1;
-    }
-}
-
-// Writes mark, version, counts and date.
-fn write_start(out: &mut [u8], version: u16, users: u8, trades: u16, date: u32)
-    requires { ⌜ 32 ≤ length (now out) ⌝ }
-    ensures { λ _. ⌜ now (out .exit) ≡ setFields (3 ∷ 2 ∷ 1 ∷ 2 ∷ 4 ∷ []) 0 (mark ∷ version ∷ users ∷ trades ∷ date ∷ []) (now (out .entry)) ⌝ }
-{
-    fields::put(out, 0, 3, 0x42_44_47);
-    fields::put_u16(out, 3, version);
-    fields::put_u8(out, 5, users);
-    fields::put_u16(out, 6, trades);
-    fields::put_u32(out, 8, date);
-}
-
-// Writes prices and tolls.
-fn write_prices(out: &mut [u8], prices: Prices)
-    requires { ⌜ 32 ≤ length (now out) ⌝ }
-    ensures { λ _. ⌜ now (out .exit) ≡ setFields (4 ∷ 4 ∷ 4 ∷ 4 ∷ 4 ∷ []) 12 (prices .p ∷ prices .q ∷ prices .l ∷ prices .x ∷ prices .i ∷ []) (now (out .entry)) ⌝ }
-{
-    fields::put_u32(out, 12, prices.p);
-    fields::put_u32(out, 16, prices.q);
-    fields::put_u32(out, 20, prices.l);
-    fields::put_u32(out, 24, prices.x);
-    fields::put_u32(out, 28, prices.i);
-}
-
 // Writes a book over bytes of its length.
 pub fn write_book(out: &mut [u8], b: Book)
     requires { ⌜ (b .«user_count» ≤ 64) × (b .«trade_count» ≤ 256) × (length (now out) ≡ 32 + 56 * b .«user_count» + 20 * b .«trade_count») ⌝ }
@@ -185,8 +76,8 @@ pub fn write_book(out: &mut [u8], b: Book)
     let prices = b.prices;
     let users = b.users;
     let trades = b.trades;
-    write_start(out, b.version, b.user_count, b.trade_count, b.date);
-    write_prices(out, prices);
-    write_users(out, 32, users, n);
-    write_trades(out, 32 + 56 * n, trades, m);
+    header::write_start(out, b.version, b.user_count, b.trade_count, b.date);
+    header::write_prices(out, prices);
+    tables::write_users(out, 32, users, n);
+    tables::write_trades(out, 32 + 56 * n, trades, m);
 }

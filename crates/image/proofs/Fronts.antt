@@ -6,7 +6,7 @@ use native.Mathlib.Nat.{le-of-eq}
 use lib.ListN.{take}
 use lib.Seq.{take-all}
 use Rattle.fields.specs.Layout.{recordsOf}
-use Rattle.book.specs.Book.{Filled}
+use Rattle.tables.specs.Filled.{Filled}
 
 map-take : {A B : Type 0} (f : A → B) (k : ℕ) (xs : List A) → map f (take k xs) ≡ take k (map f xs)
 map-take f zero xs = refl

@@ -63,9 +63,9 @@ fn book_of(image: &[u8]) -> Book
 {
     let user_count = fields::get_u8(image, 5);
     let trade_count = fields::get_u16(image, 6);
-    let prices = book::read_prices(image);
-    let users = book::read_users(image, 32, 64);
-    let trades = book::read_trades(image, 3616, 256);
+    let prices = header::read_prices(image);
+    let users = tables::read_users(image, 32, 64);
+    let trades = tables::read_trades(image, 3616, 256);
     Book {
         version: fields::get_u16(image, 3),
         user_count: user_count,

@@ -2,8 +2,8 @@
 use mathlib.Core.Path.{_∙_}
 use borrow.Author.Needs.{needs}
 use Rattle.fields.specs.Layout.{setFields}
-use Rattle.book.proofs.write_prices.Statement.{statement}
-use Rattle.book.proofs.write_prices.Tie as tie
+use Rattle.header.proofs.write_prices.Statement.{statement}
+use Rattle.header.proofs.write_prices.Tie as tie
 
 put-u32-requires : tie.Need-put-u32-requires
 put-u32-requires c κs = search needs

@@ -5,9 +5,9 @@ use lib.ListN.{length-take, length-drop}
 use borrow.Author.Needs.{needs}
 use Rattle.records.specs.Trade.{tradeBytes, asTrade}
 use Rattle.records.proofs.Trades.{length-tradeBytes}
-use Rattle.book.proofs.Writing.{Writing, writing-start, writing-turn, writing-end}
-use Rattle.book.proofs.write_trades.Statement.{statement}
-use Rattle.book.proofs.write_trades.Tie as tie
+use Rattle.tables.proofs.Writing.{Writing, writing-start, writing-turn, writing-end}
+use Rattle.tables.proofs.write_trades.Statement.{statement}
+use Rattle.tables.proofs.write_trades.Tie as tie
 
 abbrev Inv-loop : tie.InvT-loop
 Inv-loop out₀ at n trades i₀ a₀ out i a = Writing (λ t. tradeBytes (asTrade t)) 20 trades out₀ at n out i a

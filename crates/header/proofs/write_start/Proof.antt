@@ -3,8 +3,8 @@ use mathlib.Core.Path.{_∙_}
 use borrow.Author.Needs.{needs}
 use Rattle.fields.specs.Layout.{setFields}
 use Rattle.format.specs.Book.{mark}
-use Rattle.book.proofs.write_start.Statement.{statement}
-use Rattle.book.proofs.write_start.Tie as tie
+use Rattle.header.proofs.write_start.Statement.{statement}
+use Rattle.header.proofs.write_start.Tie as tie
 
 put-requires : tie.Need-put-requires
 put-requires c κs = search needs

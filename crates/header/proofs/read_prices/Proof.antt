@@ -1,8 +1,8 @@
 -- `read_prices` reads each price from its own offset. Assumes nothing.
 use borrow.Author.Needs.{needs}
 use Rattle.format.specs.Book.{pricesAt}
-use Rattle.book.proofs.read_prices.Statement.{statement}
-use Rattle.book.proofs.read_prices.Tie as tie
+use Rattle.header.proofs.read_prices.Statement.{statement}
+use Rattle.header.proofs.read_prices.Tie as tie
 
 get-u32-requires : tie.Need-get-u32-requires
 get-u32-requires c κs = search needs

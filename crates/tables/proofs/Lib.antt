@@ -1,0 +1,3 @@
+-- Laws of the loops that read and write records.
+pub mod Reading
+pub mod Writing

@@ -1,0 +1,2 @@
+-- Arrays of records.
+pub mod Filled
