@@ -2,3 +2,8 @@
 pub mod Kept
 -- the cuts of a tier
 pub mod Tiers
+-- cuts of own sales and of all trades
+pub mod Cuts
+pub mod Numbers
+-- positions after the cuts
+pub mod Settled
