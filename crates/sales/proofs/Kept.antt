@@ -1,5 +1,5 @@
 -- The elements that pass a test, and numbers spread over a list. Assumes nothing.
-use mathlib.Core.Bool.{Bool, true, false, not, cond}
+use mathlib.Core.Bool.{Bool, true, false, not, cond, _&&_, _||_}
 use mathlib.Core.List.{List, [], _∷_, map}
 use mathlib.Core.Path.{_≡_, refl, sym, ap, ap₂, _∙_}
 use Prim.Native.Nat.{ℕ, zero, suc, _+_, _≤_}
@@ -7,7 +7,7 @@ use native.Mathlib.Omega.{arith}
 use lib.Dec.{T}
 use lib.ListN.{length}
 use Rattle.laws.proofs.Tests.{and-l, and-r, and-i}
-use Rattle.rules.specs.Lists.{all}
+use Rattle.rules.specs.Lists.{all, any}
 use Rattle.rules.specs.Reduction.{together}
 use Rattle.sales.specs.Kept.{kept, spread}
 
@@ -57,6 +57,15 @@ module _ {A : Type 0} (p : A → Bool) where
   kept-pass [] = tt
   kept-pass (x ∷ xs) =
       by-case (p x) (λ e. rw (kept-yes x xs e) (and-i (p x) (all p (kept p xs)) (holds e) (kept-pass xs))) (λ e. rw (kept-no x xs e) (kept-pass xs))
+
+  -- some element that passes has a property
+  pub any-kept : (q : A → Bool) (xs : List A) → any (λ x. p x && q x) xs ≡ any q (kept p xs)
+  unfolding any kept
+  any-kept q [] = refl
+  any-kept q (x ∷ xs) =
+      by-case (p x)
+      (λ e. rw e (ap (λ (c : Bool). q x || c) (any-kept q xs)))
+      (λ e. rw e (any-kept q xs))
 
   -- a number for each element
   pub spread-length : (xs : List A) (ns : List ℕ) → length (spread p xs ns) ≡ length xs

@@ -7,3 +7,5 @@ pub mod Cuts
 pub mod Numbers
 -- positions after the cuts
 pub mod Settled
+-- who is called in, short of cover and eligible after the cuts
+pub mod Cover

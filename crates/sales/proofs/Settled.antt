@@ -8,20 +8,21 @@ use native.Mathlib.Nat.{le-of-eq, not-suc-le-zero, le-of-suc-le-suc}
 use native.Mathlib.Omega.{arith}
 use lib.Dec.{T, eqb, ltb, eqb→eq, ltb→lt}
 use lib.IntN.{ℤ, pos, negℤ, +ℤ-idr}
-use lib.ListN.{length, drop, getD, set, length-set, drop-of-length-le}
+use lib.ListN.{length, drop, getD, set, length-map, drop-of-length-le, List·getD-map}
 use lib.Seq.{drop-cons}
 use borrow.Author.Tests.{eq-eqb, ne-eqb}
 use Rattle.integers.proofs.Linear.{eq-parts, posPart-pos, negPart-pos}
 use Rattle.laws.proofs.Tests.{and-l, and-r, by-test}
 use Rattle.laws.proofs.Trades.{parts-lost}
 use Rattle.laws.proofs.Users.{change-absent, idsRise-map}
-use Rattle.rules.specs.Book.{Party, PerArea, User, Trade}
+use Rattle.rules.specs.Book.{Party, PerArea, User, Trade, nobody}
 use Rattle.rules.specs.Changes.{add, change, moved}
 use Rattle.rules.specs.Questions.{idsRise}
 use Rattle.rules.specs.Reduction.{cutBy, cutAll, lost, settleOne, settle}
 use Rattle.sales.proofs.Cuts.{cut-zero, cut-nobody, cut-yes, cut-no}
 use Rattle.sales.proofs.Kept.{by-case, kept-yes, kept-no}
 use Rattle.sales.specs.Kept.{kept, spread}
+use Rattle.sales.specs.Sales.{settledAt}
 
 -- ---- a trade that loses nothing
 
@@ -139,6 +140,24 @@ pub move-parties : (id area : ℕ) (z : ℤ) (us : List User) → map (λ u. u .
 unfolding moved
 move-parties id area z us = change-parties id (moved area z) (λ u. refl) us
 
+-- users with the same parties have the same at each place
+pub party-at : (us vs : List User) → map (λ u. u .party) vs ≡ map (λ u. u .party) us → (i : ℕ) (d : User) → getD vs i d .party ≡ getD us i d .party
+party-at us vs e i d =
+    sym (List·getD-map (λ (u : User). u .party) vs i d) ∙ ap (λ (ps : List Party). getD ps i (d .party)) e ∙ List·getD-map (λ (u : User). u .party) us i d
+
+-- and ids in the same order
+pub move-rise : (id area : ℕ) (z : ℤ) (low : ℕ) (us : List User) → idsRise low (change id (moved area z) us) ≡ idsRise low us
+unfolding change moved
+move-rise id area z low us =
+    idsRise-map (λ u. cond (eqb (u .party .id) id) (moved area z u) u)
+    (λ u. by-test (λ (v : User). v .party ≡ u .party) (eqb (u .party .id) id) (λ t. refl) (λ t. refl)) low us
+
+pub settle-one-rise : (t n : Trade) (low : ℕ) (us : List User) → idsRise low (settleOne t n us) ≡ idsRise low us
+unfolding settleOne
+settle-one-rise t n low us =
+    move-rise (t .terms .buyer) (t .terms .area) (negℤ (lost t n)) low (change (t .terms .seller) (moved (t .terms .area) (lost t n)) us)
+    ∙ move-rise (t .terms .seller) (t .terms .area) (lost t n) low us
+
 pub settle-one-parties : (t n : Trade) (us : List User) → map (λ u. u .party) (settleOne t n us) ≡ map (λ u. u .party) us
 unfolding settleOne
 settle-one-parties t n us =
@@ -150,3 +169,27 @@ unfolding settle
 settle-parties [] ns us = refl
 settle-parties (t ∷ ts) [] us = refl
 settle-parties (t ∷ ts) (n ∷ ns) us = settle-parties ts ns (settleOne t n us) ∙ settle-one-parties t n us
+
+-- a cut at the places of its seller and its buyer
+pub settle-one-at : (c : ℕ) (t : Trade) (us : List User) (low seller buyer : ℕ) → T (idsRise low us) → seller < length us → buyer < length us
+    → getD us seller nobody .party .id ≡ t .terms .seller → getD us buyer nobody .party .id ≡ t .terms .buyer → c ≤ t .standing
+    → settleOne t (cutBy c t) us ≡ settledAt seller buyer (t .terms .area) c us
+unfolding settledAt
+settle-one-at c t us low seller buyer r h k e g l =
+    let risen = change (t .terms .seller) (moved (t .terms .area) (pos c)) us in
+    let first : risen ≡ set us seller (moved (t .terms .area) (pos c) (getD us seller nobody))
+    = change-placed (moved (t .terms .area) (pos c)) us low (t .terms .seller) seller nobody r h e in
+    let same = move-parties (t .terms .seller) (t .terms .area) (pos c) us in
+    let long : length risen ≡ length us
+    = sym (length-map risen (λ u. u .party)) ∙ ap length same ∙ length-map us (λ u. u .party) in
+    settle-one-cut c t us l
+    ∙ change-placed (moved (t .terms .area) (negℤ (pos c))) risen low (t .terms .buyer) buyer nobody
+    (rw (move-rise (t .terms .seller) (t .terms .area) (pos c) low us) r) (omega arith)
+    (ap (λ (q : Party). q .id) (party-at us risen same buyer nobody) ∙ g)
+    ∙ ap (λ (vs : List User). set vs buyer (moved (t .terms .area) (negℤ (pos c)) (getD vs buyer nobody))) first
+
+pub settle-rise : (ts ns : List Trade) (low : ℕ) (us : List User) → idsRise low (settle ts ns us) ≡ idsRise low us
+unfolding settle
+settle-rise [] ns low us = refl
+settle-rise (t ∷ ts) [] low us = refl
+settle-rise (t ∷ ts) (n ∷ ns) low us = settle-rise ts ns low (settleOne t n us) ∙ settle-one-rise t n low us

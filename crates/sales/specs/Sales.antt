@@ -3,9 +3,12 @@ use mathlib.Core.Bool.{Bool, false, not, cond, _&&_, _||_}
 use mathlib.Core.List.{List, [], _∷_, map}
 use Prim.Native.Nat.{ℕ, _-_}
 use lib.Dec.{eqb, ltb}
+use lib.IntN.{pos, negℤ}
+use lib.ListN.{getD, set}
 use Rattle.integers.specs.Parts.{negPart}
 use Rattle.rules.specs.Areas.{Prices}
-use Rattle.rules.specs.Book.{at, User, Trade, bilateralForDay}
+use Rattle.rules.specs.Book.{at, User, Trade, bilateralForDay, nobody}
+use Rattle.rules.specs.Changes.{moved}
 use Rattle.rules.specs.Reduction.{lot, together}
 use Rattle.rules.specs.Shares.{Lot, tierWorth, tierCuts}
 use Rattle.sales.specs.Kept.{kept}
@@ -17,6 +20,10 @@ ownSale id t = eqb (t .terms .seller) id && bilateralForDay t
 -- the own sales of the user of an id, in the order of the trades
 unfoldable pub salesOf : List Trade → ℕ → List Trade
 salesOf ts id = kept (ownSale id) ts
+
+-- the user of an id sells or buys in the trade
+unfoldable pub isParty : ℕ → Trade → Bool
+isParty id t = eqb (t .terms .seller) id || eqb (t .terms .buyer) id
 
 -- ---- cuts
 
@@ -40,6 +47,12 @@ unfoldable pub someCut : (Trade → Bool) → List ℕ → List Trade → Bool
 someCut p [] ss = false
 someCut p (c ∷ cs) [] = false
 someCut p (c ∷ cs) (s ∷ ss) = (p s && ltb 0 c) || someCut p cs ss
+
+-- the users after a cut in an area, by the places of its seller, whose position rises, and of its buyer, whose position falls
+unfoldable pub settledAt : ℕ → ℕ → ℕ → ℕ → List User → List User
+settledAt seller buyer area c us =
+    let risen = set us seller (moved area (pos c) (getD us seller nobody)) in
+    set risen buyer (moved area (negℤ (pos c)) (getD risen buyer nobody))
 
 -- ---- the same in lists of numbers
 
