@@ -3,6 +3,7 @@ use mathlib.Core.Bool.{Bool, true, false, not, cond, _&&_, _||_}
 use mathlib.Core.List.{List, [], _∷_, map}
 use mathlib.Core.Path.{_≡_, refl, sym, ap, ap₂, _∙_}
 use Prim.Native.Nat.{ℕ, zero, suc, _+_, _≤_}
+use native.Mathlib.Nat.{le-refl}
 use native.Mathlib.Omega.{arith}
 use lib.Dec.{T}
 use lib.ListN.{length}
@@ -57,6 +58,12 @@ module _ {A : Type 0} (p : A → Bool) where
   kept-pass [] = tt
   kept-pass (x ∷ xs) =
       by-case (p x) (λ e. rw (kept-yes x xs e) (and-i (p x) (all p (kept p xs)) (holds e) (kept-pass xs))) (λ e. rw (kept-no x xs e) (kept-pass xs))
+
+  -- no more than there are
+  pub kept-most : (xs : List A) → length (kept p xs) ≤ length xs
+  unfolding kept
+  kept-most [] = le-refl 0
+  kept-most (x ∷ xs) = by-case (p x) (λ e. rw e (omega (arith, kept-most xs))) (λ e. rw e (omega (arith, kept-most xs)))
 
   -- some element that passes has a property
   pub any-kept : (q : A → Bool) (xs : List A) → any (λ x. p x && q x) xs ≡ any q (kept p xs)

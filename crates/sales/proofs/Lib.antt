@@ -7,6 +7,8 @@ pub mod Cuts
 pub mod Numbers
 -- positions after the cuts
 pub mod Settled
+pub mod Valid
+pub mod Midway
 -- who is called in, short of cover and eligible after the cuts
 pub mod Cover
 -- a reduction, and whom it leaves as they were

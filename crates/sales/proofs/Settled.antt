@@ -8,7 +8,7 @@ use native.Mathlib.Nat.{le-of-eq, not-suc-le-zero, le-of-suc-le-suc}
 use native.Mathlib.Omega.{arith}
 use lib.Dec.{T, eqb, ltb, eqb→eq, ltb→lt}
 use lib.IntN.{ℤ, pos, negℤ, +ℤ-idr}
-use lib.ListN.{length, drop, getD, set, length-map, drop-of-length-le, List·getD-map}
+use lib.ListN.{length, take, drop, getD, set, length-map, drop-of-length-le, List·getD-map}
 use lib.Seq.{drop-cons}
 use borrow.Author.Tests.{eq-eqb, ne-eqb}
 use Rattle.integers.proofs.Linear.{eq-parts, posPart-pos, negPart-pos}
@@ -92,6 +92,16 @@ settle-step cs ss us i d h k = rw (drop-cons ss i d h, drop-cons cs i 0 k)
 pub settle-end : (cs : List ℕ) (ss : List Trade) (us : List User) (i : ℕ) → length ss ≤ i → settle (drop i ss) (cutAll (drop i cs) (drop i ss)) us ≡ us
 unfolding settle
 settle-end cs ss us i h = rw (drop-of-length-le ss {i = i} h)
+
+-- one cut more from the front, after those before it
+pub settle-front : (cs : List ℕ) (ss : List Trade) (us : List User) (i : ℕ) (d : Trade) → i < length ss → i < length cs
+    → settle ss (cutAll (take (suc i) cs) ss) us ≡ settleOne (getD ss i d) (cutBy (getD cs i 0) (getD ss i d)) (settle ss (cutAll (take i cs) ss) us)
+unfolding settle cutAll
+settle-front cs [] us i d h k = absurd (not-suc-le-zero h)
+settle-front [] (s ∷ ss) us i d h k = absurd (not-suc-le-zero k)
+settle-front (c ∷ cs) (s ∷ ss) us zero d h k =
+    settle-none ss (settleOne s (cutBy c s) us) ∙ ap (settleOne s (cutBy c s)) (sym (settle-none (s ∷ ss) us))
+settle-front (c ∷ cs) (s ∷ ss) us (suc i) d h k = settle-front cs ss (settleOne s (cutBy c s) us) i d (le-of-suc-le-suc h) (le-of-suc-le-suc k)
 
 -- the seller's position rises by the cut and the buyer's falls
 pub settle-one-cut : (c : ℕ) (t : Trade) (us : List User) → c ≤ t .standing
