@@ -5,7 +5,8 @@ use mathlib.Core.Path.{_≡_, refl, sym, ap, ap₂, _∙_}
 use Prim.Native.Nat.{ℕ, zero, suc, _-_, _<_}
 use native.Mathlib.Nat.{not-suc-le-zero, le-of-suc-le-suc, sub-zero}
 use native.Mathlib.Omega.{arith}
-use lib.ListN.{length, getD, length-map, List·getD-eq-default}
+use lib.ListN.{length, getD, length-map, List·getD-eq-default, List·getD-map}
+use Rattle.arrays.proofs.Fronts.{getD-inside}
 use Rattle.laws.specs.Trades.{standingIf, tariffOf}
 use Rattle.rules.specs.Areas.{Prices}
 use Rattle.rules.specs.Book.{Terms, Trade}
@@ -14,6 +15,10 @@ use Rattle.rules.specs.Shares.{tierWorth, tierCuts}
 use Rattle.sales.specs.Sales.{saleLots, saleCuts, standingIn, less}
 use Rattle.worths.proofs.Lots.{lots-map}
 use Rattle.worths.specs.Lots.{lotsOf}
+
+-- what is read off a list, at a place
+pub read-at : {A B : Type 0} (g : A → B) (xs : List A) (i : ℕ) (d : A) (e : B) → i < length xs → getD (map g xs) i e ≡ g (getD xs i d)
+read-at g xs i d e h = getD-inside (map g xs) i e (g d) (omega (arith, length-map xs g)) ∙ List·getD-map g xs i d
 
 -- ---- tiers
 
