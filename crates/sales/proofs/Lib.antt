@@ -16,3 +16,4 @@ pub mod Reduced
 -- the sales of all users in one list
 pub mod Groups
 pub mod Rebuilt
+pub mod Standing

@@ -17,7 +17,7 @@ use Rattle.rules.specs.Lists.{all, any}
 use Rattle.rules.specs.Questions.{known, tradeValid}
 use Rattle.sales.proofs.Groups.{places-length, grouped-length}
 use Rattle.sales.proofs.Kept.{by-case, holds, fails, kept-yes, kept-no}
-use Rattle.sales.specs.Groups.{grouped, standingAt, written}
+use Rattle.sales.specs.Groups.{grouped, standings, places, standingAt, written}
 use Rattle.sales.specs.Kept.{kept, placesOf}
 use Rattle.sales.specs.Sales.{ownSale, salesOf}
 
@@ -89,7 +89,7 @@ terms-framed {B} g p o (then {t = t} {n = n} f fs) =
     (λ e. rw (o t n (f .terms) ∙ e, e) (terms-framed g p o fs))
 
 -- trades that differ in what stands only: the places and the terms of the own sales stay
-pub places-stay : (id : ℕ) {ts ns : List Trade} → Pairwise Framed ts ns → placesOf (ownSale id) ns ≡ placesOf (ownSale id) ts
+pub places-stay : (id : ℕ) {ts ns : List Trade} → Pairwise Framed ts ns → places ns id ≡ places ts id
 places-stay id f = places-framed (ownSale id) (own-same id) f
 
 pub terms-stay : {B : Type 0} (g : Terms → B) (id : ℕ) {ts ns : List Trade} → Pairwise Framed ts ns
@@ -140,15 +140,15 @@ left-taken u us (then {t = t} {n = n} p ps) = then (one (ownSale (u .party .id) 
     }
 
 rebuilt-left : (d : Trade) (us : List User) {ts ns : List Trade} → Pairwise (Left us) ts ns
-    → written d (grouped (λ id. placesOf (ownSale id) ns) us) (grouped (λ id. map (λ n. n .standing) (salesOf ns id)) us) ts ≡ ns
+    → written d (grouped (places ns) us) (grouped (standings ns) us) ts ≡ ns
 unfolding grouped written salesOf
 rebuilt-left d [] h = left-none h
 rebuilt-left d (u ∷ us) {ts} {ns} h =
     let p = ownSale (u .party .id) in
     let amounts = map (λ n. n .standing) (kept p ns) in
-    written-append d (placesOf p ns) (grouped (λ id. placesOf (ownSale id) ns) us) amounts (grouped (λ id. map (λ n. n .standing) (salesOf ns id)) us) ts
+    written-append d (placesOf p ns) (grouped (places ns) us) amounts (grouped (standings ns) us) ts
     (places-length p ns ∙ sym (length-map (kept p ns) (λ n. n .standing)))
-    ∙ ap (written d (grouped (λ id. placesOf (ownSale id) ns) us) (grouped (λ id. map (λ n. n .standing) (salesOf ns id)) us))
+    ∙ ap (written d (grouped (places ns) us) (grouped (standings ns) us))
     (written-taken d p (own-same (u .party .id)) (left-framed (u ∷ us) h))
     ∙ rebuilt-left d us (left-taken u us h)
 
@@ -176,8 +176,7 @@ grouped-ext {B} g h e (u ∷ us) = ap₂ (λ (xs ys : List B). xs ++ ys) (e (u .
 
 -- what stands of each own sale afterwards, written at the places of the own sales before, gives the trades afterwards
 pub rebuilt : (d : Trade) (us : List User) {ts ns : List Trade} → Pairwise Framed ts ns → T (all (tradeValid us) ts)
-    → written d (grouped (λ id. placesOf (ownSale id) ts) us) (grouped (λ id. map (λ n. n .standing) (salesOf ns id)) us) ts ≡ ns
+    → written d (grouped (places ts) us) (grouped (standings ns) us) ts ≡ ns
 rebuilt d us {ts} {ns} f v =
-    ap (λ (is : List ℕ). written d is (grouped (λ id. map (λ n. n .standing) (salesOf ns id)) us) ts)
-    (grouped-ext (λ id. placesOf (ownSale id) ts) (λ id. placesOf (ownSale id) ns) (λ id. sym (places-stay id f)) us)
+    ap (λ (is : List ℕ). written d is (grouped (standings ns) us) ts) (grouped-ext (places ts) (places ns) (λ id. sym (places-stay id f)) us)
     ∙ rebuilt-left d us (all-left us f v)

@@ -21,12 +21,12 @@ use Rattle.rules.specs.Changes.{change, moved}
 use Rattle.rules.specs.Levels.{Limits, Holding, holding, shortOfCover}
 use Rattle.rules.specs.Lists.{any}
 use Rattle.rules.specs.Reduction.{cuts, cutBy, cutAll, settleOne, settle, tallyAll, nothing, withTrades, hasEligible, lost}
-use Rattle.sales.proofs.Cover.{valid-notified, cut-before-kept, has-eligible-sales, next-holding, short-from, short-next}
+use Rattle.sales.proofs.Cover.{valid-notified, cut-before-kept, has-eligible-sales, next-holding, or-false, short-from, short-next}
 use Rattle.sales.proofs.Cuts.{sale-within, cuts-sales, sales-cut, sales-other, tally-kept, cut-zero}
 use Rattle.sales.proofs.Kept.{by-case}
 use Rattle.sales.proofs.Numbers.{standing-cut}
 use Rattle.sales.proofs.Settled.{settle-kept, settle-parties, settle-one-none, settle-none}
-use Rattle.sales.specs.Cover.{AllNext, shortFrom}
+use Rattle.sales.specs.Cover.{AllNext, shortFrom, due}
 use Rattle.sales.specs.Kept.{kept, spread}
 use Rattle.sales.specs.Reduced.{ownSales, ownCuts, SalesReduced}
 use Rattle.sales.specs.Sales.{ownSale, salesOf, shortAt, saleCuts, isParty, someCut, less}
@@ -125,10 +125,6 @@ settle-other (c ∷ cs) (s ∷ ss) us i d e =
     let first = settle-one-other c s us i d (neither .0) in
     settle-other cs ss (settleOne s (cutBy c s) us) i d (ap (λ (v : User). someCut (isParty (v .party .id)) cs ss) first ∙ neither .1) ∙ first
 
-or-false : (a b : Bool) → b ≡ false → (a || b) ≡ a
-or-false true b e = refl
-or-false false b e = e
-
 module _ {b : Book} {u : User} {asked : ℕ} {r : Result} (h : SalesReduced b u asked r) where
   -- the user at a place that is party to no sale that lost something
   pub user-left : (i : ℕ) (d : User) → someCut (isParty (getD (b .users) i d .party .id)) (ownCuts b u asked) (ownSales b u) ≡ false
@@ -177,3 +173,12 @@ module _ {b : Book} {u : User} {asked : ℕ} {r : Result} (h : SalesReduced b u 
       ∙ ap (λ (id : ℕ). any (λ k. ltb 0 k) (map (λ s. s .standing) (salesOf (r .book .trades) id))) e
       ∙ ap (λ (ss : List Trade). any (λ k. ltb 0 k) (map (λ s. s .standing) ss)) (h .own)
       ∙ ap (any (λ k. ltb 0 k)) (standing-cut (ownCuts b u asked) (ownSales b u))
+
+  -- a user that is neither the seller nor party to a sale that lost something is due where it was
+  pub due-left : (limits : Limits) (i : ℕ) (d : User) → (getD (b .users) i d .party .id ≡ u .party .id → ⊥)
+      → someCut (isParty (getD (b .users) i d .party .id)) (ownCuts b u asked) (ownSales b u) ≡ false
+      → due limits (r .book) (getD (r .book .users) i d) ≡ due limits b (getD (b .users) i d)
+  unfolding due
+  due-left limits i d n e =
+      let v = getD (b .users) i d in
+      ap (due limits (r .book)) (user-left i d e) ∙ ap₂ (λ (x y : Bool). x && y) (cover-left limits v e) (eligible-left v n)

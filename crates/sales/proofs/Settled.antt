@@ -6,7 +6,7 @@ use mathlib.Core.Path.{_≡_, refl, sym, ap, ap₂, _∙_}
 use Prim.Native.Nat.{ℕ, zero, suc, _≤_, _<_, _+_}
 use native.Mathlib.Nat.{le-of-eq, not-suc-le-zero, le-of-suc-le-suc}
 use native.Mathlib.Omega.{arith}
-use lib.Dec.{T, eqb, ltb, eqb→eq, ltb→lt}
+use lib.Dec.{T, eqb, ltb, ltb→lt, eqb·zero-suc, eqb·suc-zero, eqb·suc-suc}
 use lib.IntN.{ℤ, pos, negℤ, +ℤ-idr}
 use lib.ListN.{length, take, drop, getD, set, length-map, drop-of-length-le, List·getD-map}
 use lib.Seq.{drop-cons}
@@ -121,6 +121,21 @@ ids-above (u ∷ us) low (suc i) d r h =
     let l = ltb→lt low (u .party .id) (and-l (ltb low (u .party .id)) (idsRise (u .party .id) us) r) in
     let m = ids-above us (u .party .id) i d (and-r (ltb low (u .party .id)) (idsRise (u .party .id) us) r) (le-of-suc-le-suc h) in
     omega arith
+
+-- users at two places have one id where the places are one
+pub same-place : (us : List User) (low i j : ℕ) (d : User) → T (idsRise low us) → i < length us → j < length us
+    → eqb (getD us i d .party .id) (getD us j d .party .id) ≡ eqb i j
+unfolding idsRise
+same-place [] low i j d r h k = absurd (not-suc-le-zero h)
+same-place (u ∷ us) low zero zero d r h k = eq-eqb (u .party .id) (u .party .id) refl
+same-place (u ∷ us) low zero (suc j) d r h k =
+    let l = ids-above us (u .party .id) j d (and-r (ltb low (u .party .id)) (idsRise (u .party .id) us) r) (le-of-suc-le-suc k) in
+    ne-eqb (u .party .id) (getD us j d .party .id) (λ e. omega arith) ∙ sym (eqb·zero-suc j)
+same-place (u ∷ us) low (suc i) zero d r h k =
+    let l = ids-above us (u .party .id) i d (and-r (ltb low (u .party .id)) (idsRise (u .party .id) us) r) (le-of-suc-le-suc h) in
+    ne-eqb (getD us i d .party .id) (u .party .id) (λ e. omega arith) ∙ sym (eqb·suc-zero i)
+same-place (u ∷ us) low (suc i) (suc j) d r h k =
+    same-place us (u .party .id) i j d (and-r (ltb low (u .party .id)) (idsRise (u .party .id) us) r) (le-of-suc-le-suc h) (le-of-suc-le-suc k) ∙ sym (eqb·suc-suc i j)
 
 -- ids stand in their order, and one user has an id: a change of the user of an id is a change at its place
 pub change-at : (f : User → User) (us : List User) (low i : ℕ) (d : User) → T (idsRise low us) → i < length us
