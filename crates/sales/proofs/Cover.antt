@@ -6,24 +6,24 @@ use Prim.Native.Nat.{ℕ, zero, suc, _+_, _-_, _*_, _≤_, _<_}
 use native.Mathlib.Nat.{not-suc-le-zero, le-of-suc-le-suc}
 use native.Mathlib.Omega.{arith}
 use lib.Dec.{T, eqb, ltb, leb, leb→le, eqb→eq, ltb→lt}
-use lib.IntN.{ℤ, pos, _+ℤ_, _-ℤ_}
+use lib.IntN.{ℤ, pos, _+ℤ_}
 use lib.ListN.{length, take, drop, getD}
 use lib.Seq.{drop-cons}
-use borrow.Author.Tests.{lt-ltb, le-ltb, ltb-true, ltb-false, eq-eqb, eqb-true, ne-eqb}
+use borrow.Author.Tests.{lt-ltb, le-ltb, ltb-true, ltb-false, eq-eqb, ne-eqb}
 use Rattle.dealings.specs.Parties.{isCut, cutBefore}
 use Rattle.integers.specs.Parts.{posPart, negPart}
 use Rattle.integers.specs.Sums.{sum}
 use Rattle.laws.proofs.Shares.{eachWithin}
-use Rattle.laws.proofs.Tests.{and-l, and-r, and-i, all-by, sum-by}
+use Rattle.laws.proofs.Tests.{and-l, and-r, all-by, sum-by}
 use Rattle.laws.specs.Trades.{Framed, Pairwise, ended, then}
 use Rattle.rules.specs.Areas.{Prices, areas, referencePrice}
 use Rattle.rules.specs.Book.{Party, Terms, Book, User, Trade, bilateralForDay, dealt, sold, bought, nobody}
-use Rattle.rules.specs.Levels.{Limits, Holding, holding, sells, buys, partyTo, shipper, floored, stock, afternoonNeed, afternoonSum, exposure, leastReferencePrice, afternoonLevel, flagged, calledIn, exceedsMargin, shortOfCover}
+use Rattle.rules.specs.Levels.{Limits, Holding, holding, sells, buys, partyTo, floored, stock, afternoonNeed, afternoonSum, exposure, leastReferencePrice, afternoonLevel, flagged, calledIn, shortOfCover}
 use Rattle.rules.specs.Lists.{all, any}
 use Rattle.rules.specs.Questions.{idsRise, tradeValid, amountsValid}
 use Rattle.rules.specs.Reduction.{eligible, hasEligible, target, cutBy, cutAll}
 use Rattle.sales.proofs.Cuts.{cut-yes, cut-no}
-use Rattle.sales.proofs.Kept.{by-case, holds, fails, kept-yes, kept-no, any-kept}
+use Rattle.sales.proofs.Kept.{by-case, fails, kept-yes, kept-no, any-kept}
 use Rattle.sales.proofs.Settled.{same-place}
 use Rattle.sales.specs.Cover.{SameNext, AllNext, levelFrom, flaggedFrom, shortFrom}
 use Rattle.sales.specs.Kept.{kept, spread}

@@ -2,10 +2,10 @@
 use mathlib.Core.Bool.{Bool, true, false, not, cond, _&&_}
 use mathlib.Core.List.{List, [], _∷_, map}
 use mathlib.Core.Path.{_≡_, refl, sym, ap, ap₂, subst, fun-ext, _∙_}
-use Prim.Native.Nat.{ℕ, zero, suc, _+_, _-_, _*_, _≤_, _<_}
+use Prim.Native.Nat.{ℕ, zero, suc, _+_, _-_, _<_}
 use native.Mathlib.Nat.{sub-zero, zero-mul, not-suc-le-zero, le-of-suc-le-suc}
 use native.Mathlib.Omega.{arith}
-use lib.Dec.{T, eqb, ltb, eqb→eq, ltb→lt}
+use lib.Dec.{T, eqb, ltb, eqb→eq}
 use lib.ListN.{length, take, drop, getD, length-map}
 use lib.Seq.{drop-cons}
 use borrow.Author.Tests.{ltb-false, ne-eqb}
@@ -18,7 +18,7 @@ use Rattle.rules.specs.Book.{Book, User, Trade, bilateralForDay}
 use Rattle.rules.specs.Levels.{holding, sells}
 use Rattle.rules.specs.Reduction.{eligible, shortIn, lot, tierOne, tierTwo, together, cuts, cutBy, cutAll, Tally, tallied, tallyAll}
 use Rattle.rules.specs.Shares.{Lot, tierWorth, tierCuts}
-use Rattle.sales.proofs.Kept.{by-case, holds, fails, kept-yes, kept-no, kept-pass, spread-yes, spread-no, spread-together}
+use Rattle.sales.proofs.Kept.{by-case, holds, kept-yes, kept-no, kept-pass, spread-yes, spread-no, spread-together}
 use Rattle.sales.proofs.Tiers.{tier-kept, worth-kept}
 use Rattle.sales.specs.Kept.{kept, spread}
 use Rattle.sales.specs.Sales.{ownSale, salesOf, shortAt, saleLots, saleCuts}

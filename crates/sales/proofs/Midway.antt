@@ -1,10 +1,9 @@
 -- Positions while own sales are cut one after the other: after each, the users are those of an accepted book, so that their positions are within the range of one.
 -- Start, a turn and the end of a loop over the sales, by the places of the users. Assumes nothing.
-use mathlib.Core.Bool.{Bool, true, false, _||_}
+use mathlib.Core.Bool.{Bool, _||_}
 use mathlib.Core.List.{List, [], _∷_, map}
-use mathlib.Core.Path.{_≡_, refl, sym, ap, subst, _∙_}
-use Prim.Native.Nat.{ℕ, zero, suc, _≤_, _<_}
-use native.Mathlib.Nat.{le-refl}
+use mathlib.Core.Path.{_≡_, sym, ap, subst, _∙_}
+use Prim.Native.Nat.{ℕ, suc, _≤_, _<_}
 use native.Mathlib.Omega.{arith}
 use lib.Dec.{T, eqb, leb, le→leb}
 use lib.ListN.{length, take, getD, length-map, length-take, List·getD-eq-default}
@@ -16,10 +15,10 @@ use Rattle.laws.proofs.Bounds.{position-bound}
 use Rattle.laws.proofs.Reduction.{cuts-sound}
 use Rattle.laws.proofs.Shares.{within-at}
 use Rattle.laws.proofs.Sound.{Sound}
-use Rattle.laws.proofs.Tests.{and-i, and-r, or-l, or-r}
+use Rattle.laws.proofs.Tests.{and-i, and-r, or-r}
 use Rattle.laws.specs.Trades.{cutWithin, cutsWithin}
 use Rattle.rules.specs.Book.{at, Party, Book, User, Trade, bilateralForDay, nobody}
-use Rattle.rules.specs.Questions.{idsRise, positionsValid, userValid}
+use Rattle.rules.specs.Questions.{positionsValid, userValid}
 use Rattle.rules.specs.Reduction.{cutAll, settle, withTrades}
 use Rattle.sales.proofs.Cuts.{sale-length, sale-within}
 use Rattle.sales.proofs.Kept.{by-case, holds, kept-yes, kept-no}
@@ -28,7 +27,7 @@ use Rattle.sales.proofs.Settled.{settle-none, settle-kept, settle-front
 use Rattle.sales.proofs.Valid.{sale-at}
 use Rattle.sales.specs.Kept.{kept, spread}
 use Rattle.sales.specs.Reduced.{ownSales, ownCuts, settledFirst}
-use Rattle.sales.specs.Sales.{ownSale, salesOf, shortAt, saleCuts, settledAt}
+use Rattle.sales.specs.Sales.{ownSale, salesOf, shortAt, settledAt}
 
 -- ---- cuts of some of the sales
 

@@ -3,14 +3,14 @@ use mathlib.Core.Bool.{Bool, not, cond}
 use mathlib.Core.List.{List, [], _∷_, map}
 use mathlib.Core.Path.{_≡_, refl, sym, ap, ap₂, _∙_}
 use Prim.Native.Nat.{ℕ, zero, suc, _-_, _<_}
-use native.Mathlib.Nat.{not-suc-le-zero, le-of-suc-le-suc, sub-zero}
+use native.Mathlib.Nat.{not-suc-le-zero, le-of-suc-le-suc}
 use native.Mathlib.Omega.{arith}
 use lib.ListN.{length, take, getD, set, length-map, List·getD-eq-default, List·getD-map}
 use Rattle.arrays.proofs.Fronts.{getD-inside}
 use Rattle.laws.specs.Trades.{standingIf, tariffOf}
 use Rattle.rules.specs.Areas.{Prices}
 use Rattle.rules.specs.Book.{Terms, Trade}
-use Rattle.rules.specs.Reduction.{lot, together, cutBy, cutAll}
+use Rattle.rules.specs.Reduction.{together, cutBy, cutAll}
 use Rattle.rules.specs.Shares.{tierWorth, tierCuts}
 use Rattle.sales.specs.Sales.{saleLots, saleCuts, standingIn, less}
 use Rattle.worths.proofs.Lots.{lots-map}

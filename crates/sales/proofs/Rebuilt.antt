@@ -1,10 +1,10 @@
 -- The trades are rebuilt from what stands of each user's own sales: trades that differ from others in what stands of kind 0 and day 0 only, with what stands of the
 -- others' own sales written at their places, user by user, are the others. Assumes nothing.
-use mathlib.Core.Bool.{Bool, true, false, not, cond, _&&_, _||_}
+use mathlib.Core.Bool.{Bool, true, false, cond, _&&_, _||_}
 use mathlib.Core.List.{List, [], _∷_, _++_, map}
 use mathlib.Core.Logic.{_⊎_, inl, inr}
 use mathlib.Core.Path.{_≡_, refl, sym, ap, ap₂, subst, _∙_}
-use Prim.Native.Nat.{ℕ, zero, suc, _+_}
+use Prim.Native.Nat.{ℕ, suc, _+_}
 use native.Mathlib.Omega.{arith}
 use lib.Dec.{T, eqb}
 use lib.ListN.{length, getD, set, length-map}
@@ -15,8 +15,8 @@ use Rattle.laws.specs.Trades.{Framed, Pairwise, ended, then}
 use Rattle.rules.specs.Book.{Terms, User, Trade, bilateralForDay}
 use Rattle.rules.specs.Lists.{all, any}
 use Rattle.rules.specs.Questions.{known, tradeValid}
-use Rattle.sales.proofs.Groups.{places-length, grouped-length}
-use Rattle.sales.proofs.Kept.{by-case, holds, fails, kept-yes, kept-no}
+use Rattle.sales.proofs.Groups.{places-length}
+use Rattle.sales.proofs.Kept.{by-case, holds, fails}
 use Rattle.sales.specs.Groups.{grouped, standings, places, standingAt, written}
 use Rattle.sales.specs.Kept.{kept, placesOf}
 use Rattle.sales.specs.Sales.{ownSale, salesOf}

@@ -3,33 +3,32 @@
 use mathlib.Core.Bool.{Bool, true, false, _&&_, _||_}
 use mathlib.Core.List.{List, [], _∷_, map}
 use mathlib.Core.Path.{_≡_, refl, sym, ap, ap₂, subst, _∙_}
-use Prim.Native.Nat.{ℕ, zero, suc, _≤_, _<_}
+use Prim.Native.Nat.{ℕ, zero, suc}
 use native.Mathlib.Omega.{arith}
 use lib.Dec.{T, eqb, ltb}
-use lib.IntN.{ℤ, pos, negℤ}
-use lib.ListN.{length, getD}
+use lib.IntN.{negℤ}
+use lib.ListN.{getD}
 use borrow.Author.Tests.{ltb-false}
 use Rattle.dealings.specs.Parties.{cutBefore}
 use Rattle.laws.proofs.Run.{reducedBy-law}
 use Rattle.laws.proofs.Sound.{Sound}
 use Rattle.laws.proofs.Tests.{eqb-comm}
 use Rattle.laws.proofs.Trades.{framed}
-use Rattle.rules.specs.Areas.{Prices}
 use Rattle.rules.specs.Book.{Header, Book, User, Trade}
 use Rattle.rules.specs.Calls.{Result, reducedBy, ofCuts}
 use Rattle.rules.specs.Changes.{change, moved}
 use Rattle.rules.specs.Levels.{Limits, Holding, holding, shortOfCover}
 use Rattle.rules.specs.Lists.{any}
-use Rattle.rules.specs.Reduction.{cuts, cutBy, cutAll, settleOne, settle, tallyAll, nothing, withTrades, hasEligible, lost}
+use Rattle.rules.specs.Reduction.{cutBy, cutAll, settleOne, settle, tallyAll, nothing, withTrades, hasEligible, lost}
 use Rattle.sales.proofs.Cover.{valid-notified, cut-before-kept, has-eligible-sales, next-holding, or-false, short-from, short-next}
 use Rattle.sales.proofs.Cuts.{sale-within, cuts-sales, sales-cut, sales-other, tally-kept, cut-zero}
 use Rattle.sales.proofs.Kept.{by-case}
 use Rattle.sales.proofs.Numbers.{standing-cut}
 use Rattle.sales.proofs.Settled.{settle-kept, settle-parties, settle-one-none, settle-none}
 use Rattle.sales.specs.Cover.{AllNext, shortFrom, due}
-use Rattle.sales.specs.Kept.{kept, spread}
+use Rattle.sales.specs.Kept.{spread}
 use Rattle.sales.specs.Reduced.{ownSales, ownCuts, SalesReduced}
-use Rattle.sales.specs.Sales.{ownSale, salesOf, shortAt, saleCuts, isParty, someCut, less}
+use Rattle.sales.specs.Sales.{ownSale, salesOf, shortAt, isParty, someCut, less}
 
 module _ (b : Book) (u : User) (asked : ℕ) where
   -- the trades after the reduction

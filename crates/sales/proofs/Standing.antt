@@ -11,7 +11,7 @@ use Rattle.sales.proofs.Groups.{grouped-change, grouped-parties}
 use Rattle.sales.proofs.Numbers.{standing-cut}
 use Rattle.sales.specs.Groups.{grouped, startOf, standings}
 use Rattle.sales.specs.Reduced.{ownSales, ownCuts, SalesReduced}
-use Rattle.sales.specs.Sales.{salesOf, less}
+use Rattle.sales.specs.Sales.{less}
 
 -- the list after the reduction of the user at a place
 pub standings-reduced : {b : Book} {u : User} {asked : ℕ} {r : Result} → SalesReduced b u asked r → T (idsRise 0 (b .users)) → (i : ℕ) (d : User) → i < length (b .users)

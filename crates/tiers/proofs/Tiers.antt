@@ -1,15 +1,11 @@
 -- The three lists that the code fills are the rules' two tiers, and in the range that a tier's cuts ask for. Assumes nothing.
-use mathlib.Core.Bool.{Bool, true, false, cond}
-use mathlib.Core.List.{List, [], _∷_, map}
-use mathlib.Core.Path.{_≡_, refl, sym, ap, ap₂, fun-ext, _∙_}
-use Prim.Native.Nat.{ℕ, zero, suc, _≤_}
-use native.Mathlib.Omega.{arith}
-use lib.Dec.{T, eqb}
-use lib.ListN.{length, getD, length-map, List·getD-eq-default}
-use Rattle.laws.proofs.Bounds.{standing-le}
-use Rattle.laws.proofs.Tests.{and-l, and-r, by-test}
-use Rattle.laws.specs.Trades.{standingIf, tariffOf}
-use Rattle.rules.specs.Areas.{Prices, tariff}
+use mathlib.Core.Bool.{Bool}
+use mathlib.Core.List.{List, map}
+use mathlib.Core.Path.{_≡_, sym, ap, ap₂, fun-ext, _∙_}
+use Prim.Native.Nat.{ℕ, _≤_}
+use lib.Dec.{T}
+use lib.ListN.{length}
+use Rattle.rules.specs.Areas.{Prices}
 use Rattle.rules.specs.Book.{Book, User, Trade}
 use Rattle.rules.specs.Lists.{all}
 use Rattle.rules.specs.Questions.{tradeValid}
