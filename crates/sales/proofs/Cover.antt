@@ -17,7 +17,7 @@ use Rattle.laws.proofs.Shares.{eachWithin}
 use Rattle.laws.proofs.Tests.{and-l, and-r, all-by, sum-by}
 use Rattle.laws.specs.Trades.{Framed, Pairwise, ended, then}
 use Rattle.rules.specs.Areas.{Prices, areas, referencePrice}
-use Rattle.rules.specs.Book.{Party, Terms, Book, User, Trade, bilateralForDay, dealt, sold, bought, nobody}
+use Rattle.rules.specs.Book.{Header, Party, Terms, Book, User, Trade, bilateralForDay, dealt, sold, bought, nobody}
 use Rattle.rules.specs.Levels.{Limits, Holding, holding, sells, buys, partyTo, floored, stock, afternoonNeed, afternoonSum, exposure, leastReferencePrice, afternoonLevel, flagged, calledIn, shortOfCover}
 use Rattle.rules.specs.Lists.{all, any}
 use Rattle.rules.specs.Questions.{idsRise, tradeValid, amountsValid}
@@ -270,3 +270,35 @@ module _ (limits : Limits) (b : Book) (u : User) where
   pub short-from : shortOfCover limits b u ≡ shortFrom limits (b .header .prices) u (holding b u) (cutBefore (u .party .id) (b .trades))
   unfolding shortOfCover shortFrom afternoonLevel levelFrom calledIn flagged flaggedFrom partyTo sells buys cutBefore isCut
   short-from = refl
+
+-- ---- the opening book's risk
+
+-- a user's record in a book whose trades differ in what stands of kind 0 and day 0 only: level, target and flag are as in the opening book
+module _ (o b : Book) (framed : Pairwise Framed (o .trades) (b .trades)) (header : b .header ≡ o .header) (u : User) where
+  opening-next : AllNext (holding o u) (holding b u)
+  unfolding holding
+  opening-next = record { each = λ area k. next-holding o b u u refl framed area (holding o u area) refl refl refl }
+
+  module _ (limits : Limits) where
+    pub level-opening : afternoonLevel limits b u ≡ afternoonLevel limits o u
+    level-opening =
+        level-from limits b u
+        ∙ ap (λ (h : Header). levelFrom limits (h .prices) u (holding b u)) header
+        ∙ sym (level-next opening-next limits (o .header .prices) u)
+        ∙ sym (level-from limits o u)
+
+    pub target-opening : target limits b u ≡ target limits o u
+    unfolding target
+    target-opening = ap (λ (n : ℕ). n - u .party .assigned) level-opening
+
+    pub flagged-opening : flagged limits b u ≡ flagged limits o u
+    unfolding flagged flaggedFrom
+    flagged-opening =
+        ap (λ (h : Header). flaggedFrom limits (h .prices) u (holding b u)) header ∙ sym (flagged-next opening-next limits (o .header .prices) u)
+
+    -- short of cover: with the trades that stand below notified now
+    pub short-opening : shortOfCover limits b u ≡ shortFrom limits (o .header .prices) u (holding o u) (cutBefore (u .party .id) (b .trades))
+    short-opening =
+        short-from limits b u
+        ∙ ap (λ (h : Header). shortFrom limits (h .prices) u (holding b u) (cutBefore (u .party .id) (b .trades))) header
+        ∙ sym (short-next opening-next limits (o .header .prices) u (cutBefore (u .party .id) (b .trades)))

@@ -17,3 +17,5 @@ pub mod Reduced
 pub mod Groups
 pub mod Rebuilt
 pub mod Standing
+-- a run's book, represented by what changes of the opening book
+pub mod Represented

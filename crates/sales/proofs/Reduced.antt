@@ -17,15 +17,15 @@ use Rattle.laws.proofs.Trades.{framed}
 use Rattle.rules.specs.Book.{Header, Book, User, Trade}
 use Rattle.rules.specs.Calls.{Result, reducedBy, ofCuts}
 use Rattle.rules.specs.Changes.{change, moved}
-use Rattle.rules.specs.Levels.{Limits, Holding, holding, shortOfCover}
+use Rattle.rules.specs.Levels.{Limits, Holding, holding, calledIn, shortOfCover}
 use Rattle.rules.specs.Lists.{any}
 use Rattle.rules.specs.Reduction.{cutBy, cutAll, settleOne, settle, tallyAll, nothing, withTrades, hasEligible, lost}
-use Rattle.sales.proofs.Cover.{valid-notified, cut-before-kept, has-eligible-sales, next-holding, or-false, short-from, short-next}
+use Rattle.sales.proofs.Cover.{valid-notified, cut-before-kept, has-eligible-sales, next-holding, or-false, called-from, flagged-next, short-from, short-next}
 use Rattle.sales.proofs.Cuts.{sale-within, cuts-sales, sales-cut, sales-other, tally-kept, cut-zero}
 use Rattle.sales.proofs.Kept.{by-case}
 use Rattle.sales.proofs.Numbers.{standing-cut}
 use Rattle.sales.proofs.Settled.{settle-kept, settle-parties, settle-one-none, settle-none}
-use Rattle.sales.specs.Cover.{AllNext, shortFrom, due}
+use Rattle.sales.specs.Cover.{AllNext, flaggedFrom, shortFrom, due}
 use Rattle.sales.specs.Kept.{spread}
 use Rattle.sales.specs.Reduced.{ownSales, ownCuts, SalesReduced}
 use Rattle.sales.specs.Sales.{ownSale, salesOf, shortAt, isParty, someCut, less}
@@ -141,6 +141,15 @@ module _ {b : Book} {u : User} {asked : ℕ} {r : Result} (h : SalesReduced b u 
         ∙ ap (λ (x : Header). shortFrom limits (x .prices) v (holding (r .book) v) (cutBefore (v .party .id) (r .book .trades))) (h .header)
         ∙ sym (short-next same limits (b .header .prices) v (cutBefore (v .party .id) (r .book .trades)))
         ∙ ap (shortFrom limits (b .header .prices) v g) (h .cut (v .party .id))
+
+    -- called in after the reduction
+    pub called-after : {g : ℕ → Holding} → AllNext g (holding (r .book) v)
+        → calledIn limits (r .book) v
+        ≡ flaggedFrom limits (b .header .prices) v g || (cutBefore (v .party .id) (b .trades) || someCut (isParty (v .party .id)) (ownCuts b u asked) (ownSales b u))
+    called-after {g} same =
+        called-from limits (r .book) v
+        ∙ ap (λ (x : Header). flaggedFrom limits (x .prices) v (holding (r .book) v) || cutBefore (v .party .id) (r .book .trades)) (h .header)
+        ∙ ap₂ (λ (x y : Bool). x || y) (sym (flagged-next same limits (b .header .prices) v)) (h .cut (v .party .id))
 
     -- what the user held before serves, where the position is that of the record
     held-before : AllNext (holding b v) (holding (r .book) v)

@@ -4,3 +4,4 @@ pub mod Sales
 pub mod Cover
 pub mod Reduced
 pub mod Groups
+pub mod Represented
