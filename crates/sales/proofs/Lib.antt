@@ -19,3 +19,5 @@ pub mod Rebuilt
 pub mod Standing
 -- a run's book, represented by what changes of the opening book
 pub mod Represented
+pub mod Parts
+pub mod Next

@@ -5,7 +5,7 @@ use mathlib.Core.Logic.{_⊎_, inl, inr}
 use mathlib.Core.Path.{_≡_, refl, sym, ap, ap₂, _∙_}
 use Prim.Native.Nat.{ℕ, zero, suc, _-_, _<_}
 use native.Mathlib.Omega.{arith}
-use lib.Dec.{T, eqb, ltb}
+use lib.Dec.{eqb, ltb}
 use borrow.Author.Tests.{eqb-true, eqb-false}
 use lib.ListN.{length, take, drop, getD, length-map}
 use Rattle.dealings.specs.Parties.{cutBefore}
@@ -14,10 +14,8 @@ use Rattle.laws.proofs.Trades.{framed, lowered-refl, lowered-trans}
 use Rattle.laws.specs.Trades.{Framed, Pairwise}
 use Rattle.rules.specs.Book.{Book, Party, Trade, User, nobody}
 use Rattle.rules.specs.Calls.{reducedBy}
-use Rattle.rules.specs.Levels.{Limits, holding, shortOfCover}
+use Rattle.rules.specs.Levels.{Limits, holding}
 use Rattle.rules.specs.Lists.{any}
-use Rattle.rules.specs.Questions.{idsRise}
-use Rattle.rules.specs.Reduction.{hasEligible}
 use Rattle.sales.proofs.Cover.{has-eligible-sales, short-opening}
 use Rattle.sales.proofs.Groups.{grouped-parties, grouped-length, grouped-slice}
 use Rattle.sales.proofs.Kept.{by-case}
@@ -27,7 +25,7 @@ use Rattle.sales.proofs.Settled.{party-at, same-place}
 use Rattle.sales.proofs.Standing.{standings-reduced}
 use Rattle.sales.specs.Cover.{shortFrom, due}
 use Rattle.sales.specs.Groups.{grouped, startOf, standings, starts, partOf, places, written}
-use Rattle.sales.specs.Reduced.{ownSales, ownCuts, SalesReduced}
+use Rattle.sales.specs.Reduced.{ownSales, ownCuts}
 use Rattle.sales.specs.Represented.{Represented, Dues}
 use Rattle.sales.specs.Sales.{salesOf, isParty, someCut, less}
 
@@ -43,7 +41,7 @@ take-parties us vs e i = reads vs i ∙ ap (take i) e ∙ sym (reads us i)
     reads (w ∷ ws) (suc i) = ap (λ (qs : List Party). w .party ∷ qs) (reads ws i)
 
 -- users who are the same parties are as many
-same-length : (us vs : List User) → map (λ v. v .party) vs ≡ map (λ u. u .party) us → length vs ≡ length us
+pub same-length : (us vs : List User) → map (λ v. v .party) vs ≡ map (λ u. u .party) us → length vs ≡ length us
 same-length us vs e = sym (length-map vs (λ v. v .party)) ∙ ap length e ∙ length-map us (λ u. u .party)
 
 -- as many own sales
