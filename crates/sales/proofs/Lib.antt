@@ -16,6 +16,7 @@ pub mod Reduced
 -- the sales of all users in one list
 pub mod Groups
 pub mod Count
+pub mod Origins
 pub mod Rebuilt
 pub mod Standing
 -- a run's book, represented by what changes of the opening book

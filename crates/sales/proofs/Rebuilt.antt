@@ -4,10 +4,11 @@ use mathlib.Core.Bool.{Bool, true, false, cond, _&&_, _||_}
 use mathlib.Core.List.{List, [], _∷_, _++_, map}
 use mathlib.Core.Logic.{_⊎_, inl, inr}
 use mathlib.Core.Path.{_≡_, refl, sym, ap, ap₂, subst, _∙_}
-use Prim.Native.Nat.{ℕ, suc, _+_}
+use Prim.Native.Nat.{ℕ, suc, _≤_, _<_}
 use native.Mathlib.Omega.{arith}
 use lib.Dec.{T, eqb}
-use lib.ListN.{length, getD, set, length-map}
+use lib.ListN.{length, drop, getD, set, length-map, drop-of-length-le}
+use lib.Seq.{drop-cons}
 use Rattle.laws.proofs.Positions.{seller-known}
 use Rattle.laws.proofs.Tests.{and-l, and-r, and-i, eqb-comm}
 use Rattle.laws.proofs.Trades.{framed-refl}
@@ -17,6 +18,7 @@ use Rattle.rules.specs.Lists.{all, any}
 use Rattle.rules.specs.Questions.{known, tradeValid}
 use Rattle.sales.proofs.Groups.{places-length}
 use Rattle.sales.proofs.Kept.{by-case, holds, fails}
+use Rattle.sales.proofs.Origins.{grouped-ext}
 use Rattle.sales.specs.Groups.{grouped, standings, places, standingAt, written}
 use Rattle.sales.specs.Kept.{kept, placesOf}
 use Rattle.sales.specs.Sales.{ownSale, salesOf}
@@ -37,6 +39,17 @@ unfolding written
 written-past d [] ns t ts = refl
 written-past d (i ∷ is) [] t ts = refl
 written-past d (i ∷ is) (n ∷ ns) t ts = written-past d is ns t (set ts i (standingAt n (getD ts i d)))
+
+-- the amount at a place, then those after it
+pub written-step : (d : Trade) (is ns : List ℕ) (ts : List Trade) (k : ℕ) → k < length is → k < length ns
+    → written d (drop k is) (drop k ns) ts ≡ written d (drop (suc k) is) (drop (suc k) ns) (set ts (getD is k 0) (standingAt (getD ns k 0) (getD ts (getD is k 0) d)))
+unfolding written
+written-step d is ns ts k h l = rw (drop-cons is k 0 h, drop-cons ns k 0 l)
+
+-- none is left
+pub written-end : (d : Trade) (is ns : List ℕ) (ts : List Trade) (k : ℕ) → length is ≤ k → written d (drop k is) (drop k ns) ts ≡ ts
+unfolding written
+written-end d is ns ts k h = rw (drop-of-length-le is {i = k} h)
 
 -- ---- one user's part
 
@@ -168,11 +181,6 @@ all-left us (then {t = t} {n = n} {ts = ts} f fs) v =
 
     same : n .standing ≡ t .standing → n ≡ t
     same e = ap₂ (λ (r : Terms) (m : ℕ). record { terms = r; standing = m }) (f .terms) e
-
-grouped-ext : {B : Type 0} (g h : ℕ → List B) → ((id : ℕ) → g id ≡ h id) → (us : List User) → grouped g us ≡ grouped h us
-unfolding grouped
-grouped-ext g h e [] = refl
-grouped-ext {B} g h e (u ∷ us) = ap₂ (λ (xs ys : List B). xs ++ ys) (e (u .party .id)) (grouped-ext g h e us)
 
 -- what stands of each own sale afterwards, written at the places of the own sales before, gives the trades afterwards
 pub rebuilt : (d : Trade) (us : List User) {ts ns : List Trade} → Pairwise Framed ts ns → T (all (tradeValid us) ts)
