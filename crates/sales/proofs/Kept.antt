@@ -102,9 +102,3 @@ module _ {A : Type 0} (p : A → Bool) where
       by-case (p x)
       (λ h. rw h (ap (λ (ks : List ℕ). (m + n) ∷ ks) (spread-together xs ms ns (omega arith))))
       (λ h. rw h (ap (λ (ks : List ℕ). 0 ∷ ks) (spread-together xs (m ∷ ms) (n ∷ ns) e)))
-
-  -- a list for those that pass is a list for all of them
-  pub spread-none : (xs : List A) → spread p xs [] ≡ map (λ x. 0) xs
-  unfolding spread
-  spread-none [] = refl
-  spread-none (x ∷ xs) = ap (λ (ns : List ℕ). 0 ∷ ns) (spread-none xs)

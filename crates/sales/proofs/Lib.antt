@@ -8,7 +8,7 @@ pub mod Numbers
 -- positions after the cuts
 pub mod Settled
 pub mod Valid
-pub mod Midway
+pub mod FirstCuts
 -- who is called in, short of cover and eligible after the cuts
 pub mod Cover
 -- a reduction, and whom it leaves as they were
