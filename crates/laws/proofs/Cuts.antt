@@ -56,7 +56,7 @@ cuts-within-by p q f (c ∷ cs) (t ∷ ts) h =
     weaker false x y g h = g h
 
 -- two cuts of each trade as one
-together-within : (f g : Trade → ℕ) (cs ds : List ℕ) (ts : List Trade) → T (eachWithin cs (map f ts)) → T (eachWithin ds (map g ts))
+pub together-within : (f g : Trade → ℕ) (cs ds : List ℕ) (ts : List Trade) → T (eachWithin cs (map f ts)) → T (eachWithin ds (map g ts))
     → T (eachWithin (together cs ds) (map (λ t. f t + g t) ts))
 unfolding eachWithin together
 together-within f g [] ds [] h k = tt
@@ -107,7 +107,7 @@ eligible-is b u t h =
 
 module _ (f : Prices) (p : Trade → Bool) (ts : List Trade) where
   -- a tier's standings, tariffs and worth, read off the trades
-  lot-standings : map (λ x. x .standing) (map (lot f p) ts) ≡ map (standingIf p) ts
+  pub lot-standings : map (λ x. x .standing) (map (lot f p) ts) ≡ map (standingIf p) ts
   unfolding lot
   lot-standings = map-map (λ x. x .standing) (lot f p) ts
 

@@ -14,19 +14,13 @@ use Rattle.rules.specs.Book.{Book, User, Trade}
 use Rattle.rules.specs.Lists.{all}
 use Rattle.rules.specs.Questions.{tradeValid}
 use Rattle.rules.specs.Reduction.{lot, tierOne, tierTwo}
-use Rattle.rules.specs.Shares.{Lot}
 use Rattle.tiers.proofs.Sellers.{one-is, two-is}
 use Rattle.tiers.specs.Tiers.{SellerOf, inOne, inTwo, TiersOf}
 use Rattle.tiers.specs.declared.Seller.{Seller}
+use Rattle.worths.proofs.Lots.{lots-map}
 use Rattle.worths.specs.Lots.{lotsOf, Tier}
 
 -- ---- the rules' tiers
-
--- two lists read off the trades, as lots
-lots-map : (f : Prices) (p : Trade → Bool) (ts : List Trade) → map (lot f p) ts ≡ lotsOf (map (standingIf p) ts) (map (tariffOf f) ts)
-unfolding lotsOf lot
-lots-map f p [] = refl
-lots-map f p (t ∷ ts) = ap (λ (xs : List Lot). record { standing = standingIf p t; tariff = tariffOf f t } ∷ xs) (lots-map f p ts)
 
 module _ (b : Book) (u : User) {s : Seller} (h : SellerOf u s) {tariffs one two : List ℕ} (e : TiersOf (b .header .prices) s (b .trades) tariffs one two) where
   pub tier-one-is : tierOne b u ≡ lotsOf one tariffs

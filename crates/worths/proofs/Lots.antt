@@ -1,12 +1,17 @@
 -- The trades of a tier and their worth: a list of lots from two lists of numbers, trade by trade. Assumes nothing.
 use mathlib.Core.Path.{_≡_, refl, ap, _∙_}
+use mathlib.Core.Bool.{Bool}
 use mathlib.Core.List.{List, [], _∷_, map}
 use Prim.Native.Nat.{ℕ, suc, _+_, _*_, _-_, _≤_, _<_}
 use native.Mathlib.Nat.{not-suc-le-zero, mul-le-mul}
 use native.Mathlib.Omega.{arith}
 use lib.ListN.{length, take, drop, getD, length-drop}
 use lib.Seq.{take-all, getD-drop}
-use Rattle.rules.specs.Shares.{tierWorth}
+use Rattle.laws.specs.Trades.{standingIf, tariffOf}
+use Rattle.rules.specs.Areas.{Prices}
+use Rattle.rules.specs.Book.{Trade}
+use Rattle.rules.specs.Reduction.{lot}
+use Rattle.rules.specs.Shares.{Lot, tierWorth}
 use Rattle.worths.specs.Lots.{lotsOf, Tier}
 
 -- there are as many as in either list
@@ -22,6 +27,12 @@ unfolding lotsOf
 lots-standing [] ts e = refl
 lots-standing (s ∷ ss) [] e = absurd (omega arith)
 lots-standing (s ∷ ss) (t ∷ ts) e = ap (λ (ns : List ℕ). s ∷ ns) (lots-standing ss ts (omega arith))
+
+-- a tier read off trades is two lists read off them
+pub lots-map : (f : Prices) (p : Trade → Bool) (ts : List Trade) → map (lot f p) ts ≡ lotsOf (map (standingIf p) ts) (map (tariffOf f) ts)
+unfolding lotsOf lot
+lots-map f p [] = refl
+lots-map f p (t ∷ ts) = ap (λ (xs : List Lot). record { standing = standingIf p t; tariff = tariffOf f t } ∷ xs) (lots-map f p ts)
 
 -- the worth of no trade
 pub worth-none : (ss ts : List ℕ) → length ss ≡ 0 → tierWorth (lotsOf ss ts) ≡ 0

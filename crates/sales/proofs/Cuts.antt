@@ -1,0 +1,219 @@
+-- The cuts of a reduction are those of the user's own sales, spread over the trades; what they do to the sales of each user and to the tally. Assumes nothing.
+use mathlib.Core.Bool.{Bool, true, false, not, cond, _&&_}
+use mathlib.Core.List.{List, [], _∷_, map}
+use mathlib.Core.Path.{_≡_, refl, sym, ap, ap₂, subst, fun-ext, _∙_}
+use Prim.Native.Nat.{ℕ, _+_, _-_, _*_, _≤_, _<_}
+use native.Mathlib.Nat.{sub-zero, zero-mul}
+use native.Mathlib.Omega.{arith}
+use lib.Dec.{T, eqb, ltb, eqb→eq, ltb→lt}
+use lib.ListN.{length, length-map}
+use borrow.Author.Tests.{ltb-false, ne-eqb}
+use Rattle.laws.proofs.Cuts.{together-within, lot-standings}
+use Rattle.laws.proofs.Shares.{eachWithin, within-length, tier-length, tier-within}
+use Rattle.laws.proofs.Tests.{and-l, map-by}
+use Rattle.laws.specs.Trades.{standingIf}
+use Rattle.rules.specs.Areas.{Prices, tariff}
+use Rattle.rules.specs.Book.{Book, User, Trade, bilateralForDay}
+use Rattle.rules.specs.Levels.{holding, sells}
+use Rattle.rules.specs.Reduction.{eligible, shortIn, lot, tierOne, tierTwo, together, cuts, cutBy, cutAll, Tally, tallied, tallyAll}
+use Rattle.rules.specs.Shares.{Lot, tierWorth, tierCuts}
+use Rattle.sales.proofs.Kept.{by-case, holds, fails, kept-yes, kept-no, kept-pass, spread-yes, spread-no, spread-together}
+use Rattle.sales.proofs.Tiers.{tier-kept, worth-kept}
+use Rattle.sales.specs.Kept.{kept, spread}
+use Rattle.sales.specs.Sales.{ownSale, salesOf, shortAt, saleLots, saleCuts}
+
+-- ---- the cuts of own sales
+
+-- a tier has a cut for each sale
+tier-count : (f : Prices) (belongs : ℕ → Bool) (asked : ℕ) (ss : List Trade) → length (tierCuts asked (saleLots f belongs ss)) ≡ length ss
+unfolding saleLots
+tier-count f belongs asked ss = tier-length asked (saleLots f belongs ss) ∙ length-map ss (lot f (λ t. belongs (t .terms .area)))
+
+module _ (f : Prices) (short : ℕ → Bool) (asked : ℕ) (ss : List Trade) where
+  -- a sale is of one of the tiers
+  both : (s : Trade) → standingIf (λ t. short (t .terms .area)) s + standingIf (λ t. not (short (t .terms .area))) s ≡ s .standing
+  both s = go (short (s .terms .area))
+    where
+      go : (c : Bool) → cond c (s .standing) 0 + cond (not c) (s .standing) 0 ≡ s .standing
+      go true = omega arith
+      go false = omega arith
+
+  -- each cut is at most what stands, and there are as many cuts as sales
+  pub sale-within : T (eachWithin (saleCuts f short asked ss) (map (λ s. s .standing) ss))
+  unfolding saleCuts saleLots
+  sale-within =
+      let p : Trade → Bool = λ t. short (t .terms .area) in
+      let q : Trade → Bool = λ t. not (short (t .terms .area)) in
+      let one = saleLots f short ss in
+      let two = saleLots f (λ area. not (short area)) ss in
+      subst (λ (g : Trade → ℕ). T (eachWithin (saleCuts f short asked ss) (map g ss))) (fun-ext both)
+      (together-within (standingIf p) (standingIf q) (tierCuts asked one) (tierCuts (asked - tierWorth one) two) ss
+      (rw (lot-standings f p ss) at (tier-within asked one))
+      (rw (lot-standings f q ss) at (tier-within (asked - tierWorth one) two)))
+
+  pub sale-length : length (saleCuts f short asked ss) ≡ length ss
+  sale-length =
+      within-length (saleCuts f short asked ss) (map (λ s. s .standing) ss) sale-within ∙ length-map ss (λ s. s .standing)
+
+-- ---- the cuts of a reduction
+
+-- a sale of the user is eligible where it stands above 0
+kept-standing : (sold day some belongs : Bool) (n : ℕ) → T (sold && day) → (some ≡ false → n ≡ 0)
+    → cond ((sold && (day && some)) && belongs) n 0 ≡ cond belongs n 0
+kept-standing true true true belongs n h z = refl
+kept-standing true true false true n h z = sym (z refl)
+kept-standing true true false false n h z = refl
+kept-standing true false some belongs n h z = absurd h
+kept-standing false day some belongs n h z = absurd h
+
+other-standing : (sold day some belongs : Bool) (n : ℕ) → T (not (sold && day)) → cond ((sold && (day && some)) && belongs) n 0 ≡ 0
+other-standing true true some belongs n h = absurd h
+other-standing true false some belongs n h = refl
+other-standing false day some belongs n h = refl
+
+-- what does not stand above 0 is 0
+not-above : (n : ℕ) → ltb 0 n ≡ false → n ≡ 0
+not-above n e = omega (arith, ltb-false 0 n e)
+
+module _ (b : Book) (u : User) where
+  -- a tier of the book: the user's eligible trades in areas that pass a test
+  lotIn : (ℕ → Bool) → Trade → Lot
+  lotIn belongs = lot (b .header .prices) (λ t. eligible b u t && belongs (t .terms .area))
+
+  module _ (belongs : ℕ → Bool) where
+    lot-none : (t : Trade) → T (not (ownSale (u .party .id) t)) → lotIn belongs t .standing ≡ 0
+    unfolding lotIn lot eligible sells ownSale
+    lot-none t h =
+        other-standing (eqb (t .terms .seller) (u .party .id)) (bilateralForDay t) (ltb 0 (t .standing)) (belongs (t .terms .area)) (t .standing) h
+
+    lots-sales : map (lotIn belongs) (salesOf (b .trades) (u .party .id)) ≡ saleLots (b .header .prices) belongs (salesOf (b .trades) (u .party .id))
+    unfolding lotIn lot eligible sells ownSale salesOf saleLots
+    lots-sales =
+        map-by (ownSale (u .party .id)) (lotIn belongs) (lot (b .header .prices) (λ t. belongs (t .terms .area)))
+        (λ t h. ap (λ (n : ℕ). record { standing = n; tariff = tariff (b .header .prices) (t .terms .area) })
+        (kept-standing (eqb (t .terms .seller) (u .party .id)) (bilateralForDay t) (ltb 0 (t .standing)) (belongs (t .terms .area)) (t .standing) h (not-above (t .standing))))
+        (kept (ownSale (u .party .id)) (b .trades)) (kept-pass (ownSale (u .party .id)) (b .trades))
+
+    tier-worth-sales : tierWorth (map (lotIn belongs) (b .trades)) ≡ tierWorth (saleLots (b .header .prices) belongs (salesOf (b .trades) (u .party .id)))
+    unfolding salesOf
+    tier-worth-sales = worth-kept (ownSale (u .party .id)) (lotIn belongs) lot-none (b .trades) ∙ ap tierWorth lots-sales
+
+    tier-sales : (asked : ℕ) → tierCuts asked (map (lotIn belongs) (b .trades))
+        ≡ spread (ownSale (u .party .id)) (b .trades) (tierCuts asked (saleLots (b .header .prices) belongs (salesOf (b .trades) (u .party .id))))
+    unfolding salesOf
+    tier-sales asked =
+        tier-kept (ownSale (u .party .id)) (lotIn belongs) lot-none asked (b .trades)
+        ∙ ap (λ (xs : List Lot). spread (ownSale (u .party .id)) (b .trades) (tierCuts asked xs)) lots-sales
+
+  -- the cuts of a reduction are the cuts of the user's own sales, each at its place, and 0 elsewhere
+  pub cuts-sales : (asked : ℕ) → cuts b u asked
+      ≡ spread (ownSale (u .party .id)) (b .trades) (saleCuts (b .header .prices) (shortAt u) asked (salesOf (b .trades) (u .party .id)))
+  unfolding cuts tierOne tierTwo shortIn holding shortAt saleCuts lotIn
+  cuts-sales asked =
+      let p = ownSale (u .party .id) in
+      let ss = salesOf (b .trades) (u .party .id) in
+      let long : ℕ → Bool = λ area. not (shortAt u area) in
+      let one = saleLots (b .header .prices) (shortAt u) ss in
+      let two = saleLots (b .header .prices) long ss in
+      ap₂ together (tier-sales (shortAt u) asked)
+      (ap (λ (n : ℕ). tierCuts (asked - n) (map (lotIn long) (b .trades))) (tier-worth-sales (shortAt u)) ∙ tier-sales long (asked - tierWorth one))
+      ∙ spread-together p (b .trades) (tierCuts asked one) (tierCuts (asked - tierWorth one) two)
+      (tier-count (b .header .prices) (shortAt u) asked ss ∙ sym (tier-count (b .header .prices) long (asked - tierWorth one) ss))
+
+-- ---- cuts of trades
+
+-- a cut of 0 leaves the trade
+pub cut-zero : (t : Trade) → cutBy 0 t ≡ t
+unfolding cutBy
+cut-zero t = ap (λ (n : ℕ). record { terms = t .terms; standing = n }) (sub-zero (t .standing))
+
+-- cuts for none of those that pass leave all
+pub cut-nobody : (p : Trade → Bool) (ts : List Trade) → cutAll (spread p ts []) ts ≡ ts
+unfolding spread cutAll
+cut-nobody p [] = refl
+cut-nobody p (t ∷ ts) = ap₂ (λ (n : Trade) (ns : List Trade). n ∷ ns) (cut-zero t) (cut-nobody p ts)
+
+-- no cut changes a test of the terms
+unfoldable pub OfTerms : (Trade → Bool) → Type 0
+OfTerms p = (c : ℕ) (t : Trade) → p (cutBy c t) ≡ p t
+
+pub own-of-terms : (id : ℕ) → OfTerms (ownSale id)
+unfolding OfTerms ownSale cutBy bilateralForDay
+own-of-terms id c t = refl
+
+-- one element of the cuts of those that pass
+pub cut-yes : (p : Trade → Bool) (t : Trade) (ts : List Trade) (c : ℕ) (cs : List ℕ) → p t ≡ true
+    → cutAll (spread p (t ∷ ts) (c ∷ cs)) (t ∷ ts) ≡ cutBy c t ∷ cutAll (spread p ts cs) ts
+unfolding cutAll
+cut-yes p t ts c cs e = rw (spread-yes p t ts c cs e)
+
+pub cut-no : (p : Trade → Bool) (t : Trade) (ts : List Trade) (cs : List ℕ) → p t ≡ false
+    → cutAll (spread p (t ∷ ts) cs) (t ∷ ts) ≡ t ∷ cutAll (spread p ts cs) ts
+unfolding cutAll
+cut-no p t ts cs e = rw (spread-no p t ts cs e) (ap (λ (n : Trade). n ∷ cutAll (spread p ts cs) ts) (cut-zero t))
+
+-- of those that pass, the cuts are taken off
+pub kept-cut : (p : Trade → Bool) → OfTerms p → (ts : List Trade) (cs : List ℕ) → kept p (cutAll (spread p ts cs) ts) ≡ cutAll cs (kept p ts)
+unfolding OfTerms cutAll kept spread
+kept-cut p o ts [] = ap (kept p) (cut-nobody p ts)
+kept-cut p o [] (c ∷ cs) = refl
+kept-cut p o (t ∷ ts) (c ∷ cs) =
+    by-case (p t)
+    (λ e. ap (kept p) (cut-yes p t ts c cs e) ∙ kept-yes p (cutBy c t) (cutAll (spread p ts cs) ts) (o c t ∙ e)
+    ∙ ap (λ (ns : List Trade). cutBy c t ∷ ns) (kept-cut p o ts cs) ∙ ap (cutAll (c ∷ cs)) (sym (kept-yes p t ts e)))
+    (λ e. ap (kept p) (cut-no p t ts (c ∷ cs) e) ∙ kept-no p t (cutAll (spread p ts (c ∷ cs)) ts) e
+    ∙ kept-cut p o ts (c ∷ cs) ∙ ap (cutAll (c ∷ cs)) (sym (kept-no p t ts e)))
+
+-- of others, nothing is
+pub kept-apart : (p q : Trade → Bool) → OfTerms q → ((t : Trade) → T (p t) → q t ≡ false) → (ts : List Trade) (cs : List ℕ)
+    → kept q (cutAll (spread p ts cs) ts) ≡ kept q ts
+unfolding OfTerms cutAll spread
+kept-apart p q o d ts [] = ap (kept q) (cut-nobody p ts)
+kept-apart p q o d [] (c ∷ cs) = refl
+kept-apart p q o d (t ∷ ts) (c ∷ cs) =
+    by-case (p t)
+    (λ e. ap (kept q) (cut-yes p t ts c cs e) ∙ kept-no q (cutBy c t) (cutAll (spread p ts cs) ts) (o c t ∙ d t (holds e))
+    ∙ kept-apart p q o d ts cs ∙ sym (kept-no q t ts (d t (holds e))))
+    (λ e. ap (kept q) (cut-no p t ts (c ∷ cs) e)
+    ∙ by-case (q t)
+    (λ k. kept-yes q t (cutAll (spread p ts (c ∷ cs)) ts) k ∙ ap (λ (ns : List Trade). t ∷ ns) (kept-apart p q o d ts (c ∷ cs)) ∙ sym (kept-yes q t ts k))
+    (λ k. kept-no q t (cutAll (spread p ts (c ∷ cs)) ts) k ∙ kept-apart p q o d ts (c ∷ cs) ∙ sym (kept-no q t ts k)))
+
+module _ (id : ℕ) (ts : List Trade) (cs : List ℕ) where
+  -- the user's own sales after the cuts
+  pub sales-cut : salesOf (cutAll (spread (ownSale id) ts cs) ts) id ≡ cutAll cs (salesOf ts id)
+  unfolding salesOf
+  sales-cut = kept-cut (ownSale id) (own-of-terms id) ts cs
+
+  -- another's
+  pub sales-other : (other : ℕ) → (other ≡ id → ⊥) → salesOf (cutAll (spread (ownSale id) ts cs) ts) other ≡ salesOf ts other
+  unfolding salesOf ownSale
+  sales-other other n = kept-apart (ownSale id) (ownSale other) (own-of-terms other) apart ts cs
+    where
+      apart : (t : Trade) → T (ownSale id t) → ownSale other t ≡ false
+      apart t h =
+          let e = eqb→eq (t .terms .seller) id (and-l (eqb (t .terms .seller) id) (bilateralForDay t) h) in
+          rw (ne-eqb (t .terms .seller) other (λ k. n (sym k ∙ e)))
+
+-- ---- the tally
+
+module _ (f : Prices) where
+  tally-zero : (t : Trade) (tally : Tally) → tallied f 0 t tally ≡ tally
+  unfolding tallied
+  tally-zero t tally =
+      ap₂ (λ (m n : ℕ). record { mwh = m; worth = n }) (omega arith) (omega (arith, zero-mul (tariff f (t .terms .area))))
+
+  tally-nobody : (p : Trade → Bool) (ts : List Trade) (tally : Tally) → tallyAll f (spread p ts []) ts tally ≡ tally
+  unfolding spread tallyAll
+  tally-nobody p [] tally = refl
+  tally-nobody p (t ∷ ts) tally = ap (tallyAll f (spread p ts []) ts) (tally-zero t tally) ∙ tally-nobody p ts tally
+
+  -- the tally of spread cuts is that of the cuts of those that pass
+  pub tally-kept : (p : Trade → Bool) (ts : List Trade) (cs : List ℕ) (tally : Tally) → tallyAll f (spread p ts cs) ts tally ≡ tallyAll f cs (kept p ts) tally
+  unfolding tallyAll kept spread
+  tally-kept p ts [] tally = tally-nobody p ts tally
+  tally-kept p [] (c ∷ cs) tally = refl
+  tally-kept p (t ∷ ts) (c ∷ cs) tally =
+      by-case (p t)
+      (λ e. rw (spread-yes p t ts c cs e, kept-yes p t ts e) (tally-kept p ts cs (tallied f c t tally)))
+      (λ e. rw (spread-no p t ts (c ∷ cs) e, kept-no p t ts e) (ap (tallyAll f (spread p ts (c ∷ cs)) ts) (tally-zero t tally) ∙ tally-kept p ts (c ∷ cs) tally))

@@ -1,0 +1,11 @@
+-- Laws of the elements that pass a test:
+pub mod Kept
+-- the cuts of a tier
+pub mod Tiers
+-- cuts of own sales and of all trades
+pub mod Cuts
+pub mod Numbers
+-- positions after the cuts
+pub mod Settled
+-- who is called in, short of cover and eligible after the cuts
+pub mod Cover

@@ -1,0 +1,195 @@
+-- Positions after the cuts of a reduction: a trade that loses nothing moves nobody, so the own sales alone settle them; sale by sale, and by the places of the
+-- users. Assumes nothing.
+use mathlib.Core.Bool.{Bool, true, false, cond}
+use mathlib.Core.List.{List, [], _∷_, map, map-map}
+use mathlib.Core.Path.{_≡_, refl, sym, ap, ap₂, _∙_}
+use Prim.Native.Nat.{ℕ, zero, suc, _≤_, _<_, _+_}
+use native.Mathlib.Nat.{le-of-eq, not-suc-le-zero, le-of-suc-le-suc}
+use native.Mathlib.Omega.{arith}
+use lib.Dec.{T, eqb, ltb, eqb→eq, ltb→lt}
+use lib.IntN.{ℤ, pos, negℤ, +ℤ-idr}
+use lib.ListN.{length, drop, getD, set, length-map, drop-of-length-le, List·getD-map}
+use lib.Seq.{drop-cons}
+use borrow.Author.Tests.{eq-eqb, ne-eqb}
+use Rattle.integers.proofs.Linear.{eq-parts, posPart-pos, negPart-pos}
+use Rattle.laws.proofs.Tests.{and-l, and-r, by-test}
+use Rattle.laws.proofs.Trades.{parts-lost}
+use Rattle.laws.proofs.Users.{change-absent, idsRise-map}
+use Rattle.rules.specs.Book.{Party, PerArea, User, Trade, nobody}
+use Rattle.rules.specs.Changes.{add, change, moved}
+use Rattle.rules.specs.Questions.{idsRise}
+use Rattle.rules.specs.Reduction.{cutBy, cutAll, lost, settleOne, settle}
+use Rattle.sales.proofs.Cuts.{cut-zero, cut-nobody, cut-yes, cut-no}
+use Rattle.sales.proofs.Kept.{by-case, kept-yes, kept-no}
+use Rattle.sales.specs.Kept.{kept, spread}
+use Rattle.sales.specs.Sales.{settledAt}
+
+-- ---- a trade that loses nothing
+
+-- what a cut takes off
+pub lost-cut : (c : ℕ) (t : Trade) → c ≤ t .standing → lost t (cutBy c t) ≡ pos c
+unfolding cutBy
+lost-cut c t h = eq-parts (lost t (cutBy c t)) (pos c) (omega (arith, parts-lost t (cutBy c t), posPart-pos c, negPart-pos c))
+
+lost-none : (t : Trade) → lost t t ≡ pos 0
+lost-none t = ap (lost t) (sym (cut-zero t)) ∙ lost-cut 0 t (omega arith)
+
+add-none : (v : PerArea) (area : ℕ) → add v area (pos 0) ≡ v
+unfolding add
+add-none v zero = ap (λ (z : ℤ). record { pvb = z; tvb = v .tvb; avb = v .avb }) (+ℤ-idr (v .pvb))
+add-none v (suc zero) = ap (λ (z : ℤ). record { pvb = v .pvb; tvb = z; avb = v .avb }) (+ℤ-idr (v .tvb))
+add-none v (suc (suc area)) = ap (λ (z : ℤ). record { pvb = v .pvb; tvb = v .tvb; avb = z }) (+ℤ-idr (v .avb))
+
+move-none : (area : ℕ) (u : User) → moved area (pos 0) u ≡ u
+unfolding moved
+move-none area u = ap (λ (v : PerArea). record { party = u .party; physical = u .physical; position = v; blocked = u .blocked }) (add-none (u .position) area)
+
+-- a change that leaves a user leaves all
+change-none : (id : ℕ) (f : User → User) → ((u : User) → f u ≡ u) → (us : List User) → change id f us ≡ us
+unfolding change
+change-none id f e [] = refl
+change-none id f e (u ∷ us) =
+    ap₂ (λ (v : User) (vs : List User). v ∷ vs) (by-test (λ (v : User). v ≡ u) (eqb (u .party .id) id) (λ t. e u) (λ t. refl)) (change-none id f e us)
+
+settle-one-none : (t : Trade) (us : List User) → settleOne t t us ≡ us
+unfolding settleOne
+settle-one-none t us =
+    rw (lost-none t)
+    (change-none (t .terms .buyer) (moved (t .terms .area) (pos 0)) (move-none (t .terms .area)) (change (t .terms .seller) (moved (t .terms .area) (pos 0)) us)
+    ∙ change-none (t .terms .seller) (moved (t .terms .area) (pos 0)) (move-none (t .terms .area)) us)
+
+settle-none : (ts : List Trade) (us : List User) → settle ts ts us ≡ us
+unfolding settle
+settle-none [] us = refl
+settle-none (t ∷ ts) us = ap (settle ts ts) (settle-one-none t us) ∙ settle-none ts us
+
+-- trades that are cut only where they pass a test: those that pass settle the positions
+pub settle-kept : (p : Trade → Bool) (ts : List Trade) (cs : List ℕ) (us : List User)
+    → settle ts (cutAll (spread p ts cs) ts) us ≡ settle (kept p ts) (cutAll cs (kept p ts)) us
+unfolding settle spread cutAll kept
+settle-kept p ts [] us = ap (λ (ns : List Trade). settle ts ns us) (cut-nobody p ts) ∙ settle-none ts us ∙ sym (settle-none (kept p ts) us)
+settle-kept p [] (c ∷ cs) us = refl
+settle-kept p (t ∷ ts) (c ∷ cs) us =
+    by-case (p t)
+    (λ e. ap (λ (ns : List Trade). settle (t ∷ ts) ns us) (cut-yes p t ts c cs e)
+    ∙ settle-kept p ts cs (settleOne t (cutBy c t) us)
+    ∙ ap (λ (ss : List Trade). settle ss (cutAll (c ∷ cs) ss) us) (sym (kept-yes p t ts e)))
+    (λ e. ap (λ (ns : List Trade). settle (t ∷ ts) ns us) (cut-no p t ts (c ∷ cs) e)
+    ∙ ap (settle ts (cutAll (spread p ts (c ∷ cs)) ts)) (settle-one-none t us)
+    ∙ settle-kept p ts (c ∷ cs) us
+    ∙ ap (λ (ss : List Trade). settle ss (cutAll (c ∷ cs) ss) us) (sym (kept-no p t ts e)))
+
+-- ---- sale by sale
+
+-- the sale at a place, then those after it
+pub settle-step : (cs : List ℕ) (ss : List Trade) (us : List User) (i : ℕ) (d : Trade) → i < length ss → i < length cs
+    → settle (drop i ss) (cutAll (drop i cs) (drop i ss)) us
+    ≡ settle (drop (suc i) ss) (cutAll (drop (suc i) cs) (drop (suc i) ss)) (settleOne (getD ss i d) (cutBy (getD cs i 0) (getD ss i d)) us)
+unfolding settle cutAll
+settle-step cs ss us i d h k = rw (drop-cons ss i d h, drop-cons cs i 0 k)
+
+-- none is left
+pub settle-end : (cs : List ℕ) (ss : List Trade) (us : List User) (i : ℕ) → length ss ≤ i → settle (drop i ss) (cutAll (drop i cs) (drop i ss)) us ≡ us
+unfolding settle
+settle-end cs ss us i h = rw (drop-of-length-le ss {i = i} h)
+
+-- the seller's position rises by the cut and the buyer's falls
+pub settle-one-cut : (c : ℕ) (t : Trade) (us : List User) → c ≤ t .standing
+    → settleOne t (cutBy c t) us
+    ≡ change (t .terms .buyer) (moved (t .terms .area) (negℤ (pos c))) (change (t .terms .seller) (moved (t .terms .area) (pos c)) us)
+unfolding settleOne
+settle-one-cut c t us h = rw (lost-cut c t h)
+
+-- ---- the users by their places
+
+-- ids stand in their order, and one user has an id: a change of the user of an id is a change at its place
+pub change-at : (f : User → User) (us : List User) (low i : ℕ) (d : User) → T (idsRise low us) → i < length us
+    → change (getD us i d .party .id) f us ≡ set us i (f (getD us i d))
+unfolding change idsRise
+change-at f [] low i d r h = absurd (not-suc-le-zero h)
+change-at f (u ∷ us) low zero d r h =
+    rw (eq-eqb (u .party .id) (u .party .id) refl)
+    (ap (λ (vs : List User). f u ∷ vs) (change-absent f us (u .party .id) (u .party .id) (le-of-eq refl) (and-r (ltb low (u .party .id)) (idsRise (u .party .id) us) r)))
+change-at f (u ∷ us) low (suc i) d r h =
+    let rest = and-r (ltb low (u .party .id)) (idsRise (u .party .id) us) r in
+    rw (ne-eqb (u .party .id) (getD us i d .party .id) (λ e. omega (arith, above us (u .party .id) i d rest (le-of-suc-le-suc h))))
+    (ap (λ (vs : List User). u ∷ vs) (change-at f us (u .party .id) i d rest (le-of-suc-le-suc h)))
+  where
+    above : (vs : List User) (least j : ℕ) (d : User) → T (idsRise least vs) → j < length vs → least < getD vs j d .party .id
+    above [] least j d r k = absurd (not-suc-le-zero k)
+    above (v ∷ vs) least zero d r k = ltb→lt least (v .party .id) (and-l (ltb least (v .party .id)) (idsRise (v .party .id) vs) r)
+    above (v ∷ vs) least (suc j) d r k =
+        let l = ltb→lt least (v .party .id) (and-l (ltb least (v .party .id)) (idsRise (v .party .id) vs) r) in
+        let m = above vs (v .party .id) j d (and-r (ltb least (v .party .id)) (idsRise (v .party .id) vs) r) (le-of-suc-le-suc k) in
+        omega arith
+
+-- the same, for an id that stands at the place
+pub change-placed : (f : User → User) (us : List User) (low id i : ℕ) (d : User) → T (idsRise low us) → i < length us → getD us i d .party .id ≡ id
+    → change id f us ≡ set us i (f (getD us i d))
+change-placed f us low id i d r h e = ap (λ (n : ℕ). change n f us) (sym e) ∙ change-at f us low i d r h
+
+-- no change of a position changes who a user is
+pub change-parties : (id : ℕ) (f : User → User) → ((u : User) → f u .party ≡ u .party) → (us : List User) → map (λ u. u .party) (change id f us) ≡ map (λ u. u .party) us
+unfolding change
+change-parties id f e [] = refl
+change-parties id f e (u ∷ us) =
+    ap₂ (λ (q : Party) (qs : List Party). q ∷ qs)
+    (by-test (λ (v : User). v .party ≡ u .party) (eqb (u .party .id) id) (λ t. e u) (λ t. refl)) (change-parties id f e us)
+
+pub move-parties : (id area : ℕ) (z : ℤ) (us : List User) → map (λ u. u .party) (change id (moved area z) us) ≡ map (λ u. u .party) us
+unfolding moved
+move-parties id area z us = change-parties id (moved area z) (λ u. refl) us
+
+-- users with the same parties have the same at each place
+pub party-at : (us vs : List User) → map (λ u. u .party) vs ≡ map (λ u. u .party) us → (i : ℕ) (d : User) → getD vs i d .party ≡ getD us i d .party
+party-at us vs e i d =
+    sym (List·getD-map (λ (u : User). u .party) vs i d) ∙ ap (λ (ps : List Party). getD ps i (d .party)) e ∙ List·getD-map (λ (u : User). u .party) us i d
+
+-- and ids in the same order
+pub move-rise : (id area : ℕ) (z : ℤ) (low : ℕ) (us : List User) → idsRise low (change id (moved area z) us) ≡ idsRise low us
+unfolding change moved
+move-rise id area z low us =
+    idsRise-map (λ u. cond (eqb (u .party .id) id) (moved area z u) u)
+    (λ u. by-test (λ (v : User). v .party ≡ u .party) (eqb (u .party .id) id) (λ t. refl) (λ t. refl)) low us
+
+pub settle-one-rise : (t n : Trade) (low : ℕ) (us : List User) → idsRise low (settleOne t n us) ≡ idsRise low us
+unfolding settleOne
+settle-one-rise t n low us =
+    move-rise (t .terms .buyer) (t .terms .area) (negℤ (lost t n)) low (change (t .terms .seller) (moved (t .terms .area) (lost t n)) us)
+    ∙ move-rise (t .terms .seller) (t .terms .area) (lost t n) low us
+
+pub settle-one-parties : (t n : Trade) (us : List User) → map (λ u. u .party) (settleOne t n us) ≡ map (λ u. u .party) us
+unfolding settleOne
+settle-one-parties t n us =
+    move-parties (t .terms .buyer) (t .terms .area) (negℤ (lost t n)) (change (t .terms .seller) (moved (t .terms .area) (lost t n)) us)
+    ∙ move-parties (t .terms .seller) (t .terms .area) (lost t n) us
+
+pub settle-parties : (ts ns : List Trade) (us : List User) → map (λ u. u .party) (settle ts ns us) ≡ map (λ u. u .party) us
+unfolding settle
+settle-parties [] ns us = refl
+settle-parties (t ∷ ts) [] us = refl
+settle-parties (t ∷ ts) (n ∷ ns) us = settle-parties ts ns (settleOne t n us) ∙ settle-one-parties t n us
+
+-- a cut at the places of its seller and its buyer
+pub settle-one-at : (c : ℕ) (t : Trade) (us : List User) (low seller buyer : ℕ) → T (idsRise low us) → seller < length us → buyer < length us
+    → getD us seller nobody .party .id ≡ t .terms .seller → getD us buyer nobody .party .id ≡ t .terms .buyer → c ≤ t .standing
+    → settleOne t (cutBy c t) us ≡ settledAt seller buyer (t .terms .area) c us
+unfolding settledAt
+settle-one-at c t us low seller buyer r h k e g l =
+    let risen = change (t .terms .seller) (moved (t .terms .area) (pos c)) us in
+    let first : risen ≡ set us seller (moved (t .terms .area) (pos c) (getD us seller nobody))
+    = change-placed (moved (t .terms .area) (pos c)) us low (t .terms .seller) seller nobody r h e in
+    let same = move-parties (t .terms .seller) (t .terms .area) (pos c) us in
+    let long : length risen ≡ length us
+    = sym (length-map risen (λ u. u .party)) ∙ ap length same ∙ length-map us (λ u. u .party) in
+    settle-one-cut c t us l
+    ∙ change-placed (moved (t .terms .area) (negℤ (pos c))) risen low (t .terms .buyer) buyer nobody
+    (rw (move-rise (t .terms .seller) (t .terms .area) (pos c) low us) r) (omega arith)
+    (ap (λ (q : Party). q .id) (party-at us risen same buyer nobody) ∙ g)
+    ∙ ap (λ (vs : List User). set vs buyer (moved (t .terms .area) (negℤ (pos c)) (getD vs buyer nobody))) first
+
+pub settle-rise : (ts ns : List Trade) (low : ℕ) (us : List User) → idsRise low (settle ts ns us) ≡ idsRise low us
+unfolding settle
+settle-rise [] ns low us = refl
+settle-rise (t ∷ ts) [] low us = refl
+settle-rise (t ∷ ts) (n ∷ ns) low us = settle-rise ts ns low (settleOne t n us) ∙ settle-one-rise t n low us

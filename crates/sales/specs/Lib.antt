@@ -1,0 +1,4 @@
+-- The elements of a list that pass a test, a user's own sales, what cover is read from, and the sales of all users in one list.
+pub mod Kept
+pub mod Sales
+pub mod Cover
