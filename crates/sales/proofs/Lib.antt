@@ -9,3 +9,8 @@ pub mod Numbers
 pub mod Settled
 -- who is called in, short of cover and eligible after the cuts
 pub mod Cover
+-- a reduction, and whom it leaves as they were
+pub mod Reduced
+-- the sales of all users in one list
+pub mod Groups
+pub mod Rebuilt

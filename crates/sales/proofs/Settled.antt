@@ -51,14 +51,14 @@ change-none id f e [] = refl
 change-none id f e (u ∷ us) =
     ap₂ (λ (v : User) (vs : List User). v ∷ vs) (by-test (λ (v : User). v ≡ u) (eqb (u .party .id) id) (λ t. e u) (λ t. refl)) (change-none id f e us)
 
-settle-one-none : (t : Trade) (us : List User) → settleOne t t us ≡ us
+pub settle-one-none : (t : Trade) (us : List User) → settleOne t t us ≡ us
 unfolding settleOne
 settle-one-none t us =
     rw (lost-none t)
     (change-none (t .terms .buyer) (moved (t .terms .area) (pos 0)) (move-none (t .terms .area)) (change (t .terms .seller) (moved (t .terms .area) (pos 0)) us)
     ∙ change-none (t .terms .seller) (moved (t .terms .area) (pos 0)) (move-none (t .terms .area)) us)
 
-settle-none : (ts : List Trade) (us : List User) → settle ts ts us ≡ us
+pub settle-none : (ts : List Trade) (us : List User) → settle ts ts us ≡ us
 unfolding settle
 settle-none [] us = refl
 settle-none (t ∷ ts) us = ap (settle ts ts) (settle-one-none t us) ∙ settle-none ts us
@@ -102,6 +102,16 @@ settle-one-cut c t us h = rw (lost-cut c t h)
 
 -- ---- the users by their places
 
+-- ids above a least one stay above it
+pub ids-above : (us : List User) (low i : ℕ) (d : User) → T (idsRise low us) → i < length us → low < getD us i d .party .id
+unfolding idsRise
+ids-above [] low i d r h = absurd (not-suc-le-zero h)
+ids-above (u ∷ us) low zero d r h = ltb→lt low (u .party .id) (and-l (ltb low (u .party .id)) (idsRise (u .party .id) us) r)
+ids-above (u ∷ us) low (suc i) d r h =
+    let l = ltb→lt low (u .party .id) (and-l (ltb low (u .party .id)) (idsRise (u .party .id) us) r) in
+    let m = ids-above us (u .party .id) i d (and-r (ltb low (u .party .id)) (idsRise (u .party .id) us) r) (le-of-suc-le-suc h) in
+    omega arith
+
 -- ids stand in their order, and one user has an id: a change of the user of an id is a change at its place
 pub change-at : (f : User → User) (us : List User) (low i : ℕ) (d : User) → T (idsRise low us) → i < length us
     → change (getD us i d .party .id) f us ≡ set us i (f (getD us i d))
@@ -112,16 +122,8 @@ change-at f (u ∷ us) low zero d r h =
     (ap (λ (vs : List User). f u ∷ vs) (change-absent f us (u .party .id) (u .party .id) (le-of-eq refl) (and-r (ltb low (u .party .id)) (idsRise (u .party .id) us) r)))
 change-at f (u ∷ us) low (suc i) d r h =
     let rest = and-r (ltb low (u .party .id)) (idsRise (u .party .id) us) r in
-    rw (ne-eqb (u .party .id) (getD us i d .party .id) (λ e. omega (arith, above us (u .party .id) i d rest (le-of-suc-le-suc h))))
+    rw (ne-eqb (u .party .id) (getD us i d .party .id) (λ e. omega (arith, ids-above us (u .party .id) i d rest (le-of-suc-le-suc h))))
     (ap (λ (vs : List User). u ∷ vs) (change-at f us (u .party .id) i d rest (le-of-suc-le-suc h)))
-  where
-    above : (vs : List User) (least j : ℕ) (d : User) → T (idsRise least vs) → j < length vs → least < getD vs j d .party .id
-    above [] least j d r k = absurd (not-suc-le-zero k)
-    above (v ∷ vs) least zero d r k = ltb→lt least (v .party .id) (and-l (ltb least (v .party .id)) (idsRise (v .party .id) vs) r)
-    above (v ∷ vs) least (suc j) d r k =
-        let l = ltb→lt least (v .party .id) (and-l (ltb least (v .party .id)) (idsRise (v .party .id) vs) r) in
-        let m = above vs (v .party .id) j d (and-r (ltb least (v .party .id)) (idsRise (v .party .id) vs) r) (le-of-suc-le-suc k) in
-        omega arith
 
 -- the same, for an id that stands at the place
 pub change-placed : (f : User → User) (us : List User) (low id i : ℕ) (d : User) → T (idsRise low us) → i < length us → getD us i d .party .id ≡ id

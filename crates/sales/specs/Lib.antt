@@ -2,3 +2,5 @@
 pub mod Kept
 pub mod Sales
 pub mod Cover
+pub mod Reduced
+pub mod Groups
