@@ -80,10 +80,17 @@ module _ (f : Prices) (range : InRange f) (standing areas : List ℕ) (few : len
     unfolding ones twos
     both-le i =
         by-order i (length standing)
-        (λ l. omega (arith, standing-in-at (shortBy short) standing areas i l (omega arith), standing-in-at (λ area. not (shortBy short area)) standing areas i l (omega arith),
-        one-or-other (shortBy short (getD areas i 0)) (getD standing i 0)))
-        (λ l. omega (arith, List·getD-eq-default ones 0 {n = i} (omega (arith, standing-in-length (shortBy short) standing areas same)),
-        List·getD-eq-default twos 0 {n = i} (omega (arith, standing-in-length (λ area. not (shortBy short area)) standing areas same))))
+        (λ l. omega (
+          arith,
+          standing-in-at (shortBy short) standing areas i l (omega arith),
+          standing-in-at (λ area. not (shortBy short area)) standing areas i l (omega arith),
+          one-or-other (shortBy short (getD areas i 0)) (getD standing i 0),
+        ))
+        (λ l. omega (
+          arith,
+          List·getD-eq-default ones 0 {n = i} (omega (arith, standing-in-length (shortBy short) standing areas same)),
+          List·getD-eq-default twos 0 {n = i} (omega (arith, standing-in-length (λ area. not (shortBy short area)) standing areas same)),
+        ))
       where
         one-or-other : (c : Bool) (n : ℕ) → cond c n 0 + cond (not c) n 0 ≤ n
         one-or-other true n = omega arith

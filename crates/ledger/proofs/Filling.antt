@@ -60,6 +60,8 @@ module _ (f : Prices) (short : Amounts) (standing areas : List ℕ) (same : leng
 
     -- each list has a place for each sale
     pub filling-lengths : (length ts ≡ length standing) × (length ms ≡ length standing) × (length ns ≡ length standing)
-    filling-lengths =
-        (p .tariffs .long ∙ length-map areas (tariff f) ∙ same, p .one .long ∙ standing-in-length (shortBy short) standing areas same,
-        p .two .long ∙ standing-in-length (λ area. not (shortBy short area)) standing areas same)
+    filling-lengths = (
+      p .tariffs .long ∙ length-map areas (tariff f) ∙ same,
+      p .one .long ∙ standing-in-length (shortBy short) standing areas same,
+      p .two .long ∙ standing-in-length (λ area. not (shortBy short area)) standing areas same,
+    )

@@ -80,7 +80,14 @@ fn fill_cuts<'a>(
 }
 
 // Fills in what each sale loses where the seller is reduced for an amount.
-fn sale_cuts<'a>(standing: &'a [u64], areas: &'a [u8], short: Amounts, prices: Prices, asked: Cents, cuts: &mut [u64])
+fn sale_cuts<'a>(
+    standing: &'a [u64],
+    areas: &'a [u8],
+    short: Amounts,
+    prices: Prices,
+    asked: Cents,
+    cuts: &mut [u64],
+)
     requires { ⌜ InRange (asPrices prices) × Sales (now standing) (now areas) (now cuts) ⌝ }
     ensures { λ _. ⌜ now (cuts .exit) ≡ cutsOf (asPrices prices) short (asked .0) (now (standing .entry)) (now (areas .entry)) ⌝ }
 {
@@ -151,7 +158,14 @@ pub fn any_left(standing: &[u64]) -> bool
 }
 
 // Reduces a seller for an amount: fills in the cuts of its sales, takes them off and gives their tally.
-pub fn cut_sales(standing: &mut [u64], areas: &[u8], short: Amounts, prices: Prices, asked: Cents, cuts: &mut [u64]) -> Tally
+pub fn cut_sales(
+    standing: &mut [u64],
+    areas: &[u8],
+    short: Amounts,
+    prices: Prices,
+    asked: Cents,
+    cuts: &mut [u64],
+) -> Tally
     requires { ⌜ InRange (asPrices prices) × Sales (now standing) (now areas) (now cuts) ⌝ }
     ensures { λ r. ⌜ SalesCut (asPrices prices) short (asked .0) (now (standing .entry)) (now (areas .entry)) (now (standing .exit)) (now (cuts .exit)) r ⌝ }
 {

@@ -44,8 +44,7 @@ slice-aggregate-fill-cuts-6 c = sym (length-take-le _ _ (c .before .before .befo
 fill-cuts-requires : tie.Need-fill-cuts-requires
 fill-cuts-requires c κs =
     let s = c .before .before .before .before .before .before .before .before .before .before in
-    let l = s .pre .1 .few in
-    (
+    let l = s .pre .1 .few in (
       s .pre,
       (
         record { areas-length = s .pre .1 .areas-length; tariffs-length = length-take-le _ _ l; one-length = length-take-le _ _ l; two-length = length-take-le _ _ l },
