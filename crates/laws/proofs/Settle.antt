@@ -143,7 +143,8 @@ settled-same [] ns v = stays v
 settled-same (t ∷ ts) [] v = stays v
 settled-same (t ∷ ts) (n ∷ ns) v = same-trans v (settledOne t n v) (settleUser ts ns (settledOne t n v)) (settledOne-same t n v) (settled-same ts ns (settledOne t n v))
 
-area-lt : (us : List User) (t : Trade) → T (tradeValid us t) → t .terms .area < 3
+-- a valid trade is of an area
+pub area-lt : (us : List User) (t : Trade) → T (tradeValid us t) → t .terms .area < 3
 unfolding tradeValid codesValid
 area-lt us t h = ltb→lt (t .terms .area) 3 (search (and-l, and-r))
 

@@ -18,7 +18,7 @@ use Rattle.rules.specs.Shares.{tierCuts, tierWorth}
 use Rattle.sales.proofs.Numbers.{standing-in-at, standing-in-length}
 use Rattle.sales.specs.Sales.{standingIn}
 use Rattle.tier.proofs.Cuts.{cut-le-standing, cuts-length}
-use Rattle.tiers.proofs.Tiers.{cond-le, tariff-le}
+use Rattle.worths.proofs.Ranges.{cond-le, tariff-le}
 use Rattle.units.specs.Prices.{InRange}
 use Rattle.worths.specs.Lots.{lotsOf, Tier}
 

@@ -1,8 +1,9 @@
 -- The elements that pass a test, and numbers spread over a list. Assumes nothing.
-use mathlib.Core.Bool.{Bool, true, false, not, cond, _&&_, _||_}
+use mathlib.Core.Bool.{Bool, true, false, not, _&&_, _||_}
 use mathlib.Core.List.{List, [], _∷_, map}
-use mathlib.Core.Path.{_≡_, refl, sym, ap, ap₂, _∙_}
-use Prim.Native.Nat.{ℕ, zero, suc, _+_, _≤_}
+use mathlib.Core.Path.{_≡_, refl, ap, ap₂}
+use Prim.Native.Nat.{ℕ, suc, _+_, _≤_}
+use native.Mathlib.Nat.{le-refl}
 use native.Mathlib.Omega.{arith}
 use lib.Dec.{T}
 use lib.ListN.{length}
@@ -58,6 +59,12 @@ module _ {A : Type 0} (p : A → Bool) where
   kept-pass (x ∷ xs) =
       by-case (p x) (λ e. rw (kept-yes x xs e) (and-i (p x) (all p (kept p xs)) (holds e) (kept-pass xs))) (λ e. rw (kept-no x xs e) (kept-pass xs))
 
+  -- no more than there are
+  pub kept-most : (xs : List A) → length (kept p xs) ≤ length xs
+  unfolding kept
+  kept-most [] = le-refl 0
+  kept-most (x ∷ xs) = by-case (p x) (λ e. rw e (omega (arith, kept-most xs))) (λ e. rw e (omega (arith, kept-most xs)))
+
   -- some element that passes has a property
   pub any-kept : (q : A → Bool) (xs : List A) → any (λ x. p x && q x) xs ≡ any q (kept p xs)
   unfolding any kept
@@ -95,9 +102,3 @@ module _ {A : Type 0} (p : A → Bool) where
       by-case (p x)
       (λ h. rw h (ap (λ (ks : List ℕ). (m + n) ∷ ks) (spread-together xs ms ns (omega arith))))
       (λ h. rw h (ap (λ (ks : List ℕ). 0 ∷ ks) (spread-together xs (m ∷ ms) (n ∷ ns) e)))
-
-  -- a list for those that pass is a list for all of them
-  pub spread-none : (xs : List A) → spread p xs [] ≡ map (λ x. 0) xs
-  unfolding spread
-  spread-none [] = refl
-  spread-none (x ∷ xs) = ap (λ (ns : List ℕ). 0 ∷ ns) (spread-none xs)

@@ -7,10 +7,19 @@ pub mod Cuts
 pub mod Numbers
 -- positions after the cuts
 pub mod Settled
+pub mod Valid
+pub mod FirstCuts
 -- who is called in, short of cover and eligible after the cuts
 pub mod Cover
 -- a reduction, and whom it leaves as they were
 pub mod Reduced
 -- the sales of all users in one list
 pub mod Groups
+pub mod Count
+pub mod Origins
 pub mod Rebuilt
+pub mod Standing
+-- a run's book, represented by what changes of the opening book
+pub mod Represented
+pub mod Parts
+pub mod Next

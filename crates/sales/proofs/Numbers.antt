@@ -3,17 +3,22 @@ use mathlib.Core.Bool.{Bool, not, cond}
 use mathlib.Core.List.{List, [], _∷_, map}
 use mathlib.Core.Path.{_≡_, refl, sym, ap, ap₂, _∙_}
 use Prim.Native.Nat.{ℕ, zero, suc, _-_, _<_}
-use native.Mathlib.Nat.{not-suc-le-zero, le-of-suc-le-suc, sub-zero}
+use native.Mathlib.Nat.{not-suc-le-zero, le-of-suc-le-suc}
 use native.Mathlib.Omega.{arith}
-use lib.ListN.{length, getD, length-map, List·getD-eq-default}
+use lib.ListN.{length, take, getD, set, length-map, List·getD-eq-default, List·getD-map}
+use Rattle.arrays.proofs.Fronts.{getD-inside}
 use Rattle.laws.specs.Trades.{standingIf, tariffOf}
 use Rattle.rules.specs.Areas.{Prices}
 use Rattle.rules.specs.Book.{Terms, Trade}
-use Rattle.rules.specs.Reduction.{lot, together, cutBy, cutAll}
+use Rattle.rules.specs.Reduction.{together, cutBy, cutAll}
 use Rattle.rules.specs.Shares.{tierWorth, tierCuts}
 use Rattle.sales.specs.Sales.{saleLots, saleCuts, standingIn, less}
 use Rattle.worths.proofs.Lots.{lots-map}
 use Rattle.worths.specs.Lots.{lotsOf}
+
+-- what is read off a list, at a place
+pub read-at : {A B : Type 0} (g : A → B) (xs : List A) (i : ℕ) (d : A) (e : B) → i < length xs → getD (map g xs) i e ≡ g (getD xs i d)
+read-at g xs i d e h = getD-inside (map g xs) i e (g d) (omega (arith, length-map xs g)) ∙ List·getD-map g xs i d
 
 -- ---- tiers
 
@@ -75,6 +80,14 @@ unfolding less
 less-length [] ns = refl
 less-length (c ∷ cs) [] = refl
 less-length (c ∷ cs) (n ∷ ns) = ap suc (less-length cs ns)
+
+-- one cut more from the front, after those before it
+pub less-front : (cs ns : List ℕ) (i : ℕ) → i < length ns → i < length cs → less (take (suc i) cs) ns ≡ set (less (take i cs) ns) i (getD ns i 0 - getD cs i 0)
+unfolding less
+less-front cs [] i h k = absurd (not-suc-le-zero h)
+less-front [] (n ∷ ns) i h k = absurd (not-suc-le-zero k)
+less-front (c ∷ cs) (n ∷ ns) zero h k = refl
+less-front (c ∷ cs) (n ∷ ns) (suc i) h k = ap (λ (ms : List ℕ). (n - c) ∷ ms) (less-front cs ns i (le-of-suc-le-suc h) (le-of-suc-le-suc k))
 
 -- what stands after cuts
 pub standing-cut : (cs : List ℕ) (ts : List Trade) → map (λ t. t .standing) (cutAll cs ts) ≡ less cs (map (λ t. t .standing) ts)

@@ -1,13 +1,14 @@
 -- The trades are rebuilt from what stands of each user's own sales: trades that differ from others in what stands of kind 0 and day 0 only, with what stands of the
 -- others' own sales written at their places, user by user, are the others. Assumes nothing.
-use mathlib.Core.Bool.{Bool, true, false, not, cond, _&&_, _||_}
+use mathlib.Core.Bool.{Bool, true, false, cond, _&&_, _||_}
 use mathlib.Core.List.{List, [], _∷_, _++_, map}
 use mathlib.Core.Logic.{_⊎_, inl, inr}
 use mathlib.Core.Path.{_≡_, refl, sym, ap, ap₂, subst, _∙_}
-use Prim.Native.Nat.{ℕ, zero, suc, _+_}
+use Prim.Native.Nat.{ℕ, suc, _≤_, _<_}
 use native.Mathlib.Omega.{arith}
 use lib.Dec.{T, eqb}
-use lib.ListN.{length, getD, set, length-map}
+use lib.ListN.{length, drop, getD, set, length-map, drop-of-length-le}
+use lib.Seq.{drop-cons}
 use Rattle.laws.proofs.Positions.{seller-known}
 use Rattle.laws.proofs.Tests.{and-l, and-r, and-i, eqb-comm}
 use Rattle.laws.proofs.Trades.{framed-refl}
@@ -15,9 +16,10 @@ use Rattle.laws.specs.Trades.{Framed, Pairwise, ended, then}
 use Rattle.rules.specs.Book.{Terms, User, Trade, bilateralForDay}
 use Rattle.rules.specs.Lists.{all, any}
 use Rattle.rules.specs.Questions.{known, tradeValid}
-use Rattle.sales.proofs.Groups.{places-length, grouped-length}
-use Rattle.sales.proofs.Kept.{by-case, holds, fails, kept-yes, kept-no}
-use Rattle.sales.specs.Groups.{grouped, standingAt, written}
+use Rattle.sales.proofs.Groups.{places-length}
+use Rattle.sales.proofs.Kept.{by-case, holds, fails}
+use Rattle.sales.proofs.Origins.{grouped-ext}
+use Rattle.sales.specs.Groups.{grouped, standings, places, standingAt, written}
 use Rattle.sales.specs.Kept.{kept, placesOf}
 use Rattle.sales.specs.Sales.{ownSale, salesOf}
 
@@ -37,6 +39,17 @@ unfolding written
 written-past d [] ns t ts = refl
 written-past d (i ∷ is) [] t ts = refl
 written-past d (i ∷ is) (n ∷ ns) t ts = written-past d is ns t (set ts i (standingAt n (getD ts i d)))
+
+-- the amount at a place, then those after it
+pub written-step : (d : Trade) (is ns : List ℕ) (ts : List Trade) (k : ℕ) → k < length is → k < length ns
+    → written d (drop k is) (drop k ns) ts ≡ written d (drop (suc k) is) (drop (suc k) ns) (set ts (getD is k 0) (standingAt (getD ns k 0) (getD ts (getD is k 0) d)))
+unfolding written
+written-step d is ns ts k h l = rw (drop-cons is k 0 h, drop-cons ns k 0 l)
+
+-- none is left
+pub written-end : (d : Trade) (is ns : List ℕ) (ts : List Trade) (k : ℕ) → length is ≤ k → written d (drop k is) (drop k ns) ts ≡ ts
+unfolding written
+written-end d is ns ts k h = rw (drop-of-length-le is {i = k} h)
 
 -- ---- one user's part
 
@@ -89,7 +102,7 @@ terms-framed {B} g p o (then {t = t} {n = n} f fs) =
     (λ e. rw (o t n (f .terms) ∙ e, e) (terms-framed g p o fs))
 
 -- trades that differ in what stands only: the places and the terms of the own sales stay
-pub places-stay : (id : ℕ) {ts ns : List Trade} → Pairwise Framed ts ns → placesOf (ownSale id) ns ≡ placesOf (ownSale id) ts
+pub places-stay : (id : ℕ) {ts ns : List Trade} → Pairwise Framed ts ns → places ns id ≡ places ts id
 places-stay id f = places-framed (ownSale id) (own-same id) f
 
 pub terms-stay : {B : Type 0} (g : Terms → B) (id : ℕ) {ts ns : List Trade} → Pairwise Framed ts ns
@@ -140,15 +153,15 @@ left-taken u us (then {t = t} {n = n} p ps) = then (one (ownSale (u .party .id) 
     }
 
 rebuilt-left : (d : Trade) (us : List User) {ts ns : List Trade} → Pairwise (Left us) ts ns
-    → written d (grouped (λ id. placesOf (ownSale id) ns) us) (grouped (λ id. map (λ n. n .standing) (salesOf ns id)) us) ts ≡ ns
+    → written d (grouped (places ns) us) (grouped (standings ns) us) ts ≡ ns
 unfolding grouped written salesOf
 rebuilt-left d [] h = left-none h
 rebuilt-left d (u ∷ us) {ts} {ns} h =
     let p = ownSale (u .party .id) in
     let amounts = map (λ n. n .standing) (kept p ns) in
-    written-append d (placesOf p ns) (grouped (λ id. placesOf (ownSale id) ns) us) amounts (grouped (λ id. map (λ n. n .standing) (salesOf ns id)) us) ts
+    written-append d (placesOf p ns) (grouped (places ns) us) amounts (grouped (standings ns) us) ts
     (places-length p ns ∙ sym (length-map (kept p ns) (λ n. n .standing)))
-    ∙ ap (written d (grouped (λ id. placesOf (ownSale id) ns) us) (grouped (λ id. map (λ n. n .standing) (salesOf ns id)) us))
+    ∙ ap (written d (grouped (places ns) us) (grouped (standings ns) us))
     (written-taken d p (own-same (u .party .id)) (left-framed (u ∷ us) h))
     ∙ rebuilt-left d us (left-taken u us h)
 
@@ -169,15 +182,9 @@ all-left us (then {t = t} {n = n} {ts = ts} f fs) v =
     same : n .standing ≡ t .standing → n ≡ t
     same e = ap₂ (λ (r : Terms) (m : ℕ). record { terms = r; standing = m }) (f .terms) e
 
-grouped-ext : {B : Type 0} (g h : ℕ → List B) → ((id : ℕ) → g id ≡ h id) → (us : List User) → grouped g us ≡ grouped h us
-unfolding grouped
-grouped-ext g h e [] = refl
-grouped-ext {B} g h e (u ∷ us) = ap₂ (λ (xs ys : List B). xs ++ ys) (e (u .party .id)) (grouped-ext g h e us)
-
 -- what stands of each own sale afterwards, written at the places of the own sales before, gives the trades afterwards
 pub rebuilt : (d : Trade) (us : List User) {ts ns : List Trade} → Pairwise Framed ts ns → T (all (tradeValid us) ts)
-    → written d (grouped (λ id. placesOf (ownSale id) ts) us) (grouped (λ id. map (λ n. n .standing) (salesOf ns id)) us) ts ≡ ns
+    → written d (grouped (places ts) us) (grouped (standings ns) us) ts ≡ ns
 rebuilt d us {ts} {ns} f v =
-    ap (λ (is : List ℕ). written d is (grouped (λ id. map (λ n. n .standing) (salesOf ns id)) us) ts)
-    (grouped-ext (λ id. placesOf (ownSale id) ts) (λ id. placesOf (ownSale id) ns) (λ id. sym (places-stay id f)) us)
+    ap (λ (is : List ℕ). written d is (grouped (standings ns) us) ts) (grouped-ext (places ts) (places ns) (λ id. sym (places-stay id f)) us)
     ∙ rebuilt-left d us (all-left us f v)

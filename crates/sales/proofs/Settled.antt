@@ -1,14 +1,14 @@
 -- Positions after the cuts of a reduction: a trade that loses nothing moves nobody, so the own sales alone settle them; sale by sale, and by the places of the
 -- users. Assumes nothing.
-use mathlib.Core.Bool.{Bool, true, false, cond}
-use mathlib.Core.List.{List, [], _∷_, map, map-map}
+use mathlib.Core.Bool.{Bool, cond}
+use mathlib.Core.List.{List, [], _∷_, map}
 use mathlib.Core.Path.{_≡_, refl, sym, ap, ap₂, _∙_}
 use Prim.Native.Nat.{ℕ, zero, suc, _≤_, _<_, _+_}
 use native.Mathlib.Nat.{le-of-eq, not-suc-le-zero, le-of-suc-le-suc}
 use native.Mathlib.Omega.{arith}
-use lib.Dec.{T, eqb, ltb, eqb→eq, ltb→lt}
+use lib.Dec.{T, eqb, ltb, ltb→lt, eqb·zero-suc, eqb·suc-zero, eqb·suc-suc}
 use lib.IntN.{ℤ, pos, negℤ, +ℤ-idr}
-use lib.ListN.{length, drop, getD, set, length-map, drop-of-length-le, List·getD-map}
+use lib.ListN.{length, take, drop, getD, set, length-map, drop-of-length-le, List·getD-map}
 use lib.Seq.{drop-cons}
 use borrow.Author.Tests.{eq-eqb, ne-eqb}
 use Rattle.integers.proofs.Linear.{eq-parts, posPart-pos, negPart-pos}
@@ -93,6 +93,16 @@ pub settle-end : (cs : List ℕ) (ss : List Trade) (us : List User) (i : ℕ) �
 unfolding settle
 settle-end cs ss us i h = rw (drop-of-length-le ss {i = i} h)
 
+-- one cut more from the front, after those before it
+pub settle-front : (cs : List ℕ) (ss : List Trade) (us : List User) (i : ℕ) (d : Trade) → i < length ss → i < length cs
+    → settle ss (cutAll (take (suc i) cs) ss) us ≡ settleOne (getD ss i d) (cutBy (getD cs i 0) (getD ss i d)) (settle ss (cutAll (take i cs) ss) us)
+unfolding settle cutAll
+settle-front cs [] us i d h k = absurd (not-suc-le-zero h)
+settle-front [] (s ∷ ss) us i d h k = absurd (not-suc-le-zero k)
+settle-front (c ∷ cs) (s ∷ ss) us zero d h k =
+    settle-none ss (settleOne s (cutBy c s) us) ∙ ap (settleOne s (cutBy c s)) (sym (settle-none (s ∷ ss) us))
+settle-front (c ∷ cs) (s ∷ ss) us (suc i) d h k = settle-front cs ss (settleOne s (cutBy c s) us) i d (le-of-suc-le-suc h) (le-of-suc-le-suc k)
+
 -- the seller's position rises by the cut and the buyer's falls
 pub settle-one-cut : (c : ℕ) (t : Trade) (us : List User) → c ≤ t .standing
     → settleOne t (cutBy c t) us
@@ -111,6 +121,21 @@ ids-above (u ∷ us) low (suc i) d r h =
     let l = ltb→lt low (u .party .id) (and-l (ltb low (u .party .id)) (idsRise (u .party .id) us) r) in
     let m = ids-above us (u .party .id) i d (and-r (ltb low (u .party .id)) (idsRise (u .party .id) us) r) (le-of-suc-le-suc h) in
     omega arith
+
+-- users at two places have one id where the places are one
+pub same-place : (us : List User) (low i j : ℕ) (d : User) → T (idsRise low us) → i < length us → j < length us
+    → eqb (getD us i d .party .id) (getD us j d .party .id) ≡ eqb i j
+unfolding idsRise
+same-place [] low i j d r h k = absurd (not-suc-le-zero h)
+same-place (u ∷ us) low zero zero d r h k = eq-eqb (u .party .id) (u .party .id) refl
+same-place (u ∷ us) low zero (suc j) d r h k =
+    let l = ids-above us (u .party .id) j d (and-r (ltb low (u .party .id)) (idsRise (u .party .id) us) r) (le-of-suc-le-suc k) in
+    ne-eqb (u .party .id) (getD us j d .party .id) (λ e. omega arith) ∙ sym (eqb·zero-suc j)
+same-place (u ∷ us) low (suc i) zero d r h k =
+    let l = ids-above us (u .party .id) i d (and-r (ltb low (u .party .id)) (idsRise (u .party .id) us) r) (le-of-suc-le-suc h) in
+    ne-eqb (getD us i d .party .id) (u .party .id) (λ e. omega arith) ∙ sym (eqb·suc-zero i)
+same-place (u ∷ us) low (suc i) (suc j) d r h k =
+    same-place us (u .party .id) i j d (and-r (ltb low (u .party .id)) (idsRise (u .party .id) us) r) (le-of-suc-le-suc h) (le-of-suc-le-suc k) ∙ sym (eqb·suc-suc i j)
 
 -- ids stand in their order, and one user has an id: a change of the user of an id is a change at its place
 pub change-at : (f : User → User) (us : List User) (low i : ℕ) (d : User) → T (idsRise low us) → i < length us

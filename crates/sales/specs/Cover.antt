@@ -5,8 +5,9 @@ use mathlib.Core.Path.{_≡_}
 use Prim.Native.Nat.{ℕ, _+_, _*_, _<_}
 use lib.Dec.{ltb}
 use Rattle.rules.specs.Areas.{Prices}
-use Rattle.rules.specs.Book.{User}
-use Rattle.rules.specs.Levels.{Limits, Holding, shipper, floored, afternoonSum, exposure, leastReferencePrice, exceedsMargin}
+use Rattle.rules.specs.Book.{Book, User}
+use Rattle.rules.specs.Levels.{Limits, Holding, shipper, floored, afternoonSum, exposure, leastReferencePrice, exceedsMargin, shortOfCover}
+use Rattle.rules.specs.Reduction.{hasEligible}
 
 -- the same position, and the same sold and bought for d+1: all that the afternoon reads
 pub record SameNext (g h : Holding) : Type 0 where
@@ -31,3 +32,7 @@ module _ (limits : Limits) (f : Prices) (u : User) (h : ℕ → Holding) where
   unfoldable pub shortFrom : Bool → Bool
   shortFrom cut =
       (shipper u && (flaggedFrom || cut)) && (exceedsMargin limits levelFrom u && ltb (u .party .assigned) levelFrom)
+
+-- the user is reduced next, if no user before it is: short of cover, with an eligible trade
+unfoldable pub due : Limits → Book → User → Bool
+due limits b u = shortOfCover limits b u && hasEligible b u

@@ -3,6 +3,7 @@ use mathlib.Core.Bool.{_||_}
 use mathlib.Core.List.{List, map}
 use mathlib.Core.Path.{_≡_}
 use Prim.Native.Nat.{ℕ}
+use lib.ListN.{take}
 use Rattle.dealings.specs.Parties.{cutBefore}
 use Rattle.laws.proofs.Sound.{Sound}
 use Rattle.laws.specs.Trades.{Lowered, Pairwise}
@@ -19,6 +20,10 @@ ownSales b u = salesOf (b .trades) (u .party .id)
 -- and what each of them loses
 abbrev pub ownCuts : Book → User → ℕ → List ℕ
 ownCuts b u asked = saleCuts (b .header .prices) (shortAt u) asked (ownSales b u)
+
+-- the users after the cuts of the first of them, as many as a number says
+abbrev pub settledFirst : Book → User → ℕ → ℕ → List User
+settledFirst b u asked n = settle (ownSales b u) (cutAll (take n (ownCuts b u asked)) (ownSales b u)) (b .users)
 
 pub record SalesReduced (b : Book) (u : User) (asked : ℕ) (r : Result) : Type 0 where
   pub header : r .book .header ≡ b .header

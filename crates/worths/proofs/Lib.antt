@@ -1,2 +1,3 @@
 -- Laws of a tier's trades and their worth.
 pub mod Lots
+pub mod Ranges
