@@ -68,14 +68,18 @@ module _ {most count : ℕ} {us : List model.User} (p : BoundedBy most count us)
 
 -- ---- users by the code's array
 
-map-set : {A B : Type 0} (f : A → B) (xs : List A) (i : ℕ) (y : A) → map f (set xs i y) ≡ set (map f xs) i (f y)
+pub map-set : {A B : Type 0} (f : A → B) (xs : List A) (i : ℕ) (y : A) → map f (set xs i y) ≡ set (map f xs) i (f y)
 map-set f [] i y = refl
 map-set f (x ∷ xs) zero y = refl
 map-set {A} {B} f (x ∷ xs) (suc i) y = ap (λ (zs : List B). f x ∷ zs) (map-set f xs i y)
 
+-- what an element stands for, at its place
+pub face-at : {A B : Type 0} (f : A → B) (xs : List A) (i : ℕ) (d : A) (e : B) → i < length xs → getD (map f xs) i e ≡ f (getD xs i d)
+face-at f xs i d e h = getD-inside (map f xs) i e (f d) (omega (arith, length-map xs f)) ∙ List·getD-map f xs i d
+
 -- the user at a place
 pub user-at : (xs : List User) (i : ℕ) (d : User) → i < length xs → getD (map asUser xs) i nobody ≡ asUser (getD xs i d)
-user-at xs i d h = getD-inside (map asUser xs) i nobody (asUser d) (omega (arith, length-map xs asUser)) ∙ List·getD-map asUser xs i d
+user-at xs i d h = face-at asUser xs i d nobody h
 
 -- one user is moved
 moved-at : (xs : List User) (i area : ℕ) (z : ℤ) (d r : User) → i < length xs → asUser r ≡ moved area z (asUser (getD xs i d))
