@@ -57,12 +57,12 @@ fn fallen(u: User, area: usize, energy: Mwh) -> User
 }
 
 // The users after the cuts of a seller's sales, each with its area and the place of its buyer.
-pub fn settle_sales<'a>(
+pub fn settle_sales(
     users: [User; 64],
     seller: usize,
-    areas: &'a [u8],
-    buyers: &'a [u8],
-    cuts: &'a [u64],
+    areas: &[u8],
+    buyers: &[u8],
+    cuts: &[u64],
 ) -> [User; 64]
     requires { ⌜ Settling users seller (now areas) (now buyers) (now cuts) ⌝ }
     ensures { λ r. ⌜ (length r ≡ 64) × (map asUser r ≡ settledAll seller (now (buyers .entry)) (now (areas .entry)) (now (cuts .entry)) (map asUser users)) ⌝ }
