@@ -2,3 +2,4 @@
 pub mod Places
 pub mod Room
 pub mod Settled
+pub mod Turned
