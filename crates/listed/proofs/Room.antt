@@ -20,8 +20,8 @@ use Rattle.laws.proofs.Sound.{Sound}
 use Rattle.laws.proofs.Tests.{and-l, and-r}
 use Rattle.listed.proofs.Places.{place-inside, place-same}
 use Rattle.listed.specs.Listed.{ListsOf, StateOf}
-use Rattle.positions.proofs.Settled.{face-at, user-at}
-use Rattle.positions.specs.Positions.{BoundedBy}
+use Rattle.movements.proofs.Settled.{face-at, user-at}
+use Rattle.movements.specs.Positions.{BoundedBy}
 use Rattle.records.specs.User.{asUser, blankUser}
 use Rattle.records.specs.declared.User.{User}
 use Rattle.rules.specs.Book.{at, Book, Trade, nobody}

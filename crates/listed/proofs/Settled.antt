@@ -9,7 +9,7 @@ use lib.ListN.{length, take, drop, getD, set, drop-of-length-le}
 use lib.Seq.{drop-cons, take-set-lt, getD-take}
 use Rattle.laws.proofs.Sound.{Sound}
 use Rattle.listed.proofs.Room.{noSale}
-use Rattle.positions.specs.Positions.{settledAll}
+use Rattle.movements.specs.Positions.{settledAll}
 use Rattle.rules.specs.Book.{Book, User, Trade, nobody}
 use Rattle.rules.specs.Changes.{moved}
 use Rattle.rules.specs.Reduction.{cutAll, settle}

@@ -27,8 +27,8 @@ use Rattle.listed.proofs.Places.{place-inside, place-id, place-same, pl
 use Rattle.listed.proofs.Room.{noSale, users-count, users-few, user-now, own-standing, own-areas, own-buyers, sale-known, buyer-place, own-is, starts-in}
 use Rattle.listed.proofs.Settled.{map-take, settled-take, settled-own}
 use Rattle.listed.specs.Listed.{ListsOf, StateOf, cutIn}
-use Rattle.positions.proofs.Settled.{face-at}
-use Rattle.positions.specs.Positions.{settledAll}
+use Rattle.movements.proofs.Settled.{face-at}
+use Rattle.movements.specs.Positions.{settledAll}
 use Rattle.records.specs.User.{asUser, asAmounts, blankUser}
 use Rattle.records.specs.declared.User.{User}
 use Rattle.rules.specs.Areas.{Prices, tariff}

@@ -16,8 +16,8 @@ use Rattle.integers.proofs.Linear.{by-order}
 use Rattle.ledger.proofs.Cuts.{cuts-many, cuts-at}
 use Rattle.ledger.specs.Ledger.{SalesCut}
 use Rattle.levels.specs.Holdings.{held}
-use Rattle.positions.proofs.Settled.{user-at}
-use Rattle.positions.specs.Positions.{Settling, settledAll}
+use Rattle.movements.proofs.Settled.{user-at}
+use Rattle.movements.specs.Positions.{Settling, settledAll}
 use Rattle.records.specs.User.{asUser, blankUser}
 use Rattle.records.specs.declared.User.{User}
 use Rattle.rules.specs.Areas.{Prices}

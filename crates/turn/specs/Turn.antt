@@ -8,7 +8,7 @@ use Rattle.cover.specs.Cover.{Levelled, Starts, noDealings, shortCut, marked, o
 use Rattle.dealings.specs.declared.Dealings.{Dealings}
 use Rattle.ledger.specs.Ledger.{Sales, SalesCut}
 use Rattle.levels.specs.Holdings.{held}
-use Rattle.positions.specs.Positions.{BoundedBy, settledAll}
+use Rattle.movements.specs.Positions.{BoundedBy, settledAll}
 use Rattle.records.specs.User.{asUser, blankUser}
 use Rattle.records.specs.declared.User.{User}
 use Rattle.rules.specs.Areas.{Prices}

@@ -40,7 +40,7 @@ fn reduce_own(
     let seller = Seller::of(u);
     let shorts = seller.short;
     let tally = ledger::cut_sales(own, areas, shorts, prices, asked, cuts);
-    let after = positions::settle_sales(users, place, areas, buyers, cuts);
+    let after = movements::settle_sales(users, place, areas, buyers, cuts);
     cover::mark_buyers(short, after, dealings, buyers, cuts, limits, prices);
     let u = after[place];
     short[place] = cover::is_short(limits, prices, u, held);

@@ -4,10 +4,10 @@ use lib.IntN.{ℤ, pos, _+ℤ_}
 use mathlib.Core.Path.{sym, ap, _∙_}
 use native.Mathlib.Omega.{arith}
 use Rattle.integers.specs.Parts.{posPart, negPart}
-use Rattle.positions.proofs.risen.Statement.{statement}
+use Rattle.movements.proofs.risen.Statement.{statement}
 use Rattle.records.proofs.Amounts.{at-asAmounts}
 use Rattle.records.specs.User.{asUser}
-use Rattle.positions.proofs.risen.Tie as tie
+use Rattle.movements.proofs.risen.Tie as tie
 
 mul-from : tie.Need-mul-from
 mul-from c = search needs

@@ -11,7 +11,7 @@ use lib.Seq.{drop-cons, getD-set-same, getD-set-other, set-out}
 use Rattle.arrays.proofs.Fronts.{getD-inside}
 use Rattle.integers.proofs.Linear.{by-order, parts-add, posPart-of, negPart-of, posPart-pos, negPart-pos, posPart-neg, negPart-neg}
 use Rattle.integers.specs.Parts.{posPart, negPart}
-use Rattle.positions.specs.Positions.{BoundedBy, Settling, settledAll}
+use Rattle.movements.specs.Positions.{BoundedBy, Settling, settledAll}
 use Rattle.records.specs.User.{asUser}
 use Rattle.records.specs.declared.User.{User}
 use Rattle.rules.specs.Book.{PerArea, at, nobody}

@@ -1,12 +1,12 @@
 -- `placed`: the position of the area is replaced, all else stays. Assumes nothing.
 use borrow.Author.Needs.{needs}
 use mathlib.Core.Path.{ap, _∙_}
-use Rattle.positions.proofs.placed.Statement.{statement}
+use Rattle.movements.proofs.placed.Statement.{statement}
 use Rattle.records.proofs.Amounts.{asAmounts-set}
 use Rattle.records.specs.User.{asUser, asAmounts}
 use Rattle.rules.specs.Book.{PerArea}
 use Rattle.rules.specs.Changes.{moved}
-use Rattle.positions.proofs.placed.Tie as tie
+use Rattle.movements.proofs.placed.Tie as tie
 
 replaced-requires : tie.Need-replaced-requires
 replaced-requires c κs = search needs

@@ -3,9 +3,9 @@ use Prim.Native.Nat.{_-_}
 use borrow.Author.Needs.{needs}
 use lib.ListN.{length}
 use native.Mathlib.Omega.{arith}
-use Rattle.positions.proofs.Settled.{Settled, settled-start, settled-more, settled-end, seller-inside, buyer-inside, seller-fits, buyer-fits}
-use Rattle.positions.proofs.settle_sales.Statement.{statement}
-use Rattle.positions.proofs.settle_sales.Tie as tie
+use Rattle.movements.proofs.Settled.{Settled, settled-start, settled-more, settled-end, seller-inside, buyer-inside, seller-fits, buyer-fits}
+use Rattle.movements.proofs.settle_sales.Statement.{statement}
+use Rattle.movements.proofs.settle_sales.Tie as tie
 
 abbrev Inv-loop : tie.InvT-loop
 Inv-loop seller areas buyers cuts out₀ i₀ out i = Settled seller areas buyers cuts out₀ out i

@@ -9,7 +9,7 @@ ghost use Rattle.records.specs.User.{asUser};
 ghost use Rattle.rules.specs.Book.{at};
 ghost use Rattle.rules.specs.Changes.{moved};
 ghost use Rattle.units.specs.Amounts.{net};
-ghost use Rattle.positions.specs.Positions.{Settling, settledAll};
+ghost use Rattle.movements.specs.Positions.{Settling, settledAll};
 use records::User;
 use units::Mwh;
 use units::Net;
