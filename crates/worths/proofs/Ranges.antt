@@ -23,12 +23,12 @@ at-most p g most h (x ∷ xs) v zero = h x (and-l (p x) (all p xs) v)
 at-most p g most h (x ∷ xs) v (suc i) = at-most p g most h xs (and-r (p x) (all p xs) v) i
 
 -- what stands where a test holds is at most what stands
-cond-le : (c : Bool) (n : ℕ) → cond c n 0 ≤ n
+pub cond-le : (c : Bool) (n : ℕ) → cond c n 0 ≤ n
 cond-le true n = omega arith
 cond-le false n = omega arith
 
 -- a tariff is P or Q
-tariff-le : (f : Prices) (most : ℕ) → f .p ≤ most → f .q ≤ most → (area : ℕ) → tariff f area ≤ most
+pub tariff-le : (f : Prices) (most : ℕ) → f .p ≤ most → f .q ≤ most → (area : ℕ) → tariff f area ≤ most
 unfolding tariff
 tariff-le f most p q area = by-test (λ (n : ℕ). n ≤ most) (eqb area 0) (λ e. p) (λ e. q)
 

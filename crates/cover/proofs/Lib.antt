@@ -1,0 +1,2 @@
+-- Laws of flags that are brought up to date.
+pub mod Flags

@@ -1,0 +1,42 @@
+-- The place of the user of an id, and the same users by their parties. Assumes nothing.
+use mathlib.Core.Bool.{Bool, true, false, _||_}
+use mathlib.Core.List.{List, [], _∷_, map, map-map}
+use mathlib.Core.Path.{_≡_, refl, sym, ap, subst, _∙_}
+use Prim.Native.Nat.{ℕ, _<_}
+use native.Mathlib.Omega.{arith}
+use lib.Dec.{T, eqb, ltb, eqb→eq, ltb→lt}
+use lib.ListN.{length, getD}
+use Rattle.format.proofs.OneUser.{place-known}
+use Rattle.format.specs.Steps.{placeOf}
+use Rattle.questions.proofs.Known.{placeIn-placeOf}
+use Rattle.questions.specs.Asked.{placeIn, idsOf}
+use Rattle.rules.specs.Book.{Party, User, nobody}
+use Rattle.rules.specs.Lists.{any}
+use Rattle.rules.specs.Questions.{known, idsRise}
+use Rattle.sales.proofs.Kept.{by-case}
+use Rattle.sales.proofs.Settled.{same-place}
+
+-- the user of a known id stands at its place
+pub place-inside : (us : List User) (id : ℕ) → T (known us id) → placeOf us id < length us
+place-inside us id k = ltb→lt (placeOf us id) (length us) (subst T (sym (place-known us id)) k)
+
+pub place-id : (us : List User) (id : ℕ) → T (known us id) → getD us (placeOf us id) nobody .party .id ≡ id
+unfolding placeOf known any
+place-id [] id k = absurd k
+place-id (u ∷ us) id k =
+    by-case (eqb (u .party .id) id)
+    (λ e. rw e (eqb→eq (u .party .id) id (subst T (sym e) tt)))
+    (λ e. rw e (place-id us id (rw e at k)))
+
+-- users who are the same parties have the same places
+pub place-same : (us vs : List User) (id : ℕ) → map (λ v. v .party) vs ≡ map (λ u. u .party) us → placeOf vs id ≡ placeOf us id
+unfolding idsOf
+place-same us vs id e =
+    sym (placeIn-placeOf vs id)
+    ∙ ap (λ (is : List ℕ). placeIn is id) (sym (map-map (λ (q : Party). q .id) (λ v. v .party) vs) ∙ ap (map (λ (q : Party). q .id)) e ∙ map-map (λ (q : Party). q .id) (λ u. u .party) us)
+    ∙ placeIn-placeOf us id
+
+-- a place is that of an id where the user there has the id
+pub place-test : (us : List User) (id j : ℕ) → T (idsRise 0 us) → T (known us id) → j < length us → eqb (placeOf us id) j ≡ eqb id (getD us j nobody .party .id)
+place-test us id j r k h =
+    sym (same-place us 0 (placeOf us id) j nobody r (place-inside us id k) h) ∙ ap (λ (n : ℕ). eqb n (getD us j nobody .party .id)) (place-id us id k)

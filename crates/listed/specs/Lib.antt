@@ -1,0 +1,2 @@
+-- A run's book as the code's lists have it.
+pub mod Listed

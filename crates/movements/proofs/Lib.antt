@@ -1,0 +1,2 @@
+-- Laws of positions that are settled sale by sale.
+pub mod Settled

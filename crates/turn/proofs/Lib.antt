@@ -1,0 +1,2 @@
+-- Laws of one reduction on lists.
+pub mod Steps
