@@ -8,8 +8,8 @@ use lib.Dec.{T, eqb, ltb, eqb→eq, ltb→lt}
 use lib.ListN.{length, getD}
 use Rattle.format.proofs.OneUser.{place-known}
 use Rattle.format.specs.Steps.{placeOf}
-use Rattle.questions.proofs.Known.{placeIn-placeOf}
-use Rattle.questions.specs.Asked.{placeIn, idsOf}
+use Rattle.places.proofs.Known.{placeIn-placeOf}
+use Rattle.places.specs.Ids.{placeIn, idsOf}
 use Rattle.rules.specs.Book.{Party, User, nobody}
 use Rattle.rules.specs.Lists.{any}
 use Rattle.rules.specs.Questions.{known, idsRise}

@@ -105,7 +105,7 @@ module _ {limits : Limits} {o b : Book} {us : List User} {ns : List ℕ} {flags 
           ∙ face-at (λ s. placeOf (o .users) (s .terms .buyer)) (salesOf (b .trades) (getD (b .users) i nobody .party .id)) j noSale 0 l
           ∙ sym (place-same (o .users) (b .users) (getD (salesOf (b .trades) (getD (b .users) i nobody .party .id)) j noSale .terms .buyer) (h .represented .parties))
 
-    standing-end : length ns ≡ starts o (length (o .users))
+    pub standing-end : length ns ≡ starts o (length (o .users))
     standing-end =
         ap length (h .represented .standing) ∙ sym (start-end (standings (b .trades)) (b .users)) ∙ ap (starts b) users-count ∙ starts-stay (h .represented) (length (o .users))
 
@@ -123,12 +123,21 @@ module _ {limits : Limits} {o b : Book} {us : List User} {ns : List ℕ} {flags 
           few = omega (arith, ap length (h .represented .standing), sales-most b (h .represented .sound), counts-le b (h .represented .sound) .1);
           rise = λ i k.
               rw add-one
-              (omega (arith, q .starts-at i (omega (arith, h .short-length)), q .starts-at (suc i) (omega (arith, h .short-length)),
-              start-next (standings (o .trades)) (o .users) i nobody (omega (arith, h .short-length))));
+              (omega (
+                arith,
+                q .starts-at i (omega (arith, h .short-length)),
+                q .starts-at (suc i) (omega (arith, h .short-length)),
+                start-next (standings (o .trades)) (o .users) i nobody (omega (arith, h .short-length)),
+              ));
           inside = λ i k.
               rw add-one
-              (omega (arith, q .starts-at (suc i) (omega (arith, h .short-length)), standing-end,
-              start-most (standings (o .trades)) (o .users) (suc i), start-end (standings (o .trades)) (o .users)));
+              (omega (
+                arith,
+                q .starts-at (suc i) (omega (arith, h .short-length)),
+                standing-end,
+                start-most (standings (o .trades)) (o .users) (suc i),
+                start-end (standings (o .trades)) (o .users),
+              ));
         }
 
     valid-at : (i : ℕ) → i < length (o .users) → T (userValid (getD (b .users) i nobody))
