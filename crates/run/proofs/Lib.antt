@@ -1,5 +1,3 @@
--- The next user, one more reduction, what is left of a run, and the ways out of the call.
-pub mod Next
-pub mod Once
-pub mod Left
+-- What a run leaves as a book, and the ways out of the call.
+pub mod Whole
 pub mod Ways

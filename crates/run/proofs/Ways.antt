@@ -18,7 +18,8 @@ use Rattle.rules.specs.Calls.{Answer, about, effect, only}
 use Rattle.rules.specs.Levels.{Limits}
 use Rattle.rules.specs.Questions.{decided, refusal}
 use Rattle.run.specs.Answers.{runCall}
-use Rattle.run.specs.Reductions.{RanOf, totals, wholeRun}
+use Rattle.run.specs.Reductions.{RanOf}
+use Rattle.running.specs.Reductions.{totals, wholeRun}
 use Rattle.run.specs.declared.Ran.{Ran}
 
 module _ (limits : Limits) (s : List ℕ) where

@@ -1,90 +1,21 @@
 // The run: while some user that is short of cover has an eligible trade, the one of the lowest id is reduced; on a book by value, and on a lent book in bytes.
 use book::Book;
 use levels::Limits;
+use running::Outcome;
+use running::Totals;
 use units::Cents;
 use units::Mwh;
-use worths::Tally;
 ghost use mathlib.Core.Path.{_≡_};
-ghost use mathlib.Core.Bool.{_&&_};
-ghost use Prim.Native.Nat.{_+_, _≤_};
-ghost use Rattle.rules.specs.Calls.{only, ofRun};
-ghost use Rattle.rules.specs.Levels.{today, shortOfCover};
-ghost use Rattle.rules.specs.Reduction.{hasEligible};
-ghost use Rattle.records.specs.User.{asUser};
+ghost use Rattle.rules.specs.Calls.{only};
+ghost use Rattle.rules.specs.Levels.{today};
 ghost use Rattle.format.specs.Steps.{Called};
-ghost use Rattle.book.specs.Book.{asBook};
 ghost use Rattle.levels.specs.Limits.{asLimits, LimitsInRange};
-ghost use Rattle.risk.specs.Ready.{userIn, Ready};
 ghost use Rattle.reduction.specs.Reduction.{Accepted};
-ghost use Rattle.run.specs.Reductions.{NextAt, totals, Within, Reducing, ReducedOnce, RanOf};
+ghost use Rattle.running.specs.Reductions.{totals, RanIn};
+ghost use Rattle.run.specs.Reductions.{RanOf};
 ghost use Rattle.run.specs.Answers.{runCall, answerOf};
 
-// ---- the next user
-
-// Is the user at a place short of cover, with an eligible trade?
-fn is_reduced(b: Book, i: usize, limits: Limits) -> bool
-    requires { ⌜ Ready b i ⌝ }
-    requires { ⌜ LimitsInRange (asLimits limits) ⌝ }
-    ensures { λ r. ⌜ r ≡ (shortOfCover (asLimits limits) (asBook b) (asUser (userIn b i)) && hasEligible (asBook b) (asUser (userIn b i))) ⌝ }
-{
-    if risk::short_of_cover_at(b, i, limits) {
-        return risk::has_eligible_at(b, i);
-    }
-    false
-}
-
-// The place of the user that is reduced next: the first that is short of cover and has an eligible trade; the number of users where there is none.
-pub fn next_reduced(b: Book, limits: Limits) -> usize
-    requires { ⌜ Accepted b ⌝ }
-    requires { ⌜ LimitsInRange (asLimits limits) ⌝ }
-    ensures { λ r. ⌜ NextAt (asLimits limits) b r ⌝ }
-{
-    let n = b.user_count as usize;
-    let mut i = 0;
-    while i < n {
-        if is_reduced(b, i, limits) {
-            return i;
-        }
-        i += 1;
-    }
-    n
-}
-
 // ---- the run of a book by value
-
-// The totals of a run: the number of its reductions, the MWh cut and their worth.
-pub struct Totals {
-    pub reductions: u64,
-    pub mwh: Mwh,
-    pub worth: Cents,
-}
-
-impl Totals {
-    // The totals of no reduction.
-    fn none() -> Totals
-        ensures { λ r. ⌜ totals r ≡ ofRun 0 0 0 ⌝ }
-    {
-        Totals {
-            reductions: 0,
-            mwh: Mwh(0),
-            worth: Cents(0),
-        }
-    }
-
-    // The totals with one more reduction, by its tally.
-    fn with(mut self, tally: Tally) -> Totals
-        requires { ⌜ Within self ⌝ }
-        requires { ⌜ (tally .mwh .0 ≤ 25600000) × (tally .worth .0 ≤ 2560000000000) ⌝ }
-        ensures { λ r. ⌜ totals r ≡ ofRun (self .reductions + 1) (self .mwh .0 + tally .mwh .0) (self .worth .0 + tally .worth .0) ⌝ }
-    {
-        let mwh = Mwh(self.mwh.0 + tally.mwh.0);
-        let worth = Cents(self.worth.0 + tally.worth.0);
-        self.reductions = self.reductions + 1;
-        self.mwh = mwh;
-        self.worth = worth;
-        self
-    }
-}
 
 // A run so far: the book that it leaves, and its totals.
 pub struct Ran {
@@ -92,23 +23,28 @@ pub struct Ran {
     pub totals: Totals,
 }
 
-// A run with one more reduction: that of the user at a place, for its target.
-fn reduce_next(ran: Ran, place: usize, limits: Limits) -> Ran
-    requires { ⌜ Reducing ran place ⌝ }
-    requires { ⌜ LimitsInRange (asLimits limits) ⌝ }
-    ensures { λ r. ⌜ ReducedOnce (asLimits limits) ran place r ⌝ }
+// What the run of an accepted book leaves, in room for its lists.
+fn outcome_of(b: Book, limits: Limits) -> Outcome
+    requires { ⌜ Accepted b × LimitsInRange (asLimits limits) ⌝ }
+    ensures { λ r. ⌜ RanIn (asLimits limits) b r ⌝ }
 {
-    let b = ran.book;
-    let totals = ran.totals;
-    let asked = risk::target_at(b, place, limits);
-    let reduced = reduction::reduce_by(b, place, asked);
-    let book = reduced.book;
-    let tally = reduced.tally;
-    let totals = totals.with(tally);
-    Ran {
-        book: book,
-        totals: totals,
-    }
+    let n = b.user_count as usize;
+    let mut origins = [0u8; 257];
+    let mut starts = [0u64; 65];
+    let mut standing = [0u64; 256];
+    let mut areas = [0u8; 256];
+    let mut buyers = [0u8; 256];
+    let mut short = [false; 64];
+    running::run_in(
+        b,
+        limits,
+        &mut origins[..257],
+        &mut starts[..n + 1],
+        &mut standing[..256],
+        &mut areas[..256],
+        &mut buyers[..256],
+        &mut short[..n],
+    )
 }
 
 // Runs an accepted book: reduces the next user until there is none.
@@ -117,19 +53,24 @@ pub fn run_book(b: Book) -> Ran
     ensures { λ r. ⌜ RanOf today b r ⌝ }
 {
     let limits = Limits::today();
-    let n = b.user_count as usize;
-    let none = Totals::none();
-    let mut ran = Ran {
-        book: b,
-        totals: none,
+    let outcome = outcome_of(b, limits);
+    let users = outcome.users;
+    let trades = outcome.trades;
+    let totals = outcome.totals;
+    let prices = b.prices;
+    let book = Book {
+        version: b.version,
+        user_count: b.user_count,
+        trade_count: b.trade_count,
+        date: b.date,
+        prices: prices,
+        users: users,
+        trades: trades,
     };
-    let mut place = next_reduced(b, limits);
-    while place < n {
-        ran = reduce_next(ran, place, limits);
-        let book = ran.book;
-        place = next_reduced(book, limits);
+    Ran {
+        book: book,
+        totals: totals,
     }
-    ran
 }
 
 // ---- the call

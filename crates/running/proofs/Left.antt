@@ -181,7 +181,7 @@ module _ {limits : Limits} {b : Book} {ds : List Dealings} {ss areaCodes bs : Li
     left-lengths h = (standing-end (p .state) a ∙ sym (standing-end h a), p .state .short-length ∙ sym (h .short-length))
 
     -- nobody is to be reduced
-    pub left-end : length (asBook b .users) ≤ place → RanLists limits b ns (record { users = us; totals = t })
+    pub left-end : length (asBook b .users) ≤ place → RanLists limits b ns flags (record { users = us; totals = t })
     unfolding continued only ofRun
     left-end k =
         let c = p .book in
@@ -189,7 +189,6 @@ module _ {limits : Limits} {b : Book} {ds : List Dealings} {ss areaCodes bs : Li
         ap (continued t) (sym (run-stops limits (cuttable (c .trades)) c (next-none-at (p .state) a (p .next) k))) ∙ p .whole in
         let f : _≡_ {A = Result} (record { answer = totals t; book = c }) (wholeRun limits (asBook b)) = same-totals c (omega arith) (omega arith) (omega arith) ∙ e in
         record {
-          flags = flags;
           state = subst (λ (x : model.Book). StateOf limits (asBook b) x us ns flags) (ap (λ (x : Result). x .book) f) (p .state);
           answer = ap (λ (x : Result). x .answer) f;
         }

@@ -2,3 +2,4 @@
 pub mod Start
 pub mod Left
 pub mod Lists
+pub mod Whole

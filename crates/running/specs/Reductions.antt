@@ -1,6 +1,6 @@
 -- The lists that a run starts from, its totals, and the whole run. Assumes nothing.
 use mathlib.Core.Bool.{Bool, false}
-use mathlib.Core.List.{List}
+use mathlib.Core.List.{List, map}
 use mathlib.Core.Path.{_≡_}
 use Prim.Native.Nat.{ℕ, _+_, _≤_, _<_}
 use lib.ListN.{length, take, getD}
@@ -10,13 +10,16 @@ use Rattle.cover.specs.Cover.{noDealings}
 use Rattle.dealings.specs.Dealt.{Dealt}
 use Rattle.dealings.specs.declared.Dealings.{Dealings}
 use Rattle.format.specs.Steps.{placeOf}
+use Rattle.laws.proofs.Sound.{Sound}
 use Rattle.listed.specs.Listed.{ListsOf, StateOf}
+use Rattle.records.specs.Trade.{asTrade}
 use Rattle.records.specs.User.{asUser}
 use Rattle.reduction.specs.Reduction.{Accepted}
 use Rattle.risk.specs.Ready.{userIn}
 use Rattle.rules.specs.Calls.{Answer, Result, cuttable, ofRun, runFor}
 use Rattle.rules.specs.Levels.{Limits, shortOfCover}
 use Rattle.running.specs.declared.Ended.{Ended}
+use Rattle.running.specs.declared.Outcome.{Outcome}
 use Rattle.running.specs.declared.Totals.{Totals}
 use Rattle.sales.specs.Groups.{grouped, standings, starts, places, areasOf, termsOf}
 use Rattle.rules.specs.Book as model
@@ -52,8 +55,7 @@ pub record Listed (limits : Limits) (b : Book) (ds : List Dealings) (ss ns areaC
   pub state : StateOf limits (asBook b) (asBook b) (b .users) ns flags
 
 -- what a run by these lists gives: the lists of the rules' book, and the rules' answer
-pub record RanLists (limits : Limits) (b : Book) (ns : List ℕ) (r : Ended) : Type 0 where
-  pub flags : List Bool
+pub record RanLists (limits : Limits) (b : Book) (ns : List ℕ) (flags : List Bool) (r : Ended) : Type 0 where
   pub state : StateOf limits (asBook b) (wholeRun limits (asBook b) .book) (r .users) ns flags
   pub answer : totals (r .totals) ≡ wholeRun limits (asBook b) .answer
 
@@ -74,3 +76,13 @@ pub record FilledLists (b : Book) (origins ss ns areaCodes bs : List ℕ) (count
   pub standing-in : take count ns ≡ grouped (standings (asBook b .trades)) (asBook b .users)
   pub areas-in : take count areaCodes ≡ areasOf (asBook b)
   pub buyers-in : take count bs ≡ termsOf (λ r. placeOf (asBook b .users) (r .buyer)) (asBook b)
+
+-- what a run of a book gives: the users and the trades of the rules' book, and the rules' answer
+pub record RanIn (limits : Limits) (b : Book) (r : Outcome) : Type 0 where
+  pub user-room : length (r .users) ≡ 64
+  pub trade-room : length (r .trades) ≡ 256
+  pub users : map asUser (take (b .«user_count») (r .users)) ≡ wholeRun limits (asBook b) .book .users
+  pub trades : map asTrade (take (b .«trade_count») (r .trades)) ≡ wholeRun limits (asBook b) .book .trades
+  pub header : wholeRun limits (asBook b) .book .header ≡ asBook b .header
+  pub sound : Sound (wholeRun limits (asBook b) .book)
+  pub answer : totals (r .totals) ≡ wholeRun limits (asBook b) .answer

@@ -2,6 +2,7 @@
 use book::Book;
 use dealings::Dealings;
 use levels::Limits;
+use records::Trade;
 use records::User;
 use units::Cents;
 use units::Mwh;
@@ -12,7 +13,7 @@ ghost use lib.ListN.{length};
 ghost use Rattle.rules.specs.Calls.{ofRun};
 ghost use Rattle.levels.specs.Limits.{asLimits, LimitsInRange};
 ghost use Rattle.reduction.specs.Reduction.{Accepted};
-ghost use Rattle.running.specs.Reductions.{totals, Within, AllDealt, AllShort, Listed, RanLists, ListRoom, FilledLists};
+ghost use Rattle.running.specs.Reductions.{totals, Within, AllDealt, AllShort, Listed, RanLists, ListRoom, FilledLists, RanIn};
 
 // ---- the start
 
@@ -102,7 +103,7 @@ pub fn run_lists(
     limits: Limits,
 ) -> Ended
     requires { ⌜ LimitsInRange (asLimits limits) × Listed (asLimits limits) b dealings (now starts) (now standing) (now areas) (now buyers) (now short) ⌝ }
-    ensures { λ r. ⌜ RanLists (asLimits limits) b (now (standing .exit)) r ⌝ }
+    ensures { λ r. ⌜ RanLists (asLimits limits) b (now (standing .exit)) (now (short .exit)) r ⌝ }
 {
     let n = b.user_count as usize;
     let mut users = b.users;
@@ -163,4 +164,50 @@ pub fn fill_lists(
         &mut buyers[..count],
     );
     count
+}
+
+// The users and the trades that a run leaves, and its totals.
+pub struct Outcome {
+    pub users: [User; 64],
+    pub trades: [Trade; 256],
+    pub totals: Totals,
+}
+
+// Runs a book: fills in its lists, runs by them, and writes back what stands. The lists are room; what they hold at the end is of no use.
+pub fn run_in(
+    b: Book,
+    limits: Limits,
+    origins: &mut [u8],
+    starts: &mut [u64],
+    standing: &mut [u64],
+    areas: &mut [u8],
+    buyers: &mut [u8],
+    short: &mut [bool],
+) -> Outcome
+    requires { ⌜ Accepted b × LimitsInRange (asLimits limits) ⌝ }
+    requires { ⌜ ListRoom b (now origins) (now starts) (now standing) (now areas) (now buyers) × (length (now short) ≡ b .«user_count») ⌝ }
+    ensures { λ r. ⌜ RanIn (asLimits limits) b r ⌝ }
+{
+    let dealings = dealings_of_users(b);
+    fill_short(b, limits, short);
+    let count = fill_lists(b, origins, starts, standing, areas, buyers);
+    let ended = run_lists(
+        b,
+        dealings,
+        starts,
+        &mut standing[..count],
+        &areas[..count],
+        &buyers[..count],
+        short,
+        limits,
+    );
+    let users = ended.users;
+    let totals = ended.totals;
+    let trades = b.trades;
+    let trades = grouping::write_back(trades, &origins[..count], &standing[..count]);
+    Outcome {
+        users: users,
+        trades: trades,
+        totals: totals,
+    }
 }
