@@ -106,7 +106,7 @@ pub fn next_due<'a>(short: &'a [bool], starts: &'a [u64], standing: &'a [u64]) -
     requires { ⌜ Starts (now short) (now starts) (now standing) ⌝ }
     ensures { λ r. ⌜ NextDue (now (short .entry)) (now (starts .entry)) (now (standing .entry)) r ⌝ }
 {
-    let mut i = 0;
+    let mut i: usize = 0;
     while i < short.len() {
         if is_due(short, starts, standing, i) {
             return i;
