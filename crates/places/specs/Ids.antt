@@ -1,11 +1,22 @@
--- The ids of users, and the place of an id among them. Assumes nothing.
+-- Records in bytes from an offset; the ids of users, and the place of an id among them. Assumes nothing.
 use mathlib.Core.Bool.{Bool, cond}
 use mathlib.Core.List.{List, [], _∷_, map}
 use Prim.Native.Nat.{ℕ, suc, _<_}
 use lib.Dec.{eqb}
-use lib.ListN.{length, getD}
+use lib.ListN.{length, drop, getD}
 use Rattle.rules.specs.Lists.{any}
-use Rattle.rules.specs.Book.{User}
+use Rattle.rules.specs.Book.{User, Trade}
+use Rattle.fields.specs.Layout.{recordsOf}
+use Rattle.records.specs.User.{userOf}
+use Rattle.records.specs.Trade.{tradeOf}
+
+-- the n users that stand in bytes from an offset
+abbrev pub usersFrom : ℕ → ℕ → List ℕ → List User
+usersFrom at n s = recordsOf 56 userOf n (drop at s)
+
+-- the m trades
+abbrev pub tradesFrom : ℕ → ℕ → List ℕ → List Trade
+tradesFrom at m s = recordsOf 20 tradeOf m (drop at s)
 
 -- the ids of users
 unfoldable pub idsOf : List User → List ℕ

@@ -7,7 +7,7 @@ ghost use Rattle.rules.specs.Lists.{all};
 ghost use Rattle.rules.specs.Questions.{usersValid};
 ghost use Rattle.records.specs.User.{asUser};
 ghost use Rattle.records.specs.Trade.{asTrade};
-ghost use Rattle.format.specs.Questions.{Formed};
+ghost use Rattle.format.specs.Questions.{Formed, bookNumber};
 ghost use Rattle.book.specs.Book.{BookRead};
 ghost use Rattle.places.specs.Ids.{Rising};
 ghost use Rattle.questions.specs.Asked.{tradeAmong, fieldsNumber, FieldsAsked, Opened};
@@ -122,4 +122,12 @@ pub fn open(s: &[u8]) -> Opening
         };
     }
     ask_fields(s)
+}
+
+// The number of the first of the questions 1 to 7 that any bytes fail, 0 where they fail none.
+pub fn number(s: &[u8]) -> u32
+    ensures { λ r. ⌜ r ≡ bookNumber (now (s .entry)) ⌝ }
+{
+    let opening = open(s);
+    opening.number
 }
