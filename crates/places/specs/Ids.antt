@@ -1,9 +1,10 @@
 -- Records in bytes from an offset; the ids of users, and the place of an id among them. Assumes nothing.
 use mathlib.Core.Bool.{Bool, cond}
 use mathlib.Core.List.{List, [], _∷_, map}
+use mathlib.Core.Path.{_≡_}
 use Prim.Native.Nat.{ℕ, suc, _<_}
 use lib.Dec.{eqb}
-use lib.ListN.{length, drop, getD}
+use lib.ListN.{length, take, drop, getD}
 use Rattle.rules.specs.Lists.{any}
 use Rattle.rules.specs.Book.{User, Trade}
 use Rattle.fields.specs.Layout.{recordsOf}
@@ -34,3 +35,8 @@ among ids id = any (λ x. eqb x id) ids
 -- ids strictly rise
 pub record Rising (xs : List ℕ) : Type 0 where
   pub rise : (i j : ℕ) → i < j → j < length xs → getD xs i 0 < getD xs j 0
+
+-- the places of the sellers and of the buyers of trades among users, a place for each trade
+pub record Placed (us : List User) (ts : List Trade) (sellers buyers : List ℕ) : Type 0 where
+  pub of-sellers : take (length ts) sellers ≡ map (λ t. placeIn (idsOf us) (t .terms .seller)) ts
+  pub of-buyers : take (length ts) buyers ≡ map (λ t. placeIn (idsOf us) (t .terms .buyer)) ts
