@@ -89,14 +89,14 @@ fn user_positions_valid<'a>(u: User, sold: &'a [u64], bought: &'a [u64], i: usiz
 }
 
 // Are all positions of the n users from byte `users_at` on as defined over the m trades from byte `trades_at` on, whose parties have these places?
-pub fn positions_valid(
+pub fn positions_valid<'a>(
     s: &[u8],
     users_at: usize,
     n: usize,
     trades_at: usize,
     m: usize,
-    sellers: &[u8],
-    buyers: &[u8],
+    sellers: &'a [u8],
+    buyers: &'a [u8],
 ) -> bool
     requires { ⌜ InBytes «users_at» n «trades_at» m (now s) ⌝ }
     requires { ⌜ Askable (usersFrom «users_at» n (now s)) (tradesFrom «trades_at» m (now s)) (now sellers) (now buyers) ⌝ }
