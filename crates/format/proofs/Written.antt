@@ -8,12 +8,13 @@ use native.Mathlib.Omega.{arith}
 use lib.Dec.{T, eqb, leb→le, ltb→lt, eqb-refl, eqb→eq, leb, le→leb}
 use lib.IntN.{ℤ}
 use lib.ListN.{length, length-append, drop, getD}
-use lib.Seq.{drop-at, take-at, drop-drop}
+use lib.Seq.{sets, drop-at, take-at, drop-drop}
 use Rattle.fields.proofs.Field.{all-bytes-append, field-append, length-toBytes}
-use Rattle.fields.proofs.Pack.{all-bytes-pack, length-pack, fieldsAt-pack}
+use Rattle.fields.proofs.Pack.{all-bytes-pack, length-pack, fieldsAt-pack, setFields-sets}
 use Rattle.fields.proofs.Records.{all-bytes-records, length-bytesOfRecords, recordsOf-bytesOfRecords}
+use Rattle.fields.proofs.Sets.{sets-three}
 use Rattle.fields.specs.Field.{AllBytes, field, toBytes}
-use Rattle.fields.specs.Layout.{Every, bytesOfRecords, pack, recordsOf, size, FitAll, fieldsAt}
+use Rattle.fields.specs.Layout.{Every, bytesOfRecords, pack, recordsOf, size, FitAll, fieldsAt, setFields}
 use Rattle.format.specs.Book.{bytesOf, headerValues, headerWidths, bookOf, lengthOf, mark, markOf, tradeCount, tradesAt, tradesOf, userAt, userCount, usersOf, versionOf, pricesAt}
 use Rattle.format.specs.Questions.{partsOf, aboutBytes, aboutFields, aboutForm, bookNumber, marked, sized, tradeZerosValid, userZerosValid, versioned, Formed}
 use Rattle.laws.proofs.Bounds.{entry-le, position-bound, within-le, prices-le}
@@ -104,6 +105,36 @@ unfolding bytesOf
 length-bytesOf b =
     rw (length-append, length-append, length-header b, length-bytesOfRecords userBytes 56 length-userBytes (b .users), length-bytesOfRecords tradeBytes 20 length-tradeBytes (b .trades))
     (omega arith)
+
+-- ---- written part by part
+
+module _ (b : Book) where
+  -- the fields of the header up to the date
+  abbrev pub startValues : List ℕ
+  startValues = mark ∷ b .header .version ∷ length (b .users) ∷ length (b .trades) ∷ b .header .date ∷ []
+
+  -- the prices and tolls of the header
+  abbrev pub priceValues : List ℕ
+  priceValues =
+      b .header .prices .p ∷ b .header .prices .q ∷ b .header .prices .l ∷ b .header .prices .x ∷ b .header .prices .i ∷ []
+
+  header-written : (out : List ℕ)
+      → setFields (4 ∷ 4 ∷ 4 ∷ 4 ∷ 4 ∷ []) 12 priceValues (setFields (3 ∷ 2 ∷ 1 ∷ 2 ∷ 4 ∷ []) 0 startValues out) ≡ sets out 0 (pack headerWidths (headerValues b))
+  unfolding setFields headerWidths headerValues
+  header-written out = setFields-sets headerWidths 0 (startValues ++ priceValues) out
+
+  -- header, users and trades, over bytes of the book's length
+  pub parts-written : (out : List ℕ) → length out ≡ 32 + 56 * length (b .users) + 20 * length (b .trades)
+      → sets (sets (setFields (4 ∷ 4 ∷ 4 ∷ 4 ∷ 4 ∷ []) 12 priceValues (setFields (3 ∷ 2 ∷ 1 ∷ 2 ∷ 4 ∷ []) 0 startValues out)) 32 (bytesOfRecords userBytes (b .users))) (32 + 56 * length (b .users)) (bytesOfRecords tradeBytes (b .trades))
+      ≡ bytesOf b
+  unfolding bytesOf
+  parts-written out h =
+      let us = bytesOfRecords userBytes (b .users) in
+      let ts = bytesOfRecords tradeBytes (b .trades) in
+      let eu = length-bytesOfRecords userBytes 56 length-userBytes (b .users) in
+      let et = length-bytesOfRecords tradeBytes 20 length-tradeBytes (b .trades) in
+      rw (header-written out)
+      (sets-three (pack headerWidths (headerValues b)) us ts out 32 (32 + 56 * length (b .users)) (length-header b) (omega arith) (omega arith))
 
 every-of : {R : Type 0} (P : R → Type 0) → ((r : R) → P r) → (rs : List R) → Every P rs
 every-of P h [] = tt
