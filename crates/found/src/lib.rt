@@ -1,1 +1,1 @@
-// The user that the entry of a call found, in the struct and in the bytes: laws for every call that tells a user's risk. It has no code: the laws are in proofs/.
+// The user that the entry of a call found, in a struct into which the book was read: laws for every call that tells a user's risk from it. It has no code: the laws are in proofs/.

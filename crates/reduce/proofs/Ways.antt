@@ -17,7 +17,7 @@ use Rattle.format.specs.Questions.{aboutBytes}
 use Rattle.format.specs.Steps.{inBytes, stepBytes}
 use Rattle.records.specs.User.{asUser}
 use Rattle.book.specs.declared.Book as struct
-use Rattle.book.specs.Book.{asBook}
+use Rattle.book.specs.Book.{asBook, BookRead}
 use Rattle.worths.specs.Tallies.{asTally}
 use Rattle.risk.specs.Ready.{userIn}
 use Rattle.risk.proofs.Places.{user-in-book}
@@ -97,7 +97,7 @@ module _ (limits : Limits) (s : List ℕ) (id : ℕ) where
   unfolding about lastQuestions
   call-unentered n h = call-refused limits s id (lastQuestions limits (bookOf s) user) (reduction id) refl n h
 
-  module _ {place : ℕ} {b : struct.Book} (f : Found s id place b) where
+  module _ {place : ℕ} (f : Found s id place) where
     pub call-unreduced : (n : ℕ) → (n ≡ 0 → ⊥) → n ≡ numberOf (refusal (lastQuestions limits (bookOf s) user)) → stepBytes limits s (reduction id) ≡ record { answer = only n; bytes = s }
     unfolding about lastQuestions decided
     call-unreduced n h e = rw (call-found limits s id (lastQuestions limits (bookOf s) user) (reduction id) refl f, refusal-of limits (bookOf s) user n h e)
@@ -108,11 +108,11 @@ module _ (limits : Limits) (s : List ℕ) (id : ℕ) where
     call-reduced e = rw (call-found limits s id (lastQuestions limits (bookOf s) user) (reduction id) refl f, no-refusal limits (bookOf s) user e)
 
     -- with the target and the reduction of the struct
-    pub call-ends : {l : Limits} {n : ℕ} {r : Reduced} → l ≡ limits → 0 ≡ numberOf (refusal (lastQuestions l (asBook b) (asUser (userIn b place))))
+    pub call-ends : {b : struct.Book} {l : Limits} {n : ℕ} {r : Reduced} → BookRead s b → l ≡ limits → 0 ≡ numberOf (refusal (lastQuestions l (asBook b) (asUser (userIn b place))))
         → n ≡ target l (asBook b) (asUser (userIn b place)) → ReducedBy b place n r
         → stepBytes limits s (reduction id) ≡ record { answer = ofCuts n (asTally (r .tally)); bytes = bytesOf (asBook (r .book)) }
     unfolding inBytes
-    call-ends {l} {n} {r} e q t o =
-        let same : reducedBy (bookOf s) user (target limits (bookOf s) user) ≡ reducedBy (asBook b) (userAt b place) n = cc (e, t, f .read .book, found-in f, user-in-book b place (found-place f)) in
-        call-reduced (cc (e, q, f .read .book, found-in f)) ∙ ap inBytes same
+    call-ends {b} {l} {n} {r} read e q t o =
+        let same : reducedBy (bookOf s) user (target limits (bookOf s) user) ≡ reducedBy (asBook b) (userAt b place) n = cc (e, t, read .book, found-in f read, user-in-book b place (found-place f read)) in
+        call-reduced (cc (e, q, read .book, found-in f read)) ∙ ap inBytes same
         ∙ ap₂ (λ (x : Answer) (y : Book). record { answer = x; bytes = bytesOf y }) (answer-is b place n o) (sym (o .book))

@@ -105,7 +105,7 @@ pub fn reduction(book: &mut [u8], id: u32) -> ReductionAnswer
     if number != 0 {
         return refused(number);
     }
-    let b = entry.book;
+    let b = book::read_book(book);
     let limits = Limits::today();
     let number = ask(b, place, limits);
     if number != 0 {

@@ -11,7 +11,9 @@ use Rattle.format.specs.Book.{bookOf}
 use Rattle.format.specs.Steps.{InBytes}
 use Rattle.format.proofs.Passed.{passed}
 use Rattle.entry.specs.Entered.{Found}
-use Rattle.found.proofs.User.{found-ready, found-place, found-in, called}
+use Rattle.entry.proofs.Calls.{called}
+use Rattle.found.proofs.User.{found-ready, found-place, found-in}
+use Rattle.risk.specs.Ready.{Ready}
 use Rattle.reduction.specs.Reduction.{Accepted}
 use Rattle.reduction.proofs.Callers.{accepted-read}
 use Rattle.reduce.specs.Answers.{reductionOf, lastQuestions}
@@ -26,11 +28,21 @@ bytes c = now (c .before .before .before .args .book)
 abbrev asked : tie.After-enter → ℕ
 asked c = c .before .before .before .args .id
 
-found : (c : tie.Else1) → Found (bytes (c .before)) (asked (c .before)) (c .before .enter .result .place) (c .before .enter .result .book)
+found : (c : tie.Else1) → Found (bytes (c .before)) (asked (c .before)) (c .before .enter .result .place)
 found c = c .before .enter .ensures .found (c .if1 .left)
 
-accepted : (c : tie.Else1) → Accepted (c .before .enter .result .book)
-accepted c = accepted-read (bytes (c .before)) (c .before .enter .result .book) (passed (bytes (c .before)) (found c .passes)) (found c .read)
+-- ---- the book that is read
+
+abbrev entered : tie.After-read-book → tie.Else1
+entered c = c .before .before
+
+ready : (c : tie.After-read-book) → Ready (c .read-book .result) (entered c .before .enter .result .place)
+ready c = found-ready (found (entered c)) (c .read-book .ensures)
+
+accepted : (c : tie.After-read-book) → Accepted (c .read-book .result)
+accepted c =
+    let e = entered c in
+    accepted-read (bytes (e .before)) (c .read-book .result) (passed (bytes (e .before)) (found e .passes)) (c .read-book .ensures)
 
 enter-requires : tie.Need-enter-requires
 enter-requires c κs = search needs
@@ -46,11 +58,14 @@ returns c =
     let e = c .before .before in
     called (reductionOf (asked e)) (c .refused .ensures) (call-unentered today (bytes e) (asked e) (e .enter .result .number) (e .enter .ensures .refused (c .before .if1 .taken)))
 
+read-book-requires : tie.Need-read-book-requires
+read-book-requires c κs = let e = c .before in passed (bytes (e .before)) (found e .passes) .form
+
 today-requires : tie.Need-today-requires
 today-requires c κs = search needs
 
 ask-requires : tie.Need-ask-requires
-ask-requires c κs = (found-ready (found (c .before .before)), c .today .ensures .1)
+ask-requires c κs = (ready (c .before), c .today .ensures .1)
 
 refused-requires-2 : tie.Need-refused-requires-2
 refused-requires-2 c κs = search needs
@@ -59,35 +74,37 @@ same-length-2 : tie.Need-same-length-2
 same-length-2 c = search needs
 
 -- the number is that of the questions of the bytes
-number-is : (c : tie.After-ask) → let e = c .before .before .before .before in
+number-is : (c : tie.After-ask) → let e = entered (c .before .before) .before in
     c .ask .result ≡ numberOf (refusal (lastQuestions today (bookOf (bytes e)) (find (bookOf (bytes e) .users) (asked e))))
 number-is c =
-    let f = found (c .before .before .before) in
-    cc (c .ask .ensures, c .before .today .ensures .0, f .read .book, found-in f)
+    let r = c .before .before in
+    cc (c .ask .ensures, c .before .today .ensures .0, r .read-book .ensures .book, found-in (found (entered r)) (r .read-book .ensures))
 
 returns-2 : tie.Need-returns-2
 returns-2 c =
     let k = c .before .before in
-    let e = k .before .before .before .before in
+    let n = entered (k .before .before) in
+    let e = n .before in
     called (reductionOf (asked e)) (c .refused2 .ensures)
-    (call-unreduced today (bytes e) (asked e) (found (k .before .before .before)) (k .ask .result) (c .before .if2 .taken) (number-is k))
+    (call-unreduced today (bytes e) (asked e) (found n) (k .ask .result) (c .before .if2 .taken) (number-is k))
 
 target-at-requires : tie.Need-target-at-requires
-target-at-requires c κs = (found-ready (found (c .before .before .before .before)), c .before .before .today .ensures .1)
+target-at-requires c κs = (ready (c .before .before .before), c .before .before .today .ensures .1)
 
 reduce-by-requires : tie.Need-reduce-by-requires
 reduce-by-requires c κs =
-    let e = c .before .before .before .before .before in
-    record { accepted = accepted e; inside = found-place (found e) }
+    let r = c .before .before .before .before in
+    record { accepted = accepted r; inside = found-place (found (entered r)) (r .read-book .ensures) }
 
 write-book-requires : tie.Need-write-book-requires
 write-book-requires c κs =
     let r = c .before .before .before in
-    let e = r .before .before .before .before .before .before in
-    let a = accepted e in
+    let k = r .before .before .before .before .before in
+    let e = entered k in
+    let a = accepted k in
     let w = passed (bytes (e .before)) (found e .passes) .form in
     let o = r .reduce-by .ensures in
-    let t = found e .read in
+    let t = k .read-book .ensures in
     (omega (arith, o .users, a .users-few), omega (arith, o .trades, a .trades-few), omega (arith, o .users, o .trades, t .users, t .trades, w .whole))
 
 answer-requires : tie.Need-answer-requires
@@ -102,9 +119,10 @@ returns-3 c =
     let r = w .before .before .before .before in
     let t = r .before in
     let k = t .before .before in
-    let n = k .before .before .before in
+    let b = k .before .before in
+    let n = entered b in
     let e = n .before in
-    let x = call-ends today (bytes e) (asked e) (found n) (k .before .today .ensures .0) (sym (t .before .if2 .left) ∙ k .ask .ensures) (t .target-at .ensures) (r .reduce-by .ensures) in
+    let x = call-ends today (bytes e) (asked e) (found n) (b .read-book .ensures) (k .before .today .ensures .0) (sym (t .before .if2 .left) ∙ k .ask .ensures) (t .target-at .ensures) (r .reduce-by .ensures) in
     record { answer = c .answer .ensures ∙ sym (ap (λ (y : InBytes). y .answer) x); bytes = w .write-book .ensures .bytes ∙ sym (ap (λ (y : InBytes). y .bytes) x) }
 
 pub reduction-spec : {M : Type 1} → statement M
@@ -115,6 +133,7 @@ reduction-spec =
     refused-requires
     same-length
     returns
+    read-book-requires
     today-requires
     ask-requires
     refused-requires-2
