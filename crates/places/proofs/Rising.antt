@@ -46,7 +46,7 @@ rising-ids us h = record { rise = ids-rise us 0 h }
 -- ---- the place of an id by the ids
 
 -- the first that is the id
-placeIn-at : (xs : List ℕ) (id i : ℕ) → i < length xs → getD xs i 0 ≡ id → ((j : ℕ) → j < i → getD xs j 0 ≡ id → ⊥) → placeIn xs id ≡ i
+pub placeIn-at : (xs : List ℕ) (id i : ℕ) → i < length xs → getD xs i 0 ≡ id → ((j : ℕ) → j < i → getD xs j 0 ≡ id → ⊥) → placeIn xs id ≡ i
 unfolding placeIn
 placeIn-at [] id i h e f = absurd (omega arith)
 placeIn-at (x ∷ xs) id zero h e f = ap (λ (b : Bool). cond b 0 (suc (placeIn xs id))) (eq-eqb x id e)
@@ -55,7 +55,7 @@ placeIn-at (x ∷ xs) id (suc i) h e f =
     ∙ ap (λ (n : ℕ). suc n) (placeIn-at xs id i (omega arith) e (λ j k. f (suc j) (omega arith)))
 
 -- none is the id
-placeIn-none : (xs : List ℕ) (id : ℕ) → ((j : ℕ) → j < length xs → getD xs j 0 ≡ id → ⊥) → placeIn xs id ≡ length xs
+pub placeIn-none : (xs : List ℕ) (id : ℕ) → ((j : ℕ) → j < length xs → getD xs j 0 ≡ id → ⊥) → placeIn xs id ≡ length xs
 unfolding placeIn
 placeIn-none [] id f = refl
 placeIn-none (x ∷ xs) id f =
