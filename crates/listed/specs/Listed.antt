@@ -5,9 +5,11 @@ use mathlib.Core.Path.{_≡_}
 use Prim.Native.Nat.{ℕ, _+_, _*_, _≤_, _<_}
 use lib.ListN.{length, getD}
 use Rattle.cover.specs.Cover.{Bounded}
+use Rattle.format.specs.Book.{bookOf, tradesAt}
 use Rattle.format.specs.Steps.{placeOf}
 use Rattle.held.specs.Held.{HeldAs}
 use Rattle.laws.proofs.Sound.{Sound}
+use Rattle.rules.specs.Areas.{Prices}
 use Rattle.rules.specs.Book.{Book, nobody, sold, bought}
 use Rattle.rules.specs.Levels.{Limits, shortOfCover}
 use Rattle.sales.specs.Groups.{grouped, standings, starts, places, termsOf, areasOf}
@@ -36,3 +38,10 @@ pub record StateOf (limits : Limits) (b : Book) (s ns : List ℕ) (flags : List 
   pub standing : ns ≡ grouped (standings (b .trades)) (b .users)
   pub short-length : length flags ≡ length (b .users)
   pub short-at : (i : ℕ) → i < length (b .users) → getD flags i false ≡ shortOfCover limits b (getD (b .users) i nobody)
+
+-- a book in bytes, whose trades start at an offset, with its prices and its lists
+pub record Listed (limits : Limits) (f : Prices) (s : List ℕ) (from : ℕ) (sells buys ss origins ns areaCodes bs : List ℕ) (flags : List Bool) : Type 0 where
+  pub lists : ListsOf (bookOf s) sells buys ss origins areaCodes bs
+  pub state : StateOf limits (bookOf s) s ns flags
+  pub at-trades : from ≡ tradesAt s
+  pub prices : f ≡ bookOf s .header .prices
