@@ -79,8 +79,44 @@ fn fill_cuts<'a>(
     cuts::fill_cuts(one, two, tariffs, asked, first, second, rests, cuts);
 }
 
-// Fills in what each sale loses where the seller is reduced for an amount.
-fn sale_cuts<'a>(
+// Fills in what each of at most 32 sales loses where the seller is reduced for an amount.
+fn few_cuts<'a>(
+    standing: &'a [u64],
+    areas: &'a [u8],
+    short: Amounts,
+    prices: Prices,
+    asked: Cents,
+    cuts: &mut [u64],
+)
+    requires { ⌜ length (now standing) ≤ 32 ⌝ }
+    requires { ⌜ InRange (asPrices prices) × Sales (now standing) (now areas) (now cuts) ⌝ }
+    ensures { λ _. ⌜ now (cuts .exit) ≡ cutsOf (asPrices prices) short (asked .0) (now (standing .entry)) (now (areas .entry)) ⌝ }
+{
+    let n = standing.len();
+    let mut tariffs = [0u32; 32];
+    let mut one = [0u64; 32];
+    let mut two = [0u64; 32];
+    let mut first = [0u64; 32];
+    let mut second = [0u64; 32];
+    let mut rests = [0u64; 32];
+    fill_cuts(
+        standing,
+        areas,
+        short,
+        prices,
+        asked,
+        &mut tariffs[..n],
+        &mut one[..n],
+        &mut two[..n],
+        &mut first[..n],
+        &mut second[..n],
+        &mut rests[..n],
+        cuts,
+    );
+}
+
+// The same of at most 256 sales.
+fn many_cuts<'a>(
     standing: &'a [u64],
     areas: &'a [u8],
     short: Amounts,
@@ -112,6 +148,25 @@ fn sale_cuts<'a>(
         &mut rests[..n],
         cuts,
     );
+}
+
+// Fills in what each sale loses where the seller is reduced for an amount. Most sellers have few sales, and clearing room for 256 takes longer than their cuts.
+fn sale_cuts<'a>(
+    standing: &'a [u64],
+    areas: &'a [u8],
+    short: Amounts,
+    prices: Prices,
+    asked: Cents,
+    cuts: &mut [u64],
+)
+    requires { ⌜ InRange (asPrices prices) × Sales (now standing) (now areas) (now cuts) ⌝ }
+    ensures { λ _. ⌜ now (cuts .exit) ≡ cutsOf (asPrices prices) short (asked .0) (now (standing .entry)) (now (areas .entry)) ⌝ }
+{
+    if standing.len() <= 32 {
+        few_cuts(standing, areas, short, prices, asked, cuts);
+        return;
+    }
+    many_cuts(standing, areas, short, prices, asked, cuts);
 }
 
 // Takes the cuts off what stands.

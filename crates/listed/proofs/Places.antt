@@ -1,10 +1,8 @@
 -- The place of the user of an id, and the same users by their parties. Assumes nothing.
-use mathlib.Core.Bool.{Bool, true, false, _||_}
 use mathlib.Core.List.{List, [], _∷_, map, map-map}
-use mathlib.Core.Path.{_≡_, refl, sym, ap, subst, _∙_}
+use mathlib.Core.Path.{_≡_, sym, ap, subst, _∙_}
 use Prim.Native.Nat.{ℕ, _<_}
-use native.Mathlib.Omega.{arith}
-use lib.Dec.{T, eqb, ltb, eqb→eq, ltb→lt}
+use lib.Dec.{T, eqb, eqb→eq, ltb→lt}
 use lib.ListN.{length, getD}
 use Rattle.format.proofs.OneUser.{place-known}
 use Rattle.format.specs.Steps.{placeOf}

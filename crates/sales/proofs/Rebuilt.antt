@@ -34,7 +34,7 @@ written-append d (i ∷ is) js [] ns ts e = absurd (omega arith)
 written-append d (i ∷ is) js (m ∷ ms) ns ts e = written-append d is js ms ns (set ts i (standingAt m (getD ts i d))) (omega arith)
 
 -- past the first trade
-written-past : (d : Trade) (is ns : List ℕ) (t : Trade) (ts : List Trade) → written d (map suc is) ns (t ∷ ts) ≡ t ∷ written d is ns ts
+pub written-past : (d : Trade) (is ns : List ℕ) (t : Trade) (ts : List Trade) → written d (map suc is) ns (t ∷ ts) ≡ t ∷ written d is ns ts
 unfolding written
 written-past d [] ns t ts = refl
 written-past d (i ∷ is) [] t ts = refl

@@ -151,10 +151,14 @@ pub fn tier_cuts<'a>(
     requires { ⌜ Lent (now standing) (now tariffs) (now cuts) (now rests) ⌝ }
     ensures { λ _. ⌜ now (cuts .exit) ≡ tierCuts (asked .0) (lotsOf (now (standing .entry)) (now (tariffs .entry))) ⌝ }
 {
-    let worth = worths::worth_of(standing, tariffs);
     let a = asked.0;
+    if a == 0 {
+        cut_none(cuts);
+        return;
+    }
+    let worth = worths::worth_of(standing, tariffs);
     let v = worth.0;
-    if (a == 0) | (v == 0) {
+    if v == 0 {
         cut_none(cuts);
         return;
     }
