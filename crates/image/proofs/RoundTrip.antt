@@ -1,8 +1,8 @@
 -- The image of a book's bytes has that book's fields: what `read` writes to an image, `write` reads from it. Assumes nothing.
 use mathlib.Core.Path.{_≡_, refl, sym, ap, _∙_}
-use mathlib.Core.List.{List, _∷_, _++_, append-assoc}
+use mathlib.Core.List.{List, _++_, append-assoc}
 use Prim.Native.Nat.{ℕ, zero, suc, _+_, _*_, _≤_}
-use native.Mathlib.Nat.{le-of-suc-le-suc, not-suc-le-zero, mul-suc, zero-add}
+use native.Mathlib.Nat.{mul-suc, zero-add}
 use native.Mathlib.Omega.{arith}
 use lib.ListN.{length, take, drop, length-append, length-take, length-drop, take-append-drop}
 use lib.Seq.{length-take-le, take-at, drop-at, take-append-le, drop-append-le}
@@ -17,15 +17,9 @@ use Rattle.format.proofs.Passed.{Passed}
 use Rattle.format.proofs.Round.{bytesOf-bookOf}
 use Rattle.image.specs.Image.{padded, imageOf, imageBook}
 use Rattle.image.proofs.Copied.{length-padded}
+use Rattle.image.proofs.Fields.{take-records}
 
 module _ {R : Type 0} (len : ℕ) (one : List ℕ → R) where
-  -- the first n of m records are n records
-  take-records : (n m : ℕ) (s : List ℕ) → n ≤ m → take n (recordsOf len one m s) ≡ recordsOf len one n s
-  unfolding recordsOf
-  take-records zero m s h = refl
-  take-records (suc n) zero s h = absurd (not-suc-le-zero h)
-  take-records (suc n) (suc m) s h = ap (λ r. one (take len s) ∷ r) (take-records n m (drop len s) (le-of-suc-le-suc h))
-
   -- records that fill the front of a list do not depend on what stands behind them
   records-front : (n : ℕ) (p q : List ℕ) → length p ≡ len * n → recordsOf len one n (p ++ q) ≡ recordsOf len one n p
   unfolding recordsOf

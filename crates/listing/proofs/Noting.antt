@@ -8,14 +8,12 @@ use native.Mathlib.Omega.{arith}
 use lib.Dec.{eqb}
 use lib.ListN.{length, take, getD, set}
 use lib.Seq.{take-suc-set, take-set-le, take-all}
-use Rattle.listing.proofs.Sellers.{trades-count, own-sale}
-use Rattle.listing.specs.Listing.{usersIn, tradesIn, tradeIn, noTrade, idAt, Trading, PlacedOn, Noted, OwnPlaces}
+use Rattle.listing.proofs.Sellers.{trades-count, places-trade}
+use Rattle.listing.specs.Listing.{usersIn, tradesIn, tradeIn, idAt, Trading, PlacedOn, Noted, OwnPlaces}
 use Rattle.rules.specs.Book.{Trade, bilateralForDay}
-use Rattle.sales.proofs.Groups.{places-next, places-skip}
 use Rattle.sales.proofs.Kept.{by-case}
 use Rattle.sales.specs.Groups.{places}
 use Rattle.sales.specs.Kept.{placesOf}
-use Rattle.sales.specs.Sales.{ownSale}
 
 -- ---- one trade
 
@@ -38,14 +36,6 @@ noted-sale sells {counts} i old k r h s b e c =
 
 -- ---- all trades
 
--- the places of those that pass a test among one element more
-places-more : {A : Type 0} (p : A → Bool) (xs : List A) (i : ℕ) (d : A) → i < length xs
-    → placesOf p (take (i + 1) xs) ≡ placesOf p (take i xs) ++ cond (p (getD xs i d)) (i ∷ []) []
-places-more p xs i d h =
-    by-case (p (getD xs i d))
-    (λ t. rw (t, add-one) (places-next p xs i d h t))
-    (λ t. rw (t, add-one) (places-skip p xs i d h t ∙ sym (append-nil (placesOf p (take i xs)))))
-
 -- the first i trades are passed, and k own sales of the user at a place are listed
 pub record Found (n m place : ℕ) (s origins : List ℕ) (k i : ℕ) : Type 0 where
   pub inside : i ≤ m
@@ -61,17 +51,11 @@ module _ (n m place : ℕ) (s : List ℕ) where
     pub found-more : {old now : List ℕ} {k i r seller : ℕ} → Found n m place s old k i → i < m → seller ≡ getD sellers i 0
         → Noted (eqb seller place && bilateralForDay (tradeIn n s i)) i old k now r → Found n m place s now r (i + 1)
     found-more {old} {now} {k} {i} {r} {seller} p l f e =
-        let us = usersIn n s in
-        let ts = tradesIn n m s in
         let own = eqb seller place && bilateralForDay (tradeIn n s i) in
-        let own-is : own ≡ ownSale (idAt us place) (getD ts i noTrade) = own-sale n m s sellers b placed place h l f in
         record {
           inside = omega arith;
           few = by-case own (λ c. omega (arith, rw c at (e .count), p .few)) (λ c. omega (arith, rw c at (e .count), p .few));
-          front =
-              e .front ∙ ap (λ (xs : List ℕ). xs ++ cond own (i ∷ []) []) (p .front)
-              ∙ ap (λ (c : Bool). places (take i ts) (idAt us place) ++ cond c (i ∷ []) []) own-is
-              ∙ sym (places-more (ownSale (idAt us place)) ts i noTrade (omega (arith, trades-count n m s)));
+          front = e .front ∙ ap (λ (xs : List ℕ). xs ++ cond own (i ∷ []) []) (p .front) ∙ sym (places-trade n m s sellers b placed l f place h);
         }
 
   pub found-end : {origins : List ℕ} {k i : ℕ} → Found n m place s origins k i → m ≤ i → m ≤ length origins → OwnPlaces n m s place origins k
