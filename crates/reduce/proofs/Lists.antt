@@ -1,24 +1,34 @@
 -- The lists of own sales that are filled in can be reduced, and what comes of it is what the rules give. Assumes nothing.
 use mathlib.Core.Bool.{Bool, true, false}
-use mathlib.Core.List.{List}
-use mathlib.Core.Path.{_≡_, sym, ap, _∙_}
+use mathlib.Core.List.{List, map, map-map}
+use mathlib.Core.Path.{_≡_, sym, ap, ap₂, subst, _∙_}
 use Prim.Native.Nat.{ℕ, _+_, _*_, _≤_}
 use native.Mathlib.Omega.{arith}
 use lib.Dec.{ltb}
-use lib.ListN.{length, take}
+use lib.ListN.{length, take, getD}
 use lib.Seq.{length-take-le}
 use Rattle.rules.specs.Areas.{Prices}
+use Rattle.rules.specs.Book.{Trade, User}
 use Rattle.rules.specs.Calls.{Answer, ofCuts, only}
+use Rattle.rules.specs.Changes.{withUsers}
 use Rattle.rules.specs.Lists.{any}
 use Rattle.rules.specs.Reduction.{hasEligible}
 use Rattle.format.proofs.Passed.{length-usersOf, passed}
 use Rattle.format.specs.Book.{bookOf, tradeCount, tradesAt, tradesOf, userAt, userCount, usersOf}
 use Rattle.format.specs.Steps.{inBytes}
+use Rattle.cutting.specs.Places.{PlacesIn}
+use Rattle.held.proofs.Held.{held-itself, held-trades}
+use Rattle.held.specs.Held.{HeldAs, noTrade, tradesReplaced}
 use Rattle.listing.specs.Listing.{OwnSales, Trading}
 use Rattle.places.specs.Ids.{Placed, tradesFrom, usersFrom}
-use Rattle.reducing.specs.Reducing.{ReducedIn, ReducibleIn, sellerAt}
+use Rattle.reducing.proofs.Steps.{few, from-stays, left-is, origin-stays, origins-length, reduced-in}
+use Rattle.reducing.specs.Reducing.{ReducedIn, ReducibleIn, SettledIn, sellerAt}
 use Rattle.sales.proofs.Cover.{has-eligible-sales}
+use Rattle.sales.proofs.Groups.{places-kept}
 use Rattle.sales.proofs.Reduced.{sales-reduced}
+use Rattle.sales.specs.Groups.{places, written}
+use Rattle.sales.specs.Reduced.{ownCuts}
+use Rattle.sales.specs.Sales.{less, ownSale, salesOf}
 use Rattle.worths.specs.Tallies.{asTally}
 use Rattle.worths.specs.declared.Tally.{Tally}
 use Rattle.reduce.proofs.Ways.{gives-refused, sales-none, sales-some}
@@ -59,18 +69,47 @@ module _ {s : List ℕ} {place : ℕ} {sellers parties : List ℕ} (p : UserIn s
 
 -- ---- they are reduced
 
-module _ {s : List ℕ} {from place : ℕ} {origins own areas buyers : List ℕ} {f : Prices} {room : List ℕ} (p : ReducibleIn s from place origins own areas buyers f room)
-    (asked : ℕ) {some : Bool} (e : some ≡ any (λ n. ltb 0 n) own) where
-  -- an own sale stands where the user has an eligible trade
-  eligible-is : hasEligible (bookOf s) (sellerAt (bookOf s) place) ≡ some
-  eligible-is = has-eligible-sales (bookOf s) (sellerAt (bookOf s) place) ∙ ap (any (λ n. ltb 0 n)) (sym (p .own-are)) ∙ sym e
+module _ {s : List ℕ} {from place : ℕ} {origins own areas buyers : List ℕ} {f : Prices} {room : List ℕ} (p : ReducibleIn s from place origins own areas buyers f room) where
+  abbrev u : User
+  u = sellerAt (bookOf s) place
 
-  pub own-refused : {a : Answer} → some ≡ false → a ≡ only 14 → Gives (onSales s (sellerAt (bookOf s) place) asked) a s
-  own-refused h g = gives-refused 14 (sales-none s (sellerAt (bookOf s) place) asked (eligible-is ∙ h)) g
+  module _ {asked : ℕ} {after left cs : List ℕ} {r : Tally} (o : SettledIn (bookOf s) place asked after left cs r) where
+    -- the own sales can be lowered where they are
+    pub lowering : PlacesIn after from origins
+    lowering = record { held = held-itself (o .held); begin = from-stays p o; inside = origin-stays p o; few = omega (arith, origins-length p, few p) }
 
-  pub own-reduced : {a : Answer} {t left cs : List ℕ} {r : Tally} → some ≡ true → ReducedIn (bookOf s) place asked t left cs r → a ≡ ofCuts asked (asTally r)
-      → Gives (onSales s (sellerAt (bookOf s) place) asked) a t
-  unfolding inBytes
-  own-reduced h o g =
-      rw (sales-some s (sellerAt (bookOf s) place) asked (eligible-is ∙ h))
-      (record { answer = g ∙ ap (ofCuts asked) (o .tally) ∙ sym (sales-reduced (bookOf s) (sellerAt (bookOf s) place) asked (p .sound) .answer); bytes = o .held .bytes })
+    -- what stands of them then is what the reduction leaves
+    lowered-is : less cs (map (λ i. getD (tradesOf after) i noTrade .standing) origins) ≡ left
+    unfolding withUsers salesOf
+    lowered-is =
+        let ts = bookOf s .trades in
+        let is = places ts (u .party .id) in
+        let standings : map (λ i. getD ts i noTrade .standing) is ≡ map (λ t. t .standing) (salesOf ts (u .party .id))
+        = sym (map-map (λ (t : Trade). t .standing) (λ i. getD ts i noTrade) is) ∙ ap (map (λ (t : Trade). t .standing)) (places-kept (ownSale (u .party .id)) noTrade ts) in
+        ap₂ (λ (ns js : List ℕ). less ns (map (λ i. getD (tradesOf after) i noTrade .standing) js)) (o .cuts) (p .origins-are)
+        ∙ ap (λ (us : List Trade). less (ownCuts (bookOf s) u asked) (map (λ i. getD us i noTrade .standing) is)) (held-trades (o .held))
+        ∙ ap (less (ownCuts (bookOf s) u asked)) standings
+        ∙ sym (left-is p o)
+
+    -- with them lowered the user is reduced
+    lowered-in : {end : List ℕ} → HeldAs (tradesReplaced (bookOf after) (written noTrade origins (less cs (map (λ i. getD (tradesOf after) i noTrade .standing) origins)) (tradesOf after))) end
+        → ReducedIn (bookOf s) place asked end left cs r
+    lowered-in {end} w =
+        reduced-in p o (subst (λ (ns : List ℕ). HeldAs (tradesReplaced (bookOf after) (written noTrade origins ns (tradesOf after))) end) lowered-is w)
+
+  module _ (asked : ℕ) {some : Bool} (e : some ≡ any (λ n. ltb 0 n) own) where
+    -- an own sale stands where the user has an eligible trade
+    eligible-is : hasEligible (bookOf s) u ≡ some
+    eligible-is = has-eligible-sales (bookOf s) u ∙ ap (any (λ n. ltb 0 n)) (sym (p .own-are)) ∙ sym e
+
+    pub own-refused : {a : Answer} → some ≡ false → a ≡ only 14 → Gives (onSales s (sellerAt (bookOf s) place) asked) a s
+    own-refused h g = gives-refused 14 (sales-none s u asked (eligible-is ∙ h)) g
+
+    pub own-reduced : {a : Answer} {after end left cs : List ℕ} {r : Tally} → some ≡ true → SettledIn (bookOf s) place asked after left cs r
+        → HeldAs (tradesReplaced (bookOf after) (written noTrade origins (less cs (map (λ i. getD (tradesOf after) i noTrade .standing) origins)) (tradesOf after))) end
+        → a ≡ ofCuts asked (asTally r) → Gives (onSales s (sellerAt (bookOf s) place) asked) a end
+    unfolding inBytes
+    own-reduced h o w g =
+        let d = lowered-in o w in
+        rw (sales-some s u asked (eligible-is ∙ h))
+        (record { answer = g ∙ ap (ofCuts asked) (d .tally) ∙ sym (sales-reduced (bookOf s) u asked (p .sound) .answer); bytes = d .held .bytes })

@@ -116,18 +116,8 @@ fn reduce_own(
     if !ledger::any_left(own) {
         return refused(14);
     }
-    let tally = reducing::reduce_sales(
-        book,
-        at,
-        place,
-        origins,
-        own,
-        areas,
-        buyers,
-        asked,
-        prices,
-        cuts,
-    );
+    let tally = reducing::settle_own(book, place, own, areas, buyers, asked, prices, cuts);
+    cutting::lower_sales(book, at, origins, cuts);
     answer(asked, tally)
 }
 
