@@ -12,7 +12,7 @@ use Rattle.records.specs.declared.Trade.{Trade}
 use Rattle.records.specs.User.{userBytes, asUser}
 use Rattle.records.specs.Trade.{tradeBytes, asTrade}
 use Rattle.format.specs.Book.{mark, bytesOf}
-use Rattle.format.proofs.Written.{parts-written}
+use Rattle.format.proofs.Written.{header-written, parts-written}
 use Rattle.book.specs.declared.Book.{Book}
 use Rattle.book.specs.Book.{asBook}
 
@@ -46,4 +46,4 @@ module _ (b : Book) where
       let n = front-length asUser (b .«user_count») (b .users) users in
       let m = front-length asTrade (b .«trade_count») (b .trades) trades in
       rw (bytesOfRecords-map asUser userBytes us, bytesOfRecords-map asTrade tradeBytes ts)
-      (rw (n, m) at (parts-written (asBook b) out (omega arith)))
+      (rw (n, m) at (rw (← header-written (asBook b) out) at (parts-written (asBook b) out (omega arith))))

@@ -19,6 +19,10 @@ all-copied s out e = rw (take-length, ← e, drop-length, append-nil)
 pub part-length : (s : List ℕ) (a k : ℕ) → a + k ≤ length s → length (take (a + k - a) (drop a s)) ≡ k
 part-length s a k h = simp (length-take, length-drop) (omega (arith, h))
 
+-- the front of bytes, lent and come back as others of its length
+pub front-set : {part : List ℕ} (k : ℕ) (l v : List ℕ) → length v ≡ k → k ≤ length l → part ≡ v → part ++ drop k l ≡ sets l 0 v
+front-set k l v n h e = rw e (part-sets l v 0 k n (omega (arith, h)))
+
 -- where i of n records are copied: the next one stands at a and goes to b, and what is left, written there, gives all of them
 pub record Copying {M : Type 0} (len : ℕ) (one : List ℕ → M) (bytes : M → List ℕ) (s : List ℕ) (from n : ℕ) (entry : List ℕ) (at : ℕ) (out : List ℕ) (i a b : ℕ) : Type 0 where
   pub source : a ≡ from + len * i

@@ -42,7 +42,8 @@ pub fn seek(s: &[u8], number: u32, id: u32) -> Entry
         };
     }
     let place = place_of(s, id);
-    if fields::get_u8(s, 5) as usize <= place {
+    let n = fields::get_u8(s, 5) as usize;
+    if n <= place {
         return Entry {
             number: 8,
             place: 0,

@@ -118,23 +118,21 @@ module _ (b : Book) where
   priceValues =
       b .header .prices .p ∷ b .header .prices .q ∷ b .header .prices .l ∷ b .header .prices .x ∷ b .header .prices .i ∷ []
 
-  header-written : (out : List ℕ)
+  pub header-written : (out : List ℕ)
       → setFields (4 ∷ 4 ∷ 4 ∷ 4 ∷ 4 ∷ []) 12 priceValues (setFields (3 ∷ 2 ∷ 1 ∷ 2 ∷ 4 ∷ []) 0 startValues out) ≡ sets out 0 (pack headerWidths (headerValues b))
   unfolding setFields headerWidths headerValues
   header-written out = setFields-sets headerWidths 0 (startValues ++ priceValues) out
 
   -- header, users and trades, over bytes of the book's length
   pub parts-written : (out : List ℕ) → length out ≡ 32 + 56 * length (b .users) + 20 * length (b .trades)
-      → sets (sets (setFields (4 ∷ 4 ∷ 4 ∷ 4 ∷ 4 ∷ []) 12 priceValues (setFields (3 ∷ 2 ∷ 1 ∷ 2 ∷ 4 ∷ []) 0 startValues out)) 32 (bytesOfRecords userBytes (b .users))) (32 + 56 * length (b .users)) (bytesOfRecords tradeBytes (b .trades))
-      ≡ bytesOf b
+      → sets (sets (sets out 0 (pack headerWidths (headerValues b))) 32 (bytesOfRecords userBytes (b .users))) (32 + 56 * length (b .users)) (bytesOfRecords tradeBytes (b .trades)) ≡ bytesOf b
   unfolding bytesOf
   parts-written out h =
       let us = bytesOfRecords userBytes (b .users) in
       let ts = bytesOfRecords tradeBytes (b .trades) in
       let eu = length-bytesOfRecords userBytes 56 length-userBytes (b .users) in
       let et = length-bytesOfRecords tradeBytes 20 length-tradeBytes (b .trades) in
-      rw (header-written out)
-      (sets-three (pack headerWidths (headerValues b)) us ts out 32 (32 + 56 * length (b .users)) (length-header b) (omega arith) (omega arith))
+      sets-three (pack headerWidths (headerValues b)) us ts out 32 (32 + 56 * length (b .users)) (length-header b) (omega arith) (omega arith)
 
 every-of : {R : Type 0} (P : R → Type 0) → ((r : R) → P r) → (rs : List R) → Every P rs
 every-of P h [] = tt

@@ -1,24 +1,24 @@
 -- The book of an image's fields: its records, that they fit their bytes, what it is written as, and the questions 4 to 7 of that. Assumes nothing.
 use mathlib.Core.Bool.{Bool, true, false, _&&_}
-use mathlib.Core.List.{List, [], _∷_}
+use mathlib.Core.List.{List, [], _∷_, _++_}
 use mathlib.Core.Path.{_≡_, refl, sym, ap, _∙_}
 use Prim.Native.Nat.{ℕ, zero, suc, _+_, _*_, _<_, _≤_, _^_}
 use native.Mathlib.Omega.{arith}
 use native.Mathlib.Nat.{le-of-suc-le-suc, not-suc-le-zero}
 use lib.Dec.{T, leb, leb→le}
 use lib.ListN.{length, take, drop}
-use lib.Seq.{sets}
-use Rattle.rules.specs.Areas.{Prices}
-use Rattle.rules.specs.Book.{User, Trade}
+use lib.Seq.{sets, length-take-le}
 use Rattle.rules.specs.Calendar.{realDay}
 use Rattle.rules.specs.Questions.{headerValid, pricesValid, refusal, numberOf}
 use Rattle.rules.specs.Signed.{signedOf}
 use Rattle.laws.proofs.Tests.{and-l, and-r}
 use Rattle.units.proofs.TwosComplement.{posPart-signedOf-lt, negPart-signedOf-le}
-use Rattle.fields.specs.Field.{field, AllBytes}
-use Rattle.fields.specs.Layout.{recordsOf, bytesOfRecords, setFields, Every}
-use Rattle.fields.proofs.Field.{field-lt, all-bytes-take, all-bytes-drop}
+use Rattle.fields.specs.Field.{field, toBytes, setField, AllBytes}
+use Rattle.fields.specs.Layout.{recordsOf, bytesOfRecords, fieldsAt, pack, size, Every}
+use Rattle.fields.proofs.Field.{field-lt, length-toBytes, all-bytes-take, all-bytes-drop}
+use Rattle.fields.proofs.Pack.{fit-fieldsAt, pack-fieldsAt}
 use Rattle.fields.proofs.Records.{length-recordsOf}
+use Rattle.fields.proofs.Sets.{part-sets, take-of-drop}
 use Rattle.records.specs.User.{amountsAt, userOf, userBytes, FitsSigned, FitsAmounts, FitsUser}
 use Rattle.records.specs.Trade.{tradeOf, tradeBytes, FitsTrade}
 use Rattle.format.specs.Book.{mark, headerWidths, headerValues, versionOf, userCount, tradeCount, pricesAt, bookOf, bytesOf}
@@ -100,11 +100,6 @@ counts-of {n = n} {m = m} whole version users trades k =
       many = leb→le m 256 (search (and-l, and-r));
     }
 
--- bytes over which header, users and trades were written one after the other
-abbrev pub inParts : ℕ → ℕ → ℕ → ℕ → Prices → List User → List Trade → ℕ → List ℕ → List ℕ
-inParts version users trades date v us ts n out =
-    sets (sets (setFields (4 ∷ 4 ∷ 4 ∷ 4 ∷ 4 ∷ []) 12 (v .p ∷ v .q ∷ v .l ∷ v .x ∷ v .i ∷ []) (setFields (3 ∷ 2 ∷ 1 ∷ 2 ∷ 4 ∷ []) 0 (mark ∷ version ∷ users ∷ trades ∷ date ∷ []) out)) 32 (bytesOfRecords userBytes us)) (32 + 56 * n) (bytesOfRecords tradeBytes ts)
-
 module _ {s : List ℕ} {n m : ℕ} (counts : CountsOf s n m) where
   users-are : imageBook s .users ≡ usersFrom 32 n s
   unfolding imageBook
@@ -120,40 +115,43 @@ module _ {s : List ℕ} {n m : ℕ} (counts : CountsOf s n m) where
   trade-count : length (imageBook s .trades) ≡ m
   trade-count = ap length trades-are ∙ length-recordsOf 20 tradeOf m (drop 3616 s)
 
-  version-is : imageBook s .header .version ≡ 1
-  unfolding imageBook bookOf
-  version-is = counts .version
-
-  date-is : imageBook s .header .date ≡ field 4 8 s
-  unfolding imageBook bookOf
-  date-is = refl
-
-  prices-are : imageBook s .header .prices ≡ pricesAt 12 s
-  unfolding imageBook bookOf
-  prices-are = refl
-
-  -- header, users and trades of the image written one after the other, over bytes of the book's length
-  pub image-written : (users trades date : ℕ) (v : Prices) (out : List ℕ) → users ≡ userCount s → trades ≡ tradeCount s → date ≡ field 4 8 s → v ≡ pricesAt 12 s
-      → length out ≡ 32 + 56 * n + 20 * m → inParts 1 users trades date v (usersFrom 32 n s) (tradesFrom 3616 m s) n out ≡ bytesOf (imageBook s)
-  image-written users trades date v out eu et ed ev h =
-      let b = imageBook s in
-      let same : inParts 1 users trades date v (usersFrom 32 n s) (tradesFrom 3616 m s) n out ≡ inParts (b .header .version) (length (b .users)) (length (b .trades)) (b .header .date) (b .header .prices) (b .users) (b .trades) (length (b .users)) out = rw (eu ∙ sym (counts .users), et ∙ sym (counts .trades), ed, ev, user-count, trade-count, users-are, trades-are, version-is, date-is, prices-are) in
-      same ∙ parts-written b out (rw (user-count, trade-count) h)
+  -- the fields of the header behind the mark
+  values-are : headerValues (imageBook s) ≡ mark ∷ fieldsAt (2 ∷ 1 ∷ 2 ∷ 4 ∷ 4 ∷ 4 ∷ 4 ∷ 4 ∷ 4 ∷ []) 3 s
+  unfolding headerValues fieldsAt userCount tradeCount imageBook bookOf versionOf pricesAt
+  values-are = rw (user-count ∙ counts .users, trade-count ∙ counts .trades)
 
   module _ (bytes : AllBytes s) where
+    -- the image's header, with the mark, is that of its book
+    header-copied : setField 3 0 mark (take 32 s) ≡ pack headerWidths (headerValues (imageBook s))
+    unfolding setField headerWidths pack size
+    header-copied =
+        let ws : List ℕ = 2 ∷ 1 ∷ 2 ∷ 4 ∷ 4 ∷ 4 ∷ 4 ∷ 4 ∷ 4 ∷ [] in
+        let n = length-take-le 32 s (omega (arith, counts .whole)) in
+        sym (part-sets (take 32 s) (toBytes 3 mark) 0 3 (length-toBytes 3 mark) (omega (arith, n)))
+        ∙ ap (λ (l : List ℕ). toBytes 3 mark ++ l) (sym (pack-fieldsAt ws 3 s (omega (arith, counts .whole)) bytes ∙ take-of-drop 3 29 s))
+        ∙ sym (ap (pack headerWidths) values-are)
+
+    -- header, users and trades of the image copied one after the other, over bytes of the book's length
+    pub image-written : (out : List ℕ) → length out ≡ 32 + 56 * n + 20 * m
+        → sets (sets (sets out 0 (setField 3 0 mark (take 32 s))) 32 (bytesOfRecords userBytes (usersFrom 32 n s))) (32 + 56 * n) (bytesOfRecords tradeBytes (tradesFrom 3616 m s)) ≡ bytesOf (imageBook s)
+    image-written out h =
+        let b = imageBook s in
+        let same : sets (sets (sets out 0 (setField 3 0 mark (take 32 s))) 32 (bytesOfRecords userBytes (usersFrom 32 n s))) (32 + 56 * n) (bytesOfRecords tradeBytes (tradesFrom 3616 m s)) ≡ sets (sets (sets out 0 (pack headerWidths (headerValues b))) 32 (bytesOfRecords userBytes (b .users))) (32 + 56 * length (b .users)) (bytesOfRecords tradeBytes (b .trades)) = rw (header-copied, user-count, users-are, trades-are) in
+        same ∙ parts-written b out (rw (user-count, trade-count) h)
+
     book-fits : FitsBook (imageBook s)
-    unfolding headerWidths headerValues mark pricesAt
+    unfolding headerWidths mark
     book-fits =
         record {
-          header = (omega arith, (omega (arith, version-is), (omega (arith, user-count, counts .few), (omega (arith, trade-count, counts .many), (rw date-is (field-lt 4 8 s bytes), (rw prices-are (field-lt 4 12 s bytes), (rw prices-are (field-lt 4 16 s bytes), (rw prices-are (field-lt 4 20 s bytes), (rw prices-are (field-lt 4 24 s bytes), (rw prices-are (field-lt 4 28 s bytes), tt))))))))));
+          header = rw values-are (omega arith, fit-fieldsAt (2 ∷ 1 ∷ 2 ∷ 4 ∷ 4 ∷ 4 ∷ 4 ∷ 4 ∷ 4 ∷ []) 3 s bytes);
           users = rw users-are (every-record 56 userOf FitsUser user-fits n (drop 32 s) (all-bytes-drop 32 s bytes));
           trades = rw trades-are (every-record 20 tradeOf FitsTrade trade-fits m (drop 3616 s) (all-bytes-drop 3616 s bytes));
         }
 
     -- what was found of the header
     header-found : {found answer : Bool} → found ≡ (realDay (field 4 8 s) && pricesValid (pricesAt 12 s)) → found ≡ answer → headerValid (imageBook s .header) ≡ answer
-    unfolding headerValid
-    header-found e f = rw (date-is, prices-are) (sym e ∙ f)
+    unfolding headerValid imageBook bookOf
+    header-found e f = sym e ∙ f
 
     -- 4: the header is not in range
     pub fields-4 : {found : Bool} → found ≡ (realDay (field 4 8 s) && pricesValid (pricesAt 12 s)) → found ≡ false → 4 ≡ fieldsNumber (bytesOf (imageBook s))

@@ -74,12 +74,7 @@ fn write_fields(image: &[u8], n: usize, m: usize, out: &mut [u8])
     requires { ⌜ CountsOf (now image) n m × (length (now out) ≡ 32 + 56 * n + 20 * m) ⌝ }
     ensures { λ _. ⌜ now (out .exit) ≡ bytesOf (imageBook (now (image .entry))) ⌝ }
 {
-    let users = fields::get_u8(image, 5);
-    let trades = fields::get_u16(image, 6);
-    let date = fields::get_u32(image, 8);
-    let prices = header::read_prices(image);
-    header::write_start(out, 1, users, trades, date);
-    header::write_prices(out, prices);
+    copying::copy_header(image, out);
     copying::copy_users(image, 32, n, out, 32);
     copying::copy_trades(image, 3616, m, out, 32 + 56 * n);
 }

@@ -35,19 +35,19 @@ in-order {P} i j f g h = go (ltb i j) refl (ltb j i) refl
 
 -- ---- one trade more
 
-module _ (party : ℕ) (t : Trade) (i area : ℕ) where
-  -- the whole, to the sum of its party in its area for the day
-  given-own : party ≡ i → t .terms .area ≡ area → t .terms .day ≡ 0 → given party t i area ≡ t .standing
+module _ (day party : ℕ) (t : Trade) (i area : ℕ) where
+  -- the whole, to the sum of its party in its area for its day
+  given-own : party ≡ i → t .terms .area ≡ area → t .terms .day ≡ day → given day party t i area ≡ t .standing
   unfolding given
-  given-own e f g = rw (eq-eqb party i e, eq-eqb (t .terms .area) area f, eq-eqb (t .terms .day) 0 g)
+  given-own e f g = rw (eq-eqb party i e, eq-eqb (t .terms .area) area f, eq-eqb (t .terms .day) day g)
 
   -- nothing at another place
-  given-other : (party ≡ i → ⊥) → given party t i area ≡ 0
+  given-other : (party ≡ i → ⊥) → given day party t i area ≡ 0
   unfolding given
   given-other e = rw (ne-eqb party i e)
 
   -- nothing to another area
-  given-apart : (t .terms .area ≡ area → ⊥) → given party t i area ≡ 0
+  given-apart : (t .terms .area ≡ area → ⊥) → given day party t i area ≡ 0
   unfolding given
   given-apart e = rw (ne-eqb (t .terms .area) area e) (go (eqb party i))
     where
@@ -56,9 +56,9 @@ module _ (party : ℕ) (t : Trade) (i area : ℕ) where
       go false = refl
 
   -- nothing for another day
-  given-next : (t .terms .day ≡ 0 → ⊥) → given party t i area ≡ 0
+  given-next : (t .terms .day ≡ day → ⊥) → given day party t i area ≡ 0
   unfolding given
-  given-next e = rw (ne-eqb (t .terms .day) 0 e) (go (eqb party i) (eqb (t .terms .area) area))
+  given-next e = rw (ne-eqb (t .terms .day) day e) (go (eqb party i) (eqb (t .terms .area) area))
     where
       go : (b c : Bool) → cond {A = ℕ} b (cond (c && false) (t .standing) 0) 0 ≡ 0
       go true true = refl
@@ -66,31 +66,31 @@ module _ (party : ℕ) (t : Trade) (i area : ℕ) where
       go false c = refl
 
 -- a trade for another day changes nothing
-pub counted-none : (party : ℕ) (t : Trade) (sums : List ℕ) → (t .terms .day ≡ 0 → ⊥) → Counted party t sums sums
-counted-none party t sums h =
-    record { each = λ i area l. omega (arith, given-next party t i area h); low = λ k. omega arith; room = refl }
+pub counted-none : (day party : ℕ) (t : Trade) (sums : List ℕ) → (t .terms .day ≡ day → ⊥) → Counted day party t sums sums
+counted-none day party t sums h =
+    record { each = λ i area l. omega (arith, given-next day party t i area h); low = λ k. omega arith; room = refl }
 
-module _ (p : ℕ) (t : Trade) (sums : List ℕ) (a : ℕ) (is : t .terms .area ≡ a) (low : a < 3) (room : 3 * p + a < length sums) (day : t .terms .day ≡ 0) where
+module _ (day p : ℕ) (t : Trade) (sums : List ℕ) (a : ℕ) (is : t .terms .area ≡ a) (low : a < 3) (room : 3 * p + a < length sums) (own-day : t .terms .day ≡ day) where
   counted-each : (i area : ℕ) → area < 3
-      → getD (set sums (3 * p + a) (getD sums (3 * p + a) 0 + t .standing)) (3 * i + area) 0 ≡ getD sums (3 * i + area) 0 + given p t i area
+      → getD (set sums (3 * p + a) (getD sums (3 * p + a) 0 + t .standing)) (3 * i + area) 0 ≡ getD sums (3 * i + area) 0 + given day p t i area
   counted-each i area k =
       in-order i p
-      (λ l. apart (λ e. omega arith) (given-other p t i area (λ e. omega arith)))
+      (λ l. apart (λ e. omega arith) (given-other day p t i area (λ e. omega arith)))
       (λ l. in-order area a
-      (λ m. apart (λ e. omega arith) (given-apart p t i area (λ e. omega arith)))
+      (λ m. apart (λ e. omega arith) (given-apart day p t i area (λ e. omega arith)))
       (λ m. own l m)
-      (λ m. apart (λ e. omega arith) (given-apart p t i area (λ e. omega arith))))
-      (λ l. apart (λ e. omega arith) (given-other p t i area (λ e. omega arith)))
+      (λ m. apart (λ e. omega arith) (given-apart day p t i area (λ e. omega arith))))
+      (λ l. apart (λ e. omega arith) (given-other day p t i area (λ e. omega arith)))
     where
-      apart : (3 * i + area ≡ 3 * p + a → ⊥) → given p t i area ≡ 0
-          → getD (set sums (3 * p + a) (getD sums (3 * p + a) 0 + t .standing)) (3 * i + area) 0 ≡ getD sums (3 * i + area) 0 + given p t i area
+      apart : (3 * i + area ≡ 3 * p + a → ⊥) → given day p t i area ≡ 0
+          → getD (set sums (3 * p + a) (getD sums (3 * p + a) 0 + t .standing)) (3 * i + area) 0 ≡ getD sums (3 * i + area) 0 + given day p t i area
       apart e g = omega (arith, g, getD-set-other sums (3 * p + a) (3 * i + area) (getD sums (3 * p + a) 0 + t .standing) 0 e)
 
       own : i ≡ p → area ≡ a
-          → getD (set sums (3 * p + a) (getD sums (3 * p + a) 0 + t .standing)) (3 * i + area) 0 ≡ getD sums (3 * i + area) 0 + given p t i area
+          → getD (set sums (3 * p + a) (getD sums (3 * p + a) 0 + t .standing)) (3 * i + area) 0 ≡ getD sums (3 * i + area) 0 + given day p t i area
       own e f =
           rw (e, f)
-          (omega (arith, given-own p t p a refl is day, getD-set-same sums (3 * p + a) (getD sums (3 * p + a) 0 + t .standing) 0 room))
+          (omega (arith, given-own day p t p a refl is own-day, getD-set-same sums (3 * p + a) (getD sums (3 * p + a) 0 + t .standing) 0 room))
 
   counted-low : t .standing ≤ 4294967295 → (k : ℕ)
       → getD (set sums (3 * p + a) (getD sums (3 * p + a) 0 + t .standing)) k 0 ≤ getD sums k 0 + 4294967295
@@ -104,14 +104,14 @@ module _ (p : ℕ) (t : Trade) (sums : List ℕ) (a : ℕ) (is : t .terms .area 
       other e = omega (arith, getD-set-other sums (3 * p + a) k (getD sums (3 * p + a) 0 + t .standing) 0 e)
 
   -- what stands is added to the sum of the party in the area
-  pub counted-own : t .standing ≤ 4294967295 → Counted p t sums (set sums (3 * p + a) (getD sums (3 * p + a) 0 + t .standing))
+  pub counted-own : t .standing ≤ 4294967295 → Counted day p t sums (set sums (3 * p + a) (getD sums (3 * p + a) 0 + t .standing))
   counted-own h = record { each = counted-each; low = counted-low h; room = length-set sums (3 * p + a) (getD sums (3 * p + a) 0 + t .standing) }
 
 -- ---- the trades so far
 
-pub sums-none : (ps : List ℕ) (ts : List Trade) → Sums (take 0 ps) (take 0 ts) 0 (replicate 192 0)
+pub sums-none : (day : ℕ) (ps : List ℕ) (ts : List Trade) → Sums day (take 0 ps) (take 0 ts) 0 (replicate 192 0)
 unfolding givenBy
-sums-none ps ts = record { each = λ i area k. zeros 192 (3 * i + area); low = λ k. omega (arith, zeros 192 k); room = length-replicate {A = ℕ} 192 0 }
+sums-none day ps ts = record { each = λ i area k. zeros 192 (3 * i + area); low = λ k. omega (arith, zeros 192 k); room = length-replicate {A = ℕ} 192 0 }
   where
     zeros : (n k : ℕ) → getD {A = ℕ} (replicate n 0) k 0 ≡ 0
     zeros zero k = refl
@@ -119,39 +119,39 @@ sums-none ps ts = record { each = λ i area k. zeros 192 (3 * i + area); low = �
     zeros (suc n) (suc k) = zeros n k
 
 -- what one trade more gives
-given-more : (ps : List ℕ) (ts : List Trade) (k : ℕ) (d : Trade) (i area : ℕ) → k < length ps → k < length ts
-    → givenBy (take (suc k) ps) (take (suc k) ts) i area ≡ givenBy (take k ps) (take k ts) i area + given (getD ps k 0) (getD ts k d) i area
+given-more : (day : ℕ) (ps : List ℕ) (ts : List Trade) (k : ℕ) (d : Trade) (i area : ℕ) → k < length ps → k < length ts
+    → givenBy day (take (suc k) ps) (take (suc k) ts) i area ≡ givenBy day (take k ps) (take k ts) i area + given day (getD ps k 0) (getD ts k d) i area
 unfolding givenBy
-given-more [] ts k d i area h l = absurd (not-suc-le-zero h)
-given-more (p ∷ ps) [] k d i area h l = absurd (not-suc-le-zero l)
-given-more (p ∷ ps) (t ∷ ts) zero d i area h l = omega arith
-given-more (p ∷ ps) (t ∷ ts) (suc k) d i area h l =
-    omega (arith, given-more ps ts k d i area (le-of-suc-le-suc h) (le-of-suc-le-suc l))
+given-more day [] ts k d i area h l = absurd (not-suc-le-zero h)
+given-more day (p ∷ ps) [] k d i area h l = absurd (not-suc-le-zero l)
+given-more day (p ∷ ps) (t ∷ ts) zero d i area h l = omega arith
+given-more day (p ∷ ps) (t ∷ ts) (suc k) d i area h l =
+    omega (arith, given-more day ps ts k d i area (le-of-suc-le-suc h) (le-of-suc-le-suc l))
 
 -- one trade more, counted
-pub sums-next : (ps : List ℕ) (ts : List Trade) {k : ℕ} {v r : List ℕ} {t : Trade} (d : Trade) → k < length ps → k < length ts → t ≡ getD ts k d
-    → Sums (take k ps) (take k ts) (k * 4294967295) v → Counted (getD ps k 0) t v r → Sums (take (k + 1) ps) (take (k + 1) ts) ((k + 1) * 4294967295) r
-sums-next ps ts {k} d h l e s c =
+pub sums-next : (day : ℕ) (ps : List ℕ) (ts : List Trade) {k : ℕ} {v r : List ℕ} {t : Trade} (d : Trade) → k < length ps → k < length ts → t ≡ getD ts k d
+    → Sums day (take k ps) (take k ts) (k * 4294967295) v → Counted day (getD ps k 0) t v r → Sums day (take (k + 1) ps) (take (k + 1) ts) ((k + 1) * 4294967295) r
+sums-next day ps ts {k} d h l e s c =
     record {
       each = λ i area low.
-          rw add-one (omega (arith, c .each i area low, s .each i area low, given-more ps ts k d i area h l, ap (λ (x : Trade). given (getD ps k 0) x i area) e));
+          rw add-one (omega (arith, c .each i area low, s .each i area low, given-more day ps ts k d i area h l, ap (λ (x : Trade). given day (getD ps k 0) x i area) e));
       low = λ j. omega (arith, c .low j, s .low j);
       room = c .room ∙ s .room;
     }
 
 -- all of them, with a greater bound
-pub sums-all : (ps : List ℕ) (ts : List Trade) (k m : ℕ) {sums : List ℕ} → k ≡ m → length ts ≡ m → m ≤ 256
-    → Sums (take k ps) (take k ts) (k * 4294967295) sums → Sums (take m ps) ts (256 * 4294967295) sums
-sums-all ps ts k m e l h s =
+pub sums-all : (day : ℕ) (ps : List ℕ) (ts : List Trade) (k m : ℕ) {sums : List ℕ} → k ≡ m → length ts ≡ m → m ≤ 256
+    → Sums day (take k ps) (take k ts) (k * 4294967295) sums → Sums day (take m ps) ts (256 * 4294967295) sums
+sums-all day ps ts k m e l h s =
     record { each = λ i area low. s .each i area low ∙ rw (e, ← l, take-length ts); low = λ j. omega (arith, s .low j); room = s .room }
 
 -- sums that are within what 256 trades can have
-pub bounded : {ps : List ℕ} {ts : List Trade} {sums : List ℕ} → Sums ps ts (256 * 4294967295) sums → Bounded sums
+pub bounded : {day : ℕ} {ps : List ℕ} {ts : List Trade} {sums : List ℕ} → Sums day ps ts (256 * 4294967295) sums → Bounded sums
 bounded s = record { room = s .room; low = s .low }
 
 -- a trade that can be counted
-pub countable : {ps places : List ℕ} {ts front : List Trade} {k most : ℕ} {sums : List ℕ} {t : Trade} (d : Trade) → T (all (λ t. ltb (t .terms .area) 3) ts) → Beside ts places
-    → k < length ts → t ≡ getD ts k d → most ≤ 2 ^ 63 → Sums ps front most sums → Countable (getD places k 0) t sums
+pub countable : {day : ℕ} {ps places : List ℕ} {ts front : List Trade} {k most : ℕ} {sums : List ℕ} {t : Trade} (d : Trade) → T (all (λ t. ltb (t .terms .area) 3) ts) → Beside ts places
+    → k < length ts → t ≡ getD ts k d → most ≤ 2 ^ 63 → Sums day ps front most sums → Countable (getD places k 0) t sums
 countable {places = places} {ts = ts} {k = k} {t = t} d areas beside h e small s =
     let first = take (length ts) places in
     let p : T (ltb (getD first k 0) 64) = all-at (λ (p : ℕ). ltb p 64) first (beside .low) k 0 (rw (length-take-le (length ts) places (beside .room)) h) in
@@ -177,14 +177,14 @@ module _ (ids : List ℕ) (rising : Rising ids) where
 
   module _ (side : Terms → ℕ) (has : (t : Trade) → T (partiesAmong ids t) → T (among ids (side (t .terms)))) where
     -- what trades give at the place of an id is what the party of that id dealt for the day
-    given-dealt : (ts : List Trade) → T (all (partiesAmong ids) ts) → (i area : ℕ) → i < length ids
-        → givenBy (map (λ t. placeIn ids (side (t .terms))) ts) ts i area ≡ dealt side (λ party. eqb party (getD ids i 0)) ts area 0
+    given-dealt : (day : ℕ) (ts : List Trade) → T (all (partiesAmong ids) ts) → (i area : ℕ) → i < length ids
+        → givenBy day (map (λ t. placeIn ids (side (t .terms))) ts) ts i area ≡ dealt side (λ party. eqb party (getD ids i 0)) ts area day
     unfolding givenBy given dealt sum all
-    given-dealt [] h i area k = refl
-    given-dealt (t ∷ ts) h i area k =
+    given-dealt day [] h i area k = refl
+    given-dealt day (t ∷ ts) h i area k =
         let own = same-place (side (t .terms)) i (has t (and-l (partiesAmong ids t) (all (partiesAmong ids) ts) h)) k in
-        let rest = given-dealt ts (and-r (partiesAmong ids t) (all (partiesAmong ids) ts) h) i area k in
-        ap₂ (λ (b : Bool) (n : ℕ). cond b (cond (eqb (t .terms .area) area && eqb (t .terms .day) 0) (t .standing) 0) 0 + n) own rest
+        let rest = given-dealt day ts (and-r (partiesAmong ids t) (all (partiesAmong ids) ts) h) i area k in
+        ap₂ (λ (b : Bool) (n : ℕ). cond b (cond (eqb (t .terms .area) area && eqb (t .terms .day) day) (t .standing) 0) 0 + n) own rest
 
     -- the places are those of 64 users
     beside : {places : List ℕ} (ts : List Trade) → T (all (partiesAmong ids) ts) → length ids ≤ 64 → length ts ≤ length places
@@ -247,29 +247,30 @@ module _ {us : List User} {ts : List Trade} {sellers buyers : List ℕ} (askable
       let f : User → ℕ = λ u. u .party .id in
       getD-inside (map f us) i 0 (f d) (rw (length-map us f) h) ∙ List·getD-map f us i d
 
-  module _ {m most : ℕ} {xs ys : List ℕ} (e : length ts ≡ m) (s : Sums (take m sellers) ts most xs) (b : Sums (take m buyers) ts most ys) (i : ℕ) (d : User) (h : i < length us) where
-    -- what the sums have at the place of a user is what it sold, and what it bought
-    sold-at : (area : ℕ) → area < 3 → getD xs (3 * i + area) 0 ≡ sold ts (getD us i d .party .id) area 0
+  module _ {day m most : ℕ} {sums : List ℕ} (e : length ts ≡ m) (i : ℕ) (d : User) (h : i < length us) where
+    -- what the sums have at the place of a user is what it sold for the day, or bought
+    pub sold-at : Sums day (take m sellers) ts most sums → (area : ℕ) → area < 3 → getD sums (3 * i + area) 0 ≡ sold ts (getD us i d .party .id) area day
     unfolding sold
-    sold-at area k =
+    sold-at s area k =
         s .each i area k
-        ∙ ap (λ (ps : List ℕ). givenBy ps ts i area) (rw e at (askable .placed .of-sellers))
-        ∙ given-dealt (idsOf us) (askable .rising) (λ r. r .seller) seller-among ts (askable .parties) i area (rw length-ids h)
-        ∙ ap (λ (id : ℕ). dealt (λ r. r .seller) (λ party. eqb party id) ts area 0) (id-at i d h)
+        ∙ ap (λ (ps : List ℕ). givenBy day ps ts i area) (rw e at (askable .placed .of-sellers))
+        ∙ given-dealt (idsOf us) (askable .rising) (λ r. r .seller) seller-among day ts (askable .parties) i area (rw length-ids h)
+        ∙ ap (λ (id : ℕ). dealt (λ r. r .seller) (λ party. eqb party id) ts area day) (id-at i d h)
 
-    bought-at : (area : ℕ) → area < 3 → getD ys (3 * i + area) 0 ≡ bought ts (getD us i d .party .id) area 0
+    pub bought-at : Sums day (take m buyers) ts most sums → (area : ℕ) → area < 3 → getD sums (3 * i + area) 0 ≡ bought ts (getD us i d .party .id) area day
     unfolding bought
-    bought-at area k =
-        b .each i area k
-        ∙ ap (λ (ps : List ℕ). givenBy ps ts i area) (rw e at (askable .placed .of-buyers))
-        ∙ given-dealt (idsOf us) (askable .rising) (λ r. r .buyer) buyer-among ts (askable .parties) i area (rw length-ids h)
-        ∙ ap (λ (id : ℕ). dealt (λ r. r .buyer) (λ party. eqb party id) ts area 0) (id-at i d h)
+    bought-at s area k =
+        s .each i area k
+        ∙ ap (λ (ps : List ℕ). givenBy day ps ts i area) (rw e at (askable .placed .of-buyers))
+        ∙ given-dealt (idsOf us) (askable .rising) (λ r. r .buyer) buyer-among day ts (askable .parties) i area (rw length-ids h)
+        ∙ ap (λ (id : ℕ). dealt (λ r. r .buyer) (λ party. eqb party id) ts area day) (id-at i d h)
 
+  module _ {m most : ℕ} {xs ys : List ℕ} (e : length ts ≡ m) (s : Sums 0 (take m sellers) ts most xs) (b : Sums 0 (take m buyers) ts most ys) (i : ℕ) (d : User) (h : i < length us) where
     position-is : (area : ℕ) → area < 3 → positionFrom (getD us i d) xs ys i area ≡ positionValid ts (getD us i d) area
     unfolding positionFrom positionAs positionValid definedPosition
     position-is area k =
         let u = getD us i d in
-        ap₂ (λ (x y : ℕ). eqbℤ (at (u .position) area) (at (u .physical) area +ℤ pos x -ℤ pos y)) (bought-at area k) (sold-at area k)
+        ap₂ (λ (x y : ℕ). eqbℤ (at (u .position) area) (at (u .physical) area +ℤ pos x -ℤ pos y)) (bought-at e i d h b area k) (sold-at e i d h s area k)
 
     positions-are : positionsFrom (getD us i d) xs ys i ≡ positionsValid ts (getD us i d)
     unfolding positionsFrom positionsValid

@@ -1,4 +1,4 @@
--- Sums of what users sold or bought for the day, kept one after the other: three areas for each user, in the order of the users. Assumes nothing.
+-- Sums of what users sold or bought for a day, kept one after the other: three areas for each user, in the order of the users. Assumes nothing.
 use mathlib.Core.Bool.{Bool, cond, _&&_}
 use mathlib.Core.List.{List, [], _∷_}
 use mathlib.Core.Path.{_≡_}
@@ -9,30 +9,30 @@ use Rattle.rules.specs.Book.{Trade, User}
 use Rattle.rules.specs.Lists.{all}
 use Rattle.places.specs.Ids.{idsOf, among, Rising, Placed}
 
--- what a trade gives to the sum at a place in an area, counted for a party at a place
-unfoldable pub given : ℕ → Trade → ℕ → ℕ → ℕ
-given party t i area = cond (eqb party i) (cond (eqb (t .terms .area) area && eqb (t .terms .day) 0) (t .standing) 0) 0
+-- what a trade gives to the sum of a day at a place in an area, counted for a party at a place
+unfoldable pub given : ℕ → ℕ → Trade → ℕ → ℕ → ℕ
+given day party t i area = cond (eqb party i) (cond (eqb (t .terms .area) area && eqb (t .terms .day) day) (t .standing) 0) 0
 
 -- what trades give there, each counted for the party whose place stands beside it
-unfoldable pub givenBy : List ℕ → List Trade → ℕ → ℕ → ℕ
-givenBy [] ts i area = 0
-givenBy (p ∷ ps) [] i area = 0
-givenBy (p ∷ ps) (t ∷ ts) i area = given p t i area + givenBy ps ts i area
+unfoldable pub givenBy : ℕ → List ℕ → List Trade → ℕ → ℕ → ℕ
+givenBy day [] ts i area = 0
+givenBy day (p ∷ ps) [] i area = 0
+givenBy day (p ∷ ps) (t ∷ ts) i area = given day p t i area + givenBy day ps ts i area
 
 -- there is room for 64 users, and none is above what 256 trades can have: 2^32 − 1 MWh each
 pub record Bounded (sums : List ℕ) : Type 0 where
   pub room : length sums ≡ 192
   pub low : (k : ℕ) → getD sums k 0 ≤ 256 * 4294967295
 
--- the sums are what trades give, each counted at its place; none is above `most`
-pub record Sums (places : List ℕ) (ts : List Trade) (most : ℕ) (sums : List ℕ) : Type 0 where
-  pub each : (i area : ℕ) → area < 3 → getD sums (3 * i + area) 0 ≡ givenBy places ts i area
+-- the sums are what trades give for a day, each counted at its place; none is above `most`
+pub record Sums (day : ℕ) (places : List ℕ) (ts : List Trade) (most : ℕ) (sums : List ℕ) : Type 0 where
+  pub each : (i area : ℕ) → area < 3 → getD sums (3 * i + area) 0 ≡ givenBy day places ts i area
   pub low : (k : ℕ) → getD sums k 0 ≤ most
   pub room : length sums ≡ 192
 
 -- the sums after one trade more, which was counted for the party at a place
-pub record Counted (party : ℕ) (t : Trade) (sums after : List ℕ) : Type 0 where
-  pub each : (i area : ℕ) → area < 3 → getD after (3 * i + area) 0 ≡ getD sums (3 * i + area) 0 + given party t i area
+pub record Counted (day party : ℕ) (t : Trade) (sums after : List ℕ) : Type 0 where
+  pub each : (i area : ℕ) → area < 3 → getD after (3 * i + area) 0 ≡ getD sums (3 * i + area) 0 + given day party t i area
   pub low : (k : ℕ) → getD after k 0 ≤ getD sums k 0 + 4294967295
   pub room : length after ≡ length sums
 

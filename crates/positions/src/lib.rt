@@ -16,12 +16,12 @@ use units::Net;
 
 // ---- the sums: three areas for each user, in the order of the users
 
-// Counts a trade for its party at a place: where it is for the day, what stands is added in its area.
-fn count(place: usize, t: Trade, sums: &mut [u64])
+// Counts a trade for its party at a place: where it is for a day, what stands is added in its area.
+fn count(place: usize, t: Trade, day: u8, sums: &mut [u64])
     requires { ⌜ Countable place (asTrade t) (now sums) ⌝ }
-    ensures { λ _. ⌜ Counted place (asTrade t) (now (sums .entry)) (now (sums .exit)) ⌝ }
+    ensures { λ _. ⌜ Counted day place (asTrade t) (now (sums .entry)) (now (sums .exit)) ⌝ }
 {
-    if t.day == 0 {
+    if t.day == day {
         let k = 3 * place + t.area as usize;
         let x = sums[k];
         let standing = t.standing;
@@ -29,11 +29,12 @@ fn count(place: usize, t: Trade, sums: &mut [u64])
     }
 }
 
-// Gathers what is sold and bought for the day at each place in the m trades from byte `at` on, by the places of their sellers and buyers.
-fn gather(
+// Gathers what is sold and bought for a day at each place in the m trades from byte `at` on, by the places of their sellers and buyers.
+pub fn gather(
     s: &[u8],
     at: usize,
     m: usize,
+    day: u8,
     sellers: &[u8],
     buyers: &[u8],
     sold: &mut [u64],
@@ -41,8 +42,8 @@ fn gather(
 )
     requires { ⌜ (m ≤ 256) × (at + 20 * m ≤ length (now s)) ⌝ }
     requires { ⌜ Gatherable (tradesFrom at m (now s)) (now sellers) (now buyers) (now sold) (now bought) ⌝ }
-    ensures { λ _. ⌜ Sums (take m (now (sellers .entry))) (tradesFrom at m (now (s .entry))) (256 * 4294967295) (now (sold .exit)) ⌝ }
-    ensures { λ _. ⌜ Sums (take m (now (buyers .entry))) (tradesFrom at m (now (s .entry))) (256 * 4294967295) (now (bought .exit)) ⌝ }
+    ensures { λ _. ⌜ Sums day (take m (now (sellers .entry))) (tradesFrom at m (now (s .entry))) (256 * 4294967295) (now (sold .exit)) ⌝ }
+    ensures { λ _. ⌜ Sums day (take m (now (buyers .entry))) (tradesFrom at m (now (s .entry))) (256 * 4294967295) (now (bought .exit)) ⌝ }
 {
     let mut i = 0;
     let mut a = at;
@@ -50,8 +51,8 @@ fn gather(
         let t = records::read_trade(&s[a..a + 20]);
         let seller = sellers[i] as usize;
         let buyer = buyers[i] as usize;
-        count(seller, t, sold);
-        count(buyer, t, bought);
+        count(seller, t, day, sold);
+        count(buyer, t, day, bought);
         a += 20;
         i += 1;
     }
@@ -104,7 +105,7 @@ pub fn positions_valid<'a>(
 {
     let mut sold = [0u64; 192];
     let mut bought = [0u64; 192];
-    gather(s, trades_at, m, sellers, buyers, &mut sold, &mut bought);
+    gather(s, trades_at, m, 0, sellers, buyers, &mut sold, &mut bought);
     let mut i = 0;
     let mut a = users_at;
     while i < n {

@@ -1,12 +1,12 @@
 -- The cuts of a tier by cases, and what callers need of them: as many as trades, each at most what stands. Assumes nothing.
 use mathlib.Core.Path.{_≡_, refl, sym, ap, ap₂, _∙_}
-use mathlib.Core.Bool.{Bool, true, false, _||_}
+use mathlib.Core.Bool.{true, false, _||_}
 use mathlib.Core.List.{List, [], _∷_, map}
 use Prim.Native.Nat.{ℕ, _≤_, _<_}
 use native.Mathlib.Omega.{arith}
 use lib.Dec.{eqb}
 use lib.ListN.{length, getD}
-use borrow.Author.Tests.{le-leb, lt-leb, ne-eqb}
+use borrow.Author.Tests.{le-leb, lt-leb}
 use Rattle.rules.specs.Shares.{tierWorth, Share, shareOf, byTurns, inProportion, tierCuts}
 use Rattle.laws.proofs.Shares.{within-at, tier-within, tier-length}
 use Rattle.worths.specs.Lots.{lotsOf}
@@ -18,22 +18,6 @@ none-same [] [] e = refl
 none-same [] (y ∷ ys) e = absurd (omega arith)
 none-same (x ∷ xs) [] e = absurd (omega arith)
 none-same (x ∷ xs) (y ∷ ys) e = ap (λ (ns : List ℕ). 0 ∷ ns) (none-same xs ys (omega arith))
-
--- nothing is asked
-pub nothing-asked : {asked : ℕ} (v : ℕ) → asked ≡ 0 → (eqb asked 0 || eqb v 0) ≡ true
-nothing-asked v h = rw h
-
--- nothing is there
-pub nothing-stands : (asked : ℕ) {v : ℕ} → v ≡ 0 → (eqb asked 0 || eqb v 0) ≡ true
-nothing-stands asked h = rw h (either (eqb asked 0))
-  where
-    either : (c : Bool) → (c || true) ≡ true
-    either true = refl
-    either false = refl
-
--- something is asked and something is there
-pub something : {asked v : ℕ} → (asked ≡ 0 → ⊥) → (v ≡ 0 → ⊥) → (eqb asked 0 || eqb v 0) ≡ false
-something {asked} {v} h k = rw (ne-eqb asked 0 h, ne-eqb v 0 k)
 
 -- a tier worth v that is asked for some amount
 module _ (standing tariffs : List ℕ) (e : length tariffs ≡ length standing) (asked v : ℕ) (w : v ≡ tierWorth (lotsOf standing tariffs)) where
@@ -56,6 +40,11 @@ module _ (standing tariffs : List ℕ) (e : length tariffs ≡ length standing) 
       h
       ∙ rw (← w, f, lt-leb v asked l)
       (ap₂ (λ (n : ℕ) (ns : List Share). map (λ s. s .cut) (byTurns n asked ns)) (e ∙ sym (lots-length standing tariffs e)) q)
+
+-- nothing is asked, whatever the tier is worth
+pub asked-nothing : (standing tariffs : List ℕ) → length tariffs ≡ length standing → (asked : ℕ) → asked ≡ 0
+    → (ns : List ℕ) → length ns ≡ length standing → map (λ n. 0) ns ≡ tierCuts asked (lotsOf standing tariffs)
+asked-nothing standing tariffs e asked z = cuts-none standing tariffs e asked (tierWorth (lotsOf standing tariffs)) refl (rw z)
 
 module _ (asked : ℕ) (standing tariffs : List ℕ) (e : length tariffs ≡ length standing) where
   -- each cut is at most what stands, and 0 past the end

@@ -19,7 +19,8 @@ fn is_flagged_shipper(book: &[u8], prices: Prices, id: u32, limits: Limits) -> b
     ensures { λ r. ⌜ r ≡ flaggedShipper (asLimits limits) (bookOf (now (book .entry))) (find (bookOf (now (book .entry)) .users) id) ⌝ }
 {
     let place = entry::place_of(book, id);
-    if fields::get_u8(book, 5) as usize <= place {
+    let n = fields::get_u8(book, 5) as usize;
+    if n <= place {
         return false;
     }
     let seller = account::user_at(book, place);

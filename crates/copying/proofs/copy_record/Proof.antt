@@ -20,7 +20,7 @@ returns : tie.Need-returns
 returns c =
     let s = c .before .before .before .before .before .before .before .before .before .before in
     let a = s .args in
-    c .before .before .put .ensures ∙ ap (setField (a .width) (a .offset) 0) (c .before .before .before .before .before .before .copy .ensures .1 ∙ all-copied (now (a .s)) (now (a .out)) (s .pre .0))
+    c .before .before .put .ensures ∙ ap (setField (a .width) (a .offset) (a .v)) (c .before .before .before .before .before .before .copy .ensures .1 ∙ all-copied (now (a .s)) (now (a .out)) (s .pre .0))
 
 pub copy-record-spec : {M : Type 1} → statement M
 copy-record-spec = tie.close (tie.spec copy-requires put-requires same-length returns)

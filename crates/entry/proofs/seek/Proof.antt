@@ -32,8 +32,8 @@ place-of-requires c κs = passed (bytes (c .before .before)) (passes c) .form
 get-u8-requires : tie.Need-get-u8-requires
 get-u8-requires c κs = let e = c .before in omega (arith, passed (bytes (e .before .before)) (passes e) .form .head)
 
-cast-if2 : tie.Need-cast-if2
-cast-if2 c = search needs
+cast-n : tie.Need-cast-n
+cast-n c = search needs
 
 returns-2 : tie.Need-returns-2
 unfolding userCount
@@ -62,6 +62,6 @@ seek-spec =
     returns
     place-of-requires
     get-u8-requires
-    cast-if2
+    cast-n
     returns-2
     returns-3)

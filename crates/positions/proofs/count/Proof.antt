@@ -1,4 +1,4 @@
--- `count`: a trade for the day is added at the place of its party, and any other changes nothing. Assumes nothing.
+-- `count`: a trade for the day asked for is added at the place of its party, and any other changes nothing. Assumes nothing.
 use mathlib.Core.Path.{refl}
 use Prim.Native.Nat.{_+_, _*_, _≤_, _<_}
 use native.Mathlib.Omega.{arith}
@@ -54,14 +54,14 @@ returns : tie.Need-returns
 unfolding asTrade
 returns c =
     let s = c .before .before .before .before in
-    counted-own (s .args .place) (asTrade (s .args .t)) (now (s .args .sums)) (s .args .t .area) refl (s .pre .area)
+    counted-own (s .args .day) (s .args .place) (asTrade (s .args .t)) (now (s .args .sums)) (s .args .t .area) refl (s .pre .area)
     (omega (arith, inside (c .before .before), s .pre .room)) (c .before .before .if1 .taken) (narrow (c .before .before))
 
 returns-2 : tie.Need-returns-2
 unfolding asTrade
 returns-2 c =
     let s = c .before .before in
-    counted-none (s .args .place) (asTrade (s .args .t)) (now (s .args .sums)) (c .if1 .left)
+    counted-none (s .args .day) (s .args .place) (asTrade (s .args .t)) (now (s .args .sums)) (c .if1 .left)
 
 pub count-spec : {M : Type 1} → statement M
 count-spec =

@@ -16,11 +16,11 @@ use Rattle.positions.proofs.gather.Statement.{statement}
 use Rattle.positions.proofs.gather.Tie as tie
 
 abbrev Inv-loop : tie.InvT-loop
-Inv-loop s at m sellers buyers sold₀ bought₀ i₀ a₀ sold bought i a =
-    (i ≤ m) × (a ≡ at + 20 * i) × Sums (take i sellers) (take i (tradesFrom at m s)) (i * 4294967295) sold × Sums (take i buyers) (take i (tradesFrom at m s)) (i * 4294967295) bought
+Inv-loop s at m day sellers buyers sold₀ bought₀ i₀ a₀ sold bought i a =
+    (i ≤ m) × (a ≡ at + 20 * i) × Sums day (take i sellers) (take i (tradesFrom at m s)) (i * 4294967295) sold × Sums day (take i buyers) (take i (tradesFrom at m s)) (i * 4294967295) bought
 
 abbrev μ-loop : tie.MeasureT-loop
-μ-loop s at m sellers buyers sold₀ bought₀ i₀ a₀ sold bought i a = m - i
+μ-loop s at m day sellers buyers sold₀ bought₀ i₀ a₀ sold bought i a = m - i
 
 -- the trade at hand is one of the m, and was read as it stands there
 within : (c : tie.In-loop Inv-loop μ-loop) → c .before .loop .i < length (tradesFrom (c .before .before .before .before .before .before .before .args .at) (c .before .before .before .before .before .before .before .args .m) (now (c .before .before .before .before .before .before .before .args .s)))
@@ -37,7 +37,7 @@ loop-holds : tie.Need-loop-holds Inv-loop μ-loop
 loop-holds c =
     let s = c .before .before .before .before .before in
     let ts = tradesFrom (s .args .at) (s .args .m) (now (s .args .s)) in
-    (omega arith, omega arith, rw (s .pre .1 .nothing-sold) (sums-none (now (s .args .sellers)) ts), rw (s .pre .1 .nothing-bought) (sums-none (now (s .args .buyers)) ts))
+    (omega arith, omega arith, rw (s .pre .1 .nothing-sold) (sums-none (s .args .day) (now (s .args .sellers)) ts), rw (s .pre .1 .nothing-bought) (sums-none (s .args .day) (now (s .args .buyers)) ts))
 
 add-read-trade : tie.Need-add-read-trade Inv-loop μ-loop
 add-read-trade c = search needs
@@ -99,8 +99,8 @@ loop-again c =
     let h = within (c .before .before .before .before .before .before .before .before .before .before .before .before) in (
       omega (arith, c .before .before .before .before .before .before .before .before .before .before .before .before .loop-test),
       omega (arith, l .inv .1),
-      sums-next (now (s .args .sellers)) ts (tradeOf []) (omega (arith, h, s .pre .1 .of-sellers .room)) h (read (c .before .before .before .before .before .before .before .before .before .before)) (l .inv .2) (c .before .before .before .before .before .before .count .ensures),
-      sums-next (now (s .args .buyers)) ts (tradeOf []) (omega (arith, h, s .pre .1 .of-buyers .room)) h (read (c .before .before .before .before .before .before .before .before .before .before)) (l .inv .3) (c .before .before .count2 .ensures),
+      sums-next (s .args .day) (now (s .args .sellers)) ts (tradeOf []) (omega (arith, h, s .pre .1 .of-sellers .room)) h (read (c .before .before .before .before .before .before .before .before .before .before)) (l .inv .2) (c .before .before .before .before .before .before .count .ensures),
+      sums-next (s .args .day) (now (s .args .buyers)) ts (tradeOf []) (omega (arith, h, s .pre .1 .of-buyers .room)) h (read (c .before .before .before .before .before .before .before .before .before .before)) (l .inv .3) (c .before .before .count2 .ensures),
     )
 
 same-length : tie.Need-same-length Inv-loop μ-loop
@@ -117,8 +117,8 @@ returns c =
     let ts = tradesFrom (s .args .at) m (now (s .args .s)) in
     let e : l .i ≡ m = omega arith in
     let k = length-recordsOf 20 tradeOf m (drop (s .args .at) (now (s .args .s))) in (
-      sums-all (now (s .args .sellers)) ts (l .i) m e k (s .pre .0 .0) (l .inv .2),
-      sums-all (now (s .args .buyers)) ts (l .i) m e k (s .pre .0 .0) (l .inv .3),
+      sums-all (s .args .day) (now (s .args .sellers)) ts (l .i) m e k (s .pre .0 .0) (l .inv .2),
+      sums-all (s .args .day) (now (s .args .buyers)) ts (l .i) m e k (s .pre .0 .0) (l .inv .3),
     )
 
 pub gather-spec : {M : Type 1} → statement M

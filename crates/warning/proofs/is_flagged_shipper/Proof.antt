@@ -25,8 +25,8 @@ place-of-requires c κs = let o = c .before in passed (now (o .args .book)) (o .
 get-u8-requires : tie.Need-get-u8-requires
 get-u8-requires c κs = let o = c .before .before in omega (arith, passed (now (o .args .book)) (o .pre .0 .passes) .form .head)
 
-cast-if1 : tie.Need-cast-if1
-cast-if1 c = search needs
+cast-n : tie.Need-cast-n
+cast-n c = search needs
 
 returns : tie.Need-returns
 unfolding bookOf userCount
@@ -79,7 +79,7 @@ is-flagged-shipper-spec =
     (tie.spec
     place-of-requires
     get-u8-requires
-    cast-if1
+    cast-n
     returns
     user-at-requires
     returns-2
