@@ -2,24 +2,36 @@
 // called in. Nothing but that is read.
 use dealings::Dealings;
 use levels::Limits;
+use records::Trade;
 use records::User;
 use units::Prices;
 ghost use mathlib.Core.Path.{_≡_};
-ghost use Prim.Native.Nat.{_+_, _*_, _≤_, _<_};
+ghost use Prim.Native.Nat.{_+_, _*_, _≤_, _<_, _^_};
 ghost use lib.ListN.{length, drop, getD};
 ghost use Rattle.rules.specs.Book.{nobody};
 ghost use Rattle.rules.specs.Levels.{calledIn};
 ghost use Rattle.fields.specs.Layout.{recordsOf};
 ghost use Rattle.records.specs.User.{asUser};
-ghost use Rattle.records.specs.Trade.{tradeOf};
+ghost use Rattle.records.specs.Trade.{tradeOf, asTrade};
 ghost use Rattle.format.specs.Book.{userCount, usersOf, bookOf};
 ghost use Rattle.format.specs.Questions.{Formed, bookNumber};
-ghost use Rattle.dealings.specs.Dealt.{Dealt};
+ghost use Rattle.dealings.specs.Dealt.{Dealt, Counted, AllWithin};
 ghost use Rattle.dealings.specs.Parties.{isCut, cutBefore};
 ghost use Rattle.levels.specs.Limits.{asLimits, LimitsInRange};
 ghost use Rattle.account.specs.Account.{Ready, AccountIn, AccountAt};
 
 // ---- the trades
+
+// The dealings with one trade more, of the user of an id. Most trades are between others, and are passed over.
+fn counted(dealings: Dealings, t: Trade, id: u32) -> Dealings
+    requires { ⌜ AllWithin (2 ^ 63) dealings ⌝ }
+    ensures { λ r. ⌜ Counted id (asTrade t) dealings r ⌝ }
+{
+    if (t.seller == id) | (t.buyer == id) {
+        return dealings.counted(t, id);
+    }
+    dealings
+}
 
 // The dealings of the user of an id in the m trades that stand from `at`.
 fn dealings_in(s: &[u8], at: usize, m: usize, id: u32) -> Dealings
@@ -31,7 +43,7 @@ fn dealings_in(s: &[u8], at: usize, m: usize, id: u32) -> Dealings
     let mut a = at;
     while i < m {
         let t = records::read_trade(&s[a..a + 20]);
-        dealings = dealings.counted(t, id);
+        dealings = counted(dealings, t, id);
         a += 20;
         i += 1;
     }

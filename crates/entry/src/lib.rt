@@ -2,7 +2,7 @@
 ghost use mathlib.Core.Path.{_≡_};
 ghost use Prim.Native.Nat.{_≤_};
 ghost use Rattle.format.specs.Book.{userCount, usersOf};
-ghost use Rattle.format.specs.Questions.{Formed};
+ghost use Rattle.format.specs.Questions.{Formed, bookNumber};
 ghost use Rattle.format.specs.Steps.{placeOf};
 ghost use Rattle.entry.specs.Entered.{Entered};
 
@@ -30,11 +30,11 @@ pub struct Entry {
     pub place: usize,
 }
 
-// Asks the questions 1 to 8 of any bytes and any id.
-pub fn enter(s: &[u8], id: u32) -> Entry
+// Question 8, after the questions 1 to 7: their number where one is answered by no.
+pub fn seek(s: &[u8], number: u32, id: u32) -> Entry
+    requires { ⌜ number ≡ bookNumber (now s) ⌝ }
     ensures { λ r. ⌜ Entered (now (s .entry)) id (r .number) (r .place) ⌝ }
 {
-    let number = questions::number(s);
     if number != 0 {
         return Entry {
             number: number,
@@ -53,4 +53,11 @@ pub fn enter(s: &[u8], id: u32) -> Entry
         number: 0,
         place: place,
     }
+}
+
+// Asks the questions 1 to 8 of any bytes and any id.
+pub fn enter(s: &[u8], id: u32) -> Entry
+    ensures { λ r. ⌜ Entered (now (s .entry)) id (r .number) (r .place) ⌝ }
+{
+    seek(s, questions::number(s), id)
 }

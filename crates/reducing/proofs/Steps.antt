@@ -8,7 +8,7 @@ use lib.Dec.{ltb, ltb→lt}
 use lib.ListN.{length, take, drop, getD, length-map}
 use Rattle.arrays.proofs.Fronts.{all-at}
 use Rattle.dealings.specs.declared.Amounts.{Amounts}
-use Rattle.format.specs.Book.{bookOf, tradesAt, tradesOf, userAt, userCount, usersOf}
+use Rattle.format.specs.Book.{bookOf, tradeCount, tradesAt, tradesOf, userAt, userCount, usersOf}
 use Rattle.format.specs.Steps.{placeOf}
 use Rattle.held.proofs.Held.{held-tradeCount, held-trades, held-user, held-userCount, held-users}
 use Rattle.held.specs.Held.{HeldAs, noTrade, tradesReplaced}
@@ -17,7 +17,7 @@ use Rattle.records.specs.User.{userOf}
 use Rattle.reducing.proofs.Own.{own-area-inside, own-buyer-inside, own-most, prices-in}
 use Rattle.reducing.proofs.Settled.{settled-own}
 use Rattle.reducing.proofs.Written.{cut-written}
-use Rattle.reducing.specs.Reducing.{ReducedIn, ReducibleIn, ShortOf, sellerAt}
+use Rattle.reducing.specs.Reducing.{ReducedIn, ReducibleIn, SettledIn, ShortOf, sellerAt}
 use Rattle.rules.specs.Areas.{Prices, tariff}
 use Rattle.rules.specs.Book.{Book, Header, Trade, User, nobody}
 use Rattle.rules.specs.Calls.{reducedBy}
@@ -81,7 +81,7 @@ module _ {s : List ℕ} {from place : ℕ} {origins own areas buyers : List ℕ}
   buyers-length : length buyers ≡ length (ownSales b u)
   buyers-length = ap length (p .buyers-are) ∙ length-map (ownSales b u) (λ t. placeOf (b .users) (t .terms .buyer))
 
-  origins-length : length origins ≡ length (ownSales b u)
+  pub origins-length : length origins ≡ length (ownSales b u)
   unfolding salesOf
   origins-length = ap length (p .origins-are) ∙ places-length (ownSale (u .party .id)) (b .trades)
 
@@ -92,7 +92,7 @@ module _ {s : List ℕ} {from place : ℕ} {origins own areas buyers : List ℕ}
       (ltb→lt (getD (placesOf q (b .trades)) i 0) (length (b .trades))
       (all-at (λ j. ltb j (length (b .trades))) (placesOf q (b .trades)) (places-inside q (b .trades)) i 0 (omega (arith, ap length (p .origins-are)))))
 
-  few : length (ownSales b u) ≤ 256
+  pub few : length (ownSales b u) ≤ 256
   few = omega (arith, sales-few (b .trades) (u .party .id), held-tradeCount (p .held), p .held .form .trades)
 
   -- the own sales can be cut
@@ -116,9 +116,6 @@ module _ {s : List ℕ} {from place : ℕ} {origins own areas buyers : List ℕ}
 
     cuts-length : length cs ≡ length (ownSales b u)
     cuts-length = ap length cuts-are ∙ own-cuts-length b u asked
-
-    left-is : left ≡ less (ownCuts b u asked) (map (λ t. t .standing) (ownSales b u))
-    left-is = cut .after ∙ ap₂ less cuts-are (p .own-are)
 
     -- they can be settled
     pub settling : Settling (userCount s) (usersOf s) place areas buyers cs
@@ -144,47 +141,58 @@ module _ {s : List ℕ} {from place : ℕ} {origins own areas buyers : List ℕ}
         ∙ settled-own b (p .sound) place (p .inside) asked
         ∙ sym (sales-reduced b u asked (p .sound) .users)
 
-    module _ {after : List ℕ} (o : HeldAs (withUsers b (settledAll place buyers areas cs (usersOf s))) after) where
-      -- the trades stand where they stood
-      from-stays : from ≡ tradesAt after
-      unfolding tradesAt userAt withUsers
-      from-stays =
-          let same = same-length (b .users) (reducedBy b u asked .book .users) (sales-reduced b u asked (p .sound) .parties) in
-          omega (arith, p .at-trades, held-userCount (p .held), held-userCount o, ap length users-are, same)
+    pub settled-in : {after : List ℕ} → HeldAs (withUsers b (settledAll place buyers areas cs (usersOf s))) after → SettledIn b place asked after left cs t
+    settled-in {after} o = record {
+      held = subst (λ (us : List User). HeldAs (withUsers b us) after) users-are o;
+      tally = cut .tally (ownSales b u) (sym (p .areas-are)) ∙ ap₂ (λ (x : Prices) (ns : List ℕ). tallyAll x ns (ownSales b u) nothing) (p .prices) cuts-are;
+      cuts = cuts-are;
+      own = cut .after ∙ ap₂ less cuts-are (p .own-are) ∙ sym (standing-cut (ownCuts b u asked) (ownSales b u))
+          ∙ ap (map (λ (t : Trade). t .standing)) (sym (sales-reduced b u asked (p .sound) .own));
+    }
 
-      -- what stands can be written
-      pub writing : Writing after from origins left
-      unfolding withUsers
-      writing = record {
-        begin = from-stays;
-        same = ap length left-is ∙ less-length (ownCuts b u asked) (map (λ t. t .standing) (ownSales b u)) ∙ length-map (ownSales b u) (λ t. t .standing) ∙ sym origins-length;
-        inside = λ i h. omega (arith, origin-inside i h, held-tradeCount o);
-        most = λ i. omega (arith, ap (λ (xs : List ℕ). getD xs i 0) left-is, less-at (ownCuts b u asked) (map (λ t. t .standing) (ownSales b u)) i, own-most b (p .sound) u i);
-      }
+  -- ---- the trades
 
-      -- and is what the rules leave
-      trades-are : written noTrade origins left (tradesOf after) ≡ reducedBy b u asked .book .trades
-      unfolding withUsers salesOf
-      trades-are =
-          ap₂ (λ (is ns : List ℕ). written noTrade is ns (tradesOf after)) (p .origins-are) left-is
-          ∙ ap (written noTrade (places (b .trades) (u .party .id)) (less (ownCuts b u asked) (map (λ t. t .standing) (ownSales b u)))) (held-trades o)
-          ∙ cut-written noTrade (ownSale (u .party .id)) (b .trades) (ownCuts b u asked) (own-cuts-length b u asked)
-          ∙ sym (sales-reduced b u asked (p .sound) .trades)
+  module _ {asked : ℕ} {after left cs : List ℕ} {t : Tally} (o : SettledIn b place asked after left cs t) where
+    -- the trades stand where they stood
+    pub from-stays : from ≡ tradesAt after
+    unfolding tradesAt userAt withUsers
+    from-stays =
+        let same = same-length (b .users) (reducedBy b u asked .book .users) (sales-reduced b u asked (p .sound) .parties) in
+        omega (arith, p .at-trades, held-userCount (p .held), held-userCount (o .held), same)
 
-      book-is : tradesReplaced (bookOf after) (written noTrade origins left (tradesOf after)) ≡ reducedBy b u asked .book
-      unfolding tradesReplaced withUsers
-      book-is =
-          book-parts (tradesReplaced (bookOf after) (written noTrade origins left (tradesOf after))) (reducedBy b u asked .book)
-          (ap (λ (x : Book). x .header) (o .book) ∙ sym (sales-reduced b u asked (p .sound) .header))
-          (ap (λ (x : Book). x .users) (o .book) ∙ users-are) trades-are
+    pub origin-stays : (i : ℕ) → i < length origins → getD origins i 0 < tradeCount after
+    unfolding withUsers
+    origin-stays i h = omega (arith, origin-inside i h, held-tradeCount (o .held))
 
-      -- together they are the reduction
-      pub reduced-in : {end : List ℕ} → HeldAs (tradesReplaced (bookOf after) (written noTrade origins left (tradesOf after))) end → ReducedIn b place asked end left cs t
-      reduced-in {end} w =
-          let h = sales-reduced b u asked (p .sound) in
-          record {
-            held = subst (λ (x : Book). HeldAs x end) book-is w;
-            tally = cut .tally (ownSales b u) (sym (p .areas-are)) ∙ ap₂ (λ (x : Prices) (ns : List ℕ). tallyAll x ns (ownSales b u) nothing) (p .prices) cuts-are;
-            cuts = cuts-are;
-            own = left-is ∙ sym (standing-cut (ownCuts b u asked) (ownSales b u)) ∙ ap (map (λ (t : Trade). t .standing)) (sym (h .own));
-          }
+    -- what stands of the own sales after the cuts
+    pub left-is : left ≡ less (ownCuts b u asked) (map (λ t. t .standing) (ownSales b u))
+    left-is = o .own ∙ ap (map (λ (t : Trade). t .standing)) (sales-reduced b u asked (p .sound) .own) ∙ standing-cut (ownCuts b u asked) (ownSales b u)
+
+    -- it can be written
+    pub writing : Writing after from origins left
+    writing = record {
+      begin = from-stays;
+      same = ap length left-is ∙ less-length (ownCuts b u asked) (map (λ t. t .standing) (ownSales b u)) ∙ length-map (ownSales b u) (λ t. t .standing) ∙ sym origins-length;
+      inside = origin-stays;
+      most = λ i. omega (arith, ap (λ (xs : List ℕ). getD xs i 0) left-is, less-at (ownCuts b u asked) (map (λ t. t .standing) (ownSales b u)) i, own-most b (p .sound) u i);
+    }
+
+    -- and is what the rules leave
+    trades-are : written noTrade origins left (tradesOf after) ≡ reducedBy b u asked .book .trades
+    unfolding withUsers salesOf
+    trades-are =
+        ap₂ (λ (is ns : List ℕ). written noTrade is ns (tradesOf after)) (p .origins-are) left-is
+        ∙ ap (written noTrade (places (b .trades) (u .party .id)) (less (ownCuts b u asked) (map (λ t. t .standing) (ownSales b u)))) (held-trades (o .held))
+        ∙ cut-written noTrade (ownSale (u .party .id)) (b .trades) (ownCuts b u asked) (own-cuts-length b u asked)
+        ∙ sym (sales-reduced b u asked (p .sound) .trades)
+
+    book-is : tradesReplaced (bookOf after) (written noTrade origins left (tradesOf after)) ≡ reducedBy b u asked .book
+    unfolding tradesReplaced withUsers
+    book-is =
+        book-parts (tradesReplaced (bookOf after) (written noTrade origins left (tradesOf after))) (reducedBy b u asked .book)
+        (ap (λ (x : Book). x .header) (o .held .book) ∙ sym (sales-reduced b u asked (p .sound) .header))
+        (ap (λ (x : Book). x .users) (o .held .book)) trades-are
+
+    -- with it written the user is reduced
+    pub reduced-in : {end : List ℕ} → HeldAs (tradesReplaced (bookOf after) (written noTrade origins left (tradesOf after))) end → ReducedIn b place asked end left cs t
+    reduced-in {end} w = record { held = subst (λ (x : Book). HeldAs x end) book-is w; tally = o .tally; cuts = o .cuts; own = o .own }

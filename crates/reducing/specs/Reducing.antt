@@ -13,6 +13,7 @@ use Rattle.laws.proofs.Sound.{Sound}
 use Rattle.rules.specs.Areas.{Prices}
 use Rattle.rules.specs.Book.{at, Book, User, nobody}
 use Rattle.rules.specs.Calls.{reducedBy}
+use Rattle.rules.specs.Changes.{withUsers}
 use Rattle.rules.specs.Reduction.{nothing, tallyAll}
 use Rattle.sales.specs.Groups.{places, standings}
 use Rattle.sales.specs.Reduced.{ownCuts, ownSales}
@@ -41,10 +42,25 @@ pub record ReducibleIn (s : List ℕ) (from place : ℕ) (origins own areas buye
   pub buyers-are : buyers ≡ map (λ t. placeOf (bookOf s .users) (t .terms .buyer)) (ownSales (bookOf s) (sellerAt (bookOf s) place))
   pub cuts-room : length cuts ≡ length own
 
--- the user at a place of a book is reduced for an amount: the bytes hold the rules' book, the tally is that of the cuts, and the lists have what stands of the own
--- sales and the cuts
-pub record ReducedIn (b : Book) (place asked : ℕ) (s left cs : List ℕ) (r : Tally) : Type 0 where
-  pub held : HeldAs (reducedBy b (sellerAt b place) asked .book) s
+-- the same with some origins of the sales, which the cuts and the positions do not need
+pub record SettlableIn (s : List ℕ) (place : ℕ) (own areas buyers : List ℕ) (f : Prices) (cuts : List ℕ) : Type 0 where
+  pub from : ℕ
+  pub origins : List ℕ
+  pub reducible : ReducibleIn s from place origins own areas buyers f cuts
+
+-- the own sales of the user at a place of a book are cut for an amount: the bytes hold a book, the tally is that of the cuts, and the lists have what stands of the
+-- own sales and the cuts
+pub record CutIn (b : Book) (place asked : ℕ) (after : Book) (s left cs : List ℕ) (r : Tally) : Type 0 where
+  pub held : HeldAs after s
   pub tally : asTally r ≡ tallyAll (b .header .prices) (ownCuts b (sellerAt b place) asked) (ownSales b (sellerAt b place)) nothing
   pub cuts : cs ≡ ownCuts b (sellerAt b place) asked
   pub own : left ≡ standings (reducedBy b (sellerAt b place) asked .book .trades) (sellerAt b place .party .id)
+
+-- the positions are settled, and the trades stand as they stood
+abbrev pub SettledIn : Book → ℕ → ℕ → List ℕ → List ℕ → List ℕ → Tally → Type 0
+SettledIn b place asked s left cs r =
+    CutIn b place asked (withUsers b (reducedBy b (sellerAt b place) asked .book .users)) s left cs r
+
+-- the user is reduced: the bytes hold the rules' book
+abbrev pub ReducedIn : Book → ℕ → ℕ → List ℕ → List ℕ → List ℕ → Tally → Type 0
+ReducedIn b place asked s left cs r = CutIn b place asked (reducedBy b (sellerAt b place) asked .book) s left cs r
