@@ -5,7 +5,6 @@ use Prim.Native.Nat.{ℕ, _+_, _-_, _<_}
 use native.Mathlib.Omega.{arith}
 use lib.ListN.{length, getD}
 use Rattle.cover.specs.Cover.{nextHeld, targetIn}
-use Rattle.dealings.specs.Parties.{cutBefore}
 use Rattle.format.specs.Steps.{placeOf}
 use Rattle.laws.proofs.Trades.{framed}
 use Rattle.listed.proofs.Places.{place-same}
@@ -17,13 +16,11 @@ use Rattle.rules.specs.Reduction.{target}
 use Rattle.sales.proofs.Cover.{bought-next, level-next, sold-next, target-from}
 use Rattle.sales.proofs.Groups.{grouped-parties}
 use Rattle.sales.proofs.Origins.{grouped-ext}
-use Rattle.sales.proofs.Rebuilt.{places-stay, terms-stay}
-use Rattle.sales.proofs.Represented.{same-length, starts-stay}
+use Rattle.sales.proofs.Standing.{places-stay, same-length, starts-stay, terms-stay}
 use Rattle.sales.proofs.Settled.{party-at}
 use Rattle.sales.specs.Cover.{AllNext}
-use Rattle.sales.specs.Groups.{grouped, places, standings, termsOf}
+use Rattle.sales.specs.Groups.{grouped, places, termsOf}
 use Rattle.sales.specs.Reduced.{SalesReduced}
-use Rattle.sales.specs.Represented.{Represented}
 use Rattle.sales.specs.Sales.{salesOf}
 
 -- ---- what the afternoon reads
@@ -59,10 +56,6 @@ module _ {b : Book} {u : User} {asked : ℕ} {r : Result} (w : SalesReduced b u 
   pub party-stays : (i : ℕ) → getD (r .book .users) i nobody .party ≡ getD (b .users) i nobody .party
   party-stays i = party-at (b .users) (r .book .users) (w .parties) i nobody
 
-  represented : Represented b (r .book) (grouped (standings (r .book .trades)) (r .book .users)) (λ i. cutBefore (getD (r .book .users) i nobody .party .id) (r .book .trades))
-  represented =
-      record { sound = w .sound; lowered = w .lowered; header = w .header; parties = w .parties; standing = refl; cuts = λ i k. refl }
-
   next-stays : {sells buys : List ℕ} → NextDealt b sells buys → NextDealt (r .book) sells buys
   next-stays q =
       record {
@@ -92,7 +85,7 @@ module _ {b : Book} {u : User} {asked : ℕ} {r : Result} (w : SalesReduced b u 
       record {
         next = next-stays (q .next);
         starts-length = q .starts-length ∙ ap (λ (n : ℕ). n + 1) (sym users-stay);
-        starts-at = λ i k. q .starts-at i (omega (arith, users-stay)) ∙ sym (starts-stay represented i);
+        starts-at = λ i k. q .starts-at i (omega (arith, users-stay)) ∙ sym (starts-stay b (r .book) (framed (w .lowered)) (w .parties) i);
         origins-are = q .origins-are ∙ grouped-stays (places (b .trades)) (places (r .book .trades)) (λ id. places-stay id (framed (w .lowered)));
         areas = q .areas ∙ terms-all-stay (λ t. t .area);
         buyers =

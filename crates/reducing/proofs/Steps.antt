@@ -27,7 +27,7 @@ use Rattle.sales.proofs.FirstCuts.{own-cuts-length, own-cut-le, first-bound, fi
 use Rattle.sales.proofs.Groups.{places-inside, places-length}
 use Rattle.sales.proofs.Numbers.{less-at, less-length, sale-cuts-lots, standing-cut}
 use Rattle.sales.proofs.Reduced.{sales-reduced}
-use Rattle.sales.proofs.Represented.{same-length}
+use Rattle.sales.proofs.Standing.{same-length}
 use Rattle.sales.proofs.Valid.{sales-few}
 use Rattle.sales.specs.Groups.{places, written}
 use Rattle.sales.specs.Kept.{placesOf}

@@ -9,7 +9,7 @@ use Rattle.rules.specs.Book.{Trade}
 use Rattle.rules.specs.Reduction.{cutBy, cutAll}
 use Rattle.sales.proofs.Cuts.{cut-zero}
 use Rattle.sales.proofs.Kept.{by-case, spread-no}
-use Rattle.sales.proofs.Rebuilt.{written-past}
+use Rattle.sales.proofs.Standing.{written-past}
 use Rattle.sales.specs.Groups.{standingAt, written}
 use Rattle.sales.specs.Kept.{kept, placesOf, spread}
 use Rattle.sales.specs.Sales.{less}

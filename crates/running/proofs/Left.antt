@@ -23,8 +23,7 @@ use Rattle.running.specs.Reductions.{RanIn, Within, totals, wholeRun}
 use Rattle.running.specs.declared.Totals.{Totals}
 use Rattle.sales.proofs.Cover.{has-eligible-sales}
 use Rattle.sales.proofs.Next.{next-ready, next-over}
-use Rattle.sales.specs.Cover.{due}
-use Rattle.sales.specs.Represented.{Dues}
+use Rattle.sales.specs.Cover.{due, Dues}
 use Rattle.turn.specs.Turn.{Turning, Turned}
 use Rattle.worths.specs.declared.Tally.{Tally}
 

@@ -17,7 +17,7 @@ use Rattle.held.specs.Held.{HeldAs, noTrade, tradesReplaced}
 use Rattle.records.proofs.Trades.{trade-of-bytes}
 use Rattle.records.specs.Trade.{FitsTrade, tradeBytes, tradeValues, tradeWidths}
 use Rattle.rules.specs.Book.{Book, Trade}
-use Rattle.sales.proofs.Rebuilt.{written-step, written-end}
+use Rattle.sales.proofs.Standing.{written-step, written-end}
 use Rattle.sales.specs.Groups.{standingAt, written}
 use Rattle.settling.specs.Standing.{Writing}
 
