@@ -1,7 +1,7 @@
 -- Sums trade by trade: a trade that is counted at the place of its party gives its part to that user's sum alone. Assumes nothing.
 use mathlib.Core.Bool.{Bool, true, false, cond, _&&_}
 use mathlib.Core.List.{List, [], _∷_, map}
-use mathlib.Core.Path.{_≡_, refl, sym, ap, ap₂, _∙_}
+use mathlib.Core.Path.{_≡_, refl, sym, ap, ap₂, subst, _∙_}
 use Prim.Native.Nat.{ℕ, zero, suc, _+_, _*_, _≤_, _<_, _^_}
 use native.Mathlib.Omega.{arith}
 use native.Mathlib.Nat.{not-suc-le-zero, le-of-suc-le-suc}
@@ -9,8 +9,8 @@ use native.Mathlib.Numerals.{add-one}
 use lib.Dec.{T, eqb, ltb, ltb→lt}
 use lib.IntN.{pos, _+ℤ_, _-ℤ_}
 use lib.ListN.{length, take, getD, set, replicate, length-map, length-set, length-replicate, List·getD-map}
-use lib.Seq.{getD-set-same, getD-set-other, take-length, length-take-le, getD-take}
-use borrow.Author.Tests.{eq-eqb, ne-eqb, lt-ltb, ltb-true, ltb-false}
+use lib.Seq.{getD-set-same, getD-set-other, set-getD, take-length, length-take-le, getD-take}
+use borrow.Author.Tests.{eq-eqb, ne-eqb, eqb-true, eqb-false, lt-ltb, ltb-true, ltb-false}
 use Rattle.integers.specs.Sums.{sum}
 use Rattle.rules.specs.Lists.{all}
 use Rattle.rules.specs.Book.{Terms, Trade, User, at, dealt, sold, bought, definedPosition}
@@ -66,7 +66,7 @@ module _ (day party : ℕ) (t : Trade) (i area : ℕ) where
       go false c = refl
 
 -- a trade for another day changes nothing
-pub counted-none : (day party : ℕ) (t : Trade) (sums : List ℕ) → (t .terms .day ≡ day → ⊥) → Counted day party t sums sums
+counted-none : (day party : ℕ) (t : Trade) (sums : List ℕ) → (t .terms .day ≡ day → ⊥) → Counted day party t sums sums
 counted-none day party t sums h =
     record { each = λ i area l. omega (arith, given-next day party t i area h); low = λ k. omega arith; room = refl }
 
@@ -104,8 +104,22 @@ module _ (day p : ℕ) (t : Trade) (sums : List ℕ) (a : ℕ) (is : t .terms .a
       other e = omega (arith, getD-set-other sums (3 * p + a) k (getD sums (3 * p + a) 0 + t .standing) 0 e)
 
   -- what stands is added to the sum of the party in the area
-  pub counted-own : t .standing ≤ 4294967295 → Counted day p t sums (set sums (3 * p + a) (getD sums (3 * p + a) 0 + t .standing))
+  counted-own : t .standing ≤ 4294967295 → Counted day p t sums (set sums (3 * p + a) (getD sums (3 * p + a) 0 + t .standing))
   counted-own h = record { each = counted-each; low = counted-low h; room = length-set sums (3 * p + a) (getD sums (3 * p + a) 0 + t .standing) }
+
+-- counted by what stands of it for the day, which is 0 for another day
+pub counted-for : (day p : ℕ) (t : Trade) (sums : List ℕ) (a : ℕ) → t .terms .area ≡ a → a < 3 → 3 * p + a < length sums → t .standing ≤ 4294967295
+    → (n : ℕ) → n ≡ cond (eqb (t .terms .day) day) (t .standing) 0 → Counted day p t sums (set sums (3 * p + a) (getD sums (3 * p + a) 0 + n))
+counted-for day p t sums a is low room h n e = go (eqb (t .terms .day) day) refl
+  where
+    go : (b : Bool) → eqb (t .terms .day) day ≡ b → Counted day p t sums (set sums (3 * p + a) (getD sums (3 * p + a) 0 + n))
+    go true k =
+        subst (λ (m : ℕ). Counted day p t sums (set sums (3 * p + a) (getD sums (3 * p + a) 0 + m))) (sym (rw k at e))
+        (counted-own day p t sums a is low room (eqb-true (t .terms .day) day k) h)
+    go false k =
+        let same : set sums (3 * p + a) (getD sums (3 * p + a) 0 + n) ≡ sums
+        = ap (set sums (3 * p + a)) (omega (arith, rw k at e)) ∙ set-getD sums (3 * p + a) 0 in
+        subst (λ (xs : List ℕ). Counted day p t sums xs) (sym same) (counted-none day p t sums (eqb-false (t .terms .day) day k))
 
 -- ---- the trades so far
 

@@ -1,5 +1,7 @@
 // Question 7: is every position as defined? What each user sold and bought for the day in each area is gathered in one walk over the trades.
 ghost use mathlib.Core.Path.{_≡_};
+ghost use mathlib.Core.Bool.{cond};
+ghost use lib.Dec.{eqb};
 ghost use Prim.Native.Nat.{_+_, _*_, _≤_, _<_};
 ghost use lib.ListN.{length, take, getD};
 ghost use Rattle.rules.specs.Lists.{all};
@@ -16,17 +18,23 @@ use units::Net;
 
 // ---- the sums: three areas for each user, in the order of the users
 
+// What stands of a trade where it is for a day, else 0. The product has no branch, which a processor would foresee only half of the times.
+fn amount_for(t: Trade, day: u8) -> u64
+    ensures { λ r. ⌜ (r ≡ cond (eqb (t .day) day) (t .standing) 0) × (r ≤ 4294967295) ⌝ }
+{
+    let standing = t.standing;
+    let is = t.day == day;
+    standing as u64 * (is as u64)
+}
+
 // Counts a trade for its party at a place: where it is for a day, what stands is added in its area.
 fn count(place: usize, t: Trade, day: u8, sums: &mut [u64])
     requires { ⌜ Countable place (asTrade t) (now sums) ⌝ }
     ensures { λ _. ⌜ Counted day place (asTrade t) (now (sums .entry)) (now (sums .exit)) ⌝ }
 {
-    if t.day == day {
-        let k = 3 * place + t.area as usize;
-        let x = sums[k];
-        let standing = t.standing;
-        sums[k] = x + standing as u64;
-    }
+    let k = 3 * place + t.area as usize;
+    let x = sums[k];
+    sums[k] = x + amount_for(t, day);
 }
 
 // Gathers what is sold and bought for a day at each place in the m trades from byte `at` on, by the places of their sellers and buyers.

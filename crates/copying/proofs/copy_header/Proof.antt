@@ -11,26 +11,26 @@ use borrow.Author.Needs.{needs}
 use Rattle.copying.proofs.copy_header.Statement.{statement}
 use Rattle.copying.proofs.copy_header.Tie as tie
 
-sub-copy-record : tie.Need-sub-copy-record
-sub-copy-record c = search needs
+sub-copy-marked : tie.Need-sub-copy-marked
+sub-copy-marked c = search needs
 
-part-copy-record-start : tie.Need-part-copy-record-start
-part-copy-record-start c = search needs
+part-copy-marked-start : tie.Need-part-copy-marked-start
+part-copy-marked-start c = search needs
 
-part-copy-record-end : tie.Need-part-copy-record-end
-part-copy-record-end c = search needs
+part-copy-marked-end : tie.Need-part-copy-marked-end
+part-copy-marked-end c = search needs
 
-sub-copy-record-2 : tie.Need-sub-copy-record-2
-sub-copy-record-2 c = search needs
+sub-copy-marked-2 : tie.Need-sub-copy-marked-2
+sub-copy-marked-2 c = search needs
 
-part-copy-record-start-2 : tie.Need-part-copy-record-start-2
-part-copy-record-start-2 c = search needs
+part-copy-marked-start-2 : tie.Need-part-copy-marked-start-2
+part-copy-marked-start-2 c = search needs
 
-part-copy-record-end-2 : tie.Need-part-copy-record-end-2
-part-copy-record-end-2 c = search needs
+part-copy-marked-end-2 : tie.Need-part-copy-marked-end-2
+part-copy-marked-end-2 c = search needs
 
-copy-record-requires : tie.Need-copy-record-requires
-copy-record-requires c κs = search needs
+copy-marked-requires : tie.Need-copy-marked-requires
+copy-marked-requires c κs = search needs
 
 same-length : tie.Need-same-length
 same-length c = search needs
@@ -40,18 +40,18 @@ unfolding mark
 returns c =
     let start = c .before .before .before .before .before .before .before in
     let front = take 32 (now (start .args .s)) in
-    front-set 32 (now (start .args .out)) (setField 3 0 mark front) (length-setField 3 0 mark front ∙ length-take-le 32 (now (start .args .s)) (start .pre .0)) (start .pre .1) (c .before .before .copy-record .ensures)
+    front-set 32 (now (start .args .out)) (setField 3 0 mark front) (length-setField 3 0 mark front ∙ length-take-le 32 (now (start .args .s)) (start .pre .0)) (start .pre .1) (c .before .before .copy-marked .ensures)
 
 pub copy-header-spec : {M : Type 1} → statement M
 copy-header-spec =
     tie.close
     (tie.spec
-    sub-copy-record
-    part-copy-record-start
-    part-copy-record-end
-    sub-copy-record-2
-    part-copy-record-start-2
-    part-copy-record-end-2
-    copy-record-requires
+    sub-copy-marked
+    part-copy-marked-start
+    part-copy-marked-end
+    sub-copy-marked-2
+    part-copy-marked-start-2
+    part-copy-marked-end-2
+    copy-marked-requires
     same-length
     returns)
