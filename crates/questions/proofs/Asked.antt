@@ -1,11 +1,11 @@
--- The number that the answers to the questions 4 to 7 give, of users and trades and of bytes; the users of bytes that were read. Assumes nothing.
+-- The number that the answers to the questions 4 to 7 give, of users and trades and of bytes. Assumes nothing.
 use mathlib.Core.Bool.{Bool, false, true, _&&_}
 use mathlib.Core.List.{List}
 use mathlib.Core.Path.{_≡_, sym, ap, _∙_}
 use Prim.Native.Nat.{ℕ, _*_, _+_, _≤_}
 use native.Mathlib.Omega.{arith}
 use lib.Dec.{T}
-use lib.ListN.{drop, length}
+use lib.ListN.{drop, length, take}
 use Rattle.rules.specs.Areas.{Prices}
 use Rattle.rules.specs.Book.{User, Trade}
 use Rattle.rules.specs.Calendar.{realDay}
