@@ -5,6 +5,7 @@ ghost use mathlib.Core.Path.{_≡_};
 ghost use Prim.Native.Nat.{_≤_};
 ghost use lib.Dec.{ltb};
 ghost use lib.ListN.{length};
+ghost use Rattle.rules.specs.Areas.{tariff};
 ghost use Rattle.rules.specs.Book as model;
 ghost use Rattle.rules.specs.Lists.{any};
 ghost use Rattle.rules.specs.Reduction.{nothing, tallyAll};
@@ -19,6 +20,14 @@ use units::Mwh;
 use units::Price;
 use units::Prices;
 use worths::Tally;
+
+// What a cut in an area is priced at: the tariff of the area.
+fn price_in(area: u8, prices: Prices) -> Price
+    requires { ⌜ InRange (asPrices prices) ⌝ }
+    ensures { λ r. ⌜ (r .0 ≡ tariff (asPrices prices) area) × (r .0 ≤ 100000) ⌝ }
+{
+    Area(area).tariff(prices)
+}
 
 // An amount that is in a tier, 0 where it is not.
 fn counted(is: bool, amount: u64) -> u64
@@ -47,7 +56,7 @@ fn fill_lots<'a>(
     while i < standing.len() {
         let area = areas[i];
         let amount = standing[i];
-        let price = Area(area).tariff(prices);
+        let price = price_in(area, prices);
         let is = 0 < short.of(area).0;
         tariffs[i] = price.0;
         one[i] = counted(is, amount);
@@ -191,7 +200,7 @@ fn tally_of<'a>(cuts: &'a [u64], areas: &'a [u8], prices: Prices) -> Tally
     while i < cuts.len() {
         let area = areas[i];
         let cut = cuts[i];
-        let price = Area(area).tariff(prices);
+        let price = price_in(area, prices);
         tally = tally.with(Mwh(cut), price);
         i += 1;
     }

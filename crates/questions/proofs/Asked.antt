@@ -1,13 +1,12 @@
--- The number that the answers to the questions 4 to 7 give, of users and trades and of bytes; the users of bytes that were read. Assumes nothing.
+-- The number that the answers to the questions 4 to 7 give, of users and trades and of bytes. Assumes nothing.
 use mathlib.Core.Bool.{Bool, false, true, _&&_}
-use mathlib.Core.List.{List, map}
+use mathlib.Core.List.{List}
 use mathlib.Core.Path.{_≡_, sym, ap, _∙_}
 use Prim.Native.Nat.{ℕ, _*_, _+_, _≤_}
 use native.Mathlib.Omega.{arith}
 use lib.Dec.{T}
 use lib.ListN.{drop, length, take}
 use Rattle.rules.specs.Areas.{Prices}
-use Rattle.rules.specs.Book as model
 use Rattle.rules.specs.Book.{User, Trade}
 use Rattle.rules.specs.Calendar.{realDay}
 use Rattle.rules.specs.Lists.{all}
@@ -15,12 +14,10 @@ use Rattle.rules.specs.Questions.{headerValid, numberOf, positionsValid, prices
 use Rattle.laws.proofs.Tests.{and-r}
 use Rattle.fields.specs.Field.{field}
 use Rattle.records.specs.Trade.{tradeZeros}
-use Rattle.records.specs.User.{asUser, userZeros}
+use Rattle.records.specs.User.{userZeros}
 use Rattle.format.specs.Book.{bookOf, pricesAt, tradeCount, tradesAt, tradesOf, userAt, userCount, usersOf}
 use Rattle.format.specs.Questions.{Formed, aboutFields, tradeZerosValid, userZerosValid}
 use Rattle.places.specs.Ids.{usersFrom, tradesFrom, idsOf}
-use Rattle.book.specs.Book.{BookRead, asBook}
-use Rattle.book.specs.declared.Book.{Book}
 use Rattle.form.specs.Zeros.{zerosIn}
 use Rattle.positions.specs.Sums.{InBytes, Askable}
 use Rattle.questions.specs.Asked.{UsersAsked, TradesAsked, RecordsAsked, FieldsPlaced, tradeAmong, recordsNumber, fieldsNumber}
@@ -121,10 +118,3 @@ module _ (s : List ℕ) {date : ℕ} {prices : Prices} {valid : Bool} (d : date 
         asked = asked .asked ∙ rw (uz, tz, f, g, sym header-answer ∙ h);
         placed = λ k. rw (← f, ← g) (asked .placed k);
       }
-
--- ---- the struct into which bytes were read
-
--- its users are those of the bytes
-pub users-are : (s : List ℕ) (b : Book) → BookRead s b → map asUser (take (b .«user_count») (b .users)) ≡ usersOf s
-unfolding asBook bookOf
-users-are s b r = ap (λ (n : model.Book). n .users) (r .book)
