@@ -1,27 +1,31 @@
--- Short of cover where a trade stands below notified, case by case; the loop that asks buyers anew; the search for the next user; and what flags are right after
--- buyers are asked anew. Assumes nothing.
+-- Short of cover where a trade stands below notified, case by case; the user at a place read from bytes; the loop that asks buyers anew, and which flags are right after
+-- it; and the search for the next user. Assumes nothing.
 use mathlib.Core.Bool.{Bool, true, false, cond, _&&_, _||_}
 use mathlib.Core.List.{List, [], _∷_}
-use mathlib.Core.Path.{_≡_, refl, sym, ap, ap₂, subst, _∙_}
-use Prim.Native.Nat.{ℕ, _+_, _-_, _≤_, _<_}
+use mathlib.Core.Path.{_≡_, refl, sym, ap, subst, _∙_}
+use Prim.Native.Nat.{ℕ, zero, suc, _+_, _*_, _-_, _≤_, _<_}
 use native.Mathlib.Numerals.{add-one}
 use native.Mathlib.Omega.{arith}
 use lib.Dec.{T, eqb, ltb, eqb→eq}
 use lib.ListN.{length, take, drop, getD, set, length-set, drop-of-length-le}
-use lib.Seq.{drop-cons, getD-set-same, getD-set-other, set-out}
-use borrow.Author.Tests.{eq-eqb, ne-eqb}
-use Rattle.arrays.proofs.Fronts.{getD-inside}
-use Rattle.cover.specs.Cover.{Levelled, noDealings, shortCut, marked, touched, ownPart, dueAt, NextDue}
+use lib.Seq.{drop-cons, getD-set-same, getD-set-other}
+use borrow.Author.Tests.{eq-eqb, lt-ltb, le-ltb}
+use Rattle.cover.specs.Cover.{Levelled, Bounded, AmountsAt, NextOf, nextHeld, targetIn, Asking, shortCut, marked, touched, ownPart, dueAt, NextDue}
+use Rattle.dealings.specs.Energies.{amountOf}
+use Rattle.dealings.specs.declared.Amounts.{Amounts}
 use Rattle.dealings.specs.declared.Dealings.{Dealings}
+use Rattle.format.specs.Book.{userCount, usersOf}
+use Rattle.held.proofs.Parts.{record-at}
 use Rattle.integers.proofs.Linear.{by-order}
 use Rattle.levels.specs.Holdings.{held}
-use Rattle.records.specs.User.{asUser, blankUser}
+use Rattle.records.specs.User.{asUser, userOf}
 use Rattle.rules.specs.Areas.{Prices}
-use Rattle.rules.specs.Book.{User}
+use Rattle.rules.specs.Book.{User, nobody}
 use Rattle.rules.specs.Levels.{Limits, Holding, shipper, exceedsMargin}
 use Rattle.rules.specs.Lists.{any}
+use Rattle.sales.proofs.Cover.{level-next, short-next}
 use Rattle.sales.proofs.Kept.{by-case}
-use Rattle.sales.specs.Cover.{levelFrom, flaggedFrom, shortFrom}
+use Rattle.sales.specs.Cover.{AllNext, levelFrom, flaggedFrom, shortFrom}
 use Rattle.records.specs.declared.User as user
 
 -- ---- short of cover
@@ -50,24 +54,52 @@ module _ (limits : Limits) (f : Prices) (u : User) (h : ℕ → Holding) where
   unfolding shortFrom
   short-house s = rw s
 
--- a flag by a test
-pub taken-first : {c r : Bool} (x y : Bool) → c ≡ true → r ≡ x → r ≡ cond c x y
-taken-first x y e h = rw e h
+-- ---- the user at a place
 
-pub taken-second : {c : Bool} (x y : Bool) → c ≡ false → y ≡ cond c x y
-taken-second x y e = rw e
+pub amounts-at : {sums : List ℕ} {place : ℕ} (v : Amounts) → Bounded sums → v .pvb .0 ≡ getD sums (3 * place) 0 → v .tvb .0 ≡ getD sums (3 * place + 1) 0
+    → v .avb .0 ≡ getD sums (3 * place + 2) 0 → AmountsAt sums place v
+unfolding amountOf
+amounts-at {sums} {place} v h x y z =
+    record {
+      each = each;
+      within = record { pvb = omega (arith, x, h .low (3 * place)); tvb = omega (arith, y, h .low (3 * place + 1)); avb = omega (arith, z, h .low (3 * place + 2)) };
+    }
+  where
+    each : (area : ℕ) → area < 3 → amountOf v area ≡ getD sums (3 * place + area) 0
+    each zero l = x ∙ ap (λ (k : ℕ). getD sums k 0) (omega arith)
+    each (suc zero) l = y
+    each (suc (suc zero)) l = z
+    each (suc (suc (suc area))) l = absurd (omega arith)
 
--- ---- a user and its dealings by their place
+module _ {s sold bought : List ℕ} {place : ℕ} (p : Asking s sold bought place) (u : user.User)
+    (e : asUser u ≡ userOf (take (32 + 56 * place + 56 - (32 + 56 * place)) (drop (32 + 56 * place) s))) {d : Dealings}
+    (n : NextOf sold bought place d) where
+  user-is : asUser u ≡ getD (usersOf s) place nobody
+  unfolding usersOf
+  user-is =
+      let size : 32 + 56 * place + 56 - (32 + 56 * place) ≡ 56 = omega arith in
+      e ∙ ap (λ (n : ℕ). userOf (take n (drop (32 + 56 * place) s))) size ∙ record-at 56 userOf (userCount s) place 32 s nobody (p .inside)
 
-module _ (us : List user.User) (ds : List Dealings) (i : ℕ) (d : user.User) (e : Dealings) (h : i < length us) (k : i < length ds) where
   -- a level can be taken
-  pub levelled-at : Levelled (getD us i blankUser) (getD ds i noDealings) → Levelled (getD us i d) (getD ds i e)
-  levelled-at l = rw (getD-inside us i d blankUser h, getD-inside ds i e noDealings k) l
+  pub user-levelled : Levelled u d
+  unfolding asUser
+  user-levelled = record { within = n .within; blocked-most = omega (arith, ap (λ (v : User). v .blocked) user-is, p .blocked-most) }
 
-  -- short of cover
-  pub short-at : (limits : Limits) (f : Prices) → shortFrom limits f (asUser (getD us i d)) (held (getD us i d) (getD ds i e)) true ≡ shortCut limits f us ds i
-  unfolding shortCut
-  short-at limits f = rw (getD-inside us i d blankUser h, getD-inside ds i e noDealings k)
+  -- what the afternoon reads
+  read-next : AllNext (held u d) (nextHeld (asUser u) sold bought place)
+  unfolding held nextHeld asUser
+  read-next = record { each = λ area l. record { position = refl; sold = n .sold-next .each area l; bought = n .bought-next .each area l } }
+
+  module _ (limits : Limits) (f : Prices) where
+    pub target-read : {r : ℕ} → r ≡ levelFrom limits f (asUser u) (held u d) - u .assigned .0 → r ≡ targetIn limits f (usersOf s) sold bought place
+    unfolding targetIn asUser
+    target-read r =
+        r ∙ ap (λ (k : ℕ). k - u .assigned .0) (level-next read-next limits f (asUser u))
+        ∙ ap (λ (v : User). levelFrom limits f v (nextHeld v sold bought place) - v .party .assigned) user-is
+
+    pub short-read : {r : Bool} → r ≡ shortFrom limits f (asUser u) (held u d) true → r ≡ shortCut limits f (usersOf s) sold bought place
+    unfolding shortCut
+    short-read r = r ∙ short-next read-next limits f (asUser u) true ∙ ap (λ (v : User). shortFrom limits f v (nextHeld v sold bought place) true) user-is
 
 -- ---- buyers are asked anew
 
@@ -80,25 +112,29 @@ module _ (now : ℕ → Bool) (buyers cuts : List ℕ) (same : length buyers ≡
   pub marked-start : MarkedSo now buyers cuts flags flags 0
   marked-start = record { inside = omega arith; long = refl; left = refl }
 
-  pub marked-more : {short : List Bool} {i : ℕ} → i < length cuts → (r : Bool) → r ≡ cond (ltb 0 (getD cuts i 0)) (now (getD buyers i 0)) (getD short (getD buyers i 0) false)
-      → MarkedSo now buyers cuts flags short i → MarkedSo now buyers cuts flags (set short (getD buyers i 0) r) (i + 1)
-  unfolding marked
-  marked-more {short} {i} h r e p =
-      let b = getD buyers i 0 in
-      let c = getD cuts i 0 in
-      let step : marked now (drop i buyers) (drop i cuts) short ≡ marked now (drop (i + 1) buyers) (drop (i + 1) cuts) (set short b (cond (ltb 0 c) (now b) (getD short b false)))
-      = rw (add-one, drop-cons buyers i 0 (omega arith), drop-cons cuts i 0 h) in
-      record {
-        inside = omega arith;
-        long = length-set short b r ∙ p .long;
-        left = ap (λ (x : Bool). marked now (drop (i + 1) buyers) (drop (i + 1) cuts) (set short b x)) e ∙ sym step ∙ p .left;
-      }
+  module _ {short : List Bool} {i : ℕ} (h : i < length cuts) (p : MarkedSo now buyers cuts flags short i) where
+    step : (c : Bool) → ltb 0 (getD cuts i 0) ≡ c
+        → marked now (drop i buyers) (drop i cuts) short ≡ marked now (drop (i + 1) buyers) (drop (i + 1) cuts) (cond c (set short (getD buyers i 0) (now (getD buyers i 0))) short)
+    unfolding marked
+    step c e =
+        let b = getD buyers i 0 in
+        let one : marked now (drop i buyers) (drop i cuts) short
+        ≡ marked now (drop (i + 1) buyers) (drop (i + 1) cuts) (cond (ltb 0 (getD cuts i 0)) (set short b (now b)) short)
+        = rw (add-one, drop-cons buyers i 0 (omega arith), drop-cons cuts i 0 h) in
+        one ∙ ap (λ (x : Bool). marked now (drop (i + 1) buyers) (drop (i + 1) cuts) (cond x (set short b (now b)) short)) e
 
-  -- the same where the buyer is read out of the arrays
-  pub marked-asked : {short : List Bool} {i : ℕ} (x : Bool) → i < length cuts → (r : Bool) → r ≡ cond (ltb 0 (getD cuts i 0)) x (getD short (getD buyers i 0) false)
-      → x ≡ now (getD buyers i 0) → MarkedSo now buyers cuts flags short i → MarkedSo now buyers cuts flags (set short (getD buyers i 0) r) (i + 1)
-  marked-asked {short} {i} x h r e k p =
-      marked-more h r (e ∙ ap (λ (y : Bool). cond (ltb 0 (getD cuts i 0)) y (getD short (getD buyers i 0) false)) k) p
+    -- a sale that lost something
+    pub marked-more : 0 < getD cuts i 0 → {told : List Bool} → told ≡ set short (getD buyers i 0) (now (getD buyers i 0)) → MarkedSo now buyers cuts flags told (i + 1)
+    marked-more c {told} e =
+        record {
+          inside = omega arith;
+          long = ap length e ∙ length-set short (getD buyers i 0) _ ∙ p .long;
+          left = ap (marked now (drop (i + 1) buyers) (drop (i + 1) cuts)) e ∙ sym (step true (lt-ltb 0 _ c)) ∙ p .left;
+        }
+
+    -- one that lost nothing
+    pub marked-skip : getD cuts i 0 ≤ 0 → MarkedSo now buyers cuts flags short (i + 1)
+    marked-skip c = record { inside = omega arith; long = p .long; left = sym (step false (le-ltb 0 _ c)) ∙ p .left }
 
   pub marked-end : {short : List Bool} {i : ℕ} → length cuts ≤ i → MarkedSo now buyers cuts flags short i → short ≡ marked now buyers cuts flags
   unfolding marked
@@ -106,39 +142,41 @@ module _ (now : ℕ → Bool) (buyers cuts : List ℕ) (same : length buyers ≡
       let none : marked now (drop i buyers) (drop i cuts) short ≡ short = rw (drop-of-length-le buyers {i = i} (omega arith)) in
       sym none ∙ p .left
 
+pub marked-length : (now : ℕ → Bool) (buyers cuts : List ℕ) (short : List Bool) → length (marked now buyers cuts short) ≡ length short
+unfolding marked
+marked-length now [] cuts short = refl
+marked-length now (b ∷ buyers) [] short = refl
+marked-length now (b ∷ buyers) (c ∷ cuts) short =
+    marked-length now buyers cuts (cond (ltb 0 c) (set short b (now b)) short) ∙ by-case (ltb 0 c) (λ e. rw e (length-set short b (now b))) (λ e. rw e)
+
 -- ---- flags that are right
 
-or-second : (a b : Bool) → b ≡ true → (a || b) ≡ true
-or-second true b e = refl
-or-second false b e = e
-
--- who is touched is told rightly anew, who is not had the right flag: afterwards every flag is right
-pub marked-right : (now right : ℕ → Bool) (n : ℕ) (buyers cuts : List ℕ) (short : List Bool) → length short ≡ n
-    → ((i : ℕ) → i < n → touched i buyers cuts ≡ true → now i ≡ right i)
-    → ((i : ℕ) → i < n → touched i buyers cuts ≡ false → getD short i false ≡ right i)
-    → (i : ℕ) → i < n → getD (marked now buyers cuts short) i false ≡ right i
+-- who is touched is told rightly anew, who is not had the right flag: afterwards the flag is right
+pub marked-at : (now : ℕ → Bool) (x : Bool) (i : ℕ) (buyers cuts : List ℕ) (short : List Bool) → i < length short
+    → (touched i buyers cuts ≡ true → now i ≡ x) → (touched i buyers cuts ≡ false → getD short i false ≡ x) → getD (marked now buyers cuts short) i false ≡ x
 unfolding marked touched
-marked-right now right n [] cuts short l t u i h = u i h refl
-marked-right now right n (b ∷ buyers) [] short l t u i h = u i h refl
-marked-right now right n (b ∷ buyers) (c ∷ cuts) short l t u i h =
-    marked-right now right n buyers cuts (set short b flag) (length-set short b flag ∙ l)
-    (λ j k e. t j k (or-second (eqb b j && ltb 0 c) (touched j buyers cuts) e)) told i h
+marked-at now x i [] cuts short l t u = u refl
+marked-at now x i (b ∷ buyers) [] short l t u = u refl
+marked-at now x i (b ∷ buyers) (c ∷ cuts) short l t u =
+    by-case (ltb 0 c)
+    (λ e. rw e (marked-at now x i buyers cuts (set short b (now b)) (rw (length-set short b (now b)) l) (λ m. t (second (eqb b i && ltb 0 c) (touched i buyers cuts) m)) (told e)))
+    (λ e. rw e (marked-at now x i buyers cuts short l (λ m. t (second (eqb b i && ltb 0 c) (touched i buyers cuts) m))
+    (λ m. u (rw (e, and-false (eqb b i)) m))))
   where
-    flag : Bool
-    flag = cond (ltb 0 c) (now b) (getD short b false)
+    second : (y z : Bool) → z ≡ true → (y || z) ≡ true
+    second true z e = refl
+    second false z e = e
 
-    here : (j : ℕ) → j < n → touched j buyers cuts ≡ false → b ≡ j → cond (ltb 0 c) (now b) (getD short b false) ≡ right j
-    here j k e z =
-        by-case (ltb 0 c)
-        (λ p. rw p (ap now z ∙ t j k (rw (eq-eqb b j z, p))))
-        (λ p. rw p (ap (λ (m : ℕ). getD short m false) z ∙ u j k (rw (eq-eqb b j z, p) e)))
+    and-false : (y : Bool) → (y && false) ≡ false
+    and-false true = refl
+    and-false false = refl
 
-    told : (j : ℕ) → j < n → touched j buyers cuts ≡ false → getD (set short b flag) j false ≡ right j
-    told j k e =
-        by-case (eqb b j)
-        (λ p. let z : b ≡ j = eqb→eq b j (subst T (sym p) tt) in
-        ap (λ (m : ℕ). getD (set short m flag) j false) z ∙ getD-set-same short j flag false (omega arith) ∙ here j k e z)
-        (λ p. getD-set-other short b j flag false (λ z. absurd (subst T (sym (eq-eqb b j (sym z)) ∙ p) tt)) ∙ u j k (rw p e))
+    told : ltb 0 c ≡ true → touched i buyers cuts ≡ false → getD (set short b (now b)) i false ≡ x
+    told e m =
+        by-case (eqb b i)
+        (λ p. let z : b ≡ i = eqb→eq b i (subst T (sym p) tt) in
+        ap (λ (n : ℕ). getD (set short n (now n)) i false) z ∙ getD-set-same short i (now i) false l ∙ t (rw (p, e)))
+        (λ p. getD-set-other short b i (now b) false (λ z. absurd (subst T (sym (eq-eqb b i (sym z)) ∙ p) tt)) ∙ u (rw p m))
 
 -- ---- the next user
 

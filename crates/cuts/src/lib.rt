@@ -51,7 +51,7 @@ pub fn fill_cuts<'a>(
 {
     let worth = worths::worth_of(one, tariffs);
     let left = left_of(asked, worth);
-    tier::tier_cuts(one, tariffs, asked, first, rests);
+    tier::cuts_of_worth(one, tariffs, asked, worth, first, rests);
     tier::tier_cuts(two, tariffs, left, second, rests);
     add_cuts(first, second, cuts);
 }

@@ -4,11 +4,10 @@ use mathlib.Core.Bool.{_||_}
 use Prim.Native.Nat.{ℕ, _<_}
 use Rattle.rules.specs.Book.{at, Book, User}
 use Rattle.rules.specs.Levels.{Limits, holding, sells, buys, partyTo, flagged, calledIn}
-use Rattle.rules.specs.Reduction.{eligible, hasEligible}
 use Rattle.dealings.specs.declared.Dealings.{Dealings}
 use Rattle.dealings.specs.Energies.{amountOf}
 use Rattle.dealings.specs.Dealt.{Dealt}
-use Rattle.dealings.specs.Parties.{isCut, cutBefore, isEligible, anyEligible}
+use Rattle.dealings.specs.Parties.{isCut, cutBefore}
 
 -- what enters a user's level in an area, from the user's amounts and dealings
 pub holding-is : (b : Book) (u : User) {n : ℕ} {d : Dealings} → Dealt n (u .party .id) (b .trades) d → (area : ℕ) → area < 3
@@ -29,8 +28,3 @@ holding-is b u p area h =
 pub called-in-is : (limits : Limits) (b : Book) (u : User) → calledIn limits b u ≡ flagged limits b u || cutBefore (u .party .id) (b .trades)
 unfolding calledIn partyTo sells buys isCut cutBefore
 called-in-is limits b u = refl
-
--- the user has an eligible sale
-pub has-eligible-is : (b : Book) (u : User) → hasEligible b u ≡ anyEligible (u .party .id) (b .trades)
-unfolding hasEligible eligible sells isEligible anyEligible
-has-eligible-is b u = refl

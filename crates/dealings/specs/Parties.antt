@@ -4,7 +4,7 @@ use mathlib.Core.List.{List}
 use Prim.Native.Nat.{ℕ}
 use lib.Dec.{eqb, ltb}
 use Rattle.rules.specs.Lists.{any}
-use Rattle.rules.specs.Book.{Trade, bilateralForDay}
+use Rattle.rules.specs.Book.{Trade}
 
 -- the user is party to the trade, and less stands than was notified
 unfoldable pub isCut : ℕ → Trade → Bool
@@ -13,11 +13,3 @@ isCut id t = (eqb (t .terms .seller) id || eqb (t .terms .buyer) id) && ltb (t .
 -- the user is party to a trade standing below notified
 unfoldable pub cutBefore : ℕ → List Trade → Bool
 cutBefore id ts = any (isCut id) ts
-
--- the trade is one of the user's sales of kind 0, day 0, standing above 0
-unfoldable pub isEligible : ℕ → Trade → Bool
-isEligible id t = eqb (t .terms .seller) id && (bilateralForDay t && ltb 0 (t .standing))
-
--- the user has such a sale
-unfoldable pub anyEligible : ℕ → List Trade → Bool
-anyEligible id ts = any (isEligible id) ts

@@ -1,5 +1,4 @@
-// What a user dealt in the trades of a book: one walk gathers sold and bought in each area, for d and for d+1; two more find a trade that was cut and
-// a sale that can be cut.
+// What a user dealt in the trades of a book: one walk gathers sold and bought in each area, for d and for d+1; another finds a trade that was cut.
 use records::Trade;
 use units::Mwh;
 ghost use mathlib.Core.Path.{_≡_};
@@ -11,7 +10,7 @@ ghost use lib.ListN.{take};
 ghost use Rattle.records.specs.Trade.{asTrade};
 ghost use Rattle.dealings.specs.Energies.{amountOf, Within, Raised};
 ghost use Rattle.dealings.specs.Dealt.{Dealt, Counted, AllWithin};
-ghost use Rattle.dealings.specs.Parties.{isCut, cutBefore, isEligible, anyEligible};
+ghost use Rattle.dealings.specs.Parties.{isCut, cutBefore};
 
 // An energy for each area.
 pub struct Amounts {
@@ -155,29 +154,6 @@ pub fn cut_before(trades: [Trade; 256], count: usize, id: u32) -> bool
     while i < count {
         let t = trades[i];
         if is_cut(t, id) {
-            return true;
-        }
-        i += 1;
-    }
-    false
-}
-
-// Is the trade one of the user's sales of kind 0, day 0, standing above 0?
-fn is_eligible(t: Trade, id: u32) -> bool
-    ensures { λ r. ⌜ r ≡ isEligible id (asTrade t) ⌝ }
-{
-    (t.seller == id) & (((t.kind == 0) & (t.day == 0)) & (0 < t.standing))
-}
-
-// Has the user of an id an eligible sale among the first `count` trades?
-pub fn has_eligible(trades: [Trade; 256], count: usize, id: u32) -> bool
-    requires { ⌜ count ≤ 256 ⌝ }
-    ensures { λ r. ⌜ r ≡ anyEligible id (map asTrade (take count trades)) ⌝ }
-{
-    let mut i = 0;
-    while i < count {
-        let t = trades[i];
-        if is_eligible(t, id) {
             return true;
         }
         i += 1;

@@ -10,7 +10,6 @@ use Rattle.format.specs.Book.{bookOf, userCount, usersOf}
 use Rattle.format.specs.Questions.{aboutBytes, bookNumber}
 use Rattle.format.specs.Steps.{placeOf}
 use Rattle.laws.proofs.Refusals.{refusal-first, refusal-next, yes-first}
-use Rattle.book.specs.declared.Book.{Book}
 use Rattle.rules.specs.Calls.{idKnown}
 use Rattle.rules.specs.Questions.{Question, known, refusal}
 
@@ -19,9 +18,9 @@ module _ (s : List ℕ) (id : ℕ) (rest : List Question) where
   entry-refused n h =
       rw append-assoc at (refusal-first (aboutBytes s ++ (idKnown (bookOf s) id ∷ [])) rest n h)
 
-  pub entry-found : {place : ℕ} {b : Book} → Found s id place b → refusal (aboutBytes s ++ (idKnown (bookOf s) id ∷ rest)) ≡ refusal rest
+  pub entry-found : {place : ℕ} → Found s id place → refusal (aboutBytes s ++ (idKnown (bookOf s) id ∷ rest)) ≡ refusal rest
   unfolding idKnown bookOf
-  entry-found {place} {b} f =
+  entry-found f =
       refusal-next (aboutBytes s) (idKnown (bookOf s) id ∷ rest) (book-passed s (f .passes))
       ∙ yes-first 8 (known (usersOf s) id) rest (rw (known-place s id (rw (f .stands) at (f .known))) tt)
 

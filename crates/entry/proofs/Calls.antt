@@ -2,26 +2,29 @@
 use mathlib.Core.List.{List, [], _++_, _∷_}
 use mathlib.Core.Option.{some}
 use mathlib.Core.Path.{_≡_, _∙_, ap, sym}
-use Prim.Native.Nat.{ℕ}
+use Prim.Native.Nat.{ℕ, _+_, _*_, _<_, _≤_}
+use native.Mathlib.Omega.{arith}
 use lib.Dec.{T}
-use lib.ListN.{getD}
-use Rattle.book.proofs.Records.{user-at}
-use Rattle.book.specs.declared.Book.{Book}
+use lib.ListN.{drop, getD, length, take}
 use Rattle.entry.proofs.Asked.{entry-found, entry-refused}
 use Rattle.entry.specs.Entered.{Found}
-use Rattle.format.proofs.OneUser.{find-place, known-place}
+use Rattle.format.proofs.OneUser.{find-bytes, find-place, known-place}
 use Rattle.format.proofs.Passed.{passed}
-use Rattle.format.specs.Book.{bookOf, tradesOf, usersOf}
+use Rattle.format.specs.Book.{bookOf, tradesOf, userAt, usersOf}
 use Rattle.format.specs.Questions.{aboutBytes}
-use Rattle.format.specs.Steps.{inBytes, replyBytes, stepBytes}
+use Rattle.format.specs.Steps.{Called, InBytes, inBytes, replyBytes, stepBytes}
 use Rattle.laws.proofs.Users.{all-find}
-use Rattle.records.specs.User.{asUser}
-use Rattle.records.specs.declared.User.{User}
-use Rattle.rules.specs.Book.{find, nobody}
-use Rattle.rules.specs.Calls.{Call, about, effect, idKnown, only}
+use Rattle.records.specs.User.{asUser, userOf}
+use Rattle.records.specs.declared.User as code
+use Rattle.rules.specs.Book.{User, find, nobody}
+use Rattle.rules.specs.Calls.{Answer, Call, about, effect, idKnown, only}
 use Rattle.rules.specs.Levels.{Limits}
 use Rattle.rules.specs.Queries.{Query, aboutQuery, found, onlyNumber}
 use Rattle.rules.specs.Questions.{Question, decided, known, positionsValid, refusal, userValid}
+
+-- what a call gives is its contract
+pub called : {limits : Limits} {s t : List ℕ} {a x : Answer} (c : Call) → a ≡ x → stepBytes limits s c ≡ record { answer = x; bytes = t } → Called limits s c a t
+called c h e = record { answer = h ∙ sym (ap (λ (r : InBytes). r .answer) e); bytes = sym (ap (λ (r : InBytes). r .bytes) e) }
 
 module _ (limits : Limits) (s : List ℕ) (id : ℕ) (rest : List Question) where
   -- ---- a call
@@ -31,7 +34,7 @@ module _ (limits : Limits) (s : List ℕ) (id : ℕ) (rest : List Question) wher
     unfolding stepBytes decided
     call-refused n h = rw (own, entry-refused s id rest n h)
 
-    pub call-found : {place : ℕ} {b : Book} → Found s id place b
+    pub call-found : {place : ℕ} → Found s id place
         → stepBytes limits s c ≡ decided (refusal rest) (λ n. record { answer = only n; bytes = s }) (inBytes (effect limits (bookOf s) c))
     unfolding stepBytes
     call-found f = rw (own, entry-found s id rest f)
@@ -43,17 +46,18 @@ module _ (limits : Limits) (s : List ℕ) (id : ℕ) (rest : List Question) wher
     unfolding replyBytes decided
     query-refused n h = rw (own, entry-refused s id rest n h)
 
-    pub query-found : {place : ℕ} {b : Book} → Found s id place b → replyBytes limits s q ≡ decided (refusal rest) onlyNumber (found limits (bookOf s) q)
+    pub query-found : {place : ℕ} → Found s id place → replyBytes limits s q ≡ decided (refusal rest) onlyNumber (found limits (bookOf s) q)
     unfolding replyBytes
     query-found f = rw (own, entry-found s id rest f)
 
 -- ---- the user that the entry found
 
-module _ (s : List ℕ) (id place : ℕ) (b : Book) (f : Found s id place b) where
-  -- the struct's record at the place is the user of the id
-  pub found-user : (d : User) → asUser (getD (b .users) place d) ≡ find (usersOf s) id
-  found-user d =
-      user-at s b (f .read) place d (f .known) (passed s (f .passes) .form .users) ∙ ap (λ (i : ℕ). getD (usersOf s) i nobody) (f .stands) ∙ sym (find-place (usersOf s) id)
+module _ {s : List ℕ} {id place : ℕ} (f : Found s id place) where
+  -- its record in the bytes
+  pub found-bytes : find (usersOf s) id ≡ userOf (take 56 (drop (32 + 56 * place) s))
+  unfolding userAt
+  found-bytes =
+      find-bytes s id (rw (f .stands) at (f .known)) ∙ ap (λ (i : ℕ). userOf (take 56 (drop (32 + 56 * i) s))) (sym (f .stands))
 
   pub found-known : T (known (usersOf s) id)
   found-known = rw (known-place s id (rw (f .stands) at (f .known))) tt
@@ -65,3 +69,22 @@ module _ (s : List ℕ) (id place : ℕ) (b : Book) (f : Found s id place b) whe
   pub found-positions : T (positionsValid (tradesOf s) (find (usersOf s) id))
   unfolding bookOf
   found-positions = all-find (positionsValid (tradesOf s)) (usersOf s) id (passed s (f .passes) .sound .positions) found-known
+
+  -- it lies in the book
+  pub found-lies : 32 + 56 * place + 56 ≤ length s
+  found-lies = omega (arith, f .known, passed s (f .passes) .form .whole)
+
+  pub found-few : place < 64
+  found-few = omega (arith, f .known, passed s (f .passes) .form .users)
+
+-- ---- a struct that is the user at the place
+
+module _ {s : List ℕ} {id place : ℕ} (u : code.User) (f : Found s id place) (h : asUser u ≡ getD (usersOf s) place nobody) where
+  -- it is the user of the id
+  pub read-user : asUser u ≡ find (bookOf s .users) id
+  unfolding bookOf
+  read-user = h ∙ ap (λ (i : ℕ). getD (usersOf s) i nobody) (f .stands) ∙ sym (find-place (usersOf s) id)
+
+  pub read-role : u .role ≡ find (bookOf s .users) id .party .role
+  unfolding asUser
+  read-role = ap (λ (v : User). v .party .role) read-user

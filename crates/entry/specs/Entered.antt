@@ -8,17 +8,14 @@ use Rattle.rules.specs.Calls.{idKnown}
 use Rattle.format.specs.Book.{userCount, usersOf, bookOf}
 use Rattle.format.specs.Questions.{aboutBytes, bookNumber}
 use Rattle.format.specs.Steps.{placeOf}
-use Rattle.book.specs.declared.Book.{Book}
-use Rattle.book.specs.Book.{BookRead}
 
 -- the bytes pass the questions of a book, and the user of the id stands at this place
-pub record Found (s : List ℕ) (id place : ℕ) (b : Book) : Type 0 where
+pub record Found (s : List ℕ) (id place : ℕ) : Type 0 where
   pub passes : bookNumber s ≡ 0
-  pub read : BookRead s b
   pub stands : place ≡ placeOf (usersOf s) id
   pub known : place < userCount s
 
 -- the number of the first question that is answered by no; else the user is found
-pub record Entered (s : List ℕ) (id number place : ℕ) (b : Book) : Type 0 where
+pub record Entered (s : List ℕ) (id number place : ℕ) : Type 0 where
   pub refused : (number ≡ 0 → ⊥) → refusal (aboutBytes s ++ (idKnown (bookOf s) id ∷ [])) ≡ some number
-  pub found : number ≡ 0 → Found s id place b
+  pub found : number ≡ 0 → Found s id place

@@ -1,42 +1,63 @@
-// The common beginning of every call on a user: the questions 1 to 8, the book by value, and the user's place in it.
+// The common beginning of every call on a user: the questions 1 to 8, and the user's place in the book.
+ghost use mathlib.Core.Path.{_≡_};
+ghost use Prim.Native.Nat.{_≤_};
+ghost use Rattle.format.specs.Book.{userCount, usersOf};
+ghost use Rattle.format.specs.Questions.{Formed, bookNumber};
+ghost use Rattle.format.specs.Steps.{placeOf};
 ghost use Rattle.entry.specs.Entered.{Entered};
-use book::Book;
 
-// What a call on a user begins with: the number of the first of the questions 1 to 8 that is answered by no, else 0 with the book and the user's place.
+// The place of the user of an id in a book; the number of users where there is none.
+pub fn place_of(s: &[u8], id: u32) -> usize
+    requires { ⌜ Formed (now s) ⌝ }
+    ensures { λ r. ⌜ (r ≡ placeOf (usersOf (now (s .entry))) id) × (r ≤ userCount (now (s .entry))) ⌝ }
+{
+    let n = fields::get_u8(s, 5) as usize;
+    let mut i = 0;
+    let mut a = 32;
+    while i < n {
+        if fields::get_u32(s, a) == id {
+            return i;
+        }
+        a += 56;
+        i += 1;
+    }
+    n
+}
+
+// What a call on a user begins with: the number of the first of the questions 1 to 8 that is answered by no, else 0 with the user's place.
 pub struct Entry {
     pub number: u32,
     pub place: usize,
-    pub book: Book,
 }
 
-// Asks the questions 1 to 8 of any bytes and any id.
-pub fn enter(s: &[u8], id: u32) -> Entry
-    ensures { λ r. ⌜ Entered (now (s .entry)) id (r .number) (r .place) (r .book) ⌝ }
+// Question 8, after the questions 1 to 7: their number where one is answered by no.
+pub fn seek(s: &[u8], number: u32, id: u32) -> Entry
+    requires { ⌜ number ≡ bookNumber (now s) ⌝ }
+    ensures { λ r. ⌜ Entered (now (s .entry)) id (r .number) (r .place) ⌝ }
 {
-    let opening = questions::open(s);
-    let number = opening.number;
-    let book = opening.book;
     if number != 0 {
         return Entry {
             number: number,
             place: 0,
-            book: book,
         };
     }
-    let n = book.user_count as usize;
-    let users = book.users;
-    let ids = places::ids_of(users, n);
-    let place = places::place(&ids, n, id);
+    let place = place_of(s, id);
+    let n = fields::get_u8(s, 5) as usize;
     if n <= place {
         return Entry {
             number: 8,
             place: 0,
-            book: book,
         };
     }
     Entry {
         number: 0,
         place: place,
-        book: book,
     }
+}
+
+// Asks the questions 1 to 8 of any bytes and any id.
+pub fn enter(s: &[u8], id: u32) -> Entry
+    ensures { λ r. ⌜ Entered (now (s .entry)) id (r .number) (r .place) ⌝ }
+{
+    seek(s, questions::number(s), id)
 }

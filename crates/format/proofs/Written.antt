@@ -1,5 +1,5 @@
 -- A book that is written and read again: what was written are bytes, they pass every question, and the book that they hold is the book. Assumes nothing.
-use mathlib.Core.Bool.{_&&_}
+use mathlib.Core.Bool.{_&&_, true}
 use mathlib.Core.List.{List, [], _++_, _∷_, append-assoc, append-nil}
 use mathlib.Core.Option.{none, some}
 use mathlib.Core.Path.{_≡_, refl, _∙_, ap}
@@ -8,18 +8,19 @@ use native.Mathlib.Omega.{arith}
 use lib.Dec.{T, eqb, leb→le, ltb→lt, eqb-refl, eqb→eq, leb, le→leb}
 use lib.IntN.{ℤ}
 use lib.ListN.{length, length-append, drop, getD}
-use lib.Seq.{drop-at, take-at, drop-drop}
+use lib.Seq.{sets, drop-at, take-at, drop-drop}
 use Rattle.fields.proofs.Field.{all-bytes-append, field-append, length-toBytes}
-use Rattle.fields.proofs.Pack.{all-bytes-pack, length-pack, fieldsAt-pack}
+use Rattle.fields.proofs.Pack.{all-bytes-pack, length-pack, fieldsAt-pack, setFields-sets}
 use Rattle.fields.proofs.Records.{all-bytes-records, length-bytesOfRecords, recordsOf-bytesOfRecords}
+use Rattle.fields.proofs.Sets.{sets-three}
 use Rattle.fields.specs.Field.{AllBytes, field, toBytes}
-use Rattle.fields.specs.Layout.{Every, bytesOfRecords, pack, recordsOf, size, FitAll, fieldsAt}
+use Rattle.fields.specs.Layout.{Every, bytesOfRecords, pack, recordsOf, size, FitAll, fieldsAt, setFields}
 use Rattle.format.specs.Book.{bytesOf, headerValues, headerWidths, bookOf, lengthOf, mark, markOf, tradeCount, tradesAt, tradesOf, userAt, userCount, usersOf, versionOf, pricesAt}
 use Rattle.format.specs.Questions.{partsOf, aboutBytes, aboutFields, aboutForm, bookNumber, marked, sized, tradeZerosValid, userZerosValid, versioned, Formed}
 use Rattle.laws.proofs.Bounds.{entry-le, position-bound, within-le, prices-le}
 use Rattle.laws.proofs.Refusals.{yes-first}
 use Rattle.laws.proofs.Sound.{Sound}
-use Rattle.laws.proofs.Tests.{and-l, and-r, and-i, eqb-of}
+use Rattle.laws.proofs.Tests.{and-l, and-r, and-i, eqb-of, same-test}
 use Rattle.laws.proofs.Users.{all-find, known-id}
 use Rattle.records.proofs.Trades.{all-bytes-tradeBytes, length-tradeBytes, trade-of-bytes, tradeZeros-tradeBytes}
 use Rattle.records.proofs.Users.{all-bytes-userBytes, length-userBytes, user-of-bytes, userZeros-userBytes}
@@ -57,13 +58,12 @@ user-fits b s u h p =
       blocked = omega arith;
     }
 
-every-user : (b : Book) → Sound b → (us : List User) → T (all userValid us) → T (all (positionsValid (b .trades)) us)
-    → Every (λ u. (userOf (userBytes u) ≡ u) × (length (userBytes u) ≡ 56)) us
+every-user : (b : Book) → Sound b → (us : List User) → T (all userValid us) → T (all (positionsValid (b .trades)) us) → Every FitsUser us
 unfolding all
 every-user b s [] h p = tt
 every-user b s (u ∷ us) h p =
     let v = positionsValid (b .trades) in
-    ((user-of-bytes u (user-fits b s u (and-l (userValid u) (all userValid us) h) (and-l (v u) (all v us) p)), length-userBytes u), every-user b s us (and-r (userValid u) (all userValid us) h) (and-r (v u) (all v us) p))
+    (user-fits b s u (and-l (userValid u) (all userValid us) h) (and-l (v u) (all v us) p), every-user b s us (and-r (userValid u) (all userValid us) h) (and-r (v u) (all v us) p))
 
 id-lt : (u : User) → T (userValid u) → u .party .id < 2 ^ 32
 unfolding userValid
@@ -88,12 +88,11 @@ trade-fits us t h k =
     let g = leb→le (t .standing) (t .terms .notified) (search (and-l, and-r)) in
     record { seller = s; buyer = b; area = omega arith; kind = omega arith; day = omega arith; notified = omega arith; standing = omega arith }
 
-every-trade : (us : List User) (ts : List Trade) → T (all userValid us) → T (all (tradeValid us) ts)
-    → Every (λ t. (tradeOf (tradeBytes t) ≡ t) × (length (tradeBytes t) ≡ 20)) ts
+every-trade : (us : List User) (ts : List Trade) → T (all userValid us) → T (all (tradeValid us) ts) → Every FitsTrade ts
 unfolding all
 every-trade us [] h k = tt
 every-trade us (t ∷ ts) h k =
-    ((trade-of-bytes t (trade-fits us t h (and-l (tradeValid us t) (all (tradeValid us) ts) k)), length-tradeBytes t), every-trade us ts h (and-r (tradeValid us t) (all (tradeValid us) ts) k))
+    (trade-fits us t h (and-l (tradeValid us t) (all (tradeValid us) ts) k), every-trade us ts h (and-r (tradeValid us t) (all (tradeValid us) ts) k))
 
 -- ---- what was written are bytes, as many as the counts say
 
@@ -106,6 +105,34 @@ unfolding bytesOf
 length-bytesOf b =
     rw (length-append, length-append, length-header b, length-bytesOfRecords userBytes 56 length-userBytes (b .users), length-bytesOfRecords tradeBytes 20 length-tradeBytes (b .trades))
     (omega arith)
+
+-- ---- written part by part
+
+module _ (b : Book) where
+  -- the fields of the header up to the date
+  abbrev pub startValues : List ℕ
+  startValues = mark ∷ b .header .version ∷ length (b .users) ∷ length (b .trades) ∷ b .header .date ∷ []
+
+  -- the prices and tolls of the header
+  abbrev pub priceValues : List ℕ
+  priceValues =
+      b .header .prices .p ∷ b .header .prices .q ∷ b .header .prices .l ∷ b .header .prices .x ∷ b .header .prices .i ∷ []
+
+  pub header-written : (out : List ℕ)
+      → setFields (4 ∷ 4 ∷ 4 ∷ 4 ∷ 4 ∷ []) 12 priceValues (setFields (3 ∷ 2 ∷ 1 ∷ 2 ∷ 4 ∷ []) 0 startValues out) ≡ sets out 0 (pack headerWidths (headerValues b))
+  unfolding setFields headerWidths headerValues
+  header-written out = setFields-sets headerWidths 0 (startValues ++ priceValues) out
+
+  -- header, users and trades, over bytes of the book's length
+  pub parts-written : (out : List ℕ) → length out ≡ 32 + 56 * length (b .users) + 20 * length (b .trades)
+      → sets (sets (sets out 0 (pack headerWidths (headerValues b))) 32 (bytesOfRecords userBytes (b .users))) (32 + 56 * length (b .users)) (bytesOfRecords tradeBytes (b .trades)) ≡ bytesOf b
+  unfolding bytesOf
+  parts-written out h =
+      let us = bytesOfRecords userBytes (b .users) in
+      let ts = bytesOfRecords tradeBytes (b .trades) in
+      let eu = length-bytesOfRecords userBytes 56 length-userBytes (b .users) in
+      let et = length-bytesOfRecords tradeBytes 20 length-tradeBytes (b .trades) in
+      sets-three (pack headerWidths (headerValues b)) us ts out 32 (32 + 56 * length (b .users)) (length-header b) (omega arith) (omega arith)
 
 every-of : {R : Type 0} (P : R → Type 0) → ((r : R) → P r) → (rs : List R) → Every P rs
 every-of P h [] = tt
@@ -166,49 +193,28 @@ module _ (b : Book) where
           whole = length-bytesOf b ∙ omega (arith, u, t);
         }
 
-module _ (b : Book) (s : Sound b) where
-  -- ---- the header
+-- ---- a book whose fields fit their bytes is read as it was written
 
-  record Counted : Type 0 where
-    some : 1 ≤ length (b .users)
-    users : length (b .users) ≤ 64
-    trades : length (b .trades) ≤ 256
+-- each field of a book fits its bytes
+pub record FitsBook (b : Book) : Type 0 where
+  pub header : FitAll headerWidths (headerValues b)
+  pub users : Every FitsUser (b .users)
+  pub trades : Every FitsTrade (b .trades)
 
-  counted : Counted
-  unfolding countsValid
-  counted =
-      let h = s .counts in
-      record {
-        some = leb→le 1 (length (b .users)) (search (and-l, and-r));
-        users = leb→le (length (b .users)) 64 (search (and-l, and-r));
-        trades = leb→le (length (b .trades)) 256 (search (and-l, and-r));
-      }
+every-map : {R : Type 0} {P Q : R → Type 0} → ((r : R) → P r → Q r) → (rs : List R) → Every P rs → Every Q rs
+every-map f [] h = tt
+every-map f (r ∷ rs) h = (f r (h .0), every-map f rs (h .1))
 
-  date-lt : b .header .date < 2 ^ 32
-  unfolding headerValid realDay yearOf
-  date-lt =
-      let h = s .header in
-      let y = leb→le (b .header .date / 10000) 2099 (search (and-l, and-r)) in
-      omega arith
+user-back : (u : User) → FitsUser u → (userOf (userBytes u) ≡ u) × (length (userBytes u) ≡ 56)
+user-back u f = (user-of-bytes u f, length-userBytes u)
 
-  version-one : b .header .version ≡ 1
-  unfolding versionValid
-  version-one = eqb→eq (b .header .version) 1 (s .version)
+trade-back : (t : Trade) → FitsTrade t → (tradeOf (tradeBytes t) ≡ t) × (length (tradeBytes t) ≡ 20)
+trade-back t f = (trade-of-bytes t f, length-tradeBytes t)
 
-  header-fits : FitAll headerWidths (headerValues b)
-  unfolding headerWidths headerValues mark
-  header-fits =
-      let c = counted in
-      let u = c .users in
-      let t = c .trades in
-      let f = prices-le b s in
-      let v = version-one in
-      let d = date-lt in
-      (omega arith, (omega arith, (omega arith, (omega arith, (omega arith, (omega arith, (omega arith, (omega arith, (omega arith, (omega arith, tt))))))))))
-
+module _ (b : Book) (f : FitsBook b) where
   header-fields : fieldsAt headerWidths 0 (bytesOf b) ≡ headerValues b
   unfolding bytesOf
-  header-fields = fieldsAt-pack headerWidths (headerValues b) [] (bytesOfRecords userBytes (b .users) ++ bytesOfRecords tradeBytes (b .trades)) 0 refl header-fits
+  header-fields = fieldsAt-pack headerWidths (headerValues b) [] (bytesOfRecords userBytes (b .users) ++ bytesOfRecords tradeBytes (b .trades)) 0 refl (f .header)
 
   record Header : Type 0 where
     mark : markOf (bytesOf b) ≡ mark
@@ -257,41 +263,19 @@ module _ (b : Book) (s : Sound b) where
   unfolding usersOf
   users-written =
       rw (header .users, users-part)
-      (recordsOf-bytesOfRecords 56 userOf userBytes (b .users) (bytesOfRecords tradeBytes (b .trades)) (every-user b s (b .users) (s .users) (s .positions)))
+      (recordsOf-bytesOfRecords 56 userOf userBytes (b .users) (bytesOfRecords tradeBytes (b .trades)) (every-map user-back (b .users) (f .users)))
 
   trades-written : tradesOf (bytesOf b) ≡ b .trades
   unfolding tradesOf
   trades-written =
       rw (trades-part, header .trades, ← append-nil (bytesOfRecords tradeBytes (b .trades)))
-      (recordsOf-bytesOfRecords 20 tradeOf tradeBytes (b .trades) [] (every-trade (b .users) (b .trades) (s .users) (s .trades)))
+      (recordsOf-bytesOfRecords 20 tradeOf tradeBytes (b .trades) [] (every-map trade-back (b .trades) (f .trades)))
 
-  -- reading the bytes of an accepted book gives that book
-  pub bookOf-bytesOf : bookOf (bytesOf b) ≡ b
+  -- reading the bytes of a book whose fields fit gives that book
+  pub bookOf-fits : bookOf (bytesOf b) ≡ b
   unfolding bookOf pricesAt
-  bookOf-bytesOf =
+  bookOf-fits =
       rw (header .version, header .date, header .p, header .q, header .l, header .x, header .i, users-written, trades-written)
-
-  -- ---- the questions
-
-  marked-written : T (marked (bytesOf b))
-  unfolding marked
-  marked-written =
-      and-i (leb 32 (length (bytesOf b))) (eqb (markOf (bytesOf b)) mark) (le→leb 32 (length (bytesOf b)) (omega (arith, length-bytesOf b))) (eqb-of (markOf (bytesOf b)) mark (header .mark))
-
-  versioned-written : T (versioned (bytesOf b))
-  unfolding versioned
-  versioned-written = eqb-of (versionOf (bytesOf b)) 1 (header .version ∙ version-one)
-
-  sized-written : T (sized (bytesOf b))
-  unfolding sized lengthOf tradesAt userAt
-  sized-written =
-      let c = counted in
-      let n = length (b .users) in
-      let m = length (b .trades) in
-      rw (header .users, header .trades, length-bytesOf b)
-      (and-i (leb 1 n && leb n 64) (leb m 256 && eqb (32 + 56 * n + 20 * m) (32 + 56 * n + 20 * m))
-      (and-i (leb 1 n) (leb n 64) (le→leb 1 n (c .some)) (le→leb n 64 (c .users)))
-      (and-i (leb m 256) (eqb (32 + 56 * n + 20 * m) (32 + 56 * n + 20 * m)) (le→leb m 256 (c .trades)) (eqb-refl (32 + 56 * n + 20 * m))))
 
   user-zeros-written : T (userZerosValid (bytesOf b))
   unfolding userZerosValid
@@ -304,28 +288,105 @@ module _ (b : Book) (s : Sound b) where
       rw (header .trades, trades-part, ← append-nil (bytesOfRecords tradeBytes (b .trades)))
       (written-zeros tradeZeros 20 tradeBytes length-tradeBytes tradeZeros-tradeBytes (b .trades) [])
 
-  users-valid-written : T (userZerosValid (bytesOf b) && usersValid (usersOf (bytesOf b)))
-  unfolding usersValid
-  users-valid-written =
-      and-i (userZerosValid (bytesOf b)) (usersValid (usersOf (bytesOf b))) user-zeros-written
-      (rw users-written (and-i (idsRise 0 (b .users)) (all userValid (b .users)) (s .ids) (s .users)))
+  -- the questions 4 to 7 of its bytes are those of its fields: every zero byte is written
+  pub fields-written : aboutFields (bytesOf b)
+      ≡ record { number = 4; holds = headerValid (b .header) }
+      ∷ (record { number = 5; holds = usersValid (b .users) }
+      ∷ (record { number = 6; holds = all (tradeValid (b .users)) (b .trades) }
+      ∷ (record { number = 7; holds = all (positionsValid (b .trades)) (b .users) } ∷ [])))
+  unfolding aboutFields
+  fields-written =
+      rw
+      (bookOf-fits, users-written, trades-written, same-test (userZerosValid (bytesOf b)) true (λ t. tt) (λ t. user-zeros-written), same-test (tradeZerosValid (bytesOf b)) true (λ t. tt) (λ t. trade-zeros-written))
 
-  trades-valid-written : T (tradeZerosValid (bytesOf b) && all (tradeValid (usersOf (bytesOf b))) (tradesOf (bytesOf b)))
-  trades-valid-written =
-      and-i (tradeZerosValid (bytesOf b)) (all (tradeValid (usersOf (bytesOf b))) (tradesOf (bytesOf b))) trade-zeros-written (rw (users-written, trades-written) (s .trades))
+module _ (b : Book) (s : Sound b) where
+  -- ---- the header
+
+  record Counted : Type 0 where
+    some : 1 ≤ length (b .users)
+    users : length (b .users) ≤ 64
+    trades : length (b .trades) ≤ 256
+
+  counted : Counted
+  unfolding countsValid
+  counted =
+      let h = s .counts in
+      record {
+        some = leb→le 1 (length (b .users)) (search (and-l, and-r));
+        users = leb→le (length (b .users)) 64 (search (and-l, and-r));
+        trades = leb→le (length (b .trades)) 256 (search (and-l, and-r));
+      }
+
+  date-lt : b .header .date < 2 ^ 32
+  unfolding headerValid realDay yearOf
+  date-lt =
+      let h = s .header in
+      let y = leb→le (b .header .date / 10000) 2099 (search (and-l, and-r)) in
+      omega arith
+
+  version-one : b .header .version ≡ 1
+  unfolding versionValid
+  version-one = eqb→eq (b .header .version) 1 (s .version)
+
+  -- every field of an accepted book fits
+  sound-fits : FitsBook b
+  unfolding headerWidths headerValues mark
+  sound-fits =
+      let c = counted in
+      let u = c .users in
+      let t = c .trades in
+      let f = prices-le b s in
+      let v = version-one in
+      let d = date-lt in
+      record {
+        header = (omega arith, (omega arith, (omega arith, (omega arith, (omega arith, (omega arith, (omega arith, (omega arith, (omega arith, (omega arith, tt))))))))));
+        users = every-user b s (b .users) (s .users) (s .positions);
+        trades = every-trade (b .users) (b .trades) (s .users) (s .trades);
+      }
+
+  -- reading the bytes of an accepted book gives that book
+  pub bookOf-bytesOf : bookOf (bytesOf b) ≡ b
+  bookOf-bytesOf = bookOf-fits b sound-fits
+
+  -- ---- the questions
+
+  marked-written : T (marked (bytesOf b))
+  unfolding marked
+  marked-written =
+      and-i (leb 32 (length (bytesOf b))) (eqb (markOf (bytesOf b)) mark) (le→leb 32 (length (bytesOf b)) (omega (arith, length-bytesOf b))) (eqb-of (markOf (bytesOf b)) mark (header b sound-fits .mark))
+
+  versioned-written : T (versioned (bytesOf b))
+  unfolding versioned
+  versioned-written = eqb-of (versionOf (bytesOf b)) 1 (header b sound-fits .version ∙ version-one)
+
+  sized-written : T (sized (bytesOf b))
+  unfolding sized lengthOf tradesAt userAt
+  sized-written =
+      let c = counted in
+      let n = length (b .users) in
+      let m = length (b .trades) in
+      rw (header b sound-fits .users, header b sound-fits .trades, length-bytesOf b)
+      (and-i (leb 1 n && leb n 64) (leb m 256 && eqb (32 + 56 * n + 20 * m) (32 + 56 * n + 20 * m))
+      (and-i (leb 1 n) (leb n 64) (le→leb 1 n (c .some)) (le→leb n 64 (c .users)))
+      (and-i (leb m 256) (eqb (32 + 56 * n + 20 * m) (32 + 56 * n + 20 * m)) (le→leb m 256 (c .trades)) (eqb-refl (32 + 56 * n + 20 * m))))
+
+  users-valid : T (usersValid (b .users))
+  unfolding usersValid
+  users-valid = and-i (idsRise 0 (b .users)) (all userValid (b .users)) (s .ids) (s .users)
 
   -- what was written passes every question
   pub none-refuses-written : refusal (aboutBytes (bytesOf b)) ≡ none
-  unfolding aboutBytes aboutForm aboutFields refusal
+  unfolding aboutBytes aboutForm refusal
   none-refuses-written =
       rw (
         yes-first 1 _ _ marked-written,
         yes-first 2 _ _ versioned-written,
         yes-first 3 _ _ sized-written,
-        yes-first 4 (headerValid (bookOf (bytesOf b) .header)) _ (rw bookOf-bytesOf (s .header)),
-        yes-first 5 _ _ users-valid-written,
-        yes-first 6 _ _ trades-valid-written,
-        yes-first 7 (all (positionsValid (tradesOf (bytesOf b))) (usersOf (bytesOf b))) _ (rw (users-written, trades-written) (s .positions)),
+        fields-written b sound-fits,
+        yes-first 4 (headerValid (b .header)) _ (s .header),
+        yes-first 5 (usersValid (b .users)) _ users-valid,
+        yes-first 6 (all (tradeValid (b .users)) (b .trades)) _ (s .trades),
+        yes-first 7 (all (positionsValid (b .trades)) (b .users)) _ (s .positions),
       )
 
   pub written-number : bookNumber (bytesOf b) ≡ 0

@@ -14,27 +14,24 @@ use Rattle.rules.specs.Queries.{aboutQuery, aLevel, found, onlyNumber}
 use Rattle.rules.specs.Changes.{blockedTo}
 use Rattle.fields.specs.Field.{AllBytes}
 use Rattle.records.specs.User.{asUser, userBytes}
-use Rattle.records.specs.declared.User as code
 use Rattle.format.specs.Book.{bookOf, userAt}
 use Rattle.format.specs.Questions.{aboutBytes}
 use Rattle.format.specs.Steps.{inBytes, replyBytes, stepBytes}
 use Rattle.format.proofs.OneUser.{changed-bytes}
 use Rattle.format.proofs.Passed.{passed}
-use Rattle.book.specs.declared.Book as struct
-use Rattle.book.specs.Book.{asBook}
-use Rattle.risk.specs.Ready.{userIn}
+use Rattle.account.specs.Account.{AccountAt}
+use Rattle.account.specs.declared.Account.{Account}
 use Rattle.entry.specs.Entered.{Found}
-use Rattle.entry.proofs.Calls.{call-found, call-refused, query-refused, query-found}
-use Rattle.found.proofs.User.{found-in, found-role}
+use Rattle.entry.proofs.Calls.{call-found, call-refused, query-refused, query-found, read-role, read-user}
 use Rattle.guarantee.specs.Times.{levelOf, dueOf, queryOf, callOf}
 use Rattle.guarantee.specs.Answers.{lastQuestions, raised}
 
--- ---- the user that the entry found
+-- ---- the account of the user that the entry found
 
-module _ {s : List ℕ} {id place : ℕ} {b : struct.Book} (f : Found s id place b) where
-  -- its level is the same in the bytes
-  pub level-same : (afternoon : Bool) {l m : Limits} → l ≡ m → levelOf afternoon l (asBook b) (asUser (userIn b place)) ≡ levelOf afternoon m (bookOf s) (find (bookOf s .users) id)
-  level-same afternoon e = cc (e, f .read .book, found-in f)
+module _ {s : List ℕ} {id place : ℕ} {a : Account} (f : Found s id place) (h : AccountAt s place a) where
+  -- its level is that of the user of the id
+  pub account-level : (afternoon : Bool) {l m : Limits} → l ≡ m → levelOf afternoon l (bookOf s) (asUser (a .user)) ≡ levelOf afternoon m (bookOf s) (find (bookOf s .users) id)
+  account-level afternoon e = cc (e, read-user (a .user) f (h .user))
 
 -- ---- a level
 
@@ -52,7 +49,7 @@ module _ (limits : Limits) (s : List ℕ) (id : ℕ) (afternoon : Bool) where
   pub level-refused : (n : ℕ) → refusal (aboutBytes s ++ (idKnown (bookOf s) id ∷ [])) ≡ some n → onlyNumber n ≡ replyBytes limits s (queryOf afternoon id)
   level-refused n h = rw (query-refused limits s id (isShipper (find (bookOf s .users) id) ∷ []) (queryOf afternoon id) (query-asks (bookOf s) id afternoon) n h)
 
-  module _ {place : ℕ} {b : struct.Book} (f : Found s id place b) where
+  module _ {place : ℕ} (f : Found s id place) where
     pub level-of-house : (find (bookOf s .users) id .party .role ≡ 0 → ⊥) → onlyNumber 9 ≡ replyBytes limits s (queryOf afternoon id)
     unfolding isShipper shipper refusal decided
     level-of-house h =
@@ -114,7 +111,7 @@ module _ (limits : Limits) (s : List ℕ) (id : ℕ) (afternoon : Bool) where
   pub call-unentered : (n : ℕ) → refusal (aboutBytes s ++ (idKnown (bookOf s) id ∷ [])) ≡ some n → stepBytes limits s (callOf afternoon id) ≡ record { answer = only n; bytes = s }
   call-unentered n h = call-refused limits s id (isShipper user ∷ lastQuestions due level user) (callOf afternoon id) (call-asks limits (bookOf s) id afternoon) n h
 
-  module _ {place : ℕ} {b : struct.Book} (f : Found s id place b) where
+  module _ {place : ℕ} (f : Found s id place) where
     pub call-of-house : (find (bookOf s .users) id .party .role ≡ 0 → ⊥) → stepBytes limits s (callOf afternoon id) ≡ record { answer = only 9; bytes = s }
     unfolding isShipper shipper refusal decided
     call-of-house h =
@@ -135,10 +132,10 @@ module _ (limits : Limits) (s : List ℕ) (id : ℕ) (afternoon : Bool) where
         rw (call-found limits s id (isShipper user ∷ lastQuestions due level user) (callOf afternoon id) (call-asks limits (bookOf s) id afternoon) f, eq-eqb (user .party .role) 0 k)
         (ap (decided (refusal (lastQuestions due level user)) (λ n. record { answer = only n; bytes = s })) (effect-bytes h))
 
-    -- with the user, the level and the answer to question 11 of the struct
-    pub call-ends : AllBytes s → {l : Limits} {u : code.User} {n : ℕ} {d : Bool} → l ≡ limits → u ≡ userIn b place → u .role ≡ 0
-        → n ≡ levelOf afternoon l (asBook b) (asUser (userIn b place)) → d ≡ dueOf afternoon l (asBook b) n (asUser (userIn b place))
-        → raised s place (asUser u) n d ≡ stepBytes limits s (callOf afternoon id)
-    call-ends h {l} {u} {n} {d} e v k m w =
-        let x : raised s place (asUser u) n d ≡ raised s place user level due = cc (e, v, m, w, found-in f, f .read .book) in
-        x ∙ sym (call-raised h (sym (found-role f v) ∙ k))
+    -- with the user, the level and the answer to question 11 of the account
+    pub call-ends : AllBytes s → {a : Account} {l : Limits} {n : ℕ} {d : Bool} → AccountAt s place a → l ≡ limits → a .user .role ≡ 0
+        → n ≡ levelOf afternoon l (bookOf s) (asUser (a .user)) → d ≡ dueOf afternoon l (bookOf s) n (asUser (a .user))
+        → raised s place (asUser (a .user)) n d ≡ stepBytes limits s (callOf afternoon id)
+    call-ends h {a} {l} {n} {d} held e k m w =
+        let x : raised s place (asUser (a .user)) n d ≡ raised s place user level due = cc (e, m, w, read-user (a .user) f (held .user)) in
+        x ∙ sym (call-raised h (sym (read-role (a .user) f (held .user)) ∙ k))

@@ -1,33 +1,39 @@
 // The levels and the guarantee calls on a lent book in bytes: the morning or the afternoon level of a user, and the call that raises its blocked guarantee to it.
 // Both times of the day go one way, with the level of the time.
-use book::Book;
+use account::Account;
 use levels::Limits;
 use records::User;
 use units::Cents;
 ghost use mathlib.Core.Path.{_≡_};
+ghost use mathlib.Core.List.{List};
+ghost use Prim.Native.Nat.{ℕ};
 ghost use Rattle.rules.specs.Levels.{today};
 ghost use Rattle.rules.specs.Calls.{only, morningCall, afternoonCall};
 ghost use Rattle.rules.specs.Queries.{morningLevelOf, afternoonLevelOf};
 ghost use Rattle.records.specs.User.{asUser};
+ghost use Rattle.format.specs.Book.{bookOf};
+ghost use Rattle.format.specs.Questions.{Formed};
 ghost use Rattle.format.specs.Steps.{replyBytes, Called};
-ghost use Rattle.book.specs.Book.{asBook};
 ghost use Rattle.levels.specs.Limits.{asLimits, LimitsInRange};
-ghost use Rattle.risk.specs.Ready.{userIn, Ready};
+ghost use Rattle.account.specs.Account.{Ready, AccountIn};
 ghost use Rattle.guarantee.specs.Times.{levelOf, dueOf, queryOf, callOf};
 ghost use Rattle.guarantee.specs.Answers.{replyOf, answerOf, Raisable, raised};
 
 // ---- the levels
 
-// The level of the user at a place: the afternoon's or the morning's.
-fn level_at(b: Book, i: usize, limits: Limits, afternoon: bool) -> Cents
-    requires { ⌜ Ready b i ⌝ }
+// The level of the user of an account, the afternoon's or the morning's: in every book that the account is of.
+fn level_of(account: Account, limits: Limits, afternoon: bool) -> Cents
+    requires { ⌜ Ready account ⌝ }
     requires { ⌜ LimitsInRange (asLimits limits) ⌝ }
-    ensures { λ r. ⌜ r .0 ≡ levelOf afternoon (asLimits limits) (asBook b) (asUser (userIn b i)) ⌝ }
+    ensures { λ r. ⌜ ((s : List ℕ) → AccountIn s account → r .0 ≡ levelOf afternoon (asLimits limits) (bookOf s) (asUser (account .user))) ⌝ }
 {
+    let user = account.user;
+    let prices = account.prices;
+    let dealings = account.dealings;
     if afternoon {
-        return risk::afternoon_level_at(b, i, limits);
+        return levels::afternoon_level(limits, prices, user, dealings);
     }
-    risk::morning_level_at(b, i, limits)
+    levels::morning_level(limits, prices, user, dealings)
 }
 
 // A level, and 0; or 0 cents and the number of the first question that is answered by no.
@@ -49,8 +55,8 @@ fn level(book: &[u8], id: u32, afternoon: bool) -> LevelAnswer
             level: Cents(0),
         };
     }
-    let b = entry.book;
-    let user = risk::user_at(b, place);
+    let account = account::account_at(book, place);
+    let user = account.user;
     if user.role != 0 {
         return LevelAnswer {
             number: 9,
@@ -58,7 +64,7 @@ fn level(book: &[u8], id: u32, afternoon: bool) -> LevelAnswer
         };
     }
     let limits = Limits::today();
-    let level = level_at(b, place, limits, afternoon);
+    let level = level_of(account, limits, afternoon);
     LevelAnswer {
         number: 0,
         level: level,
@@ -99,18 +105,20 @@ fn refused(number: u32) -> CallAnswer
     }
 }
 
-// Question 11 of the user at a place: does the level exceed blocked by more than the margin, and in the afternoon, is the user called in?
-fn is_due(b: Book, i: usize, limits: Limits, level: Cents, afternoon: bool) -> bool
-    requires { ⌜ Ready b i ⌝ }
+// Question 11 of the user of an account: does the level exceed blocked by more than the margin, and in the afternoon, is the user called in?
+fn is_due(book: &[u8], account: Account, limits: Limits, level: Cents, afternoon: bool) -> bool
+    requires { ⌜ Formed (now book) ⌝ }
+    requires { ⌜ AccountIn (now book) account ⌝ }
+    requires { ⌜ Ready account ⌝ }
     requires { ⌜ LimitsInRange (asLimits limits) ⌝ }
-    ensures { λ r. ⌜ r ≡ dueOf afternoon (asLimits limits) (asBook b) (level .0) (asUser (userIn b i)) ⌝ }
+    ensures { λ r. ⌜ r ≡ dueOf afternoon (asLimits limits) (bookOf (now (book .entry))) (level .0) (asUser (account .user)) ⌝ }
 {
-    let user = risk::user_at(b, i);
+    let user = account.user;
     if !levels::exceeds_margin(limits, level, user) {
         return false;
     }
     if afternoon {
-        return risk::called_in_at(b, i, limits);
+        return account::called_in(book, account, limits);
     }
     true
 }
@@ -150,14 +158,14 @@ fn call(book: &mut [u8], id: u32, afternoon: bool) -> CallAnswer
     if number != 0 {
         return refused(number);
     }
-    let b = entry.book;
-    let user = risk::user_at(b, place);
+    let account = account::account_at(book, place);
+    let user = account.user;
     if user.role != 0 {
         return refused(9);
     }
     let limits = Limits::today();
-    let level = level_at(b, place, limits, afternoon);
-    let due = is_due(b, place, limits, level, afternoon);
+    let level = level_of(account, limits, afternoon);
+    let due = is_due(book, account, limits, level, afternoon);
     raise(book, place, user, level, due)
 }
 

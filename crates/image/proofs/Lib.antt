@@ -1,5 +1,5 @@
--- Stores one after the other, the front of records that were read, parts filled one after the other, and the round trip of an image.
+-- Stores one after the other, the book of an image's fields, parts filled one after the other, and the round trip of an image.
 pub mod Storing
-mod Fronts
+mod Fields
 mod Copied
 pub mod RoundTrip

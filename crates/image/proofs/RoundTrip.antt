@@ -1,11 +1,11 @@
 -- The image of a book's bytes has that book's fields: what `read` writes to an image, `write` reads from it. Assumes nothing.
-use mathlib.Core.Path.{_≡_, refl, sym, ap, _∙_}
-use mathlib.Core.List.{List, _∷_, _++_, append-assoc}
-use Prim.Native.Nat.{ℕ, zero, suc, _+_, _*_, _≤_}
-use native.Mathlib.Nat.{le-of-suc-le-suc, not-suc-le-zero, mul-suc, zero-add}
+use mathlib.Core.Path.{_≡_, sym, ap, _∙_}
+use mathlib.Core.List.{List, _++_, append-assoc}
+use Prim.Native.Nat.{ℕ, _+_, _*_, _≤_}
+use native.Mathlib.Nat.{zero-add}
 use native.Mathlib.Omega.{arith}
 use lib.ListN.{length, take, drop, length-append, length-take, length-drop, take-append-drop}
-use lib.Seq.{length-take-le, take-at, drop-at, take-append-le, drop-append-le}
+use lib.Seq.{length-take-le, take-at, drop-at}
 use Rattle.fields.specs.Field.{field, AllBytes}
 use Rattle.fields.specs.Layout.{recordsOf}
 use Rattle.fields.proofs.Field.{field-part}
@@ -15,30 +15,16 @@ use Rattle.format.specs.Book.{userCount, tradeCount, versionOf, tradesAt, userA
 use Rattle.format.specs.Questions.{Formed}
 use Rattle.format.proofs.Passed.{Passed}
 use Rattle.format.proofs.Round.{bytesOf-bookOf}
+use Rattle.copying.proofs.Turns.{records-front}
 use Rattle.image.specs.Image.{padded, imageOf, imageBook}
 use Rattle.image.proofs.Copied.{length-padded}
+use Rattle.image.proofs.Fields.{take-records}
 
 module _ {R : Type 0} (len : ℕ) (one : List ℕ → R) where
-  -- the first n of m records are n records
-  take-records : (n m : ℕ) (s : List ℕ) → n ≤ m → take n (recordsOf len one m s) ≡ recordsOf len one n s
-  unfolding recordsOf
-  take-records zero m s h = refl
-  take-records (suc n) zero s h = absurd (not-suc-le-zero h)
-  take-records (suc n) (suc m) s h = ap (λ r. one (take len s) ∷ r) (take-records n m (drop len s) (le-of-suc-le-suc h))
-
-  -- records that fill the front of a list do not depend on what stands behind them
-  records-front : (n : ℕ) (p q : List ℕ) → length p ≡ len * n → recordsOf len one n (p ++ q) ≡ recordsOf len one n p
-  unfolding recordsOf
-  records-front zero p q h = refl
-  records-front (suc n) p q h =
-      let e : len * suc n ≡ len * n + len = mul-suc len n in
-      let f : length (drop len p) ≡ len * n = rw length-drop (omega (arith, e, h)) in
-      rw (take-append-le len p q (omega (arith, e, h)), drop-append-le len p q (omega (arith, e, h)), records-front n (drop len p) q f)
-
-  -- nor on what they are padded with
+  -- records that fill the front of a list do not depend on what they are padded with
   records-padded : (n room : ℕ) (p q : List ℕ) → length p ≡ len * n → recordsOf len one n (padded room p ++ q) ≡ recordsOf len one n p
   unfolding padded
-  records-padded n room p q h = rw append-assoc (records-front n p _ h)
+  records-padded n room p q h = rw append-assoc (records-front len one n p _ h)
 
 module _ (s : List ℕ) (f : Formed s) where
   header-length : length (take 32 s) ≡ 32

@@ -1,17 +1,15 @@
 -- An image is the fields of a book in 8,736 bytes, whatever its counts: the header, then always 64 users and 256 trades in the book's format. Assumes nothing.
 use mathlib.Core.Path.{_≡_}
 use mathlib.Core.List.{List, _++_}
-use Prim.Native.Nat.{ℕ, _-_, _*_}
+use Prim.Native.Nat.{ℕ, _-_, _*_, _≤_}
 use lib.ListN.{length, take, drop, replicate}
 use Rattle.rules.specs.Book as model
 use Rattle.rules.specs.Questions.{refusal, decided}
 use Rattle.fields.specs.Layout.{recordsOf}
 use Rattle.records.specs.User.{userOf}
 use Rattle.records.specs.Trade.{tradeOf}
-use Rattle.format.specs.Book.{userCount, tradeCount, tradesAt, bookOf}
+use Rattle.format.specs.Book.{versionOf, userCount, tradeCount, tradesAt, bookOf}
 use Rattle.format.specs.Questions.{aboutBytes, bookNumber}
-use Rattle.book.specs.declared.Book.{Book}
-use Rattle.book.specs.Book.{asBook}
 
 -- bytes with 0 behind them, up to a length
 unfoldable pub padded : ℕ → List ℕ → List ℕ
@@ -43,8 +41,12 @@ imageBook s =
       trades = take (tradeCount s) (recordsOf 20 tradeOf 256 (drop 3616 s));
     }
 
--- a struct with an image's fields
-pub record FieldsOf (s : List ℕ) (b : Book) : Type 0 where
-  pub book : asBook b ≡ imageBook s
-  pub users : b .«user_count» ≡ userCount s
-  pub trades : b .«trade_count» ≡ tradeCount s
+-- an image of version 1 whose counts are n users and m trades, in range
+pub record CountsOf (s : List ℕ) (n m : ℕ) : Type 0 where
+  pub whole : length s ≡ 8736
+  pub version : versionOf s ≡ 1
+  pub users : n ≡ userCount s
+  pub trades : m ≡ tradeCount s
+  pub some : 1 ≤ n
+  pub few : n ≤ 64
+  pub many : m ≤ 256

@@ -1,17 +1,16 @@
 -- The lots of a seller's sales can be lent to the cuts, and the cuts taken off and tallied. Assumes nothing.
 use mathlib.Core.Bool.{Bool, true, false, not, cond}
 use mathlib.Core.List.{List, map}
-use mathlib.Core.Path.{_≡_, refl, sym, ap, ap₂, subst, _∙_}
-use Prim.Native.Nat.{ℕ, _+_, _-_, _≤_, _<_}
+use mathlib.Core.Path.{_≡_, sym, ap, _∙_}
+use Prim.Native.Nat.{ℕ, _+_, _-_, _≤_}
 use native.Mathlib.Omega.{arith}
-use lib.Dec.{eqb}
 use lib.ListN.{length, getD, length-map, List·getD-eq-default}
-use Rattle.cuts.proofs.Together.{together-length, together-at, cuts-small}
+use Rattle.cuts.proofs.Together.{together-length, together-at}
 use Rattle.cuts.specs.Cuts.{Lent}
 use Rattle.dealings.specs.declared.Amounts.{Amounts}
 use Rattle.integers.proofs.Linear.{by-order}
 use Rattle.ledger.proofs.Filling.{tariff-at}
-use Rattle.ledger.specs.Ledger.{shortBy, cutsOf, Room, Spare, LotsOf, Sales, Lowering, Tallying}
+use Rattle.ledger.specs.Ledger.{shortBy, cutsOf, Spare, LotsOf, Sales, Lowering, Tallying}
 use Rattle.rules.specs.Areas.{Prices, tariff}
 use Rattle.rules.specs.Reduction.{together}
 use Rattle.rules.specs.Shares.{tierCuts, tierWorth}

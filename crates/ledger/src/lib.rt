@@ -5,6 +5,7 @@ ghost use mathlib.Core.Path.{_≡_};
 ghost use Prim.Native.Nat.{_≤_};
 ghost use lib.Dec.{ltb};
 ghost use lib.ListN.{length};
+ghost use Rattle.rules.specs.Areas.{tariff};
 ghost use Rattle.rules.specs.Book as model;
 ghost use Rattle.rules.specs.Lists.{any};
 ghost use Rattle.rules.specs.Reduction.{nothing, tallyAll};
@@ -19,6 +20,14 @@ use units::Mwh;
 use units::Price;
 use units::Prices;
 use worths::Tally;
+
+// What a cut in an area is priced at: the tariff of the area.
+fn price_in(area: u8, prices: Prices) -> Price
+    requires { ⌜ InRange (asPrices prices) ⌝ }
+    ensures { λ r. ⌜ (r .0 ≡ tariff (asPrices prices) area) × (r .0 ≤ 100000) ⌝ }
+{
+    Area(area).tariff(prices)
+}
 
 // An amount that is in a tier, 0 where it is not.
 fn counted(is: bool, amount: u64) -> u64
@@ -47,7 +56,7 @@ fn fill_lots<'a>(
     while i < standing.len() {
         let area = areas[i];
         let amount = standing[i];
-        let price = Area(area).tariff(prices);
+        let price = price_in(area, prices);
         let is = 0 < short.of(area).0;
         tariffs[i] = price.0;
         one[i] = counted(is, amount);
@@ -79,8 +88,44 @@ fn fill_cuts<'a>(
     cuts::fill_cuts(one, two, tariffs, asked, first, second, rests, cuts);
 }
 
-// Fills in what each sale loses where the seller is reduced for an amount.
-fn sale_cuts<'a>(
+// Fills in what each of at most 32 sales loses where the seller is reduced for an amount.
+fn few_cuts<'a>(
+    standing: &'a [u64],
+    areas: &'a [u8],
+    short: Amounts,
+    prices: Prices,
+    asked: Cents,
+    cuts: &mut [u64],
+)
+    requires { ⌜ length (now standing) ≤ 32 ⌝ }
+    requires { ⌜ InRange (asPrices prices) × Sales (now standing) (now areas) (now cuts) ⌝ }
+    ensures { λ _. ⌜ now (cuts .exit) ≡ cutsOf (asPrices prices) short (asked .0) (now (standing .entry)) (now (areas .entry)) ⌝ }
+{
+    let n = standing.len();
+    let mut tariffs = [0u32; 32];
+    let mut one = [0u64; 32];
+    let mut two = [0u64; 32];
+    let mut first = [0u64; 32];
+    let mut second = [0u64; 32];
+    let mut rests = [0u64; 32];
+    fill_cuts(
+        standing,
+        areas,
+        short,
+        prices,
+        asked,
+        &mut tariffs[..n],
+        &mut one[..n],
+        &mut two[..n],
+        &mut first[..n],
+        &mut second[..n],
+        &mut rests[..n],
+        cuts,
+    );
+}
+
+// The same of at most 256 sales.
+fn many_cuts<'a>(
     standing: &'a [u64],
     areas: &'a [u8],
     short: Amounts,
@@ -114,6 +159,25 @@ fn sale_cuts<'a>(
     );
 }
 
+// Fills in what each sale loses where the seller is reduced for an amount. Most sellers have few sales, and clearing room for 256 takes longer than their cuts.
+fn sale_cuts<'a>(
+    standing: &'a [u64],
+    areas: &'a [u8],
+    short: Amounts,
+    prices: Prices,
+    asked: Cents,
+    cuts: &mut [u64],
+)
+    requires { ⌜ InRange (asPrices prices) × Sales (now standing) (now areas) (now cuts) ⌝ }
+    ensures { λ _. ⌜ now (cuts .exit) ≡ cutsOf (asPrices prices) short (asked .0) (now (standing .entry)) (now (areas .entry)) ⌝ }
+{
+    if standing.len() <= 32 {
+        few_cuts(standing, areas, short, prices, asked, cuts);
+        return;
+    }
+    many_cuts(standing, areas, short, prices, asked, cuts);
+}
+
 // Takes the cuts off what stands.
 fn lower(standing: &mut [u64], cuts: &[u64])
     requires { ⌜ Lowering (now standing) (now cuts) ⌝ }
@@ -136,7 +200,7 @@ fn tally_of<'a>(cuts: &'a [u64], areas: &'a [u8], prices: Prices) -> Tally
     while i < cuts.len() {
         let area = areas[i];
         let cut = cuts[i];
-        let price = Area(area).tariff(prices);
+        let price = price_in(area, prices);
         tally = tally.with(Mwh(cut), price);
         i += 1;
     }

@@ -1,5 +1,5 @@
--- Laws of a run's book in lists: a reduction of the next user can be made on them, and leaves the lists of the rules' book.
+-- Laws of a run's book in lists: the parts of each user, what stays through a run, and what a reduction of the next user leaves.
 pub mod Places
-pub mod Room
-pub mod Settled
+pub mod Parts
+pub mod Stay
 pub mod Turned

@@ -1,32 +1,16 @@
 -- The place of the user of an id, and the same users by their parties. Assumes nothing.
-use mathlib.Core.Bool.{Bool, true, false, _||_}
-use mathlib.Core.List.{List, [], _∷_, map, map-map}
-use mathlib.Core.Path.{_≡_, refl, sym, ap, subst, _∙_}
+use mathlib.Core.List.{List, map, map-map}
+use mathlib.Core.Path.{_≡_, sym, ap, _∙_}
 use Prim.Native.Nat.{ℕ, _<_}
-use native.Mathlib.Omega.{arith}
-use lib.Dec.{T, eqb, ltb, eqb→eq, ltb→lt}
+use lib.Dec.{T, eqb}
 use lib.ListN.{length, getD}
-use Rattle.format.proofs.OneUser.{place-known}
 use Rattle.format.specs.Steps.{placeOf}
 use Rattle.places.proofs.Known.{placeIn-placeOf}
 use Rattle.places.specs.Ids.{placeIn, idsOf}
+use Rattle.reducing.proofs.Own.{place-id, place-inside}
 use Rattle.rules.specs.Book.{Party, User, nobody}
-use Rattle.rules.specs.Lists.{any}
 use Rattle.rules.specs.Questions.{known, idsRise}
-use Rattle.sales.proofs.Kept.{by-case}
 use Rattle.sales.proofs.Settled.{same-place}
-
--- the user of a known id stands at its place
-pub place-inside : (us : List User) (id : ℕ) → T (known us id) → placeOf us id < length us
-place-inside us id k = ltb→lt (placeOf us id) (length us) (subst T (sym (place-known us id)) k)
-
-pub place-id : (us : List User) (id : ℕ) → T (known us id) → getD us (placeOf us id) nobody .party .id ≡ id
-unfolding placeOf known any
-place-id [] id k = absurd k
-place-id (u ∷ us) id k =
-    by-case (eqb (u .party .id) id)
-    (λ e. rw e (eqb→eq (u .party .id) id (subst T (sym e) tt)))
-    (λ e. rw e (place-id us id (rw e at k)))
 
 -- users who are the same parties have the same places
 pub place-same : (us vs : List User) (id : ℕ) → map (λ v. v .party) vs ≡ map (λ u. u .party) us → placeOf vs id ≡ placeOf us id

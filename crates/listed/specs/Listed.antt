@@ -1,37 +1,47 @@
--- A run's book as the code's lists have it: what stays through the run, and what each reduction changes. Assumes nothing.
+-- A book as a run's lists have it: what stays through the run, and what each reduction changes. Assumes nothing.
 use mathlib.Core.Bool.{Bool, false}
-use mathlib.Core.List.{List, map}
+use mathlib.Core.List.{List}
 use mathlib.Core.Path.{_≡_}
-use Prim.Native.Nat.{ℕ, _+_, _≤_, _<_}
-use lib.ListN.{length, take, getD}
-use Rattle.cover.specs.Cover.{noDealings}
-use Rattle.dealings.specs.Dealt.{Dealt}
-use Rattle.dealings.specs.Parties.{cutBefore}
-use Rattle.dealings.specs.declared.Dealings.{Dealings}
+use Prim.Native.Nat.{ℕ, _+_, _*_, _≤_, _<_}
+use lib.ListN.{length, getD}
+use Rattle.cover.specs.Cover.{Bounded}
+use Rattle.format.specs.Book.{bookOf, tradesAt}
 use Rattle.format.specs.Steps.{placeOf}
-use Rattle.records.specs.User.{asUser}
-use Rattle.records.specs.declared.User.{User}
-use Rattle.rules.specs.Book.{Book, nobody}
+use Rattle.held.specs.Held.{HeldAs}
+use Rattle.laws.proofs.Sound.{Sound}
+use Rattle.rules.specs.Areas.{Prices}
+use Rattle.rules.specs.Book.{Book, nobody, sold, bought}
 use Rattle.rules.specs.Levels.{Limits, shortOfCover}
-use Rattle.sales.specs.Groups.{starts, termsOf, areasOf}
-use Rattle.sales.specs.Represented.{Represented}
+use Rattle.sales.specs.Groups.{grouped, standings, starts, places, termsOf, areasOf}
 
--- what stays: of all own sales of the opening book the areas and the places of the buyers, where each user's start, and what each user dealt
-pub record ListsOf (o : Book) (ds : List Dealings) (ss areaCodes bs : List ℕ) : Type 0 where
-  pub starts-length : length ss ≡ length (o .users) + 1
-  pub starts-at : (i : ℕ) → i ≤ length (o .users) → getD ss i 0 ≡ starts o i
-  pub areas : areaCodes ≡ areasOf o
-  pub buyers : bs ≡ termsOf (λ r. placeOf (o .users) (r .buyer)) o
-  pub dealt : (i : ℕ) → i < length (o .users) → Dealt 256 (getD (o .users) i nobody .party .id) (o .trades) (getD ds i noDealings)
+-- what each user of a book sold and bought for d+1: three areas for each place
+pub record NextDealt (b : Book) (sells buys : List ℕ) : Type 0 where
+  pub sold-bounded : Bounded sells
+  pub bought-bounded : Bounded buys
+  pub sold-at : (i area : ℕ) → i < length (b .users) → area < 3 → getD sells (3 * i + area) 0 ≡ sold (b .trades) (getD (b .users) i nobody .party .id) area 1
+  pub bought-at : (i area : ℕ) → i < length (b .users) → area < 3 → getD buys (3 * i + area) 0 ≡ bought (b .trades) (getD (b .users) i nobody .party .id) area 1
 
--- the user at a place is party to a trade standing below notified
-abbrev pub cutIn : Book → ℕ → Bool
-cutIn b i = cutBefore (getD (b .users) i nobody .party .id) (b .trades)
+-- what stays: what each user sold and bought for d+1; and of all own sales where each user's start, their places among the trades, their areas and the places of their
+-- buyers
+pub record ListsOf (b : Book) (sells buys ss origins areaCodes bs : List ℕ) : Type 0 where
+  pub next : NextDealt b sells buys
+  pub starts-length : length ss ≡ length (b .users) + 1
+  pub starts-at : (i : ℕ) → i ≤ length (b .users) → getD ss i 0 ≡ starts b i
+  pub origins-are : origins ≡ grouped (places (b .trades)) (b .users)
+  pub areas : areaCodes ≡ areasOf b
+  pub buyers : bs ≡ termsOf (λ r. placeOf (b .users) (r .buyer)) b
 
--- what changes: the users, what stands of all own sales, and a flag for each user that is short of cover
-pub record StateOf (limits : Limits) (o b : Book) (us : List User) (ns : List ℕ) (flags : List Bool) : Type 0 where
-  pub represented : Represented o b ns (cutIn b)
-  pub users : map asUser (take (length (o .users)) us) ≡ b .users
-  pub room : length us ≡ 64
-  pub short-length : length flags ≡ length (o .users)
-  pub short-at : (i : ℕ) → i < length (o .users) → getD flags i false ≡ shortOfCover limits b (getD (b .users) i nobody)
+-- what changes: the bytes that hold the book, what stands of all own sales, and a flag for each user that is short of cover
+pub record StateOf (limits : Limits) (b : Book) (s ns : List ℕ) (flags : List Bool) : Type 0 where
+  pub held : HeldAs b s
+  pub sound : Sound b
+  pub standing : ns ≡ grouped (standings (b .trades)) (b .users)
+  pub short-length : length flags ≡ length (b .users)
+  pub short-at : (i : ℕ) → i < length (b .users) → getD flags i false ≡ shortOfCover limits b (getD (b .users) i nobody)
+
+-- a book in bytes, whose trades start at an offset, with its prices and its lists
+pub record Listed (limits : Limits) (f : Prices) (s : List ℕ) (from : ℕ) (sells buys ss origins ns areaCodes bs : List ℕ) (flags : List Bool) : Type 0 where
+  pub lists : ListsOf (bookOf s) sells buys ss origins areaCodes bs
+  pub state : StateOf limits (bookOf s) s ns flags
+  pub at-trades : from ≡ tradesAt s
+  pub prices : f ≡ bookOf s .header .prices

@@ -1,3 +1,4 @@
--- Laws of the sums, and of positions by them.
+-- Laws of the sums, of positions by them, and of walks over records in bytes.
 pub mod Positions
 pub mod Sums
+pub mod Walk

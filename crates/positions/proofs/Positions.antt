@@ -11,7 +11,7 @@ use Rattle.laws.proofs.Tests.{same-test, eqb-of}
 use Rattle.rules.specs.Questions.{eqbℤ}
 
 -- two tests of equality that say the same
-same-eqb : (m n p q : ℕ) → (m ≡ n → p ≡ q) → (p ≡ q → m ≡ n) → eqb m n ≡ eqb p q
+pub same-eqb : (m n p q : ℕ) → (m ≡ n → p ≡ q) → (p ≡ q → m ≡ n) → eqb m n ≡ eqb p q
 same-eqb m n p q f g =
     same-test (eqb m n) (eqb p q) (λ t. eqb-of p q (f (eqb→eq m n t))) (λ t. eqb-of m n (g (eqb→eq p q t)))
 

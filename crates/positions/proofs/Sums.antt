@@ -1,29 +1,28 @@
 -- Sums trade by trade: a trade that is counted at the place of its party gives its part to that user's sum alone. Assumes nothing.
 use mathlib.Core.Bool.{Bool, true, false, cond, _&&_}
 use mathlib.Core.List.{List, [], _∷_, map}
-use mathlib.Core.Path.{_≡_, refl, sym, ap, ap₂, _∙_}
+use mathlib.Core.Path.{_≡_, refl, sym, ap, ap₂, subst, _∙_}
 use Prim.Native.Nat.{ℕ, zero, suc, _+_, _*_, _≤_, _<_, _^_}
 use native.Mathlib.Omega.{arith}
+use native.Mathlib.Nat.{not-suc-le-zero, le-of-suc-le-suc}
+use native.Mathlib.Numerals.{add-one}
 use lib.Dec.{T, eqb, ltb, ltb→lt}
 use lib.IntN.{pos, _+ℤ_, _-ℤ_}
 use lib.ListN.{length, take, getD, set, replicate, length-map, length-set, length-replicate, List·getD-map}
-use lib.Seq.{getD-set-same, getD-set-other, length-take-le, getD-take}
-use borrow.Author.Tests.{eq-eqb, ne-eqb, ltb-true, ltb-false}
+use lib.Seq.{getD-set-same, getD-set-other, set-getD, take-length, length-take-le, getD-take}
+use borrow.Author.Tests.{eq-eqb, ne-eqb, eqb-true, eqb-false, lt-ltb, ltb-true, ltb-false}
 use Rattle.integers.specs.Sums.{sum}
-use Rattle.integers.proofs.Sums.{sum-map, sum-take-suc}
+use Rattle.rules.specs.Lists.{all}
 use Rattle.rules.specs.Book.{Terms, Trade, User, at, dealt, sold, bought, definedPosition}
 use Rattle.rules.specs.Questions.{eqbℤ, positionValid, positionsValid}
-use Rattle.laws.proofs.Tests.{and-l, and-r}
-use Rattle.records.specs.declared.Trade as struct
-use Rattle.records.specs.declared.User as code
-use Rattle.records.specs.Trade.{asTrade}
-use Rattle.records.specs.User.{asUser}
-use Rattle.arrays.proofs.Fronts.{front-at, front-length, getD-inside, all-at}
+use Rattle.laws.proofs.Tests.{and-l, and-r, all-by, all-map}
+use Rattle.arrays.proofs.Fronts.{getD-inside, all-at}
 use Rattle.places.specs.Ids.{idsOf, among, placeIn, Rising}
-use Rattle.places.proofs.Known.{place-among}
+use Rattle.places.proofs.Known.{placeIn-among}
 use Rattle.places.proofs.Rising.{placeIn-holds}
 use Rattle.positions.specs.Positions.{positionAs, positionFrom, positionsFrom}
-use Rattle.positions.specs.Sums.{soldForDay, boughtForDay, given, Bounded, Sums, Counted, Listed, Countable, Traded, partiesAmong}
+use Rattle.positions.specs.Sums.{given, givenBy, Bounded, Sums, Counted, Countable, Beside, Gatherable, partiesAmong, Askable}
+use Rattle.positions.proofs.Positions.{same-eqb}
 
 -- two numbers are in one of three orders
 in-order : {P : Type 0} (i j : ℕ) → (i < j → P) → (i ≡ j → P) → (j < i → P) → P
@@ -36,34 +35,30 @@ in-order {P} i j f g h = go (ltb i j) refl (ltb j i) refl
 
 -- ---- one trade more
 
--- the place of a party that is among the first n ids is below n
-pub place-below : {ids : List ℕ} {n : ℕ} (party p : ℕ) → Listed ids n → T (among (take n ids) party) → p ≡ placeIn (take n ids) party → p < n
-place-below {ids} {n} party p l t e = ltb→lt p n (rw (e, place-among ids n party (l .held)) t)
-
-module _ (party : ℕ) (t : Trade) (id area : ℕ) where
-  -- the whole, to the sum of its party in its area for the day
-  given-own : party ≡ id → t .terms .area ≡ area → t .terms .day ≡ 0 → given party t id area ≡ t .standing
+module _ (day party : ℕ) (t : Trade) (i area : ℕ) where
+  -- the whole, to the sum of its party in its area for its day
+  given-own : party ≡ i → t .terms .area ≡ area → t .terms .day ≡ day → given day party t i area ≡ t .standing
   unfolding given
-  given-own e f g = rw (eq-eqb party id e, eq-eqb (t .terms .area) area f, eq-eqb (t .terms .day) 0 g)
+  given-own e f g = rw (eq-eqb party i e, eq-eqb (t .terms .area) area f, eq-eqb (t .terms .day) day g)
 
-  -- nothing to another id
-  given-other : (party ≡ id → ⊥) → given party t id area ≡ 0
+  -- nothing at another place
+  given-other : (party ≡ i → ⊥) → given day party t i area ≡ 0
   unfolding given
-  given-other e = rw (ne-eqb party id e)
+  given-other e = rw (ne-eqb party i e)
 
   -- nothing to another area
-  given-apart : (t .terms .area ≡ area → ⊥) → given party t id area ≡ 0
+  given-apart : (t .terms .area ≡ area → ⊥) → given day party t i area ≡ 0
   unfolding given
-  given-apart e = rw (ne-eqb (t .terms .area) area e) (go (eqb party id))
+  given-apart e = rw (ne-eqb (t .terms .area) area e) (go (eqb party i))
     where
       go : (b : Bool) → cond {A = ℕ} b 0 0 ≡ 0
       go true = refl
       go false = refl
 
   -- nothing for another day
-  given-next : (t .terms .day ≡ 0 → ⊥) → given party t id area ≡ 0
+  given-next : (t .terms .day ≡ day → ⊥) → given day party t i area ≡ 0
   unfolding given
-  given-next e = rw (ne-eqb (t .terms .day) 0 e) (go (eqb party id) (eqb (t .terms .area) area))
+  given-next e = rw (ne-eqb (t .terms .day) day e) (go (eqb party i) (eqb (t .terms .area) area))
     where
       go : (b c : Bool) → cond {A = ℕ} b (cond (c && false) (t .standing) 0) 0 ≡ 0
       go true true = refl
@@ -71,173 +66,230 @@ module _ (party : ℕ) (t : Trade) (id area : ℕ) where
       go false c = refl
 
 -- a trade for another day changes nothing
-pub counted-none : (ids : List ℕ) (party : ℕ) (t : Trade) (sums : List ℕ) → (t .terms .day ≡ 0 → ⊥) → Counted ids party t sums sums
-counted-none ids party t sums h =
-    record { each = λ i area k l. omega (arith, given-next party t (getD ids i 0) area h); low = λ k. omega arith; room = refl }
+counted-none : (day party : ℕ) (t : Trade) (sums : List ℕ) → (t .terms .day ≡ day → ⊥) → Counted day party t sums sums
+counted-none day party t sums h =
+    record { each = λ i area l. omega (arith, given-next day party t i area h); low = λ k. omega arith; room = refl }
 
-module _ (ids : List ℕ) (rising : Rising ids) (party : ℕ) (t : Trade) (sums : List ℕ) (p : ℕ) (place : p ≡ placeIn ids party) (known : p < length ids) where
-  -- the party has the id at its place
-  own-id : getD ids p 0 ≡ party
-  own-id = rw (← place) at (placeIn-holds ids party (rw (← place) known))
+module _ (day p : ℕ) (t : Trade) (sums : List ℕ) (a : ℕ) (is : t .terms .area ≡ a) (low : a < 3) (room : 3 * p + a < length sums) (own-day : t .terms .day ≡ day) where
+  counted-each : (i area : ℕ) → area < 3
+      → getD (set sums (3 * p + a) (getD sums (3 * p + a) 0 + t .standing)) (3 * i + area) 0 ≡ getD sums (3 * i + area) 0 + given day p t i area
+  counted-each i area k =
+      in-order i p
+      (λ l. apart (λ e. omega arith) (given-other day p t i area (λ e. omega arith)))
+      (λ l. in-order area a
+      (λ m. apart (λ e. omega arith) (given-apart day p t i area (λ e. omega arith)))
+      (λ m. own l m)
+      (λ m. apart (λ e. omega arith) (given-apart day p t i area (λ e. omega arith))))
+      (λ l. apart (λ e. omega arith) (given-other day p t i area (λ e. omega arith)))
+    where
+      apart : (3 * i + area ≡ 3 * p + a → ⊥) → given day p t i area ≡ 0
+          → getD (set sums (3 * p + a) (getD sums (3 * p + a) 0 + t .standing)) (3 * i + area) 0 ≡ getD sums (3 * i + area) 0 + given day p t i area
+      apart e g = omega (arith, g, getD-set-other sums (3 * p + a) (3 * i + area) (getD sums (3 * p + a) 0 + t .standing) 0 e)
 
-  module _ (a : ℕ) (is : t .terms .area ≡ a) (low : a < 3) (room : 3 * p + a < length sums) (day : t .terms .day ≡ 0) where
-    counted-each : (i area : ℕ) → i < length ids → area < 3
-        → getD (set sums (3 * p + a) (getD sums (3 * p + a) 0 + t .standing)) (3 * i + area) 0 ≡ getD sums (3 * i + area) 0 + given party t (getD ids i 0) area
-    counted-each i area h k =
-        in-order i p
-        (λ l. apart (λ e. omega arith) (given-other party t (getD ids i 0) area (λ e. omega (arith, own-id, rising .rise i p l known))))
-        (λ l. in-order area a
-        (λ m. apart (λ e. omega arith) (given-apart party t (getD ids i 0) area (λ e. omega arith)))
-        (λ m. own l m)
-        (λ m. apart (λ e. omega arith) (given-apart party t (getD ids i 0) area (λ e. omega arith))))
-        (λ l. apart (λ e. omega arith) (given-other party t (getD ids i 0) area (λ e. omega (arith, own-id, rising .rise p i l h))))
-      where
-        apart : (3 * i + area ≡ 3 * p + a → ⊥) → given party t (getD ids i 0) area ≡ 0
-            → getD (set sums (3 * p + a) (getD sums (3 * p + a) 0 + t .standing)) (3 * i + area) 0 ≡ getD sums (3 * i + area) 0 + given party t (getD ids i 0) area
-        apart e g = omega (arith, g, getD-set-other sums (3 * p + a) (3 * i + area) (getD sums (3 * p + a) 0 + t .standing) 0 e)
+      own : i ≡ p → area ≡ a
+          → getD (set sums (3 * p + a) (getD sums (3 * p + a) 0 + t .standing)) (3 * i + area) 0 ≡ getD sums (3 * i + area) 0 + given day p t i area
+      own e f =
+          rw (e, f)
+          (omega (arith, given-own day p t p a refl is own-day, getD-set-same sums (3 * p + a) (getD sums (3 * p + a) 0 + t .standing) 0 room))
 
-        own : i ≡ p → area ≡ a
-            → getD (set sums (3 * p + a) (getD sums (3 * p + a) 0 + t .standing)) (3 * i + area) 0 ≡ getD sums (3 * i + area) 0 + given party t (getD ids i 0) area
-        own e f =
-            rw (e, f)
-            (omega (arith, given-own party t (getD ids p 0) a (sym own-id) is day, getD-set-same sums (3 * p + a) (getD sums (3 * p + a) 0 + t .standing) 0 room))
+  counted-low : t .standing ≤ 4294967295 → (k : ℕ)
+      → getD (set sums (3 * p + a) (getD sums (3 * p + a) 0 + t .standing)) k 0 ≤ getD sums k 0 + 4294967295
+  counted-low h k =
+      in-order k (3 * p + a)
+      (λ l. other (λ e. omega arith))
+      (λ l. rw l (omega (arith, getD-set-same sums (3 * p + a) (getD sums (3 * p + a) 0 + t .standing) 0 room)))
+      (λ l. other (λ e. omega arith))
+    where
+      other : (k ≡ 3 * p + a → ⊥) → getD (set sums (3 * p + a) (getD sums (3 * p + a) 0 + t .standing)) k 0 ≤ getD sums k 0 + 4294967295
+      other e = omega (arith, getD-set-other sums (3 * p + a) k (getD sums (3 * p + a) 0 + t .standing) 0 e)
 
-    counted-low : t .standing ≤ 4294967295 → (k : ℕ)
-        → getD (set sums (3 * p + a) (getD sums (3 * p + a) 0 + t .standing)) k 0 ≤ getD sums k 0 + 4294967295
-    counted-low h k =
-        in-order k (3 * p + a)
-        (λ l. other (λ e. omega arith))
-        (λ l. rw l (omega (arith, getD-set-same sums (3 * p + a) (getD sums (3 * p + a) 0 + t .standing) 0 room)))
-        (λ l. other (λ e. omega arith))
-      where
-        other : (k ≡ 3 * p + a → ⊥) → getD (set sums (3 * p + a) (getD sums (3 * p + a) 0 + t .standing)) k 0 ≤ getD sums k 0 + 4294967295
-        other e = omega (arith, getD-set-other sums (3 * p + a) k (getD sums (3 * p + a) 0 + t .standing) 0 e)
+  -- what stands is added to the sum of the party in the area
+  counted-own : t .standing ≤ 4294967295 → Counted day p t sums (set sums (3 * p + a) (getD sums (3 * p + a) 0 + t .standing))
+  counted-own h = record { each = counted-each; low = counted-low h; room = length-set sums (3 * p + a) (getD sums (3 * p + a) 0 + t .standing) }
 
-    -- what stands is added to the sum of the party in the area
-    pub counted-own : t .standing ≤ 4294967295 → Counted ids party t sums (set sums (3 * p + a) (getD sums (3 * p + a) 0 + t .standing))
-    counted-own h = record { each = counted-each; low = counted-low h; room = length-set sums (3 * p + a) (getD sums (3 * p + a) 0 + t .standing) }
+-- counted by what stands of it for the day, which is 0 for another day
+pub counted-for : (day p : ℕ) (t : Trade) (sums : List ℕ) (a : ℕ) → t .terms .area ≡ a → a < 3 → 3 * p + a < length sums → t .standing ≤ 4294967295
+    → (n : ℕ) → n ≡ cond (eqb (t .terms .day) day) (t .standing) 0 → Counted day p t sums (set sums (3 * p + a) (getD sums (3 * p + a) 0 + n))
+counted-for day p t sums a is low room h n e = go (eqb (t .terms .day) day) refl
+  where
+    go : (b : Bool) → eqb (t .terms .day) day ≡ b → Counted day p t sums (set sums (3 * p + a) (getD sums (3 * p + a) 0 + n))
+    go true k =
+        subst (λ (m : ℕ). Counted day p t sums (set sums (3 * p + a) (getD sums (3 * p + a) 0 + m))) (sym (rw k at e))
+        (counted-own day p t sums a is low room (eqb-true (t .terms .day) day k) h)
+    go false k =
+        let same : set sums (3 * p + a) (getD sums (3 * p + a) 0 + n) ≡ sums
+        = ap (set sums (3 * p + a)) (omega (arith, rw k at e)) ∙ set-getD sums (3 * p + a) 0 in
+        subst (λ (xs : List ℕ). Counted day p t sums xs) (sym same) (counted-none day p t sums (eqb-false (t .terms .day) day k))
 
 -- ---- the trades so far
 
-module _ (side : Terms → ℕ) (ids : List ℕ) where
-  -- the totals of one side
-  unfoldable totals : List Trade → ℕ → ℕ → ℕ
-  totals ts id area = dealt side (λ party. eqb party id) ts area 0
+pub sums-none : (day : ℕ) (ps : List ℕ) (ts : List Trade) → Sums day (take 0 ps) (take 0 ts) 0 (replicate 192 0)
+unfolding givenBy
+sums-none day ps ts = record { each = λ i area k. zeros 192 (3 * i + area); low = λ k. omega (arith, zeros 192 k); room = length-replicate {A = ℕ} 192 0 }
+  where
+    zeros : (n k : ℕ) → getD {A = ℕ} (replicate n 0) k 0 ≡ 0
+    zeros zero k = refl
+    zeros (suc n) zero = refl
+    zeros (suc n) (suc k) = zeros n k
 
-  sums-none : Sums ids (totals []) 0 (replicate 192 0)
-  unfolding totals dealt sum
-  sums-none = record { each = λ i area h k. zeros 192 (3 * i + area); low = λ k. omega (arith, zeros 192 k); room = length-replicate {A = ℕ} 192 0 }
-    where
-      zeros : (n k : ℕ) → getD {A = ℕ} (replicate n 0) k 0 ≡ 0
-      zeros zero k = refl
-      zeros (suc n) zero = refl
-      zeros (suc n) (suc k) = zeros n k
+-- what one trade more gives
+given-more : (day : ℕ) (ps : List ℕ) (ts : List Trade) (k : ℕ) (d : Trade) (i area : ℕ) → k < length ps → k < length ts
+    → givenBy day (take (suc k) ps) (take (suc k) ts) i area ≡ givenBy day (take k ps) (take k ts) i area + given day (getD ps k 0) (getD ts k d) i area
+unfolding givenBy
+given-more day [] ts k d i area h l = absurd (not-suc-le-zero h)
+given-more day (p ∷ ps) [] k d i area h l = absurd (not-suc-le-zero l)
+given-more day (p ∷ ps) (t ∷ ts) zero d i area h l = omega arith
+given-more day (p ∷ ps) (t ∷ ts) (suc k) d i area h l =
+    omega (arith, given-more day ps ts k d i area (le-of-suc-le-suc h) (le-of-suc-le-suc l))
 
-  -- one trade more
-  sums-next : {A : Type 0} (f : A → Trade) (xs : List A) (i : ℕ) (d : A) (v r : List ℕ) → i < length xs
-      → Sums ids (totals (map f (take i xs))) (i * 4294967295) v → Counted ids (side (f (getD xs i d) .terms)) (f (getD xs i d)) v r
-      → Sums ids (totals (map f (take (i + 1) xs))) ((i + 1) * 4294967295) r
-  unfolding totals dealt given
-  sums-next f xs i d v r h s c =
-      record {
-        each = λ j area k l.
-            let g : Trade → ℕ = λ t. cond (eqb (side (t .terms)) (getD ids j 0)) (cond (eqb (t .terms .area) area && eqb (t .terms .day) 0) (t .standing) 0) 0 in
-            omega (arith, c .each j area k l, s .each j area k l, sum-map g f (take (i + 1) xs), sum-map g f (take i xs), sum-take-suc (λ x. g (f x)) xs i d h);
-        low = λ k. omega (arith, c .low k, s .low k);
-        room = c .room ∙ s .room;
-      }
+-- one trade more, counted
+pub sums-next : (day : ℕ) (ps : List ℕ) (ts : List Trade) {k : ℕ} {v r : List ℕ} {t : Trade} (d : Trade) → k < length ps → k < length ts → t ≡ getD ts k d
+    → Sums day (take k ps) (take k ts) (k * 4294967295) v → Counted day (getD ps k 0) t v r → Sums day (take (k + 1) ps) (take (k + 1) ts) ((k + 1) * 4294967295) r
+sums-next day ps ts {k} d h l e s c =
+    record {
+      each = λ i area low.
+          rw add-one (omega (arith, c .each i area low, s .each i area low, given-more day ps ts k d i area h l, ap (λ (x : Trade). given day (getD ps k 0) x i area) e));
+      low = λ j. omega (arith, c .low j, s .low j);
+      room = c .room ∙ s .room;
+    }
 
--- sold and bought
-module _ (ids : List ℕ) where
-  pub sold-none : Sums ids (soldForDay []) 0 (replicate 192 0)
-  unfolding soldForDay sold totals
-  sold-none = sums-none (λ r. r .seller) ids
-
-  pub bought-none : Sums ids (boughtForDay []) 0 (replicate 192 0)
-  unfolding boughtForDay bought totals
-  bought-none = sums-none (λ r. r .buyer) ids
-
-  module _ {A : Type 0} (f : A → Trade) (xs : List A) (i : ℕ) (d : A) (v r : List ℕ) (h : i < length xs) where
-    pub sold-next : Sums ids (soldForDay (map f (take i xs))) (i * 4294967295) v → Counted ids (f (getD xs i d) .terms .seller) (f (getD xs i d)) v r
-        → Sums ids (soldForDay (map f (take (i + 1) xs))) ((i + 1) * 4294967295) r
-    unfolding soldForDay sold totals
-    sold-next = sums-next (λ t. t .seller) ids f xs i d v r h
-
-    pub bought-next : Sums ids (boughtForDay (map f (take i xs))) (i * 4294967295) v → Counted ids (f (getD xs i d) .terms .buyer) (f (getD xs i d)) v r
-        → Sums ids (boughtForDay (map f (take (i + 1) xs))) ((i + 1) * 4294967295) r
-    unfolding boughtForDay bought totals
-    bought-next = sums-next (λ t. t .buyer) ids f xs i d v r h
-
--- a greater bound
-pub sums-most : {ids : List ℕ} {total : ℕ → ℕ → ℕ} (most all : ℕ) {sums : List ℕ} → most ≤ all → Sums ids total most sums → Sums ids total all sums
-sums-most most all h s = record { each = s .each; low = λ k. omega (arith, s .low k); room = s .room }
+-- all of them, with a greater bound
+pub sums-all : (day : ℕ) (ps : List ℕ) (ts : List Trade) (k m : ℕ) {sums : List ℕ} → k ≡ m → length ts ≡ m → m ≤ 256
+    → Sums day (take k ps) (take k ts) (k * 4294967295) sums → Sums day (take m ps) ts (256 * 4294967295) sums
+sums-all day ps ts k m e l h s =
+    record { each = λ i area low. s .each i area low ∙ rw (e, ← l, take-length ts); low = λ j. omega (arith, s .low j); room = s .room }
 
 -- sums that are within what 256 trades can have
-pub bounded : {ids : List ℕ} {total : ℕ → ℕ → ℕ} {sums : List ℕ} → Sums ids total (256 * 4294967295) sums → Bounded sums
+pub bounded : {day : ℕ} {ps : List ℕ} {ts : List Trade} {sums : List ℕ} → Sums day ps ts (256 * 4294967295) sums → Bounded sums
 bounded s = record { room = s .room; low = s .low }
 
--- ---- a trade that can be counted
+-- a trade that can be counted
+pub countable : {day : ℕ} {ps places : List ℕ} {ts front : List Trade} {k most : ℕ} {sums : List ℕ} {t : Trade} (d : Trade) → T (all (λ t. ltb (t .terms .area) 3) ts) → Beside ts places
+    → k < length ts → t ≡ getD ts k d → most ≤ 2 ^ 63 → Sums day ps front most sums → Countable (getD places k 0) t sums
+countable {places = places} {ts = ts} {k = k} {t = t} d areas beside h e small s =
+    let first = take (length ts) places in
+    let p : T (ltb (getD first k 0) 64) = all-at (λ (p : ℕ). ltb p 64) first (beside .low) k 0 (rw (length-take-le (length ts) places (beside .room)) h) in
+    record {
+      place = ltb→lt (getD places k 0) 64 (rw (getD-take (length ts) places k 0 h) at p);
+      area = ltb→lt (t .terms .area) 3 (rw e (all-at (λ (t : Trade). ltb (t .terms .area) 3) ts areas k d h));
+      room = s .room;
+      low = λ j. omega (arith, s .low j);
+    }
 
-module _ {ids : List ℕ} {n : ℕ} {trades : List struct.Trade} {m : ℕ} (traded : Traded ids n trades m) (i : ℕ) (d : struct.Trade) (h : i < m) (held : m ≤ length trades) where
-  parties-at : T (partiesAmong (take n ids) (asTrade (getD trades i d)))
-  parties-at =
-      rw (front-at asTrade m trades i d h)
-      at (all-at (partiesAmong (take n ids)) (map asTrade (take m trades)) (traded .parties) i (asTrade d) (rw (front-length asTrade m trades held) h))
+-- ---- the places of the parties
 
-  module _ {total : ℕ → ℕ → ℕ} {most : ℕ} {sums : List ℕ} (small : most ≤ 2 ^ 63) (s : Sums (take n ids) total most sums) where
-    countable : (party : ℕ) → T (among (take n ids) party) → Countable ids n party (asTrade (getD trades i d)) sums
-    unfolding partiesAmong
-    countable party known =
-        let t = asTrade (getD trades i d) in
+module _ (ids : List ℕ) (rising : Rising ids) where
+  -- a party has the place i where its id stands there
+  same-place : (party i : ℕ) → T (among ids party) → i < length ids → eqb (placeIn ids party) i ≡ eqb party (getD ids i 0)
+  same-place party i known h =
+      let p = placeIn ids party in
+      let below : p < length ids = ltb→lt p (length ids) (rw (placeIn-among ids party) known) in
+      let own : getD ids p 0 ≡ party = placeIn-holds ids party below in
+      same-eqb p i party (getD ids i 0)
+      (λ e. sym own ∙ ap (λ (j : ℕ). getD ids j 0) e)
+      (λ e. in-order p i (λ l. absurd (omega (arith, own, rising .rise p i l h))) (λ l. l) (λ l. absurd (omega (arith, own, rising .rise i p l below))))
+
+  module _ (side : Terms → ℕ) (has : (t : Trade) → T (partiesAmong ids t) → T (among ids (side (t .terms)))) where
+    -- what trades give at the place of an id is what the party of that id dealt for the day
+    given-dealt : (day : ℕ) (ts : List Trade) → T (all (partiesAmong ids) ts) → (i area : ℕ) → i < length ids
+        → givenBy day (map (λ t. placeIn ids (side (t .terms))) ts) ts i area ≡ dealt side (λ party. eqb party (getD ids i 0)) ts area day
+    unfolding givenBy given dealt sum all
+    given-dealt day [] h i area k = refl
+    given-dealt day (t ∷ ts) h i area k =
+        let own = same-place (side (t .terms)) i (has t (and-l (partiesAmong ids t) (all (partiesAmong ids) ts) h)) k in
+        let rest = given-dealt day ts (and-r (partiesAmong ids t) (all (partiesAmong ids) ts) h) i area k in
+        ap₂ (λ (b : Bool) (n : ℕ). cond b (cond (eqb (t .terms .area) area && eqb (t .terms .day) day) (t .standing) 0) 0 + n) own rest
+
+    -- the places are those of 64 users
+    beside : {places : List ℕ} (ts : List Trade) → T (all (partiesAmong ids) ts) → length ids ≤ 64 → length ts ≤ length places
+        → take (length ts) places ≡ map (λ t. placeIn ids (side (t .terms))) ts → Beside ts places
+    beside ts h few room e =
         record {
-          listed = traded .listed;
-          known = known;
-          area = ltb→lt (t .terms .area) 3 (and-r (among (take n ids) (t .terms .seller) && among (take n ids) (t .terms .buyer)) (ltb (t .terms .area) 3) parties-at);
-          room = s .room;
-          low = λ k. omega (arith, s .low k);
+          room = room;
+          low = rw (e, all-map (λ (p : ℕ). ltb p 64) (λ t. placeIn ids (side (t .terms))) ts)
+              (all-by (partiesAmong ids) (λ t. ltb (placeIn ids (side (t .terms))) 64) (λ t k. low t k) ts h);
         }
-
-    -- for its seller, and for its buyer
-    pub countable-seller : Countable ids n (asTrade (getD trades i d) .terms .seller) (asTrade (getD trades i d)) sums
-    unfolding partiesAmong
-    countable-seller =
-        let t = asTrade (getD trades i d) in
-        let a = among (take n ids) (t .terms .seller) in
-        let b = among (take n ids) (t .terms .buyer) in
-        countable (t .terms .seller) (and-l a b (and-l (a && b) (ltb (t .terms .area) 3) parties-at))
-
-    pub countable-buyer : Countable ids n (asTrade (getD trades i d) .terms .buyer) (asTrade (getD trades i d)) sums
-    unfolding partiesAmong
-    countable-buyer =
-        let t = asTrade (getD trades i d) in
-        let a = among (take n ids) (t .terms .seller) in
-        let b = among (take n ids) (t .terms .buyer) in
-        countable (t .terms .buyer) (and-r a b (and-l (a && b) (ltb (t .terms .area) 3) parties-at))
+      where
+        low : (t : Trade) → T (partiesAmong ids t) → T (ltb (placeIn ids (side (t .terms))) 64)
+        low t k =
+            let p = placeIn ids (side (t .terms)) in
+            let below : p < length ids = ltb→lt p (length ids) (rw (placeIn-among ids (side (t .terms))) (has t k)) in
+            rw (lt-ltb p 64 (omega (arith, below, few))) tt
 
 -- ---- positions by the sums
 
-module _ {ids : List ℕ} (ts : List Trade) {most : ℕ} {xs ys : List ℕ} (s : Sums ids (soldForDay ts) most xs) (b : Sums ids (boughtForDay ts) most ys) where
-  position-is : (u : User) (i area : ℕ) → i < length ids → getD ids i 0 ≡ u .party .id → area < 3 → positionFrom u xs ys i area ≡ positionValid ts u area
-  unfolding positionFrom positionAs positionValid definedPosition soldForDay boughtForDay
-  position-is u i area h e k =
-      ap₂ (λ (x y : ℕ). eqbℤ (at (u .position) area) (at (u .physical) area +ℤ pos x -ℤ pos y)) (b .each i area h k ∙ ap (λ (id : ℕ). boughtForDay ts id area) e) (s .each i area h k ∙ ap (λ (id : ℕ). soldForDay ts id area) e)
+module _ {us : List User} {ts : List Trade} {sellers buyers : List ℕ} (askable : Askable us ts sellers buyers) where
+  -- both parties are among the ids
+  seller-among : (t : Trade) → T (partiesAmong (idsOf us) t) → T (among (idsOf us) (t .terms .seller))
+  unfolding partiesAmong
+  seller-among t h =
+      let a = among (idsOf us) (t .terms .seller) in
+      let b = among (idsOf us) (t .terms .buyer) in
+      and-l a b (and-l (a && b) (ltb (t .terms .area) 3) h)
 
-  positions-are : (u : User) (i : ℕ) → i < length ids → getD ids i 0 ≡ u .party .id → positionsFrom u xs ys i ≡ positionsValid ts u
-  unfolding positionsFrom positionsValid
-  positions-are u i h e = rw (position-is u i 0 h e (omega arith), position-is u i 1 h e (omega arith), position-is u i 2 h e (omega arith))
+  buyer-among : (t : Trade) → T (partiesAmong (idsOf us) t) → T (among (idsOf us) (t .terms .buyer))
+  unfolding partiesAmong
+  buyer-among t h =
+      let a = among (idsOf us) (t .terms .seller) in
+      let b = among (idsOf us) (t .terms .buyer) in
+      and-r a b (and-l (a && b) (ltb (t .terms .area) 3) h)
 
-  -- the test of the positions, by what was found of the sums
-  pub as-asked : (u : User) (i : ℕ) {found answer : Bool} → i < length ids → getD ids i 0 ≡ u .party .id → found ≡ positionsFrom u xs ys i → found ≡ answer → positionsValid ts u ≡ answer
-  as-asked u i h e f a = sym (positions-are u i h e) ∙ sym f ∙ a
+  in-area : (t : Trade) → T (partiesAmong (idsOf us) t) → T (ltb (t .terms .area) 3)
+  unfolding partiesAmong
+  in-area t h = and-r (among (idsOf us) (t .terms .seller) && among (idsOf us) (t .terms .buyer)) (ltb (t .terms .area) 3) h
 
--- the id at a place is that of the user there
-pub id-at : (ids : List ℕ) (users : List code.User) (n : ℕ) → take n ids ≡ idsOf (map asUser (take n users)) → n ≤ length users → (i : ℕ) (d : code.User) → i < n
-    → getD (take n ids) i 0 ≡ asUser (getD users i d) .party .id
-unfolding idsOf
-id-at ids users n e held i d h =
-    let us = map asUser (take n users) in
-    let k : i < length (idsOf us) = rw (length-map us (λ (u : User). u .party .id), front-length asUser n users held) h in
-    ap (λ (l : List ℕ). getD l i 0) e
-    ∙ getD-inside (idsOf us) i 0 (asUser d .party .id) k
-    ∙ List·getD-map (λ (u : User). u .party .id) us i (asUser d)
-    ∙ ap (λ (u : User). u .party .id) (front-at asUser n users i d h)
+  length-ids : length (idsOf us) ≡ length us
+  unfolding idsOf
+  length-ids = length-map us (λ (u : User). u .party .id)
+
+  -- what the trades give can be gathered
+  pub gatherable : length us ≤ 64 → Gatherable ts sellers buyers (replicate 192 0) (replicate 192 0)
+  gatherable few =
+      let low : length (idsOf us) ≤ 64 = rw length-ids few in
+      record {
+        areas = all-by (partiesAmong (idsOf us)) (λ t. ltb (t .terms .area) 3) in-area ts (askable .parties);
+        of-sellers = beside (idsOf us) (askable .rising) (λ r. r .seller) seller-among ts (askable .parties) low (askable .seller-room) (askable .placed .of-sellers);
+        of-buyers = beside (idsOf us) (askable .rising) (λ r. r .buyer) buyer-among ts (askable .parties) low (askable .buyer-room) (askable .placed .of-buyers);
+        nothing-sold = refl;
+        nothing-bought = refl;
+      }
+
+  -- the id at a place is that of the user there
+  id-at : (i : ℕ) (d : User) → i < length us → getD (idsOf us) i 0 ≡ getD us i d .party .id
+  unfolding idsOf
+  id-at i d h =
+      let f : User → ℕ = λ u. u .party .id in
+      getD-inside (map f us) i 0 (f d) (rw (length-map us f) h) ∙ List·getD-map f us i d
+
+  module _ {day m most : ℕ} {sums : List ℕ} (e : length ts ≡ m) (i : ℕ) (d : User) (h : i < length us) where
+    -- what the sums have at the place of a user is what it sold for the day, or bought
+    pub sold-at : Sums day (take m sellers) ts most sums → (area : ℕ) → area < 3 → getD sums (3 * i + area) 0 ≡ sold ts (getD us i d .party .id) area day
+    unfolding sold
+    sold-at s area k =
+        s .each i area k
+        ∙ ap (λ (ps : List ℕ). givenBy day ps ts i area) (rw e at (askable .placed .of-sellers))
+        ∙ given-dealt (idsOf us) (askable .rising) (λ r. r .seller) seller-among day ts (askable .parties) i area (rw length-ids h)
+        ∙ ap (λ (id : ℕ). dealt (λ r. r .seller) (λ party. eqb party id) ts area day) (id-at i d h)
+
+    pub bought-at : Sums day (take m buyers) ts most sums → (area : ℕ) → area < 3 → getD sums (3 * i + area) 0 ≡ bought ts (getD us i d .party .id) area day
+    unfolding bought
+    bought-at s area k =
+        s .each i area k
+        ∙ ap (λ (ps : List ℕ). givenBy day ps ts i area) (rw e at (askable .placed .of-buyers))
+        ∙ given-dealt (idsOf us) (askable .rising) (λ r. r .buyer) buyer-among day ts (askable .parties) i area (rw length-ids h)
+        ∙ ap (λ (id : ℕ). dealt (λ r. r .buyer) (λ party. eqb party id) ts area day) (id-at i d h)
+
+  module _ {m most : ℕ} {xs ys : List ℕ} (e : length ts ≡ m) (s : Sums 0 (take m sellers) ts most xs) (b : Sums 0 (take m buyers) ts most ys) (i : ℕ) (d : User) (h : i < length us) where
+    position-is : (area : ℕ) → area < 3 → positionFrom (getD us i d) xs ys i area ≡ positionValid ts (getD us i d) area
+    unfolding positionFrom positionAs positionValid definedPosition
+    position-is area k =
+        let u = getD us i d in
+        ap₂ (λ (x y : ℕ). eqbℤ (at (u .position) area) (at (u .physical) area +ℤ pos x -ℤ pos y)) (bought-at e i d h b area k) (sold-at e i d h s area k)
+
+    positions-are : positionsFrom (getD us i d) xs ys i ≡ positionsValid ts (getD us i d)
+    unfolding positionsFrom positionsValid
+    positions-are = rw (position-is 0 (omega arith), position-is 1 (omega arith), position-is 2 (omega arith))
+
+    -- the test of the positions, by what was found of the sums
+    pub as-asked : {u : User} {found answer : Bool} → u ≡ getD us i d → found ≡ positionsFrom u xs ys i → found ≡ answer → positionsValid ts (getD us i d) ≡ answer
+    as-asked is f a = sym positions-are ∙ ap (λ (v : User). positionsFrom v xs ys i) (sym is) ∙ sym f ∙ a

@@ -1,55 +1,67 @@
 // Question 7: is every position as defined? What each user sold and bought for the day in each area is gathered in one walk over the trades.
 ghost use mathlib.Core.Path.{_≡_};
-ghost use mathlib.Core.List.{map};
-ghost use Prim.Native.Nat.{_*_, _≤_, _<_};
-ghost use lib.ListN.{take, getD};
+ghost use mathlib.Core.Bool.{cond};
+ghost use lib.Dec.{eqb};
+ghost use Prim.Native.Nat.{_+_, _*_, _≤_, _<_};
+ghost use lib.ListN.{length, take, getD};
 ghost use Rattle.rules.specs.Lists.{all};
 ghost use Rattle.rules.specs.Questions.{positionsValid};
 ghost use Rattle.units.specs.Amounts.{net};
 ghost use Rattle.records.specs.User.{asUser};
 ghost use Rattle.records.specs.Trade.{asTrade};
+ghost use Rattle.places.specs.Ids.{usersFrom, tradesFrom};
 ghost use Rattle.positions.specs.Positions.{positionAs, positionsFrom};
-ghost use Rattle.positions.specs.Sums.{soldForDay, boughtForDay, Sums, Counted, Countable, Gatherable, Bounded, Askable};
+ghost use Rattle.positions.specs.Sums.{Sums, Counted, Countable, Gatherable, Bounded, InBytes, Askable};
 use records::Trade;
 use records::User;
 use units::Net;
 
 // ---- the sums: three areas for each user, in the order of the users
 
-// Counts a trade for its party of an id, which is among the first n: where it is for the day, what stands is added in its area.
-fn count(ids: &[u32], n: usize, party: u32, t: Trade, sums: &mut [u64])
-    requires { ⌜ Countable (now ids) n party (asTrade t) (now sums) ⌝ }
-    ensures { λ _. ⌜ Counted (take n (now (ids .entry))) party (asTrade t) (now (sums .entry)) (now (sums .exit)) ⌝ }
+// What stands of a trade where it is for a day, else 0. The product has no branch, which a processor would foresee only half of the times.
+fn amount_for(t: Trade, day: u8) -> u64
+    ensures { λ r. ⌜ (r ≡ cond (eqb (t .day) day) (t .standing) 0) × (r ≤ 4294967295) ⌝ }
 {
-    if t.day == 0 {
-        let p = places::place(ids, n, party);
-        let k = 3 * p + t.area as usize;
-        let x = sums[k];
-        let standing = t.standing;
-        sums[k] = x + standing as u64;
-    }
+    let standing = t.standing;
+    let is = t.day == day;
+    standing as u64 * (is as u64)
 }
 
-// Gathers what each of the first n users sold and bought for the day in the first m trades.
-fn gather(
-    ids: &[u32],
-    n: usize,
-    trades: [Trade; 256],
+// Counts a trade for its party at a place: where it is for a day, what stands is added in its area.
+fn count(place: usize, t: Trade, day: u8, sums: &mut [u64])
+    requires { ⌜ Countable place (asTrade t) (now sums) ⌝ }
+    ensures { λ _. ⌜ Counted day place (asTrade t) (now (sums .entry)) (now (sums .exit)) ⌝ }
+{
+    let k = 3 * place + t.area as usize;
+    let x = sums[k];
+    sums[k] = x + amount_for(t, day);
+}
+
+// Gathers what is sold and bought for a day at each place in the m trades from byte `at` on, by the places of their sellers and buyers.
+pub fn gather(
+    s: &[u8],
+    at: usize,
     m: usize,
+    day: u8,
+    sellers: &[u8],
+    buyers: &[u8],
     sold: &mut [u64],
     bought: &mut [u64],
 )
-    requires { ⌜ Gatherable (now ids) n trades m (now sold) (now bought) ⌝ }
-    ensures { λ _. ⌜ Sums (take n (now (ids .entry))) (soldForDay (map asTrade (take m trades))) (256 * 4294967295) (now (sold .exit)) ⌝ }
-    ensures { λ _. ⌜ Sums (take n (now (ids .entry))) (boughtForDay (map asTrade (take m trades))) (256 * 4294967295) (now (bought .exit)) ⌝ }
+    requires { ⌜ (m ≤ 256) × (at + 20 * m ≤ length (now s)) ⌝ }
+    requires { ⌜ Gatherable (tradesFrom at m (now s)) (now sellers) (now buyers) (now sold) (now bought) ⌝ }
+    ensures { λ _. ⌜ Sums day (take m (now (sellers .entry))) (tradesFrom at m (now (s .entry))) (256 * 4294967295) (now (sold .exit)) ⌝ }
+    ensures { λ _. ⌜ Sums day (take m (now (buyers .entry))) (tradesFrom at m (now (s .entry))) (256 * 4294967295) (now (bought .exit)) ⌝ }
 {
     let mut i = 0;
+    let mut a = at;
     while i < m {
-        let t = trades[i];
-        let seller = t.seller;
-        let buyer = t.buyer;
-        count(ids, n, seller, t, sold);
-        count(ids, n, buyer, t, bought);
+        let t = records::read_trade(&s[a..a + 20]);
+        let seller = sellers[i] as usize;
+        let buyer = buyers[i] as usize;
+        count(seller, t, day, sold);
+        count(buyer, t, day, bought);
+        a += 20;
         i += 1;
     }
 }
@@ -85,26 +97,31 @@ fn user_positions_valid<'a>(u: User, sold: &'a [u64], bought: &'a [u64], i: usiz
     pvb & (tvb & avb)
 }
 
-// Are all positions of the first n users, whose ids these are, as defined over the first m trades?
-pub fn positions_valid(
-    ids: &[u32],
-    users: [User; 64],
+// Are all positions of the n users from byte `users_at` on as defined over the m trades from byte `trades_at` on, whose parties have these places?
+pub fn positions_valid<'a>(
+    s: &[u8],
+    users_at: usize,
     n: usize,
-    trades: [Trade; 256],
+    trades_at: usize,
     m: usize,
+    sellers: &'a [u8],
+    buyers: &'a [u8],
 ) -> bool
-    requires { ⌜ Askable (now ids) users n trades m ⌝ }
-    ensures { λ r. ⌜ r ≡ all (positionsValid (map asTrade (take m trades))) (map asUser (take n users)) ⌝ }
+    requires { ⌜ InBytes «users_at» n «trades_at» m (now s) ⌝ }
+    requires { ⌜ Askable (usersFrom «users_at» n (now s)) (tradesFrom «trades_at» m (now s)) (now sellers) (now buyers) ⌝ }
+    ensures { λ r. ⌜ r ≡ all (positionsValid (tradesFrom «trades_at» m (now (s .entry)))) (usersFrom «users_at» n (now (s .entry))) ⌝ }
 {
     let mut sold = [0u64; 192];
     let mut bought = [0u64; 192];
-    gather(ids, n, trades, m, &mut sold, &mut bought);
+    gather(s, trades_at, m, 0, sellers, buyers, &mut sold, &mut bought);
     let mut i = 0;
+    let mut a = users_at;
     while i < n {
-        let u = users[i];
+        let u = records::read_user(&s[a..a + 56]);
         if !user_positions_valid(u, &sold, &bought, i) {
             return false;
         }
+        a += 56;
         i += 1;
     }
     true

@@ -2,21 +2,20 @@
 use mathlib.Core.Bool.{true, false}
 use mathlib.Core.List.{List, [], _++_, _∷_}
 use mathlib.Core.Option.{some}
-use mathlib.Core.Path.{_≡_, _∙_, ap, refl, sym}
+use mathlib.Core.Path.{_≡_, _∙_, ap, refl}
 use Prim.Native.Nat.{ℕ, _<_, _≤_}
 use native.Mathlib.Omega.{arith}
 use borrow.Author.Tests.{le-leb, le-ltb, lt-ltb}
 use lib.IntN.{ℤ, pos, negsuc, natAbs, _+ℤ_}
 use lib.Seq.{sets}
-use Rattle.book.specs.declared.Book.{Book}
-use Rattle.entry.proofs.Calls.{call-found, call-refused, found-positions, found-valid}
+use Rattle.entry.proofs.Calls.{call-found, call-refused, called, found-positions, found-valid}
 use Rattle.entry.specs.Entered.{Found}
 use Rattle.fields.specs.Field.{AllBytes}
 use Rattle.format.proofs.OneUser.{changed-bytes}
 use Rattle.format.proofs.Passed.{passed}
 use Rattle.format.specs.Book.{bookOf, userAt, usersOf}
 use Rattle.format.specs.Questions.{aboutBytes}
-use Rattle.format.specs.Steps.{Called, InBytes, inBytes, stepBytes}
+use Rattle.format.specs.Steps.{Called, inBytes, stepBytes}
 use Rattle.integers.proofs.Linear.{abs-parts}
 use Rattle.integers.specs.Parts.{negPart, posPart}
 use Rattle.laws.proofs.Bounds.{entry-le, position-bound}
@@ -38,7 +37,7 @@ parts-within n (negsuc k) p q = le-leb (natAbs (negsuc k)) n (omega (arith, abs-
 module _ (s : List ℕ) (id area : ℕ) (amount : ℤ) where
   -- a step that is known is what the contract says
   given : (t : List ℕ) (n : ℕ) → stepBytes today s (postingOf id area amount) ≡ record { answer = only n; bytes = t } → Called today s (postingOf id area amount) (only n) t
-  given t n e = record { answer = sym (ap (λ (x : InBytes). x .answer) e); bytes = sym (ap (λ (x : InBytes). x .bytes) e) }
+  given t n e = called (postingOf id area amount) refl e
 
   -- what is asked after the entry
   rest : List Question
@@ -52,7 +51,7 @@ module _ (s : List ℕ) (id area : ℕ) (amount : ℤ) where
   pub refused : (n : ℕ) → refusal (aboutBytes s ++ (idKnown (bookOf s) id ∷ [])) ≡ some n → Called today s (postingOf id area amount) (only n) s
   refused n h = given s n (call-refused today s id rest (postingOf id area amount) own n h)
 
-  module _ {place : ℕ} {b : Book} (f : Found s id place b) where
+  module _ {place : ℕ} (f : Found s id place) where
     found-step : stepBytes today s (postingOf id area amount)
         ≡ decided (refusal rest) (λ n. record { answer = only n; bytes = s }) (inBytes (effect today (bookOf s) (postingOf id area amount)))
     found-step = call-found today s id rest (postingOf id area amount) own f
@@ -83,9 +82,9 @@ module _ (s : List ℕ) (id area : ℕ) (amount : ℤ) where
     unfolding bookOf
     ready k =
         let u = find (usersOf s) id in
-        let v = found-valid s id place b f in
+        let v = found-valid f in
         let e = entry-le u area k v in
-        let p = position-bound (bookOf s) (passed s (f .passes) .sound) u v (found-positions s id place b f) area k in
+        let p = position-bound (bookOf s) (passed s (f .passes) .sound) u v (found-positions f) area k in
         record {
           area = k;
           entry = parts-within 1000000 (at (u .physical) area) (e .0) (e .1);

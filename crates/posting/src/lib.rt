@@ -78,15 +78,13 @@ pub fn posting(book: &mut [u8], id: u32, area: u32, amount: i64) -> u32
     if 2 < area {
         return 10;
     }
-    let b = entry.book;
-    let users = b.users;
-    let user = users[place];
+    let a = 32 + 56 * place;
+    let user = records::read_user(&book[a..a + 56]);
     let posted = post(user, area as usize, amount);
     if !posted.accepted {
         return 10;
     }
     let user = posted.user;
-    let a = 32 + 56 * place;
     records::write_user(&mut book[a..a + 56], user);
     0
 }

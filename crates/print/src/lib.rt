@@ -9,8 +9,8 @@ use units::Net;
 ghost use mathlib.Core.Path.{_≡_};
 ghost use Rattle.rules.specs.Levels.{today};
 ghost use Rattle.format.specs.Steps.{stepBytes};
-ghost use Rattle.warning.specs.Warned.{ReadyAll};
 ghost use Rattle.run.specs.Answers.{runCall};
+ghost use Rattle.print.specs.Told.{ReadyAll};
 
 // A space and a number.
 pub fn number(n: u64) {

@@ -1,5 +1,5 @@
 -- The line at a place of the printed day is the line of the user at that place, and its fields are told one by one. Assumes nothing.
-use mathlib.Core.Path.{_≡_, ap, ap₂, sym, _∙_}
+use mathlib.Core.Path.{_≡_, ap, sym, _∙_}
 use Prim.Native.Nat.{ℕ, _<_}
 use lib.ListN.{List·getD-map}
 use Rattle.rules.specs.Book.{nobody}

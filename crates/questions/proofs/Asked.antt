@@ -1,76 +1,120 @@
--- The questions 4 to 7 of bytes, asked of the struct into which they were read; and the number that the answers give. Assumes nothing.
-use mathlib.Core.Bool.{_&&_, false, true}
-use mathlib.Core.List.{List, map}
-use mathlib.Core.Path.{_≡_, ap}
-use Rattle.rules.specs.Book as model
-use Prim.Native.Nat.{_*_, _+_, ℕ}
-use lib.ListN.{drop, take}
-use Rattle.book.specs.Book.{BookRead, asBook}
-use Rattle.book.specs.declared.Book.{Book}
-use Rattle.format.specs.Book.{bookOf, tradesAt, tradesOf, userAt, usersOf}
-use Rattle.format.specs.Questions.{aboutFields, tradeZerosValid, userZerosValid}
-use Rattle.form.specs.Zeros.{zerosIn}
-use Rattle.fields.specs.Field.{field}
-use Rattle.questions.specs.Asked.{fieldsNumber}
-use Rattle.records.specs.Trade.{asTrade, tradeZeros}
-use Rattle.records.specs.User.{asUser, userZeros}
+-- The number that the answers to the questions 4 to 7 give, of users and trades and of bytes. Assumes nothing.
+use mathlib.Core.Bool.{Bool, false, true, _&&_}
+use mathlib.Core.List.{List}
+use mathlib.Core.Path.{_≡_, sym, ap, _∙_}
+use Prim.Native.Nat.{ℕ, _*_, _+_, _≤_}
+use native.Mathlib.Omega.{arith}
+use lib.Dec.{T}
+use lib.ListN.{drop, length, take}
+use Rattle.rules.specs.Areas.{Prices}
+use Rattle.rules.specs.Book.{User, Trade}
 use Rattle.rules.specs.Calendar.{realDay}
 use Rattle.rules.specs.Lists.{all}
-use Rattle.rules.specs.Questions.{headerValid, numberOf, positionsValid, pricesValid, refusal, tradeValid, usersValid}
-use Rattle.units.specs.Prices.{asPrices}
+use Rattle.rules.specs.Questions.{headerValid, numberOf, positionsValid, pricesValid, refusal, tradeValid}
+use Rattle.laws.proofs.Tests.{and-r}
+use Rattle.fields.specs.Field.{field}
+use Rattle.records.specs.Trade.{tradeZeros}
+use Rattle.records.specs.User.{userZeros}
+use Rattle.format.specs.Book.{bookOf, pricesAt, tradeCount, tradesAt, tradesOf, userAt, userCount, usersOf}
+use Rattle.format.specs.Questions.{Formed, aboutFields, tradeZerosValid, userZerosValid}
+use Rattle.places.specs.Ids.{usersFrom, tradesFrom, idsOf}
+use Rattle.form.specs.Zeros.{zerosIn}
+use Rattle.positions.specs.Sums.{InBytes, Askable}
+use Rattle.questions.specs.Asked.{UsersAsked, TradesAsked, RecordsAsked, FieldsPlaced, tradeAmong, recordsNumber, fieldsNumber}
+use Rattle.questions.proofs.Known.{all-tradeAmong, all-parties, valid-rising}
 
--- ---- what the struct's fields are
+-- ---- 5 to 7
 
-module _ (s : List ℕ) (b : Book) (r : BookRead s b) where
-  pub header-asked : (realDay (b .date) && pricesValid (asPrices (b .prices))) ≡ headerValid (bookOf s .header)
-  unfolding headerValid asBook
-  header-asked = rw (← r .book)
+-- a second test that says the same
+and-same : (zeros : Bool) {valid test answer : Bool} → valid ≡ test → (zeros && valid) ≡ answer → (zeros && test) ≡ answer
+and-same zeros e h = ap (λ (b : Bool). zeros && b) (sym e) ∙ h
 
-  pub users-are : map asUser (take (b .«user_count») (b .users)) ≡ usersOf s
-  unfolding asBook bookOf
-  users-are = ap (λ (n : model.Book). n .users) (r .book)
+-- where two tests are answered by yes, the second is
+pub second-yes : (zeros valid : Bool) → (zeros && valid) ≡ true → T valid
+second-yes zeros valid h = and-r zeros valid (rw h tt)
 
-  pub trades-are : map asTrade (take (b .«trade_count») (b .trades)) ≡ tradesOf s
-  unfolding asBook bookOf
-  trades-are = ap (λ (n : model.Book). n .trades) (r .book)
+module _ {us : List User} {ts : List Trade} {n : ℕ} {valid : Bool} {ids sellers buyers : List ℕ} (users : UsersAsked us n valid ids) where
+  -- question 5 is answered by no
+  pub records-5 : {userZeros tradeZeros : Bool} → (userZeros && valid) ≡ false → RecordsAsked userZeros tradeZeros us ts 5 sellers buyers
+  unfolding recordsNumber refusal numberOf
+  records-5 {userZeros} h = record { asked = rw (and-same userZeros (users .answer) h); placed = λ e. absurd (omega arith) }
 
-  pub users-asked : (zerosIn (λ c. field 3 5 c) 56 (b .«user_count») (drop 32 s) && usersValid (map asUser (take (b .«user_count») (b .users))))
-      ≡ (userZerosValid s && usersValid (usersOf s))
-  unfolding zerosIn userZerosValid userZeros
-  users-asked = rw (users-are, r .users)
+  module _ {allowed : Bool} (trades : TradesAsked (take n ids) ts allowed sellers buyers) where
+    -- the answer to question 6 is that between the users
+    trades-answer : T valid → allowed ≡ all (tradeValid us) ts
+    trades-answer u = trades .answer ∙ ap (λ (xs : List ℕ). all (tradeAmong xs) ts) (users .listed u) ∙ all-tradeAmong us ts
 
-  pub trades-asked : (zerosIn (λ c. field 1 11 c) 20 (b .«trade_count») (drop (32 + 56 * b .«user_count») s)
-      && all (tradeValid (map asUser (take (b .«user_count») (b .users)))) (map asTrade (take (b .«trade_count») (b .trades))))
-      ≡ (tradeZerosValid s && all (tradeValid (usersOf s)) (tradesOf s))
-  unfolding zerosIn tradeZerosValid tradeZeros tradesAt userAt
-  trades-asked = rw (users-are, trades-are, r .users, r .trades)
+    -- question 7 can be asked
+    pub records-askable : T valid → T allowed → length ts ≤ length sellers → length ts ≤ length buyers → Askable us ts sellers buyers
+    records-askable u t h k =
+        record {
+          rising = valid-rising us (rw (← users .answer) u);
+          parties = all-parties (idsOf us) ts (rw (← users .listed u, ← trades .answer) t);
+          placed = trades .placed t us (sym (users .listed u));
+          seller-room = h;
+          buyer-room = k;
+        }
 
-  pub positions-asked : all (positionsValid (map asTrade (take (b .«trade_count») (b .trades)))) (map asUser (take (b .«user_count») (b .users)))
-      ≡ all (positionsValid (tradesOf s)) (usersOf s)
-  positions-asked = rw (users-are, trades-are)
+    module _ {userZeros tradeZeros : Bool} (u : (userZeros && valid) ≡ true) where
+      -- question 6 is answered by no
+      pub records-6 : (tradeZeros && allowed) ≡ false → RecordsAsked userZeros tradeZeros us ts 6 sellers buyers
+      unfolding recordsNumber refusal numberOf
+      records-6 h =
+          record {
+            asked = rw (and-same userZeros (users .answer) u, and-same tradeZeros (trades-answer (second-yes userZeros valid u)) h);
+            placed = λ e. absurd (omega arith);
+          }
 
--- ---- the number, by the answers
+      module _ {right : Bool} (t : (tradeZeros && allowed) ≡ true) (e : right ≡ all (positionsValid ts) us) where
+        -- question 7 is answered by no
+        pub records-7 : right ≡ false → RecordsAsked userZeros tradeZeros us ts 7 sellers buyers
+        unfolding recordsNumber refusal numberOf
+        records-7 h =
+            record {
+              asked = rw (and-same userZeros (users .answer) u, and-same tradeZeros (trades-answer (second-yes userZeros valid u)) t, sym e ∙ h);
+              placed = λ f. absurd (omega arith);
+            }
 
-module _ (s : List ℕ) where
-  pub number-4 : headerValid (bookOf s .header) ≡ false → 4 ≡ fieldsNumber s
+        -- none is
+        pub records-0 : right ≡ true → RecordsAsked userZeros tradeZeros us ts 0 sellers buyers
+        unfolding recordsNumber refusal numberOf
+        records-0 h =
+            record {
+              asked = rw (and-same userZeros (users .answer) u, and-same tradeZeros (trades-answer (second-yes userZeros valid u)) t, sym e ∙ h);
+              placed = λ f. trades .placed (second-yes tradeZeros allowed t) us (sym (users .listed (second-yes userZeros valid u)));
+            }
+
+-- ---- 4 to 7 of bytes
+
+-- users and trades of bytes of the right form stand in them
+pub formed-bytes : {s : List ℕ} {n m : ℕ} → Formed s → n ≡ field 1 5 s → m ≡ field 2 6 s → InBytes 32 n (32 + 56 * n) m s
+unfolding userCount tradeCount
+formed-bytes form e f =
+    record {
+      few = omega (arith, form .users);
+      many = omega (arith, form .trades);
+      users = omega (arith, form .whole);
+      trades = omega (arith, form .whole);
+    }
+
+module _ (s : List ℕ) {date : ℕ} {prices : Prices} {valid : Bool} (d : date ≡ field 4 8 s) (p : prices ≡ pricesAt 12 s) (e : valid ≡ (realDay date && pricesValid prices)) where
+  -- the answer to question 4
+  header-answer : valid ≡ headerValid (bookOf s .header)
+  unfolding headerValid bookOf
+  header-answer = rw (← d, ← p) e
+
+  -- it is no
+  pub fields-4 : {sellers buyers : List ℕ} → valid ≡ false → FieldsPlaced s 4 sellers buyers
   unfolding fieldsNumber aboutFields refusal numberOf
-  number-4 h = rw h
+  fields-4 h = record { asked = rw (sym header-answer ∙ h); placed = λ f. absurd (omega arith) }
 
-  module _ (h : headerValid (bookOf s .header) ≡ true) where
-    pub number-5 : (userZerosValid s && usersValid (usersOf s)) ≡ false → 5 ≡ fieldsNumber s
-    unfolding fieldsNumber aboutFields refusal numberOf
-    number-5 u = rw (h, u)
-
-    module _ (u : (userZerosValid s && usersValid (usersOf s)) ≡ true) where
-      pub number-6 : (tradeZerosValid s && all (tradeValid (usersOf s)) (tradesOf s)) ≡ false → 6 ≡ fieldsNumber s
-      unfolding fieldsNumber aboutFields refusal numberOf
-      number-6 t = rw (h, u, t)
-
-      module _ (t : (tradeZerosValid s && all (tradeValid (usersOf s)) (tradesOf s)) ≡ true) where
-        pub number-7 : all (positionsValid (tradesOf s)) (usersOf s) ≡ false → 7 ≡ fieldsNumber s
-        unfolding fieldsNumber aboutFields refusal numberOf
-        number-7 p = rw (h, u, t, p)
-
-        pub number-0 : all (positionsValid (tradesOf s)) (usersOf s) ≡ true → 0 ≡ fieldsNumber s
-        unfolding fieldsNumber aboutFields refusal numberOf
-        number-0 p = rw (h, u, t, p)
+  -- it is yes: the number is that of the users and trades
+  pub fields-rest : {n m r : ℕ} {userZeros tradeZeros : Bool} {sellers buyers : List ℕ} → valid ≡ true → n ≡ field 1 5 s → m ≡ field 2 6 s
+      → userZeros ≡ zerosIn (λ c. field 3 5 c) 56 n (drop 32 s) → tradeZeros ≡ zerosIn (λ c. field 1 11 c) 20 m (drop (32 + 56 * n) s)
+      → RecordsAsked userZeros tradeZeros (usersFrom 32 n s) (tradesFrom (32 + 56 * n) m s) r sellers buyers → FieldsPlaced s r sellers buyers
+  unfolding fieldsNumber aboutFields refusal numberOf recordsNumber zerosIn userZerosValid tradeZerosValid userZeros tradeZeros usersOf tradesOf tradesAt userAt userCount tradeCount
+  fields-rest h f g uz tz asked =
+      record {
+        asked = asked .asked ∙ rw (uz, tz, f, g, sym header-answer ∙ h);
+        placed = λ k. rw (← f, ← g) (asked .placed k);
+      }

@@ -2,3 +2,4 @@
 pub mod Loops
 pub mod Known
 pub mod Asked
+pub mod Asking

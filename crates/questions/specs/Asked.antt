@@ -1,31 +1,78 @@
--- The questions 4 to 7 as the code asks them: of lists of ids; and what bytes are that were asked all questions. Assumes nothing.
+-- The questions 5 to 7 as the code asks them, of users and trades; and what bytes are that were asked all questions. Assumes nothing.
 use mathlib.Core.Path.{_≡_}
-use mathlib.Core.Bool.{Bool}
-use mathlib.Core.List.{List}
+use mathlib.Core.Bool.{Bool, _&&_}
+use mathlib.Core.List.{List, [], _∷_}
 use Prim.Native.Nat.{ℕ}
-use Rattle.rules.specs.Book.{Trade}
-use Rattle.rules.specs.Questions.{refusal, numberOf}
+use lib.Dec.{T}
+use lib.ListN.{take}
+use Rattle.rules.specs.Book.{User, Trade}
+use Rattle.rules.specs.Lists.{all}
+use Rattle.rules.specs.Questions.{refusal, numberOf, usersValid, tradeValid, positionsValid}
 use Rattle.validity.specs.Given.{tradeValidGiven}
+use Rattle.format.specs.Book.{usersOf, tradesOf}
 use Rattle.format.specs.Questions.{aboutFields, bookNumber}
-use Rattle.places.specs.Ids.{among}
+use Rattle.places.specs.Ids.{idsOf, among, Padded, Placed}
 use Rattle.book.specs.declared.Book.{Book}
 use Rattle.book.specs.Book.{BookRead, blankBook}
+
+-- ---- one question
+
+-- users that were asked question 5: the answer, and where it is yes, a list of their ids
+pub record UsersAsked (us : List User) (n : ℕ) (valid : Bool) (ids : List ℕ) : Type 0 where
+  pub answer : valid ≡ usersValid us
+  pub padded : T valid → Padded ids n
+  pub listed : T valid → take n ids ≡ idsOf us
 
 -- a trade is valid between users of these ids
 unfoldable pub tradeAmong : List ℕ → Trade → Bool
 tradeAmong ids t = tradeValidGiven (among ids (t .terms .seller)) (among ids (t .terms .buyer)) t
 
+-- trades that were asked question 6 between users of these ids: the answer, and where it is yes, the places of their parties
+pub record TradesAsked (ids : List ℕ) (ts : List Trade) (valid : Bool) (sellers buyers : List ℕ) : Type 0 where
+  pub answer : valid ≡ all (tradeAmong ids) ts
+  pub placed : T valid → (us : List User) → idsOf us ≡ ids → Placed us ts sellers buyers
+
+-- ---- 5 to 7
+
+-- the number of the first of the questions 5 to 7 that users and trades fail, 0 where they fail none, given whether their zero bytes are 0
+unfoldable pub recordsNumber : Bool → Bool → List User → List Trade → ℕ
+recordsNumber userZeros tradeZeros us ts =
+    numberOf
+    (refusal
+    (record { number = 5; holds = userZeros && usersValid us }
+    ∷ (record { number = 6; holds = tradeZeros && all (tradeValid us) ts }
+    ∷ (record { number = 7; holds = all (positionsValid ts) us } ∷ []))))
+
+-- users and trades that were asked the questions 5 to 7: the number, and the places of the parties where no question refuses
+pub record RecordsAsked (userZeros tradeZeros : Bool) (us : List User) (ts : List Trade) (number : ℕ) (sellers buyers : List ℕ) : Type 0 where
+  pub asked : number ≡ recordsNumber userZeros tradeZeros us ts
+  pub placed : number ≡ 0 → Placed us ts sellers buyers
+
+-- ---- 4 to 7
+
 -- the number of the first of the questions 4 to 7 that is answered by no, 0 where there is none
 unfoldable pub fieldsNumber : List ℕ → ℕ
 fieldsNumber s = numberOf (refusal (aboutFields s))
 
--- bytes that were asked the questions 4 to 7: the number, and the book, or a blank one where a question refuses
+-- bytes that were asked the questions 4 to 7: the number, and the places of the trades' parties where no question refuses
+pub record FieldsPlaced (s : List ℕ) (number : ℕ) (sellers buyers : List ℕ) : Type 0 where
+  pub asked : number ≡ fieldsNumber s
+  pub placed : number ≡ 0 → Placed (usersOf s) (tradesOf s) sellers buyers
+
+-- the number, and the book, or a blank one where a question refuses
 pub record FieldsAsked (s : List ℕ) (number : ℕ) (b : Book) : Type 0 where
   pub asked : number ≡ fieldsNumber s
   pub book : number ≡ 0 → BookRead s b
   pub blank : (number ≡ 0 → ⊥) → b ≡ blankBook
 
--- bytes that were asked the questions 1 to 7: the number, and the book, or a blank one where a question refuses
+-- ---- 1 to 7
+
+-- bytes that were asked the questions 1 to 7: the number, and the places of the trades' parties where no question refuses
+pub record AskedOf (s : List ℕ) (r : ℕ) (sellers buyers : List ℕ) : Type 0 where
+  pub number : r ≡ bookNumber s
+  pub placed : r ≡ 0 → Placed (usersOf s) (tradesOf s) sellers buyers
+
+-- the number, and the book, or a blank one where a question refuses
 pub record Opened (s : List ℕ) (number : ℕ) (b : Book) : Type 0 where
   pub asked : number ≡ bookNumber s
   pub book : number ≡ 0 → BookRead s b

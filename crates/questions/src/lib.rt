@@ -1,31 +1,25 @@
 // The questions 1 to 7, asked of any bytes: the number of the first that is answered by no, or the book that the bytes hold.
 ghost use mathlib.Core.Path.{_≡_};
-ghost use mathlib.Core.List.{map};
-ghost use Prim.Native.Nat.{_≤_};
-ghost use lib.ListN.{length, take};
-ghost use Rattle.rules.specs.Lists.{all};
-ghost use Rattle.rules.specs.Questions.{usersValid};
-ghost use Rattle.records.specs.User.{asUser};
-ghost use Rattle.records.specs.Trade.{asTrade};
-ghost use Rattle.format.specs.Questions.{Formed};
-ghost use Rattle.book.specs.Book.{BookRead};
-ghost use Rattle.places.specs.Ids.{Rising};
-ghost use Rattle.questions.specs.Asked.{tradeAmong, fieldsNumber, FieldsAsked, Opened};
+ghost use Prim.Native.Nat.{_+_, _*_, _≤_};
+ghost use lib.ListN.{length, take, replicate};
+ghost use Rattle.format.specs.Questions.{Formed, bookNumber};
+ghost use Rattle.places.specs.Ids.{usersFrom, tradesFrom, Padded};
+ghost use Rattle.positions.specs.Sums.{InBytes};
+ghost use Rattle.questions.specs.Asked.{UsersAsked, TradesAsked, RecordsAsked, FieldsPlaced, FieldsAsked, AskedOf, Opened};
 use book::Book;
-use records::Trade;
-use records::User;
 
 // ---- 5
 
-// Do the ids of the first n users rise from above 0, and is every field valid, positions apart?
-fn users_valid(users: [User; 64], n: usize) -> bool
-    requires { ⌜ n ≤ 64 ⌝ }
-    ensures { λ r. ⌜ r ≡ usersValid (map asUser (take n users)) ⌝ }
+// Do the ids of the n users from `at` on rise from above 0, and is every field valid, positions apart? Their ids are listed where it is so.
+fn users_valid(s: &[u8], at: usize, n: usize, ids: &mut [u32]) -> bool
+    requires { ⌜ (n ≤ 64) × (at + 56 * n ≤ length (now s)) × (now ids ≡ replicate 64 4294967295) ⌝ }
+    ensures { λ r. ⌜ UsersAsked (usersFrom at n (now (s .entry))) n r (now (ids .exit)) ⌝ }
 {
     let mut last = 0;
     let mut i = 0;
+    let mut a = at;
     while i < n {
-        let u = users[i];
+        let u = records::read_user(&s[a..a + 56]);
         if u.id <= last {
             return false;
         }
@@ -33,6 +27,8 @@ fn users_valid(users: [User; 64], n: usize) -> bool
             return false;
         }
         last = u.id;
+        ids[i] = last;
+        a += 56;
         i += 1;
     }
     true
@@ -40,50 +36,117 @@ fn users_valid(users: [User; 64], n: usize) -> bool
 
 // ---- 6
 
-// Are the first m trades valid, between users of the n ids, which rise?
-fn trades_valid(ids: &[u32], n: usize, trades: [Trade; 256], m: usize) -> bool
-    requires { ⌜ (n ≤ length (now ids)) × Rising (take n (now ids)) × (m ≤ 256) ⌝ }
-    ensures { λ r. ⌜ r ≡ all (tradeAmong (take n (now (ids .entry)))) (map asTrade (take m trades)) ⌝ }
+// Are the m trades from `at` on valid, between users of the first n ids? The places of their parties are listed where it is so.
+fn trades_valid(
+    ids: &[u32],
+    n: usize,
+    s: &[u8],
+    at: usize,
+    m: usize,
+    sellers: &mut [u8],
+    buyers: &mut [u8],
+) -> bool
+    requires { ⌜ Padded (now ids) n ⌝ }
+    requires { ⌜ (m ≤ 256) × (at + 20 * m ≤ length (now s)) × (length (now sellers) ≡ 256) × (length (now buyers) ≡ 256) ⌝ }
+    ensures { λ r. ⌜ TradesAsked (take n (now (ids .entry))) (tradesFrom at m (now (s .entry))) r (now (sellers .exit)) (now (buyers .exit)) ⌝ }
 {
     let mut i = 0;
+    let mut a = at;
     while i < m {
-        let t = trades[i];
-        let seller = places::place(ids, n, t.seller) < n;
-        let buyer = places::place(ids, n, t.buyer) < n;
-        if !validity::trade_valid(seller, buyer, t) {
+        let t = records::read_trade(&s[a..a + 20]);
+        let seller = places::place_of(ids, n, t.seller);
+        let buyer = places::place_of(ids, n, t.buyer);
+        if !validity::trade_valid(seller < n, buyer < n, t) {
             return false;
         }
+        sellers[i] = seller as u8;
+        buyers[i] = buyer as u8;
+        a += 20;
         i += 1;
     }
     true
 }
 
-// ---- all of them
+// ---- 5 to 7
 
-// The number of the first of the questions 4 to 7 that is answered by no, 0 where there is none, of the book that was read from the bytes.
-fn fields_number(s: &[u8], b: Book) -> u32
-    requires { ⌜ Formed (now s) × BookRead (now s) b ⌝ }
-    ensures { λ r. ⌜ r ≡ fieldsNumber (now (s .entry)) ⌝ }
+// The number of the first of the questions 5 to 7 that the n users and the m trades from these offsets fail, 0 where they fail none, given whether
+// their zero bytes are 0. The places of the trades' parties are listed where they fail none.
+pub fn records_number(
+    s: &[u8],
+    users_at: usize,
+    n: usize,
+    trades_at: usize,
+    m: usize,
+    user_zeros: bool,
+    trade_zeros: bool,
+    sellers: &mut [u8],
+    buyers: &mut [u8],
+) -> u32
+    requires { ⌜ InBytes «users_at» n «trades_at» m (now s) ⌝ }
+    requires { ⌜ (length (now sellers) ≡ 256) × (length (now buyers) ≡ 256) ⌝ }
+    ensures { λ r. ⌜ RecordsAsked «user_zeros» «trade_zeros» (usersFrom «users_at» n (now (s .entry))) (tradesFrom «trades_at» m (now (s .entry))) r (now (sellers .exit)) (now (buyers .exit)) ⌝ }
 {
-    let n = b.user_count as usize;
-    let m = b.trade_count as usize;
-    let prices = b.prices;
-    let users = b.users;
-    let trades = b.trades;
-    if !form::header_valid(b.date, prices) {
-        return 4;
-    }
-    if !(form::user_zeros_valid(s, n) & users_valid(users, n)) {
+    let mut ids = [0xffff_ffffu32; 64];
+    if !(user_zeros & users_valid(s, users_at, n, &mut ids)) {
         return 5;
     }
-    let ids = places::ids_of(users, n);
-    if !(form::trade_zeros_valid(s, 32 + 56 * n, m) & trades_valid(&ids, n, trades, m)) {
+    if !(trade_zeros & trades_valid(&ids, n, s, trades_at, m, sellers, buyers)) {
         return 6;
     }
-    if !positions::positions_valid(&ids, users, n, trades, m) {
+    if !positions::positions_valid(s, users_at, n, trades_at, m, sellers, buyers) {
         return 7;
     }
     0
+}
+
+// ---- all of them
+
+// The number of the first of the questions 4 to 7 that is answered by no, 0 where there is none, and the places of the trades' parties.
+fn fields_number(s: &[u8], sellers: &mut [u8], buyers: &mut [u8]) -> u32
+    requires { ⌜ Formed (now s) × (length (now sellers) ≡ 256) × (length (now buyers) ≡ 256) ⌝ }
+    ensures { λ r. ⌜ FieldsPlaced (now (s .entry)) r (now (sellers .exit)) (now (buyers .exit)) ⌝ }
+{
+    let n = fields::get_u8(s, 5) as usize;
+    let m = fields::get_u16(s, 6) as usize;
+    let prices = header::read_prices(s);
+    if !form::header_valid(fields::get_u32(s, 8), prices) {
+        return 4;
+    }
+    let trades_at = 32 + 56 * n;
+    let user_zeros = form::user_zeros_valid(s, n);
+    let trade_zeros = form::trade_zeros_valid(s, trades_at, m);
+    records_number(
+        s,
+        32,
+        n,
+        trades_at,
+        m,
+        user_zeros,
+        trade_zeros,
+        sellers,
+        buyers,
+    )
+}
+
+// Asks the questions 1 to 7 of any bytes: the number of the first that is answered by no, 0 where there is none, and the places of the trades' parties.
+pub fn ask(s: &[u8], sellers: &mut [u8], buyers: &mut [u8]) -> u32
+    requires { ⌜ (length (now sellers) ≡ 256) × (length (now buyers) ≡ 256) ⌝ }
+    ensures { λ r. ⌜ AskedOf (now (s .entry)) r (now (sellers .exit)) (now (buyers .exit)) ⌝ }
+{
+    let k = form::form_number(s);
+    if k != 0 {
+        return k;
+    }
+    fields_number(s, sellers, buyers)
+}
+
+// The number of the first of the questions 1 to 7 that any bytes fail, 0 where they fail none.
+pub fn number(s: &[u8]) -> u32
+    ensures { λ r. ⌜ r ≡ bookNumber (now (s .entry)) ⌝ }
+{
+    let mut sellers = [0u8; 256];
+    let mut buyers = [0u8; 256];
+    ask(s, &mut sellers, &mut buyers)
 }
 
 // Bytes that were asked the questions 1 to 7: the number, and the book, whose every field is 0 where a question refuses.
@@ -97,8 +160,9 @@ pub fn ask_fields(s: &[u8]) -> Opening
     requires { ⌜ Formed (now s) ⌝ }
     ensures { λ r. ⌜ FieldsAsked (now (s .entry)) (r .number) (r .book) ⌝ }
 {
-    let b = book::read_book(s);
-    let k = fields_number(s, b);
+    let mut sellers = [0u8; 256];
+    let mut buyers = [0u8; 256];
+    let k = fields_number(s, &mut sellers, &mut buyers);
     if k != 0 {
         let blank = book::no_book();
         return Opening {
@@ -106,6 +170,7 @@ pub fn ask_fields(s: &[u8]) -> Opening
             book: blank,
         };
     }
+    let b = book::read_book(s);
     Opening { number: 0, book: b }
 }
 

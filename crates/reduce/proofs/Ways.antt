@@ -1,91 +1,95 @@
 -- The ways out of a reduction: refused by the entry, by a question of its own, or done. Assumes nothing.
-use mathlib.Core.Bool.{Bool, true, false, cond, _&&_}
+use mathlib.Core.Bool.{true, false}
 use mathlib.Core.List.{List, [], _∷_, _++_}
-use mathlib.Core.Option.{Option, none, some}
-use mathlib.Core.Path.{_≡_, refl, sym, ap, ap₂, _∙_}
+use mathlib.Core.Option.{some}
+use mathlib.Core.Path.{_≡_, refl, sym, ap, _∙_}
 use Prim.Native.Nat.{ℕ, _≤_, _<_}
-use lib.Dec.{ltb}
-use native.Mathlib.Omega.{arith}
+use lib.Dec.{T}
 use borrow.Author.Tests.{eq-eqb, ne-eqb, lt-ltb, le-ltb}
 use Rattle.rules.specs.Book.{Book, User, find}
 use Rattle.rules.specs.Levels.{Limits, shipper, afternoonLevel, calledIn, exceedsMargin}
+use Rattle.rules.specs.Lists.{all}
 use Rattle.rules.specs.Questions.{refusal, decided, numberOf}
 use Rattle.rules.specs.Reduction.{hasEligible, target}
-use Rattle.rules.specs.Calls.{about, assignedFallsShort, calledInBeyondMargin, effect, eligibleTrade, idKnown, isShipper, only, ofCuts, reduced, reducedBy, reduction, Answer}
-use Rattle.format.specs.Book.{bookOf, bytesOf}
+use Rattle.rules.specs.Calls.{about, assignedFallsShort, calledInBeyondMargin, effect, eligibleTrade, idKnown, isShipper, only, reduced, reducedBy, reduction, Answer}
+use Rattle.laws.proofs.Refusals.{number-none, number-some, numbered, refusal-first, refusal-next}
+use Rattle.format.proofs.OneUser.{find-place}
+use Rattle.format.specs.Book.{bookOf, usersOf}
 use Rattle.format.specs.Questions.{aboutBytes}
-use Rattle.format.specs.Steps.{inBytes, stepBytes}
-use Rattle.records.specs.User.{asUser}
-use Rattle.book.specs.declared.Book as struct
-use Rattle.book.specs.Book.{asBook}
-use Rattle.worths.specs.Tallies.{asTally}
-use Rattle.risk.specs.Ready.{userIn}
-use Rattle.risk.proofs.Places.{user-in-book}
+use Rattle.format.specs.Steps.{inBytes, stepBytes, Called, InBytes}
 use Rattle.entry.specs.Entered.{Found}
 use Rattle.entry.proofs.Calls.{call-found, call-refused}
-use Rattle.found.proofs.User.{found-in, found-place}
-use Rattle.reduction.specs.Reduction.{ReducedBy, userAt}
-use Rattle.reduction.specs.declared.Reduced.{Reduced}
-use Rattle.reduction.proofs.Callers.{answer-is}
-use Rattle.reduce.specs.Answers.{lastQuestions}
+use Rattle.reducing.specs.Reducing.{sellerAt}
+use Rattle.reduce.specs.Answers.{levelQuestions, onSales, onUser, reductionOf, Gives}
 
--- ---- the questions 9, 11, 13 and 14
+-- ---- the questions 9, 11 and 13
 
 module _ (limits : Limits) (b : Book) (u : User) where
   abbrev level : ℕ
   level = afternoonLevel limits b u
 
   abbrev number : ℕ
-  number = numberOf (refusal (lastQuestions limits b u))
+  number = numberOf (refusal (levelQuestions limits b u))
 
   pub asked-house : (u .party .role ≡ 0 → ⊥) → 9 ≡ number
-  unfolding lastQuestions isShipper shipper refusal numberOf
+  unfolding levelQuestions isShipper shipper refusal numberOf
   asked-house h = rw (ne-eqb (u .party .role) 0 h)
 
   module _ (role : u .party .role ≡ 0) where
     pub asked-within : exceedsMargin limits level u ≡ false → 11 ≡ number
-    unfolding lastQuestions isShipper shipper calledInBeyondMargin refusal numberOf
+    unfolding levelQuestions isShipper shipper calledInBeyondMargin refusal numberOf
     asked-within m = rw (eq-eqb (u .party .role) 0 role, m)
 
     module _ (margin : exceedsMargin limits level u ≡ true) where
       pub asked-uncalled : calledIn limits b u ≡ false → 11 ≡ number
-      unfolding lastQuestions isShipper shipper calledInBeyondMargin refusal numberOf
+      unfolding levelQuestions isShipper shipper calledInBeyondMargin refusal numberOf
       asked-uncalled c = rw (eq-eqb (u .party .role) 0 role, margin, c)
 
       module _ (called : calledIn limits b u ≡ true) where
         pub asked-covered : level ≤ u .party .assigned → 13 ≡ number
-        unfolding lastQuestions isShipper shipper calledInBeyondMargin assignedFallsShort refusal numberOf
+        unfolding levelQuestions isShipper shipper calledInBeyondMargin assignedFallsShort refusal numberOf
         asked-covered h = rw (eq-eqb (u .party .role) 0 role, margin, called, le-ltb (u .party .assigned) level h)
 
-        module _ (short : u .party .assigned < level) where
-          pub asked-last : (sale : Bool) → hasEligible b u ≡ sale → cond sale 0 14 ≡ number
-          unfolding lastQuestions isShipper shipper calledInBeyondMargin assignedFallsShort eligibleTrade refusal numberOf
-          asked-last true e = rw (eq-eqb (u .party .role) 0 role, margin, called, lt-ltb (u .party .assigned) level short, e)
-          asked-last false e = rw (eq-eqb (u .party .role) 0 role, margin, called, lt-ltb (u .party .assigned) level short, e)
+        pub asked-all : u .party .assigned < level → 0 ≡ number
+        unfolding levelQuestions isShipper shipper calledInBeyondMargin assignedFallsShort refusal numberOf
+        asked-all h = rw (eq-eqb (u .party .role) 0 role, margin, called, lt-ltb (u .party .assigned) level h)
 
-  -- a number other than 0 is the refusal; 0 is none
-  refusal-of : (n : ℕ) → (n ≡ 0 → ⊥) → n ≡ number → refusal (lastQuestions limits b u) ≡ some n
-  unfolding numberOf
-  refusal-of n h e = go (refusal (lastQuestions limits b u)) e
-    where
-      go : (o : Option ℕ) → n ≡ numberOf o → o ≡ some n
-      go none k = absurd (h k)
-      go (some m) k = ap some (sym k)
+  level-numbered : T (numbered (levelQuestions limits b u))
+  unfolding numbered levelQuestions isShipper calledInBeyondMargin assignedFallsShort all
+  level-numbered = tt
 
-  -- the four questions, by their answers
-  abbrev ladder : Bool → Bool → Bool → Bool → Option ℕ
-  ladder p q r t = cond {A = Option ℕ} p (cond {A = Option ℕ} q (cond {A = Option ℕ} r (cond {A = Option ℕ} t none (some 14)) (some 13)) (some 11)) (some 9)
+-- ---- question 14 and the reduction
 
-  no-refusal : 0 ≡ number → refusal (lastQuestions limits b u) ≡ none
-  unfolding lastQuestions isShipper calledInBeyondMargin assignedFallsShort eligibleTrade refusal numberOf
-  no-refusal e = go (shipper u) (exceedsMargin limits level u && calledIn limits b u) (ltb (u .party .assigned) level) (hasEligible b u) e
-    where
-      go : (p q r t : Bool) → 0 ≡ numberOf (ladder p q r t) → ladder p q r t ≡ none
-      go true true true true k = refl
-      go true true true false k = absurd (omega (arith, k))
-      go true true false t k = absurd (omega (arith, k))
-      go true false r t k = absurd (omega (arith, k))
-      go false q r t k = absurd (omega (arith, k))
+module _ (s : List ℕ) (u : User) (asked : ℕ) where
+  pub sales-none : hasEligible (bookOf s) u ≡ false → onSales s u asked ≡ record { answer = only 14; bytes = s }
+  unfolding onSales eligibleTrade refusal decided
+  sales-none e = rw e
+
+  pub sales-some : hasEligible (bookOf s) u ≡ true → onSales s u asked ≡ inBytes (reducedBy (bookOf s) u asked)
+  unfolding onSales eligibleTrade refusal decided
+  sales-some e = rw e
+
+-- ---- the user at a place
+
+-- a number alone, and the bytes as they are
+pub gives-refused : {x : InBytes} {a : Answer} {s : List ℕ} (n : ℕ) → x ≡ record { answer = only n; bytes = s } → a ≡ only n → Gives x a s
+gives-refused n e h = record { answer = h ∙ sym (ap (λ (y : InBytes). y .answer) e); bytes = sym (ap (λ (y : InBytes). y .bytes) e) }
+
+module _ (limits : Limits) (s : List ℕ) {u v : User} (same : v ≡ u) {l : Limits} (e : l ≡ limits) where
+  -- refused by 9, 11 or 13
+  pub user-refused : {n : ℕ} → n ≡ numberOf (refusal (levelQuestions l (bookOf s) v)) → (n ≡ 0 → ⊥) → onUser limits s u ≡ record { answer = only n; bytes = s }
+  unfolding onUser decided
+  user-refused {n} q h =
+      let k : n ≡ numberOf (refusal (levelQuestions limits (bookOf s) u)) = cc (q, e, same) in
+      rw (refusal-first (levelQuestions limits (bookOf s) u) (eligibleTrade (bookOf s) u ∷ []) n (number-some (refusal (levelQuestions limits (bookOf s) u)) n k h))
+
+  -- or 14 is asked, and the user reduced for its target
+  pub user-asked : {n asked : ℕ} → n ≡ numberOf (refusal (levelQuestions l (bookOf s) v)) → n ≡ 0 → asked ≡ target l (bookOf s) v → onUser limits s u ≡ onSales s u asked
+  unfolding onUser onSales reduced
+  user-asked {n} {asked} q h t =
+      let k : numberOf (refusal (levelQuestions limits (bookOf s) u)) ≡ 0 = cc (q, e, same, h) in
+      let m : asked ≡ target limits (bookOf s) u = cc (t, e, same) in
+      rw (refusal-next (levelQuestions limits (bookOf s) u) (eligibleTrade (bookOf s) u ∷ []) (number-none (levelQuestions limits (bookOf s) u) (level-numbered limits (bookOf s) u) k), m)
 
 -- ---- the call
 
@@ -94,25 +98,17 @@ module _ (limits : Limits) (s : List ℕ) (id : ℕ) where
   user = find (bookOf s .users) id
 
   pub call-unentered : (n : ℕ) → refusal (aboutBytes s ++ (idKnown (bookOf s) id ∷ [])) ≡ some n → stepBytes limits s (reduction id) ≡ record { answer = only n; bytes = s }
-  unfolding about lastQuestions
-  call-unentered n h = call-refused limits s id (lastQuestions limits (bookOf s) user) (reduction id) refl n h
+  unfolding about levelQuestions
+  call-unentered n h = call-refused limits s id (levelQuestions limits (bookOf s) user ++ (eligibleTrade (bookOf s) user ∷ [])) (reduction id) refl n h
 
-  module _ {place : ℕ} {b : struct.Book} (f : Found s id place b) where
-    pub call-unreduced : (n : ℕ) → (n ≡ 0 → ⊥) → n ≡ numberOf (refusal (lastQuestions limits (bookOf s) user)) → stepBytes limits s (reduction id) ≡ record { answer = only n; bytes = s }
-    unfolding about lastQuestions decided
-    call-unreduced n h e = rw (call-found limits s id (lastQuestions limits (bookOf s) user) (reduction id) refl f, refusal-of limits (bookOf s) user n h e)
+  -- the user that the entry found stands at the place
+  pub call-entered : {place : ℕ} → Found s id place → stepBytes limits s (reduction id) ≡ onUser limits s (sellerAt (bookOf s) place)
+  unfolding about levelQuestions effect onUser bookOf
+  call-entered {place} f =
+      call-found limits s id (levelQuestions limits (bookOf s) user ++ (eligibleTrade (bookOf s) user ∷ [])) (reduction id) refl f
+      ∙ ap (onUser limits s) (find-place (usersOf s) id ∙ ap (λ (i : ℕ). sellerAt (bookOf s) i) (sym (f .stands)))
 
-    pub call-reduced : 0 ≡ numberOf (refusal (lastQuestions limits (bookOf s) user))
-        → stepBytes limits s (reduction id) ≡ inBytes (reducedBy (bookOf s) user (target limits (bookOf s) user))
-    unfolding about lastQuestions decided effect reduced
-    call-reduced e = rw (call-found limits s id (lastQuestions limits (bookOf s) user) (reduction id) refl f, no-refusal limits (bookOf s) user e)
-
-    -- with the target and the reduction of the struct
-    pub call-ends : {l : Limits} {n : ℕ} {r : Reduced} → l ≡ limits → 0 ≡ numberOf (refusal (lastQuestions l (asBook b) (asUser (userIn b place))))
-        → n ≡ target l (asBook b) (asUser (userIn b place)) → ReducedBy b place n r
-        → stepBytes limits s (reduction id) ≡ record { answer = ofCuts n (asTally (r .tally)); bytes = bytesOf (asBook (r .book)) }
-    unfolding inBytes
-    call-ends {l} {n} {r} e q t o =
-        let same : reducedBy (bookOf s) user (target limits (bookOf s) user) ≡ reducedBy (asBook b) (userAt b place) n = cc (e, t, f .read .book, found-in f, user-in-book b place (found-place f)) in
-        call-reduced (cc (e, q, f .read .book, found-in f)) ∙ ap inBytes same
-        ∙ ap₂ (λ (x : Answer) (y : Book). record { answer = x; bytes = bytesOf y }) (answer-is b place n o) (sym (o .book))
+  pub call-gives : {place : ℕ} {a : Answer} {t : List ℕ} → Found s id place → Gives (onUser limits s (sellerAt (bookOf s) place)) a t → Called limits s (reductionOf id) a t
+  call-gives f g =
+      let x = sym (call-entered f) in
+      record { answer = g .answer ∙ ap (λ (y : InBytes). y .answer) x; bytes = g .bytes ∙ ap (λ (y : InBytes). y .bytes) x }

@@ -1,5 +1,5 @@
-// The risk of one user of a book, by its place there: its levels, whether it is flagged, called in and short of cover, its target, and its state on the
-// printed day. A level takes one walk over the trades.
+// The risk of one user of a book by value, by its place there, as the printed day tells it: its afternoon level, whether it is flagged and called in, and its state.
+// A level takes one walk over the trades.
 use book::Book;
 use dealings::Dealings;
 use levels::Limits;
@@ -8,8 +8,7 @@ use units::Cents;
 ghost use mathlib.Core.Path.{_≡_};
 ghost use Prim.Native.Nat.{_<_};
 ghost use lib.ListN.{getD};
-ghost use Rattle.rules.specs.Levels.{morningLevel, afternoonLevel, flagged, calledIn, shortOfCover};
-ghost use Rattle.rules.specs.Reduction.{target, hasEligible};
+ghost use Rattle.rules.specs.Levels.{afternoonLevel, flagged, calledIn};
 ghost use Rattle.rules.specs.Day.{state, printedLevel};
 ghost use Rattle.records.specs.User.{asUser, blankUser};
 ghost use Rattle.book.specs.Book.{asBook};
@@ -46,17 +45,6 @@ pub fn dealings_at(b: Book, i: usize) -> Dealings
     dealings::dealings_of(trades, count, user.id)
 }
 
-// The morning level of the user at a place.
-pub fn morning_level_at(b: Book, i: usize, limits: Limits) -> Cents
-    requires { ⌜ Ready b i ⌝ }
-    requires { ⌜ LimitsInRange (asLimits limits) ⌝ }
-    ensures { λ r. ⌜ r .0 ≡ morningLevel (asLimits limits) (asBook b) (asUser (userIn b i)) ⌝ }
-{
-    let prices = b.prices;
-    let user = user_at(b, i);
-    levels::morning_level(limits, prices, user, dealings_at(b, i))
-}
-
 // The afternoon level of the user at a place.
 pub fn afternoon_level_at(b: Book, i: usize, limits: Limits) -> Cents
     requires { ⌜ Ready b i ⌝ }
@@ -66,21 +54,6 @@ pub fn afternoon_level_at(b: Book, i: usize, limits: Limits) -> Cents
     let prices = b.prices;
     let user = user_at(b, i);
     levels::afternoon_level(limits, prices, user, dealings_at(b, i))
-}
-
-// What the afternoon level exceeds the assigned guarantee by: what a reduction is asked for.
-pub fn target_at(b: Book, i: usize, limits: Limits) -> Cents
-    requires { ⌜ Ready b i ⌝ }
-    requires { ⌜ LimitsInRange (asLimits limits) ⌝ }
-    ensures { λ r. ⌜ r .0 ≡ target (asLimits limits) (asBook b) (asUser (userIn b i)) ⌝ }
-{
-    let user = user_at(b, i);
-    let assigned = user.assigned;
-    let level = afternoon_level_at(b, i, limits);
-    if level.0 < assigned.0 {
-        return Cents(0);
-    }
-    Cents(level.0 - assigned.0)
 }
 
 // Is the user at a place flagged?
@@ -107,17 +80,6 @@ pub fn called_in_at(b: Book, i: usize, limits: Limits) -> bool
     let count = b.trade_count as usize;
     let user = user_at(b, i);
     dealings::cut_before(trades, count, user.id)
-}
-
-// Has the user at a place a sale that a reduction may cut?
-pub fn has_eligible_at(b: Book, i: usize) -> bool
-    requires { ⌜ Ready b i ⌝ }
-    ensures { λ r. ⌜ r ≡ hasEligible (asBook b) (asUser (userIn b i)) ⌝ }
-{
-    let trades = b.trades;
-    let count = b.trade_count as usize;
-    let user = user_at(b, i);
-    dealings::has_eligible(trades, count, user.id)
 }
 
 // What is printed of a user: a clearing house, short of cover, called in with a guarantee that suffices, or none of these.
@@ -149,21 +111,6 @@ pub fn state_at(b: Book, i: usize, limits: Limits) -> State
         return State::Quiet;
     }
     State::Quiet
-}
-
-// Is the user at a place short of cover?
-pub fn short_of_cover_at(b: Book, i: usize, limits: Limits) -> bool
-    requires { ⌜ Ready b i ⌝ }
-    requires { ⌜ LimitsInRange (asLimits limits) ⌝ }
-    ensures { λ r. ⌜ r ≡ shortOfCover (asLimits limits) (asBook b) (asUser (userIn b i)) ⌝ }
-{
-    let state = state_at(b, i, limits);
-    match state {
-        State::Short => true,
-        State::Clear => false,
-        State::Call => false,
-        State::Quiet => false,
-    }
 }
 
 // The level that is printed of the user at a place: the afternoon level, and 0 of a clearing house.

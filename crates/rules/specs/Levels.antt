@@ -1,14 +1,13 @@
 -- Document 01, "Levels and calls": what enters a user's level, the two levels, and who is flagged, called in and short of cover.
 use mathlib.Core.Bool.{Bool, cond, _&&_, _||_}
-use mathlib.Core.List.{List}
 use Prim.Native.Nat.{ℕ, _+_, _*_, max, min}
-use lib.Dec.{ltb, leb, eqb}
+use lib.Dec.{ltb, eqb}
 use lib.IntN.{ℤ, pos, negℤ, _+ℤ_, _-ℤ_}
 use Rattle.integers.specs.Parts.{posPart, negPart}
 use Rattle.integers.specs.Sums.{sum}
 use Rattle.rules.specs.Areas.{Prices, areas, referencePrice}
 use Rattle.rules.specs.Lists.{any}
-use Rattle.rules.specs.Book.{at, User, Trade, Book, sold, bought, bilateralForDay, find}
+use Rattle.rules.specs.Book.{at, User, Trade, Book, sold, bought, find}
 
 -- The three figures that the rules take as given: MWh of a flag, cents of a call, cents of the least level.
 pub record Limits : Type 0 where

@@ -1,3 +1,2 @@
--- What a run leaves as a book, and the ways out of the call.
-pub mod Whole
+-- The ways out of the call.
 pub mod Ways

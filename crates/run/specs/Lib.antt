@@ -1,3 +1,2 @@
--- The next user, one more reduction and the run of a book by value; the call and its answer.
-pub mod Reductions
+-- The call that a run is, and its answer.
 pub mod Answers

@@ -1,5 +1,3 @@
--- The start of a run, and what is left of it.
-pub mod Start
-pub mod Left
+-- The lists that a run starts from, and what is left of it.
 pub mod Lists
-pub mod Whole
+pub mod Left

@@ -1,2 +1,2 @@
--- The lists that a run starts from, and what a run by them gives.
+-- The totals of a run, and what a run in bytes gives.
 pub mod Reductions

@@ -1,51 +1,20 @@
-// The run of a book by value, in lists: while some user that is short of cover has an own sale to cut, the one of the lowest id is reduced.
-use book::Book;
-use dealings::Dealings;
+// The run of a book in its bytes: while some user that is short of cover has an own sale to cut, the one of the lowest id is reduced.
 use levels::Limits;
-use records::Trade;
-use records::User;
 use units::Cents;
 use units::Mwh;
+use units::Prices;
 use worths::Tally;
 ghost use mathlib.Core.Path.{_≡_};
 ghost use Prim.Native.Nat.{_+_, _≤_};
 ghost use lib.ListN.{length};
-ghost use Rattle.rules.specs.Calls.{ofRun};
+ghost use Rattle.format.specs.Book.{bookOf, tradeCount, userCount};
 ghost use Rattle.levels.specs.Limits.{asLimits, LimitsInRange};
-ghost use Rattle.reduction.specs.Reduction.{Accepted};
-ghost use Rattle.running.specs.Reductions.{totals, Within, AllDealt, AllShort, Listed, RanLists, ListRoom, FilledLists, RanIn};
-
-// ---- the start
-
-// What each user of a book dealt.
-pub fn dealings_of_users(b: Book) -> [Dealings; 64]
-    requires { ⌜ Accepted b ⌝ }
-    ensures { λ r. ⌜ AllDealt b (b .«user_count») r ⌝ }
-{
-    let n = b.user_count as usize;
-    let none = Dealings::none();
-    let mut out = [none; 64];
-    let mut i = 0;
-    while i < n {
-        out[i] = risk::dealings_at(b, i);
-        i += 1;
-    }
-    out
-}
-
-// Fills in a flag for each user of a book that is short of cover.
-pub fn fill_short(b: Book, limits: Limits, short: &mut [bool])
-    requires { ⌜ Accepted b × LimitsInRange (asLimits limits) ⌝ }
-    requires { ⌜ length (now short) ≡ b .«user_count» ⌝ }
-    ensures { λ _. ⌜ AllShort (asLimits limits) b (b .«user_count») (now (short .exit)) ⌝ }
-{
-    let n = b.user_count as usize;
-    let mut i = 0;
-    while i < n {
-        short[i] = risk::short_of_cover_at(b, i, limits);
-        i += 1;
-    }
-}
+ghost use Rattle.listed.specs.Listed.{Listed, NextDealt};
+ghost use Rattle.listing.specs.Listing.{ListsRoom};
+ghost use Rattle.rules.specs.Calls.{ofRun};
+ghost use Rattle.starting.specs.Starting.{BookIn, ShortFlags};
+ghost use Rattle.units.specs.Prices.{asPrices};
+ghost use Rattle.running.specs.Reductions.{totals, Within, RanIn};
 
 // ---- the totals
 
@@ -83,39 +52,38 @@ impl Totals {
     }
 }
 
-// ---- the run of a book by value
-
-// The users that a run leaves, and its totals.
-pub struct Ended {
-    pub users: [User; 64],
-    pub totals: Totals,
-}
+// ---- the run
 
 // Runs a book by the lists of its own sales: reduces the next user until there is none.
-pub fn run_lists(
-    b: Book,
-    dealings: [Dealings; 64],
+fn run_lists(
+    book: &mut [u8],
+    at: usize,
+    sold: &[u64],
+    bought: &[u64],
     starts: &[u64],
+    origins: &[u8],
     standing: &mut [u64],
     areas: &[u8],
     buyers: &[u8],
     short: &mut [bool],
     limits: Limits,
-) -> Ended
-    requires { ⌜ LimitsInRange (asLimits limits) × Listed (asLimits limits) b dealings (now starts) (now standing) (now areas) (now buyers) (now short) ⌝ }
-    ensures { λ r. ⌜ RanLists (asLimits limits) b (now (standing .exit)) (now (short .exit)) r ⌝ }
+    prices: Prices,
+) -> Totals
+    requires { ⌜ LimitsInRange (asLimits limits) × Listed (asLimits limits) (asPrices prices) (now book) at (now sold) (now bought) (now starts) (now origins) (now standing) (now areas) (now buyers) (now short) ⌝ }
+    ensures { λ r. ⌜ RanIn (asLimits limits) (bookOf (now (book .entry))) (now (book .exit)) r ⌝ }
 {
-    let n = b.user_count as usize;
-    let mut users = b.users;
+    let n = short.len();
     let mut totals = Totals::none();
     let mut place = cover::next_due(short, starts, standing);
     while place < n {
-        let prices = b.prices;
-        let turn = turn::reduce_at(
-            users,
-            dealings,
+        let tally = turn::reduce_at(
+            book,
+            at,
+            sold,
+            bought,
             place,
             starts,
+            origins,
             standing,
             areas,
             buyers,
@@ -123,91 +91,142 @@ pub fn run_lists(
             limits,
             prices,
         );
-        let tally = turn.tally;
-        users = turn.users;
         totals = totals.with(tally);
         place = cover::next_due(short, starts, standing);
     }
-    Ended {
-        users: users,
-        totals: totals,
-    }
+    totals
 }
 
-// ---- the lists of a book
-
-// Fills in the lists of all own sales of a book; gives the number of the sales.
-pub fn fill_lists(
-    b: Book,
-    origins: &mut [u8],
-    starts: &mut [u64],
-    standing: &mut [u64],
-    areas: &mut [u8],
-    buyers: &mut [u8],
-) -> usize
-    requires { ⌜ Accepted b × ListRoom b (now origins) (now starts) (now standing) (now areas) (now buyers) ⌝ }
-    ensures { λ r. ⌜ FilledLists b (now (origins .exit)) (now (starts .exit)) (now (standing .exit)) (now (areas .exit)) (now (buyers .exit)) r ⌝ }
-{
-    let n = b.user_count as usize;
-    let m = b.trade_count as usize;
-    let users = b.users;
-    let trades = b.trades;
-    let ids = places::ids_of(users, n);
-    let count = grouping::fill_places(users, n, trades, m, origins, starts);
-    grouping::fill_columns(
-        trades,
-        &ids[..n],
-        n,
-        &origins[..count],
-        &mut standing[..count],
-        &mut areas[..count],
-        &mut buyers[..count],
-    );
-    count
-}
-
-// The users and the trades that a run leaves, and its totals.
-pub struct Outcome {
-    pub users: [User; 64],
-    pub trades: [Trade; 256],
-    pub totals: Totals,
-}
-
-// Runs a book: fills in its lists, runs by them, and writes back what stands. The lists are room; what they hold at the end is of no use.
-pub fn run_in(
-    b: Book,
-    limits: Limits,
+// Runs an accepted book of n users and m trades: fills in the lists of its own sales, and runs by them. The lists are room; what they hold at the end is of no use.
+fn run_started(
+    book: &mut [u8],
+    n: usize,
+    m: usize,
+    sellers: &[u8],
+    parties: &[u8],
+    sold: &[u64],
+    bought: &[u64],
     origins: &mut [u8],
     starts: &mut [u64],
     standing: &mut [u64],
     areas: &mut [u8],
     buyers: &mut [u8],
     short: &mut [bool],
-) -> Outcome
-    requires { ⌜ Accepted b × LimitsInRange (asLimits limits) ⌝ }
-    requires { ⌜ ListRoom b (now origins) (now starts) (now standing) (now areas) (now buyers) × (length (now short) ≡ b .«user_count») ⌝ }
-    ensures { λ r. ⌜ RanIn (asLimits limits) b r ⌝ }
+    limits: Limits,
+    prices: Prices,
+) -> Totals
+    requires { ⌜ LimitsInRange (asLimits limits) × BookIn n m (now book) (now sellers) (now parties) × (asPrices prices ≡ bookOf (now book) .header .prices) ⌝ }
+    requires { ⌜ NextDealt (bookOf (now book)) (now sold) (now bought) × ShortFlags (asLimits limits) (bookOf (now book)) (now short) ⌝ }
+    requires { ⌜ ListsRoom n m (now origins) (now starts) (now standing) (now areas) (now buyers) ⌝ }
+    ensures { λ r. ⌜ RanIn (asLimits limits) (bookOf (now (book .entry))) (now (book .exit)) r ⌝ }
 {
-    let dealings = dealings_of_users(b);
-    fill_short(b, limits, short);
-    let count = fill_lists(b, origins, starts, standing, areas, buyers);
-    let ended = run_lists(
-        b,
-        dealings,
+    let count = listing::fill_lists(
+        book,
+        n,
+        m,
+        sellers,
+        parties,
+        origins,
         starts,
+        standing,
+        areas,
+        buyers,
+    );
+    run_lists(
+        book,
+        32 + 56 * n,
+        sold,
+        bought,
+        starts,
+        &origins[..count],
         &mut standing[..count],
         &areas[..count],
         &buyers[..count],
         short,
         limits,
+        prices,
+    )
+}
+
+// The same, with what the run starts from filled in first.
+fn run_from(
+    book: &mut [u8],
+    n: usize,
+    m: usize,
+    sellers: &[u8],
+    parties: &[u8],
+    origins: &mut [u8],
+    starts: &mut [u64],
+    standing: &mut [u64],
+    areas: &mut [u8],
+    buyers: &mut [u8],
+    short: &mut [bool],
+    limits: Limits,
+) -> Totals
+    requires { ⌜ LimitsInRange (asLimits limits) × BookIn n m (now book) (now sellers) (now parties) × (length (now short) ≡ n) ⌝ }
+    requires { ⌜ ListsRoom n m (now origins) (now starts) (now standing) (now areas) (now buyers) ⌝ }
+    ensures { λ r. ⌜ RanIn (asLimits limits) (bookOf (now (book .entry))) (now (book .exit)) r ⌝ }
+{
+    let prices = header::read_prices(book);
+    let mut sold = [0u64; 192];
+    let mut bought = [0u64; 192];
+    starting::fill_next(book, n, m, sellers, parties, &mut sold, &mut bought);
+    starting::fill_short(
+        book,
+        n,
+        m,
+        sellers,
+        parties,
+        &sold,
+        &bought,
+        limits,
+        prices,
+        short,
     );
-    let users = ended.users;
-    let totals = ended.totals;
-    let trades = b.trades;
-    let trades = grouping::write_back(trades, &origins[..count], &standing[..count]);
-    Outcome {
-        users: users,
-        trades: trades,
-        totals: totals,
-    }
+    run_started(
+        book,
+        n,
+        m,
+        sellers,
+        parties,
+        &sold,
+        &bought,
+        origins,
+        starts,
+        standing,
+        areas,
+        buyers,
+        short,
+        limits,
+        prices,
+    )
+}
+
+// Runs an accepted book, the parties of whose trades have these places.
+pub fn run_in(book: &mut [u8], sellers: &[u8], parties: &[u8], limits: Limits) -> Totals
+    requires { ⌜ LimitsInRange (asLimits limits) × BookIn (userCount (now book)) (tradeCount (now book)) (now book) (now sellers) (now parties) ⌝ }
+    ensures { λ r. ⌜ RanIn (asLimits limits) (bookOf (now (book .entry))) (now (book .exit)) r ⌝ }
+{
+    let n = fields::get_u8(book, 5) as usize;
+    let m = fields::get_u16(book, 6) as usize;
+    let mut origins = [0u8; 256];
+    let mut starts = [0u64; 65];
+    let mut standing = [0u64; 256];
+    let mut areas = [0u8; 256];
+    let mut buyers = [0u8; 256];
+    let mut short = [false; 64];
+    run_from(
+        book,
+        n,
+        m,
+        sellers,
+        parties,
+        &mut origins,
+        &mut starts[..n + 1],
+        &mut standing,
+        &mut areas,
+        &mut buyers,
+        &mut short[..n],
+        limits,
+    )
 }

@@ -2,13 +2,11 @@
 use mathlib.Core.Bool.{Bool, true, false, not, cond, _&&_, _||_}
 use mathlib.Core.List.{List, [], _∷_, map}
 use mathlib.Core.Path.{_≡_, refl, sym, ap, ap₂, fun-ext, _∙_}
-use Prim.Native.Nat.{ℕ, zero, suc, _+_, _-_, _*_, _≤_, _<_}
-use native.Mathlib.Nat.{not-suc-le-zero, le-of-suc-le-suc}
+use Prim.Native.Nat.{ℕ, _+_, _-_, _*_, _≤_}
 use native.Mathlib.Omega.{arith}
 use lib.Dec.{T, eqb, ltb, leb, leb→le, eqb→eq, ltb→lt}
 use lib.IntN.{ℤ, pos, _+ℤ_}
-use lib.ListN.{length, take, drop, getD}
-use lib.Seq.{drop-cons}
+use lib.ListN.{length}
 use borrow.Author.Tests.{lt-ltb, le-ltb, ltb-true, ltb-false, eq-eqb, ne-eqb}
 use Rattle.dealings.specs.Parties.{isCut, cutBefore}
 use Rattle.integers.specs.Parts.{posPart, negPart}
@@ -17,14 +15,13 @@ use Rattle.laws.proofs.Shares.{eachWithin}
 use Rattle.laws.proofs.Tests.{and-l, and-r, all-by, sum-by}
 use Rattle.laws.specs.Trades.{Framed, Pairwise, ended, then}
 use Rattle.rules.specs.Areas.{Prices, areas, referencePrice}
-use Rattle.rules.specs.Book.{Header, Party, Terms, Book, User, Trade, bilateralForDay, dealt, sold, bought, nobody}
+use Rattle.rules.specs.Book.{Party, Terms, Book, User, Trade, bilateralForDay, dealt, sold, bought}
 use Rattle.rules.specs.Levels.{Limits, Holding, holding, sells, buys, partyTo, floored, stock, afternoonNeed, afternoonSum, exposure, leastReferencePrice, afternoonLevel, flagged, calledIn, shortOfCover}
 use Rattle.rules.specs.Lists.{all, any}
-use Rattle.rules.specs.Questions.{idsRise, tradeValid, amountsValid}
+use Rattle.rules.specs.Questions.{tradeValid, amountsValid}
 use Rattle.rules.specs.Reduction.{eligible, hasEligible, target, cutBy, cutAll}
 use Rattle.sales.proofs.Cuts.{cut-yes, cut-no}
 use Rattle.sales.proofs.Kept.{by-case, fails, kept-yes, kept-no, any-kept}
-use Rattle.sales.proofs.Settled.{same-place}
 use Rattle.sales.specs.Cover.{SameNext, AllNext, levelFrom, flaggedFrom, shortFrom}
 use Rattle.sales.specs.Kept.{kept, spread}
 use Rattle.sales.specs.Sales.{ownSale, salesOf, isParty, someCut}
@@ -124,32 +121,6 @@ some-cut-buyer id other n (c ∷ cs) (s ∷ ss) h =
     let seller = eqb→eq (s .terms .seller) id (and-l (eqb (s .terms .seller) id) (bilateralForDay s) own) in
     rw (ne-eqb (s .terms .seller) other (λ e. n (sym e ∙ seller)))
     (ap (λ (x : Bool). (eqb (s .terms .buyer) other && ltb 0 c) || x) (some-cut-buyer id other n cs ss (and-r (ownSale id s) (all (ownSale id) ss) h)))
-
--- the cut at a place, then those after it
-pub some-cut-step : (p : Trade → Bool) (cs : List ℕ) (ss : List Trade) (i : ℕ) (d : Trade) → i < length ss → i < length cs
-    → someCut p (drop i cs) (drop i ss) ≡ (p (getD ss i d) && ltb 0 (getD cs i 0)) || someCut p (drop (suc i) cs) (drop (suc i) ss)
-unfolding someCut
-some-cut-step p cs ss i d h k = rw (drop-cons ss i d h, drop-cons cs i 0 k)
-
--- one cut more from the front, after those before it
-pub some-cut-front : (p : Trade → Bool) (cs : List ℕ) (ss : List Trade) (i : ℕ) (d : Trade) → i < length ss → i < length cs
-    → someCut p (take (suc i) cs) ss ≡ someCut p (take i cs) ss || (p (getD ss i d) && ltb 0 (getD cs i 0))
-unfolding someCut
-some-cut-front p cs [] i d h k = absurd (not-suc-le-zero h)
-some-cut-front p [] (s ∷ ss) i d h k = absurd (not-suc-le-zero k)
-some-cut-front p (c ∷ cs) (s ∷ ss) zero d h k = or-false (p s && ltb 0 c) (someCut p [] ss) refl
-some-cut-front p (c ∷ cs) (s ∷ ss) (suc i) d h k =
-    ap (λ (x : Bool). (p s && ltb 0 c) || x) (some-cut-front p cs ss i d (le-of-suc-le-suc h) (le-of-suc-le-suc k))
-    ∙ regroup-one (p s && ltb 0 c) (someCut p (take i cs) ss) (p (getD ss i d) && ltb 0 (getD cs i 0))
-
--- the parties of a trade by their places: the user at a place is party to it where it stands at the seller's or at the buyer's
-pub party-places : (us : List User) (low seller buyer i : ℕ) (t : Trade) → T (idsRise low us) → seller < length us → buyer < length us → i < length us
-    → getD us seller nobody .party .id ≡ t .terms .seller → getD us buyer nobody .party .id ≡ t .terms .buyer
-    → isParty (getD us i nobody .party .id) t ≡ eqb seller i || eqb buyer i
-unfolding isParty
-party-places us low seller buyer i t r h k l e g =
-    rw (← e, ← g)
-    (ap₂ (λ (x y : Bool). x || y) (same-place us low seller i nobody r h l) (same-place us low buyer i nobody r k l))
 
 -- ---- eligible trades
 
@@ -255,50 +226,10 @@ module _ {g h : ℕ → Holding} (same : AllNext g h) where
     short-next cut = rw (level-next, flagged-next)
 
 module _ (limits : Limits) (b : Book) (u : User) where
-  pub level-from : afternoonLevel limits b u ≡ levelFrom limits (b .header .prices) u (holding b u)
-  unfolding afternoonLevel levelFrom
-  level-from = refl
-
   pub target-from : target limits b u ≡ levelFrom limits (b .header .prices) u (holding b u) - u .party .assigned
   unfolding target afternoonLevel levelFrom
   target-from = refl
 
-  pub called-from : calledIn limits b u ≡ flaggedFrom limits (b .header .prices) u (holding b u) || cutBefore (u .party .id) (b .trades)
-  unfolding calledIn flagged flaggedFrom partyTo sells buys cutBefore isCut
-  called-from = refl
-
   pub short-from : shortOfCover limits b u ≡ shortFrom limits (b .header .prices) u (holding b u) (cutBefore (u .party .id) (b .trades))
   unfolding shortOfCover shortFrom afternoonLevel levelFrom calledIn flagged flaggedFrom partyTo sells buys cutBefore isCut
   short-from = refl
-
--- ---- the opening book's risk
-
--- a user's record in a book whose trades differ in what stands of kind 0 and day 0 only: level, target and flag are as in the opening book
-module _ (o b : Book) (framed : Pairwise Framed (o .trades) (b .trades)) (header : b .header ≡ o .header) (u : User) where
-  opening-next : AllNext (holding o u) (holding b u)
-  unfolding holding
-  opening-next = record { each = λ area k. next-holding o b u u refl framed area (holding o u area) refl refl refl }
-
-  module _ (limits : Limits) where
-    pub level-opening : afternoonLevel limits b u ≡ afternoonLevel limits o u
-    level-opening =
-        level-from limits b u
-        ∙ ap (λ (h : Header). levelFrom limits (h .prices) u (holding b u)) header
-        ∙ sym (level-next opening-next limits (o .header .prices) u)
-        ∙ sym (level-from limits o u)
-
-    pub target-opening : target limits b u ≡ target limits o u
-    unfolding target
-    target-opening = ap (λ (n : ℕ). n - u .party .assigned) level-opening
-
-    pub flagged-opening : flagged limits b u ≡ flagged limits o u
-    unfolding flagged flaggedFrom
-    flagged-opening =
-        ap (λ (h : Header). flaggedFrom limits (h .prices) u (holding b u)) header ∙ sym (flagged-next opening-next limits (o .header .prices) u)
-
-    -- short of cover: with the trades that stand below notified now
-    pub short-opening : shortOfCover limits b u ≡ shortFrom limits (o .header .prices) u (holding o u) (cutBefore (u .party .id) (b .trades))
-    short-opening =
-        short-from limits b u
-        ∙ ap (λ (h : Header). shortFrom limits (h .prices) u (holding b u) (cutBefore (u .party .id) (b .trades))) header
-        ∙ sym (short-next opening-next limits (o .header .prices) u (cutBefore (u .party .id) (b .trades)))

@@ -2,12 +2,11 @@
 use mathlib.Core.Bool.{Bool, true, false, not, cond, _&&_}
 use mathlib.Core.List.{List, [], _∷_, map}
 use mathlib.Core.Path.{_≡_, refl, sym, ap, ap₂, subst, fun-ext, _∙_}
-use Prim.Native.Nat.{ℕ, zero, suc, _+_, _-_, _<_}
-use native.Mathlib.Nat.{sub-zero, zero-mul, not-suc-le-zero, le-of-suc-le-suc}
+use Prim.Native.Nat.{ℕ, _+_, _-_}
+use native.Mathlib.Nat.{sub-zero, zero-mul}
 use native.Mathlib.Omega.{arith}
 use lib.Dec.{T, eqb, ltb, eqb→eq}
-use lib.ListN.{length, take, drop, getD, length-map}
-use lib.Seq.{drop-cons}
+use lib.ListN.{length, length-map}
 use borrow.Author.Tests.{ltb-false, ne-eqb}
 use Rattle.laws.proofs.Cuts.{together-within, lot-standings}
 use Rattle.laws.proofs.Shares.{eachWithin, within-length, tier-length, tier-within}
@@ -218,18 +217,3 @@ module _ (f : Prices) where
       by-case (p t)
       (λ e. rw (spread-yes p t ts c cs e, kept-yes p t ts e) (tally-kept p ts cs (tallied f c t tally)))
       (λ e. rw (spread-no p t ts (c ∷ cs) e, kept-no p t ts e) (ap (tallyAll f (spread p ts (c ∷ cs)) ts) (tally-zero t tally) ∙ tally-kept p ts (c ∷ cs) tally))
-
-  -- one cut more from the front, after those before it
-  pub tally-front : (cs : List ℕ) (ss : List Trade) (tally : Tally) (i : ℕ) (d : Trade) → i < length ss → i < length cs
-      → tallyAll f (take (suc i) cs) ss tally ≡ tallied f (getD cs i 0) (getD ss i d) (tallyAll f (take i cs) ss tally)
-  unfolding tallyAll
-  tally-front cs [] tally i d h k = absurd (not-suc-le-zero h)
-  tally-front [] (s ∷ ss) tally i d h k = absurd (not-suc-le-zero k)
-  tally-front (c ∷ cs) (s ∷ ss) tally zero d h k = refl
-  tally-front (c ∷ cs) (s ∷ ss) tally (suc i) d h k = tally-front cs ss (tallied f c s tally) i d (le-of-suc-le-suc h) (le-of-suc-le-suc k)
-
-  -- the cut at a place, then those after it
-  pub tally-step : (cs : List ℕ) (ss : List Trade) (tally : Tally) (i : ℕ) (d : Trade) → i < length ss → i < length cs
-      → tallyAll f (drop i cs) (drop i ss) tally ≡ tallyAll f (drop (suc i) cs) (drop (suc i) ss) (tallied f (getD cs i 0) (getD ss i d) tally)
-  unfolding tallyAll
-  tally-step cs ss tally i d h k = rw (drop-cons ss i d h, drop-cons cs i 0 k)

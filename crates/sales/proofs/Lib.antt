@@ -17,9 +17,6 @@ pub mod Reduced
 pub mod Groups
 pub mod Count
 pub mod Origins
-pub mod Rebuilt
 pub mod Standing
--- a run's book, represented by what changes of the opening book
-pub mod Represented
-pub mod Parts
+-- the user that is reduced next
 pub mod Next

@@ -5,7 +5,7 @@ use mathlib.Core.Path.{_≡_, refl, sym, ap, ap₂, _∙_}
 use Prim.Native.Nat.{ℕ, zero, suc, _-_, _<_}
 use native.Mathlib.Nat.{not-suc-le-zero, le-of-suc-le-suc}
 use native.Mathlib.Omega.{arith}
-use lib.ListN.{length, take, getD, set, length-map, List·getD-eq-default, List·getD-map}
+use lib.ListN.{length, getD, length-map, List·getD-eq-default, List·getD-map}
 use Rattle.arrays.proofs.Fronts.{getD-inside}
 use Rattle.laws.specs.Trades.{standingIf, tariffOf}
 use Rattle.rules.specs.Areas.{Prices}
@@ -81,14 +81,6 @@ less-length [] ns = refl
 less-length (c ∷ cs) [] = refl
 less-length (c ∷ cs) (n ∷ ns) = ap suc (less-length cs ns)
 
--- one cut more from the front, after those before it
-pub less-front : (cs ns : List ℕ) (i : ℕ) → i < length ns → i < length cs → less (take (suc i) cs) ns ≡ set (less (take i cs) ns) i (getD ns i 0 - getD cs i 0)
-unfolding less
-less-front cs [] i h k = absurd (not-suc-le-zero h)
-less-front [] (n ∷ ns) i h k = absurd (not-suc-le-zero k)
-less-front (c ∷ cs) (n ∷ ns) zero h k = refl
-less-front (c ∷ cs) (n ∷ ns) (suc i) h k = ap (λ (ms : List ℕ). (n - c) ∷ ms) (less-front cs ns i (le-of-suc-le-suc h) (le-of-suc-le-suc k))
-
 -- what stands after cuts
 pub standing-cut : (cs : List ℕ) (ts : List Trade) → map (λ t. t .standing) (cutAll cs ts) ≡ less cs (map (λ t. t .standing) ts)
 unfolding cutAll cutBy less
@@ -102,10 +94,3 @@ unfolding cutAll cutBy
 terms-cut g [] ts = refl
 terms-cut g (c ∷ cs) [] = refl
 terms-cut {B} g (c ∷ cs) (t ∷ ts) = ap (λ (xs : List B). g (t .terms) ∷ xs) (terms-cut g cs ts)
-
--- and as many
-pub cut-length : (cs : List ℕ) (ts : List Trade) → length (cutAll cs ts) ≡ length ts
-unfolding cutAll
-cut-length [] ts = refl
-cut-length (c ∷ cs) [] = refl
-cut-length (c ∷ cs) (t ∷ ts) = ap suc (cut-length cs ts)

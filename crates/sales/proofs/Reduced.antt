@@ -2,7 +2,7 @@
 -- something. Assumes nothing.
 use mathlib.Core.Bool.{Bool, true, false, _&&_, _||_}
 use mathlib.Core.List.{List, [], _∷_, map}
-use mathlib.Core.Path.{_≡_, refl, sym, ap, ap₂, subst, _∙_}
+use mathlib.Core.Path.{_≡_, refl, sym, ap, subst, _∙_}
 use Prim.Native.Nat.{ℕ, zero, suc}
 use native.Mathlib.Omega.{arith}
 use lib.Dec.{T, eqb, ltb}
@@ -17,18 +17,16 @@ use Rattle.laws.proofs.Trades.{framed}
 use Rattle.rules.specs.Book.{Header, Book, User, Trade}
 use Rattle.rules.specs.Calls.{Result, reducedBy, ofCuts}
 use Rattle.rules.specs.Changes.{change, moved}
-use Rattle.rules.specs.Levels.{Limits, Holding, holding, calledIn, shortOfCover}
-use Rattle.rules.specs.Lists.{any}
-use Rattle.rules.specs.Reduction.{cutBy, cutAll, settleOne, settle, tallyAll, nothing, withTrades, hasEligible, lost}
-use Rattle.sales.proofs.Cover.{valid-notified, cut-before-kept, has-eligible-sales, next-holding, or-false, called-from, flagged-next, short-from, short-next}
+use Rattle.rules.specs.Levels.{Limits, Holding, holding, shortOfCover}
+use Rattle.rules.specs.Reduction.{cutBy, cutAll, settleOne, settle, tallyAll, nothing, withTrades, lost}
+use Rattle.sales.proofs.Cover.{valid-notified, cut-before-kept, next-holding, or-false, short-from, short-next}
 use Rattle.sales.proofs.Cuts.{sale-within, cuts-sales, sales-cut, sales-other, tally-kept, cut-zero}
 use Rattle.sales.proofs.Kept.{by-case}
-use Rattle.sales.proofs.Numbers.{standing-cut}
 use Rattle.sales.proofs.Settled.{settle-kept, settle-parties, settle-one-none, settle-none}
-use Rattle.sales.specs.Cover.{AllNext, flaggedFrom, shortFrom, due}
+use Rattle.sales.specs.Cover.{AllNext, shortFrom}
 use Rattle.sales.specs.Kept.{spread}
 use Rattle.sales.specs.Reduced.{ownSales, ownCuts, SalesReduced}
-use Rattle.sales.specs.Sales.{ownSale, salesOf, shortAt, isParty, someCut, less}
+use Rattle.sales.specs.Sales.{ownSale, salesOf, shortAt, isParty, someCut}
 
 module _ (b : Book) (u : User) (asked : ℕ) where
   -- the trades after the reduction
@@ -142,15 +140,6 @@ module _ {b : Book} {u : User} {asked : ℕ} {r : Result} (h : SalesReduced b u 
         ∙ sym (short-next same limits (b .header .prices) v (cutBefore (v .party .id) (r .book .trades)))
         ∙ ap (shortFrom limits (b .header .prices) v g) (h .cut (v .party .id))
 
-    -- called in after the reduction
-    pub called-after : {g : ℕ → Holding} → AllNext g (holding (r .book) v)
-        → calledIn limits (r .book) v
-        ≡ flaggedFrom limits (b .header .prices) v g || (cutBefore (v .party .id) (b .trades) || someCut (isParty (v .party .id)) (ownCuts b u asked) (ownSales b u))
-    called-after {g} same =
-        called-from limits (r .book) v
-        ∙ ap (λ (x : Header). flaggedFrom limits (x .prices) v (holding (r .book) v) || cutBefore (v .party .id) (r .book .trades)) (h .header)
-        ∙ ap₂ (λ (x y : Bool). x || y) (sym (flagged-next same limits (b .header .prices) v)) (h .cut (v .party .id))
-
     -- what the user held before serves, where the position is that of the record
     held-before : AllNext (holding b v) (holding (r .book) v)
     unfolding holding
@@ -165,28 +154,3 @@ module _ {b : Book} {u : User} {asked : ℕ} {r : Result} (h : SalesReduced b u 
         ∙ ap (shortFrom limits (b .header .prices) v (holding b v))
         (or-false (cutBefore (v .party .id) (b .trades)) (someCut (isParty (v .party .id)) (ownCuts b u asked) (ownSales b u)) e)
         ∙ sym (short-from limits b v)
-
-  -- another user has an eligible trade where it had one
-  pub eligible-left : (v : User) → (v .party .id ≡ u .party .id → ⊥) → hasEligible (r .book) v ≡ hasEligible b v
-  eligible-left v n =
-      has-eligible-sales (r .book) v
-      ∙ ap (λ (ss : List Trade). any (λ k. ltb 0 k) (map (λ s. s .standing) ss)) (h .other (v .party .id) n)
-      ∙ sym (has-eligible-sales b v)
-
-  -- the seller has one where an own sale is left above 0
-  pub eligible-own : (v : User) → v .party .id ≡ u .party .id
-      → hasEligible (r .book) v ≡ any (λ k. ltb 0 k) (less (ownCuts b u asked) (map (λ s. s .standing) (ownSales b u)))
-  eligible-own v e =
-      has-eligible-sales (r .book) v
-      ∙ ap (λ (id : ℕ). any (λ k. ltb 0 k) (map (λ s. s .standing) (salesOf (r .book .trades) id))) e
-      ∙ ap (λ (ss : List Trade). any (λ k. ltb 0 k) (map (λ s. s .standing) ss)) (h .own)
-      ∙ ap (any (λ k. ltb 0 k)) (standing-cut (ownCuts b u asked) (ownSales b u))
-
-  -- a user that is neither the seller nor party to a sale that lost something is due where it was
-  pub due-left : (limits : Limits) (i : ℕ) (d : User) → (getD (b .users) i d .party .id ≡ u .party .id → ⊥)
-      → someCut (isParty (getD (b .users) i d .party .id)) (ownCuts b u asked) (ownSales b u) ≡ false
-      → due limits (r .book) (getD (r .book .users) i d) ≡ due limits b (getD (b .users) i d)
-  unfolding due
-  due-left limits i d n e =
-      let v = getD (b .users) i d in
-      ap (due limits (r .book)) (user-left i d e) ∙ ap₂ (λ (x y : Bool). x && y) (cover-left limits v e) (eligible-left v n)

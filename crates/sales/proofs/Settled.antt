@@ -8,8 +8,7 @@ use native.Mathlib.Nat.{le-of-eq, not-suc-le-zero, le-of-suc-le-suc}
 use native.Mathlib.Omega.{arith}
 use lib.Dec.{T, eqb, ltb, ltb→lt, eqb·zero-suc, eqb·suc-zero, eqb·suc-suc}
 use lib.IntN.{ℤ, pos, negℤ, +ℤ-idr}
-use lib.ListN.{length, take, drop, getD, set, length-map, drop-of-length-le, List·getD-map}
-use lib.Seq.{drop-cons}
+use lib.ListN.{length, take, getD, set, length-map, List·getD-map}
 use borrow.Author.Tests.{eq-eqb, ne-eqb}
 use Rattle.integers.proofs.Linear.{eq-parts, posPart-pos, negPart-pos}
 use Rattle.laws.proofs.Tests.{and-l, and-r, by-test}
@@ -80,18 +79,6 @@ settle-kept p (t ∷ ts) (c ∷ cs) us =
     ∙ ap (λ (ss : List Trade). settle ss (cutAll (c ∷ cs) ss) us) (sym (kept-no p t ts e)))
 
 -- ---- sale by sale
-
--- the sale at a place, then those after it
-pub settle-step : (cs : List ℕ) (ss : List Trade) (us : List User) (i : ℕ) (d : Trade) → i < length ss → i < length cs
-    → settle (drop i ss) (cutAll (drop i cs) (drop i ss)) us
-    ≡ settle (drop (suc i) ss) (cutAll (drop (suc i) cs) (drop (suc i) ss)) (settleOne (getD ss i d) (cutBy (getD cs i 0) (getD ss i d)) us)
-unfolding settle cutAll
-settle-step cs ss us i d h k = rw (drop-cons ss i d h, drop-cons cs i 0 k)
-
--- none is left
-pub settle-end : (cs : List ℕ) (ss : List Trade) (us : List User) (i : ℕ) → length ss ≤ i → settle (drop i ss) (cutAll (drop i cs) (drop i ss)) us ≡ us
-unfolding settle
-settle-end cs ss us i h = rw (drop-of-length-le ss {i = i} h)
 
 -- one cut more from the front, after those before it
 pub settle-front : (cs : List ℕ) (ss : List Trade) (us : List User) (i : ℕ) (d : Trade) → i < length ss → i < length cs

@@ -1,5 +1,4 @@
 // The shown record: a user's 56 bytes as that part of the lent book, no copy and no offset.
-ghost use mathlib.Core.Path.{_≡_};
 ghost use Rattle.shown.specs.Shown.{Shown, picked};
 
 // The record of the user of an id as a part of the book, and 0; or the empty part and the number of the first question that is answered by no.

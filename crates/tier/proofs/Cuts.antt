@@ -41,6 +41,11 @@ module _ (standing tariffs : List ℕ) (e : length tariffs ≡ length standing) 
       ∙ rw (← w, f, lt-leb v asked l)
       (ap₂ (λ (n : ℕ) (ns : List Share). map (λ s. s .cut) (byTurns n asked ns)) (e ∙ sym (lots-length standing tariffs e)) q)
 
+-- nothing is asked, whatever the tier is worth
+pub asked-nothing : (standing tariffs : List ℕ) → length tariffs ≡ length standing → (asked : ℕ) → asked ≡ 0
+    → (ns : List ℕ) → length ns ≡ length standing → map (λ n. 0) ns ≡ tierCuts asked (lotsOf standing tariffs)
+asked-nothing standing tariffs e asked z = cuts-none standing tariffs e asked (tierWorth (lotsOf standing tariffs)) refl (rw z)
+
 module _ (asked : ℕ) (standing tariffs : List ℕ) (e : length tariffs ≡ length standing) where
   -- each cut is at most what stands, and 0 past the end
   pub cut-le-standing : (i : ℕ) → getD (tierCuts asked (lotsOf standing tariffs)) i 0 ≤ getD standing i 0

@@ -4,7 +4,7 @@ ghost use mathlib.Core.Path.{_≡_};
 ghost use mathlib.Core.List.{map};
 ghost use Prim.Native.Nat.{_+_, _*_, _/_, _%_, _≤_, _<_};
 ghost use lib.ListN.{length, getD};
-ghost use Rattle.rules.specs.Shares.{shareOf, largestRemainder, oneMore, byTurns, tierCuts};
+ghost use Rattle.rules.specs.Shares.{tierWorth, shareOf, largestRemainder, oneMore, byTurns, tierCuts};
 ghost use Rattle.worths.specs.Lots.{lotsOf};
 ghost use Rattle.tier.specs.Turns.{Lent, sharesOf, Sharing, Earliest};
 use units::Cents;
@@ -140,18 +140,19 @@ fn cut_all(cuts: &mut [u64], standing: &[u64])
     }
 }
 
-// What each trade of a tier loses that is asked for A. `rests` is room for the remainders; what it holds at the end is of no use.
-pub fn tier_cuts<'a>(
+// What each trade of a tier of a worth loses that is asked for A. `rests` is room for the remainders; what it holds at the end is of no use.
+pub fn cuts_of_worth<'a>(
     standing: &'a [u64],
     tariffs: &'a [u32],
     asked: Cents,
+    worth: Cents,
     cuts: &mut [u64],
     rests: &mut [u64],
 )
     requires { ⌜ Lent (now standing) (now tariffs) (now cuts) (now rests) ⌝ }
+    requires { ⌜ (worth .0 ≡ tierWorth (lotsOf (now standing) (now tariffs))) × (worth .0 ≤ 10000000000 * length (now standing)) ⌝ }
     ensures { λ _. ⌜ now (cuts .exit) ≡ tierCuts (asked .0) (lotsOf (now (standing .entry)) (now (tariffs .entry))) ⌝ }
 {
-    let worth = worths::worth_of(standing, tariffs);
     let a = asked.0;
     let v = worth.0;
     if (a == 0) | (v == 0) {
@@ -164,4 +165,23 @@ pub fn tier_cuts<'a>(
     }
     let loss = whole_parts(standing, tariffs, asked, worth, cuts, rests);
     by_turns(cuts, rests, tariffs, asked, loss);
+}
+
+// The same of a tier whose worth is not known yet. Where nothing is asked, it is not valued.
+pub fn tier_cuts<'a>(
+    standing: &'a [u64],
+    tariffs: &'a [u32],
+    asked: Cents,
+    cuts: &mut [u64],
+    rests: &mut [u64],
+)
+    requires { ⌜ Lent (now standing) (now tariffs) (now cuts) (now rests) ⌝ }
+    ensures { λ _. ⌜ now (cuts .exit) ≡ tierCuts (asked .0) (lotsOf (now (standing .entry)) (now (tariffs .entry))) ⌝ }
+{
+    if asked.0 == 0 {
+        cut_none(cuts);
+        return;
+    }
+    let worth = worths::worth_of(standing, tariffs);
+    cuts_of_worth(standing, tariffs, asked, worth, cuts, rests);
 }

@@ -1,2 +1,2 @@
--- Laws of one reduction on lists.
+-- Laws of one reduction of a run.
 pub mod Steps

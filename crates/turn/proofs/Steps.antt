@@ -1,195 +1,173 @@
--- The steps of one reduction on lists: its cuts can be settled and its buyers asked anew, and together they are the reduction. Assumes nothing.
-use mathlib.Core.Bool.{Bool, true}
-use mathlib.Core.List.{List, [], _∷_, map}
-use mathlib.Core.Path.{_≡_, refl, sym, ap, subst, _∙_}
-use Prim.Native.Nat.{ℕ, _+_, _-_, _≤_, _<_, _^_}
+-- The steps of one reduction of a run: the user and its buyers can be asked before and after it, and what it leaves are the lists of the rules' book. Assumes nothing.
+use mathlib.Core.Bool.{Bool}
+use mathlib.Core.List.{List, _++_}
+use mathlib.Core.Path.{_≡_, refl, sym, ap, ap₂, subst, _∙_}
+use Prim.Native.Nat.{ℕ, _+_, _*_, _-_, _≤_, _<_}
 use native.Mathlib.Omega.{arith}
-use lib.IntN.{ℤ, pos, negℤ}
-use lib.ListN.{length, drop, getD, set, length-set, length-drop}
-use lib.Seq.{length-take-le, getD-set-same, getD-set-other, set-out}
-use Rattle.arrays.proofs.Fronts.{getD-inside}
-use Rattle.cover.proofs.Flags.{short-at}
-use Rattle.cover.specs.Cover.{Levelled, Marking, noDealings, shortCut, marked, ownPart}
-use Rattle.dealings.specs.declared.Amounts.{Amounts}
-use Rattle.dealings.specs.declared.Dealings.{Dealings}
-use Rattle.integers.proofs.Linear.{by-order}
-use Rattle.ledger.proofs.Cuts.{cuts-many, cuts-at}
-use Rattle.ledger.specs.Ledger.{SalesCut}
-use Rattle.levels.specs.Holdings.{held}
-use Rattle.movements.proofs.Settled.{user-at}
-use Rattle.movements.specs.Positions.{Settling, settledAll}
-use Rattle.records.specs.User.{asUser, blankUser}
-use Rattle.records.specs.declared.User.{User}
+use lib.ListN.{length, take, drop, getD, set, length-map, length-drop}
+use lib.Seq.{length-take-le}
+use Rattle.cover.proofs.Flags.{marked-length}
+use Rattle.cover.specs.Cover.{Asking, Marking, Ranges, marked, ownPart, shortCut, targetIn}
+use Rattle.format.specs.Book.{bookOf, tradesAt, userAt, userCount, usersOf}
+use Rattle.format.specs.Steps.{placeOf}
+use Rattle.held.proofs.Held.{held-userCount, held-users}
+use Rattle.levels.specs.Limits.{LimitsInRange}
+use Rattle.listed.proofs.Parts.{areas-length, buyers-length, origins-length, own-areas, own-buyers, own-origins, own-standing, sales-all-few, starts-in, users-asking}
+use Rattle.listed.proofs.Stay.{target-is, users-stay}
+use Rattle.listed.proofs.Turned.{turn-answer, turn-lists, turn-state}
+use Rattle.listed.specs.Listed.{ListsOf, StateOf}
+use Rattle.reducing.proofs.Own.{own-buyer-inside, prices-in}
+use Rattle.reducing.specs.Reducing.{ReducedIn, sellerAt}
 use Rattle.rules.specs.Areas.{Prices}
-use Rattle.rules.specs.Book.{nobody}
-use Rattle.rules.specs.Changes.{moved}
+use Rattle.rules.specs.Book.{Book, Header, User, nobody}
+use Rattle.rules.specs.Calls.{reduced}
 use Rattle.rules.specs.Levels.{Limits}
-use Rattle.sales.specs.Cover.{levelFrom, shortFrom}
-use Rattle.sales.specs.Sales.{settledAt}
-use Rattle.tiers.specs.Tiers.{SellerOf}
-use Rattle.tiers.specs.declared.Seller.{Seller}
-use Rattle.turn.specs.Turn.{OwnRoom, OwnTurn, TurnRoom, askedOf}
-use Rattle.turn.specs.declared.Turn.{Turn}
+use Rattle.rules.specs.Reduction.{target}
+use Rattle.sales.proofs.FirstCuts.{own-cuts-length}
+use Rattle.sales.proofs.Reduced.{sales-reduced}
+use Rattle.sales.specs.Reduced.{ownSales}
+use Rattle.turn.specs.Turn.{OwnRoom, OwnTurn, Turning, Turned}
 use Rattle.units.specs.Prices.{InRange}
 use Rattle.worths.specs.declared.Tally.{Tally}
-use Rattle.rules.specs.Book as model
 
--- ---- what settling leaves
+-- ---- the user's own sales
 
--- a move of a position leaves what is blocked
-moved-blocked : (us : List model.User) (i area : ℕ) (z : ℤ) (j : ℕ) → getD (set us i (moved area z (getD us i nobody))) j nobody .blocked ≡ getD us j nobody .blocked
-unfolding moved
-moved-blocked us i area z j =
-    by-order j i (λ l. other (λ e. omega arith)) (λ l. by-order i j (λ m. other (λ e. omega arith)) (λ m. same (omega arith)))
-  where
-    v : model.User
-    v = moved area z (getD us i nobody)
+module _ {limits : Limits} (range : LimitsInRange limits) {s : List ℕ} {from : ℕ} {sells buys : List ℕ} {place : ℕ} {origins own areas buyers : List ℕ} {short : List Bool} {f : Prices}
+    {room : List ℕ} (p : OwnRoom s from sells buys place origins own areas buyers short f room) where
+  -- limits and prices are in range
+  pub own-ranges : Ranges limits f
+  own-ranges = record { limits-in = range; prices-in = subst InRange (sym (p .reducible .prices)) (prices-in (bookOf s) (p .reducible .sound)) }
 
-    other : (j ≡ i → ⊥) → getD (set us i v) j nobody .blocked ≡ getD us j nobody .blocked
-    other n = ap (λ (u : model.User). u .blocked) (getD-set-other us i j v nobody n)
+  -- the user can be asked before
+  pub own-asking : Asking s sells buys place
+  own-asking =
+      users-asking (p .reducible .held) (p .reducible .sound) (p .sold-bounded) (p .bought-bounded) place (omega (arith, p .reducible .inside, held-userCount (p .reducible .held)))
 
-    same : j ≡ i → getD (set us i v) j nobody .blocked ≡ getD us j nobody .blocked
-    same e =
-        rw e (by-order i (length us) (λ l. ap (λ (u : model.User). u .blocked) (getD-set-same us i v nobody l))
-        (λ l. ap (λ (vs : List model.User). getD vs i nobody .blocked) (set-out us i v l)))
+  module _ {asked : ℕ} {t left cs : List ℕ} {r : Tally} (w : ReducedIn (bookOf s) place asked t left cs r) where
+    many : userCount t ≡ userCount s
+    many =
+        sym (held-userCount (w .held))
+        ∙ users-stay (sales-reduced (bookOf s) (sellerAt (bookOf s) place) asked (p .reducible .sound))
+        ∙ held-userCount (p .reducible .held)
 
-settled-blocked : (place : ℕ) (buyers areas cs : List ℕ) (us : List model.User) (j : ℕ) → getD (settledAll place buyers areas cs us) j nobody .blocked ≡ getD us j nobody .blocked
-unfolding settledAll settledAt
-settled-blocked place [] areas cs us j = refl
-settled-blocked place (b ∷ buyers) [] cs us j = refl
-settled-blocked place (b ∷ buyers) (a ∷ areas) [] us j = refl
-settled-blocked place (b ∷ buyers) (a ∷ areas) (c ∷ cs) us j =
-    settled-blocked place buyers areas cs (settledAt place b a c us) j
-    ∙ moved-blocked (set us place (moved a (pos c) (getD us place nobody))) b a (negℤ (pos c)) j
-    ∙ moved-blocked us place a (pos c) j
+    -- each user can be asked after
+    after-asking : (i : ℕ) → i < userCount t → Asking t sells buys i
+    after-asking i k =
+        users-asking (w .held) (sales-reduced (bookOf s) (sellerAt (bookOf s) place) asked (p .reducible .sound) .sound) (p .sold-bounded) (p .bought-bounded) i k
 
-pub marked-length : (now : ℕ → Bool) (buyers cs : List ℕ) (short : List Bool) → length (marked now buyers cs short) ≡ length short
-unfolding marked
-marked-length now [] cs short = refl
-marked-length now (b ∷ buyers) [] short = refl
-marked-length now (b ∷ buyers) (c ∷ cs) short = marked-length now buyers cs (set short b _) ∙ length-set short b _
+    cuts-many : length cs ≡ length (ownSales (bookOf s) (sellerAt (bookOf s) place))
+    cuts-many = ap length (w .cuts) ∙ own-cuts-length (bookOf s) (sellerAt (bookOf s) place) asked
 
--- ---- the steps
-
-module _ {users : List User} {dealings : List Dealings} {place : ℕ} {own areas buyers : List ℕ} {short : List Bool} {room : List ℕ}
-    (p : OwnRoom users dealings place own areas buyers short room) (users-room : length users ≡ 64) (dealings-room : length dealings ≡ 64) where
-  -- a level can be taken of the user
-  pub own-levelled : (d : User) (e : Dealings) → Levelled (getD users place d) (getD dealings place e)
-  own-levelled d e =
-      let q = p .parties in
-      rw (getD-inside users place d blankUser (omega (arith, q .inside, q .few)), getD-inside dealings place e noDealings (omega (arith, q .inside, q .few))) (q .each place (q .inside))
-
-  module _ {f : Prices} (range : InRange f) {sh : Amounts} {asked : ℕ} {left cs : List ℕ} {t : Tally} (cut : SalesCut f sh asked own areas left cs t) where
-    cuts-count : length cs ≡ length own
-    cuts-count = cuts-many f range sh asked (p .sales) (cut .cuts)
-
-    -- the cuts can be settled
-    pub own-settling : Settling users place areas buyers cs
-    own-settling =
-        let n = cuts-count in
+    -- the buyers
+    pub own-marking : Marking short t sells buys buyers cs
+    own-marking =
+        let b = bookOf s in
+        let u = sellerAt (bookOf s) place in
         record {
-          count = length short;
-          users-few = p .parties .few;
-          sales-few = omega (arith, p .sales .few);
-          areas-length = p .sales .areas-length ∙ sym n;
-          buyers-length = p .buyers-length ∙ sym n;
-          seller-inside = p .parties .inside;
-          buyer-inside = λ i h. p .buyer-inside i (omega arith);
-          area-inside = λ i h. p .area-inside i (omega arith);
-          most = λ i. omega (arith, cuts-at f range sh asked (p .sales) (cut .cuts) i, p .sales .most i);
-          bounded = p .parties .bounded;
+          short-length = p .short-length ∙ sym many;
+          buyers-length = ap length (p .reducible .buyers-are) ∙ length-map (ownSales b u) (λ t. placeOf (b .users) (t .terms .buyer)) ∙ sym cuts-many;
+          buyer-inside = λ i k.
+              omega (
+                arith,
+                ap (λ (xs : List ℕ). getD xs i 0) (p .reducible .buyers-are),
+                own-buyer-inside b (p .reducible .sound) u i (omega (arith, cuts-many)),
+                many,
+                held-userCount (p .reducible .held),
+              );
+          each = after-asking;
         }
 
-    module _ (after : List User) (o : (length after ≡ 64) × (map asUser after ≡ settledAll place buyers areas cs (map asUser users))) where
-      -- what is blocked stays
-      blocked-stays : (i : ℕ) → i < 64 → getD after i blankUser .blocked .0 ≡ getD users i blankUser .blocked .0
-      unfolding asUser
-      blocked-stays i h =
-          ap (λ (u : model.User). u .blocked) (sym (user-at after i blankUser (omega (arith, o .0))))
-          ∙ ap (λ (us : List model.User). getD us i nobody .blocked) (o .1)
-          ∙ settled-blocked place buyers areas cs (map asUser users) i
-          ∙ ap (λ (u : model.User). u .blocked) (user-at users i blankUser (omega arith))
+    -- the user
+    pub user-asking : Asking t sells buys place
+    user-asking = after-asking place (omega (arith, many, p .reducible .inside, held-userCount (p .reducible .held)))
 
-      after-levelled : (i : ℕ) → i < length short → Levelled (getD after i blankUser) (getD dealings i noDealings)
-      after-levelled i h =
-          let l = p .parties .each i h in
-          record { within = l .within; blocked-most = omega (arith, l .blocked-most, blocked-stays i (omega (arith, p .parties .few))) }
+    -- its flag is among those of the buyers asked anew
+    pub flag-inside : (now : ℕ → Bool) {flags : List Bool} → flags ≡ marked now buyers cs short → place < length flags
+    flag-inside now e =
+        omega (arith, ap length e, marked-length now buyers cs short, p .short-length, p .reducible .inside, held-userCount (p .reducible .held))
 
-      pub user-levelled : (d : User) (e : Dealings) → Levelled (getD after place d) (getD dealings place e)
-      user-levelled d e =
-          let q = p .parties in
-          rw (getD-inside after place d blankUser (omega (arith, q .inside, q .few, o .0)), getD-inside dealings place e noDealings (omega (arith, q .inside, q .few)))
-          (after-levelled place (q .inside))
+-- together they are the reduction
+pub own-turn : {limits : Limits} {f : Prices} {s sells buys : List ℕ} {place : ℕ} {buyers : List ℕ} {short : List Bool} {asked : ℕ} {t left cs : List ℕ} {r : Tally}
+    → ReducedIn (bookOf s) place asked t left cs r
+    → asked ≡ targetIn limits f (usersOf s) sells buys place
+    → {marks flags : List Bool} → marks ≡ marked (shortCut limits f (usersOf t) sells buys) buyers cs short
+    → flags ≡ set marks place (shortCut limits f (usersOf t) sells buys place)
+    → OwnTurn limits f s sells buys place buyers short t left cs flags r
+own-turn {limits} {f} {s} {sells} {buys} {place} {t = t} {left} {cs} {r} w a m e =
+    record {
+      reduction = subst (λ (n : ℕ). ReducedIn (bookOf s) place n t left cs r) a w;
+      flagged = e ∙ ap (λ (bs : List Bool). set bs place (shortCut limits f (usersOf t) sells buys place)) m;
+    }
 
-      -- the buyers can be asked
-      pub own-marking : Marking short after dealings buyers cs
-      own-marking =
-          let n = cuts-count in
-          record {
-            few = p .parties .few;
-            buyers-length = p .buyers-length ∙ sym n;
-            buyer-inside = λ i h. p .buyer-inside i (omega arith);
-            each = after-levelled;
-          }
+-- ---- the lists of all own sales
 
-  -- together they are the reduction
-  pub own-turn : (limits : Limits) (f : Prices) {s : Seller} {asked : ℕ} {left cs : List ℕ} {t : Tally} (after : List User) (d x : User) (e : Dealings)
-      → SellerOf (asUser (getD users place d)) s
-      → asked ≡ levelFrom limits f (asUser (getD users place d)) (held (getD users place d) (getD dealings place e)) - getD users place d .assigned .0
-      → SalesCut f (s .short) asked own areas left cs t
-      → (length after ≡ 64) × (map asUser after ≡ settledAll place buyers areas cs (map asUser users))
-      → {flags : List Bool} → flags ≡ marked (shortCut limits f after dealings) buyers cs short
-      → {flag : Bool} → flag ≡ shortFrom limits f (asUser (getD after place x)) (held (getD after place x) (getD dealings place e)) true
-      → OwnTurn limits f users dealings place own areas buyers short left (set flags place flag) cs (record { users = after; tally = t })
-  unfolding askedOf
-  own-turn limits f {s} {asked} {left} {cs} {t} after d x e of ask cut o {flags} m {flag} g =
-      let q = p .parties in
-      let here = getD-inside users place d blankUser (omega (arith, q .inside, q .few)) in
-      let held-here = getD-inside dealings place e noDealings (omega (arith, q .inside, q .few)) in
-      record {
-        seller = s;
-        seller-of = subst (λ (u : User). SellerOf (asUser u) s) here of;
-        cut = subst (λ (n : ℕ). SalesCut f (s .short) n own areas left cs t)
-            (ask ∙ rw (here, held-here)) cut;
-        room = o .0;
-        settled = o .1;
-        flagged =
-            ap (λ (bs : List Bool). set bs place flag) m
-            ∙ ap (set (marked (shortCut limits f after dealings) buyers cs short) place)
-            (g ∙ short-at after dealings place x e (omega (arith, q .inside, q .few, o .0)) (omega (arith, q .inside, q .few)) limits f);
-      }
+module _ {limits : Limits} {f : Prices} {s : List ℕ} {from : ℕ} {sells buys : List ℕ} {place : ℕ} {ss origins ns areaCodes bs : List ℕ} {short : List Bool}
+    (p : Turning limits f s from sells buys place ss origins ns areaCodes bs short) where
+  -- the part of the user lies in each of them
+  pub part-rise : getD ss place 0 ≤ getD ss (place + 1) 0
+  part-rise = starts-in (p .listed .lists) (p .listed .state) .rise place (omega (arith, p .inside, p .listed .state .short-length))
 
--- ---- the user's parts of the lists of all own sales
+  pub part-inside : getD ss (place + 1) 0 ≤ length ns
+  part-inside = starts-in (p .listed .lists) (p .listed .state) .inside place (omega (arith, p .inside, p .listed .state .short-length))
 
-module _ {users : List User} {dealings : List Dealings} {place : ℕ} {starts standing areas buyers : List ℕ} {short : List Bool}
-    (p : TurnRoom users dealings place starts standing areas buyers short) where
-  -- a part has as many as the user has own sales
-  part-length : (xs : List ℕ) → length xs ≡ length standing → length (ownPart starts xs place) ≡ getD starts (place + 1) 0 - getD starts place 0
+  -- lists of one length, of no more than 256
+  pub lists-long : (length origins ≡ length ns) × (length areaCodes ≡ length ns) × (length bs ≡ length ns) × (length ns ≤ 256)
+  lists-long = (origins-length (p .listed .lists) (p .listed .state), areas-length (p .listed .lists) (p .listed .state), buyers-length (p .listed .lists) (p .listed .state), sales-all-few (p .listed .lists) (p .listed .state))
+
+  pub part-few : getD ss (place + 1) 0 - getD ss place 0 ≤ 256
+  part-few = omega (arith, part-inside, lists-long .3)
+
+  part-length : length (ownPart ss ns place) ≡ getD ss (place + 1) 0 - getD ss place 0
   unfolding ownPart
-  part-length xs e =
-      let o = p .starts-in in
-      let h = p .parties .inside in
-      length-take-le (getD starts (place + 1) 0 - getD starts place 0) (drop (getD starts place 0) xs)
-      (omega (arith, length-drop (getD starts place 0) xs, o .inside place h, o .rise place h))
-
-  -- no more than 256
-  pub part-few : getD starts (place + 1) 0 - getD starts place 0 ≤ 256
-  part-few = omega (arith, part-length standing refl, p .own-few)
+  part-length =
+      length-take-le (getD ss (place + 1) 0 - getD ss place 0) (drop (getD ss place 0) ns) (omega (arith, length-drop (getD ss place 0) ns, part-inside, part-rise))
 
   -- they can be reduced
-  pub parts-room : {cuts : List ℕ} → length cuts ≡ getD starts (place + 1) 0 - getD starts place 0
-      → OwnRoom users dealings place (ownPart starts standing place) (ownPart starts areas place) (ownPart starts buyers place) short cuts
+  pub parts-room : {cuts : List ℕ} → length cuts ≡ getD ss (place + 1) 0 - getD ss place 0
+      → OwnRoom s from sells buys place (ownPart ss origins place) (ownPart ss ns place) (ownPart ss areaCodes place) (ownPart ss bs place) short f cuts
   parts-room {cuts} e =
-      let n = part-length standing refl in
       record {
-        parties = p .parties;
-        sales = record {
-          few = p .own-few;
-          areas-length = part-length areas (p .areas-length) ∙ sym n;
-          cuts-length = e ∙ sym n;
-          most = p .own-most;
+        reducible = record {
+          held = p .listed .state .held;
+          sound = p .listed .state .sound;
+          at-trades = p .listed .at-trades;
+          inside = p .inside;
+          prices = p .listed .prices;
+          origins-are = own-origins (p .listed .lists) place (p .inside);
+          own-are = own-standing (p .listed .lists) place (p .inside) (p .listed .state .standing);
+          areas-are = own-areas (p .listed .lists) place (p .inside);
+          buyers-are = own-buyers (p .listed .lists) place (p .inside);
+          cuts-room = e ∙ sym part-length;
         };
-        buyers-length = part-length buyers (p .buyers-length) ∙ sym n;
-        buyer-inside = p .buyer-inside;
-        area-inside = p .area-inside;
+        sold-bounded = p .listed .lists .next .sold-bounded;
+        bought-bounded = p .listed .lists .next .bought-bounded;
+        short-length = p .listed .state .short-length ∙ held-userCount (p .listed .state .held);
+      }
+
+  -- what the reduction leaves
+  pub turned : {t left cs : List ℕ} {told : List Bool} {r : Tally} → OwnTurn limits f s sells buys place (ownPart ss bs place) short t left cs told r
+      → Turned limits f (bookOf s) from sells buys place ss origins areaCodes bs
+      t (take (getD ss place 0) ns ++ (left ++ drop (getD ss (place + 1) 0 - getD ss place 0) (drop (getD ss place 0) ns))) told r
+  unfolding reduced tradesAt userAt
+  turned {t} {left} {cs} {told} {r} o =
+      let b = bookOf s in
+      let asked : targetIn limits f (usersOf s) sells buys place ≡ target limits b (getD (b .users) place nobody)
+      = ap₂ (λ (g : Prices) (us : List User). targetIn limits g us sells buys place) (p .listed .prices) (held-users (p .listed .state .held)) ∙ target-is (p .listed .lists .next) place (p .inside) limits in
+      let w : ReducedIn b place (target limits b (getD (b .users) place nobody)) t left cs r = subst (λ (n : ℕ). ReducedIn b place n t left cs r) asked (o .reduction) in
+      let state = turn-state (p .listed .state) (p .listed .lists) place (p .inside) (p .next) (shortCut limits f (usersOf t) sells buys) (w .held) (w .own) refl
+      (λ j. ap₂ (λ (g : Prices) (us : List User). shortCut limits g us sells buys j) (p .listed .prices) (held-users (w .held)))
+      (own-buyers (p .listed .lists) place (p .inside)) (w .cuts) (o .flagged) in
+      let e = w .held .book in
+      let after = subst (λ (c : Book). StateOf limits c t (take (getD ss place 0) ns ++ (left ++ drop (getD ss (place + 1) 0 - getD ss place 0) (drop (getD ss place 0) ns))) told) (sym e) state in
+      let reduced-to = sales-reduced b (getD (b .users) place nobody) (target limits b (getD (b .users) place nobody)) (p .listed .state .sound) in
+      let many : userCount t ≡ userCount s = sym (held-userCount (w .held)) ∙ users-stay reduced-to ∙ held-userCount (p .listed .state .held) in
+      record {
+        book = e;
+        listed = record {
+          lists = subst (λ (c : Book). ListsOf c sells buys ss origins areaCodes bs) (sym e) (turn-lists (p .listed .state) (p .listed .lists) place (p .inside));
+          state = after;
+          at-trades = p .listed .at-trades ∙ ap (λ (n : ℕ). 32 + 56 * n) (sym many);
+          prices = p .listed .prices ∙ ap (λ (x : Header). x .prices) (sym (ap (λ (c : Book). c .header) e ∙ reduced-to .header));
+        };
+        answer = turn-answer (p .listed .state) (p .listed .lists) place (p .inside) (w .tally);
       }

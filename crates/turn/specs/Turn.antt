@@ -1,69 +1,42 @@
--- One reduction on lists: what it asks of them and what it gives. Assumes nothing.
+-- One reduction of a run: what it asks of a book in bytes and of its lists, and what it gives. Assumes nothing.
 use mathlib.Core.Bool.{Bool}
-use mathlib.Core.List.{List, _++_, map}
+use mathlib.Core.List.{List}
+use mathlib.Core.Option.{some}
 use mathlib.Core.Path.{_≡_}
-use Prim.Native.Nat.{ℕ, _+_, _-_, _≤_, _<_}
-use lib.ListN.{length, take, drop, getD, set}
-use Rattle.cover.specs.Cover.{Levelled, Starts, noDealings, shortCut, marked, ownPart}
-use Rattle.dealings.specs.declared.Dealings.{Dealings}
-use Rattle.ledger.specs.Ledger.{Sales, SalesCut}
-use Rattle.levels.specs.Holdings.{held}
-use Rattle.movements.specs.Positions.{BoundedBy, settledAll}
-use Rattle.records.specs.User.{asUser, blankUser}
-use Rattle.records.specs.declared.User.{User}
+use Prim.Native.Nat.{ℕ, _<_}
+use lib.ListN.{length, getD, set}
+use Rattle.cover.specs.Cover.{Bounded, marked, shortCut, targetIn}
+use Rattle.format.specs.Book.{bookOf, userCount, usersOf}
+use Rattle.listed.specs.Listed.{Listed}
+use Rattle.reducing.specs.Reducing.{ReducibleIn, ReducedIn}
 use Rattle.rules.specs.Areas.{Prices}
+use Rattle.rules.specs.Book.{Book, nobody}
+use Rattle.rules.specs.Calls.{nextReduced, ofCuts, reduced}
 use Rattle.rules.specs.Levels.{Limits}
-use Rattle.sales.specs.Cover.{levelFrom}
-use Rattle.tiers.specs.Tiers.{SellerOf}
-use Rattle.tiers.specs.declared.Seller.{Seller}
-use Rattle.turn.specs.declared.Turn.{Turn}
+use Rattle.rules.specs.Reduction.{target}
+use Rattle.worths.specs.Tallies.{asTally}
+use Rattle.worths.specs.declared.Tally.{Tally}
 
--- users that can be asked and settled: as many as there are flags, the place among them
-pub record Parties (users : List User) (dealings : List Dealings) (place : ℕ) (short : List Bool) : Type 0 where
-  pub few : length short ≤ 64
-  pub inside : place < length short
-  pub each : (i : ℕ) → i < length short → Levelled (getD users i blankUser) (getD dealings i noDealings)
-  pub bounded : BoundedBy 26600000 (length short) (map asUser users)
+-- a book in bytes and the own sales of the user at a place that can be reduced, with a flag for each user and what each sold and bought for d+1
+pub record OwnRoom (s : List ℕ) (from : ℕ) (sells buys : List ℕ) (place : ℕ) (origins own areas buyers : List ℕ) (short : List Bool) (f : Prices) (cuts : List ℕ) : Type 0 where
+  pub reducible : ReducibleIn s from place origins own areas buyers f cuts
+  pub sold-bounded : Bounded sells
+  pub bought-bounded : Bounded buys
+  pub short-length : length short ≡ userCount s
 
--- own sales between such users, with room for their cuts
-pub record OwnRoom (users : List User) (dealings : List Dealings) (place : ℕ) (own areas buyers : List ℕ) (short : List Bool) (cuts : List ℕ) : Type 0 where
-  pub parties : Parties users dealings place short
-  pub sales : Sales own areas cuts
-  pub buyers-length : length buyers ≡ length own
-  pub buyer-inside : (i : ℕ) → i < length own → getD buyers i 0 < length short
-  pub area-inside : (i : ℕ) → i < length own → getD areas i 0 < 3
+-- the user at a place is reduced for its target, and the buyers of sales that lost something and the user are asked anew
+pub record OwnTurn (limits : Limits) (f : Prices) (s sells buys : List ℕ) (place : ℕ) (buyers : List ℕ) (short : List Bool) (t left cs : List ℕ) (flags : List Bool) (r : Tally) : Type 0 where
+  pub reduction : ReducedIn (bookOf s) place (targetIn limits f (usersOf s) sells buys place) t left cs r
+  pub flagged : flags ≡ set (marked (shortCut limits f (usersOf t) sells buys) buyers cs short) place (shortCut limits f (usersOf t) sells buys place)
 
--- what the user at a place is asked for
-unfoldable pub askedOf : Limits → Prices → List User → List Dealings → ℕ → ℕ
-askedOf limits f users dealings place =
-    let u = getD users place blankUser in
-    levelFrom limits f (asUser u) (held u (getD dealings place noDealings)) - u .assigned .0
+-- a book in bytes with its lists, and the place of the user that is reduced next
+pub record Turning (limits : Limits) (f : Prices) (s : List ℕ) (from : ℕ) (sells buys : List ℕ) (place : ℕ) (ss origins ns areaCodes bs : List ℕ) (short : List Bool) : Type 0 where
+  pub listed : Listed limits f s from sells buys ss origins ns areaCodes bs short
+  pub inside : place < length (bookOf s .users)
+  pub next : nextReduced limits (bookOf s) (bookOf s .users) ≡ some (getD (bookOf s .users) place nobody)
 
--- a reduction by the own sales of the user at a place: the cuts and what stands after them, the users settled, the flags of the buyers and of the user asked anew
-pub record OwnTurn (limits : Limits) (f : Prices) (users : List User) (dealings : List Dealings) (place : ℕ) (own areas buyers : List ℕ) (short : List Bool)
-    (left : List ℕ) (flags : List Bool) (cs : List ℕ) (r : Turn) : Type 0 where
-  pub seller : Seller
-  pub seller-of : SellerOf (asUser (getD users place blankUser)) seller
-  pub cut : SalesCut f (seller .short) (askedOf limits f users dealings place) own areas left cs (r .tally)
-  pub room : length (r .users) ≡ 64
-  pub settled : map asUser (r .users) ≡ settledAll place buyers areas cs (map asUser users)
-  pub flagged : flags ≡ set (marked (shortCut limits f (r .users) dealings) buyers cs short) place (shortCut limits f (r .users) dealings place)
-
--- lists of all own sales, with those of the user at the place in range
-pub record TurnRoom (users : List User) (dealings : List Dealings) (place : ℕ) (starts standing areas buyers : List ℕ) (short : List Bool) : Type 0 where
-  pub parties : Parties users dealings place short
-  pub starts-in : Starts short starts standing
-  pub areas-length : length areas ≡ length standing
-  pub buyers-length : length buyers ≡ length standing
-  pub own-few : length (ownPart starts standing place) ≤ 256
-  pub own-most : (i : ℕ) → getD (ownPart starts standing place) i 0 ≤ 100000
-  pub buyer-inside : (i : ℕ) → i < length (ownPart starts standing place) → getD (ownPart starts buyers place) i 0 < length short
-  pub area-inside : (i : ℕ) → i < length (ownPart starts standing place) → getD (ownPart starts areas place) i 0 < 3
-
--- the same by these lists: the user's part of what stands is replaced
-pub record TurnOf (limits : Limits) (f : Prices) (users : List User) (dealings : List Dealings) (place : ℕ) (starts standing areas buyers : List ℕ) (short : List Bool)
-    (left : List ℕ) (flags : List Bool) (r : Turn) : Type 0 where
-  pub part : List ℕ
-  pub cuts : List ℕ
-  pub turn : OwnTurn limits f users dealings place (ownPart starts standing place) (ownPart starts areas place) (ownPart starts buyers place) short part flags cuts r
-  pub after : left ≡ take (getD starts place 0) standing ++ (part ++ drop (getD starts (place + 1) 0 - getD starts place 0) (drop (getD starts place 0) standing))
+-- its reduction: bytes that hold the rules' book, with its lists, and the tally that the rules report
+pub record Turned (limits : Limits) (f : Prices) (b : Book) (from : ℕ) (sells buys : List ℕ) (place : ℕ) (ss origins areaCodes bs : List ℕ) (t ns : List ℕ) (short : List Bool) (r : Tally) : Type 0 where
+  pub book : bookOf t ≡ reduced limits b (getD (b .users) place nobody) .book
+  pub listed : Listed limits f t from sells buys ss origins ns areaCodes bs short
+  pub answer : reduced limits b (getD (b .users) place nobody) .answer ≡ ofCuts (target limits b (getD (b .users) place nobody)) (asTally r)

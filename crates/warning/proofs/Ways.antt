@@ -1,12 +1,12 @@
--- The ways out of a warning, of a trade that warns, and of a flagged shipper by its place. Assumes nothing.
+-- The ways out of a warning, of a trade that warns, and of a flagged shipper. Assumes nothing.
 use mathlib.Core.Bool.{Bool, true, false, _&&_}
 use mathlib.Core.List.{List, [], _∷_, _++_}
 use mathlib.Core.Option.{some}
-use mathlib.Core.Path.{_≡_, refl, sym, ap, _∙_}
-use Prim.Native.Nat.{ℕ, _+_, _*_, _≤_, _<_}
+use mathlib.Core.Path.{_≡_, refl, sym, subst, _∙_}
+use Prim.Native.Nat.{ℕ, _+_, _*_, _≤_}
 use native.Mathlib.Nat.{zero-mul}
 use native.Mathlib.Omega.{arith}
-use lib.ListN.{List·getD-eq-default, getD, length, length-map, length-take}
+use lib.ListN.{List·getD-eq-default, getD, length}
 use borrow.Author.Tests.{eq-eqb, le-ltb, lt-ltb, ne-eqb}
 use Rattle.integers.specs.Sums.{sum}
 use Rattle.integers.specs.Parts.{negPart}
@@ -17,31 +17,18 @@ use Rattle.rules.specs.Levels.{Limits, buys, exposure, flagged, holding, leastR
 use Rattle.rules.specs.Lists.{any}
 use Rattle.rules.specs.Queries.{aWarning, aboutQuery, found, onlyNumber, warned, warning, warns}
 use Rattle.rules.specs.Questions.{decided, refusal}
+use Rattle.units.specs.Prices.{asPrices, InRange}
+use Rattle.units.specs.declared.Prices.{Prices}
 use Rattle.records.specs.User.{asUser}
-use Rattle.format.specs.Book.{bookOf}
+use Rattle.records.specs.declared.User as code
+use Rattle.format.specs.Book.{bookOf, usersOf}
 use Rattle.format.specs.Questions.{aboutBytes}
 use Rattle.format.specs.Steps.{placeOf, replyBytes}
 use Rattle.format.proofs.OneUser.{find-place}
-use Rattle.format.proofs.Passed.{passed}
-use Rattle.book.specs.Book.{asBook}
-use Rattle.book.specs.declared.Book as struct
-use Rattle.risk.proofs.Places.{user-in-book}
-use Rattle.risk.specs.Ready.{userIn}
-use Rattle.entry.proofs.Calls.{query-found, query-refused}
-use Rattle.found.proofs.User.{found-each, found-in}
+use Rattle.entry.proofs.Calls.{query-found, query-refused, read-user}
 use Rattle.entry.specs.Entered.{Found}
-use Rattle.warning.specs.Warned.{ReadyAll, flaggedShipper, warnsBuyer}
-
--- ---- a user by its place
-
-pub users-le : (b : struct.Book) → length (asBook b .users) ≤ b .«user_count»
-unfolding asBook
-users-le b = rw (length-map, length-take) (omega arith)
-
--- the user at the place of an id is the user of the id
-pub user-of-place : (b : struct.Book) (id i : ℕ) → i ≡ placeOf (asBook b .users) id → i < b .«user_count» → asUser (userIn b i) ≡ find (asBook b .users) id
-user-of-place b id i e h =
-    sym (find-place (asBook b .users) id ∙ ap (λ (n : ℕ). getD (asBook b .users) n nobody) (sym e) ∙ user-in-book b i h)
+use Rattle.account.proofs.Accepted.{blocked-within, prices-within}
+use Rattle.warning.specs.Warned.{Priced, flaggedShipper, warnsBuyer}
 
 -- ---- a flagged shipper
 
@@ -99,20 +86,19 @@ module _ (limits : Limits) (b : Book) where
   unfolding warned warnsBuyer buys
   warned-buyer u h = rw h
 
--- ---- the user that the entry found
+-- ---- the prices, and the user that is read at its place
 
-module _ {s : List ℕ} {id place : ℕ} {b : struct.Book} (f : Found s id place b) where
-  pub found-all : ReadyAll b
-  found-all =
-      record {
-        few = omega (arith, f .read .users, passed s (f .passes) .form .users);
-        rising = rw (f .read .book) (passed s (f .passes) .sound .ids);
-        each = found-each f;
-      }
+pub prices-range : {s : List ℕ} {prices : Prices} → Priced s prices → InRange (asPrices prices)
+prices-range {s} p = subst InRange (p .same) (prices-within s (p .passes))
 
-  -- its warning is the same in the bytes
-  pub warned-same : {l m : Limits} → l ≡ m → warned l (asBook b) (asUser (userIn b place)) ≡ warned m (bookOf s) (find (bookOf s .users) id)
-  warned-same e = cc (e, f .read .book, found-in f)
+module _ {s : List ℕ} {id place : ℕ} (u : code.User) (f : Found s id place) (h : asUser u ≡ getD (usersOf s) place nobody) where
+  pub read-blocked : u .blocked .0 ≤ 1000000000000
+  unfolding asUser
+  read-blocked = subst (λ (v : User). v .blocked ≤ 1000000000000) (sym h) (blocked-within s (f .passes) (f .known))
+
+  -- its warning is that of the user of the id
+  pub read-warned : {l m : Limits} → l ≡ m → warned l (bookOf s) (asUser u) ≡ warned m (bookOf s) (find (bookOf s .users) id)
+  read-warned e = cc (e, read-user u f h)
 
 -- ---- a warning
 
@@ -121,7 +107,7 @@ module _ (limits : Limits) (s : List ℕ) (id : ℕ) where
   unfolding aboutQuery
   warning-refused n h = rw (query-refused limits s id (isShipper (find (bookOf s .users) id) ∷ []) (warning id) refl n h)
 
-  module _ {place : ℕ} {b : struct.Book} (f : Found s id place b) where
+  module _ {place : ℕ} (f : Found s id place) where
     pub warning-of-house : (find (bookOf s .users) id .party .role ≡ 0 → ⊥) → onlyNumber 9 ≡ replyBytes limits s (warning id)
     unfolding aboutQuery isShipper shipper refusal decided
     warning-of-house h =

@@ -1,15 +1,17 @@
 -- Who is warned, by the user's id, and the reply of the rules that the code's answer is. Assumes nothing.
 use mathlib.Core.Bool.{Bool, _&&_}
+use mathlib.Core.List.{List}
 use mathlib.Core.Option.{none}
-use Prim.Native.Nat.{ℕ, _≤_, _<_}
-use lib.Dec.{T, eqb}
+use mathlib.Core.Path.{_≡_}
+use Prim.Native.Nat.{ℕ}
+use lib.Dec.{eqb}
 use Rattle.rules.specs.Book.{Book, User, Trade}
 use Rattle.rules.specs.Levels.{Limits, shipper, flagged}
 use Rattle.rules.specs.Queries.{Query, Reply, warning, warns}
-use Rattle.rules.specs.Questions.{idsRise}
-use Rattle.book.specs.Book.{asBook}
-use Rattle.book.specs.declared.Book as struct
-use Rattle.risk.specs.Ready.{Ready}
+use Rattle.units.specs.Prices.{asPrices}
+use Rattle.units.specs.declared.Prices.{Prices}
+use Rattle.format.specs.Book.{bookOf}
+use Rattle.format.specs.Questions.{bookNumber}
 use Rattle.warning.specs.declared.WarningAnswer.{WarningAnswer}
 
 -- the user is a flagged shipper
@@ -28,8 +30,7 @@ warningOf id = warning id
 abbrev pub replyOf : WarningAnswer → Reply
 replyOf r = record { number = r .number; level = 0; warned = r .warned; shown = none }
 
--- the risk of every user of the book can be told, and the ids of its users rise
-pub record ReadyAll (b : struct.Book) : Type 0 where
-  pub few : b .«user_count» ≤ 64
-  pub rising : T (idsRise 0 (asBook b .users))
-  pub each : (i : ℕ) → i < b .«user_count» → Ready b i
+-- the bytes pass the questions of a book, and the prices are that book's
+pub record Priced (s : List ℕ) (prices : Prices) : Type 0 where
+  pub passes : bookNumber s ≡ 0
+  pub same : bookOf s .header .prices ≡ asPrices prices

@@ -1,54 +1,40 @@
 // The midday warning of a user: is it flagged, or buyer of a bilateral trade of the day that stands, whose seller is a flagged shipper?
-use book::Book;
 use levels::Limits;
 use records::Trade;
+use units::Prices;
 ghost use mathlib.Core.Path.{_≡_};
-ghost use mathlib.Core.List.{map};
-ghost use Prim.Native.Nat.{_≤_};
-ghost use lib.ListN.{take};
 ghost use Rattle.rules.specs.Book.{find};
 ghost use Rattle.rules.specs.Lists.{any};
 ghost use Rattle.rules.specs.Levels.{today};
 ghost use Rattle.records.specs.Trade.{asTrade};
-ghost use Rattle.format.specs.Steps.{placeOf, replyBytes};
-ghost use Rattle.book.specs.Book.{asBook};
+ghost use Rattle.format.specs.Book.{bookOf};
+ghost use Rattle.format.specs.Steps.{replyBytes};
 ghost use Rattle.levels.specs.Limits.{asLimits, LimitsInRange};
-ghost use Rattle.warning.specs.Warned.{ReadyAll, flaggedShipper, warnsBuyer, warningOf, replyOf};
-
-// The place of the user of an id in a book; the number of users where there is none.
-fn place_of(b: Book, id: u32) -> usize
-    requires { ⌜ ReadyAll b ⌝ }
-    ensures { λ r. ⌜ (r ≡ placeOf (asBook b .users) id) × (r ≤ b .«user_count») ⌝ }
-{
-    let n = b.user_count as usize;
-    let users = b.users;
-    let ids = places::ids_of(users, n);
-    places::place(&ids, n, id)
-}
+ghost use Rattle.warning.specs.Warned.{Priced, flaggedShipper, warnsBuyer, warningOf, replyOf};
 
 // Is the seller of an id a flagged shipper?
-fn is_flagged_shipper(b: Book, id: u32, limits: Limits) -> bool
-    requires { ⌜ ReadyAll b ⌝ }
+fn is_flagged_shipper(book: &[u8], prices: Prices, id: u32, limits: Limits) -> bool
+    requires { ⌜ Priced (now book) prices ⌝ }
     requires { ⌜ LimitsInRange (asLimits limits) ⌝ }
-    ensures { λ r. ⌜ r ≡ flaggedShipper (asLimits limits) (asBook b) (find (asBook b .users) id) ⌝ }
+    ensures { λ r. ⌜ r ≡ flaggedShipper (asLimits limits) (bookOf (now (book .entry))) (find (bookOf (now (book .entry)) .users) id) ⌝ }
 {
-    let i = place_of(b, id);
-    let n = b.user_count as usize;
-    if n <= i {
+    let place = entry::place_of(book, id);
+    let n = fields::get_u8(book, 5) as usize;
+    if n <= place {
         return false;
     }
-    let seller = risk::user_at(b, i);
+    let seller = account::user_at(book, place);
     if seller.role != 0 {
         return false;
     }
-    risk::flagged_at(b, i, limits)
+    levels::flagged(limits, prices, seller)
 }
 
 // Is the user of an id the buyer of the trade, and does the trade warn its buyer?
-fn warns_buyer(b: Book, t: Trade, id: u32, limits: Limits) -> bool
-    requires { ⌜ ReadyAll b ⌝ }
+fn warns_buyer(book: &[u8], prices: Prices, t: Trade, id: u32, limits: Limits) -> bool
+    requires { ⌜ Priced (now book) prices ⌝ }
     requires { ⌜ LimitsInRange (asLimits limits) ⌝ }
-    ensures { λ r. ⌜ r ≡ warnsBuyer (asLimits limits) (asBook b) id (asTrade t) ⌝ }
+    ensures { λ r. ⌜ r ≡ warnsBuyer (asLimits limits) (bookOf (now (book .entry))) id (asTrade t) ⌝ }
 {
     if t.buyer != id {
         return false;
@@ -59,22 +45,25 @@ fn warns_buyer(b: Book, t: Trade, id: u32, limits: Limits) -> bool
     if t.standing == 0 {
         return false;
     }
-    is_flagged_shipper(b, t.seller, limits)
+    is_flagged_shipper(book, prices, t.seller, limits)
 }
 
-// Does one of the first `count` trades warn the user of an id?
-fn any_warns(b: Book, trades: [Trade; 256], count: usize, id: u32, limits: Limits) -> bool
-    requires { ⌜ ReadyAll b ⌝ }
+// Does one of the trades warn the user of an id?
+fn any_warns(book: &[u8], prices: Prices, id: u32, limits: Limits) -> bool
+    requires { ⌜ Priced (now book) prices ⌝ }
     requires { ⌜ LimitsInRange (asLimits limits) ⌝ }
-    requires { ⌜ count ≤ 256 ⌝ }
-    ensures { λ r. ⌜ r ≡ any (warnsBuyer (asLimits limits) (asBook b) id) (map asTrade (take count trades)) ⌝ }
+    ensures { λ r. ⌜ r ≡ any (warnsBuyer (asLimits limits) (bookOf (now (book .entry))) id) (bookOf (now (book .entry)) .trades) ⌝ }
 {
+    let n = fields::get_u8(book, 5) as usize;
+    let m = fields::get_u16(book, 6) as usize;
     let mut i = 0;
-    while i < count {
-        let t = trades[i];
-        if warns_buyer(b, t, id, limits) {
+    let mut a = 32 + 56 * n;
+    while i < m {
+        let t = records::read_trade(&book[a..a + 20]);
+        if warns_buyer(book, prices, t, id, limits) {
             return true;
         }
+        a += 20;
         i += 1;
     }
     false
@@ -99,8 +88,7 @@ pub fn warning(book: &[u8], id: u32) -> WarningAnswer
             warned: false,
         };
     }
-    let b = entry.book;
-    let user = risk::user_at(b, place);
+    let user = account::user_at(book, place);
     if user.role != 0 {
         return WarningAnswer {
             number: 9,
@@ -108,15 +96,14 @@ pub fn warning(book: &[u8], id: u32) -> WarningAnswer
         };
     }
     let limits = Limits::today();
-    if risk::flagged_at(b, place, limits) {
+    let prices = header::read_prices(book);
+    if levels::flagged(limits, prices, user) {
         return WarningAnswer {
             number: 0,
             warned: true,
         };
     }
-    let trades = b.trades;
-    let count = b.trade_count as usize;
-    let warned = any_warns(b, trades, count, user.id, limits);
+    let warned = any_warns(book, prices, user.id, limits);
     WarningAnswer {
         number: 0,
         warned: warned,

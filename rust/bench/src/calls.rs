@@ -26,8 +26,12 @@ pub fn print_table(subject: &Subject, options: &Options) {
     print_row("read to fields", read(subject, options));
     print_row("write from an image", write_image(subject, options));
     print_row("write from fields", write(subject, options));
+    print_row("show", show(subject, options));
+    print_row("posting", posting(subject, options));
+    print_row("morning level", morning_level(subject, options));
     print_row("afternoon level", level(subject, options));
     print_row("afternoon call", call(subject, options));
+    print_row("warning", warning(subject, options));
     print_row("reduction", reduction(subject, options));
     let name = format!("run, reductions: {}", subject.reductions);
     print_row(&name, run(subject, options));
@@ -115,6 +119,50 @@ fn write(subject: &Subject, options: &Options) -> Times {
         options,
         |book| accept(daybook::write(black_box(&engine_fields), book)),
         |book| accept(tuned::write(black_box(&tuned_fields), book)),
+    )
+}
+
+fn show(subject: &Subject, options: &Options) -> Times {
+    let id = subject.called;
+    let mut record = [0; 56];
+    both(
+        subject,
+        options,
+        |book| expect(archive::show(black_box(book), id, &mut record)),
+        |book| accept(tuned::show(black_box(book), id)),
+    )
+}
+
+/// An entry of one MWh more in PVB, which every usual book has room for.
+fn posting(subject: &Subject, options: &Options) -> Times {
+    let id = subject.called;
+    both(
+        subject,
+        options,
+        |book| expect(archive::posting(book, id, 0, 1)),
+        |book| accept(tuned::posting(book, id, 0, 1)),
+    )
+}
+
+fn morning_level(subject: &Subject, options: &Options) -> Times {
+    let id = subject.called;
+    let mut answer = [0; 1];
+    both(
+        subject,
+        options,
+        |book| expect(archive::morning_level(black_box(book), id, &mut answer)),
+        |book| accept(tuned::morning_level(black_box(book), id)),
+    )
+}
+
+fn warning(subject: &Subject, options: &Options) -> Times {
+    let id = subject.called;
+    let mut answer = [0; 1];
+    both(
+        subject,
+        options,
+        |book| expect(archive::warning(black_box(book), id, &mut answer)),
+        |book| accept(tuned::warning(black_box(book), id)),
     )
 }
 

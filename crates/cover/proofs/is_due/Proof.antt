@@ -1,6 +1,6 @@
 -- `is_due`: the flag, and the part of the list that holds the user's own sales. Assumes nothing.
 use borrow.Author.Needs.{needs}
-use mathlib.Core.Path.{sym, _∙_}
+use mathlib.Core.Path.{_∙_}
 use native.Mathlib.Omega.{arith}
 use Rattle.cover.proofs.Flags.{due-flag, due-none}
 use Rattle.cover.proofs.is_due.Statement.{statement}

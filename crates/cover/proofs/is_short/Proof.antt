@@ -4,7 +4,6 @@ use borrow.Author.Needs.{needs}
 use borrow.Author.Tests.{eq-eqb, ne-eqb}
 use lib.Dec.{ltb}
 use mathlib.Core.Path.{_≡_, sym, ap, _∙_}
-use native.Mathlib.Omega.{arith}
 use Rattle.cover.proofs.Flags.{short-margin, short-within, short-house}
 use Rattle.cover.proofs.is_short.Statement.{statement}
 use Rattle.levels.specs.Holdings.{held}

@@ -1,6 +1,5 @@
 -- `next_due`: none of the users passed is due. Assumes nothing.
 use Prim.Native.Nat.{_-_}
-use borrow.Author.Needs.{needs}
 use lib.ListN.{length}
 use native.Mathlib.Omega.{arith}
 use Rattle.cover.proofs.Flags.{Searched, searched-start, searched-found, searched-more, searched-end}

@@ -15,11 +15,11 @@ worth-of-requires c κs = search needs
 left-of-requires : tie.Need-left-of-requires
 left-of-requires c κs = search needs
 
+cuts-of-worth-requires : tie.Need-cuts-of-worth-requires
+cuts-of-worth-requires c κs = (search needs, c .before .before .before .worth-of .ensures)
+
 tier-cuts-requires : tie.Need-tier-cuts-requires
 tier-cuts-requires c κs = search needs
-
-tier-cuts-requires-2 : tie.Need-tier-cuts-requires-2
-tier-cuts-requires-2 c κs = search needs
 
 add-cuts-requires : tie.Need-add-cuts-requires
 add-cuts-requires c κs =
@@ -27,7 +27,7 @@ add-cuts-requires c κs =
     let t1 = t2 .before .before .before .before .before .before .before in
     let l = t1 .before .before .before in
     let s = l .before .before .before .before .before .before .before .before .before in
-    cuts-small (s .args .asked .0) (l .left-of .result .0) (s .pre .tier-one) (s .pre .tier-two) (t1 .tier-cuts .ensures) (t2 .tier-cuts2 .ensures) (s .pre .cuts-length)
+    cuts-small (s .args .asked .0) (l .left-of .result .0) (s .pre .tier-one) (s .pre .tier-two) (t1 .cuts-of-worth .ensures) (t2 .tier-cuts .ensures) (s .pre .cuts-length)
 
 same-length : tie.Need-same-length
 same-length c = search needs
@@ -51,7 +51,7 @@ returns c =
     let a = s .args in
     let left = l .left-of .ensures ∙ ap (λ (n : ℕ). a .asked .0 - n) (l .before .worth-of .ensures .0) in
     u .add-cuts .ensures
-    ∙ ap₂ together (t1 .tier-cuts .ensures) (t2 .tier-cuts2 .ensures ∙ ap (λ (n : ℕ). tierCuts n (lotsOf (a .two .now) (a .tariffs .now))) left)
+    ∙ ap₂ together (t1 .cuts-of-worth .ensures) (t2 .tier-cuts .ensures ∙ ap (λ (n : ℕ). tierCuts n (lotsOf (a .two .now) (a .tariffs .now))) left)
 
 pub fill-cuts-spec : {M : Type 1} → statement M
 fill-cuts-spec =
@@ -59,8 +59,8 @@ fill-cuts-spec =
     (tie.spec
     worth-of-requires
     left-of-requires
+    cuts-of-worth-requires
     tier-cuts-requires
-    tier-cuts-requires-2
     add-cuts-requires
     same-length
     same-length-2

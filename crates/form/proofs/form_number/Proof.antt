@@ -6,7 +6,7 @@ use Prim.Native.Nat.{ℕ}
 use borrow.Author.Tests.{not-true, not-false}
 use denote.Ref.{now}
 use Rattle.rules.specs.Questions.{refusal, numberOf}
-use Rattle.format.specs.Questions.{marked, versioned, sized, aboutForm, formNumber}
+use Rattle.format.specs.Questions.{marked, versioned, aboutForm, formNumber}
 use Rattle.format.proofs.Formed.{marked-head}
 use borrow.Author.Needs.{needs}
 use Rattle.form.proofs.form_number.Statement.{statement}

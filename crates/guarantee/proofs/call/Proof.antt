@@ -9,7 +9,8 @@ use Rattle.format.specs.Steps.{InBytes}
 use Rattle.format.proofs.Passed.{passed}
 use Rattle.entry.specs.Entered.{Found}
 use Rattle.guarantee.specs.Times.{callOf}
-use Rattle.found.proofs.User.{found-ready, found-role, called}
+use Rattle.entry.proofs.Calls.{called, found-few, found-lies, read-role}
+use Rattle.account.specs.Account.{AccountAt}
 use Rattle.guarantee.proofs.Ways.{call-unentered, call-of-house, call-ends}
 use borrow.Author.Needs.{needs}
 use Rattle.guarantee.proofs.call.Statement.{statement}
@@ -21,7 +22,7 @@ bytes c = now (c .before .before .before .args .book)
 abbrev asked : tie.After-enter → ℕ
 asked c = c .before .before .before .args .id
 
-found : (c : tie.Else1) → Found (bytes (c .before)) (asked (c .before)) (c .before .enter .result .place) (c .before .enter .result .book)
+found : (c : tie.Else1) → Found (bytes (c .before)) (asked (c .before)) (c .before .enter .result .place)
 found c = c .before .enter .ensures .found (c .if1 .left)
 
 enter-requires : tie.Need-enter-requires
@@ -40,8 +41,12 @@ returns c =
     called (callOf a (asked e)) (c .refused .ensures)
     (call-unentered today (bytes e) (asked e) a (e .enter .result .number) (e .enter .ensures .refused (c .before .if1 .taken)))
 
-user-at-requires : tie.Need-user-at-requires
-user-at-requires c κs = omega (arith, found-ready (found (c .before)) .place, found-ready (found (c .before)) .users)
+account-at-requires : tie.Need-account-at-requires
+account-at-requires c κs = let f = found (c .before) in (f .passes, f .known)
+
+-- the account that is read of the user that was found
+account : (c : tie.After-account-at) → let e = c .before .before .before in AccountAt (bytes e) (e .enter .result .place) (c .account-at .result)
+account c = c .account-at .ensures
 
 refused-requires-2 : tie.Need-refused-requires-2
 refused-requires-2 c κs = search needs
@@ -52,30 +57,30 @@ same-length-2 c = search needs
 returns-2 : tie.Need-returns-2
 returns-2 c =
     let t = c .before in
-    let u = t .before .before in
-    let e = u .before .before .before in
-    let f = found (u .before .before) in
+    let k = t .before .before .before in
+    let n = k .before .before in
+    let e = n .before in
     let a = e .before .before .before .args .afternoon in
     called (callOf a (asked e)) (c .refused2 .ensures)
-    (call-of-house today (bytes e) (asked e) a f (λ h. t .if2 .taken (found-role f (u .user-at .ensures) ∙ h)))
+    (call-of-house today (bytes e) (asked e) a (found n) (λ h. t .if2 .taken (read-role (k .account-at .result .user) (found n) (account k .user) ∙ h)))
 
 today-requires : tie.Need-today-requires
 today-requires c κs = search needs
 
-level-at-requires : tie.Need-level-at-requires
-level-at-requires c κs = (found-ready (found (c .before .before .before .before .before)), c .today .ensures .1)
+level-of-requires : tie.Need-level-of-requires
+level-of-requires c κs = (account (c .before .before .before .before) .ready, c .today .ensures .1)
 
 is-due-requires : tie.Need-is-due-requires
 is-due-requires c κs =
-    (found-ready (found (c .before .before .before .before .before .before)), c .before .today .ensures .1)
+    let t = c .before .before in
+    let k = t .before .before .before .before in
+    let n = k .before .before in
+    (passed (bytes (n .before)) (found n .passes) .form, (account k .held, (account k .ready, t .today .ensures .1)))
 
 raise-requires : tie.Need-raise-requires
 raise-requires c κs =
-    let u = c .before .before .before .before .before .before in
-    let e = u .before .before .before in
-    let f = found (u .before .before) in
-    let w = passed (bytes e) (f .passes) .form in
-    record { inside = omega (arith, f .known, w .whole); few = omega (arith, f .known, w .users) }
+    let n = c .before .before .before .before .before .before .before .before .before .before in
+    record { inside = found-lies (found n); few = omega (arith, found-few (found n)) }
 
 same-length-3 : tie.Need-same-length-3
 same-length-3 c = search needs
@@ -84,13 +89,14 @@ returns-3 : tie.Need-returns-3
 returns-3 c =
     let r = c .before .before in
     let d = r .before .before in
-    let l = d .before in
+    let l = d .before .before in
     let t = l .before in
-    let u = t .before .before .before in
-    let e = u .before .before .before in
-    let f = found (u .before .before) in
+    let k = t .before .before .before .before in
+    let n = k .before .before in
+    let e = n .before in
+    let h = account k in
     let a = e .before .before .before .args .afternoon in
-    let x = call-ends today (bytes e) (asked e) a f (λ j. e .before .before .slice-known .given j .fits) (t .today .ensures .0) (u .user-at .ensures) (t .before .if2 .left) (l .level-at .ensures) (d .is-due .ensures) in
+    let x = call-ends today (bytes e) (asked e) a (found n) (λ j. e .before .before .slice-known .given j .fits) h (t .today .ensures .0) (t .before .if2 .left) (l .level-of .ensures (bytes e) (h .held)) (d .is-due .ensures) in
     record { answer = r .raise .ensures .0 ∙ ap (λ (y : InBytes). y .answer) x; bytes = r .raise .ensures .1 ∙ ap (λ (y : InBytes). y .bytes) x }
 
 pub call-spec : {M : Type 1} → statement M
@@ -101,12 +107,12 @@ call-spec =
     refused-requires
     same-length
     returns
-    user-at-requires
+    account-at-requires
     refused-requires-2
     same-length-2
     returns-2
     today-requires
-    level-at-requires
+    level-of-requires
     is-due-requires
     raise-requires
     same-length-3

@@ -39,8 +39,8 @@ mul-amount c = search needs
 shared-slice-read-amount : tie.Need-shared-slice-read-amount Inv-loop μ-loop
 shared-slice-read-amount c = omega arith
 
-tariff-requires : tie.Need-tariff-requires Inv-loop μ-loop
-tariff-requires c κs =
+price-in-requires : tie.Need-price-in-requires Inv-loop μ-loop
+price-in-requires c κs =
     let l = c .before .before .before in
     let s = l .before .before .before .before .before .before in
     let a = s .args in
@@ -111,7 +111,7 @@ loop-again c =
     let f = asPrices (a .prices) in
     let same = s .pre .1 .areas-length in
     let e = filling-lengths f (a .short) (a .standing .now) (a .areas .now) same (l .loop .inv) in
-    filling-more f (a .short) (a .standing .now) (a .areas .now) same (l .loop .inv) (c .before .before .before .before .before .before .before .loop-test .taken) (c .before .before .before .before .tariff .ensures .0)
+    filling-more f (a .short) (a .standing .now) (a .areas .now) same (l .loop .inv) (c .before .before .before .before .before .before .before .loop-test .taken) (c .before .before .before .before .price-in .ensures .0)
     (c .before .counted .ensures ∙ ap (λ (n : ℕ). cond (ltb 0 n) (getD (a .standing .now) (l .loop .i) 0) 0) (c .before .before .before .of .ensures .0))
     (c .counted2 .ensures ∙ ap (λ (n : ℕ). cond (not (ltb 0 n)) (getD (a .standing .now) (l .loop .i) 0) 0) (c .before .before .before .of .ensures .0))
 
@@ -165,7 +165,7 @@ fill-lots-spec =
     shared-slice-read-area
     mul-amount
     shared-slice-read-amount
-    tariff-requires
+    price-in-requires
     of-requires
     mul-tariffs
     slice-write-tariffs

@@ -32,14 +32,14 @@ mul-cut c = search needs
 shared-slice-read-cut : tie.Need-shared-slice-read-cut Inv-loop μ-loop
 shared-slice-read-cut c = omega arith
 
-tariff-requires : tie.Need-tariff-requires Inv-loop μ-loop
-tariff-requires c κs = let s = c .before .before .before .before .before .before .before in s .pre .0
+price-in-requires : tie.Need-price-in-requires Inv-loop μ-loop
+price-in-requires c κs = let s = c .before .before .before .before .before .before .before in s .pre .0
 
 with-requires : tie.Need-with-requires Inv-loop μ-loop
 with-requires c κs =
     let l = c .before .before .before .before in
     let s = l .before .before .before .before in
-    ((omega (arith, l .loop .inv .mwh-most, s .pre .1 .few), omega (arith, l .loop .inv .worth-most, s .pre .1 .few)), (s .pre .1 .most (l .loop .i), c .tariff .ensures .1 .1))
+    ((omega (arith, l .loop .inv .mwh-most, s .pre .1 .few), omega (arith, l .loop .inv .worth-most, s .pre .1 .few)), (s .pre .1 .most (l .loop .i), c .price-in .ensures .1))
 
 add-i : tie.Need-add-i Inv-loop μ-loop
 add-i c = omega arith
@@ -53,7 +53,7 @@ loop-again c =
     let s = l .before .before .before .before in
     let a = s .args in
     let f = asPrices (a .prices) in
-    tallied-more f (a .cuts .now) (a .areas .now) (s .pre .1 .areas-length) (l .loop .inv) _ (omega arith) (c .before .tariff .ensures .0) (c .with .ensures .0 f) (c .with .ensures .1 .0) (c .with .ensures .1 .1)
+    tallied-more f (a .cuts .now) (a .areas .now) (s .pre .1 .areas-length) (l .loop .inv) _ (omega arith) (c .before .price-in .ensures .0) (c .with .ensures .0 f) (c .with .ensures .1 .0) (c .with .ensures .1 .1)
 
 returns : tie.Need-returns Inv-loop μ-loop
 returns c =
@@ -73,7 +73,7 @@ tally-of-spec =
     shared-slice-read-area
     mul-cut
     shared-slice-read-cut
-    tariff-requires
+    price-in-requires
     with-requires
     add-i
     loop-less

@@ -1,30 +1,48 @@
 -- `positions_valid`: the users that are left have the whole answer, until a position is not as the sums have it or none is left. Assumes nothing.
-use Prim.Native.Nat.{_-_, _*_, _<_}
-use mathlib.Core.Path.{refl}
-use mathlib.Core.List.{List, map}
+use Prim.Native.Nat.{_+_, _-_, _*_, _≤_, _<_}
+use mathlib.Core.Path.{_≡_}
+use mathlib.Core.Bool.{Bool}
+use mathlib.Core.List.{[]}
 use native.Mathlib.Omega.{arith}
 use borrow.Author.Needs.{needs}
 use borrow.Author.Tests.{not-true, not-false}
 use denote.Ref.{now}
-use lib.ListN.{length, take}
-use lib.Seq.{length-take-le}
-use Rattle.rules.specs.Book.{Trade}
+use lib.ListN.{length, getD, drop, length-take, length-drop}
 use Rattle.rules.specs.Questions.{positionsValid}
-use Rattle.records.specs.User.{asUser}
-use Rattle.records.specs.Trade.{asTrade}
-use Rattle.arrays.proofs.Every.{AllLeft, all-start, all-no, all-turn, all-end}
-use Rattle.positions.specs.Sums.{soldForDay, boughtForDay, Sums}
-use Rattle.positions.proofs.Sums.{bounded, as-asked, id-at}
+use Rattle.fields.proofs.Records.{length-recordsOf}
+use Rattle.records.specs.User.{userOf}
+use Rattle.records.specs.Trade.{tradeOf}
+use Rattle.places.specs.Ids.{usersFrom, tradesFrom}
+use Rattle.positions.proofs.Sums.{bounded, gatherable, as-asked}
+use Rattle.positions.proofs.Walk.{Passed, passed-start, passed-no, passed-turn, passed-end, record-at}
 use Rattle.positions.proofs.positions_valid.Statement.{statement}
 use Rattle.positions.proofs.positions_valid.Tie as tie
 
 abbrev Inv-loop : tie.InvT-loop
-Inv-loop ids n m users sold bought i₀ i =
-    (ts : List Trade) → Sums (take n ids) (soldForDay ts) (256 * 4294967295) sold → Sums (take n ids) (boughtForDay ts) (256 * 4294967295) bought
-    → AllLeft (positionsValid ts) asUser users n i
+Inv-loop s users-at n trades-at m sellers buyers sold bought i₀ a₀ i a =
+    (a ≡ users-at + 56 * i) × Passed (positionsValid (tradesFrom trades-at m s)) (usersFrom users-at n s) i
 
 abbrev μ-loop : tie.MeasureT-loop
-μ-loop ids n m users sold bought i₀ i = n - i
+μ-loop s users-at n trades-at m sellers buyers sold bought i₀ a₀ i a = n - i
+
+-- the user at hand is one of the n
+within : (c : tie.In-loop Inv-loop μ-loop) → c .before .loop .i < length (usersFrom (c .before .before .before .before .before .before .before .before .before .before .args .users-at) (c .before .before .before .before .before .before .before .before .before .before .args .n) (now (c .before .before .before .before .before .before .before .before .before .before .args .s)))
+within c = rw length-recordsOf (omega arith)
+
+-- and its bytes stand there
+lies : (c : tie.In-loop Inv-loop μ-loop) → c .before .loop .a + 56 ≤ length (now (c .before .before .before .before .before .before .before .before .before .before .args .s))
+lies c = omega (arith, c .loop-test, c .before .loop .inv .0, c .before .before .before .before .before .before .before .before .before .before .pre .0 .users)
+
+-- what the sums said of its positions is what the rules say
+asked : {answer : Bool} (c : tie.After-user-positions-valid Inv-loop μ-loop) → c .user-positions-valid .result ≡ answer
+    → positionsValid (tradesFrom (c .before .before .before .before .before .before .before .before .before .before .before .before .before .before .before .args .trades-at) (c .before .before .before .before .before .before .before .before .before .before .before .before .before .before .before .args .m) (now (c .before .before .before .before .before .before .before .before .before .before .before .before .before .before .before .args .s))) (getD (usersFrom (c .before .before .before .before .before .before .before .before .before .before .before .before .before .before .before .args .users-at) (c .before .before .before .before .before .before .before .before .before .before .before .before .before .before .before .args .n) (now (c .before .before .before .before .before .before .before .before .before .before .before .before .before .before .before .args .s))) (c .before .before .before .before .before .before .loop .i) (userOf [])) ≡ answer
+asked c e =
+    let l = c .before .before .before .before .before .before .loop in
+    let s = c .before .before .before .before .before .before .before .before .before .before .before .before .before .before .before in
+    let a = s .args in
+    let g = c .before .before .before .before .before .before .before .before .before .gather .ensures in
+    as-asked (s .pre .1) (length-recordsOf 20 tradeOf (a .m) (drop (a .trades-at) (now (a .s)))) (g .0) (g .1) (l .i) (userOf []) (within (c .before .before .before .before .before))
+    (record-at 56 userOf (now (a .s)) (a .users-at) (a .n) (l .i) (userOf []) (l .inv .0) (omega (arith, c .before .before .before .before .before .loop-test)) (c .before .before .before .read-user .ensures)) (c .user-positions-valid .ensures) e
 
 slice-aggregate-gather : tie.Need-slice-aggregate-gather Inv-loop μ-loop
 slice-aggregate-gather c = search needs
@@ -33,16 +51,27 @@ slice-aggregate-gather-2 : tie.Need-slice-aggregate-gather-2 Inv-loop μ-loop
 slice-aggregate-gather-2 c = search needs
 
 gather-requires : tie.Need-gather-requires Inv-loop μ-loop
-gather-requires c κs = record { traded = c .before .before .before .pre .traded; nothing-sold = refl; nothing-bought = refl }
+gather-requires c κs =
+    let s = c .before .before .before .before .before in
+    ((s .pre .0 .many, s .pre .0 .trades), gatherable (s .pre .1) (rw length-recordsOf (s .pre .0 .few)))
 
 loop-holds : tie.Need-loop-holds Inv-loop μ-loop
-loop-holds c = λ ts s b. all-start (search needs)
+loop-holds c = (omega arith, passed-start)
 
-mul-u : tie.Need-mul-u Inv-loop μ-loop
-mul-u c = search needs
+add-read-user : tie.Need-add-read-user Inv-loop μ-loop
+add-read-user c = omega (arith, lies c, c .before .before .before .before .before .before .before .before .before .before .fits)
 
-array-copy-out-u : tie.Need-array-copy-out-u Inv-loop μ-loop
-array-copy-out-u c = search needs
+sub-read-user : tie.Need-sub-read-user Inv-loop μ-loop
+sub-read-user c = search needs
+
+part-read-user-start : tie.Need-part-read-user-start Inv-loop μ-loop
+part-read-user-start c = omega arith
+
+part-read-user-end : tie.Need-part-read-user-end Inv-loop μ-loop
+part-read-user-end c = omega (arith, lies c)
+
+read-user-requires : tie.Need-read-user-requires Inv-loop μ-loop
+read-user-requires c κs = simp (length-take, length-drop) (omega arith)
 
 slice-aggregate-user-positions-valid :
     tie.Need-slice-aggregate-user-positions-valid Inv-loop μ-loop
@@ -54,22 +83,14 @@ slice-aggregate-user-positions-valid-2 c = search needs
 
 user-positions-valid-requires : tie.Need-user-positions-valid-requires Inv-loop μ-loop
 user-positions-valid-requires c κs =
-    let g = c .before .before .before .before .before .before .before .gather .ensures in
-    let s = c .before .before .before .before .before .before .before .before .before .before .before in
-    (omega (arith, c .before .before .before .loop-test, s .pre .traded .listed .few), bounded (g .0), bounded (g .1))
+    let g = c .before .before .before .before .before .before .before .before .gather .ensures in
+    (omega (arith, c .before .before .before .before .loop-test, c .before .before .before .before .before .before .before .before .before .before .before .before .before .before .pre .0 .few), bounded (g .0), bounded (g .1))
 
 returns : tie.Need-returns Inv-loop μ-loop
-returns c =
-    let asked = c .before .user-positions-valid in
-    let l = c .before .before .before .before .before .before .loop in
-    let g = c .before .before .before .before .before .before .before .before .before .gather .ensures in
-    let s = c .before .before .before .before .before .before .before .before .before .before .before .before .before in
-    let a = s .args in
-    let n = a .n in
-    let h : l .i < n = omega (arith, c .before .before .before .before .before .loop-test) in
-    let k : l .i < length (take n (now (a .ids))) = rw (length-take-le n (now (a .ids)) (s .pre .traded .listed .held)) h in
-    all-no _ (l .inv (map asTrade (take (a .m) (a .trades))) (g .0) (g .1)) h
-    (as-asked (map asTrade (take (a .m) (a .trades))) (g .0) (g .1) _ (l .i) k (id-at (now (a .ids)) (a .t2) n (s .pre .users-ids) (search needs) (l .i) _ h) (asked .ensures) (not-true (asked .result) (c .if1 .taken)))
+returns c = passed-no (userOf []) (c .before .before .before .before .before .before .before .loop .inv .1) (within (c .before .before .before .before .before .before)) (asked (c .before) (not-true (c .before .user-positions-valid .result) (c .if1 .taken)))
+
+add-a : tie.Need-add-a Inv-loop μ-loop
+add-a c = omega (arith, lies (c .before .before .before .before .before .before), c .before .before .before .before .before .before .before .before .before .before .before .before .before .before .before .before .fits)
 
 add-i : tie.Need-add-i Inv-loop μ-loop
 add-i c = search needs
@@ -78,24 +99,10 @@ loop-less : tie.Need-loop-less Inv-loop μ-loop
 loop-less c = search needs
 
 loop-again : tie.Need-loop-again Inv-loop μ-loop
-loop-again c ts sold bought =
-    let asked = c .before .user-positions-valid in
-    let l = c .before .before .before .before .before .before .loop in
-    let g = c .before .before .before .before .before .before .before .before .before .gather .ensures in
-    let s = c .before .before .before .before .before .before .before .before .before .before .before .before .before in
-    let a = s .args in
-    let n = a .n in
-    let h : l .i < n = omega (arith, c .before .before .before .before .before .loop-test) in
-    let k : l .i < length (take n (now (a .ids))) = rw (length-take-le n (now (a .ids)) (s .pre .traded .listed .held)) h in
-    all-turn _ (l .inv ts sold bought) h
-    (as-asked ts sold bought _ (l .i) k (id-at (now (a .ids)) (a .t2) n (s .pre .users-ids) (search needs) (l .i) _ h) (asked .ensures) (not-false (asked .result) (c .if1 .left)))
+loop-again c = (omega (arith, c .before .before .before .before .before .before .before .loop .inv .0), passed-turn (userOf []) (c .before .before .before .before .before .before .before .loop .inv .1) (within (c .before .before .before .before .before .before)) (asked (c .before) (not-false (c .before .user-positions-valid .result) (c .if1 .left))))
 
 returns-2 : tie.Need-returns-2 Inv-loop μ-loop
-returns-2 c =
-    let l = c .before .loop in
-    let g = c .before .before .before .before .gather .ensures in
-    let a = c .before .before .before .before .before .before .before .before .args in
-    all-end (l .inv (map asTrade (take (a .m) (a .trades))) (g .0) (g .1)) (omega arith)
+returns-2 c = passed-end (c .before .loop .inv .1) (rw length-recordsOf (omega arith))
 
 pub positions-valid-spec : {M : Type 1} → statement M
 positions-valid-spec =
@@ -107,12 +114,16 @@ positions-valid-spec =
     slice-aggregate-gather-2
     gather-requires
     loop-holds
-    mul-u
-    array-copy-out-u
+    add-read-user
+    sub-read-user
+    part-read-user-start
+    part-read-user-end
+    read-user-requires
     slice-aggregate-user-positions-valid
     slice-aggregate-user-positions-valid-2
     user-positions-valid-requires
     returns
+    add-a
     add-i
     loop-less
     loop-again

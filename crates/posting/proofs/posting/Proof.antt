@@ -1,20 +1,19 @@
 -- `posting` leaves by one of the call's ways out: refused by the entry, no such area, out of range, or the found record written anew in its place. Assumes nothing.
 use mathlib.Core.List.{List}
-use mathlib.Core.Path.{_≡_, _∙_, subst⁻¹, sym}
+use mathlib.Core.Path.{_≡_, _∙_, ap, subst⁻¹, sym}
 use Prim.Native.Nat.{ℕ, _*_, _+_, _-_, _<_, _≤_}
 use native.Mathlib.Omega.{arith}
 use borrow.Author.Needs.{needs}
 use borrow.Author.Tests.{not-false, not-true}
 use borrow.Rule.Slice.PartMut.{putMid}
 use denote.Ref.{now}
-use lib.ListN.{length}
+use lib.ListN.{drop, length, length-drop, length-take, take}
 use lib.Seq.{sets}
 use mir.Syntax.{w64}
 use mir.ValLaws.{toZ-ofZ}
-use Rattle.entry.proofs.Calls.{found-user}
+use Rattle.entry.proofs.Calls.{found-bytes, found-few, found-lies}
 use Rattle.entry.specs.Entered.{Found}
 use Rattle.fields.proofs.Sets.{part-sets}
-use Rattle.format.proofs.Passed.{passed}
 use Rattle.format.specs.Book.{userAt, usersOf}
 use Rattle.format.specs.Steps.{Called}
 use Rattle.posting.proofs.Ways.{accepted, no-area, out-of-range, ready, refused}
@@ -22,7 +21,7 @@ use Rattle.posting.proofs.posting.Statement.{statement}
 use Rattle.posting.proofs.posting.Tie as tie
 use Rattle.posting.specs.Posting.{PostedTo, postingOf}
 use Rattle.records.proofs.Users.{length-userBytes}
-use Rattle.records.specs.User.{asUser, userBytes}
+use Rattle.records.specs.User.{asUser, userBytes, userOf}
 use Rattle.rules.specs.Book.{find}
 use Rattle.rules.specs.Calls.{only}
 use Rattle.rules.specs.Levels.{today}
@@ -35,26 +34,33 @@ start c = c .before .before .before
 abbrev bytes : tie.After-enter → List ℕ
 bytes c = now (start c .args .book)
 
-found : (c : tie.Else1) → Found (bytes (c .before)) (start (c .before) .args .id) (c .before .enter .result .place) (c .before .enter .result .book)
+found : (c : tie.Else1) → Found (bytes (c .before)) (start (c .before) .args .id) (c .before .enter .result .place)
 found c = c .before .enter .ensures .found (c .if1 .left)
 
 -- the found record lies in the book
 inside : (c : tie.Else1) → (32 + 56 * c .before .enter .result .place + 56 ≤ length (bytes (c .before))) × (c .before .enter .result .place < 64)
-inside c =
-    let f = found c in
-    let w = passed (bytes (c .before)) (f .passes) .form in
-    (omega (arith, f .known, w .whole), omega (arith, f .known, w .users))
+inside c = (found-lies (found c), found-few (found c))
+
+-- its record is read
+abbrev read-in : tie.After-read-user → tie.Else1
+read-in c = c .before .before .before .before
+
+user-is : (c : tie.After-read-user) → let e = read-in c .before in asUser (c .read-user .result) ≡ find (usersOf (bytes e)) (start e .args .id)
+user-is c =
+    let e = read-in c .before in
+    let at = 32 + 56 * e .enter .result .place in
+    let k : at + 56 - at ≡ 56 = omega arith in
+    c .read-user .ensures ∙ ap (λ (n : ℕ). userOf (take n (drop at (bytes e)))) k ∙ sym (found-bytes (found (read-in c)))
 
 abbrev entered : tie.After-post → tie.Else1
-entered c = c .before .before .before .before .before
+entered c = read-in (c .before)
 
 -- what the posting on its record tells
 told : (c : tie.After-post) → let e = entered c .before in
     PostedTo (start e .args .area) (start e .args .amount) (find (usersOf (bytes e)) (start e .args .id)) (c .post .result .accepted) (asUser (c .post .result .user))
 told c =
     let e = entered c .before in
-    let f = found (entered c) in
-    rw (toZ-ofZ w64 (start e .args .amount) (start e .fits .amount), found-user (bytes e) (start e .args .id) (e .enter .result .place) (e .enter .result .book) f _) at (c .post .ensures)
+    rw (toZ-ofZ w64 (start e .args .amount) (start e .fits .amount), user-is (c .before)) at (c .post .ensures)
 
 -- ---- the needs
 
@@ -79,19 +85,33 @@ returns-2 c =
     let a = start e .args in
     no-area (bytes e) (a .id) (a .area) (a .amount) (found (c .before)) (c .if2 .taken)
 
-mul-user : tie.Need-mul-user
-mul-user c = omega (arith, inside (c .before .before .before))
+mul-a : tie.Need-mul-a
+mul-a c = omega (arith, inside (c .before))
 
-array-copy-out-user : tie.Need-array-copy-out-user
-array-copy-out-user c = inside (c .before .before .before) .1
+add-a : tie.Need-add-a
+add-a c = omega (arith, inside (c .before))
+
+add-read-user : tie.Need-add-read-user
+add-read-user c = omega (arith, inside (c .before))
+
+sub-read-user : tie.Need-sub-read-user
+sub-read-user c = search needs
+
+part-read-user-start : tie.Need-part-read-user-start
+part-read-user-start c = search needs
+
+part-read-user-end : tie.Need-part-read-user-end
+part-read-user-end c = omega (arith, inside (c .before .before))
+
+read-user-requires : tie.Need-read-user-requires
+read-user-requires c κs = simp (length-take, length-drop) (omega (arith, inside (c .before .before .before)))
 
 post-requires : tie.Need-post-requires
 post-requires c κs =
     let i = c .before .before .before in
     let e = i .before .before in
     let a = start e .args in
-    let f = found (i .before) in
-    rw (found-user (bytes e) (a .id) (e .enter .result .place) (e .enter .result .book) f _) (ready (bytes e) (a .id) (a .area) (a .amount) f (omega (arith, i .if2 .left)))
+    rw (user-is c) (ready (bytes e) (a .id) (a .area) (a .amount) (found (i .before)) (omega (arith, i .if2 .left)))
 
 same-length-3 : tie.Need-same-length-3
 same-length-3 c = search needs
@@ -103,12 +123,6 @@ returns-3 c =
     let a = start e .args in
     out-of-range (bytes e) (a .id) (a .area) (a .amount) (found (entered p)) (omega (arith, p .before .before .before .before .if2 .left))
     (sym (told p .test) ∙ not-true (p .post .result .accepted) (c .if3 .taken))
-
-mul-a : tie.Need-mul-a
-mul-a c = omega (arith, inside (entered (c .before .before .before)))
-
-add-a : tie.Need-add-a
-add-a c = omega (arith, inside (entered (c .before .before .before)))
 
 add-write-user : tie.Need-add-write-user
 add-write-user c = omega (arith, inside (entered (c .before .before .before)))
@@ -155,13 +169,16 @@ posting-spec =
     returns
     same-length-2
     returns-2
-    mul-user
-    array-copy-out-user
+    mul-a
+    add-a
+    add-read-user
+    sub-read-user
+    part-read-user-start
+    part-read-user-end
+    read-user-requires
     post-requires
     same-length-3
     returns-3
-    mul-a
-    add-a
     add-write-user
     sub-write-user
     part-write-user-start

@@ -1,5 +1,5 @@
 -- `open` returns the number of the form, or asks the fields of bytes of the right form. Assumes nothing.
-use mathlib.Core.Path.{refl, sym, _∙_}
+use mathlib.Core.Path.{sym, _∙_}
 use denote.Ref.{now}
 use Rattle.format.proofs.Formed.{formed, form-refused, form-passed}
 use Rattle.questions.specs.Asked.{fieldsNumber}

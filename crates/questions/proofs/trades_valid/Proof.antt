@@ -1,52 +1,81 @@
--- `trades_valid`: the trades that are left have the whole answer, until one is not valid or none is left; a party is a user where its place is below n.
--- Assumes nothing.
+-- `trades_valid`: the trades that are left have the whole answer, until one is not valid or none is left; a party is a user where its place is below n,
+-- and the places of the parties of those passed are listed. Assumes nothing.
 use Prim.Native.Nat.{_-_}
 use native.Mathlib.Omega.{arith}
-use lib.ListN.{take}
 use denote.Ref.{now}
+use lib.ListN.{take, length-take, length-drop}
 use borrow.Author.Needs.{needs}
 use borrow.Author.Tests.{not-true, not-false}
 use Rattle.records.specs.Trade.{asTrade}
-use Rattle.questions.specs.Asked.{tradeAmong}
-use Rattle.arrays.proofs.Every.{AllLeft, all-start, all-no, all-turn, all-end}
+use Rattle.questions.proofs.Asking.{TradesWalk, trades-walk-start, trades-walk-no, trades-walk-turn, trades-walk-end}
 use Rattle.questions.proofs.Known.{tradeAmong-places}
 use Rattle.questions.proofs.trades_valid.Statement.{statement}
 use Rattle.questions.proofs.trades_valid.Tie as tie
 
 abbrev Inv-loop : tie.InvT-loop
-Inv-loop ids n m trades i₀ i = AllLeft (tradeAmong (take n ids)) asTrade trades m i
+Inv-loop ids n s at m sellers₀ buyers₀ i₀ a₀ sellers buyers i a = TradesWalk (take n ids) s at m sellers buyers i a
 
 abbrev μ-loop : tie.MeasureT-loop
-μ-loop ids n m trades i₀ i = m - i
+μ-loop ids n s at m sellers₀ buyers₀ i₀ a₀ sellers buyers i a = m - i
 
 loop-holds : tie.Need-loop-holds Inv-loop μ-loop
-loop-holds c = all-start (search needs)
+loop-holds c = trades-walk-start (search needs) (search needs)
 
-mul-t : tie.Need-mul-t Inv-loop μ-loop
-mul-t c = search needs
+add-read-trade : tie.Need-add-read-trade Inv-loop μ-loop
+add-read-trade c = search needs
 
-array-copy-out-t : tie.Need-array-copy-out-t Inv-loop μ-loop
-array-copy-out-t c = search needs
+sub-read-trade : tie.Need-sub-read-trade Inv-loop μ-loop
+sub-read-trade c = search needs
 
-place-requires : tie.Need-place-requires Inv-loop μ-loop
-place-requires c κs = search needs
+part-read-trade-start : tie.Need-part-read-trade-start Inv-loop μ-loop
+part-read-trade-start c = search needs
 
-place-requires-2 : tie.Need-place-requires-2 Inv-loop μ-loop
-place-requires-2 c κs = search needs
+part-read-trade-end : tie.Need-part-read-trade-end Inv-loop μ-loop
+part-read-trade-end c = search needs
+
+read-trade-requires : tie.Need-read-trade-requires Inv-loop μ-loop
+read-trade-requires c κs = simp (length-take, length-drop) (omega arith)
+
+place-of-requires : tie.Need-place-of-requires Inv-loop μ-loop
+place-of-requires c κs = search needs
+
+place-of-requires-2 : tie.Need-place-of-requires-2 Inv-loop μ-loop
+place-of-requires-2 c κs = search needs
 
 trade-valid-requires : tie.Need-trade-valid-requires Inv-loop μ-loop
 trade-valid-requires c κs = search needs
+
+same-length : tie.Need-same-length Inv-loop μ-loop
+same-length c = search needs
+
+same-length-2 : tie.Need-same-length-2 Inv-loop μ-loop
+same-length-2 c = search needs
 
 returns : tie.Need-returns Inv-loop μ-loop
 unfolding asTrade
 returns c =
     let asked = c .before in
     let places = asked .before in
-    let turn = places .before .before .before .before in
-    let start = turn .before .before in
-    all-no _ (turn .loop .inv) (omega arith)
-    (tradeAmong-places (now (start .args .ids)) (start .args .n) _ (places .before .place .result) (places .place2 .result) (start .pre .0)
-    (places .before .place .ensures .0) (places .place2 .ensures .0) (asked .trade-valid .ensures) (not-true (asked .trade-valid .result) (c .if1 .taken)))
+    let read = places .before .before in
+    let start = read .before .before .before .before .before .before .before .before in
+    trades-walk-no (read .before .before .before .loop .inv) (omega arith) (read .read-trade .ensures)
+    (tradeAmong-places (now (start .args .ids)) (start .args .n) _ (places .before .place-of .result) (places .place-of2 .result) (search needs)
+    (places .before .place-of .ensures .0) (places .place-of2 .ensures .0) (asked .trade-valid .ensures) (not-true (asked .trade-valid .result) (c .if1 .taken)))
+
+cast-sellers : tie.Need-cast-sellers Inv-loop μ-loop
+cast-sellers c = search needs
+
+slice-write-sellers : tie.Need-slice-write-sellers Inv-loop μ-loop
+slice-write-sellers c = search needs
+
+cast-buyers : tie.Need-cast-buyers Inv-loop μ-loop
+cast-buyers c = search needs
+
+slice-write-buyers : tie.Need-slice-write-buyers Inv-loop μ-loop
+slice-write-buyers c = search needs
+
+add-a : tie.Need-add-a Inv-loop μ-loop
+add-a c = search needs
 
 add-i : tie.Need-add-i Inv-loop μ-loop
 add-i c = search needs
@@ -59,14 +88,21 @@ unfolding asTrade
 loop-again c =
     let asked = c .before in
     let places = asked .before in
-    let turn = places .before .before .before .before in
-    let start = turn .before .before in
-    all-turn _ (turn .loop .inv) (omega arith)
-    (tradeAmong-places (now (start .args .ids)) (start .args .n) _ (places .before .place .result) (places .place2 .result) (start .pre .0)
-    (places .before .place .ensures .0) (places .place2 .ensures .0) (asked .trade-valid .ensures) (not-false (asked .trade-valid .result) (c .if1 .left)))
+    let read = places .before .before in
+    let start = read .before .before .before .before .before .before .before .before in
+    trades-walk-turn (read .before .before .before .loop .inv) (omega arith) (read .read-trade .ensures) (search needs)
+    (tradeAmong-places (now (start .args .ids)) (start .args .n) _ (places .before .place-of .result) (places .place-of2 .result) (search needs)
+    (places .before .place-of .ensures .0) (places .place-of2 .ensures .0) (asked .trade-valid .ensures) (not-false (asked .trade-valid .result) (c .if1 .left)))
+    (places .before .place-of .ensures .0) (places .place-of2 .ensures .0)
+
+same-length-3 : tie.Need-same-length-3 Inv-loop μ-loop
+same-length-3 c = search needs
+
+same-length-4 : tie.Need-same-length-4 Inv-loop μ-loop
+same-length-4 c = search needs
 
 returns-2 : tie.Need-returns-2 Inv-loop μ-loop
-returns-2 c = all-end (c .before .loop .inv) (omega arith)
+returns-2 c = trades-walk-end (c .before .loop .inv) (omega arith)
 
 pub trades-valid-spec : {M : Type 1} → statement M
 trades-valid-spec =
@@ -75,13 +111,25 @@ trades-valid-spec =
     Inv-loop
     μ-loop
     loop-holds
-    mul-t
-    array-copy-out-t
-    place-requires
-    place-requires-2
+    add-read-trade
+    sub-read-trade
+    part-read-trade-start
+    part-read-trade-end
+    read-trade-requires
+    place-of-requires
+    place-of-requires-2
     trade-valid-requires
+    same-length
+    same-length-2
     returns
+    cast-sellers
+    slice-write-sellers
+    cast-buyers
+    slice-write-buyers
+    add-a
     add-i
     loop-less
     loop-again
+    same-length-3
+    same-length-4
     returns-2)

@@ -1,8 +1,6 @@
 -- `answer` has the tally, the amount asked for, and what each of the two exceeds the other by. Assumes nothing.
-use mathlib.Core.Path.{_≡_, ap₂}
-use Prim.Native.Nat.{ℕ}
 use borrow.Author.Needs.{needs}
-use Rattle.rules.specs.Calls.{ofCuts, Answer}
+use Rattle.rules.specs.Calls.{ofCuts}
 use Rattle.reduce.proofs.answer.Statement.{statement}
 use Rattle.reduce.proofs.answer.Tie as tie
 

@@ -1,39 +1,41 @@
--- `reduction` is refused by the entry or by a question of its own; or the book that the rules give is written. Assumes nothing.
-use mathlib.Core.Path.{_≡_, sym, ap, _∙_}
+-- `reduction` is refused by the entry, or goes on with the user that it found. Assumes nothing.
 use mathlib.Core.List.{List}
+use mathlib.Core.Path.{_∙_}
 use Prim.Native.Nat.{ℕ}
-use native.Mathlib.Omega.{arith}
 use denote.Ref.{now}
 use Rattle.rules.specs.Levels.{today}
-use Rattle.rules.specs.Questions.{numberOf, refusal}
-use Rattle.rules.specs.Book.{find}
-use Rattle.format.specs.Book.{bookOf}
-use Rattle.format.specs.Steps.{InBytes}
-use Rattle.format.proofs.Passed.{passed}
 use Rattle.entry.specs.Entered.{Found}
-use Rattle.found.proofs.User.{found-ready, found-place, found-in, called}
-use Rattle.reduction.specs.Reduction.{Accepted}
-use Rattle.reduction.proofs.Callers.{accepted-read}
-use Rattle.reduce.specs.Answers.{reductionOf, lastQuestions}
-use Rattle.reduce.proofs.Ways.{call-unentered, call-unreduced, call-ends}
+use Rattle.entry.proofs.Calls.{called}
+use Rattle.held.proofs.Held.{held-accepted}
+use Rattle.reduce.specs.Answers.{reductionOf}
+use Rattle.reduce.proofs.Ways.{call-unentered, call-gives}
 use borrow.Author.Needs.{needs}
 use Rattle.reduce.proofs.reduction.Statement.{statement}
 use Rattle.reduce.proofs.reduction.Tie as tie
 
-abbrev bytes : tie.After-enter → List ℕ
-bytes c = now (c .before .before .before .args .book)
+abbrev start : tie.After-seek → tie.Start
+start c = c .before .before .before .before .before .before .before .before .before
 
-abbrev asked : tie.After-enter → ℕ
-asked c = c .before .before .before .args .id
+abbrev bytes : tie.After-seek → List ℕ
+bytes c = now (start c .args .book)
 
-found : (c : tie.Else1) → Found (bytes (c .before)) (asked (c .before)) (c .before .enter .result .place) (c .before .enter .result .book)
-found c = c .before .enter .ensures .found (c .if1 .left)
+abbrev asked : tie.After-seek → ℕ
+asked c = start c .args .id
 
-accepted : (c : tie.Else1) → Accepted (c .before .enter .result .book)
-accepted c = accepted-read (bytes (c .before)) (c .before .enter .result .book) (passed (bytes (c .before)) (found c .passes)) (found c .read)
+found : (c : tie.Else1) → Found (bytes (c .before)) (asked (c .before)) (c .before .seek .result .place)
+found c = c .before .seek .ensures .found (c .if1 .left)
 
-enter-requires : tie.Need-enter-requires
-enter-requires c κs = search needs
+slice-aggregate-ask : tie.Need-slice-aggregate-ask
+slice-aggregate-ask c = search needs
+
+slice-aggregate-ask-2 : tie.Need-slice-aggregate-ask-2
+slice-aggregate-ask-2 c = search needs
+
+ask-requires : tie.Need-ask-requires
+ask-requires c κs = search needs
+
+seek-requires : tie.Need-seek-requires
+seek-requires c κs = search needs
 
 refused-requires : tie.Need-refused-requires
 refused-requires c κs = search needs
@@ -43,86 +45,49 @@ same-length c = search needs
 
 returns : tie.Need-returns
 returns c =
-    let e = c .before .before in
-    called (reductionOf (asked e)) (c .refused .ensures) (call-unentered today (bytes e) (asked e) (e .enter .result .number) (e .enter .ensures .refused (c .before .if1 .taken)))
+    let k = c .before .before in
+    called (reductionOf (asked k)) (c .refused .ensures) (call-unentered today (bytes k) (asked k) (k .seek .result .number) (k .seek .ensures .refused (c .before .if1 .taken)))
 
-today-requires : tie.Need-today-requires
-today-requires c κs = search needs
+slice-aggregate-reduce-user : tie.Need-slice-aggregate-reduce-user
+slice-aggregate-reduce-user c = search needs
 
-ask-requires : tie.Need-ask-requires
-ask-requires c κs = (found-ready (found (c .before .before)), c .today .ensures .1)
+slice-aggregate-reduce-user-2 : tie.Need-slice-aggregate-reduce-user-2
+slice-aggregate-reduce-user-2 c = search needs
 
-refused-requires-2 : tie.Need-refused-requires-2
-refused-requires-2 c κs = search needs
+reduce-user-requires : tie.Need-reduce-user-requires
+reduce-user-requires c κs =
+    let e = c .before .before .before in
+    let a = e .before .before .before .before .before in
+    let f = found e in
+    record {
+      passes = f .passes;
+      held = held-accepted (bytes (e .before)) (λ i. a .before .before .before .before .slice-known .given i .fits) (f .passes);
+      inside = f .known;
+      placed = a .ask .ensures .placed (a .ask .ensures .number ∙ f .passes);
+    }
 
 same-length-2 : tie.Need-same-length-2
 same-length-2 c = search needs
 
--- the number is that of the questions of the bytes
-number-is : (c : tie.After-ask) → let e = c .before .before .before .before in
-    c .ask .result ≡ numberOf (refusal (lastQuestions today (bookOf (bytes e)) (find (bookOf (bytes e) .users) (asked e))))
-number-is c =
-    let f = found (c .before .before .before) in
-    cc (c .ask .ensures, c .before .today .ensures .0, f .read .book, found-in f)
-
 returns-2 : tie.Need-returns-2
 returns-2 c =
-    let k = c .before .before in
-    let e = k .before .before .before .before in
-    called (reductionOf (asked e)) (c .refused2 .ensures)
-    (call-unreduced today (bytes e) (asked e) (found (k .before .before .before)) (k .ask .result) (c .before .if2 .taken) (number-is k))
-
-target-at-requires : tie.Need-target-at-requires
-target-at-requires c κs = (found-ready (found (c .before .before .before .before)), c .before .before .today .ensures .1)
-
-reduce-by-requires : tie.Need-reduce-by-requires
-reduce-by-requires c κs =
-    let e = c .before .before .before .before .before in
-    record { accepted = accepted e; inside = found-place (found e) }
-
-write-book-requires : tie.Need-write-book-requires
-write-book-requires c κs =
-    let r = c .before .before .before in
-    let e = r .before .before .before .before .before .before in
-    let a = accepted e in
-    let w = passed (bytes (e .before)) (found e .passes) .form in
-    let o = r .reduce-by .ensures in
-    let t = found e .read in
-    (omega (arith, o .users, a .users-few), omega (arith, o .trades, a .trades-few), omega (arith, o .users, o .trades, t .users, t .trades, w .whole))
-
-answer-requires : tie.Need-answer-requires
-answer-requires c κs = search needs
-
-same-length-3 : tie.Need-same-length-3
-same-length-3 c = search needs
-
-returns-3 : tie.Need-returns-3
-returns-3 c =
-    let w = c .before .before .before in
-    let r = w .before .before .before .before in
-    let t = r .before in
-    let k = t .before .before in
-    let n = k .before .before .before in
-    let e = n .before in
-    let x = call-ends today (bytes e) (asked e) (found n) (k .before .today .ensures .0) (sym (t .before .if2 .left) ∙ k .ask .ensures) (t .target-at .ensures) (r .reduce-by .ensures) in
-    record { answer = c .answer .ensures ∙ sym (ap (λ (y : InBytes). y .answer) x); bytes = w .write-book .ensures .bytes ∙ sym (ap (λ (y : InBytes). y .bytes) x) }
+    let r = c .before .before in
+    let e = r .before .before .before .before in
+    call-gives today (bytes (e .before)) (asked (e .before)) (found e) (r .reduce-user .ensures)
 
 pub reduction-spec : {M : Type 1} → statement M
 reduction-spec =
     tie.close
     (tie.spec
-    enter-requires
+    slice-aggregate-ask
+    slice-aggregate-ask-2
+    ask-requires
+    seek-requires
     refused-requires
     same-length
     returns
-    today-requires
-    ask-requires
-    refused-requires-2
+    slice-aggregate-reduce-user
+    slice-aggregate-reduce-user-2
+    reduce-user-requires
     same-length-2
-    returns-2
-    target-at-requires
-    reduce-by-requires
-    write-book-requires
-    answer-requires
-    same-length-3
-    returns-3)
+    returns-2)

@@ -1,13 +1,19 @@
--- `run` is refused by a question about the book, or writes what the run leaves. Assumes nothing.
+-- `run` is refused by a question about the book, or runs it in its bytes. Assumes nothing.
 use borrow.Author.Needs.{needs}
 use denote.Ref.{now}
 use Rattle.rules.specs.Levels.{today}
-use Rattle.run.proofs.Ways.{opened-accepted, ran-fits, run-called, run-refused}
+use Rattle.run.proofs.Ways.{run-refused, asked-book, run-called}
 use Rattle.run.proofs.run.Statement.{statement}
 use Rattle.run.proofs.run.Tie as tie
 
-open-requires : tie.Need-open-requires
-open-requires c κs = search needs
+slice-aggregate-ask : tie.Need-slice-aggregate-ask
+slice-aggregate-ask c = search needs
+
+slice-aggregate-ask-2 : tie.Need-slice-aggregate-ask-2
+slice-aggregate-ask-2 c = search needs
+
+ask-requires : tie.Need-ask-requires
+ask-requires c κs = search needs
 
 refused-requires : tie.Need-refused-requires
 refused-requires c κs = search needs
@@ -17,20 +23,24 @@ same-length c = search needs
 
 returns : tie.Need-returns
 returns c =
-    let o = c .before .before in
-    run-refused today (now (o .before .before .before .args .book)) (o .«open» .result .number) (o .«open» .ensures .asked) (c .before .if1 .taken) (c .refused .ensures)
+    let o = c .before .before .before .before in
+    let s = o .before .before .before .before .before in
+    run-refused today (now (s .args .book)) (o .ask .result) (o .ask .ensures .number) (c .before .if1 .taken) (c .refused .ensures)
 
-run-book-requires : tie.Need-run-book-requires
-run-book-requires c κs =
-    let o = c .before .before in
-    opened-accepted today _ (o .«open» .result .number) (o .«open» .result .book) (o .«open» .ensures) (c .before .if1 .left)
+today-requires : tie.Need-today-requires
+today-requires c κs = search needs
 
-write-book-requires : tie.Need-write-book-requires
-write-book-requires c κs =
-    let r = c .before .before .before in
-    let e = r .before .before in
-    let o = e .before in
-    ran-fits today _ (o .«open» .result .number) (o .«open» .result .book) (o .«open» .ensures) (e .if1 .left) (r .run-book .ensures)
+slice-aggregate-run-in : tie.Need-slice-aggregate-run-in
+slice-aggregate-run-in c = search needs
+
+slice-aggregate-run-in-2 : tie.Need-slice-aggregate-run-in-2
+slice-aggregate-run-in-2 c = search needs
+
+run-in-requires : tie.Need-run-in-requires
+run-in-requires c κs =
+    let t = c .before .before .before in
+    let o = t .before .before .before .before in
+    (t .today .ensures .1, asked-book (o .ask .ensures) (t .before .if1 .left) (λ j. o .before .before .before .before .slice-known .given j .fits))
 
 accepted-requires : tie.Need-accepted-requires
 accepted-requires c κs = search needs
@@ -41,21 +51,24 @@ same-length-2 c = search needs
 returns-2 : tie.Need-returns-2
 returns-2 c =
     let w = c .before .before .before in
-    let r = w .before .before .before .before in
-    let e = r .before .before in
-    let o = e .before in
-    run-called today _ (o .«open» .result .number) (o .«open» .result .book) (o .«open» .ensures) (e .if1 .left) (r .run-book .ensures) (w .write-book .ensures) (c .accepted .ensures)
+    let t = w .before .before .before .before in
+    let o = t .before .before .before .before in
+    run-called (o .ask .ensures) (t .before .if1 .left) (t .today .ensures .0) (w .run-in .ensures) (c .accepted .ensures)
 
 pub run-spec : {M : Type 1} → statement M
 run-spec =
     tie.close
     (tie.spec
-    open-requires
+    slice-aggregate-ask
+    slice-aggregate-ask-2
+    ask-requires
     refused-requires
     same-length
     returns
-    run-book-requires
-    write-book-requires
+    today-requires
+    slice-aggregate-run-in
+    slice-aggregate-run-in-2
+    run-in-requires
     accepted-requires
     same-length-2
     returns-2)

@@ -1,157 +1,97 @@
--- `run_in`: the lists of the book are the run's lists, and what stands at the end is written back to its trades. Assumes nothing.
+-- `run_in`: the arrays have room for the lists of an accepted book. Assumes nothing.
 use borrow.Author.Needs.{needs}
-use lib.ListN.{drop}
-use lib.Seq.{length-take-le, take-at}
-use mathlib.Core.Path.{sym, _∙_}
+use lib.Seq.{length-take-le}
+use mathlib.Core.Path.{sym}
 use native.Mathlib.Omega.{arith}
-use Rattle.levels.specs.Limits.{asLimits}
-use Rattle.reduction.proofs.Steps.{part-length}
-use Rattle.running.proofs.Whole.{listed-start, amounts-long, flags-long, writing-end, ran-in}
+use Rattle.running.proofs.Lists.{book-counted, users-few, accepted-few}
 use Rattle.running.proofs.run_in.Statement.{statement}
 use Rattle.running.proofs.run_in.Tie as tie
 
-dealings-of-users-requires : tie.Need-dealings-of-users-requires
-dealings-of-users-requires c κs = search needs
+get-u8-requires : tie.Need-get-u8-requires
+get-u8-requires c κs = search needs
 
-fill-short-requires : tie.Need-fill-short-requires
-fill-short-requires c κs = search needs
+cast-n : tie.Need-cast-n
+cast-n c = search needs
 
-fill-lists-requires : tie.Need-fill-lists-requires
-fill-lists-requires c κs = search needs
+get-u16-requires : tie.Need-get-u16-requires
+get-u16-requires c κs = search needs
 
-slice-relend-prefix-run-lists : tie.Need-slice-relend-prefix-run-lists
-slice-relend-prefix-run-lists c = search needs
+cast-m : tie.Need-cast-m
+cast-m c = search needs
 
-slice-aggregate-run-lists : tie.Need-slice-aggregate-run-lists
-slice-aggregate-run-lists c =
-    let w = c .before .before .before .before .before .before .before .before .before .before .before .before in
-    let o = w .fill-lists .ensures in
-    sym (length-take-le _ _ (omega (arith, o .most, o .room .standing-length)))
+slice-aggregate-run-from : tie.Need-slice-aggregate-run-from
+slice-aggregate-run-from c = search needs
 
-slice-reshare-prefix-run-lists : tie.Need-slice-reshare-prefix-run-lists
-slice-reshare-prefix-run-lists c = search needs
+add-starts : tie.Need-add-starts
+add-starts c = search needs
 
-slice-aggregate-run-lists-2 : tie.Need-slice-aggregate-run-lists-2
-slice-aggregate-run-lists-2 c =
-    let w = c .before .before .before .before .before .before .before .before .before .before .before .before .before in
-    let o = w .fill-lists .ensures in
-    sym (length-take-le _ _ (omega (arith, o .most, o .room .areas-length)))
+array-borrow-prefix-starts : tie.Need-array-borrow-prefix-starts
+array-borrow-prefix-starts c =
+    let s = c .before .before .before .before .before .before .before .before .before in
+    let few = users-few (s .pre .1) (c .before .before .before .before .get-u8 .ensures) in
+    omega arith
 
-slice-reshare-prefix-run-lists-2 : tie.Need-slice-reshare-prefix-run-lists-2
-slice-reshare-prefix-run-lists-2 c = search needs
+slice-aggregate-run-from-2 : tie.Need-slice-aggregate-run-from-2
+slice-aggregate-run-from-2 c =
+    let s = c .before .before .before .before .before .before .before .before .before .before in
+    let few = users-few (s .pre .1) (c .before .before .before .before .before .get-u8 .ensures) in
+    sym (length-take-le _ _ (omega arith))
 
-slice-aggregate-run-lists-3 : tie.Need-slice-aggregate-run-lists-3
-slice-aggregate-run-lists-3 c =
-    let w = c .before .before .before .before .before .before .before .before .before .before .before .before .before .before in
-    let o = w .fill-lists .ensures in
-    sym (length-take-le _ _ (omega (arith, o .most, o .room .buyers-length)))
+slice-aggregate-run-from-3 : tie.Need-slice-aggregate-run-from-3
+slice-aggregate-run-from-3 c = search needs
 
-run-lists-requires : tie.Need-run-lists-requires
-run-lists-requires c κs =
-    let w = c .before .before .before .before .before .before .before .before .before .before .before .before .before .before .before in
-    let s = w .before .before .before .before .before .before .before .before .before .before .before .before .before .before .before .before .before in
-    let a = s .args in
-    (s .pre .0 .1, listed-start (asLimits (a .limits)) (a .b) (s .pre .0 .0) (w .fill-lists .ensures) (w .before .before .before .before .before .before .before .before .before .before .dealings-of-users .ensures) (w .before .before .before .before .before .before .before .before .fill-short .ensures))
+slice-aggregate-run-from-4 : tie.Need-slice-aggregate-run-from-4
+slice-aggregate-run-from-4 c = search needs
 
-slice-reshare-prefix-write-back : tie.Need-slice-reshare-prefix-write-back
-slice-reshare-prefix-write-back c = search needs
+slice-aggregate-run-from-5 : tie.Need-slice-aggregate-run-from-5
+slice-aggregate-run-from-5 c = search needs
 
-slice-aggregate-write-back : tie.Need-slice-aggregate-write-back
-slice-aggregate-write-back c =
-    let e = c .before .before .before .before .before .before .before .before in
-    let w = e .before .before .before .before .before .before .before .before .before .before .before .before .before .before .before .before in
-    let s = w .before .before .before .before .before .before .before .before .before .before .before .before .before .before .before .before .before in
-    let a = s .args in
-    let h = s .pre .0 .0 in
-    let o = w .fill-lists .ensures in
-    let l = listed-start (asLimits (a .limits)) (a .b) h o (w .before .before .before .before .before .before .before .before .before .before .dealings-of-users .ensures) (w .before .before .before .before .before .before .before .before .fill-short .ensures) in
-    sym (length-take-le _ _ (omega (arith, o .most, o .room .origins-length)))
+array-borrow-prefix-short : tie.Need-array-borrow-prefix-short
+array-borrow-prefix-short c =
+    let s = c .before .before .before .before .before .before .before .before .before .before .before .before .before in
+    let few = users-few (s .pre .1) (c .before .before .before .before .before .before .before .before .get-u8 .ensures) in
+    omega arith
 
-slice-reshare-prefix-write-back-2 : tie.Need-slice-reshare-prefix-write-back-2
-slice-reshare-prefix-write-back-2 c = search needs
+slice-aggregate-run-from-6 : tie.Need-slice-aggregate-run-from-6
+slice-aggregate-run-from-6 c =
+    let s = c .before .before .before .before .before .before .before .before .before .before .before .before .before .before in
+    let few = users-few (s .pre .1) (c .before .before .before .before .before .before .before .before .before .get-u8 .ensures) in
+    sym (length-take-le _ _ (omega arith))
 
-slice-aggregate-write-back-2 : tie.Need-slice-aggregate-write-back-2
-slice-aggregate-write-back-2 c =
-    let e = c .before .before .before .before .before .before .before .before .before in
-    let w = e .before .before .before .before .before .before .before .before .before .before .before .before .before .before .before .before in
-    let s = w .before .before .before .before .before .before .before .before .before .before .before .before .before .before .before .before .before in
-    let a = s .args in
-    let h = s .pre .0 .0 in
-    let o = w .fill-lists .ensures in
-    let l = listed-start (asLimits (a .limits)) (a .b) h o (w .before .before .before .before .before .before .before .before .before .before .dealings-of-users .ensures) (w .before .before .before .before .before .before .before .before .fill-short .ensures) in
-    sym (part-length (e .run-lists .last .1 .1 .1 .0) (drop (w .fill-lists .result) (w .fill-lists .last .1 .1 .1 .0)) (amounts-long (asLimits (a .limits)) (a .b) h o l (e .run-lists .ensures)))
-
-write-back-requires : tie.Need-write-back-requires
-write-back-requires c κs =
-    let e = c .before .before .before .before .before .before .before .before .before in
-    let w = e .before .before .before .before .before .before .before .before .before .before .before .before .before .before .before .before in
-    let s = w .before .before .before .before .before .before .before .before .before .before .before .before .before .before .before .before .before in
-    let a = s .args in
-    let h = s .pre .0 .0 in
-    let o = w .fill-lists .ensures in
-    let l = listed-start (asLimits (a .limits)) (a .b) h o (w .before .before .before .before .before .before .before .before .before .before .dealings-of-users .ensures) (w .before .before .before .before .before .before .before .before .fill-short .ensures) in
-    rw (take-at _ _ _ (amounts-long (asLimits (a .limits)) (a .b) h o l (e .run-lists .ensures))) (writing-end (asLimits (a .limits)) (a .b) h o l (e .run-lists .ensures))
+run-from-requires : tie.Need-run-from-requires
+run-from-requires c κs =
+    let s = c .before .before .before .before .before .before .before .before .before .before .before .before .before .before in
+    let a = book-counted (s .pre .1) (c .before .before .before .before .before .before .before .before .before .get-u8 .ensures) (c .before .before .before .before .before .before .before .get-u16 .ensures) in (
+      (s .pre .0, a, length-take-le _ _ (accepted-few a .0)),
+      record {
+        sales = record { origins-room = accepted-few a .1; standing-room = accepted-few a .1; areas-room = accepted-few a .1; buyers-room = accepted-few a .1 };
+        starts-room = length-take-le _ _ (omega (arith, accepted-few a .0));
+      },
+    )
 
 same-length : tie.Need-same-length
 same-length c = search needs
 
-same-length-2 : tie.Need-same-length-2
-same-length-2 c = search needs
-
-same-length-3 : tie.Need-same-length-3
-same-length-3 c = search needs
-
-same-length-4 : tie.Need-same-length-4
-same-length-4 c = search needs
-
-same-length-5 : tie.Need-same-length-5
-same-length-5 c = search needs
-
-same-length-6 : tie.Need-same-length-6
-same-length-6 c =
-    let e = c .before .before .before .before .before .before .before .before .before .before in
-    let w = e .before .before .before .before .before .before .before .before .before .before .before .before .before .before .before .before in
-    let s = w .before .before .before .before .before .before .before .before .before .before .before .before .before .before .before .before .before in
-    let a = s .args in
-    let h = s .pre .0 .0 in
-    let o = w .fill-lists .ensures in
-    let l = listed-start (asLimits (a .limits)) (a .b) h o (w .before .before .before .before .before .before .before .before .before .before .dealings-of-users .ensures) (w .before .before .before .before .before .before .before .before .fill-short .ensures) in
-    flags-long (asLimits (a .limits)) (a .b) h o l (e .run-lists .ensures) ∙ sym (s .pre .1 .1)
-
 returns : tie.Need-returns
-returns c =
-    let e = c .before .before .before .before .before .before .before .before .before .before in
-    let w = e .before .before .before .before .before .before .before .before .before .before .before .before .before .before .before .before in
-    let s = w .before .before .before .before .before .before .before .before .before .before .before .before .before .before .before .before .before in
-    let a = s .args in
-    let h = s .pre .0 .0 in
-    let o = w .fill-lists .ensures in
-    let l = listed-start (asLimits (a .limits)) (a .b) h o (w .before .before .before .before .before .before .before .before .before .before .dealings-of-users .ensures) (w .before .before .before .before .before .before .before .before .fill-short .ensures) in
-    ran-in (asLimits (a .limits)) (a .b) h o l (e .run-lists .ensures) _ (rw (take-at _ _ _ (amounts-long (asLimits (a .limits)) (a .b) h o l (e .run-lists .ensures))) at (c .write-back .ensures))
+returns c = search needs
 
 pub run-in-spec : {M : Type 1} → statement M
 run-in-spec =
     tie.close
     (tie.spec
-    dealings-of-users-requires
-    fill-short-requires
-    fill-lists-requires
-    slice-relend-prefix-run-lists
-    slice-aggregate-run-lists
-    slice-reshare-prefix-run-lists
-    slice-aggregate-run-lists-2
-    slice-reshare-prefix-run-lists-2
-    slice-aggregate-run-lists-3
-    run-lists-requires
-    slice-reshare-prefix-write-back
-    slice-aggregate-write-back
-    slice-reshare-prefix-write-back-2
-    slice-aggregate-write-back-2
-    write-back-requires
+    get-u8-requires
+    cast-n
+    get-u16-requires
+    cast-m
+    slice-aggregate-run-from
+    add-starts
+    array-borrow-prefix-starts
+    slice-aggregate-run-from-2
+    slice-aggregate-run-from-3
+    slice-aggregate-run-from-4
+    slice-aggregate-run-from-5
+    array-borrow-prefix-short
+    slice-aggregate-run-from-6
+    run-from-requires
     same-length
-    same-length-2
-    same-length-3
-    same-length-4
-    same-length-5
-    same-length-6
     returns)

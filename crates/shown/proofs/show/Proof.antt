@@ -1,18 +1,17 @@
 -- `show` gives the empty part and the number of the entry, or the 56 bytes where the found user stands. Assumes nothing.
-use mathlib.Core.Path.{_≡_, refl, sym, ap, _∙_}
+use mathlib.Core.Path.{_≡_, sym, ap, _∙_}
 use mathlib.Core.List.{List, []}
-use Prim.Native.Nat.{ℕ, _+_, _-_, _*_, _≤_}
+use Prim.Native.Nat.{ℕ, _+_, _-_, _*_, _<_, _≤_}
 use native.Mathlib.Omega.{arith}
 use denote.Ref.{now}
 use lib.ListN.{length}
 use Rattle.rules.specs.Questions.{refusal, numberOf, decided}
 use Rattle.rules.specs.Queries.{aboutQuery}
 use Rattle.format.specs.Book.{userAt, bookOf}
-use Rattle.format.specs.Questions.{Formed}
 use Rattle.format.specs.Steps.{shownPart}
-use Rattle.format.proofs.Passed.{passed}
 use Rattle.entry.specs.Entered.{Found}
 use Rattle.entry.proofs.Asked.{entry-found}
+use Rattle.entry.proofs.Calls.{found-few, found-lies}
 use borrow.Author.Needs.{needs}
 use Rattle.shown.proofs.show.Statement.{statement}
 use Rattle.shown.proofs.show.Tie as tie
@@ -23,15 +22,12 @@ bytes c = now (c .before .before .args .book)
 abbrev asked : tie.After-enter → ℕ
 asked c = c .before .before .args .id
 
-found : (c : tie.Else1) → Found (bytes (c .before .before)) (asked (c .before .before)) (c .before .before .enter .result .place) (c .before .before .enter .result .book)
+found : (c : tie.Else1) → Found (bytes (c .before .before)) (asked (c .before .before)) (c .before .before .enter .result .place)
 found c = c .before .before .enter .ensures .found (c .if1 .left)
 
 -- the found record lies in the book
-inside : (c : tie.Else1) → (32 + 56 * c .before .before .enter .result .place + 56 ≤ length (bytes (c .before .before))) × (c .before .before .enter .result .place ≤ 64)
-inside c =
-    let f = found c in
-    let w = passed (bytes (c .before .before)) (f .passes) .form in
-    (omega (arith, f .known, w .whole), omega (arith, f .known, w .users))
+inside : (c : tie.Else1) → (32 + 56 * c .before .before .enter .result .place + 56 ≤ length (bytes (c .before .before))) × (c .before .before .enter .result .place < 64)
+inside c = (found-lies (found c), found-few (found c))
 
 enter-requires : tie.Need-enter-requires
 enter-requires c κs = search needs

@@ -1,14 +1,9 @@
--- `tier::tier_cuts`: each of the definition's cases is a path of the code. Assumes nothing.
+-- `tier::tier_cuts`: a tier that is asked for nothing loses nothing, and any other is cut by its worth. Assumes nothing.
 use mathlib.Core.Path.{_∙_}
-use native.Mathlib.Omega.{arith}
 use borrow.Author.Needs.{needs}
-use Rattle.tier.specs.Turns.{sharesOf}
-use Rattle.tier.proofs.Cuts.{cuts-none, cuts-whole, cuts-part}
+use Rattle.tier.proofs.Cuts.{asked-nothing}
 use Rattle.tier.proofs.tier_cuts.Statement.{statement}
 use Rattle.tier.proofs.tier_cuts.Tie as tie
-
-worth-of-requires : tie.Need-worth-of-requires
-worth-of-requires c κs = search needs
 
 cut-none-requires : tie.Need-cut-none-requires
 cut-none-requires c κs = search needs
@@ -18,68 +13,38 @@ same-length c = search needs
 
 returns : tie.Need-returns
 returns c =
-    let w = c .before .before .before .before .before in
-    let b = w .before .before .before .before .before in
+    let b = c .before .before .before .before .before .before .before .before .before .before in
     let a = b .args in
     c .before .before .cut-none .ensures
-    ∙ cuts-none (a .standing .now) (a .tariffs .now) (b .pre .tier .tariffs-length) (a .asked .0) (w .worth-of .result .0) (w .worth-of .ensures .0)
-    (c .before .before .before .before .if1 .taken) (a .cuts .now) (b .pre .cuts-length)
+    ∙ asked-nothing (a .standing .now) (a .tariffs .now) (b .pre .tier .tariffs-length) (a .asked .0) (c .before .before .before .before .if1 .taken) (a .cuts .now) (b .pre .cuts-length)
 
-cut-all-requires : tie.Need-cut-all-requires
-cut-all-requires c κs = search needs
+worth-of-requires : tie.Need-worth-of-requires
+worth-of-requires c κs = search needs
+
+cuts-of-worth-requires : tie.Need-cuts-of-worth-requires
+cuts-of-worth-requires c κs =
+    let w = c .before .before in
+    let b = c .before .before .before .before .before .before .before .before .before in
+    (b .pre, w .worth-of .ensures)
 
 same-length-2 : tie.Need-same-length-2
 same-length-2 c = search needs
 
-returns-2 : tie.Need-returns-2
-returns-2 c =
-    let w = c .before .before .before .before .before .before in
-    let b = w .before .before .before .before .before in
-    let a = b .args in
-    c .before .before .cut-all .ensures
-    ∙ cuts-whole (a .standing .now) (a .tariffs .now) (b .pre .tier .tariffs-length) (a .asked .0) (w .worth-of .result .0) (w .worth-of .ensures .0)
-    (c .before .before .before .before .before .if1 .left) (c .before .before .before .before .if2 .taken)
-
-whole-parts-requires : tie.Need-whole-parts-requires
-whole-parts-requires c κs = search needs
-
-by-turns-requires : tie.Need-by-turns-requires
-by-turns-requires c κs =
-    let w = c .before .before .before .before .before .before .before .before .before .before .before in
-    let b = w .before .before .before .before .before in
-    let l = c .before .before .before .before .before .before .before .before .before .if2 .left in
-    (c .before .before .before .before .before .before .whole-parts .ensures .0, (omega (arith, b .pre .tier .tariffs-length), omega (arith, b .pre .tier .few)))
-
 same-length-3 : tie.Need-same-length-3
 same-length-3 c = search needs
 
-same-length-4 : tie.Need-same-length-4
-same-length-4 c = search needs
-
-returns-3 : tie.Need-returns-3
-returns-3 c =
-    let p = c .before .before .before .before .before .before .before .before .before .before .before in
-    let w = p .before .before .before .before .before in
-    let b = w .before .before .before .before .before in
-    let a = b .args in
-    cuts-part (a .standing .now) (a .tariffs .now) (b .pre .tier .tariffs-length) (a .asked .0) (w .worth-of .result .0) (w .worth-of .ensures .0)
-    (p .before .before .before .before .if1 .left) (p .before .before .before .if2 .left)
-    (sharesOf (p .whole-parts .last .1 .1 .1 .1 .0) (p .whole-parts .last .1 .1 .1 .1 .1 .0) (a .tariffs .now)) (p .whole-parts .ensures .1)
-    (c .before .before .before .before .by-turns .ensures)
+returns-2 : tie.Need-returns-2
+returns-2 c = c .before .before .before .before .cuts-of-worth .ensures
 
 pub tier-cuts-spec : {M : Type 1} → statement M
 tier-cuts-spec =
     tie.close
     (tie.spec
-    worth-of-requires
     cut-none-requires
     same-length
     returns
-    cut-all-requires
+    worth-of-requires
+    cuts-of-worth-requires
     same-length-2
-    returns-2
-    whole-parts-requires
-    by-turns-requires
     same-length-3
-    same-length-4
-    returns-3)
+    returns-2)

@@ -1,10 +1,10 @@
 -- `reduce_at`: the parts of the lists that are the user's own sales can be reduced, and what stands of them is put back. Assumes nothing.
 use borrow.Author.Needs.{needs}
 use lib.Seq.{length-take-le}
-use mathlib.Core.Path.{refl, sym}
+use mathlib.Core.Path.{sym}
 use native.Mathlib.Omega.{arith}
 use Rattle.cover.specs.Cover.{ownPart}
-use Rattle.turn.proofs.Steps.{part-few, parts-room}
+use Rattle.turn.proofs.Steps.{part-rise, part-inside, part-few, lists-long, parts-room, turned}
 use Rattle.turn.proofs.reduce_at.Statement.{statement}
 use Rattle.turn.proofs.reduce_at.Tie as tie
 
@@ -24,159 +24,71 @@ shared-slice-read-to : tie.Need-shared-slice-read-to
 shared-slice-read-to c = search needs
 
 sub-n : tie.Need-sub-n
-sub-n c =
-    let s = c .before .before .before .before .before .before .before in
-    let a = s .args in
-    let p = s .pre .1 in
-    let h = p .parties .inside in
-    let rise = p .starts-in .rise (a .place) h in
-    let inside = p .starts-in .inside (a .place) h in
-    let few = p .starts-in .few in
-    search needs
-
-mul-reduce-own : tie.Need-mul-reduce-own
-mul-reduce-own c =
-    let s = c .before .before .before .before .before .before .before in
-    let a = s .args in
-    let p = s .pre .1 in
-    let h = p .parties .inside in
-    let rise = p .starts-in .rise (a .place) h in
-    let inside = p .starts-in .inside (a .place) h in
-    let few = p .starts-in .few in
-    search needs
+sub-n c = part-rise (c .before .before .before .before .before .before .before .before .before .before .before .pre .1)
 
 sub-reduce-own : tie.Need-sub-reduce-own
-sub-reduce-own c =
-    let s = c .before .before .before .before .before .before .before in
-    let a = s .args in
-    let p = s .pre .1 in
-    let h = p .parties .inside in
-    let rise = p .starts-in .rise (a .place) h in
-    let inside = p .starts-in .inside (a .place) h in
-    let few = p .starts-in .few in
-    search needs
+sub-reduce-own c = part-rise (c .before .before .before .before .before .before .before .before .before .before .before .before .pre .1)
 
 part-reduce-own-start : tie.Need-part-reduce-own-start
-part-reduce-own-start c =
-    let s = c .before .before .before .before .before .before .before in
-    let a = s .args in
-    let p = s .pre .1 in
-    let h = p .parties .inside in
-    let rise = p .starts-in .rise (a .place) h in
-    let inside = p .starts-in .inside (a .place) h in
-    let few = p .starts-in .few in
-    omega (arith, rise)
+part-reduce-own-start c = part-rise (c .before .before .before .before .before .before .before .before .before .before .before .before .pre .1)
 
 part-reduce-own-end : tie.Need-part-reduce-own-end
 part-reduce-own-end c =
-    let s = c .before .before .before .before .before .before .before in
-    let a = s .args in
-    let p = s .pre .1 in
-    let h = p .parties .inside in
-    let rise = p .starts-in .rise (a .place) h in
-    let inside = p .starts-in .inside (a .place) h in
-    let few = p .starts-in .few in
-    omega (arith, inside, p .areas-length, p .buyers-length)
+    let p = c .before .before .before .before .before .before .before .before .before .before .before .before .pre .1 in
+    omega (arith, part-inside p, lists-long p)
 
-sub-reduce-own-2 : tie.Need-sub-reduce-own-2
-sub-reduce-own-2 c =
-    let s = c .before .before .before .before .before .before .before .before in
-    let a = s .args in
-    let p = s .pre .1 in
-    let h = p .parties .inside in
-    let rise = p .starts-in .rise (a .place) h in
-    let inside = p .starts-in .inside (a .place) h in
-    let few = p .starts-in .few in
+mul-reduce-own : tie.Need-mul-reduce-own
+mul-reduce-own c =
+    let p = c .before .before .before .before .before .before .before .before .before .before .before .before .before .pre .1 in
+    let rise = part-rise p in
+    let inside = part-inside p in
+    let few = lists-long p .3 in
     search needs
 
+sub-reduce-own-2 : tie.Need-sub-reduce-own-2
+sub-reduce-own-2 c = part-rise (c .before .before .before .before .before .before .before .before .before .before .before .before .before .pre .1)
+
 part-reduce-own-start-2 : tie.Need-part-reduce-own-start-2
-part-reduce-own-start-2 c =
-    let s = c .before .before .before .before .before .before .before .before in
-    let a = s .args in
-    let p = s .pre .1 in
-    let h = p .parties .inside in
-    let rise = p .starts-in .rise (a .place) h in
-    let inside = p .starts-in .inside (a .place) h in
-    let few = p .starts-in .few in
-    omega (arith, rise)
+part-reduce-own-start-2 c = part-rise (c .before .before .before .before .before .before .before .before .before .before .before .before .before .pre .1)
 
 part-reduce-own-end-2 : tie.Need-part-reduce-own-end-2
 part-reduce-own-end-2 c =
-    let s = c .before .before .before .before .before .before .before .before in
-    let a = s .args in
-    let p = s .pre .1 in
-    let h = p .parties .inside in
-    let rise = p .starts-in .rise (a .place) h in
-    let inside = p .starts-in .inside (a .place) h in
-    let few = p .starts-in .few in
-    omega (arith, inside, p .areas-length, p .buyers-length)
+    let p = c .before .before .before .before .before .before .before .before .before .before .before .before .before .pre .1 in
+    omega (arith, part-inside p, lists-long p)
 
 sub-reduce-own-3 : tie.Need-sub-reduce-own-3
-sub-reduce-own-3 c =
-    let s = c .before .before .before .before .before .before .before .before .before in
-    let a = s .args in
-    let p = s .pre .1 in
-    let h = p .parties .inside in
-    let rise = p .starts-in .rise (a .place) h in
-    let inside = p .starts-in .inside (a .place) h in
-    let few = p .starts-in .few in
-    search needs
+sub-reduce-own-3 c = part-rise (c .before .before .before .before .before .before .before .before .before .before .before .before .before .before .pre .1)
 
 part-reduce-own-start-3 : tie.Need-part-reduce-own-start-3
-part-reduce-own-start-3 c =
-    let s = c .before .before .before .before .before .before .before .before .before in
-    let a = s .args in
-    let p = s .pre .1 in
-    let h = p .parties .inside in
-    let rise = p .starts-in .rise (a .place) h in
-    let inside = p .starts-in .inside (a .place) h in
-    let few = p .starts-in .few in
-    omega (arith, rise)
+part-reduce-own-start-3 c = part-rise (c .before .before .before .before .before .before .before .before .before .before .before .before .before .before .pre .1)
 
 part-reduce-own-end-3 : tie.Need-part-reduce-own-end-3
 part-reduce-own-end-3 c =
-    let s = c .before .before .before .before .before .before .before .before .before in
-    let a = s .args in
-    let p = s .pre .1 in
-    let h = p .parties .inside in
-    let rise = p .starts-in .rise (a .place) h in
-    let inside = p .starts-in .inside (a .place) h in
-    let few = p .starts-in .few in
-    omega (arith, inside, p .areas-length, p .buyers-length)
+    let p = c .before .before .before .before .before .before .before .before .before .before .before .before .before .before .pre .1 in
+    omega (arith, part-inside p, lists-long p)
+
+sub-reduce-own-4 : tie.Need-sub-reduce-own-4
+sub-reduce-own-4 c = part-rise (c .before .before .before .before .before .before .before .before .before .before .before .before .before .before .before .pre .1)
+
+part-reduce-own-start-4 : tie.Need-part-reduce-own-start-4
+part-reduce-own-start-4 c = part-rise (c .before .before .before .before .before .before .before .before .before .before .before .before .before .before .before .pre .1)
+
+part-reduce-own-end-4 : tie.Need-part-reduce-own-end-4
+part-reduce-own-end-4 c =
+    let p = c .before .before .before .before .before .before .before .before .before .before .before .before .before .before .before .pre .1 in
+    omega (arith, part-inside p, lists-long p)
 
 array-borrow-prefix-cuts : tie.Need-array-borrow-prefix-cuts
-array-borrow-prefix-cuts c =
-    let s = c .before .before .before .before .before .before .before .before .before .before .before in
-    let a = s .args in
-    let p = s .pre .1 in
-    let h = p .parties .inside in
-    let rise = p .starts-in .rise (a .place) h in
-    let inside = p .starts-in .inside (a .place) h in
-    let few = p .starts-in .few in
-    omega (arith, part-few p)
+array-borrow-prefix-cuts c = part-few (c .before .before .before .before .before .before .before .before .before .before .before .before .before .before .before .before .before .pre .1)
 
 slice-aggregate-reduce-own : tie.Need-slice-aggregate-reduce-own
-slice-aggregate-reduce-own c =
-    let s = c .before .before .before .before .before .before .before .before .before .before .before .before in
-    let a = s .args in
-    let p = s .pre .1 in
-    let h = p .parties .inside in
-    let rise = p .starts-in .rise (a .place) h in
-    let inside = p .starts-in .inside (a .place) h in
-    let few = p .starts-in .few in
-    sym (length-take-le _ _ (part-few p))
+slice-aggregate-reduce-own c = sym (length-take-le _ _ (part-few (c .before .before .before .before .before .before .before .before .before .before .before .before .before .before .before .before .before .before .pre .1)))
 
 reduce-own-requires : tie.Need-reduce-own-requires
 unfolding ownPart
 reduce-own-requires c κs =
-    let s = c .before .before .before .before .before .before .before .before .before .before .before .before in
-    let a = s .args in
-    let p = s .pre .1 in
-    let h = p .parties .inside in
-    let rise = p .starts-in .rise (a .place) h in
-    let inside = p .starts-in .inside (a .place) h in
-    let few = p .starts-in .few in
-    (s .pre .0, parts-room p (length-take-le _ _ (part-few p)))
+    let s = c .before .before .before .before .before .before .before .before .before .before .before .before .before .before .before .before .before .before in
+    (s .pre .0, parts-room (s .pre .1) (length-take-le _ _ (part-few (s .pre .1))))
 
 same-length : tie.Need-same-length
 same-length c = search needs
@@ -184,11 +96,15 @@ same-length c = search needs
 same-length-2 : tie.Need-same-length-2
 same-length-2 c = search needs
 
+same-length-3 : tie.Need-same-length-3
+same-length-3 c = search needs
+
 returns : tie.Need-returns
 unfolding ownPart
 returns c =
-    let k = c .before .before .before .before .before in
-    record { part = _; cuts = _; turn = k .reduce-own .ensures; after = refl }
+    let w = c .before .before .before .before .before .before .before in
+    let s = w .before .before .before .before .before .before .before .before .before .before .before .before .before .before .before .before .before .before .before in
+    turned (s .pre .1) (w .reduce-own .ensures)
 
 pub reduce-at-spec : {M : Type 1} → statement M
 reduce-at-spec =
@@ -200,19 +116,23 @@ reduce-at-spec =
     mul-to
     shared-slice-read-to
     sub-n
-    mul-reduce-own
     sub-reduce-own
     part-reduce-own-start
     part-reduce-own-end
+    mul-reduce-own
     sub-reduce-own-2
     part-reduce-own-start-2
     part-reduce-own-end-2
     sub-reduce-own-3
     part-reduce-own-start-3
     part-reduce-own-end-3
+    sub-reduce-own-4
+    part-reduce-own-start-4
+    part-reduce-own-end-4
     array-borrow-prefix-cuts
     slice-aggregate-reduce-own
     reduce-own-requires
     same-length
     same-length-2
+    same-length-3
     returns)

@@ -1,69 +1,87 @@
 -- `is_flagged_shipper`: who is in no place is not flagged; else the user at the place is asked. Assumes nothing.
-use mathlib.Core.Path.{_≡_, sym, ap, _∙_}
+use mathlib.Core.Path.{sym, ap, _∙_}
+use mathlib.Core.List.{List}
+use Prim.Native.Nat.{ℕ}
 use native.Mathlib.Omega.{arith}
+use denote.Ref.{now}
 use Rattle.rules.specs.Book.{find}
 use Rattle.rules.specs.Levels.{flagged}
-use Rattle.records.specs.User.{asUser}
-use Rattle.book.specs.Book.{asBook}
+use Rattle.format.specs.Book.{bookOf, userCount}
+use Rattle.format.proofs.Passed.{length-usersOf, passed}
 use Rattle.levels.specs.Limits.{asLimits}
-use Rattle.risk.specs.Ready.{userIn}
-use Rattle.found.proofs.User.{role-is}
-use Rattle.warning.proofs.Ways.{users-le, user-of-place, shipper-unknown, shipper-no, shipper-yes}
+use Rattle.entry.specs.Entered.{Found}
+use Rattle.entry.proofs.Calls.{read-role, read-user}
+use Rattle.warning.proofs.Ways.{prices-range, read-blocked, shipper-unknown, shipper-no, shipper-yes}
 use borrow.Author.Needs.{needs}
 use Rattle.warning.proofs.is_flagged_shipper.Statement.{statement}
 use Rattle.warning.proofs.is_flagged_shipper.Tie as tie
 
+abbrev bytes : tie.After-place-of → List ℕ
+bytes c = now (c .before .before .args .book)
+
 place-of-requires : tie.Need-place-of-requires
-place-of-requires c κs = search needs
+place-of-requires c κs = let o = c .before in passed (now (o .args .book)) (o .pre .0 .passes) .form
+
+get-u8-requires : tie.Need-get-u8-requires
+get-u8-requires c κs = let o = c .before .before in omega (arith, passed (now (o .args .book)) (o .pre .0 .passes) .form .head)
 
 cast-n : tie.Need-cast-n
 cast-n c = search needs
 
 returns : tie.Need-returns
+unfolding bookOf userCount
 returns c =
     let p = c .before .before in
-    let a = p .before .args in
-    shipper-unknown (asLimits (a .limits)) (asBook (a .b)) (a .id) (omega (arith, users-le (a .b), p .place-of .ensures .0, c .if1 .taken))
+    let a = p .before .before .args in
+    shipper-unknown (asLimits (a .limits)) (bookOf (bytes p)) (a .id) (omega (arith, length-usersOf (bytes p), c .before .get-u8 .ensures, p .place-of .ensures .0, c .if1 .taken))
 
 -- the user at the place
-placed : (c : tie.Else1) → let a = c .before .before .before .args in asUser (userIn (a .b) (c .before .before .place-of .result)) ≡ find (asBook (a .b) .users) (a .id)
-placed c =
+found : (c : tie.Else1) → let p = c .before .before in Found (bytes p) (p .before .before .args .id) (p .place-of .result)
+unfolding userCount
+found c =
     let p = c .before .before in
-    user-of-place (p .before .args .b) (p .before .args .id) (p .place-of .result) (p .place-of .ensures .0) (c .if1 .left)
+    record { passes = p .before .before .pre .0 .passes; stands = p .place-of .ensures .0; known = omega (arith, c .if1 .left, c .before .get-u8 .ensures) }
 
 user-at-requires : tie.Need-user-at-requires
-user-at-requires c κs = omega (arith, c .before .before .before .pre .0 .few, c .if1 .left)
+user-at-requires c κs = let f = found c in (passed (bytes (c .before .before)) (f .passes) .form, f .known)
 
 returns-2 : tie.Need-returns-2
 returns-2 c =
     let u = c .before .before in
-    let a = u .before .before .before .before .args in
-    shipper-no (asLimits (a .limits)) (asBook (a .b)) (find (asBook (a .b) .users) (a .id)) (λ h. c .if2 .taken (role-is (u .user-at .ensures) (placed (u .before)) ∙ h))
+    let p = u .before .before .before in
+    let a = p .before .before .args in
+    shipper-no (asLimits (a .limits)) (bookOf (bytes p)) (find (bookOf (bytes p) .users) (a .id))
+    (λ h. c .if2 .taken (read-role (u .user-at .result) (found (u .before)) (u .user-at .ensures) ∙ h))
 
-flagged-at-requires : tie.Need-flagged-at-requires
-flagged-at-requires c κs =
-    let o = c .before .before .before in
-    let p = o .before .before in
-    (p .before .pre .0 .each (p .place-of .result) (o .if1 .left), p .before .pre .1)
+flagged-requires : tie.Need-flagged-requires
+flagged-requires c κs =
+    let u = c .before .before in
+    let o = u .before .before .before .before .before in
+    (o .pre .1, (prices-range (o .pre .0), read-blocked (u .user-at .result) (found (u .before)) (u .user-at .ensures)))
 
 returns-3 : tie.Need-returns-3
 returns-3 c =
     let e = c .before in
     let u = e .before .before in
-    let a = u .before .before .before .before .args in
-    let v = find (asBook (a .b) .users) (a .id) in
-    c .flagged-at .ensures
-    ∙ ap (flagged (asLimits (a .limits)) (asBook (a .b))) (placed (u .before))
-    ∙ shipper-yes (asLimits (a .limits)) (asBook (a .b)) v (sym (role-is (u .user-at .ensures) (placed (u .before))) ∙ e .if2 .left)
+    let p = u .before .before .before in
+    let o = p .before .before in
+    let a = o .args in
+    let b = bookOf (bytes p) in
+    let l = asLimits (a .limits) in
+    let f = found (u .before) in
+    c .flagged .ensures b (o .pre .0 .same)
+    ∙ ap (flagged l b) (read-user (u .user-at .result) f (u .user-at .ensures))
+    ∙ shipper-yes l b (find (b .users) (a .id)) (sym (read-role (u .user-at .result) f (u .user-at .ensures)) ∙ e .if2 .left)
 
 pub is-flagged-shipper-spec : {M : Type 1} → statement M
 is-flagged-shipper-spec =
     tie.close
     (tie.spec
     place-of-requires
+    get-u8-requires
     cast-n
     returns
     user-at-requires
     returns-2
-    flagged-at-requires
+    flagged-requires
     returns-3)

@@ -1,8 +1,9 @@
 -- `warns_buyer` goes out at the first part of the definition that fails, and else by the seller. Assumes nothing.
 use mathlib.Core.Path.{sym, _∙_}
+use denote.Ref.{now}
 use borrow.Author.Tests.{not-true, not-false}
 use Rattle.records.specs.Trade.{asTrade}
-use Rattle.book.specs.Book.{asBook}
+use Rattle.format.specs.Book.{bookOf}
 use Rattle.levels.specs.Limits.{asLimits}
 use Rattle.warning.proofs.Ways.{other-buyer, other-kind, nothing-stands, by-seller}
 use borrow.Author.Needs.{needs}
@@ -12,8 +13,8 @@ use Rattle.warning.proofs.warns_buyer.Tie as tie
 returns : tie.Need-returns
 unfolding asTrade
 returns c =
-    let a = c .before .before .args in
-    other-buyer (asLimits (a .limits)) (asBook (a .b)) (a .id) (asTrade (a .t)) (c .if1 .taken)
+    let a = c .before .before .before .args in
+    other-buyer (asLimits (a .limits)) (bookOf (now (a .book))) (a .id) (asTrade (a .t)) (c .if1 .taken)
 
 is-bilateral-for-day-requires : tie.Need-is-bilateral-for-day-requires
 is-bilateral-for-day-requires c κs = search needs
@@ -22,8 +23,8 @@ returns-2 : tie.Need-returns-2
 unfolding asTrade
 returns-2 c =
     let k = c .before in
-    let a = k .before .before .before .args in
-    other-kind (asLimits (a .limits)) (asBook (a .b)) (a .id) (asTrade (a .t)) (k .before .if1 .left)
+    let a = k .before .before .before .before .args in
+    other-kind (asLimits (a .limits)) (bookOf (now (a .book))) (a .id) (asTrade (a .t)) (k .before .if1 .left)
     (sym (k .is-bilateral-for-day .ensures) ∙ not-true (k .is-bilateral-for-day .result) (c .if2 .taken))
 
 returns-3 : tie.Need-returns-3
@@ -31,8 +32,8 @@ unfolding asTrade
 returns-3 c =
     let o = c .before .before in
     let k = o .before in
-    let a = k .before .before .before .args in
-    nothing-stands (asLimits (a .limits)) (asBook (a .b)) (a .id) (asTrade (a .t)) (k .before .if1 .left)
+    let a = k .before .before .before .before .args in
+    nothing-stands (asLimits (a .limits)) (bookOf (now (a .book))) (a .id) (asTrade (a .t)) (k .before .if1 .left)
     (sym (k .is-bilateral-for-day .ensures) ∙ not-false (k .is-bilateral-for-day .result) (o .if2 .left)) (c .if3 .taken)
 
 is-flagged-shipper-requires : tie.Need-is-flagged-shipper-requires
@@ -44,9 +45,9 @@ returns-4 c =
     let e = c .before in
     let o = e .before .before in
     let k = o .before in
-    let a = k .before .before .before .args in
+    let a = k .before .before .before .before .args in
     c .is-flagged-shipper .ensures
-    ∙ by-seller (asLimits (a .limits)) (asBook (a .b)) (a .id) (asTrade (a .t)) (k .before .if1 .left)
+    ∙ by-seller (asLimits (a .limits)) (bookOf (now (a .book))) (a .id) (asTrade (a .t)) (k .before .if1 .left)
     (sym (k .is-bilateral-for-day .ensures) ∙ not-false (k .is-bilateral-for-day .result) (o .if2 .left)) (e .if3 .left)
 
 pub warns-buyer-spec : {M : Type 1} → statement M

@@ -1,0 +1,125 @@
+-- Laws of the walks over trades in bytes: the one that gathers dealings, and a search, in which what is left to look at has the whole answer. Assumes nothing.
+use mathlib.Core.Bool.{Bool, false, true, _||_}
+use mathlib.Core.List.{List, [], _∷_, map}
+use mathlib.Core.Path.{_≡_, _∙_, ap, refl, subst, sym}
+use Prim.Native.Nat.{ℕ, suc, zero, _+_, _-_, _*_, _<_, _≤_}
+use native.Mathlib.Omega.{arith}
+use lib.Dec.{T, eqb}
+use lib.ListN.{drop, getD, length, take}
+use lib.Seq.{drop-drop}
+use Rattle.rules.specs.Book.{Trade, bought, sold}
+use Rattle.rules.specs.Lists.{any}
+use Rattle.fields.proofs.Records.{getD-recordsOf, length-recordsOf}
+use Rattle.fields.specs.Layout.{recordsOf}
+use Rattle.records.specs.Trade.{tradeOf}
+use Rattle.dealings.specs.declared.Dealings.{Dealings}
+use Rattle.dealings.specs.Dealt.{Counted, Dealt}
+use Rattle.dealings.proofs.Gathered.{dealt-most, dealt-next, raised-one}
+use Rattle.dealings.proofs.Raising.{raised-none}
+use Rattle.dealings.proofs.Search.{Left, left-all, left-found, left-next, left-none}
+use Rattle.format.specs.Questions.{partsOf}
+
+-- ---- the trades, each as its bytes
+
+parts-trades : (m : ℕ) (s : List ℕ) → map tradeOf (take m (partsOf 20 m s)) ≡ recordsOf 20 tradeOf m s
+unfolding partsOf recordsOf
+parts-trades zero s = refl
+parts-trades (suc m) s = ap (λ (ts : List Trade). tradeOf (take 20 s) ∷ ts) (parts-trades m (drop 20 s))
+
+module _ (s : List ℕ) (at m : ℕ) where
+  abbrev parts : List (List ℕ)
+  parts = partsOf 20 m (drop at s)
+
+  length-parts : length parts ≡ m
+  unfolding partsOf
+  length-parts = length-recordsOf 20 (λ (c : List ℕ). c) m (drop at s)
+
+  -- the part that stands at an offset
+  part-at : (i a n : ℕ) → a ≡ at + 20 * i → i < m → n ≡ 20 → getD parts i [] ≡ take n (drop a s)
+  unfolding partsOf
+  part-at i a n e h k = getD-recordsOf 20 (λ (c : List ℕ). c) m i (drop at s) [] h ∙ rw (drop-drop, e, k)
+
+-- ---- dealings
+
+-- two tests that together fail
+neither : (a b : Bool) → (a || b) ≡ false → (a ≡ false) × (b ≡ false)
+neither true b h = absurd (subst T h tt)
+neither false b h = (refl, h)
+
+-- a trade between others gives a user nothing, on either side and for either day
+pub counted-none : (id : ℕ) (t : Trade) (d : Dealings) → (eqb (t .terms .seller) id || eqb (t .terms .buyer) id) ≡ false → Counted id t d d
+unfolding sold bought
+counted-none id t d h =
+    let others = neither (eqb (t .terms .seller) id) (eqb (t .terms .buyer) id) h in
+    record {
+      sold = raised-one (λ s. s .seller) id 0 t (raised-none (λ area. rw (others .0)));
+      bought = raised-one (λ s. s .buyer) id 0 t (raised-none (λ area. rw (others .1)));
+      sold-next = raised-one (λ s. s .seller) id 1 t (raised-none (λ area. rw (others .0)));
+      bought-next = raised-one (λ s. s .buyer) id 1 t (raised-none (λ area. rw (others .1)));
+    }
+
+-- where i of m trades are counted: the next one stands at a
+pub record Gathering (s : List ℕ) (at m id : ℕ) (d : Dealings) (i a : ℕ) : Type 0 where
+  pub place : a ≡ at + 20 * i
+  pub within : i ≤ m
+  pub gathered : Dealt i id (map tradeOf (take i (partsOf 20 m (drop at s)))) d
+
+module _ {s : List ℕ} {at m id : ℕ} where
+  pub gathering-start : {d : Dealings} → Dealt 0 id [] d → Gathering s at m id d 0 at
+  gathering-start h = record { place = omega arith; within = omega arith; gathered = h }
+
+  pub gathering-turn : {d r : Dealings} {i a : ℕ} {t : Trade} → Gathering s at m id d i a → i < m → t ≡ tradeOf (take (a + 20 - a) (drop a s)) → Counted id t d r
+      → Gathering s at m id r (i + 1) (a + 20)
+  gathering-turn {d} {r} {i} {a} {t} before h e counted =
+      let k : a + 20 - a ≡ 20 = omega arith in
+      let u : t ≡ tradeOf (getD (partsOf 20 m (drop at s)) i []) = e ∙ ap tradeOf (sym (part-at s at m i a (a + 20 - a) (before .place) h k)) in
+      record {
+        place = omega (arith, before .place);
+        within = omega arith;
+        gathered = dealt-next tradeOf (partsOf 20 m (drop at s)) i [] (rw (length-parts s at m) h) id (before .gathered) (subst (λ (x : Trade). Counted id x d r) u counted);
+      }
+
+  pub gathering-end : {d : Dealings} {i a : ℕ} → Gathering s at m id d i a → m ≤ i → m ≤ 256 → Dealt 256 id (recordsOf 20 tradeOf m (drop at s)) d
+  gathering-end {d} {i} before h k =
+      let e : i ≡ m = omega (arith, before .within) in
+      dealt-most 256 k (subst (λ (ts : List Trade). Dealt m id ts d) (parts-trades m (drop at s)) (rw e at (before .gathered)))
+
+-- ---- a search
+
+-- where i of m trades fail a test: the next one stands at a, and those that are left have the whole answer
+pub record Searching (p : Trade → Bool) (s : List ℕ) (at m i a : ℕ) : Type 0 where
+  pub place : a ≡ at + 20 * i
+  pub within : i ≤ m
+  pub left : Left p tradeOf (partsOf 20 m (drop at s)) m i
+
+module _ {p : Trade → Bool} {s : List ℕ} {at m : ℕ} where
+  pub searching-start : Searching p s at m 0 at
+  searching-start = record { place = omega arith; within = omega arith; left = left-all p tradeOf (partsOf 20 m (drop at s)) m }
+
+  -- the test of the next one
+  test-at : {i a : ℕ} {b : Bool} → Searching p s at m i a → i < m → b ≡ p (tradeOf (take (a + 20 - a) (drop a s))) → p (tradeOf (getD (partsOf 20 m (drop at s)) i [])) ≡ b
+  test-at {i} {a} now h e =
+      let k : a + 20 - a ≡ 20 = omega arith in
+      ap (λ (c : List ℕ). p (tradeOf c)) (part-at s at m i a (a + 20 - a) (now .place) h k) ∙ sym e
+
+  -- it passes
+  pub searching-found : {i a : ℕ} {b : Bool} → Searching p s at m i a → i < m → b ≡ p (tradeOf (take (a + 20 - a) (drop a s))) → b ≡ true
+      → true ≡ any p (recordsOf 20 tradeOf m (drop at s))
+  searching-found {i} now h e t =
+      sym (left-found p tradeOf (partsOf 20 m (drop at s)) m i [] h (omega (arith, length-parts s at m)) (now .left) (test-at now h e ∙ t))
+      ∙ ap (any p) (parts-trades m (drop at s))
+
+  -- it fails
+  pub searching-turn : {i a : ℕ} {b : Bool} → Searching p s at m i a → i < m → b ≡ p (tradeOf (take (a + 20 - a) (drop a s))) → b ≡ false
+      → Searching p s at m (i + 1) (a + 20)
+  searching-turn {i} now h e t =
+      record {
+        place = omega (arith, now .place);
+        within = omega arith;
+        left = left-next p tradeOf (partsOf 20 m (drop at s)) m i [] h (omega (arith, length-parts s at m)) (now .left) (test-at now h e ∙ t);
+      }
+
+  -- none is left
+  pub searching-end : {i a : ℕ} → Searching p s at m i a → m ≤ i → false ≡ any p (recordsOf 20 tradeOf m (drop at s))
+  searching-end {i} now h =
+      sym (left-none p tradeOf (partsOf 20 m (drop at s)) m i h (now .left)) ∙ ap (any p) (parts-trades m (drop at s))

@@ -1,0 +1,2 @@
+-- The account of a user.
+pub mod Account

@@ -1,0 +1,135 @@
+// What a call needs of one user of an accepted book in bytes: the user's record, the prices, and what the user dealt in the trades; and whether the user is
+// called in. Nothing but that is read.
+use dealings::Dealings;
+use levels::Limits;
+use records::Trade;
+use records::User;
+use units::Prices;
+ghost use mathlib.Core.Path.{_≡_};
+ghost use Prim.Native.Nat.{_+_, _*_, _≤_, _<_, _^_};
+ghost use lib.ListN.{length, drop, getD};
+ghost use Rattle.rules.specs.Book.{nobody};
+ghost use Rattle.rules.specs.Levels.{calledIn};
+ghost use Rattle.fields.specs.Layout.{recordsOf};
+ghost use Rattle.records.specs.User.{asUser};
+ghost use Rattle.records.specs.Trade.{tradeOf, asTrade};
+ghost use Rattle.format.specs.Book.{userCount, usersOf, bookOf};
+ghost use Rattle.format.specs.Questions.{Formed, bookNumber};
+ghost use Rattle.dealings.specs.Dealt.{Dealt, Counted, AllWithin};
+ghost use Rattle.dealings.specs.Parties.{isCut, cutBefore};
+ghost use Rattle.levels.specs.Limits.{asLimits, LimitsInRange};
+ghost use Rattle.account.specs.Account.{Ready, AccountIn, AccountAt};
+
+// ---- the trades
+
+// The dealings with one trade more, of the user of an id. Most trades are between others, and are passed over.
+fn counted(dealings: Dealings, t: Trade, id: u32) -> Dealings
+    requires { ⌜ AllWithin (2 ^ 63) dealings ⌝ }
+    ensures { λ r. ⌜ Counted id (asTrade t) dealings r ⌝ }
+{
+    if (t.seller == id) | (t.buyer == id) {
+        return dealings.counted(t, id);
+    }
+    dealings
+}
+
+// The dealings of the user of an id in the m trades that stand from `at`.
+fn dealings_in(s: &[u8], at: usize, m: usize, id: u32) -> Dealings
+    requires { ⌜ (m ≤ 256) × (at + 20 * m ≤ length (now s)) ⌝ }
+    ensures { λ r. ⌜ Dealt 256 id (recordsOf 20 tradeOf m (drop at (now (s .entry)))) r ⌝ }
+{
+    let mut dealings = Dealings::none();
+    let mut i = 0;
+    let mut a = at;
+    while i < m {
+        let t = records::read_trade(&s[a..a + 20]);
+        dealings = counted(dealings, t, id);
+        a += 20;
+        i += 1;
+    }
+    dealings
+}
+
+// Is the user of an id party to the trade of 20 bytes, and stands less than was notified?
+fn is_cut(c: &[u8], id: u32) -> bool
+    requires { ⌜ length (now c) ≡ 20 ⌝ }
+    ensures { λ r. ⌜ r ≡ isCut id (tradeOf (now (c .entry))) ⌝ }
+{
+    let sells = fields::get_u32(c, 0) == id;
+    let buys = fields::get_u32(c, 4) == id;
+    let notified = fields::get_u32(c, 12);
+    let standing = fields::get_u32(c, 16);
+    (sells | buys) & (standing < notified)
+}
+
+// Is the user of an id party to one of the m trades from `at` that stands below notified?
+fn cut_in(s: &[u8], at: usize, m: usize, id: u32) -> bool
+    requires { ⌜ (m ≤ 256) × (at + 20 * m ≤ length (now s)) ⌝ }
+    ensures { λ r. ⌜ r ≡ cutBefore id (recordsOf 20 tradeOf m (drop at (now (s .entry)))) ⌝ }
+{
+    let mut i = 0;
+    let mut a = at;
+    while i < m {
+        if is_cut(&s[a..a + 20], id) {
+            return true;
+        }
+        a += 20;
+        i += 1;
+    }
+    false
+}
+
+// ---- the account
+
+// A user of a book, the book's prices, and what the user dealt in its trades.
+pub struct Account {
+    pub user: User,
+    pub prices: Prices,
+    pub dealings: Dealings,
+}
+
+// The user at a place of a book.
+pub fn user_at(s: &[u8], place: usize) -> User
+    requires { ⌜ Formed (now s) ⌝ }
+    requires { ⌜ place < userCount (now s) ⌝ }
+    ensures { λ r. ⌜ asUser r ≡ getD (usersOf (now (s .entry))) place nobody ⌝ }
+{
+    let a = 32 + 56 * place;
+    records::read_user(&s[a..a + 56])
+}
+
+// The account of the user at a place of an accepted book.
+pub fn account_at(s: &[u8], place: usize) -> Account
+    requires { ⌜ bookNumber (now s) ≡ 0 ⌝ }
+    requires { ⌜ place < userCount (now s) ⌝ }
+    ensures { λ r. ⌜ AccountAt (now (s .entry)) place r ⌝ }
+{
+    let n = fields::get_u8(s, 5) as usize;
+    let m = fields::get_u16(s, 6) as usize;
+    let user = user_at(s, place);
+    let prices = header::read_prices(s);
+    let dealings = dealings_in(s, 32 + 56 * n, m, user.id);
+    Account {
+        user: user,
+        prices: prices,
+        dealings: dealings,
+    }
+}
+
+// Is the user of an account called in: flagged, or party to a trade standing below notified?
+pub fn called_in(s: &[u8], account: Account, limits: Limits) -> bool
+    requires { ⌜ Formed (now s) ⌝ }
+    requires { ⌜ AccountIn (now s) account ⌝ }
+    requires { ⌜ Ready account ⌝ }
+    requires { ⌜ LimitsInRange (asLimits limits) ⌝ }
+    ensures { λ r. ⌜ r ≡ calledIn (asLimits limits) (bookOf (now (s .entry))) (asUser (account .user)) ⌝ }
+{
+    let user = account.user;
+    let prices = account.prices;
+    if levels::flagged(limits, prices, user) {
+        return true;
+    }
+    let n = fields::get_u8(s, 5) as usize;
+    let m = fields::get_u16(s, 6) as usize;
+    cut_in(s, 32 + 56 * n, m, user.id)
+}

@@ -1,0 +1,2 @@
+-- Records with a field as 0.
+pub mod Zeroed

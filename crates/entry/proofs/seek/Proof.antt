@@ -1,0 +1,67 @@
+-- `seek` hands on the number of the questions 1 to 7; of a book that passes, the place is the user's, and past the last there is no such user. Assumes nothing.
+use mathlib.Core.Path.{_≡_, refl, sym, _∙_}
+use mathlib.Core.List.{List}
+use Prim.Native.Nat.{ℕ}
+use native.Mathlib.Omega.{arith}
+use denote.Ref.{now}
+use Rattle.format.specs.Book.{userCount}
+use Rattle.format.specs.Questions.{bookNumber}
+use Rattle.format.proofs.Passed.{passed}
+use Rattle.entry.proofs.Asked.{entry-unread, entry-unknown}
+use borrow.Author.Needs.{needs}
+use Rattle.entry.proofs.seek.Statement.{statement}
+use Rattle.entry.proofs.seek.Tie as tie
+
+abbrev bytes : tie.Start → List ℕ
+bytes s = now (s .args .s)
+
+passes : (c : tie.Else1) → bookNumber (bytes (c .before .before)) ≡ 0
+passes c = sym (c .before .before .pre) ∙ c .if1 .left
+
+returns : tie.Need-returns
+returns c =
+    let o = c .before .before in
+    record {
+      refused = λ h. entry-unread (bytes o) (o .args .id) (o .args .number) (o .pre) h;
+      found = λ e. absurd (c .if1 .taken e);
+    }
+
+place-of-requires : tie.Need-place-of-requires
+place-of-requires c κs = passed (bytes (c .before .before)) (passes c) .form
+
+get-u8-requires : tie.Need-get-u8-requires
+get-u8-requires c κs = let e = c .before in omega (arith, passed (bytes (e .before .before)) (passes e) .form .head)
+
+cast-n : tie.Need-cast-n
+cast-n c = search needs
+
+returns-2 : tie.Need-returns-2
+unfolding userCount
+returns-2 c =
+    let p = c .before .before in
+    let e = p .before in
+    let o = e .before .before in
+    record {
+      refused = λ h. entry-unknown (bytes o) (o .args .id) (passes e) (omega (arith, c .if2 .taken, p .place-of .ensures .0, c .before .get-u8 .ensures));
+      found = λ z. absurd (omega arith);
+    }
+
+returns-3 : tie.Need-returns-3
+unfolding userCount
+returns-3 c =
+    let p = c .before .before in
+    record {
+      refused = λ h. absurd (h refl);
+      found = λ z. record { passes = passes (p .before); stands = p .place-of .ensures .0; known = omega (arith, c .if2 .left, c .before .get-u8 .ensures) };
+    }
+
+pub seek-spec : {M : Type 1} → statement M
+seek-spec =
+    tie.close
+    (tie.spec
+    returns
+    place-of-requires
+    get-u8-requires
+    cast-n
+    returns-2
+    returns-3)

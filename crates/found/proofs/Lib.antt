@@ -1,2 +1,0 @@
--- The user that the entry of a call found.
-pub mod User

@@ -1,2 +1,0 @@
--- The own sales of all users in lists, as the code fills them.
-pub mod Grouping

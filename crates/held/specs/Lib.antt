@@ -1,0 +1,2 @@
+-- A book held in bytes.
+pub mod Held

@@ -1,2 +1,0 @@
--- Laws of positions that are settled sale by sale.
-pub mod Settled

@@ -1,2 +1,0 @@
--- The users after the cuts of a seller's sales, by their places.
-pub mod Positions

@@ -1,0 +1,2 @@
+-- A book of which every user's line can be printed.
+pub mod Told

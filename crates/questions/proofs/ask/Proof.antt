@@ -1,0 +1,55 @@
+-- `ask` returns the number of the form, or asks the fields of bytes of the right form. Assumes nothing.
+use mathlib.Core.Path.{sym, _∙_}
+use denote.Ref.{now}
+use Rattle.format.proofs.Formed.{formed, form-refused, form-passed}
+use Rattle.questions.specs.Asked.{fieldsNumber}
+use borrow.Author.Needs.{needs}
+use Rattle.questions.proofs.ask.Statement.{statement}
+use Rattle.questions.proofs.ask.Tie as tie
+
+form-number-requires : tie.Need-form-number-requires
+form-number-requires c κs = search needs
+
+returns : tie.Need-returns
+returns c =
+    let form = c .before in
+    record {
+      number = form-refused (now (form .before .before .before .before .args .s)) (form .form-number .result) (form .form-number .ensures) (c .if1 .taken);
+      placed = λ e. absurd (c .if1 .taken e);
+    }
+
+fields-number-requires : tie.Need-fields-number-requires
+fields-number-requires c κs =
+    let passed = c .before .before in
+    let form = passed .before in
+    (formed (now (form .before .before .before .before .args .s)) (sym (form .form-number .ensures) ∙ passed .if1 .left), search needs, search needs)
+
+same-length : tie.Need-same-length
+same-length c = search needs
+
+same-length-2 : tie.Need-same-length-2
+same-length-2 c = search needs
+
+returns-2 : tie.Need-returns-2
+unfolding fieldsNumber
+returns-2 c =
+    let asked = c .before .before .before .before in
+    let passed = asked .before .before .before in
+    let form = passed .before in
+    record {
+      number =
+          asked .fields-number .ensures .asked
+          ∙ sym (form-passed (now (form .before .before .before .before .args .s)) (sym (form .form-number .ensures) ∙ passed .if1 .left));
+      placed = asked .fields-number .ensures .placed;
+    }
+
+pub ask-spec : {M : Type 1} → statement M
+ask-spec =
+    tie.close
+    (tie.spec
+    form-number-requires
+    returns
+    fields-number-requires
+    same-length
+    same-length-2
+    returns-2)

@@ -1,0 +1,102 @@
+-- `records_number` asks the questions 5 to 7 in their order, and returns at the first that is answered by no. Assumes nothing.
+use native.Mathlib.Omega.{arith}
+use denote.Ref.{now}
+use borrow.Author.Tests.{not-true, not-false}
+use Rattle.places.specs.Ids.{tradesFrom}
+use Rattle.questions.proofs.Asked.{records-5, second-yes, records-6, records-askable, records-7, records-0}
+use borrow.Author.Needs.{needs}
+use Rattle.questions.proofs.Asking.{trades-length}
+use Rattle.questions.proofs.records_number.Statement.{statement}
+use Rattle.questions.proofs.records_number.Tie as tie
+
+slice-aggregate-users-valid : tie.Need-slice-aggregate-users-valid
+slice-aggregate-users-valid c = search needs
+
+users-valid-requires : tie.Need-users-valid-requires
+users-valid-requires c κs = search needs
+
+returns : tie.Need-returns
+returns c = records-5 (c .before .before .users-valid .ensures) (not-true _ (c .if1 .taken))
+
+slice-aggregate-trades-valid : tie.Need-slice-aggregate-trades-valid
+slice-aggregate-trades-valid c = search needs
+
+trades-valid-requires : tie.Need-trades-valid-requires
+trades-valid-requires c κs =
+    let passed = c .before .before .before in
+    let users = passed .before .before .users-valid in
+    let start = passed .before .before .before .before .before .before .before in
+    (users .ensures .padded (second-yes (start .args .user-zeros) (users .result) (not-false _ (passed .if1 .left))), search needs)
+
+same-length : tie.Need-same-length
+same-length c = search needs
+
+same-length-2 : tie.Need-same-length-2
+same-length-2 c = search needs
+
+returns-2 : tie.Need-returns-2
+returns-2 c =
+    let trades = c .before .before .before .before .before in
+    let passed = trades .before .before .before .before in
+    records-6 (passed .before .before .users-valid .ensures) (trades .trades-valid .ensures) (not-false _ (passed .if1 .left)) (not-true _ (c .if2 .taken))
+
+positions-valid-requires : tie.Need-positions-valid-requires
+positions-valid-requires c κs =
+    let trades = c .before .before .before .before .before .before .before in
+    let passed = trades .before .before .before .before in
+    let users = passed .before .before .users-valid in
+    let start = passed .before .before .before .before .before .before .before in
+    let a = start .args in
+    let held = trades-length (now (a .s)) (a .trades-at) (a .m) in (
+      start .pre .0,
+      records-askable (users .ensures) (trades .trades-valid .ensures) (second-yes (a .user-zeros) (users .result) (not-false _ (passed .if1 .left)))
+          (second-yes (a .trade-zeros) (trades .trades-valid .result) (not-false _ (c .before .before .if2 .left))) (omega (arith, held)) (omega (arith, held)),
+    )
+
+same-length-3 : tie.Need-same-length-3
+same-length-3 c = search needs
+
+same-length-4 : tie.Need-same-length-4
+same-length-4 c = search needs
+
+returns-3 : tie.Need-returns-3
+returns-3 c =
+    let trades = c .before .before .before .before .before .before .before .before .before in
+    let passed = trades .before .before .before .before in
+    let a = passed .before .before .before .before .before .before .before .args in
+    records-7 {ts = tradesFrom (a .trades-at) (a .m) (now (a .s))} (passed .before .before .users-valid .ensures) (trades .trades-valid .ensures) (not-false _ (passed .if1 .left))
+    (not-false _ (c .before .before .before .before .if2 .left)) (c .before .positions-valid .ensures) (not-true _ (c .if3 .taken))
+
+same-length-5 : tie.Need-same-length-5
+same-length-5 c = search needs
+
+same-length-6 : tie.Need-same-length-6
+same-length-6 c = search needs
+
+returns-4 : tie.Need-returns-4
+returns-4 c =
+    let trades = c .before .before .before .before .before .before .before .before .before in
+    let passed = trades .before .before .before .before in
+    let a = passed .before .before .before .before .before .before .before .args in
+    records-0 {ts = tradesFrom (a .trades-at) (a .m) (now (a .s))} (passed .before .before .users-valid .ensures) (trades .trades-valid .ensures) (not-false _ (passed .if1 .left))
+    (not-false _ (c .before .before .before .before .if2 .left)) (c .before .positions-valid .ensures) (not-false _ (c .if3 .left))
+
+pub records-number-spec : {M : Type 1} → statement M
+records-number-spec =
+    tie.close
+    (tie.spec
+    slice-aggregate-users-valid
+    users-valid-requires
+    returns
+    slice-aggregate-trades-valid
+    trades-valid-requires
+    same-length
+    same-length-2
+    returns-2
+    positions-valid-requires
+    same-length-3
+    same-length-4
+    returns-3
+    same-length-5
+    same-length-6
+    returns-4)

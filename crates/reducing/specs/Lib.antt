@@ -1,0 +1,2 @@
+-- One reduction in the bytes of a book.
+pub mod Reducing

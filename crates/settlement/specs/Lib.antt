@@ -1,2 +1,0 @@
--- What the cuts of a reduction ask for and do.
-pub mod Settlement

@@ -1,0 +1,4 @@
+-- Laws of positions and of what stands, in the bytes of a book.
+pub mod Positions
+pub mod Settled
+pub mod Standing
