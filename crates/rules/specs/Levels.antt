@@ -1,7 +1,7 @@
 -- Document 01, "Levels and calls": what enters a user's level, the two levels, and who is flagged, called in and short of cover.
 use mathlib.Core.Bool.{Bool, cond, _&&_, _||_}
 use Prim.Native.Nat.{ℕ, _+_, _*_, max, min}
-use lib.Dec.{ltb, eqb}
+use lib.Dec.{ltb, leb, eqb}
 use lib.IntN.{ℤ, pos, negℤ, _+ℤ_, _-ℤ_}
 use Rattle.integers.specs.Parts.{posPart, negPart}
 use Rattle.integers.specs.Sums.{sum}
