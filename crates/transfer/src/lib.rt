@@ -14,7 +14,7 @@ fn ask_in(scratch: &mut [u8], b: Book, len: usize) -> u32
     ensures { λ r. ⌜ r ≡ fieldsNumber (bytesOf (asBook b)) ⌝ }
 {
     book::write_book(&mut scratch[..len], b);
-    let asked = questions::ask_fields(&scratch[..len]);
+    let asked = opening::ask_fields(&scratch[..len]);
     asked.number
 }
 
