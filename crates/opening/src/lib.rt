@@ -10,7 +10,7 @@ pub struct Opening {
 }
 
 // Asks the questions 4 to 7 of bytes of the right form, and reads the book where they pass.
-pub fn ask_fields(s: &[u8]) -> Opening
+fn ask_fields(s: &[u8]) -> Opening
     requires { ⌜ Formed (now s) ⌝ }
     ensures { λ r. ⌜ FieldsAsked (now (s .entry)) (r .number) (r .book) ⌝ }
 {
