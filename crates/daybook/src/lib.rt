@@ -10,13 +10,13 @@ ghost use Rattle.guarantee.specs.Answers.{replyOf, answerOf};
 ghost use Rattle.warning.specs.Warned as warned;
 ghost use Rattle.reduce.specs.Answers as reducing;
 ghost use Rattle.run.specs.Answers as running;
-ghost use Rattle.questions.specs.Asked.{Opened};
+ghost use Rattle.opening.specs.Opened.{Opened};
 ghost use Rattle.transfer.specs.Written.{Written};
 ghost use Rattle.shown.specs.Shown.{Shown, picked};
 use book::Book;
 use guarantee::CallAnswer;
 use guarantee::LevelAnswer;
-use questions::Opening;
+use opening::Opening;
 use reduce::ReductionAnswer;
 use run::RunAnswer;
 use warning::WarningAnswer;
@@ -25,7 +25,7 @@ use warning::WarningAnswer;
 pub fn read(bytes: &[u8]) -> Opening
     ensures { λ r. ⌜ Opened (now (bytes .entry)) (r .number) (r .book) ⌝ }
 {
-    questions::open(bytes)
+    opening::open(bytes)
 }
 
 // Writes a book, up to its counts, to a part of exactly its length, and answers 0; or leaves the part and answers the first question that the bytes would fail.

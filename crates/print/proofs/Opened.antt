@@ -7,7 +7,7 @@ use native.Mathlib.Omega.{arith}
 use Rattle.format.proofs.Passed.{passed}
 use Rattle.book.specs.declared.Book.{Book}
 use Rattle.risk.proofs.Places.{ready-read}
-use Rattle.questions.specs.Asked.{Opened}
+use Rattle.opening.specs.Opened.{Opened}
 use Rattle.print.specs.Told.{ReadyAll}
 
 pub opened-trades : {s : List ℕ} (n : ℕ) {b : Book} → Opened s n b → b .«trade_count» ≤ 256

@@ -12,8 +12,6 @@ use Rattle.validity.specs.Given.{tradeValidGiven}
 use Rattle.format.specs.Book.{usersOf, tradesOf}
 use Rattle.format.specs.Questions.{aboutFields, bookNumber}
 use Rattle.places.specs.Ids.{idsOf, among, Padded, Placed}
-use Rattle.book.specs.declared.Book.{Book}
-use Rattle.book.specs.Book.{BookRead, blankBook}
 
 -- ---- one question
 
@@ -59,21 +57,9 @@ pub record FieldsPlaced (s : List ℕ) (number : ℕ) (sellers buyers : List ℕ
   pub asked : number ≡ fieldsNumber s
   pub placed : number ≡ 0 → Placed (usersOf s) (tradesOf s) sellers buyers
 
--- the number, and the book, or a blank one where a question refuses
-pub record FieldsAsked (s : List ℕ) (number : ℕ) (b : Book) : Type 0 where
-  pub asked : number ≡ fieldsNumber s
-  pub book : number ≡ 0 → BookRead s b
-  pub blank : (number ≡ 0 → ⊥) → b ≡ blankBook
-
 -- ---- 1 to 7
 
 -- bytes that were asked the questions 1 to 7: the number, and the places of the trades' parties where no question refuses
 pub record AskedOf (s : List ℕ) (r : ℕ) (sellers buyers : List ℕ) : Type 0 where
   pub number : r ≡ bookNumber s
   pub placed : r ≡ 0 → Placed (usersOf s) (tradesOf s) sellers buyers
-
--- the number, and the book, or a blank one where a question refuses
-pub record Opened (s : List ℕ) (number : ℕ) (b : Book) : Type 0 where
-  pub asked : number ≡ bookNumber s
-  pub book : number ≡ 0 → BookRead s b
-  pub blank : (number ≡ 0 → ⊥) → b ≡ blankBook

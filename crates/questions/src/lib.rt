@@ -1,12 +1,11 @@
-// The questions 1 to 7, asked of any bytes: the number of the first that is answered by no, or the book that the bytes hold.
+// The questions 1 to 7, asked of any bytes: the number of the first that is answered by no, and the places of the trades' parties where there is none.
 ghost use mathlib.Core.Path.{_≡_};
 ghost use Prim.Native.Nat.{_+_, _*_, _≤_};
 ghost use lib.ListN.{length, take, replicate};
 ghost use Rattle.format.specs.Questions.{Formed, bookNumber};
 ghost use Rattle.places.specs.Ids.{usersFrom, tradesFrom, Padded};
 ghost use Rattle.positions.specs.Sums.{InBytes};
-ghost use Rattle.questions.specs.Asked.{UsersAsked, TradesAsked, RecordsAsked, FieldsPlaced, FieldsAsked, AskedOf, Opened};
-use book::Book;
+ghost use Rattle.questions.specs.Asked.{UsersAsked, TradesAsked, RecordsAsked, FieldsPlaced, AskedOf};
 
 // ---- 5
 
@@ -102,7 +101,7 @@ pub fn records_number(
 // ---- all of them
 
 // The number of the first of the questions 4 to 7 that is answered by no, 0 where there is none, and the places of the trades' parties.
-fn fields_number(s: &[u8], sellers: &mut [u8], buyers: &mut [u8]) -> u32
+pub fn fields_number(s: &[u8], sellers: &mut [u8], buyers: &mut [u8]) -> u32
     requires { ⌜ Formed (now s) × (length (now sellers) ≡ 256) × (length (now buyers) ≡ 256) ⌝ }
     ensures { λ r. ⌜ FieldsPlaced (now (s .entry)) r (now (sellers .exit)) (now (buyers .exit)) ⌝ }
 {
@@ -147,44 +146,4 @@ pub fn number(s: &[u8]) -> u32
     let mut sellers = [0u8; 256];
     let mut buyers = [0u8; 256];
     ask(s, &mut sellers, &mut buyers)
-}
-
-// Bytes that were asked the questions 1 to 7: the number, and the book, whose every field is 0 where a question refuses.
-pub struct Opening {
-    pub number: u32,
-    pub book: Book,
-}
-
-// Asks the questions 4 to 7 of bytes of the right form, and reads the book where they pass.
-pub fn ask_fields(s: &[u8]) -> Opening
-    requires { ⌜ Formed (now s) ⌝ }
-    ensures { λ r. ⌜ FieldsAsked (now (s .entry)) (r .number) (r .book) ⌝ }
-{
-    let mut sellers = [0u8; 256];
-    let mut buyers = [0u8; 256];
-    let k = fields_number(s, &mut sellers, &mut buyers);
-    if k != 0 {
-        let blank = book::no_book();
-        return Opening {
-            number: k,
-            book: blank,
-        };
-    }
-    let b = book::read_book(s);
-    Opening { number: 0, book: b }
-}
-
-// Asks the questions 1 to 7 of any bytes, and reads the book where they pass.
-pub fn open(s: &[u8]) -> Opening
-    ensures { λ r. ⌜ Opened (now (s .entry)) (r .number) (r .book) ⌝ }
-{
-    let k = form::form_number(s);
-    if k != 0 {
-        let blank = book::no_book();
-        return Opening {
-            number: k,
-            book: blank,
-        };
-    }
-    ask_fields(s)
 }

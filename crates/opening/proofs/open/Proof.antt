@@ -2,10 +2,10 @@
 use mathlib.Core.Path.{sym, _∙_}
 use denote.Ref.{now}
 use Rattle.format.proofs.Formed.{formed, form-refused, form-passed}
 use Rattle.questions.specs.Asked.{fieldsNumber}
 use borrow.Author.Needs.{needs}
-use Rattle.questions.proofs.open.Statement.{statement}
-use Rattle.questions.proofs.open.Tie as tie
+use Rattle.opening.proofs.open.Statement.{statement}
+use Rattle.opening.proofs.open.Tie as tie
 
 form-number-requires : tie.Need-form-number-requires
 form-number-requires c κs = search needs

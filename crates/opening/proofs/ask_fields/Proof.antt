@@ -1,8 +1,8 @@
 -- `ask_fields` hands on the number; the book is read where it is 0, and else blank. Assumes nothing.
 use mathlib.Core.Path.{refl, sym, _∙_}
 use borrow.Author.Needs.{needs}
-use Rattle.questions.proofs.ask_fields.Statement.{statement}
-use Rattle.questions.proofs.ask_fields.Tie as tie
+use Rattle.opening.proofs.ask_fields.Statement.{statement}
+use Rattle.opening.proofs.ask_fields.Tie as tie
 
 slice-aggregate-fields-number : tie.Need-slice-aggregate-fields-number
 slice-aggregate-fields-number c = search needs
