@@ -24,8 +24,9 @@ pub fn fill(out: &mut [u8], front: &[u8])
     requires { ⌜ length (now front) ≤ length (now out) ⌝ }
     ensures { λ _. ⌜ now (out .exit) ≡ padded (length (now (out .entry))) (now (front .entry)) ⌝ }
 {
-    clear(out);
-    bytes::copy(front, out);
+    let n = front.len();
+    bytes::copy(front, &mut out[..n]);
+    clear(&mut out[n..]);
 }
 
 // Copies the bytes of a book of n users to an image.
