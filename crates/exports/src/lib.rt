@@ -52,7 +52,7 @@ pub extern "C" fn daybook_write(image: &[u8], out: &mut [u8]) -> u32
     if image.len() != IMAGE_SIZE {
         return WRONG_LENGTH;
     }
-    image::write(image, out)
+    from_image::write(image, out)
 }
 
 // Copies the 56 bytes of a user's record.

@@ -1,21 +1,33 @@
 -- Three parts filled one after the other make the image of a book. Assumes nothing.
-use mathlib.Core.Path.{_≡_, sym, ap, _∙_}
+use mathlib.Core.Path.{_≡_, refl, sym, ap, _∙_}
 use mathlib.Core.List.{List, _++_, append-nil}
 use Prim.Native.Nat.{ℕ, _+_, _-_, _*_, _≤_}
 use native.Mathlib.Omega.{arith}
 use native.Mathlib.Nat.{sub-self}
-use lib.ListN.{length, take, drop, replicate, length-append, length-take, length-drop, length-replicate}
-use lib.Seq.{sets, length-sets, take-all, take-length, length-take-le}
+use lib.ListN.{length, take, drop, replicate, length-append, length-take, length-drop, length-replicate, drop-of-length-le}
+use lib.Seq.{sets, length-sets, take-all, take-length, take-at, drop-at, length-take-le}
 use borrow.Rule.Slice.PartMut.{putMid}
-use Rattle.fields.proofs.Sets.{part-sets, sets-three, length-part, drop-replicate}
+use Rattle.fields.proofs.Sets.{part-sets, sets-three, length-part}
 use Rattle.format.specs.Book.{userCount, tradesAt, userAt}
 use Rattle.format.specs.Questions.{Formed}
 use Rattle.image.specs.Image.{padded, imageOf}
 
--- bytes stored at the front of zeros
-pub padded-front : (room : ℕ) (s : List ℕ) → take (length s) s ++ drop (length s) (replicate room 0) ≡ padded room s
+-- bytes copied to the front of a list, with 0 in the place of all that is behind them
+pub front-filled : (front l copied rest : List ℕ) → length front ≤ length l
+    → copied ≡ take (length front) front ++ drop (length front) (take (length front) l)
+    → rest ≡ replicate (length (take (length (copied ++ drop (length front) l) - length front) (drop (length front) (copied ++ drop (length front) l)))) 0
+    → putMid (length front) (length (copied ++ drop (length front) l) - length front) (copied ++ drop (length front) l) rest ≡ padded (length l) front
 unfolding padded
-padded-front room s = rw (take-length, drop-replicate)
+front-filled front l copied rest fits at-front behind =
+    let n = length front in
+    let back = drop n l in
+    let k : length (take n l) ≤ n = rw length-take (omega arith) in
+    let same : copied ≡ front = at-front ∙ rw (take-length, drop-of-length-le (take n l) k, append-nil) in
+    let m : length (front ++ back) - n ≡ length l - n = rw (length-append, length-drop) (omega (arith, fits)) in
+    let end : drop n (front ++ back) ≡ back = drop-at front back n refl in
+    let short : length back ≤ length l - n = rw length-drop (omega arith) in
+    let zeros : rest ≡ replicate (length l - n) 0 = behind ∙ rw (same, m, end, take-all (length l - n) back short, length-drop) in
+    rw (same, m, end, take-at front back n refl, zeros, drop-of-length-le back {i = length l - n} short, append-nil)
 
 pub length-padded : (room : ℕ) (s : List ℕ) → length s ≤ room → length (padded room s) ≡ room
 unfolding padded

@@ -16,9 +16,10 @@ use Rattle.format.specs.Questions.{Formed}
 use Rattle.format.proofs.Passed.{Passed}
 use Rattle.format.proofs.Round.{bytesOf-bookOf}
 use Rattle.copying.proofs.Turns.{records-front}
-use Rattle.image.specs.Image.{padded, imageOf, imageBook}
+use Rattle.image.specs.Image.{padded, imageOf}
 use Rattle.image.proofs.Copied.{length-padded}
-use Rattle.image.proofs.Fields.{take-records}
+use Rattle.from_image.specs.ImageBook.{imageBook}
+use Rattle.from_image.proofs.Fields.{take-records}
 
 module _ {R : Type 0} (len : ℕ) (one : List ℕ → R) where
   -- records that fill the front of a list do not depend on what they are padded with

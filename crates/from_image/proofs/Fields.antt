@@ -26,7 +26,7 @@ use Rattle.format.proofs.Written.{FitsBook, fields-written, parts-written}
 use Rattle.places.specs.Ids.{usersFrom, tradesFrom}
 use Rattle.questions.specs.Asked.{recordsNumber, fieldsNumber}
 use Rattle.transfer.specs.Written.{countsInRange}
-use Rattle.image.specs.Image.{imageBook, CountsOf}
+use Rattle.from_image.specs.ImageBook.{imageBook, CountsOf}
 
 -- ---- what is read from bytes fits them
 

@@ -1,10 +1,10 @@
 -- `write_fields` copies header, users and trades one after the other, which over bytes of the book's length gives the book's bytes. Assumes nothing.
 use mathlib.Core.Path.{_∙_}
 use denote.Ref.{now}
-use Rattle.image.proofs.Fields.{image-written}
+use Rattle.from_image.proofs.Fields.{image-written}
 use borrow.Author.Needs.{needs}
-use Rattle.image.proofs.write_fields.Statement.{statement}
-use Rattle.image.proofs.write_fields.Tie as tie
+use Rattle.from_image.proofs.write_fields.Statement.{statement}
+use Rattle.from_image.proofs.write_fields.Tie as tie
 
 copy-header-requires : tie.Need-copy-header-requires
 copy-header-requires c κs = search needs

@@ -9,11 +9,11 @@ use denote.Ref.{now}
 use Rattle.format.specs.Book.{versionOf, userCount, tradeCount, bookOf}
 use Rattle.transfer.specs.Written.{countsInRange}
 use Rattle.transfer.proofs.Writing.{written-2, written-3, written-refused, written-0}
-use Rattle.image.specs.Image.{imageBook, CountsOf}
-use Rattle.image.proofs.Fields.{counts-of}
+use Rattle.from_image.specs.ImageBook.{imageBook, CountsOf}
+use Rattle.from_image.proofs.Fields.{counts-of}
 use borrow.Author.Needs.{needs}
-use Rattle.image.proofs.write.Statement.{statement}
-use Rattle.image.proofs.write.Tie as tie
+use Rattle.from_image.proofs.write.Statement.{statement}
+use Rattle.from_image.proofs.write.Tie as tie
 
 get-u16-requires : tie.Need-get-u16-requires
 get-u16-requires c κs = search needs

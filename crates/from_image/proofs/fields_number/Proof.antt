@@ -9,10 +9,10 @@ use Rattle.rules.specs.Calendar.{realDay}
 use Rattle.rules.specs.Questions.{pricesValid}
 use Rattle.fields.specs.Field.{field}
 use Rattle.format.specs.Book.{pricesAt}
-use Rattle.image.proofs.Fields.{fields-4, fields-rest}
+use Rattle.from_image.proofs.Fields.{fields-4, fields-rest}
 use borrow.Author.Needs.{needs}
-use Rattle.image.proofs.fields_number.Statement.{statement}
-use Rattle.image.proofs.fields_number.Tie as tie
+use Rattle.from_image.proofs.fields_number.Statement.{statement}
+use Rattle.from_image.proofs.fields_number.Tie as tie
 
 read-prices-requires : tie.Need-read-prices-requires
 read-prices-requires c κs = search needs
