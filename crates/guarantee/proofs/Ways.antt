@@ -24,7 +24,7 @@ use Rattle.account.specs.declared.Account.{Account}
 use Rattle.entry.specs.Entered.{Found}
 use Rattle.entry.proofs.Calls.{call-found, call-refused, query-refused, query-found, read-role, read-user}
 use Rattle.guarantee.specs.Times.{levelOf, dueOf, queryOf, callOf}
-use Rattle.guarantee.specs.Answers.{lastQuestions, raised}
+use Rattle.guarantee.specs.Raised.{lastQuestions, raised}
 
 -- ---- the account of the user that the entry found
 

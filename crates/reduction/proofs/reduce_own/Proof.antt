@@ -1,9 +1,9 @@
 -- `reduce_own`: with no own sale standing the reduction is refused; else the sales that are cut are lowered, and the book is the rules'. Assumes nothing.
 use borrow.Author.Tests.{not-true, not-false}
-use Rattle.reduce.proofs.Lists.{own-refused, lowering, own-reduced}
+use Rattle.reduction.proofs.Lists.{own-refused, lowering, own-reduced}
 use borrow.Author.Needs.{needs}
-use Rattle.reduce.proofs.reduce_own.Statement.{statement}
-use Rattle.reduce.proofs.reduce_own.Tie as tie
+use Rattle.reduction.proofs.reduce_own.Statement.{statement}
+use Rattle.reduction.proofs.reduce_own.Tie as tie
 
 any-left-requires : tie.Need-any-left-requires
 any-left-requires c κs = search needs
@@ -29,8 +29,8 @@ lower-sales-requires c κs =
     let l = k .before .before .before .before .before in
     lowering (l .before .before .before .before .before .before .before .before .pre) (k .settle-own .ensures)
 
-answer-requires : tie.Need-answer-requires
-answer-requires c κs = search needs
+of-cuts-requires : tie.Need-of-cuts-requires
+of-cuts-requires c κs = search needs
 
 same-length-2 : tie.Need-same-length-2
 same-length-2 c = search needs
@@ -48,7 +48,7 @@ returns-2 c =
     let e = k .before .before .before .before in
     let l = e .before in
     let s = l .before .before .before .before .before .before .before .before in
-    own-reduced (s .pre) (s .args .asked .0) (l .any-left .ensures) (not-false (l .any-left .result) (e .if1 .left)) (k .settle-own .ensures) (w .lower-sales .ensures) (c .answer .ensures)
+    own-reduced (s .pre) (s .args .asked .0) (l .any-left .ensures) (not-false (l .any-left .result) (e .if1 .left)) (k .settle-own .ensures) (w .lower-sales .ensures) (c .of-cuts .ensures)
 
 pub reduce-own-spec : {M : Type 1} → statement M
 reduce-own-spec =
@@ -60,7 +60,7 @@ reduce-own-spec =
     returns
     settle-own-requires
     lower-sales-requires
-    answer-requires
+    of-cuts-requires
     same-length-2
     same-length-3
     same-length-4

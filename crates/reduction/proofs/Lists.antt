@@ -31,8 +31,8 @@ use Rattle.sales.specs.Reduced.{ownCuts}
 use Rattle.sales.specs.Sales.{less, ownSale, salesOf}
 use Rattle.worths.specs.Tallies.{asTally}
 use Rattle.worths.specs.declared.Tally.{Tally}
-use Rattle.reduce.proofs.Ways.{gives-refused, sales-none, sales-some}
-use Rattle.reduce.specs.Answers.{onSales, Gives, UserIn}
+use Rattle.reduction.specs.Reduced.{onSales, Gives, UserIn}
+use Rattle.reduction.proofs.Ways.{gives-refused, sales-none, sales-some}
 
 -- ---- the lists are filled in
 

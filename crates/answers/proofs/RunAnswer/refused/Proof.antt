@@ -1,8 +1,8 @@
--- `refused` has 0 in every field but the number. Assumes nothing.
+-- `RunAnswer::refused` has 0 in every field but the number. Assumes nothing.
 use mathlib.Core.Path.{refl}
 use Rattle.rules.specs.Calls.{only}
-use Rattle.guarantee.proofs.refused.Statement.{statement}
-use Rattle.guarantee.proofs.refused.Tie as tie
+use Rattle.answers.proofs.RunAnswer.refused.Statement.{statement}
+use Rattle.answers.proofs.RunAnswer.refused.Tie as tie
 
 returns : tie.Need-returns
 unfolding only

@@ -7,10 +7,10 @@ use denote.Ref.{now}
 use lib.Seq.{length-take-le}
 use Rattle.format.proofs.Passed.{passed}
 use Rattle.format.specs.Book.{tradeCount, userCount}
-use Rattle.reduce.proofs.Lists.{listed, trading}
+use Rattle.reduction.proofs.Lists.{listed, trading}
 use borrow.Author.Needs.{needs}
-use Rattle.reduce.proofs.reduce_at.Statement.{statement}
-use Rattle.reduce.proofs.reduce_at.Tie as tie
+use Rattle.reduction.proofs.reduce_at.Statement.{statement}
+use Rattle.reduction.proofs.reduce_at.Tie as tie
 
 abbrev start : tie.After-get-u8 → tie.Start
 start c = c .before .before .before .before .before

@@ -1,10 +1,6 @@
--- The call of the rules that the function `run` is, and the answer that the code's is. Assumes nothing.
-use Rattle.rules.specs.Calls.{Answer, Call, run}
-use Rattle.run.specs.declared.RunAnswer.{RunAnswer}
-
--- the call that the function `run` is
-abbrev pub runCall : Call
-runCall = run
+-- The answer of the rules that the code's answer of a run is. Assumes nothing.
+use Rattle.rules.specs.Calls.{Answer}
+use Rattle.answers.specs.declared.RunAnswer.{RunAnswer}
 
 -- number, reductions, MWh and worth; a field that a run does not have is 0
 abbrev pub answerOf : RunAnswer → Answer
