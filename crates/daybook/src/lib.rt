@@ -70,14 +70,14 @@ pub fn posting(book: &mut [u8], id: u32, area: u32, amount: i64) -> u32
 pub fn morning_level(book: &[u8], id: u32) -> LevelAnswer
     ensures { λ r. ⌜ replyOf r ≡ replyBytes today (now (book .entry)) (morningLevelOf id) ⌝ }
 {
-    guarantee::morning_level(book, id)
+    level::morning_level(book, id)
 }
 
 // The afternoon level of a user.
 pub fn afternoon_level(book: &[u8], id: u32) -> LevelAnswer
     ensures { λ r. ⌜ replyOf r ≡ replyBytes today (now (book .entry)) (afternoonLevelOf id) ⌝ }
 {
-    guarantee::afternoon_level(book, id)
+    level::afternoon_level(book, id)
 }
 
 // Raises a user's blocked guarantee to its morning level.

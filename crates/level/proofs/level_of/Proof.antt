@@ -3,10 +3,10 @@ use mathlib.Core.Path.{_∙_}
 use Rattle.format.specs.Book.{bookOf}
 use Rattle.levels.specs.Limits.{asLimits}
 use Rattle.levels.proofs.Sums.{afternoon-level-held, morning-level-held}
-use Rattle.guarantee.specs.Times.{levelOf}
+use Rattle.level.specs.Times.{levelOf}
 use borrow.Author.Needs.{needs}
-use Rattle.guarantee.proofs.level_of.Statement.{statement}
-use Rattle.guarantee.proofs.level_of.Tie as tie
+use Rattle.level.proofs.level_of.Statement.{statement}
+use Rattle.level.proofs.level_of.Tie as tie
 
 afternoon-level-requires : tie.Need-afternoon-level-requires
 afternoon-level-requires c κs = search needs

@@ -7,10 +7,10 @@ use Rattle.rules.specs.Levels.{today}
 use Rattle.rules.specs.Queries.{aLevel, onlyNumber}
 use Rattle.entry.specs.Entered.{Found}
 use Rattle.entry.proofs.Calls.{read-role}
-use Rattle.guarantee.proofs.Ways.{account-level, level-refused, level-of-house, level-found}
+use Rattle.level.proofs.Ways.{account-level, level-refused, level-of-house, level-found}
 use borrow.Author.Needs.{needs}
-use Rattle.guarantee.proofs.level.Statement.{statement}
-use Rattle.guarantee.proofs.level.Tie as tie
+use Rattle.level.proofs.level.Statement.{statement}
+use Rattle.level.proofs.level.Tie as tie
 
 abbrev bytes : tie.After-enter → List ℕ
 bytes c = now (c .before .before .args .book)
