@@ -1,15 +1,15 @@
 // What the programs print on standard output: numbers, signed energies, and the day of a book.
+use answers::RunAnswer;
 use book::Book;
 use levels::Limits;
 use libc::STDOUT_FILENO;
 use printed::Line;
 use risk::State;
-use run::RunAnswer;
 use units::Net;
 ghost use mathlib.Core.Path.{_≡_};
 ghost use Rattle.rules.specs.Levels.{today};
 ghost use Rattle.format.specs.Steps.{stepBytes};
-ghost use Rattle.run.specs.Answers.{runCall};
+ghost use Rattle.run.specs.Call.{runCall};
 ghost use Rattle.print.specs.Told.{ReadyAll};
 
 // A space and a number.

@@ -13,7 +13,7 @@ use Rattle.questions.specs.Asked.{AskedOf}
 use Rattle.rules.specs.Calls.{Answer, about, effect, only}
 use Rattle.rules.specs.Levels.{Limits}
 use Rattle.rules.specs.Questions.{decided, refusal}
-use Rattle.run.specs.Answers.{runCall}
+use Rattle.run.specs.Call.{runCall}
 use Rattle.running.specs.Reductions.{RanIn, totals, wholeRun}
 use Rattle.running.specs.declared.Totals.{Totals}
 use Rattle.starting.specs.Starting.{BookIn}
