@@ -1,13 +1,13 @@
 // The run of a lent book in bytes: while some user that is short of cover has an eligible trade, the one of the lowest id is reduced.
 use levels::Limits;
-use running::Totals;
+use totals::Totals;
 use units::Cents;
 use units::Mwh;
 ghost use mathlib.Core.Path.{_≡_};
 ghost use Rattle.rules.specs.Calls.{only};
 ghost use Rattle.rules.specs.Levels.{today};
 ghost use Rattle.format.specs.Steps.{Called};
-ghost use Rattle.running.specs.Reductions.{totals};
+ghost use Rattle.totals.specs.Totals.{totals};
 ghost use Rattle.run.specs.Answers.{runCall, answerOf};
 
 // The number of reductions, the MWh cut and their worth, and 0; or the number of the first question that is answered by no, with every other field 0.
