@@ -7,7 +7,7 @@ ghost use lib.ListN.{length};
 ghost use Rattle.format.specs.Book.{bookOf, tradeCount, userCount};
 ghost use Rattle.levels.specs.Limits.{asLimits, LimitsInRange};
 ghost use Rattle.listed.specs.Listed.{NextDealt};
-ghost use Rattle.listing.specs.Listing.{ListsRoom};
+ghost use Rattle.grouping.specs.Grouping.{ListsRoom};
 ghost use Rattle.rounds.specs.Reductions.{RanIn};
 ghost use Rattle.starting.specs.Starting.{BookIn, ShortFlags};
 ghost use Rattle.units.specs.Prices.{asPrices};
@@ -35,7 +35,7 @@ fn run_started(
     requires { ⌜ ListsRoom n m (now origins) (now starts) (now standing) (now areas) (now buyers) ⌝ }
     ensures { λ r. ⌜ RanIn (asLimits limits) (bookOf (now (book .entry))) (now (book .exit)) r ⌝ }
 {
-    let count = listing::fill_lists(
+    let count = grouping::fill_lists(
         book,
         n,
         m,
