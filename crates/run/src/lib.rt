@@ -1,11 +1,11 @@
 // The run of a lent book in bytes: while some user that is short of cover has an eligible trade, the one of the lowest id is reduced.
 use answers::RunAnswer;
 use levels::Limits;
-use running::Totals;
+use totals::Totals;
 ghost use mathlib.Core.Path.{_≡_};
 ghost use Rattle.rules.specs.Levels.{today};
 ghost use Rattle.format.specs.Steps.{Called};
-ghost use Rattle.running.specs.Reductions.{totals};
+ghost use Rattle.totals.specs.Totals.{totals};
 ghost use Rattle.answers.specs.Run.{answerOf};
 ghost use Rattle.run.specs.Call.{runCall};
 

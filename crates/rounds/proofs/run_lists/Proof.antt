@@ -5,10 +5,10 @@ use mathlib.Core.Path.{ap}
 use native.Mathlib.Omega.{arith}
 use Rattle.levels.specs.Limits.{asLimits}
 use Rattle.rules.specs.Calls.{Answer, ofRun}
-use Rattle.running.proofs.Left.{Left, listed-starts, left-start, left-within, left-turning, left-more, turn-within, left-turn, left-end}
-use Rattle.running.proofs.run_lists.Statement.{statement}
+use Rattle.rounds.proofs.Left.{Left, listed-starts, left-start, left-within, left-turning, left-more, turn-within, left-turn, left-end}
+use Rattle.rounds.proofs.run_lists.Statement.{statement}
 use Rattle.units.specs.Prices.{asPrices}
-use Rattle.running.proofs.run_lists.Tie as tie
+use Rattle.rounds.proofs.run_lists.Tie as tie
 
 abbrev Inv-loop : tie.InvT-loop
 Inv-loop book₀ at sold bought starts origins standing₀ areas buyers short₀ limits prices n totals₀ place₀ book standing short totals place =

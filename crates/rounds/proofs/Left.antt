@@ -19,8 +19,9 @@ use Rattle.rules.specs.Calls.{Answer, Result, cuttable, nextReduced, ofCuts, of
 use Rattle.rules.specs.Levels.{Limits}
 use Rattle.rules.specs.Lists.{any}
 use Rattle.rules.specs.Reduction.{target}
-use Rattle.running.specs.Reductions.{RanIn, Within, totals, wholeRun}
-use Rattle.running.specs.declared.Totals.{Totals}
+use Rattle.rounds.specs.Reductions.{RanIn, wholeRun}
+use Rattle.totals.specs.Totals.{Within, totals}
+use Rattle.totals.specs.declared.Totals.{Totals}
 use Rattle.sales.proofs.Cover.{has-eligible-sales}
 use Rattle.sales.proofs.Next.{next-ready, next-over}
 use Rattle.sales.specs.Cover.{due, Dues}
