@@ -4,8 +4,7 @@ ghost use Prim.Native.Nat.{_+_, _*_, _≤_};
 ghost use lib.ListN.{length, take, replicate};
 ghost use Rattle.format.specs.Questions.{Formed, bookNumber};
 ghost use Rattle.places.specs.Ids.{usersFrom, tradesFrom, Padded};
-ghost use Rattle.positions.specs.Sums.{InBytes};
-ghost use Rattle.questions.specs.Asked.{UsersAsked, TradesAsked, RecordsAsked, FieldsPlaced, AskedOf};
+ghost use Rattle.questions.specs.Asked.{UsersAsked, TradesAsked, InBytes, RecordsAsked, FieldsPlaced, AskedOf};
 
 // ---- 5
 
@@ -35,7 +34,8 @@ fn users_valid(s: &[u8], at: usize, n: usize, ids: &mut [u32]) -> bool
 
 // ---- 6
 
-// Are the m trades from `at` on valid, between users of the first n ids? The places of their parties are listed where it is so.
+// Are the m trades from `at` on valid, between users of the first n ids? Where it is so, the places of their parties are listed, and what stands for the day is
+// summed at each: one walk serves the questions 6 and 7.
 fn trades_valid(
     ids: &[u32],
     n: usize,
@@ -44,10 +44,12 @@ fn trades_valid(
     m: usize,
     sellers: &mut [u8],
     buyers: &mut [u8],
+    sold: &mut [u64],
+    bought: &mut [u64],
 ) -> bool
     requires { ⌜ Padded (now ids) n ⌝ }
-    requires { ⌜ (m ≤ 256) × (at + 20 * m ≤ length (now s)) × (length (now sellers) ≡ 256) × (length (now buyers) ≡ 256) ⌝ }
-    ensures { λ r. ⌜ TradesAsked (take n (now (ids .entry))) (tradesFrom at m (now (s .entry))) r (now (sellers .exit)) (now (buyers .exit)) ⌝ }
+    requires { ⌜ (m ≤ 256) × (at + 20 * m ≤ length (now s)) × (length (now sellers) ≡ 256) × (length (now buyers) ≡ 256) × (now sold ≡ replicate 192 0) × (now bought ≡ replicate 192 0) ⌝ }
+    ensures { λ r. ⌜ TradesAsked (take n (now (ids .entry))) (tradesFrom at m (now (s .entry))) r (now (sellers .exit)) (now (buyers .exit)) (now (sold .exit)) (now (bought .exit)) ⌝ }
 {
     let mut i = 0;
     let mut a = at;
@@ -60,6 +62,8 @@ fn trades_valid(
         }
         sellers[i] = seller as u8;
         buyers[i] = buyer as u8;
+        positions::count(seller, t, 0, sold);
+        positions::count(buyer, t, 0, bought);
         a += 20;
         i += 1;
     }
@@ -89,10 +93,23 @@ pub fn records_number(
     if !(user_zeros & users_valid(s, users_at, n, &mut ids)) {
         return 5;
     }
-    if !(trade_zeros & trades_valid(&ids, n, s, trades_at, m, sellers, buyers)) {
+    let mut sold = [0u64; 192];
+    let mut bought = [0u64; 192];
+    if !(trade_zeros
+        & trades_valid(
+            &ids,
+            n,
+            s,
+            trades_at,
+            m,
+            sellers,
+            buyers,
+            &mut sold,
+            &mut bought,
+        )) {
         return 6;
     }
-    if !positions::positions_valid(s, users_at, n, trades_at, m, sellers, buyers) {
+    if !positions::positions_valid(s, users_at, n, &sold, &bought) {
         return 7;
     }
     0
