@@ -5,8 +5,8 @@ use Rattle.units.specs.Amounts.{balance}
 use Rattle.units.specs.Prices.{asPrices}
 use Rattle.records.specs.declared.User.{User}
 use Rattle.book.specs.Book.{asBook}
+use Rattle.holdings.specs.Holdings.{held}
 use Rattle.levels.specs.Limits.{asLimits}
-use Rattle.levels.specs.Holdings.{held}
 use Rattle.levels.proofs.Sums.{afternoon-level-held}
 use Rattle.risk.specs.Ready.{userIn}
 use borrow.Author.Needs.{needs}

@@ -7,8 +7,8 @@ use Rattle.rules.specs.Areas.{referencePrice}
 use Rattle.units.specs.Prices.{asPrices}
 use Rattle.records.proofs.Amounts.{at-asAmounts}
 use borrow.Author.Needs.{needs}
-use Rattle.levels.proofs.short_worth.Statement.{statement}
-use Rattle.levels.proofs.short_worth.Tie as tie
+use Rattle.holdings.proofs.short_worth.Statement.{statement}
+use Rattle.holdings.proofs.short_worth.Tie as tie
 
 mul-position : tie.Need-mul-position
 mul-position c = search needs

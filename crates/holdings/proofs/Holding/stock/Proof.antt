@@ -2,10 +2,10 @@
 use native.Mathlib.Omega.{arith}
 use borrow.Author.Tests.{eq-eqb, ne-eqb}
 use Rattle.rules.specs.Levels.{stock}
-use Rattle.levels.specs.Holdings.{asHolding}
+use Rattle.holdings.specs.Holdings.{asHolding}
 use borrow.Author.Needs.{needs}
-use Rattle.levels.proofs.Holding.stock.Statement.{statement}
-use Rattle.levels.proofs.Holding.stock.Tie as tie
+use Rattle.holdings.proofs.Holding.stock.Statement.{statement}
+use Rattle.holdings.proofs.Holding.stock.Tie as tie
 
 returns : tie.Need-returns
 unfolding stock asHolding

@@ -3,10 +3,10 @@ use Prim.Native.Nat.{_^_}
 use native.Mathlib.Omega.{arith}
 use Rattle.records.proofs.Amounts.{at-asAmounts}
 use Rattle.dealings.proofs.Raising.{amount-le}
-use Rattle.levels.specs.Holdings.{held, asHolding}
+use Rattle.holdings.specs.Holdings.{held, asHolding}
 use borrow.Author.Needs.{needs}
-use Rattle.levels.proofs.Holding.of.Statement.{statement}
-use Rattle.levels.proofs.Holding.of.Tie as tie
+use Rattle.holdings.proofs.Holding.of.Statement.{statement}
+use Rattle.holdings.proofs.Holding.of.Tie as tie
 
 mul-t11 : tie.Need-mul-t11
 mul-t11 c = search needs

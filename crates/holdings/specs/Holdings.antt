@@ -7,7 +7,7 @@ use Rattle.records.specs.declared.User.{User}
 use Rattle.records.specs.User.{asAmounts}
 use Rattle.dealings.specs.declared.Dealings.{Dealings}
 use Rattle.dealings.specs.Energies.{amountOf}
-use Rattle.levels.specs.declared.Holding.{Holding}
+use Rattle.holdings.specs.declared.Holding.{Holding}
 
 -- the holding of a user with its dealings, in an area
 unfoldable pub held : User → Dealings → ℕ → rules.Holding

@@ -1,11 +1,11 @@
--- Needs and levels as differences of naturals, never below 0. Assumes nothing.
+-- Needs as differences of naturals, never below 0. Assumes nothing.
 use mathlib.Core.Path.{_≡_}
-use Prim.Native.Nat.{ℕ, _+_, _-_, max}
+use Prim.Native.Nat.{ℕ, _+_, _-_}
 use native.Mathlib.Omega.{arith}
-use lib.IntN.{ℤ, pos, negℤ, _+ℤ_, _-ℤ_, +ℤ-assoc}
+use lib.IntN.{pos, negℤ, _+ℤ_, _-ℤ_}
 use Rattle.integers.specs.Parts.{posPart, negPart}
 use Rattle.integers.proofs.Linear.{posPart-of, posPart-pos, negPart-pos, posPart-neg, negPart-neg, parts-add, parts-sub}
-use Rattle.rules.specs.Levels.{Limits, Holding, morningNeed, stock, afternoonNeed, floored}
+use Rattle.rules.specs.Levels.{Holding, morningNeed, stock, afternoonNeed}
 
 -- −physical + sold − bought over d and d+1
 pub morning-need-of : (h : Holding)
@@ -27,17 +27,3 @@ afternoon-need-of area h =
     let z = stock area h in
     posPart-of (pos x -ℤ pos y -ℤ pos z) x (y + z)
     (omega (arith, parts-sub (pos x) (pos y), parts-sub (pos x -ℤ pos y) (pos z), posPart-pos x, negPart-pos x, posPart-pos y, negPart-pos y, posPart-pos z, negPart-pos z))
-
--- charges and a worth, with the floor
-pub floored-of : (l : Limits) (charges : ℤ) (n : ℕ) → floored l (charges +ℤ pos n) ≡ max (l .floor) (posPart charges + n - negPart charges)
-unfolding floored
-floored-of l charges n =
-    omega (
-      arith,
-      posPart-of (charges +ℤ pos n) (posPart charges + n) (negPart charges)
-          (omega (arith, parts-add charges (pos n), posPart-pos n, negPart-pos n)),
-    )
-
--- two worths added one after the other, or together
-pub add-worths : (charges : ℤ) (m n : ℕ) → charges +ℤ pos m +ℤ pos n ≡ charges +ℤ pos (m + n)
-add-worths charges m n = +ℤ-assoc charges (pos m) (pos n)

@@ -3,8 +3,8 @@ use mathlib.Core.Path.{ap, _∙_}
 use Prim.Native.Nat.{ℕ, _*_}
 use native.Mathlib.Omega.{arith}
 use borrow.Author.Needs.{needs}
-use Rattle.levels.proofs.worth_in.Statement.{statement}
-use Rattle.levels.proofs.worth_in.Tie as tie
+use Rattle.holdings.proofs.worth_in.Statement.{statement}
+use Rattle.holdings.proofs.worth_in.Tie as tie
 
 reference-price-requires : tie.Need-reference-price-requires
 reference-price-requires c κs = search needs

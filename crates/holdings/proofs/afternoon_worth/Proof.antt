@@ -7,8 +7,8 @@ use Rattle.rules.specs.Areas.{referencePrice}
 use Rattle.rules.specs.Levels.{Holding, afternoonNeed}
 use Rattle.units.specs.Prices.{asPrices}
 use borrow.Author.Needs.{needs}
-use Rattle.levels.proofs.afternoon_worth.Statement.{statement}
-use Rattle.levels.proofs.afternoon_worth.Tie as tie
+use Rattle.holdings.proofs.afternoon_worth.Statement.{statement}
+use Rattle.holdings.proofs.afternoon_worth.Tie as tie
 
 of-requires : tie.Need-of-requires
 of-requires c κs = search needs

@@ -1,10 +1,10 @@
 -- `Holding::morning_need` is the difference that the need is, and 0 where that is below 0. Assumes nothing.
 use native.Mathlib.Omega.{arith}
-use Rattle.levels.specs.Holdings.{asHolding}
-use Rattle.levels.proofs.Needs.{morning-need-of}
+use Rattle.holdings.specs.Holdings.{asHolding}
+use Rattle.holdings.proofs.Needs.{morning-need-of}
 use borrow.Author.Needs.{needs}
-use Rattle.levels.proofs.Holding.morning_need.Statement.{statement}
-use Rattle.levels.proofs.Holding.morning_need.Tie as tie
+use Rattle.holdings.proofs.Holding.morning_need.Statement.{statement}
+use Rattle.holdings.proofs.Holding.morning_need.Tie as tie
 
 short-requires : tie.Need-short-requires
 short-requires c κs = search needs
