@@ -1,10 +1,9 @@
 -- `fill_cuts`: the lots that are filled in can be lent to the cuts. Assumes nothing.
 use borrow.Author.Needs.{needs}
-use mathlib.Core.Path.{_∙_}
-use Rattle.ledger.proofs.Cuts.{lots-lent, lots-cuts}
-use Rattle.ledger.proofs.fill_cuts.Statement.{statement}
+use Rattle.lots.proofs.Lent.{lots-lent, lots-cuts}
+use Rattle.lots.proofs.fill_cuts.Statement.{statement}
 use Rattle.units.specs.Prices.{asPrices}
-use Rattle.ledger.proofs.fill_cuts.Tie as tie
+use Rattle.lots.proofs.fill_cuts.Tie as tie
 
 fill-lots-requires : tie.Need-fill-lots-requires
 fill-lots-requires c κs = search needs
@@ -14,8 +13,7 @@ fill-cuts-requires c κs =
     let o = c .before .before .before .before .before .before .before .before .before .before .before .before .before in
     let s = o .before .before .before .before .before .before .before .before .before .before .before .before .before in
     let a = s .args in
-    let r = s .pre .0 .1 in
-    lots-lent (asPrices (a .prices)) (s .pre .0 .0) (a .standing .now) (a .areas .now) (r .few) (r .areas-length) (o .fill-lots .ensures) r (s .pre .1 .1)
+    lots-lent (asPrices (a .prices)) (a .standing .now) (a .areas .now) (s .pre .0 .0) (s .pre .0 .1) (o .fill-lots .ensures) (s .pre .1 .1)
 
 same-length : tie.Need-same-length
 same-length c = search needs
@@ -44,8 +42,7 @@ returns c =
     let o = k .before .before .before .before .before .before .before .before .before .before .before .before .before .before in
     let s = o .before .before .before .before .before .before .before .before .before .before .before .before .before in
     let a = s .args in
-    let r = s .pre .0 .1 in
-    k .fill-cuts .ensures ∙ lots-cuts (asPrices (a .prices)) (s .pre .0 .0) (a .standing .now) (a .areas .now) (r .few) (r .areas-length) (a .asked .0) (o .fill-lots .ensures)
+    lots-cuts (asPrices (a .prices)) (a .standing .now) (a .areas .now) (a .asked .0) (o .fill-lots .ensures) (k .fill-cuts .ensures)
 
 pub fill-cuts-spec : {M : Type 1} → statement M
 fill-cuts-spec =

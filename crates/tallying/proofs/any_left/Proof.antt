@@ -6,10 +6,10 @@ use lib.Dec.{ltb}
 use lib.ListN.{length, drop}
 use borrow.Author.Needs.{needs}
 use borrow.Author.Tests.{lt-ltb, le-ltb}
-use Rattle.ledger.proofs.Turns.{any-found, any-more, any-none}
-use Rattle.ledger.proofs.any_left.Statement.{statement}
+use Rattle.tallying.proofs.Turns.{any-found, any-more, any-none}
+use Rattle.tallying.proofs.any_left.Statement.{statement}
 use Rattle.rules.specs.Lists.{any}
-use Rattle.ledger.proofs.any_left.Tie as tie
+use Rattle.tallying.proofs.any_left.Tie as tie
 
 abbrev Inv-loop : tie.InvT-loop
 Inv-loop standing i₀ i = (i ≤ length standing) × (any (λ n. ltb 0 n) (drop i standing) ≡ any (λ n. ltb 0 n) standing)

@@ -1,12 +1,12 @@
 -- `tally_of`: the tally of what is left gives the whole tally. Assumes nothing.
 use Prim.Native.Nat.{_-_}
-use Rattle.ledger.proofs.Turns.{Tallied, tallied-start, tallied-more, tallied-end}
-use Rattle.ledger.proofs.tally_of.Statement.{statement}
+use Rattle.tallying.proofs.Turns.{Tallied, tallied-start, tallied-more, tallied-end}
+use Rattle.tallying.proofs.tally_of.Statement.{statement}
 use Rattle.units.specs.Prices.{asPrices}
 use borrow.Author.Needs.{needs}
 use lib.ListN.{length}
 use native.Mathlib.Omega.{arith}
-use Rattle.ledger.proofs.tally_of.Tie as tie
+use Rattle.tallying.proofs.tally_of.Tie as tie
 
 abbrev Inv-loop : tie.InvT-loop
 Inv-loop cuts areas prices tally₀ i₀ tally i = Tallied (asPrices prices) cuts areas tally i

@@ -7,7 +7,7 @@ use native.Mathlib.Omega.{arith}
 use lib.ListN.{length, getD, set, length-map, List·getD-map}
 use Rattle.arrays.proofs.Fronts.{getD-inside}
 use Rattle.dealings.specs.declared.Amounts.{Amounts}
-use Rattle.ledger.specs.Ledger.{shortBy, Room, LotsOf}
+use Rattle.lots.specs.Lots.{shortBy, Room, LotsOf}
 use Rattle.rules.specs.Areas.{Prices, tariff}
 use Rattle.sales.proofs.Numbers.{standing-in-at, standing-in-length}
 use Rattle.sales.specs.Sales.{standingIn}

@@ -7,7 +7,7 @@ use native.Mathlib.Numerals.{add-one}
 use native.Mathlib.Omega.{arith}
 use lib.ListN.{length, drop, getD, set, length-map, drop-of-length-le, List·getD-map}
 use lib.Seq.{drop-cons, getD-set-other}
-use Rattle.ledger.specs.Ledger.{areaOf}
+use Rattle.tallying.specs.Tallying.{areaOf}
 use Rattle.rules.specs.Areas.{Prices, tariff}
 use Rattle.rules.specs.Lists.{any}
 use Rattle.rules.specs.Reduction.{nothing, tallied, tallyAll}

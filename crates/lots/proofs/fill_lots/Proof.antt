@@ -1,7 +1,7 @@
 -- `fill_lots`: the places passed hold the tariff and both tiers of the sale. Assumes nothing.
 use Prim.Native.Nat.{ℕ, _-_}
-use Rattle.ledger.proofs.Filling.{Filling, filling-start, filling-more, filling-end, filling-lengths}
-use Rattle.ledger.proofs.fill_lots.Statement.{statement}
+use Rattle.lots.proofs.Filling.{Filling, filling-start, filling-more, filling-end, filling-lengths}
+use Rattle.lots.proofs.fill_lots.Statement.{statement}
 use Rattle.units.specs.Prices.{asPrices}
 use borrow.Author.Needs.{needs}
 use lib.Dec.{ltb}
@@ -9,7 +9,7 @@ use lib.ListN.{length, getD}
 use mathlib.Core.Bool.{not, cond}
 use mathlib.Core.Path.{sym, ap, _∙_}
 use native.Mathlib.Omega.{arith}
-use Rattle.ledger.proofs.fill_lots.Tie as tie
+use Rattle.lots.proofs.fill_lots.Tie as tie
 
 abbrev Inv-loop : tie.InvT-loop
 Inv-loop standing areas short prices tariffs₀ one₀ two₀ i₀ tariffs one two i = Filling (asPrices prices) short standing areas tariffs one two i

@@ -1,12 +1,12 @@
 -- `lower`: the places passed stand lower by their cuts. Assumes nothing.
 use Prim.Native.Nat.{_-_}
-use Rattle.ledger.proofs.Turns.{Lowered, lowered-start, lowered-more, lowered-end, lowered-length}
-use Rattle.ledger.proofs.lower.Statement.{statement}
+use Rattle.tallying.proofs.Turns.{Lowered, lowered-start, lowered-more, lowered-end, lowered-length}
+use Rattle.tallying.proofs.lower.Statement.{statement}
 use borrow.Author.Needs.{needs}
 use lib.ListN.{length}
 use mathlib.Core.Path.{refl}
 use native.Mathlib.Omega.{arith}
-use Rattle.ledger.proofs.lower.Tie as tie
+use Rattle.tallying.proofs.lower.Tie as tie
 
 abbrev Inv-loop : tie.InvT-loop
 Inv-loop standing₀ cuts i₀ standing i = Lowered standing₀ cuts standing i
