@@ -4,10 +4,10 @@ use mathlib.Core.Path.{refl}
 use native.Mathlib.Omega.{arith}
 use borrow.Author.Needs.{needs}
 use denote.Ref.{now}
-use Rattle.listing.proofs.Columns.{Columned, columned-start, columned-more, columned-end}
+use Rattle.columns.proofs.Columns.{Columned, columned-start, columned-more, columned-end}
 use Rattle.records.specs.Trade.{asTrade}
-use Rattle.listing.proofs.fill_columns.Statement.{statement}
-use Rattle.listing.proofs.fill_columns.Tie as tie
+use Rattle.columns.proofs.fill_columns.Statement.{statement}
+use Rattle.columns.proofs.fill_columns.Tie as tie
 
 abbrev Inv-loop : tie.InvT-loop
 Inv-loop s n origins count parties standing₀ areas₀ buyers₀ k₀ standing areas buyers k = Columned n s parties origins count standing₀ areas₀ buyers₀ standing areas buyers k

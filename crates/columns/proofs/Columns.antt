@@ -1,21 +1,16 @@
--- The loop that reads off the trades at places what stands, the area and the buyer, and what its lists hold where the places are those of own sales. Assumes nothing.
-use mathlib.Core.List.{List, [], _∷_, map, map-append, map-map}
+-- The loop that reads off the trades at places what stands, the area and the buyer, and what its lists hold. Assumes nothing.
+use mathlib.Core.List.{List, [], _∷_, map, map-append}
 use mathlib.Core.Path.{_≡_, refl, sym, ap, ap₂, _∙_}
 use Prim.Native.Nat.{ℕ, suc, _+_, _≤_, _<_}
 use native.Mathlib.Numerals.{add-one}
 use native.Mathlib.Omega.{arith}
-use lib.Dec.{ltb, ltb→lt}
 use lib.ListN.{length, take, getD, set, length-set}
 use lib.Seq.{take-suc, take-suc-set, getD-take, length-take-le}
-use Rattle.arrays.proofs.Fronts.{all-at}
 use Rattle.format.specs.Steps.{placeOf}
-use Rattle.listing.proofs.Sellers.{trades-count, trade-at, placed-at, party-room}
-use Rattle.listing.specs.Listing.{usersIn, tradesIn, tradeIn, noTrade, Trading, PlacedOn, ColumnRoom, ColumnsOf, SalesRead}
+use Rattle.columns.proofs.Trades.{trades-count, trade-at, placed-at, party-room}
+use Rattle.columns.specs.Columns.{usersIn, tradesIn, tradeIn, noTrade, Trading, PlacedOn, ColumnRoom, ColumnsOf, SalesRead}
 use Rattle.places.proofs.Known.{placeIn-placeOf}
 use Rattle.rules.specs.Book.{Trade}
-use Rattle.sales.proofs.Groups.{places-inside, places-kept}
-use Rattle.sales.specs.Groups.{places}
-use Rattle.sales.specs.Sales.{ownSale, salesOf}
 
 -- ---- the loop
 
@@ -66,7 +61,7 @@ module _ (n : ℕ) (s parties origins : List ℕ) (count : ℕ) {ns₀ cs₀ bs�
       let e : k ≡ count = omega (arith, p .inside) in
       rw e at (p .columns)
 
--- ---- places of own sales
+-- ---- places of trades
 
 -- functions that are the same below a bound, on numbers below it
 map-inside : (f g : ℕ → ℕ) (m : ℕ) (is : List ℕ) → ((i : ℕ) → i < m → f i ≡ g i) → ((k : ℕ) → k < length is → getD is k 0 < m) → map f is ≡ map g is
@@ -106,15 +101,3 @@ module _ (n m : ℕ) (s parties : List ℕ) (b : Trading n m s) (placed : Placed
       where
         read-off : (g : Trade → ℕ) (f : ℕ → ℕ) → ((i : ℕ) → i < m → f i ≡ g (getD (tradesIn n m s) i noTrade)) → map f (take count origins) ≡ read g
         read-off g f h = ap (map f) front ∙ map-inside f (λ i. g (getD (tradesIn n m s) i noTrade)) m is h inside ∙ e g
-
--- the places of one user's own sales are inside
-pub own-inside : (n m : ℕ) (s : List ℕ) (id k : ℕ) → k < length (places (tradesIn n m s) id) → getD (places (tradesIn n m s) id) k 0 < m
-own-inside n m s id k h =
-    let ts = tradesIn n m s in
-    omega (arith, trades-count n m s, ltb→lt (getD (places ts id) k 0) (length ts) (all-at (λ i. ltb i (length ts)) (places ts id) (places-inside (ownSale id) ts) k 0 h))
-
--- and there the sales are read
-pub own-read : (n m : ℕ) (s : List ℕ) (id : ℕ) (g : Trade → ℕ) → map (λ i. g (getD (tradesIn n m s) i noTrade)) (places (tradesIn n m s) id) ≡ map g (salesOf (tradesIn n m s) id)
-unfolding salesOf
-own-read n m s id g =
-    sym (map-map g (λ i. getD (tradesIn n m s) i noTrade) (places (tradesIn n m s) id)) ∙ ap (map g) (places-kept (ownSale id) noTrade (tradesIn n m s))

@@ -2,8 +2,8 @@
 use borrow.Author.Needs.{needs}
 use mathlib.Core.Path.{refl}
 use Rattle.records.specs.Trade.{asTrade}
-use Rattle.listing.proofs.stands.Statement.{statement}
-use Rattle.listing.proofs.stands.Tie as tie
+use Rattle.columns.proofs.stands.Statement.{statement}
+use Rattle.columns.proofs.stands.Tie as tie
 
 cast-result : tie.Need-cast-result
 cast-result c = search needs
