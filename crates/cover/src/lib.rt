@@ -153,7 +153,7 @@ fn is_due(short: &[bool], starts: &[u64], standing: &[u64], i: usize) -> bool
     if short[i] {
         let from = starts[i] as usize;
         let to = starts[i + 1] as usize;
-        return ledger::any_left(&standing[from..to]);
+        return tallying::any_left(&standing[from..to]);
     }
     false
 }

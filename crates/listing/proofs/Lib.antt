@@ -1,6 +1,4 @@
--- Laws of the trades of a book in bytes and of their sellers;
+-- Laws of the sellers of trades, of the loop that lists one user's own sales, and of what is read off these.
 pub mod Sellers
--- of the loop that lists one user's own sales;
 pub mod Noting
--- and of what is read off sales.
-pub mod Columns
+pub mod Own

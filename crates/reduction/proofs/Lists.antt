@@ -19,7 +19,8 @@ use Rattle.format.specs.Steps.{inBytes}
 use Rattle.cutting.specs.Places.{PlacesIn}
 use Rattle.held.proofs.Held.{held-itself, held-trades}
 use Rattle.held.specs.Held.{HeldAs, noTrade, tradesReplaced}
-use Rattle.listing.specs.Listing.{OwnSales, Trading}
+use Rattle.columns.specs.Columns.{Trading}
+use Rattle.listing.specs.Listing.{OwnSales}
 use Rattle.places.specs.Ids.{Placed, tradesFrom, usersFrom}
 use Rattle.reducing.proofs.Steps.{few, from-stays, left-is, origin-stays, origins-length, reduced-in}
 use Rattle.reducing.specs.Reducing.{ReducedIn, ReducibleIn, SettledIn, sellerAt}

@@ -25,7 +25,7 @@ fn reduce_own(
     requires { ⌜ ReducibleIn (now book) at place (now origins) (now own) (now areas) (now buyers) (asPrices prices) (now cuts) ⌝ }
     ensures { λ r. ⌜ Gives (onSales (now (book .entry)) (sellerAt (bookOf (now (book .entry))) place) (asked .0)) (answerOf r) (now (book .exit)) ⌝ }
 {
-    if !ledger::any_left(own) {
+    if !tallying::any_left(own) {
         return ReductionAnswer::refused(14);
     }
     let tally = reducing::settle_own(book, place, own, areas, buyers, asked, prices, cuts);

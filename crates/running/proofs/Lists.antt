@@ -11,7 +11,7 @@ use Rattle.grouping.specs.Grouping.{AllSales}
 use Rattle.held.proofs.Held.{held-userCount}
 use Rattle.levels.specs.Limits.{LimitsInRange}
 use Rattle.listed.specs.Listed.{Listed, NextDealt}
-use Rattle.listing.specs.Listing.{Trading, tradesIn, usersIn}
+use Rattle.columns.specs.Columns.{Trading, tradesIn, usersIn}
 use Rattle.places.specs.Ids.{Placed}
 use Rattle.reducing.proofs.Own.{prices-in}
 use Rattle.rules.specs.Areas.{Prices}
