@@ -1,26 +1,13 @@
--- Called in and the printed state, case by case. Assumes nothing.
-use mathlib.Core.Path.{_≡_, ap, _∙_}
-use mathlib.Core.Bool.{Bool, true, false, _||_}
+-- The printed state, case by case. Assumes nothing.
+use mathlib.Core.Path.{_≡_}
+use mathlib.Core.Bool.{true, false}
 use Prim.Native.Nat.{_≤_, _<_}
 use borrow.Author.Tests.{eq-eqb, ne-eqb, lt-ltb, le-ltb, le-leb}
 use Rattle.rules.specs.Book.{Book, User}
-use Rattle.rules.specs.Levels.{Limits, shipper, afternoonLevel, flagged, calledIn, exceedsMargin, shortOfCover}
+use Rattle.rules.specs.Levels.{Limits, shipper, afternoonLevel, calledIn, exceedsMargin, shortOfCover}
 use Rattle.rules.specs.Day.{clear, short, call, quiet, callDue, state}
-use Rattle.dealings.specs.Parties.{cutBefore}
-use Rattle.dealings.proofs.Ruled.{called-in-is}
-use Rattle.risk.specs.declared.State as code
 
 module _ (l : Limits) (b : Book) (u : User) where
-  -- ---- called in
-
-  pub called-flagged : flagged l b u ≡ true → calledIn l b u ≡ true
-  called-flagged e = called-in-is l b u ∙ ap (λ (f : Bool). f || cutBefore (u .party .id) (b .trades)) e
-
-  pub called-cut : flagged l b u ≡ false → calledIn l b u ≡ cutBefore (u .party .id) (b .trades)
-  called-cut e = called-in-is l b u ∙ ap (λ (f : Bool). f || cutBefore (u .party .id) (b .trades)) e
-
-  -- ---- the state
-
   pub state-clear : (u .party .role ≡ 0 → ⊥) → clear ≡ state l b u
   unfolding state shipper
   state-clear h = rw (ne-eqb (u .party .role) 0 h)

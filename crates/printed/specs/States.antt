@@ -1,7 +1,7 @@
 -- The state of the rules that each state of the code is. Assumes nothing.
 use Rattle.rules.specs.Day as day
-use Rattle.risk.specs.declared.State.{State}
-use Rattle.risk.specs.declared.State.the-variants.{Clear, Short, Call, Quiet}
+use Rattle.printed.specs.declared.State.{State}
+use Rattle.printed.specs.declared.State.the-variants.{Clear, Short, Call, Quiet}
 
 -- by its name
 abbrev pub stateOf : State → day.State
