@@ -50,9 +50,11 @@ fn print_users(b: Book)
     requires { ⌜ b .«user_count» ≤ 64 ⌝ }
 {
     let n = b.user_count as usize;
+    let users = b.users;
     let mut i = 0;
     while i < n {
-        print_user(risk::user_at(b, i));
+        let user = users[i];
+        print_user(user);
         i += 1;
     }
 }
