@@ -17,7 +17,7 @@ use Rattle.dealings.specs.declared.Dealings.{Dealings}
 use Rattle.format.specs.Book.{userCount, usersOf}
 use Rattle.held.proofs.Parts.{record-at}
 use Rattle.integers.proofs.Linear.{by-order}
-use Rattle.levels.specs.Holdings.{held}
+use Rattle.holdings.specs.Holdings.{held}
 use Rattle.records.specs.User.{asUser, userOf}
 use Rattle.rules.specs.Areas.{Prices}
 use Rattle.rules.specs.Book.{User, nobody}

@@ -15,8 +15,8 @@ ghost use Rattle.format.specs.Book.{usersOf};
 ghost use Rattle.sales.specs.Cover.{levelFrom, shortFrom};
 ghost use Rattle.units.specs.Prices.{asPrices};
 ghost use Rattle.records.specs.User.{asUser};
+ghost use Rattle.holdings.specs.Holdings.{held};
 ghost use Rattle.levels.specs.Limits.{asLimits};
-ghost use Rattle.levels.specs.Holdings.{held};
 ghost use Rattle.cover.specs.Cover.{Ranges, Levelled, Bounded, AmountsAt, NextOf, Asking, targetIn, shortCut, Marking, marked, Starts, dueAt, NextDue};
 
 // What the afternoon level of a user exceeds the assigned guarantee by: what a reduction is asked for.
@@ -153,7 +153,7 @@ fn is_due(short: &[bool], starts: &[u64], standing: &[u64], i: usize) -> bool
     if short[i] {
         let from = starts[i] as usize;
         let to = starts[i + 1] as usize;
-        return ledger::any_left(&standing[from..to]);
+        return tallying::any_left(&standing[from..to]);
     }
     false
 }

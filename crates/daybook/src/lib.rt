@@ -6,26 +6,30 @@ ghost use Rattle.rules.specs.Calls.{only, morningCall, afternoonCall};
 ghost use Rattle.rules.specs.Queries.{morningLevelOf, afternoonLevelOf};
 ghost use Rattle.format.specs.Steps.{Called, replyBytes};
 ghost use Rattle.posting.specs.Posting.{postingOf};
-ghost use Rattle.guarantee.specs.Answers.{replyOf, answerOf};
-ghost use Rattle.warning.specs.Warned as warned;
-ghost use Rattle.reduce.specs.Answers as reducing;
-ghost use Rattle.run.specs.Answers as running;
-ghost use Rattle.questions.specs.Asked.{Opened};
+ghost use Rattle.answers.specs.Level.{replyOf};
+ghost use Rattle.answers.specs.Call.{answerOf};
+ghost use Rattle.answers.specs.Warning as warned;
+ghost use Rattle.answers.specs.Reduction as reducing;
+ghost use Rattle.answers.specs.Run as running;
+ghost use Rattle.warning.specs.Warned.{warningOf};
+ghost use Rattle.reduce.specs.Call.{reductionOf};
+ghost use Rattle.run.specs.Call.{runCall};
+ghost use Rattle.opening.specs.Opened.{Opened};
 ghost use Rattle.transfer.specs.Written.{Written};
 ghost use Rattle.shown.specs.Shown.{Shown, picked};
+use answers::CallAnswer;
+use answers::LevelAnswer;
+use answers::ReductionAnswer;
+use answers::RunAnswer;
+use answers::WarningAnswer;
 use book::Book;
-use guarantee::CallAnswer;
-use guarantee::LevelAnswer;
-use questions::Opening;
-use reduce::ReductionAnswer;
-use run::RunAnswer;
-use warning::WarningAnswer;
+use opening::Opening;
 
 // The book that bytes hold, every field of it, and 0; or a book whose every field is 0 and the number of the first of the questions 1 to 7 that is answered by no.
 pub fn read(bytes: &[u8]) -> Opening
     ensures { λ r. ⌜ Opened (now (bytes .entry)) (r .number) (r .book) ⌝ }
 {
-    questions::open(bytes)
+    opening::open(bytes)
 }
 
 // Writes a book, up to its counts, to a part of exactly its length, and answers 0; or leaves the part and answers the first question that the bytes would fail.
@@ -66,14 +70,14 @@ pub fn posting(book: &mut [u8], id: u32, area: u32, amount: i64) -> u32
 pub fn morning_level(book: &[u8], id: u32) -> LevelAnswer
     ensures { λ r. ⌜ replyOf r ≡ replyBytes today (now (book .entry)) (morningLevelOf id) ⌝ }
 {
-    guarantee::morning_level(book, id)
+    level::morning_level(book, id)
 }
 
 // The afternoon level of a user.
 pub fn afternoon_level(book: &[u8], id: u32) -> LevelAnswer
     ensures { λ r. ⌜ replyOf r ≡ replyBytes today (now (book .entry)) (afternoonLevelOf id) ⌝ }
 {
-    guarantee::afternoon_level(book, id)
+    level::afternoon_level(book, id)
 }
 
 // Raises a user's blocked guarantee to its morning level.
@@ -92,21 +96,21 @@ pub fn afternoon_call(book: &mut [u8], id: u32) -> CallAnswer
 
 // Whether a user is warned at midday.
 pub fn warning(book: &[u8], id: u32) -> WarningAnswer
-    ensures { λ r. ⌜ warned.replyOf r ≡ replyBytes today (now (book .entry)) (warned.warningOf id) ⌝ }
+    ensures { λ r. ⌜ warned.replyOf r ≡ replyBytes today (now (book .entry)) (warningOf id) ⌝ }
 {
     warning::warning(book, id)
 }
 
 // Cuts a user's bilateral sales for what its afternoon level exceeds its assigned guarantee by.
 pub fn reduction(book: &mut [u8], id: u32) -> ReductionAnswer
-    ensures { λ r. ⌜ Called today (now (book .entry)) (reducing.reductionOf id) (reducing.answerOf r) (now (book .exit)) ⌝ }
+    ensures { λ r. ⌜ Called today (now (book .entry)) (reductionOf id) (reducing.answerOf r) (now (book .exit)) ⌝ }
 {
     reduce::reduction(book, id)
 }
 
 // Reduces the user of the lowest id among those short of cover with an eligible trade, until there is none.
 pub fn run(book: &mut [u8]) -> RunAnswer
-    ensures { λ r. ⌜ Called today (now (book .entry)) running.runCall (running.answerOf r) (now (book .exit)) ⌝ }
+    ensures { λ r. ⌜ Called today (now (book .entry)) runCall (running.answerOf r) (now (book .exit)) ⌝ }
 {
     run::run(book)
 }

@@ -1,16 +1,14 @@
-// What a user dealt in the trades of a book: one walk gathers sold and bought in each area, for d and for d+1; another finds a trade that was cut.
+// What a user dealt in the trades of a book: sold and bought in each area, for d and for d+1, counted trade by trade.
 use records::Trade;
 use units::Mwh;
 ghost use mathlib.Core.Path.{_≡_};
 ghost use mathlib.Core.Bool.{cond, _&&_};
-ghost use mathlib.Core.List.{[], map};
+ghost use mathlib.Core.List.{[]};
 ghost use Prim.Native.Nat.{ℕ, _+_, _≤_, _<_, _^_};
 ghost use lib.Dec.{eqb};
-ghost use lib.ListN.{take};
 ghost use Rattle.records.specs.Trade.{asTrade};
 ghost use Rattle.dealings.specs.Energies.{amountOf, Within, Raised};
 ghost use Rattle.dealings.specs.Dealt.{Dealt, Counted, AllWithin};
-ghost use Rattle.dealings.specs.Parties.{isCut, cutBefore};
 
 // An energy for each area.
 pub struct Amounts {
@@ -121,42 +119,4 @@ impl Dealings {
         self.bought_next = bought_next;
         self
     }
-}
-
-// The dealings of the user of an id in the first `count` trades.
-pub fn dealings_of(trades: [Trade; 256], count: usize, id: u32) -> Dealings
-    requires { ⌜ count ≤ 256 ⌝ }
-    ensures { λ r. ⌜ Dealt 256 id (map asTrade (take count trades)) r ⌝ }
-{
-    let mut dealings = Dealings::none();
-    let mut i = 0;
-    while i < count {
-        let t = trades[i];
-        dealings = dealings.counted(t, id);
-        i += 1;
-    }
-    dealings
-}
-
-// Is the user party to the trade, and stands less than was notified?
-fn is_cut(t: Trade, id: u32) -> bool
-    ensures { λ r. ⌜ r ≡ isCut id (asTrade t) ⌝ }
-{
-    ((t.seller == id) | (t.buyer == id)) & (t.standing < t.notified)
-}
-
-// Is the user of an id party to one of the first `count` trades that stands below notified?
-pub fn cut_before(trades: [Trade; 256], count: usize, id: u32) -> bool
-    requires { ⌜ count ≤ 256 ⌝ }
-    ensures { λ r. ⌜ r ≡ cutBefore id (map asTrade (take count trades)) ⌝ }
-{
-    let mut i = 0;
-    while i < count {
-        let t = trades[i];
-        if is_cut(t, id) {
-            return true;
-        }
-        i += 1;
-    }
-    false
 }

@@ -13,7 +13,8 @@ use Rattle.format.specs.Book.{userCount, tradeCount, bookOf, bytesOf}
 use Rattle.format.specs.Questions.{aboutBytes, bookNumber}
 use Rattle.format.specs.Steps.{stepBytes, replyBytes, shownPart}
 use Rattle.transfer.specs.Written.{aboutWriting}
-use Rattle.image.specs.Image.{padded, readImage, imageBook}
+use Rattle.image.specs.Image.{padded, readImage}
+use Rattle.from_image.specs.ImageBook.{imageBook}
 use Rattle.exports.specs.Lent.{byLength, Given, Stored}
 
 -- a query with n numbers: its number and the lent part

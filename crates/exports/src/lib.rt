@@ -5,9 +5,9 @@ ghost use Rattle.rules.specs.Calls.{only, morningCall, afternoonCall};
 ghost use Rattle.rules.specs.Queries.{morningLevelOf, afternoonLevelOf};
 ghost use Rattle.format.specs.Steps.{Called};
 ghost use Rattle.posting.specs.Posting.{postingOf};
-ghost use Rattle.warning.specs.Warned as warned;
-ghost use Rattle.reduce.specs.Answers as reducing;
-ghost use Rattle.run.specs.Answers as running;
+ghost use Rattle.warning.specs.Warned.{warningOf};
+ghost use Rattle.reduce.specs.Call.{reductionOf};
+ghost use Rattle.run.specs.Call.{runCall};
 ghost use Rattle.shown.specs.Shown.{picked};
 ghost use Rattle.storing.specs.Numbers.{levelNumbers, warningNumbers, callNumbers, reductionNumbers, runNumbers};
 ghost use Rattle.exports.specs.Answers.{isYes, Replied, Answered, Copied, ReadInto, WrittenFrom};
@@ -52,7 +52,7 @@ pub extern "C" fn daybook_write(image: &[u8], out: &mut [u8]) -> u32
     if image.len() != IMAGE_SIZE {
         return WRONG_LENGTH;
     }
-    image::write(image, out)
+    from_image::write(image, out)
 }
 
 // Copies the 56 bytes of a user's record.
@@ -148,7 +148,7 @@ pub extern "C" fn daybook_afternoon_call(book: &mut [u8], id: u32, answer: &mut 
 // Whether a user is warned at midday: 1 number, 1 for yes and 0 for no.
 #[no_mangle]
 pub extern "C" fn daybook_warning(book: &[u8], id: u32, answer: &mut [u64]) -> u32
-    ensures { λ r. ⌜ Replied 1 warningNumbers (now (book .entry)) (warned.warningOf id) (now (answer .entry)) r (now (answer .exit)) ⌝ }
+    ensures { λ r. ⌜ Replied 1 warningNumbers (now (book .entry)) (warningOf id) (now (answer .entry)) r (now (answer .exit)) ⌝ }
 {
     if answer.len() != WARNING_NUMBERS {
         return WRONG_LENGTH;
@@ -160,7 +160,7 @@ pub extern "C" fn daybook_warning(book: &[u8], id: u32, answer: &mut [u64]) -> u
 // Cuts a user's bilateral sales for its target: 5 numbers, the MWh cut, their worth, the target, and what the worth falls short of it or exceeds it by.
 #[no_mangle]
 pub extern "C" fn daybook_reduction(book: &mut [u8], id: u32, answer: &mut [u64]) -> u32
-    ensures { λ r. ⌜ Answered 5 reductionNumbers (now (book .entry)) (reducing.reductionOf id) (now (answer .entry)) r (now (answer .exit)) (now (book .exit)) ⌝ }
+    ensures { λ r. ⌜ Answered 5 reductionNumbers (now (book .entry)) (reductionOf id) (now (answer .entry)) r (now (answer .exit)) (now (book .exit)) ⌝ }
 {
     if answer.len() != REDUCTION_NUMBERS {
         return WRONG_LENGTH;
@@ -172,7 +172,7 @@ pub extern "C" fn daybook_reduction(book: &mut [u8], id: u32, answer: &mut [u64]
 // Reduces users until none that is short of cover has an eligible trade: 3 numbers, the reductions, the MWh cut and their worth.
 #[no_mangle]
 pub extern "C" fn daybook_run(book: &mut [u8], answer: &mut [u64]) -> u32
-    ensures { λ r. ⌜ Answered 3 runNumbers (now (book .entry)) running.runCall (now (answer .entry)) r (now (answer .exit)) (now (book .exit)) ⌝ }
+    ensures { λ r. ⌜ Answered 3 runNumbers (now (book .entry)) runCall (now (answer .entry)) r (now (answer .exit)) (now (book .exit)) ⌝ }
 {
     if answer.len() != RUN_NUMBERS {
         return WRONG_LENGTH;

@@ -2,8 +2,8 @@
 // that may change the book, the user's record too, in hexadecimal. data/index says what each call shows.
 // In the file a call is its kind (1 byte), id (4), area (4), amount (8, two's complement), the length of its book (2), and the book.
 
-use guarantee::CallAnswer;
-use guarantee::LevelAnswer;
+use answers::CallAnswer;
+use answers::LevelAnswer;
 use libc::STDOUT_FILENO;
 
 // The least number whose top bit is set: 2^63.

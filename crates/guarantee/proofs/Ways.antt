@@ -1,4 +1,4 @@
--- The ways out of a level and of a guarantee call: refused by the entry, by a question of its own, or answered. Assumes nothing.
+-- The ways out of a guarantee call: refused by the entry, by a question of its own, or answered. Assumes nothing.
 use mathlib.Core.Bool.{Bool, true, false}
 use mathlib.Core.List.{List, [], _∷_, _++_}
 use mathlib.Core.Option.{some}
@@ -10,55 +10,21 @@ use Rattle.rules.specs.Book.{Book, User, find}
 use Rattle.rules.specs.Levels.{Limits, shipper, exceedsMargin}
 use Rattle.rules.specs.Questions.{refusal, decided}
 use Rattle.rules.specs.Calls.{about, assignedSuffices, calledInBeyondMargin, effect, guaranteed, idKnown, isShipper, marginExceeded, ofLevel, only}
-use Rattle.rules.specs.Queries.{aboutQuery, aLevel, found, onlyNumber}
 use Rattle.rules.specs.Changes.{blockedTo}
 use Rattle.fields.specs.Field.{AllBytes}
 use Rattle.records.specs.User.{asUser, userBytes}
 use Rattle.format.specs.Book.{bookOf, userAt}
 use Rattle.format.specs.Questions.{aboutBytes}
-use Rattle.format.specs.Steps.{inBytes, replyBytes, stepBytes}
+use Rattle.format.specs.Steps.{inBytes, stepBytes}
 use Rattle.format.proofs.OneUser.{changed-bytes}
 use Rattle.format.proofs.Passed.{passed}
 use Rattle.account.specs.Account.{AccountAt}
 use Rattle.account.specs.declared.Account.{Account}
 use Rattle.entry.specs.Entered.{Found}
-use Rattle.entry.proofs.Calls.{call-found, call-refused, query-refused, query-found, read-role, read-user}
-use Rattle.guarantee.specs.Times.{levelOf, dueOf, queryOf, callOf}
-use Rattle.guarantee.specs.Answers.{lastQuestions, raised}
-
--- ---- the account of the user that the entry found
-
-module _ {s : List ℕ} {id place : ℕ} {a : Account} (f : Found s id place) (h : AccountAt s place a) where
-  -- its level is that of the user of the id
-  pub account-level : (afternoon : Bool) {l m : Limits} → l ≡ m → levelOf afternoon l (bookOf s) (asUser (a .user)) ≡ levelOf afternoon m (bookOf s) (find (bookOf s .users) id)
-  account-level afternoon e = cc (e, read-user (a .user) f (h .user))
-
--- ---- a level
-
-query-asks : (b : Book) (id : ℕ) (afternoon : Bool) → aboutQuery b (queryOf afternoon id) ≡ idKnown b id ∷ (isShipper (find (b .users) id) ∷ [])
-unfolding aboutQuery
-query-asks b id true = refl
-query-asks b id false = refl
-
-query-finds : (limits : Limits) (b : Book) (id : ℕ) (afternoon : Bool) → found limits b (queryOf afternoon id) ≡ aLevel (levelOf afternoon limits b (find (b .users) id))
-unfolding found levelOf
-query-finds limits b id true = refl
-query-finds limits b id false = refl
-
-module _ (limits : Limits) (s : List ℕ) (id : ℕ) (afternoon : Bool) where
-  pub level-refused : (n : ℕ) → refusal (aboutBytes s ++ (idKnown (bookOf s) id ∷ [])) ≡ some n → onlyNumber n ≡ replyBytes limits s (queryOf afternoon id)
-  level-refused n h = rw (query-refused limits s id (isShipper (find (bookOf s .users) id) ∷ []) (queryOf afternoon id) (query-asks (bookOf s) id afternoon) n h)
-
-  module _ {place : ℕ} (f : Found s id place) where
-    pub level-of-house : (find (bookOf s .users) id .party .role ≡ 0 → ⊥) → onlyNumber 9 ≡ replyBytes limits s (queryOf afternoon id)
-    unfolding isShipper shipper refusal decided
-    level-of-house h =
-        rw (query-found limits s id (isShipper (find (bookOf s .users) id) ∷ []) (queryOf afternoon id) (query-asks (bookOf s) id afternoon) f, ne-eqb (find (bookOf s .users) id .party .role) 0 h)
-
-    pub level-found : find (bookOf s .users) id .party .role ≡ 0 → aLevel (levelOf afternoon limits (bookOf s) (find (bookOf s .users) id)) ≡ replyBytes limits s (queryOf afternoon id)
-    unfolding isShipper shipper refusal decided
-    level-found h =
-        rw (query-found limits s id (isShipper (find (bookOf s .users) id) ∷ []) (queryOf afternoon id) (query-asks (bookOf s) id afternoon) f, eq-eqb (find (bookOf s .users) id .party .role) 0 h, query-finds limits (bookOf s) id afternoon)
+use Rattle.entry.proofs.Calls.{call-found, call-refused, read-role, read-user}
+use Rattle.level.specs.Times.{levelOf}
+use Rattle.guarantee.specs.Times.{dueOf, callOf}
+use Rattle.guarantee.specs.Raised.{lastQuestions, raised}
 
 -- ---- question 11
 

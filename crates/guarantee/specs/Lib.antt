@@ -1,3 +1,3 @@
--- The two times of the day, and the answers of the levels and of the calls.
+-- The two times of the day, and how a guarantee call ends.
 pub mod Times
-pub mod Answers
+pub mod Raised

@@ -1,25 +1,14 @@
--- The level, the question 11, the query and the call of a time of the day: the afternoon's where it is yes, else the morning's. Assumes nothing.
+-- The question 11 and the call of a time of the day: the afternoon's where it is yes, else the morning's. Assumes nothing.
 use mathlib.Core.Bool.{Bool, true, false, _&&_}
 use Prim.Native.Nat.{ℕ}
 use Rattle.rules.specs.Book.{Book, User}
-use Rattle.rules.specs.Levels.{Limits, morningLevel, afternoonLevel, calledIn, exceedsMargin}
-use Rattle.rules.specs.Queries.{Query, morningLevelOf, afternoonLevelOf}
+use Rattle.rules.specs.Levels.{Limits, calledIn, exceedsMargin}
 use Rattle.rules.specs.Calls.{Call, morningCall, afternoonCall}
-
--- the level
-unfoldable pub levelOf : Bool → Limits → Book → User → ℕ
-levelOf true limits b u = afternoonLevel limits b u
-levelOf false limits b u = morningLevel limits b u
 
 -- 11: "Level − blocked > 1,000,000?", and in the afternoon "user called in?"
 unfoldable pub dueOf : Bool → Limits → Book → ℕ → User → Bool
 dueOf true limits b level u = exceedsMargin limits level u && calledIn limits b u
 dueOf false limits b level u = exceedsMargin limits level u
-
--- the query
-abbrev pub queryOf : Bool → ℕ → Query
-queryOf true id = afternoonLevelOf id
-queryOf false id = morningLevelOf id
 
 -- the call
 abbrev pub callOf : Bool → ℕ → Call

@@ -1,109 +1,22 @@
-// The levels and the guarantee calls on a lent book in bytes: the morning or the afternoon level of a user, and the call that raises its blocked guarantee to it.
-// Both times of the day go one way, with the level of the time.
+// The guarantee calls on a lent book in bytes: a user's blocked guarantee is raised to its morning or its afternoon level. Both times of the day go one way, with the level
+// of the time.
 use account::Account;
+use answers::CallAnswer;
 use levels::Limits;
 use records::User;
 use units::Cents;
 ghost use mathlib.Core.Path.{_≡_};
-ghost use mathlib.Core.List.{List};
-ghost use Prim.Native.Nat.{ℕ};
 ghost use Rattle.rules.specs.Levels.{today};
-ghost use Rattle.rules.specs.Calls.{only, morningCall, afternoonCall};
-ghost use Rattle.rules.specs.Queries.{morningLevelOf, afternoonLevelOf};
+ghost use Rattle.rules.specs.Calls.{morningCall, afternoonCall};
 ghost use Rattle.records.specs.User.{asUser};
 ghost use Rattle.format.specs.Book.{bookOf};
 ghost use Rattle.format.specs.Questions.{Formed};
-ghost use Rattle.format.specs.Steps.{replyBytes, Called};
+ghost use Rattle.format.specs.Steps.{Called};
 ghost use Rattle.levels.specs.Limits.{asLimits, LimitsInRange};
+ghost use Rattle.answers.specs.Call.{answerOf};
 ghost use Rattle.account.specs.Account.{Ready, AccountIn};
-ghost use Rattle.guarantee.specs.Times.{levelOf, dueOf, queryOf, callOf};
-ghost use Rattle.guarantee.specs.Answers.{replyOf, answerOf, Raisable, raised};
-
-// ---- the levels
-
-// The level of the user of an account, the afternoon's or the morning's: in every book that the account is of.
-fn level_of(account: Account, limits: Limits, afternoon: bool) -> Cents
-    requires { ⌜ Ready account ⌝ }
-    requires { ⌜ LimitsInRange (asLimits limits) ⌝ }
-    ensures { λ r. ⌜ ((s : List ℕ) → AccountIn s account → r .0 ≡ levelOf afternoon (asLimits limits) (bookOf s) (asUser (account .user))) ⌝ }
-{
-    let user = account.user;
-    let prices = account.prices;
-    let dealings = account.dealings;
-    if afternoon {
-        return levels::afternoon_level(limits, prices, user, dealings);
-    }
-    levels::morning_level(limits, prices, user, dealings)
-}
-
-// A level, and 0; or 0 cents and the number of the first question that is answered by no.
-pub struct LevelAnswer {
-    pub number: u32,
-    pub level: Cents,
-}
-
-// The level of the user of an id, at one time of the day.
-fn level(book: &[u8], id: u32, afternoon: bool) -> LevelAnswer
-    ensures { λ r. ⌜ replyOf r ≡ replyBytes today (now (book .entry)) (queryOf afternoon id) ⌝ }
-{
-    let entry = entry::enter(book, id);
-    let number = entry.number;
-    let place = entry.place;
-    if number != 0 {
-        return LevelAnswer {
-            number: number,
-            level: Cents(0),
-        };
-    }
-    let account = account::account_at(book, place);
-    let user = account.user;
-    if user.role != 0 {
-        return LevelAnswer {
-            number: 9,
-            level: Cents(0),
-        };
-    }
-    let limits = Limits::today();
-    let level = level_of(account, limits, afternoon);
-    LevelAnswer {
-        number: 0,
-        level: level,
-    }
-}
-
-// The morning level of the user of an id.
-pub fn morning_level(book: &[u8], id: u32) -> LevelAnswer
-    ensures { λ r. ⌜ replyOf r ≡ replyBytes today (now (book .entry)) (morningLevelOf id) ⌝ }
-{
-    level(book, id, false)
-}
-
-// The afternoon level of the user of an id.
-pub fn afternoon_level(book: &[u8], id: u32) -> LevelAnswer
-    ensures { λ r. ⌜ replyOf r ≡ replyBytes today (now (book .entry)) (afternoonLevelOf id) ⌝ }
-{
-    level(book, id, true)
-}
-
-// ---- the calls
-
-// The level and what was added to the blocked guarantee, and 0; or 0 cents and the number of the first question that is answered by no.
-pub struct CallAnswer {
-    pub number: u32,
-    pub level: Cents,
-    pub added: Cents,
-}
-
-// A number alone.
-fn refused(number: u32) -> CallAnswer
-    ensures { λ r. ⌜ answerOf r ≡ only number ⌝ }
-{
-    CallAnswer {
-        number: number,
-        level: Cents(0),
-        added: Cents(0),
-    }
-}
+ghost use Rattle.guarantee.specs.Times.{dueOf, callOf};
+ghost use Rattle.guarantee.specs.Raised.{Raisable, raised};
 
 // Question 11 of the user of an account: does the level exceed blocked by more than the margin, and in the afternoon, is the user called in?
 fn is_due(book: &[u8], account: Account, limits: Limits, level: Cents, afternoon: bool) -> bool
@@ -131,10 +44,10 @@ fn raise(book: &mut [u8], place: usize, user: User, level: Cents, due: bool) -> 
 {
     let assigned = user.assigned;
     if !due {
-        return refused(11);
+        return CallAnswer::refused(11);
     }
     if assigned.0 < level.0 {
-        return refused(12);
+        return CallAnswer::refused(12);
     }
     let blocking = blocking::blocked_user(user, level);
     let guaranteed = blocking.user;
@@ -156,15 +69,15 @@ fn call(book: &mut [u8], id: u32, afternoon: bool) -> CallAnswer
     let number = entry.number;
     let place = entry.place;
     if number != 0 {
-        return refused(number);
+        return CallAnswer::refused(number);
     }
     let account = account::account_at(book, place);
     let user = account.user;
     if user.role != 0 {
-        return refused(9);
+        return CallAnswer::refused(9);
     }
     let limits = Limits::today();
-    let level = level_of(account, limits, afternoon);
+    let level = level::level_of(account, limits, afternoon);
     let due = is_due(book, account, limits, level, afternoon);
     raise(book, place, user, level, due)
 }

@@ -1,5 +1,3 @@
--- Stores one after the other, the book of an image's fields, parts filled one after the other, and the round trip of an image.
+-- Stores one after the other, and parts filled one after the other.
 pub mod Storing
-mod Fields
-mod Copied
-pub mod RoundTrip
+pub mod Copied

@@ -1,21 +1,15 @@
 -- An image is the fields of a book in 8,736 bytes, whatever its counts: the header, then always 64 users and 256 trades in the book's format. Assumes nothing.
 use mathlib.Core.Path.{_≡_}
 use mathlib.Core.List.{List, _++_}
-use Prim.Native.Nat.{ℕ, _-_, _*_, _≤_}
+use Prim.Native.Nat.{ℕ, _-_, _*_}
 use lib.ListN.{length, take, drop, replicate}
-use Rattle.rules.specs.Book as model
 use Rattle.rules.specs.Questions.{refusal, decided}
-use Rattle.fields.specs.Layout.{recordsOf}
-use Rattle.records.specs.User.{userOf}
-use Rattle.records.specs.Trade.{tradeOf}
-use Rattle.format.specs.Book.{versionOf, userCount, tradeCount, tradesAt, bookOf}
+use Rattle.format.specs.Book.{userCount, tradesAt}
 use Rattle.format.specs.Questions.{aboutBytes, bookNumber}
 
 -- bytes with 0 behind them, up to a length
 unfoldable pub padded : ℕ → List ℕ → List ℕ
 padded room s = s ++ replicate (room - length s) 0
-
--- ---- from a book's bytes
 
 -- "records past the counts are 0": 64 × 56 bytes of users, 256 × 20 of trades
 unfoldable pub imageOf : List ℕ → List ℕ
@@ -29,24 +23,3 @@ readImage s = decided (refusal (aboutBytes s)) (λ n. replicate 8736 0) (imageOf
 pub record ImageRead (s : List ℕ) (number : ℕ) (image : List ℕ) : Type 0 where
   pub asked : number ≡ bookNumber s
   pub fields : image ≡ readImage s
-
--- ---- to a book
-
--- the book that an image's fields are: its header, and its records up to the counts
-unfoldable pub imageBook : List ℕ → model.Book
-imageBook s =
-    record {
-      header = bookOf s .header;
-      users = take (userCount s) (recordsOf 56 userOf 64 (drop 32 s));
-      trades = take (tradeCount s) (recordsOf 20 tradeOf 256 (drop 3616 s));
-    }
-
--- an image of version 1 whose counts are n users and m trades, in range
-pub record CountsOf (s : List ℕ) (n m : ℕ) : Type 0 where
-  pub whole : length s ≡ 8736
-  pub version : versionOf s ≡ 1
-  pub users : n ≡ userCount s
-  pub trades : m ≡ tradeCount s
-  pub some : 1 ≤ n
-  pub few : n ≤ 64
-  pub many : m ≤ 256

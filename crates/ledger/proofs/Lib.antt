@@ -1,4 +1,2 @@
--- Laws of a reduction on numbers: the loops over a seller's sales, and the cuts in range.
-pub mod Filling
-pub mod Turns
+-- Laws of a reduction on numbers: the cuts in range.
 pub mod Cuts

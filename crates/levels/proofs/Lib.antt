@@ -1,3 +1,3 @@
--- Laws of needs, holdings and levels.
-pub mod Needs
+-- Laws of levels.
+mod Floors
 pub mod Sums

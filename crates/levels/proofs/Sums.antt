@@ -17,7 +17,7 @@ use Rattle.records.specs.User.{asUser}
 use Rattle.dealings.specs.declared.Dealings.{Dealings}
 use Rattle.dealings.specs.Dealt.{Dealt}
 use Rattle.dealings.proofs.Ruled.{holding-is}
-use Rattle.levels.specs.Holdings.{held}
+use Rattle.holdings.specs.Holdings.{held}
 
 -- in an area, the holding is that of the rules
 pub holding-held : (b : Book) (u : User) {n : ℕ} {d : Dealings} → Dealt n (u .id) (b .trades) d → (area : ℕ) → area < 3

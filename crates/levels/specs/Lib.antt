@@ -1,3 +1,2 @@
--- The limits and the holdings of the rules that the code's structs are.
+-- The limits of the rules that the code's limits are.
 pub mod Limits
-pub mod Holdings

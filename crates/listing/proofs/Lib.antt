@@ -1,9 +1,4 @@
--- Laws of the trades of a book in bytes and of their sellers;
+-- Laws of the sellers of trades, of the loop that lists one user's own sales, and of what is read off these.
 pub mod Sellers
--- of the loops that list one user's own sales, count those of each user, and place those of all;
 pub mod Noting
-pub mod Counting
-pub mod Placing
--- of what is read off sales, and of the lists as a whole.
-pub mod Columns
-pub mod Lists
+pub mod Own

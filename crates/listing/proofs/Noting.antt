@@ -8,8 +8,10 @@ use native.Mathlib.Omega.{arith}
 use lib.Dec.{eqb}
 use lib.ListN.{length, take, getD, set}
 use lib.Seq.{take-suc-set, take-set-le, take-all}
-use Rattle.listing.proofs.Sellers.{trades-count, places-trade}
-use Rattle.listing.specs.Listing.{usersIn, tradesIn, tradeIn, idAt, Trading, PlacedOn, Noted, OwnPlaces}
+use Rattle.columns.proofs.Trades.{trades-count}
+use Rattle.columns.specs.Columns.{usersIn, tradesIn, tradeIn, idAt, Trading, PlacedOn}
+use Rattle.listing.proofs.Sellers.{places-trade}
+use Rattle.listing.specs.Listing.{Noted, OwnPlaces}
 use Rattle.rules.specs.Book.{Trade, bilateralForDay}
 use Rattle.sales.proofs.Kept.{by-case}
 use Rattle.sales.specs.Groups.{places}

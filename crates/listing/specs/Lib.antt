@@ -1,2 +1,2 @@
--- The own sales of users in lists, read from the bytes of a book.
+-- The own sales of a user in lists, read from the bytes of a book.
 pub mod Listing

@@ -1,7 +1,8 @@
 -- The list of trades in a loop that has cut the first i of them: what is left to cut gives the whole list. Its start, a turn and its end. Assumes nothing.
 use mathlib.Core.Path.{_≡_, refl, ap, _∙_}
-use Prim.Native.Nat.{ℕ, zero, suc, _-_, _<_}
+use Prim.Native.Nat.{ℕ, zero, suc, _-_, _<_, _≤_, min}
 use native.Mathlib.Nat.{sub-zero, not-suc-le-zero, le-of-suc-le-suc}
+use native.Mathlib.Omega.{arith}
 use mathlib.Core.List.{List, [], _∷_, map}
 use lib.ListN.{length, getD, set}
 use Rattle.rules.specs.Book as model
@@ -52,9 +53,12 @@ from-next (suc i) cs (t ∷ ts) l =
     ap (λ (us : List model.Trade). asTrade t ∷ us)
     (ap (λ (c : ℕ). from (suc i) (rest cs) (set ts i (lowered c (getD ts i blankTrade)))) (get-rest cs i) ∙ from-next i (rest cs) ts (le-of-suc-le-suc l))
 
--- after the loop nothing is left to cut
-pub from-end : (cs : List ℕ) (ts : List Trade) → from (length ts) cs ts ≡ map asTrade ts
+-- past the trades or the cuts nothing is left to cut
+pub from-end : (i : ℕ) (cs : List ℕ) (ts : List Trade) → min (length ts) (length cs) ≤ i → from i cs ts ≡ map asTrade ts
 unfolding from cutAll
-from-end [] [] = refl
-from-end (c ∷ cs) [] = refl
-from-end cs (t ∷ ts) = ap (λ (us : List model.Trade). asTrade t ∷ us) (from-end (rest cs) ts)
+from-end zero [] ts h = refl
+from-end zero (c ∷ cs) [] h = refl
+from-end zero (c ∷ cs) (t ∷ ts) h = absurd (omega (arith, h))
+from-end (suc i) cs [] h = refl
+from-end (suc i) [] (t ∷ ts) h = ap (λ (us : List model.Trade). asTrade t ∷ us) (from-end i [] ts (omega arith))
+from-end (suc i) (c ∷ cs) (t ∷ ts) h = ap (λ (us : List model.Trade). asTrade t ∷ us) (from-end i cs ts (omega (arith, h)))

@@ -20,12 +20,12 @@ pub fn left_of(cuts: &[u64], i: usize, standing: u32) -> u32
     standing
 }
 
-// Each trade of the list is lowered by its own cut, where it is; trades past the cuts stay as they are. The borrow checker does not cover this form, so its proof walks the code by hand.
+// Each trade of the list is lowered by its own cut, where it is; trades past the cuts stay as they are, so the loop ends with the shorter list. The borrow checker does not cover this form, so its proof walks the code by hand.
 pub fn lower_all(trades: &mut [Trade], cuts: &[u64])
     ensures { λ _. ⌜ LoweredBy (now (cuts .entry)) (now (trades .entry)) (now (trades .exit)) ⌝ }
 {
     let mut i = 0;
-    while i < trades.len() {
+    while (i < trades.len()) & (i < cuts.len()) {
         let standing = trades[i].standing;
         let left = left_of(cuts, i, standing);
         trades[i].standing = left;

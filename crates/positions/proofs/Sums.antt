@@ -9,7 +9,7 @@ use native.Mathlib.Numerals.{add-one}
 use lib.Dec.{T, eqb, ltb, ltb→lt}
 use lib.IntN.{pos, _+ℤ_, _-ℤ_}
 use lib.ListN.{length, take, getD, set, replicate, length-map, length-set, length-replicate, List·getD-map}
-use lib.Seq.{getD-set-same, getD-set-other, set-getD, take-length, length-take-le, getD-take}
+use lib.Seq.{getD-set-same, getD-set-other, set-getD, take-all, take-length, length-take-le, getD-take}
 use borrow.Author.Tests.{eq-eqb, ne-eqb, eqb-true, eqb-false, lt-ltb, ltb-true, ltb-false}
 use Rattle.integers.specs.Sums.{sum}
 use Rattle.rules.specs.Lists.{all}
@@ -21,7 +21,7 @@ use Rattle.places.specs.Ids.{idsOf, among, placeIn, Rising}
 use Rattle.places.proofs.Known.{placeIn-among}
 use Rattle.places.proofs.Rising.{placeIn-holds}
 use Rattle.positions.specs.Positions.{positionAs, positionFrom, positionsFrom}
-use Rattle.positions.specs.Sums.{given, givenBy, Bounded, Sums, Counted, Countable, Beside, Gatherable, partiesAmong, Askable}
+use Rattle.positions.specs.Sums.{given, givenBy, Bounded, Sums, Counted, Countable, Beside, Gatherable, partiesAmong, placesOf, DaySums, Askable}
 use Rattle.positions.proofs.Positions.{same-eqb}
 
 -- two numbers are in one of three orders
@@ -159,6 +159,24 @@ pub sums-all : (day : ℕ) (ps : List ℕ) (ts : List Trade) (k m : ℕ) {sums :
 sums-all day ps ts k m e l h s =
     record { each = λ i area low. s .each i area low ∙ rw (e, ← l, take-length ts); low = λ j. omega (arith, s .low j); room = s .room }
 
+module _ (day : ℕ) (ids : List ℕ) (side : Terms → ℕ) (ts : List Trade) where
+  -- one trade more, counted at the place of its party among ids
+  pub sums-among-next : {k p : ℕ} {v r : List ℕ} {t : Trade} (d : Trade) → k < length ts → t ≡ getD ts k d → p ≡ placeIn ids (side (t .terms))
+      → Sums day (take k (placesOf ids side ts)) (take k ts) (k * 4294967295) v → Counted day p t v r
+      → Sums day (take (k + 1) (placesOf ids side ts)) (take (k + 1) ts) ((k + 1) * 4294967295) r
+  sums-among-next {k} {p} {v} {r} {t} d h e place s c =
+      let f : Trade → ℕ = λ u. placeIn ids (side (u .terms)) in
+      let inside : k < length (map f ts) = rw (length-map ts f) h in
+      let is : p ≡ getD (map f ts) k 0 = place ∙ ap f e ∙ sym (getD-inside (map f ts) k 0 (f d) inside ∙ List·getD-map f ts k d) in
+      sums-next day (map f ts) ts d inside h e s (subst (λ (q : ℕ). Counted day q t v r) is c)
+
+  -- all of them
+  pub sums-among-all : {k m : ℕ} {sums : List ℕ} → k ≡ m → length ts ≡ m → m ≤ 256
+      → Sums day (take k (placesOf ids side ts)) (take k ts) (k * 4294967295) sums → Sums day (placesOf ids side ts) ts (256 * 4294967295) sums
+  sums-among-all {k} {m} {sums} e l h s =
+      let f : Trade → ℕ = λ u. placeIn ids (side (u .terms)) in
+      subst (λ (ps : List ℕ). Sums day ps ts (256 * 4294967295) sums) (take-all m (map f ts) (omega (arith, length-map ts f, l))) (sums-all day (map f ts) ts k m e l h s)
+
 -- sums that are within what 256 trades can have
 pub bounded : {day : ℕ} {ps : List ℕ} {ts : List Trade} {sums : List ℕ} → Sums day ps ts (256 * 4294967295) sums → Bounded sums
 bounded s = record { room = s .room; low = s .low }
@@ -200,96 +218,136 @@ module _ (ids : List ℕ) (rising : Rising ids) where
         let rest = given-dealt day ts (and-r (partiesAmong ids t) (all (partiesAmong ids) ts) h) i area k in
         ap₂ (λ (b : Bool) (n : ℕ). cond b (cond (eqb (t .terms .area) area && eqb (t .terms .day) day) (t .standing) 0) 0 + n) own rest
 
-    -- the places are those of 64 users
-    beside : {places : List ℕ} (ts : List Trade) → T (all (partiesAmong ids) ts) → length ids ≤ 64 → length ts ≤ length places
-        → take (length ts) places ≡ map (λ t. placeIn ids (side (t .terms))) ts → Beside ts places
-    beside ts h few room e =
-        record {
-          room = room;
-          low = rw (e, all-map (λ (p : ℕ). ltb p 64) (λ t. placeIn ids (side (t .terms))) ts)
-              (all-by (partiesAmong ids) (λ t. ltb (placeIn ids (side (t .terms))) 64) (λ t k. low t k) ts h);
-        }
-      where
-        low : (t : Trade) → T (partiesAmong ids t) → T (ltb (placeIn ids (side (t .terms))) 64)
-        low t k =
-            let p = placeIn ids (side (t .terms)) in
-            let below : p < length ids = ltb→lt p (length ids) (rw (placeIn-among ids (side (t .terms))) (has t k)) in
-            rw (lt-ltb p 64 (omega (arith, below, few))) tt
+module _ (ids : List ℕ) (side : Terms → ℕ) (has : (t : Trade) → T (partiesAmong ids t) → T (among ids (side (t .terms)))) where
+  -- the place of a party is that of one of 64 users
+  place-low : (t : Trade) → T (partiesAmong ids t) → length ids ≤ 64 → placeIn ids (side (t .terms)) < 64
+  place-low t k few =
+      let p = placeIn ids (side (t .terms)) in
+      let below : p < length ids = ltb→lt p (length ids) (rw (placeIn-among ids (side (t .terms))) (has t k)) in
+      omega (arith, below, few)
 
--- ---- positions by the sums
+  -- so are all places
+  beside : {places : List ℕ} (ts : List Trade) → T (all (partiesAmong ids) ts) → length ids ≤ 64 → length ts ≤ length places
+      → take (length ts) places ≡ placesOf ids side ts → Beside ts places
+  beside ts h few room e =
+      record {
+        room = room;
+        low = rw (e, all-map (λ (p : ℕ). ltb p 64) (λ t. placeIn ids (side (t .terms))) ts)
+            (all-by (partiesAmong ids) (λ t. ltb (placeIn ids (side (t .terms))) 64) (λ t k. rw (lt-ltb (placeIn ids (side (t .terms))) 64 (place-low t k few)) tt) ts h);
+      }
 
-module _ {us : List User} {ts : List Trade} {sellers buyers : List ℕ} (askable : Askable us ts sellers buyers) where
-  -- both parties are among the ids
-  seller-among : (t : Trade) → T (partiesAmong (idsOf us) t) → T (among (idsOf us) (t .terms .seller))
+module _ (ids : List ℕ) (t : Trade) (h : T (partiesAmong ids t)) where
+  -- both parties are among the ids, and the area is one of the three
+  seller-among : T (among ids (t .terms .seller))
   unfolding partiesAmong
-  seller-among t h =
-      let a = among (idsOf us) (t .terms .seller) in
-      let b = among (idsOf us) (t .terms .buyer) in
+  seller-among =
+      let a = among ids (t .terms .seller) in
+      let b = among ids (t .terms .buyer) in
       and-l a b (and-l (a && b) (ltb (t .terms .area) 3) h)
 
-  buyer-among : (t : Trade) → T (partiesAmong (idsOf us) t) → T (among (idsOf us) (t .terms .buyer))
+  buyer-among : T (among ids (t .terms .buyer))
   unfolding partiesAmong
-  buyer-among t h =
-      let a = among (idsOf us) (t .terms .seller) in
-      let b = among (idsOf us) (t .terms .buyer) in
+  buyer-among =
+      let a = among ids (t .terms .seller) in
+      let b = among ids (t .terms .buyer) in
       and-r a b (and-l (a && b) (ltb (t .terms .area) 3) h)
 
-  in-area : (t : Trade) → T (partiesAmong (idsOf us) t) → T (ltb (t .terms .area) 3)
+  in-area : T (ltb (t .terms .area) 3)
   unfolding partiesAmong
-  in-area t h = and-r (among (idsOf us) (t .terms .seller) && among (idsOf us) (t .terms .buyer)) (ltb (t .terms .area) 3) h
+  in-area = and-r (among ids (t .terms .seller) && among ids (t .terms .buyer)) (ltb (t .terms .area) 3) h
 
-  length-ids : length (idsOf us) ≡ length us
-  unfolding idsOf
-  length-ids = length-map us (λ (u : User). u .party .id)
+-- it can be counted at the place of either
+pub countable-among : (ids : List ℕ) {t : Trade} {day p q most : ℕ} {ps qs : List ℕ} {front : List Trade} {xs ys : List ℕ} → length ids ≤ 64 → T (partiesAmong ids t) → most ≤ 2 ^ 63
+    → p ≡ placeIn ids (t .terms .seller) → q ≡ placeIn ids (t .terms .buyer) → Sums day ps front most xs → Sums day qs front most ys → Countable p t xs × Countable q t ys
+countable-among ids {t} few h small e f s b = (
+  record {
+    place = rw e (place-low ids (λ r. r .seller) (seller-among ids) t h few);
+    area = ltb→lt (t .terms .area) 3 (in-area ids t h);
+    room = s .room;
+    low = λ j. omega (arith, s .low j);
+  },
+  record {
+    place = rw f (place-low ids (λ r. r .buyer) (buyer-among ids) t h few);
+    area = ltb→lt (t .terms .area) 3 (in-area ids t h);
+    room = b .room;
+    low = λ j. omega (arith, b .low j);
+  },
+)
 
+-- ---- what users sold and bought, by the sums
+
+length-ids : (us : List User) → length (idsOf us) ≡ length us
+unfolding idsOf
+length-ids us = length-map us (λ (u : User). u .party .id)
+
+-- the id at a place is that of the user there
+id-at : (us : List User) (i : ℕ) (d : User) → i < length us → getD (idsOf us) i 0 ≡ getD us i d .party .id
+unfolding idsOf
+id-at us i d h =
+    let f : User → ℕ = λ u. u .party .id in
+    getD-inside (map f us) i 0 (f d) (rw (length-map us f) h) ∙ List·getD-map f us i d
+
+module _ (us : List User) (ts : List Trade) (rising : Rising (idsOf us)) (parties : T (all (partiesAmong (idsOf us)) ts)) where
+  module _ {day most : ℕ} {sums : List ℕ} (i : ℕ) (d : User) (h : i < length us) where
+    -- what the sums have at the place of a user is what it sold for the day, or bought
+    sold-by : Sums day (placesOf (idsOf us) (λ r. r .seller) ts) ts most sums → (area : ℕ) → area < 3
+        → getD sums (3 * i + area) 0 ≡ sold ts (getD us i d .party .id) area day
+    unfolding sold
+    sold-by s area k =
+        s .each i area k
+        ∙ given-dealt (idsOf us) rising (λ r. r .seller) (seller-among (idsOf us)) day ts parties i area (rw (length-ids us) h)
+        ∙ ap (λ (id : ℕ). dealt (λ r. r .seller) (λ party. eqb party id) ts area day) (id-at us i d h)
+
+    bought-by : Sums day (placesOf (idsOf us) (λ r. r .buyer) ts) ts most sums → (area : ℕ) → area < 3
+        → getD sums (3 * i + area) 0 ≡ bought ts (getD us i d .party .id) area day
+    unfolding bought
+    bought-by s area k =
+        s .each i area k
+        ∙ given-dealt (idsOf us) rising (λ r. r .buyer) (buyer-among (idsOf us)) day ts parties i area (rw (length-ids us) h)
+        ∙ ap (λ (id : ℕ). dealt (λ r. r .buyer) (λ party. eqb party id) ts area day) (id-at us i d h)
+
+  -- the sums of all trades for the day
+  pub day-sums : {most : ℕ} {xs ys : List ℕ} → Sums 0 (placesOf (idsOf us) (λ r. r .seller) ts) ts most xs → Sums 0 (placesOf (idsOf us) (λ r. r .buyer) ts) ts most ys → DaySums us ts xs ys
+  day-sums s b =
+      record { sold-at = λ i area d h k. sold-by i d h s area k; bought-at = λ i area d h k. bought-by i d h b area k }
+
+module _ {us : List User} {ts : List Trade} {sellers buyers : List ℕ} (askable : Askable us ts sellers buyers) where
   -- what the trades give can be gathered
   pub gatherable : length us ≤ 64 → Gatherable ts sellers buyers (replicate 192 0) (replicate 192 0)
   gatherable few =
-      let low : length (idsOf us) ≤ 64 = rw length-ids few in
+      let ids = idsOf us in
+      let low : length ids ≤ 64 = rw (length-ids us) few in
       record {
-        areas = all-by (partiesAmong (idsOf us)) (λ t. ltb (t .terms .area) 3) in-area ts (askable .parties);
-        of-sellers = beside (idsOf us) (askable .rising) (λ r. r .seller) seller-among ts (askable .parties) low (askable .seller-room) (askable .placed .of-sellers);
-        of-buyers = beside (idsOf us) (askable .rising) (λ r. r .buyer) buyer-among ts (askable .parties) low (askable .buyer-room) (askable .placed .of-buyers);
+        areas = all-by (partiesAmong ids) (λ t. ltb (t .terms .area) 3) (in-area ids) ts (askable .parties);
+        of-sellers = beside ids (λ r. r .seller) (seller-among ids) ts (askable .parties) low (askable .seller-room) (askable .placed .of-sellers);
+        of-buyers = beside ids (λ r. r .buyer) (buyer-among ids) ts (askable .parties) low (askable .buyer-room) (askable .placed .of-buyers);
         nothing-sold = refl;
         nothing-bought = refl;
       }
 
-  -- the id at a place is that of the user there
-  id-at : (i : ℕ) (d : User) → i < length us → getD (idsOf us) i 0 ≡ getD us i d .party .id
-  unfolding idsOf
-  id-at i d h =
-      let f : User → ℕ = λ u. u .party .id in
-      getD-inside (map f us) i 0 (f d) (rw (length-map us f) h) ∙ List·getD-map f us i d
-
   module _ {day m most : ℕ} {sums : List ℕ} (e : length ts ≡ m) (i : ℕ) (d : User) (h : i < length us) where
-    -- what the sums have at the place of a user is what it sold for the day, or bought
+    -- what was gathered by given places
     pub sold-at : Sums day (take m sellers) ts most sums → (area : ℕ) → area < 3 → getD sums (3 * i + area) 0 ≡ sold ts (getD us i d .party .id) area day
-    unfolding sold
-    sold-at s area k =
-        s .each i area k
-        ∙ ap (λ (ps : List ℕ). givenBy day ps ts i area) (rw e at (askable .placed .of-sellers))
-        ∙ given-dealt (idsOf us) (askable .rising) (λ r. r .seller) seller-among day ts (askable .parties) i area (rw length-ids h)
-        ∙ ap (λ (id : ℕ). dealt (λ r. r .seller) (λ party. eqb party id) ts area day) (id-at i d h)
+    sold-at s =
+        sold-by us ts (askable .rising) (askable .parties) i d h (subst (λ (ps : List ℕ). Sums day ps ts most sums) (rw e at (askable .placed .of-sellers)) s)
 
     pub bought-at : Sums day (take m buyers) ts most sums → (area : ℕ) → area < 3 → getD sums (3 * i + area) 0 ≡ bought ts (getD us i d .party .id) area day
-    unfolding bought
-    bought-at s area k =
-        s .each i area k
-        ∙ ap (λ (ps : List ℕ). givenBy day ps ts i area) (rw e at (askable .placed .of-buyers))
-        ∙ given-dealt (idsOf us) (askable .rising) (λ r. r .buyer) buyer-among day ts (askable .parties) i area (rw length-ids h)
-        ∙ ap (λ (id : ℕ). dealt (λ r. r .buyer) (λ party. eqb party id) ts area day) (id-at i d h)
+    bought-at s =
+        bought-by us ts (askable .rising) (askable .parties) i d h (subst (λ (ps : List ℕ). Sums day ps ts most sums) (rw e at (askable .placed .of-buyers)) s)
 
-  module _ {m most : ℕ} {xs ys : List ℕ} (e : length ts ≡ m) (s : Sums 0 (take m sellers) ts most xs) (b : Sums 0 (take m buyers) ts most ys) (i : ℕ) (d : User) (h : i < length us) where
-    position-is : (area : ℕ) → area < 3 → positionFrom (getD us i d) xs ys i area ≡ positionValid ts (getD us i d) area
-    unfolding positionFrom positionAs positionValid definedPosition
-    position-is area k =
-        let u = getD us i d in
-        ap₂ (λ (x y : ℕ). eqbℤ (at (u .position) area) (at (u .physical) area +ℤ pos x -ℤ pos y)) (bought-at e i d h b area k) (sold-at e i d h s area k)
+-- ---- positions by the sums
 
-    positions-are : positionsFrom (getD us i d) xs ys i ≡ positionsValid ts (getD us i d)
-    unfolding positionsFrom positionsValid
-    positions-are = rw (position-is 0 (omega arith), position-is 1 (omega arith), position-is 2 (omega arith))
+module _ {us : List User} {ts : List Trade} {xs ys : List ℕ} (sums : DaySums us ts xs ys) (i : ℕ) (d : User) (h : i < length us) where
+  position-is : (area : ℕ) → area < 3 → positionFrom (getD us i d) xs ys i area ≡ positionValid ts (getD us i d) area
+  unfolding positionFrom positionAs positionValid definedPosition
+  position-is area k =
+      let u = getD us i d in
+      ap₂ (λ (x y : ℕ). eqbℤ (at (u .position) area) (at (u .physical) area +ℤ pos x -ℤ pos y)) (sums .bought-at i area d h k) (sums .sold-at i area d h k)
 
-    -- the test of the positions, by what was found of the sums
-    pub as-asked : {u : User} {found answer : Bool} → u ≡ getD us i d → found ≡ positionsFrom u xs ys i → found ≡ answer → positionsValid ts (getD us i d) ≡ answer
-    as-asked is f a = sym positions-are ∙ ap (λ (v : User). positionsFrom v xs ys i) (sym is) ∙ sym f ∙ a
+  positions-are : positionsFrom (getD us i d) xs ys i ≡ positionsValid ts (getD us i d)
+  unfolding positionsFrom positionsValid
+  positions-are = rw (position-is 0 (omega arith), position-is 1 (omega arith), position-is 2 (omega arith))
+
+  -- the test of the positions, by what was found of the sums
+  pub as-asked : {u : User} {found answer : Bool} → u ≡ getD us i d → found ≡ positionsFrom u xs ys i → found ≡ answer → positionsValid ts (getD us i d) ≡ answer
+  as-asked is f a = sym positions-are ∙ ap (λ (v : User). positionsFrom v xs ys i) (sym is) ∙ sym f ∙ a

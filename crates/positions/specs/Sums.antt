@@ -1,13 +1,13 @@
 -- Sums of what users sold or bought for a day, kept one after the other: three areas for each user, in the order of the users. Assumes nothing.
 use mathlib.Core.Bool.{Bool, cond, _&&_}
-use mathlib.Core.List.{List, [], _∷_}
+use mathlib.Core.List.{List, [], _∷_, map}
 use mathlib.Core.Path.{_≡_}
 use Prim.Native.Nat.{ℕ, _+_, _*_, _≤_, _<_, _^_}
 use lib.Dec.{T, eqb, ltb}
 use lib.ListN.{length, take, getD, replicate}
-use Rattle.rules.specs.Book.{Trade, User}
+use Rattle.rules.specs.Book.{Terms, Trade, User, sold, bought}
 use Rattle.rules.specs.Lists.{all}
-use Rattle.places.specs.Ids.{idsOf, among, Rising, Placed}
+use Rattle.places.specs.Ids.{idsOf, among, placeIn, Rising, Placed}
 
 -- what a trade gives to the sum of a day at a place in an area, counted for a party at a place
 unfoldable pub given : ℕ → ℕ → Trade → ℕ → ℕ → ℕ
@@ -56,18 +56,20 @@ pub record Gatherable (ts : List Trade) (sellers buyers sold bought : List ℕ) 
   pub nothing-sold : sold ≡ replicate 192 0
   pub nothing-bought : bought ≡ replicate 192 0
 
--- n users and m trades, at most 64 and 256, stand in bytes from two offsets
-pub record InBytes (users-at n trades-at m : ℕ) (s : List ℕ) : Type 0 where
-  pub few : n ≤ 64
-  pub many : m ≤ 256
-  pub users : users-at + 56 * n ≤ length s
-  pub trades : trades-at + 20 * m ≤ length s
-
 -- both parties of a trade are among ids, and its area is one of the three
 unfoldable pub partiesAmong : List ℕ → Trade → Bool
 partiesAmong ids t = (among ids (t .terms .seller) && among ids (t .terms .buyer)) && ltb (t .terms .area) 3
 
--- the positions of users can be asked for: their ids rise, the parties of the trades are among them, and the places of these are given
+-- the place among ids of the party of each trade, the seller's or the buyer's
+abbrev pub placesOf : List ℕ → (Terms → ℕ) → List Trade → List ℕ
+placesOf ids side ts = map (λ t. placeIn ids (side (t .terms))) ts
+
+-- at the place of each user stands what it sold for the day in trades, and what it bought
+pub record DaySums (us : List User) (ts : List Trade) (sums-sold sums-bought : List ℕ) : Type 0 where
+  pub sold-at : (i area : ℕ) (d : User) → i < length us → area < 3 → getD sums-sold (3 * i + area) 0 ≡ sold ts (getD us i d .party .id) area 0
+  pub bought-at : (i area : ℕ) (d : User) → i < length us → area < 3 → getD sums-bought (3 * i + area) 0 ≡ bought ts (getD us i d .party .id) area 0
+
+-- what users sold and bought can be told by the places of trades' parties: their ids rise, the parties are among them, and the places of these are given
 pub record Askable (us : List User) (ts : List Trade) (sellers buyers : List ℕ) : Type 0 where
   pub rising : Rising (idsOf us)
   pub parties : T (all (partiesAmong (idsOf us)) ts)

@@ -1,17 +1,15 @@
-// Question 7: is every position as defined? What each user sold and bought for the day in each area is gathered in one walk over the trades.
+// Question 7: is every position as defined, by what each user sold and bought for the day in each area? Trades are counted one by one for these sums.
 ghost use mathlib.Core.Path.{_≡_};
 ghost use mathlib.Core.Bool.{cond};
 ghost use lib.Dec.{eqb};
 ghost use Prim.Native.Nat.{_+_, _*_, _≤_, _<_};
 ghost use lib.ListN.{length, take, getD};
-ghost use Rattle.rules.specs.Lists.{all};
-ghost use Rattle.rules.specs.Questions.{positionsValid};
 ghost use Rattle.units.specs.Amounts.{net};
 ghost use Rattle.records.specs.User.{asUser};
 ghost use Rattle.records.specs.Trade.{asTrade};
 ghost use Rattle.places.specs.Ids.{usersFrom, tradesFrom};
-ghost use Rattle.positions.specs.Positions.{positionAs, positionsFrom};
-ghost use Rattle.positions.specs.Sums.{Sums, Counted, Countable, Gatherable, Bounded, InBytes, Askable};
+ghost use Rattle.positions.specs.Positions.{positionAs, positionsFrom, PositionsAsked};
+ghost use Rattle.positions.specs.Sums.{Sums, Counted, Countable, Gatherable, Bounded};
 use records::Trade;
 use records::User;
 use units::Net;
@@ -28,7 +26,7 @@ fn amount_for(t: Trade, day: u8) -> u64
 }
 
 // Counts a trade for its party at a place: where it is for a day, what stands is added in its area.
-fn count(place: usize, t: Trade, day: u8, sums: &mut [u64])
+pub fn count(place: usize, t: Trade, day: u8, sums: &mut [u64])
     requires { ⌜ Countable place (asTrade t) (now sums) ⌝ }
     ensures { λ _. ⌜ Counted day place (asTrade t) (now (sums .entry)) (now (sums .exit)) ⌝ }
 {
@@ -97,28 +95,22 @@ fn user_positions_valid<'a>(u: User, sold: &'a [u64], bought: &'a [u64], i: usiz
     pvb & (tvb & avb)
 }
 
-// Are all positions of the n users from byte `users_at` on as defined over the m trades from byte `trades_at` on, whose parties have these places?
+// Are all positions of the n users from byte `at` on as defined, over trades of which these sums have what each user sold and bought for the day?
 pub fn positions_valid<'a>(
     s: &[u8],
-    users_at: usize,
+    at: usize,
     n: usize,
-    trades_at: usize,
-    m: usize,
-    sellers: &'a [u8],
-    buyers: &'a [u8],
+    sold: &'a [u64],
+    bought: &'a [u64],
 ) -> bool
-    requires { ⌜ InBytes «users_at» n «trades_at» m (now s) ⌝ }
-    requires { ⌜ Askable (usersFrom «users_at» n (now s)) (tradesFrom «trades_at» m (now s)) (now sellers) (now buyers) ⌝ }
-    ensures { λ r. ⌜ r ≡ all (positionsValid (tradesFrom «trades_at» m (now (s .entry)))) (usersFrom «users_at» n (now (s .entry))) ⌝ }
+    requires { ⌜ (n ≤ 64) × (at + 56 * n ≤ length (now s)) × Bounded (now sold) × Bounded (now bought) ⌝ }
+    ensures { λ r. ⌜ PositionsAsked (usersFrom at n (now (s .entry))) (now (sold .entry)) (now (bought .entry)) r ⌝ }
 {
-    let mut sold = [0u64; 192];
-    let mut bought = [0u64; 192];
-    gather(s, trades_at, m, 0, sellers, buyers, &mut sold, &mut bought);
     let mut i = 0;
-    let mut a = users_at;
+    let mut a = at;
     while i < n {
         let u = records::read_user(&s[a..a + 56]);
-        if !user_positions_valid(u, &sold, &bought, i) {
+        if !user_positions_valid(u, sold, bought, i) {
             return false;
         }
         a += 56;

@@ -1,2 +1,2 @@
--- Laws of a book that was opened.
-pub mod Opened
+-- Laws of a book that was run.
+pub mod Ran

@@ -1,16 +1,15 @@
 // What the programs print on standard output: numbers, signed energies, and the day of a book.
-use book::Book;
+use answers::RunAnswer;
 use levels::Limits;
 use libc::STDOUT_FILENO;
 use printed::Line;
-use risk::State;
-use run::RunAnswer;
+use printed::State;
 use units::Net;
 ghost use mathlib.Core.Path.{_≡_};
 ghost use Rattle.rules.specs.Levels.{today};
+ghost use Rattle.format.specs.Questions.{bookNumber};
 ghost use Rattle.format.specs.Steps.{stepBytes};
-ghost use Rattle.run.specs.Answers.{runCall};
-ghost use Rattle.print.specs.Told.{ReadyAll};
+ghost use Rattle.run.specs.Call.{runCall};
 
 // A space and a number.
 pub fn number(n: u64) {
@@ -67,15 +66,15 @@ fn line(line: Line) {
     io::write_all(STDOUT_FILENO, b"\n");
 }
 
-// The line of every user of a book, in its order.
-fn lines(b: Book)
-    requires { ⌜ ReadyAll b ⌝ }
+// The line of every user of an accepted book in bytes, in its order.
+fn lines(book: &[u8])
+    requires { ⌜ bookNumber (now book) ≡ 0 ⌝ }
 {
     let limits = Limits::today();
-    let n = b.user_count as usize;
+    let n = fields::get_u8(book, 5) as usize;
     let mut i = 0;
     while i < n {
-        line(printed::line_at(b, i, limits));
+        line(printed::line_at(book, i, limits));
         i += 1;
     }
 }
@@ -102,14 +101,12 @@ fn totals(answer: RunAnswer) {
 pub fn day(book: &mut [u8])
     ensures { λ _. ⌜ now (book .exit) ≡ stepBytes today (now (book .entry)) runCall .bytes ⌝ }
 {
-    let answer = daybook::run(book);
+    let answer = run::run(book);
     let question = answer.number;
     if question != 0 {
         refusal(question);
         return;
     }
     totals(answer);
-    let opening = daybook::read(book);
-    let b = opening.book;
-    lines(b);
+    lines(book);
 }

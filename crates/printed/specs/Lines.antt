@@ -5,7 +5,7 @@ use Rattle.rules.specs.Book.{Book, nobody}
 use Rattle.rules.specs.Levels.{Limits}
 use Rattle.rules.specs.Day as day
 use Rattle.records.specs.User.{asAmounts}
-use Rattle.risk.specs.States.{stateOf}
+use Rattle.printed.specs.States.{stateOf}
 use Rattle.printed.specs.declared.Line.{Line}
 
 -- by its fields

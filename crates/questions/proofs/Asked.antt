@@ -1,11 +1,11 @@
 -- The number that the answers to the questions 4 to 7 give, of users and trades and of bytes. Assumes nothing.
 use mathlib.Core.Bool.{Bool, false, true, _&&_}
 use mathlib.Core.List.{List}
-use mathlib.Core.Path.{_≡_, sym, ap, _∙_}
-use Prim.Native.Nat.{ℕ, _*_, _+_, _≤_}
+use mathlib.Core.Path.{_≡_, sym, ap, subst, _∙_}
+use Prim.Native.Nat.{ℕ, _*_, _+_}
 use native.Mathlib.Omega.{arith}
 use lib.Dec.{T}
-use lib.ListN.{drop, length, take}
+use lib.ListN.{drop, take}
 use Rattle.rules.specs.Areas.{Prices}
 use Rattle.rules.specs.Book.{User, Trade}
 use Rattle.rules.specs.Calendar.{realDay}
@@ -19,8 +19,9 @@ use Rattle.format.specs.Book.{bookOf, pricesAt, tradeCount, tradesAt, tradesOf,
 use Rattle.format.specs.Questions.{Formed, aboutFields, tradeZerosValid, userZerosValid}
 use Rattle.places.specs.Ids.{usersFrom, tradesFrom, idsOf}
 use Rattle.form.specs.Zeros.{zerosIn}
-use Rattle.positions.specs.Sums.{InBytes, Askable}
-use Rattle.questions.specs.Asked.{UsersAsked, TradesAsked, RecordsAsked, FieldsPlaced, tradeAmong, recordsNumber, fieldsNumber}
+use Rattle.positions.specs.Sums.{Bounded, Sums, placesOf, DaySums}
+use Rattle.positions.proofs.Sums.{bounded, day-sums}
+use Rattle.questions.specs.Asked.{UsersAsked, TradesAsked, InBytes, RecordsAsked, FieldsPlaced, tradeAmong, recordsNumber, fieldsNumber}
 use Rattle.questions.proofs.Known.{all-tradeAmong, all-parties, valid-rising}
 
 -- ---- 5 to 7
@@ -39,21 +40,21 @@ module _ {us : List User} {ts : List Trade} {n : ℕ} {valid : Bool} {ids seller
   unfolding recordsNumber refusal numberOf
   records-5 {userZeros} h = record { asked = rw (and-same userZeros (users .answer) h); placed = λ e. absurd (omega arith) }
 
-  module _ {allowed : Bool} (trades : TradesAsked (take n ids) ts allowed sellers buyers) where
+  module _ {allowed : Bool} {sold bought : List ℕ} (trades : TradesAsked (take n ids) ts allowed sellers buyers sold bought) where
     -- the answer to question 6 is that between the users
     trades-answer : T valid → allowed ≡ all (tradeValid us) ts
     trades-answer u = trades .answer ∙ ap (λ (xs : List ℕ). all (tradeAmong xs) ts) (users .listed u) ∙ all-tradeAmong us ts
 
-    -- question 7 can be asked
-    pub records-askable : T valid → T allowed → length ts ≤ length sellers → length ts ≤ length buyers → Askable us ts sellers buyers
-    records-askable u t h k =
-        record {
-          rising = valid-rising us (rw (← users .answer) u);
-          parties = all-parties (idsOf us) ts (rw (← users .listed u, ← trades .answer) t);
-          placed = trades .placed t us (sym (users .listed u));
-          seller-room = h;
-          buyer-room = k;
-        }
+    -- the sums are what the users sold and bought for the day: question 7 can be asked
+    pub records-sums : T valid → T allowed → DaySums us ts sold bought
+    records-sums u t =
+        day-sums us ts (valid-rising us (rw (← users .answer) u)) (all-parties (idsOf us) ts (rw (← users .listed u, ← trades .answer) t))
+        (subst (λ (xs : List ℕ). Sums 0 (placesOf xs (λ r. r .seller) ts) ts (256 * 4294967295) sold) (users .listed u) (trades .of-sold t))
+        (subst (λ (xs : List ℕ). Sums 0 (placesOf xs (λ r. r .buyer) ts) ts (256 * 4294967295) bought) (users .listed u) (trades .of-bought t))
+
+    -- and they are within what its code can add
+    pub records-bounded : T allowed → Bounded sold × Bounded bought
+    records-bounded t = (bounded (trades .of-sold t), bounded (trades .of-bought t))
 
     module _ {userZeros tradeZeros : Bool} (u : (userZeros && valid) ≡ true) where
       -- question 6 is answered by no

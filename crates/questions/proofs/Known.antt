@@ -41,7 +41,7 @@ pub all-tradeAmong : (us : List User) (ts : List Trade) → all (tradeAmong (ids
 all-tradeAmong us ts = all-same (tradeAmong (idsOf us)) (tradeValid us) (tradeAmong-valid us) ts
 
 -- a valid trade can be counted for its parties
-tradeAmong-parties : (ids : List ℕ) (t : Trade) → T (tradeAmong ids t) → T (partiesAmong ids t)
+pub tradeAmong-parties : (ids : List ℕ) (t : Trade) → T (tradeAmong ids t) → T (partiesAmong ids t)
 unfolding tradeAmong tradeValidGiven partiesAmong codesValid
 tradeAmong-parties ids t h =
     let both = among ids (t .terms .seller) && among ids (t .terms .buyer) in

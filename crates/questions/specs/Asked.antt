@@ -2,9 +2,9 @@
 use mathlib.Core.Path.{_≡_}
 use mathlib.Core.Bool.{Bool, _&&_}
 use mathlib.Core.List.{List, [], _∷_}
-use Prim.Native.Nat.{ℕ}
+use Prim.Native.Nat.{ℕ, _+_, _*_, _≤_}
 use lib.Dec.{T}
-use lib.ListN.{take}
+use lib.ListN.{length, take}
 use Rattle.rules.specs.Book.{User, Trade}
 use Rattle.rules.specs.Lists.{all}
 use Rattle.rules.specs.Questions.{refusal, numberOf, usersValid, tradeValid, positionsValid}
@@ -12,8 +12,7 @@ use Rattle.validity.specs.Given.{tradeValidGiven}
 use Rattle.format.specs.Book.{usersOf, tradesOf}
 use Rattle.format.specs.Questions.{aboutFields, bookNumber}
 use Rattle.places.specs.Ids.{idsOf, among, Padded, Placed}
-use Rattle.book.specs.declared.Book.{Book}
-use Rattle.book.specs.Book.{BookRead, blankBook}
+use Rattle.positions.specs.Sums.{Sums, placesOf}
 
 -- ---- one question
 
@@ -27,12 +26,22 @@ pub record UsersAsked (us : List User) (n : ℕ) (valid : Bool) (ids : List ℕ)
 unfoldable pub tradeAmong : List ℕ → Trade → Bool
 tradeAmong ids t = tradeValidGiven (among ids (t .terms .seller)) (among ids (t .terms .buyer)) t
 
--- trades that were asked question 6 between users of these ids: the answer, and where it is yes, the places of their parties
-pub record TradesAsked (ids : List ℕ) (ts : List Trade) (valid : Bool) (sellers buyers : List ℕ) : Type 0 where
+-- trades that were asked question 6 between users of these ids: the answer, and where it is yes, the places of their parties and the sums of what is sold and
+-- bought for the day at each place
+pub record TradesAsked (ids : List ℕ) (ts : List Trade) (valid : Bool) (sellers buyers sold bought : List ℕ) : Type 0 where
   pub answer : valid ≡ all (tradeAmong ids) ts
   pub placed : T valid → (us : List User) → idsOf us ≡ ids → Placed us ts sellers buyers
+  pub of-sold : T valid → Sums 0 (placesOf ids (λ r. r .seller) ts) ts (256 * 4294967295) sold
+  pub of-bought : T valid → Sums 0 (placesOf ids (λ r. r .buyer) ts) ts (256 * 4294967295) bought
 
 -- ---- 5 to 7
+
+-- n users and m trades, at most 64 and 256, stand in bytes from two offsets
+pub record InBytes (users-at n trades-at m : ℕ) (s : List ℕ) : Type 0 where
+  pub few : n ≤ 64
+  pub many : m ≤ 256
+  pub users : users-at + 56 * n ≤ length s
+  pub trades : trades-at + 20 * m ≤ length s
 
 -- the number of the first of the questions 5 to 7 that users and trades fail, 0 where they fail none, given whether their zero bytes are 0
 unfoldable pub recordsNumber : Bool → Bool → List User → List Trade → ℕ
@@ -59,21 +68,9 @@ pub record FieldsPlaced (s : List ℕ) (number : ℕ) (sellers buyers : List ℕ
   pub asked : number ≡ fieldsNumber s
   pub placed : number ≡ 0 → Placed (usersOf s) (tradesOf s) sellers buyers
 
--- the number, and the book, or a blank one where a question refuses
-pub record FieldsAsked (s : List ℕ) (number : ℕ) (b : Book) : Type 0 where
-  pub asked : number ≡ fieldsNumber s
-  pub book : number ≡ 0 → BookRead s b
-  pub blank : (number ≡ 0 → ⊥) → b ≡ blankBook
-
 -- ---- 1 to 7
 
 -- bytes that were asked the questions 1 to 7: the number, and the places of the trades' parties where no question refuses
 pub record AskedOf (s : List ℕ) (r : ℕ) (sellers buyers : List ℕ) : Type 0 where
   pub number : r ≡ bookNumber s
   pub placed : r ≡ 0 → Placed (usersOf s) (tradesOf s) sellers buyers
-
--- the number, and the book, or a blank one where a question refuses
-pub record Opened (s : List ℕ) (number : ℕ) (b : Book) : Type 0 where
-  pub asked : number ≡ bookNumber s
-  pub book : number ≡ 0 → BookRead s b
-  pub blank : (number ≡ 0 → ⊥) → b ≡ blankBook

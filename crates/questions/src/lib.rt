@@ -1,12 +1,10 @@
-// The questions 1 to 7, asked of any bytes: the number of the first that is answered by no, or the book that the bytes hold.
+// The questions 1 to 7, asked of any bytes: the number of the first that is answered by no, and the places of the trades' parties where there is none.
 ghost use mathlib.Core.Path.{_≡_};
 ghost use Prim.Native.Nat.{_+_, _*_, _≤_};
 ghost use lib.ListN.{length, take, replicate};
 ghost use Rattle.format.specs.Questions.{Formed, bookNumber};
 ghost use Rattle.places.specs.Ids.{usersFrom, tradesFrom, Padded};
-ghost use Rattle.positions.specs.Sums.{InBytes};
-ghost use Rattle.questions.specs.Asked.{UsersAsked, TradesAsked, RecordsAsked, FieldsPlaced, FieldsAsked, AskedOf, Opened};
-use book::Book;
+ghost use Rattle.questions.specs.Asked.{UsersAsked, TradesAsked, InBytes, RecordsAsked, FieldsPlaced, AskedOf};
 
 // ---- 5
 
@@ -36,7 +34,8 @@ fn users_valid(s: &[u8], at: usize, n: usize, ids: &mut [u32]) -> bool
 
 // ---- 6
 
-// Are the m trades from `at` on valid, between users of the first n ids? The places of their parties are listed where it is so.
+// Are the m trades from `at` on valid, between users of the first n ids? Where it is so, the places of their parties are listed, and what stands for the day is
+// summed at each: one walk serves the questions 6 and 7.
 fn trades_valid(
     ids: &[u32],
     n: usize,
@@ -45,10 +44,12 @@ fn trades_valid(
     m: usize,
     sellers: &mut [u8],
     buyers: &mut [u8],
+    sold: &mut [u64],
+    bought: &mut [u64],
 ) -> bool
     requires { ⌜ Padded (now ids) n ⌝ }
-    requires { ⌜ (m ≤ 256) × (at + 20 * m ≤ length (now s)) × (length (now sellers) ≡ 256) × (length (now buyers) ≡ 256) ⌝ }
-    ensures { λ r. ⌜ TradesAsked (take n (now (ids .entry))) (tradesFrom at m (now (s .entry))) r (now (sellers .exit)) (now (buyers .exit)) ⌝ }
+    requires { ⌜ (m ≤ 256) × (at + 20 * m ≤ length (now s)) × (length (now sellers) ≡ 256) × (length (now buyers) ≡ 256) × (now sold ≡ replicate 192 0) × (now bought ≡ replicate 192 0) ⌝ }
+    ensures { λ r. ⌜ TradesAsked (take n (now (ids .entry))) (tradesFrom at m (now (s .entry))) r (now (sellers .exit)) (now (buyers .exit)) (now (sold .exit)) (now (bought .exit)) ⌝ }
 {
     let mut i = 0;
     let mut a = at;
@@ -61,6 +62,8 @@ fn trades_valid(
         }
         sellers[i] = seller as u8;
         buyers[i] = buyer as u8;
+        positions::count(seller, t, 0, sold);
+        positions::count(buyer, t, 0, bought);
         a += 20;
         i += 1;
     }
@@ -90,10 +93,23 @@ pub fn records_number(
     if !(user_zeros & users_valid(s, users_at, n, &mut ids)) {
         return 5;
     }
-    if !(trade_zeros & trades_valid(&ids, n, s, trades_at, m, sellers, buyers)) {
+    let mut sold = [0u64; 192];
+    let mut bought = [0u64; 192];
+    if !(trade_zeros
+        & trades_valid(
+            &ids,
+            n,
+            s,
+            trades_at,
+            m,
+            sellers,
+            buyers,
+            &mut sold,
+            &mut bought,
+        )) {
         return 6;
     }
-    if !positions::positions_valid(s, users_at, n, trades_at, m, sellers, buyers) {
+    if !positions::positions_valid(s, users_at, n, &sold, &bought) {
         return 7;
     }
     0
@@ -102,7 +118,7 @@ pub fn records_number(
 // ---- all of them
 
 // The number of the first of the questions 4 to 7 that is answered by no, 0 where there is none, and the places of the trades' parties.
-fn fields_number(s: &[u8], sellers: &mut [u8], buyers: &mut [u8]) -> u32
+pub fn fields_number(s: &[u8], sellers: &mut [u8], buyers: &mut [u8]) -> u32
     requires { ⌜ Formed (now s) × (length (now sellers) ≡ 256) × (length (now buyers) ≡ 256) ⌝ }
     ensures { λ r. ⌜ FieldsPlaced (now (s .entry)) r (now (sellers .exit)) (now (buyers .exit)) ⌝ }
 {
@@ -147,44 +163,4 @@ pub fn number(s: &[u8]) -> u32
     let mut sellers = [0u8; 256];
     let mut buyers = [0u8; 256];
     ask(s, &mut sellers, &mut buyers)
-}
-
-// Bytes that were asked the questions 1 to 7: the number, and the book, whose every field is 0 where a question refuses.
-pub struct Opening {
-    pub number: u32,
-    pub book: Book,
-}
-
-// Asks the questions 4 to 7 of bytes of the right form, and reads the book where they pass.
-pub fn ask_fields(s: &[u8]) -> Opening
-    requires { ⌜ Formed (now s) ⌝ }
-    ensures { λ r. ⌜ FieldsAsked (now (s .entry)) (r .number) (r .book) ⌝ }
-{
-    let mut sellers = [0u8; 256];
-    let mut buyers = [0u8; 256];
-    let k = fields_number(s, &mut sellers, &mut buyers);
-    if k != 0 {
-        let blank = book::no_book();
-        return Opening {
-            number: k,
-            book: blank,
-        };
-    }
-    let b = book::read_book(s);
-    Opening { number: 0, book: b }
-}
-
-// Asks the questions 1 to 7 of any bytes, and reads the book where they pass.
-pub fn open(s: &[u8]) -> Opening
-    ensures { λ r. ⌜ Opened (now (s .entry)) (r .number) (r .book) ⌝ }
-{
-    let k = form::form_number(s);
-    if k != 0 {
-        let blank = book::no_book();
-        return Opening {
-            number: k,
-            book: blank,
-        };
-    }
-    ask_fields(s)
 }

@@ -1,18 +1,17 @@
--- Laws of a user's 56 bytes: how many, bytes, read and written, written and read; the blank user. Assumes nothing.
+-- Laws of a user's 56 bytes: how many, bytes, read and written, written and read. Assumes nothing.
 use Prim.Native.Nat.{ℕ}
 use mathlib.Core.Path.{_≡_, refl, ap, _∙_}
 use mathlib.Core.List.{List}
 use native.Mathlib.Omega.{arith}
 use lib.ListN.{length, getD}
 use Rattle.rules.specs.Signed.{signedOf}
-use Rattle.rules.specs.Book.{User, nobody}
+use Rattle.rules.specs.Book.{User}
 use Rattle.fields.specs.Field.{fromBytes, toBytes, field, AllBytes}
 use Rattle.fields.specs.Layout.{fieldsAt, pack, size, FitAll}
 use Rattle.fields.proofs.Field.{field-lt}
 use Rattle.fields.proofs.Pack.{length-pack, all-bytes-pack, pack-fields, fields-pack}
-use Rattle.units.specs.Amounts.{net, balance}
 use Rattle.units.proofs.TwosComplement.{bitsOf-signedOf}
-use Rattle.records.specs.User.{amountsAt, amountWidths, amountValues, userOf, userZeros, userWidths, userValues, userBytes, asAmounts, asUser, blankUser, FitsUser}
+use Rattle.records.specs.User.{amountsAt, amountWidths, amountValues, userOf, userZeros, userWidths, userValues, userBytes, FitsUser}
 use Rattle.records.proofs.Amounts.{amountValues-amountsAt, signed-bits, bits-lt}
 
 -- ---- the bytes
@@ -78,9 +77,3 @@ pub user-of-bytes : (u : User) → FitsUser u → userOf (userBytes u) ≡ u
 unfolding userBytes
 user-of-bytes u f =
     userOf-fields (userBytes u) ∙ ap userFrom (fields-pack userWidths (userValues u) (fit-userValues u f)) ∙ userFrom-values u f
-
--- ---- the blank user
-
-pub asUser-blank : asUser blankUser ≡ nobody
-unfolding asUser asAmounts net balance blankUser nobody
-asUser-blank = refl

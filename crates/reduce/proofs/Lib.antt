@@ -1,3 +1,2 @@
--- The ways out of a reduction, and the lists of own sales that it takes.
+-- The ways out of a reduction.
 pub mod Ways
-pub mod Lists

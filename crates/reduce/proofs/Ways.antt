@@ -10,17 +10,18 @@ use Rattle.rules.specs.Book.{Book, User, find}
 use Rattle.rules.specs.Levels.{Limits, shipper, afternoonLevel, calledIn, exceedsMargin}
 use Rattle.rules.specs.Lists.{all}
 use Rattle.rules.specs.Questions.{refusal, decided, numberOf}
-use Rattle.rules.specs.Reduction.{hasEligible, target}
-use Rattle.rules.specs.Calls.{about, assignedFallsShort, calledInBeyondMargin, effect, eligibleTrade, idKnown, isShipper, only, reduced, reducedBy, reduction, Answer}
+use Rattle.rules.specs.Reduction.{target}
+use Rattle.rules.specs.Calls.{about, assignedFallsShort, calledInBeyondMargin, effect, eligibleTrade, idKnown, isShipper, only, reduced, reduction, Answer}
 use Rattle.laws.proofs.Refusals.{number-none, number-some, numbered, refusal-first, refusal-next}
 use Rattle.format.proofs.OneUser.{find-place}
 use Rattle.format.specs.Book.{bookOf, usersOf}
 use Rattle.format.specs.Questions.{aboutBytes}
-use Rattle.format.specs.Steps.{inBytes, stepBytes, Called, InBytes}
+use Rattle.format.specs.Steps.{stepBytes, Called, InBytes}
 use Rattle.entry.specs.Entered.{Found}
 use Rattle.entry.proofs.Calls.{call-found, call-refused}
 use Rattle.reducing.specs.Reducing.{sellerAt}
-use Rattle.reduce.specs.Answers.{levelQuestions, onSales, onUser, reductionOf, Gives}
+use Rattle.reduction.specs.Reduced.{onSales, Gives}
+use Rattle.reduce.specs.Call.{levelQuestions, onUser, reductionOf}
 
 -- ---- the questions 9, 11 and 13
 
@@ -58,22 +59,7 @@ module _ (limits : Limits) (b : Book) (u : User) where
   unfolding numbered levelQuestions isShipper calledInBeyondMargin assignedFallsShort all
   level-numbered = tt
 
--- ---- question 14 and the reduction
-
-module _ (s : List ℕ) (u : User) (asked : ℕ) where
-  pub sales-none : hasEligible (bookOf s) u ≡ false → onSales s u asked ≡ record { answer = only 14; bytes = s }
-  unfolding onSales eligibleTrade refusal decided
-  sales-none e = rw e
-
-  pub sales-some : hasEligible (bookOf s) u ≡ true → onSales s u asked ≡ inBytes (reducedBy (bookOf s) u asked)
-  unfolding onSales eligibleTrade refusal decided
-  sales-some e = rw e
-
 -- ---- the user at a place
-
--- a number alone, and the bytes as they are
-pub gives-refused : {x : InBytes} {a : Answer} {s : List ℕ} (n : ℕ) → x ≡ record { answer = only n; bytes = s } → a ≡ only n → Gives x a s
-gives-refused n e h = record { answer = h ∙ sym (ap (λ (y : InBytes). y .answer) e); bytes = sym (ap (λ (y : InBytes). y .bytes) e) }
 
 module _ (limits : Limits) (s : List ℕ) {u v : User} (same : v ≡ u) {l : Limits} (e : l ≡ limits) where
   -- refused by 9, 11 or 13

@@ -1,2 +1,2 @@
--- The answers of a reduction, and the questions that are its own.
-pub mod Answers
+-- The call that a reduction is, and the questions that are its own.
+pub mod Call

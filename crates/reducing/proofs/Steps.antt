@@ -12,7 +12,8 @@ use Rattle.format.specs.Book.{bookOf, tradeCount, tradesAt, tradesOf, userAt, u
 use Rattle.format.specs.Steps.{placeOf}
 use Rattle.held.proofs.Held.{held-tradeCount, held-trades, held-user, held-userCount, held-users}
 use Rattle.held.specs.Held.{HeldAs, noTrade, tradesReplaced}
-use Rattle.ledger.specs.Ledger.{SalesCut, Sales, cutsOf, shortBy}
+use Rattle.ledger.specs.Ledger.{SalesCut}
+use Rattle.lots.specs.Lots.{Sales, cutsOf, shortBy}
 use Rattle.records.specs.User.{userOf}
 use Rattle.reducing.proofs.Own.{own-area-inside, own-buyer-inside, own-most, prices-in}
 use Rattle.reducing.proofs.Settled.{settled-own}

@@ -2,10 +2,10 @@
 // stands of every trade of the book afterwards; and a line of id and positions for each user. data/index says what each call shows.
 // In the file a call is an id (4 bytes), the length of its book (2), and the book; where the length is 0, the call is made on the book that the call before it left.
 ghost use Prim.Native.Nat.{_≤_, max};
+use answers::ReductionAnswer;
 use book::Book;
 use libc::STDOUT_FILENO;
 use records::User;
-use reduce::ReductionAnswer;
 
 fn print_answer(answer: ReductionAnswer) {
     let mwh = answer.mwh;
@@ -50,9 +50,11 @@ fn print_users(b: Book)
     requires { ⌜ b .«user_count» ≤ 64 ⌝ }
 {
     let n = b.user_count as usize;
+    let users = b.users;
     let mut i = 0;
     while i < n {
-        print_user(risk::user_at(b, i));
+        let user = users[i];
+        print_user(user);
         i += 1;
     }
 }

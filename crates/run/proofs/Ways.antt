@@ -10,13 +10,14 @@ use Rattle.format.specs.Questions.{bookNumber}
 use Rattle.format.specs.Steps.{Called, InBytes, inBytes, stepBytes}
 use Rattle.held.proofs.Held.{held-accepted}
 use Rattle.questions.specs.Asked.{AskedOf}
+use Rattle.rounds.specs.Reductions.{RanIn, wholeRun}
 use Rattle.rules.specs.Calls.{Answer, about, effect, only}
 use Rattle.rules.specs.Levels.{Limits}
 use Rattle.rules.specs.Questions.{decided, refusal}
-use Rattle.run.specs.Answers.{runCall}
-use Rattle.running.specs.Reductions.{RanIn, totals, wholeRun}
-use Rattle.running.specs.declared.Totals.{Totals}
+use Rattle.run.specs.Call.{runCall}
 use Rattle.starting.specs.Starting.{BookIn}
+use Rattle.totals.specs.Totals.{totals}
+use Rattle.totals.specs.declared.Totals.{Totals}
 
 module _ (limits : Limits) (s : List ℕ) where
   -- refused

@@ -1,2 +1,2 @@
--- The call that a run is, and its answer.
-pub mod Answers
+-- The call that a run is.
+pub mod Call

@@ -1,34 +1,13 @@
 // The run of a lent book in bytes: while some user that is short of cover has an eligible trade, the one of the lowest id is reduced.
+use answers::RunAnswer;
 use levels::Limits;
-use running::Totals;
-use units::Cents;
-use units::Mwh;
+use totals::Totals;
 ghost use mathlib.Core.Path.{_≡_};
-ghost use Rattle.rules.specs.Calls.{only};
 ghost use Rattle.rules.specs.Levels.{today};
 ghost use Rattle.format.specs.Steps.{Called};
-ghost use Rattle.running.specs.Reductions.{totals};
-ghost use Rattle.run.specs.Answers.{runCall, answerOf};
-
-// The number of reductions, the MWh cut and their worth, and 0; or the number of the first question that is answered by no, with every other field 0.
-pub struct RunAnswer {
-    pub number: u32,
-    pub reductions: u64,
-    pub mwh: Mwh,
-    pub worth: Cents,
-}
-
-// The answer of a refused run: the number alone.
-fn refused(number: u32) -> RunAnswer
-    ensures { λ r. ⌜ answerOf r ≡ only number ⌝ }
-{
-    RunAnswer {
-        number: number,
-        reductions: 0,
-        mwh: Mwh(0),
-        worth: Cents(0),
-    }
-}
+ghost use Rattle.totals.specs.Totals.{totals};
+ghost use Rattle.answers.specs.Run.{answerOf};
+ghost use Rattle.run.specs.Call.{runCall};
 
 // The answer of an accepted run: its totals.
 fn accepted(t: Totals) -> RunAnswer
@@ -52,7 +31,7 @@ pub fn run(book: &mut [u8]) -> RunAnswer
     let mut buyers = [0u8; 256];
     let number = questions::ask(book, &mut sellers, &mut buyers);
     if number != 0 {
-        return refused(number);
+        return RunAnswer::refused(number);
     }
     let limits = Limits::today();
     let totals = running::run_in(book, &sellers, &buyers, limits);

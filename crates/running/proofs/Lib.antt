@@ -1,3 +1,2 @@
--- The lists that a run starts from, and what is left of it.
+-- The lists that a run starts from.
 pub mod Lists
-pub mod Left

@@ -7,10 +7,11 @@ use native.Mathlib.Omega.{arith}
 use lib.ListN.{length, take}
 use Rattle.fields.specs.Field.{field}
 use Rattle.format.specs.Book.{bookOf, pricesAt, tradeCount, tradesAt, tradesOf, userAt, userCount, usersOf}
+use Rattle.grouping.specs.Grouping.{AllSales}
 use Rattle.held.proofs.Held.{held-userCount}
 use Rattle.levels.specs.Limits.{LimitsInRange}
 use Rattle.listed.specs.Listed.{Listed, NextDealt}
-use Rattle.listing.specs.Listing.{AllSales, Trading, tradesIn, usersIn}
+use Rattle.columns.specs.Columns.{Trading, tradesIn, usersIn}
 use Rattle.places.specs.Ids.{Placed}
 use Rattle.reducing.proofs.Own.{prices-in}
 use Rattle.rules.specs.Areas.{Prices}

@@ -1,101 +1,16 @@
 // The run of a book in its bytes: while some user that is short of cover has an own sale to cut, the one of the lowest id is reduced.
 use levels::Limits;
-use units::Cents;
-use units::Mwh;
+use totals::Totals;
 use units::Prices;
-use worths::Tally;
 ghost use mathlib.Core.Path.{_≡_};
-ghost use Prim.Native.Nat.{_+_, _≤_};
 ghost use lib.ListN.{length};
 ghost use Rattle.format.specs.Book.{bookOf, tradeCount, userCount};
 ghost use Rattle.levels.specs.Limits.{asLimits, LimitsInRange};
-ghost use Rattle.listed.specs.Listed.{Listed, NextDealt};
-ghost use Rattle.listing.specs.Listing.{ListsRoom};
-ghost use Rattle.rules.specs.Calls.{ofRun};
+ghost use Rattle.listed.specs.Listed.{NextDealt};
+ghost use Rattle.grouping.specs.Grouping.{ListsRoom};
+ghost use Rattle.rounds.specs.Reductions.{RanIn};
 ghost use Rattle.starting.specs.Starting.{BookIn, ShortFlags};
 ghost use Rattle.units.specs.Prices.{asPrices};
-ghost use Rattle.running.specs.Reductions.{totals, Within, RanIn};
-
-// ---- the totals
-
-// The totals of a run: the number of its reductions, the MWh cut and their worth.
-pub struct Totals {
-    pub reductions: u64,
-    pub mwh: Mwh,
-    pub worth: Cents,
-}
-
-impl Totals {
-    // The totals of no reduction.
-    pub fn none() -> Totals
-        ensures { λ r. ⌜ totals r ≡ ofRun 0 0 0 ⌝ }
-    {
-        Totals {
-            reductions: 0,
-            mwh: Mwh(0),
-            worth: Cents(0),
-        }
-    }
-
-    // The totals with one more reduction, by its tally.
-    pub fn with(mut self, tally: Tally) -> Totals
-        requires { ⌜ Within self ⌝ }
-        requires { ⌜ (tally .mwh .0 ≤ 25600000) × (tally .worth .0 ≤ 2560000000000) ⌝ }
-        ensures { λ r. ⌜ totals r ≡ ofRun (self .reductions + 1) (self .mwh .0 + tally .mwh .0) (self .worth .0 + tally .worth .0) ⌝ }
-    {
-        let mwh = Mwh(self.mwh.0 + tally.mwh.0);
-        let worth = Cents(self.worth.0 + tally.worth.0);
-        self.reductions = self.reductions + 1;
-        self.mwh = mwh;
-        self.worth = worth;
-        self
-    }
-}
-
-// ---- the run
-
-// Runs a book by the lists of its own sales: reduces the next user until there is none.
-fn run_lists(
-    book: &mut [u8],
-    at: usize,
-    sold: &[u64],
-    bought: &[u64],
-    starts: &[u64],
-    origins: &[u8],
-    standing: &mut [u64],
-    areas: &[u8],
-    buyers: &[u8],
-    short: &mut [bool],
-    limits: Limits,
-    prices: Prices,
-) -> Totals
-    requires { ⌜ LimitsInRange (asLimits limits) × Listed (asLimits limits) (asPrices prices) (now book) at (now sold) (now bought) (now starts) (now origins) (now standing) (now areas) (now buyers) (now short) ⌝ }
-    ensures { λ r. ⌜ RanIn (asLimits limits) (bookOf (now (book .entry))) (now (book .exit)) r ⌝ }
-{
-    let n = short.len();
-    let mut totals = Totals::none();
-    let mut place = cover::next_due(short, starts, standing);
-    while place < n {
-        let tally = turn::reduce_at(
-            book,
-            at,
-            sold,
-            bought,
-            place,
-            starts,
-            origins,
-            standing,
-            areas,
-            buyers,
-            short,
-            limits,
-            prices,
-        );
-        totals = totals.with(tally);
-        place = cover::next_due(short, starts, standing);
-    }
-    totals
-}
 
 // Runs an accepted book of n users and m trades: fills in the lists of its own sales, and runs by them. The lists are room; what they hold at the end is of no use.
 fn run_started(
@@ -120,7 +35,7 @@ fn run_started(
     requires { ⌜ ListsRoom n m (now origins) (now starts) (now standing) (now areas) (now buyers) ⌝ }
     ensures { λ r. ⌜ RanIn (asLimits limits) (bookOf (now (book .entry))) (now (book .exit)) r ⌝ }
 {
-    let count = listing::fill_lists(
+    let count = grouping::fill_lists(
         book,
         n,
         m,
@@ -132,7 +47,7 @@ fn run_started(
         areas,
         buyers,
     );
-    run_lists(
+    rounds::run_lists(
         book,
         32 + 56 * n,
         sold,

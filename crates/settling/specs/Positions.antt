@@ -2,7 +2,7 @@
 use mathlib.Core.List.{List, [], _∷_}
 use mathlib.Core.Path.{_≡_}
 use Prim.Native.Nat.{ℕ, _≤_, _<_}
-use lib.IntN.{ℤ}
+use lib.IntN.{ℤ, pos}
 use lib.ListN.{length, getD, set}
 use Rattle.format.specs.Book.{bookOf, userCount}
 use Rattle.held.specs.Held.{HeldAs}
@@ -26,6 +26,10 @@ settledAll seller (b ∷ buyers) [] cuts us = us
 settledAll seller (b ∷ buyers) (a ∷ areas) [] us = us
 settledAll seller (b ∷ buyers) (a ∷ areas) (c ∷ cuts) us = settledAll seller buyers areas cuts (settledAt seller b a c us)
 
+-- the users with the one at a place raised in each area
+unfoldable pub raisedIn : ℕ → List ℕ → List User → List User
+raisedIn place raised us = movedAt place 2 (pos (getD raised 2 0)) (movedAt place 1 (pos (getD raised 1 0)) (movedAt place 0 (pos (getD raised 0 0)) us))
+
 -- bytes hold a book with a user at a place, and the area is one
 pub record PositionIn (s : List ℕ) (place area : ℕ) : Type 0 where
   pub held : HeldAs (bookOf s) s
@@ -46,3 +50,9 @@ pub record Settling (count : ℕ) (us : List User) (seller : ℕ) (areas buyers 
   pub area-inside : (i : ℕ) → i < length cuts → getD areas i 0 < 3
   pub most : (i : ℕ) → getD cuts i 0 ≤ 100000
   pub bounded : BoundedBy 26600000 count us
+
+-- what the positions of one of the first users rise by: at most 256 times 100,000 MWh in an area, where all positions are in range
+pub record Raising (count : ℕ) (us : List User) (place : ℕ) (raised : List ℕ) : Type 0 where
+  pub user-inside : place < count
+  pub most : (a : ℕ) → getD raised a 0 ≤ 25600000
+  pub bounded : BoundedBy 52200000 count us

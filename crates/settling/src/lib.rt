@@ -1,5 +1,5 @@
-// A reduction settled in the bytes of a book, in place: each cut of a seller's sale raises the seller's position in its area and lowers the buyer's, and what stands
-// of the trades is written. Of a record only the four bytes that change are read and written.
+// A reduction settled in the bytes of a book, in place: each cut of a seller's sale lowers the buyer's position in its area, the seller's rises once in each area by the
+// cuts there, and what stands of the trades is written. Of a record only the four bytes that change are read and written.
 ghost use mathlib.Core.Path.{_≡_};
 ghost use Prim.Native.Nat.{_+_, _*_, _≤_, _<_, _^_};
 ghost use lib.IntN.{ℤ, pos, negℤ, _+ℤ_};
@@ -10,7 +10,7 @@ ghost use Rattle.integers.specs.Parts.{posPart, negPart};
 ghost use Rattle.rules.specs.Changes.{withUsers};
 ghost use Rattle.sales.specs.Groups.{standingAt, written};
 ghost use Rattle.units.specs.Amounts.{net};
-ghost use Rattle.settling.specs.Positions.{PositionIn, Settling, movedAt, positionOf, settledAll};
+ghost use Rattle.settling.specs.Positions.{PositionIn, Raising, Settling, movedAt, positionOf, raisedIn, settledAll};
 ghost use Rattle.settling.specs.Standing.{Writing};
 use units::Mwh;
 use units::Net;
@@ -59,21 +59,35 @@ fn lower(book: &mut [u8], place: usize, area: usize, energy: u64)
     put_position(book, place, area, from.lowered(Mwh(energy)));
 }
 
-// Settles the cuts of a seller's sales, each with its area and the place of its buyer, in the users' positions.
+// Raises the positions of the user at a place by an energy in each area.
+fn raise_all(book: &mut [u8], place: usize, raised: &[u64; 3])
+    requires { ⌜ HeldAs (bookOf (now book)) (now book) ⌝ }
+    requires { ⌜ Raising (userCount (now book)) (usersOf (now book)) place (now raised) ⌝ }
+    ensures { λ _. ⌜ HeldAs (withUsers (bookOf (now (book .entry))) (raisedIn place (now (raised .entry)) (usersOf (now (book .entry))))) (now (book .exit)) ⌝ }
+{
+    raise(book, place, 0, raised[0]);
+    raise(book, place, 1, raised[1]);
+    raise(book, place, 2, raised[2]);
+}
+
+// Settles the cuts of a seller's sales, each with its area and the place of its buyer, in the users' positions. The seller's rise only after the last sale, by the cuts
+// added up in each area: to read a position right after it was written makes the processor wait.
 pub fn settle_sales(book: &mut [u8], seller: usize, areas: &[u8], buyers: &[u8], cuts: &[u64])
     requires { ⌜ HeldAs (bookOf (now book)) (now book) ⌝ }
     requires { ⌜ Settling (userCount (now book)) (usersOf (now book)) seller (now areas) (now buyers) (now cuts) ⌝ }
     ensures { λ _. ⌜ HeldAs (withUsers (bookOf (now (book .entry))) (settledAll seller (now (buyers .entry)) (now (areas .entry)) (now (cuts .entry)) (usersOf (now (book .entry))))) (now (book .exit)) ⌝ }
 {
+    let mut raised = [0u64; 3];
     let mut i = 0;
     while i < cuts.len() {
         let area = areas[i] as usize;
         let buyer = buyers[i] as usize;
         let cut = cuts[i];
-        raise(book, seller, area, cut);
+        raised[area] = raised[area] + cut;
         lower(book, buyer, area, cut);
         i += 1;
     }
+    raise_all(book, seller, &raised);
 }
 
 // Sets what stands of the trade at a place, of those that begin at `at`.

@@ -12,8 +12,8 @@ use lib.Seq.{take-all, getD-set-same, getD-set-other}
 use borrow.Author.Tests.{eqb-true, eqb-false}
 use Rattle.dealings.specs.Parties.{isCut, cutBefore}
 use Rattle.laws.proofs.Positions.{seller-known, buyer-known}
-use Rattle.listing.proofs.Sellers.{users-count, trades-count, trade-at, party-inside, party-is}
-use Rattle.listing.specs.Listing.{usersIn, tradesIn, tradeIn, noTrade, idAt, Trading}
+use Rattle.columns.proofs.Trades.{users-count, trades-count, trade-at, party-inside, party-is}
+use Rattle.columns.specs.Columns.{usersIn, tradesIn, tradeIn, noTrade, idAt, Trading}
 use Rattle.places.specs.Ids.{Placed}
 use Rattle.rules.specs.Book.{Trade}
 use Rattle.rules.specs.Lists.{any}

@@ -9,8 +9,8 @@ use lib.ListN.{length, take, getD}
 use Rattle.format.specs.Book.{userAt, tradesAt, usersOf, tradesOf, bookOf}
 use Rattle.laws.proofs.Tests.{and-l, and-r, and-i, all-by}
 use Rattle.listed.specs.Listed.{NextDealt}
-use Rattle.listing.proofs.Sellers.{users-count, trades-count, party-room}
-use Rattle.listing.specs.Listing.{usersIn, tradesIn, Trading}
+use Rattle.columns.proofs.Trades.{users-count, trades-count, party-room}
+use Rattle.columns.specs.Columns.{usersIn, tradesIn, Trading}
 use Rattle.places.proofs.Known.{among-known}
 use Rattle.places.proofs.Rising.{rising-ids}
 use Rattle.places.specs.Ids.{idsOf, Placed}

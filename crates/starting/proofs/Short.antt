@@ -15,7 +15,7 @@ use Rattle.held.proofs.Parts.{record-at}
 use Rattle.integers.proofs.Linear.{by-order}
 use Rattle.listed.proofs.Parts.{users-asking}
 use Rattle.listed.proofs.Stay.{next-held}
-use Rattle.listing.specs.Listing.{idAt}
+use Rattle.columns.specs.Columns.{idAt}
 use Rattle.records.specs.User.{asUser, userOf}
 use Rattle.rules.specs.Areas.{Prices}
 use Rattle.rules.specs.Book.{User, Book, nobody}

@@ -4,13 +4,13 @@ use mathlib.Core.List.{List}
 use mathlib.Core.Path.{_≡_}
 use Prim.Native.Nat.{ℕ, _<_}
 use lib.ListN.{length, getD, replicate}
+use Rattle.columns.specs.Columns.{idAt}
 use Rattle.cover.specs.Cover.{Ranges}
 use Rattle.dealings.specs.Parties.{cutBefore}
 use Rattle.format.specs.Book.{userCount, tradeCount, usersOf, tradesOf, bookOf}
 use Rattle.held.specs.Held.{HeldAs}
 use Rattle.laws.proofs.Sound.{Sound}
 use Rattle.listed.specs.Listed.{NextDealt}
-use Rattle.listing.specs.Listing.{idAt}
 use Rattle.places.specs.Ids.{Placed}
 use Rattle.rules.specs.Areas.{Prices}
 use Rattle.rules.specs.Book.{User, Trade, Book, nobody}

@@ -7,12 +7,12 @@ ghost use mathlib.Core.Bool.{false, _||_};
 ghost use mathlib.Core.Path.{_≡_};
 ghost use Prim.Native.Nat.{_≤_, _<_};
 ghost use lib.ListN.{length, getD, replicate};
+ghost use Rattle.columns.specs.Columns.{usersIn, tradesIn, idAt, Trading};
 ghost use Rattle.cover.specs.Cover.{Ranges};
 ghost use Rattle.dealings.specs.Parties.{cutBefore};
 ghost use Rattle.format.specs.Book.{userCount, usersOf, tradesOf, bookOf};
 ghost use Rattle.levels.specs.Limits.{asLimits};
 ghost use Rattle.listed.specs.Listed.{NextDealt};
-ghost use Rattle.listing.specs.Listing.{usersIn, tradesIn, idAt, Trading};
 ghost use Rattle.places.specs.Ids.{Placed};
 ghost use Rattle.records.specs.User.{asUser};
 ghost use Rattle.rules.specs.Book.{Book, nobody};
@@ -48,7 +48,7 @@ fn fill_cut(s: &[u8], n: usize, m: usize, sellers: &[u8], parties: &[u8], cut: &
 {
     let mut i = 0;
     while i < m {
-        let t = listing::trade_in(s, n, i);
+        let t = columns::trade_in(s, n, i);
         let below = t.standing < t.notified;
         let seller = sellers[i] as usize;
         cut[seller] = cut[seller] | below;

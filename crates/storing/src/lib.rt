@@ -1,16 +1,17 @@
 // The answers of the calls as numbers in a lent part, for the C interface: each kind of answer has its numbers in a fixed order, and its number is passed on.
 ghost use mathlib.Core.Path.{_≡_};
 ghost use lib.ListN.{length};
-ghost use Rattle.guarantee.specs.Answers as levels;
-ghost use Rattle.warning.specs.Warned as warned;
-ghost use Rattle.reduce.specs.Answers as reducing;
-ghost use Rattle.run.specs.Answers as running;
+ghost use Rattle.answers.specs.Level as levels;
+ghost use Rattle.answers.specs.Warning as warned;
+ghost use Rattle.answers.specs.Call as calls;
+ghost use Rattle.answers.specs.Reduction as reducing;
+ghost use Rattle.answers.specs.Run as running;
 ghost use Rattle.storing.specs.Numbers.{levelNumbers, warningNumbers, callNumbers, reductionNumbers, runNumbers};
-use guarantee::CallAnswer;
-use guarantee::LevelAnswer;
-use reduce::ReductionAnswer;
-use run::RunAnswer;
-use warning::WarningAnswer;
+use answers::CallAnswer;
+use answers::LevelAnswer;
+use answers::ReductionAnswer;
+use answers::RunAnswer;
+use answers::WarningAnswer;
 
 // Stores the numbers of an answer in a part of as many places.
 fn store(answer: &mut [u64], numbers: &[u64])
@@ -48,7 +49,7 @@ pub fn store_warning(answer: &mut [u64], reply: WarningAnswer) -> u32
 // Stores a guarantee call's level and what it added, and passes its number on.
 pub fn store_call(answer: &mut [u64], call: CallAnswer) -> u32
     requires { ⌜ length (now answer) ≡ 2 ⌝ }
-    ensures { λ r. ⌜ (r ≡ call .number) × (now (answer .exit) ≡ callNumbers (levels.answerOf call)) ⌝ }
+    ensures { λ r. ⌜ (r ≡ call .number) × (now (answer .exit) ≡ callNumbers (calls.answerOf call)) ⌝ }
 {
     let level = call.level;
     let added = call.added;

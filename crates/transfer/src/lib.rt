@@ -14,8 +14,9 @@ fn ask_in(scratch: &mut [u8], b: Book, len: usize) -> u32
     ensures { λ r. ⌜ r ≡ fieldsNumber (bytesOf (asBook b)) ⌝ }
 {
     book::write_book(&mut scratch[..len], b);
-    let asked = questions::ask_fields(&scratch[..len]);
-    asked.number
+    let mut sellers = [0u8; 256];
+    let mut buyers = [0u8; 256];
+    questions::fields_number(&scratch[..len], &mut sellers, &mut buyers)
 }
 
 // The same, with a place of its own to write to.

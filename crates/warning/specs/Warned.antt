@@ -1,18 +1,16 @@
--- Who is warned, by the user's id, and the reply of the rules that the code's answer is. Assumes nothing.
+-- Who is warned, by the user's id. Assumes nothing.
 use mathlib.Core.Bool.{Bool, _&&_}
 use mathlib.Core.List.{List}
-use mathlib.Core.Option.{none}
 use mathlib.Core.Path.{_≡_}
 use Prim.Native.Nat.{ℕ}
 use lib.Dec.{eqb}
 use Rattle.rules.specs.Book.{Book, User, Trade}
 use Rattle.rules.specs.Levels.{Limits, shipper, flagged}
-use Rattle.rules.specs.Queries.{Query, Reply, warning, warns}
+use Rattle.rules.specs.Queries.{Query, warning, warns}
 use Rattle.units.specs.Prices.{asPrices}
 use Rattle.units.specs.declared.Prices.{Prices}
 use Rattle.format.specs.Book.{bookOf}
 use Rattle.format.specs.Questions.{bookNumber}
-use Rattle.warning.specs.declared.WarningAnswer.{WarningAnswer}
 
 -- the user is a flagged shipper
 unfoldable pub flaggedShipper : Limits → Book → User → Bool
@@ -25,10 +23,6 @@ warnsBuyer limits b id t = eqb (t .terms .buyer) id && warns limits b t
 -- the query that the function `warning` is
 abbrev pub warningOf : ℕ → Query
 warningOf id = warning id
-
--- number and warning; no level, and no record is shown
-abbrev pub replyOf : WarningAnswer → Reply
-replyOf r = record { number = r .number; level = 0; warned = r .warned; shown = none }
 
 -- the bytes pass the questions of a book, and the prices are that book's
 pub record Priced (s : List ℕ) (prices : Prices) : Type 0 where

@@ -1,4 +1,5 @@
 // The midday warning of a user: is it flagged, or buyer of a bilateral trade of the day that stands, whose seller is a flagged shipper?
+use answers::WarningAnswer;
 use levels::Limits;
 use records::Trade;
 use units::Prices;
@@ -10,7 +11,8 @@ ghost use Rattle.records.specs.Trade.{asTrade};
 ghost use Rattle.format.specs.Book.{bookOf};
 ghost use Rattle.format.specs.Steps.{replyBytes};
 ghost use Rattle.levels.specs.Limits.{asLimits, LimitsInRange};
-ghost use Rattle.warning.specs.Warned.{Priced, flaggedShipper, warnsBuyer, warningOf, replyOf};
+ghost use Rattle.answers.specs.Warning.{replyOf};
+ghost use Rattle.warning.specs.Warned.{Priced, flaggedShipper, warnsBuyer, warningOf};
 
 // Is the seller of an id a flagged shipper?
 fn is_flagged_shipper(book: &[u8], prices: Prices, id: u32, limits: Limits) -> bool
@@ -67,12 +69,6 @@ fn any_warns(book: &[u8], prices: Prices, id: u32, limits: Limits) -> bool
         i += 1;
     }
     false
-}
-
-// Whether the user is warned, and 0; or no and the number of the first question that is answered by no.
-pub struct WarningAnswer {
-    pub number: u32,
-    pub warned: bool,
 }
 
 // The warning of the user of an id.

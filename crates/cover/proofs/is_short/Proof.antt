@@ -6,7 +6,7 @@ use lib.Dec.{ltb}
 use mathlib.Core.Path.{_≡_, sym, ap, _∙_}
 use Rattle.cover.proofs.Flags.{short-margin, short-within, short-house}
 use Rattle.cover.proofs.is_short.Statement.{statement}
-use Rattle.levels.specs.Holdings.{held}
+use Rattle.holdings.specs.Holdings.{held}
 use Rattle.levels.specs.Limits.{asLimits}
 use Rattle.records.specs.User.{asUser}
 use Rattle.rules.specs.Levels.{exceedsMargin, shipper}

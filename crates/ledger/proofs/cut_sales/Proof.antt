@@ -13,14 +13,14 @@ tally-of-requires c κs =
     let k = c .before .before .before in
     let s = k .before .before .before .before .before .before in
     let a = s .args in
-    (s .pre .0, cuts-tally (asPrices (a .prices)) (s .pre .0) (a .short) (a .asked .0) (s .pre .1) (k .sale-cuts .ensures))
+    (s .pre .0, cuts-tally (asPrices (a .prices)) (a .short) (a .asked .0) (s .pre .1) (k .sale-cuts .ensures))
 
 lower-requires : tie.Need-lower-requires
 lower-requires c κs =
     let k = c .before .before .before .before .before .before in
     let s = k .before .before .before .before .before .before in
     let a = s .args in
-    cuts-lower (asPrices (a .prices)) (s .pre .0) (a .short) (a .asked .0) (s .pre .1) (k .sale-cuts .ensures)
+    cuts-lower (asPrices (a .prices)) (a .short) (a .asked .0) (s .pre .1) (k .sale-cuts .ensures)
 
 same-length : tie.Need-same-length
 same-length c = search needs

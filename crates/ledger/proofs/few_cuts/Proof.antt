@@ -2,6 +2,7 @@
 use borrow.Author.Needs.{needs}
 use lib.Seq.{length-take-le}
 use mathlib.Core.Path.{sym}
+use Rattle.lots.proofs.Lent.{front-room}
 use Rattle.ledger.proofs.few_cuts.Statement.{statement}
 use Rattle.ledger.proofs.few_cuts.Tie as tie
 
@@ -44,13 +45,8 @@ slice-aggregate-fill-cuts-6 c = sym (length-take-le _ _ (c .before .before .befo
 fill-cuts-requires : tie.Need-fill-cuts-requires
 fill-cuts-requires c κs =
     let s = c .before .before .before .before .before .before .before .before .before .before in
-    let l = s .pre .0 in (
-      s .pre .1,
-      (
-        record { areas-length = s .pre .1 .1 .areas-length; tariffs-length = length-take-le _ _ l; one-length = length-take-le _ _ l; two-length = length-take-le _ _ l },
-        record { first-length = length-take-le _ _ l; second-length = length-take-le _ _ l; rests-length = length-take-le _ _ l },
-      ),
-    )
+    let l = s .pre .0 in
+    (s .pre .1, front-room 32 (s .args .standing .now) (s .args .areas .now) (s .pre .1 .1 .areas-length) l)
 
 same-length : tie.Need-same-length
 same-length c = search needs

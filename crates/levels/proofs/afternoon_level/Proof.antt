@@ -8,9 +8,9 @@ use Rattle.rules.specs.Areas.{areas}
 use Rattle.rules.specs.Levels.{afternoonSum, exposure, floored}
 use Rattle.units.specs.Amounts.{balance}
 use Rattle.units.specs.Prices.{asPrices}
-use Rattle.levels.specs.Holdings.{held}
+use Rattle.holdings.specs.Holdings.{held}
 use Rattle.levels.specs.Limits.{asLimits}
-use Rattle.levels.proofs.Needs.{add-worths}
+use Rattle.levels.proofs.Floors.{add-worths}
 use Rattle.levels.proofs.Sums.{exposure-held}
 use borrow.Author.Needs.{needs}
 use Rattle.levels.proofs.afternoon_level.Statement.{statement}

@@ -2,7 +2,7 @@
 use native.Mathlib.Omega.{arith}
 use Rattle.units.specs.Amounts.{balance}
 use Rattle.levels.specs.Limits.{asLimits}
-use Rattle.levels.proofs.Needs.{floored-of}
+use Rattle.levels.proofs.Floors.{floored-of}
 use borrow.Author.Needs.{needs}
 use Rattle.levels.proofs.floored.Statement.{statement}
 use Rattle.levels.proofs.floored.Tie as tie

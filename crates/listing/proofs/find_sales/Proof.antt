@@ -6,8 +6,8 @@ use native.Mathlib.Omega.{arith}
 use borrow.Author.Needs.{needs}
 use denote.Ref.{now}
 use Rattle.listing.proofs.Noting.{Found, found-start, found-more, found-end}
-use Rattle.listing.proofs.Sellers.{party-room}
-use Rattle.listing.specs.Listing.{usersIn}
+use Rattle.columns.proofs.Trades.{party-room}
+use Rattle.columns.specs.Columns.{usersIn}
 use Rattle.listing.proofs.find_sales.Statement.{statement}
 use Rattle.listing.proofs.find_sales.Tie as tie
 

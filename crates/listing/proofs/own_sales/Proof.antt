@@ -2,8 +2,9 @@
 use borrow.Author.Needs.{needs}
 use native.Mathlib.Omega.{arith}
 use denote.Ref.{now}
-use Rattle.listing.proofs.Columns.{column-room, columns-read, own-inside, own-read}
-use Rattle.listing.specs.Listing.{usersIn, idAt}
+use Rattle.columns.proofs.Columns.{column-room, columns-read}
+use Rattle.columns.specs.Columns.{usersIn, idAt}
+use Rattle.listing.proofs.Own.{own-inside, own-read}
 use Rattle.listing.proofs.own_sales.Statement.{statement}
 use Rattle.listing.proofs.own_sales.Tie as tie
 

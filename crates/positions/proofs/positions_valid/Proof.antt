@@ -2,64 +2,53 @@
 use Prim.Native.Nat.{_+_, _-_, _*_, _≤_, _<_}
 use mathlib.Core.Path.{_≡_}
 use mathlib.Core.Bool.{Bool}
-use mathlib.Core.List.{[]}
+use mathlib.Core.List.{List, []}
 use native.Mathlib.Omega.{arith}
 use borrow.Author.Needs.{needs}
 use borrow.Author.Tests.{not-true, not-false}
 use denote.Ref.{now}
-use lib.ListN.{length, getD, drop, length-take, length-drop}
+use lib.ListN.{length, getD, length-take, length-drop}
+use Rattle.rules.specs.Book.{Trade}
 use Rattle.rules.specs.Questions.{positionsValid}
 use Rattle.fields.proofs.Records.{length-recordsOf}
 use Rattle.records.specs.User.{userOf}
-use Rattle.records.specs.Trade.{tradeOf}
-use Rattle.places.specs.Ids.{usersFrom, tradesFrom}
-use Rattle.positions.proofs.Sums.{bounded, gatherable, as-asked}
+use Rattle.places.specs.Ids.{usersFrom}
+use Rattle.positions.specs.Sums.{DaySums}
+use Rattle.positions.proofs.Sums.{as-asked}
 use Rattle.positions.proofs.Walk.{Passed, passed-start, passed-no, passed-turn, passed-end, record-at}
 use Rattle.positions.proofs.positions_valid.Statement.{statement}
 use Rattle.positions.proofs.positions_valid.Tie as tie
 
 abbrev Inv-loop : tie.InvT-loop
-Inv-loop s users-at n trades-at m sellers buyers sold bought i₀ a₀ i a =
-    (a ≡ users-at + 56 * i) × Passed (positionsValid (tradesFrom trades-at m s)) (usersFrom users-at n s) i
+Inv-loop s at n sold bought i₀ a₀ i a =
+    (a ≡ at + 56 * i) × ((ts : List Trade) → DaySums (usersFrom at n s) ts sold bought → Passed (positionsValid ts) (usersFrom at n s) i)
 
 abbrev μ-loop : tie.MeasureT-loop
-μ-loop s users-at n trades-at m sellers buyers sold bought i₀ a₀ i a = n - i
+μ-loop s at n sold bought i₀ a₀ i a = n - i
 
 -- the user at hand is one of the n
-within : (c : tie.In-loop Inv-loop μ-loop) → c .before .loop .i < length (usersFrom (c .before .before .before .before .before .before .before .before .before .before .args .users-at) (c .before .before .before .before .before .before .before .before .before .before .args .n) (now (c .before .before .before .before .before .before .before .before .before .before .args .s)))
+within : (c : tie.In-loop Inv-loop μ-loop) → c .before .loop .i < length (usersFrom (c .before .before .before .before .before .args .at) (c .before .before .before .before .before .args .n) (now (c .before .before .before .before .before .args .s)))
 within c = rw length-recordsOf (omega arith)
 
 -- and its bytes stand there
-lies : (c : tie.In-loop Inv-loop μ-loop) → c .before .loop .a + 56 ≤ length (now (c .before .before .before .before .before .before .before .before .before .before .args .s))
-lies c = omega (arith, c .loop-test, c .before .loop .inv .0, c .before .before .before .before .before .before .before .before .before .before .pre .0 .users)
+lies : (c : tie.In-loop Inv-loop μ-loop) → c .before .loop .a + 56 ≤ length (now (c .before .before .before .before .before .args .s))
+lies c = omega (arith, c .loop-test, c .before .loop .inv .0, c .before .before .before .before .before .pre .1)
 
 -- what the sums said of its positions is what the rules say
-asked : {answer : Bool} (c : tie.After-user-positions-valid Inv-loop μ-loop) → c .user-positions-valid .result ≡ answer
-    → positionsValid (tradesFrom (c .before .before .before .before .before .before .before .before .before .before .before .before .before .before .before .args .trades-at) (c .before .before .before .before .before .before .before .before .before .before .before .before .before .before .before .args .m) (now (c .before .before .before .before .before .before .before .before .before .before .before .before .before .before .before .args .s))) (getD (usersFrom (c .before .before .before .before .before .before .before .before .before .before .before .before .before .before .before .args .users-at) (c .before .before .before .before .before .before .before .before .before .before .before .before .before .before .before .args .n) (now (c .before .before .before .before .before .before .before .before .before .before .before .before .before .before .before .args .s))) (c .before .before .before .before .before .before .loop .i) (userOf [])) ≡ answer
-asked c e =
-    let l = c .before .before .before .before .before .before .loop in
-    let s = c .before .before .before .before .before .before .before .before .before .before .before .before .before .before .before in
-    let a = s .args in
-    let g = c .before .before .before .before .before .before .before .before .before .gather .ensures in
-    as-asked (s .pre .1) (length-recordsOf 20 tradeOf (a .m) (drop (a .trades-at) (now (a .s)))) (g .0) (g .1) (l .i) (userOf []) (within (c .before .before .before .before .before))
-    (record-at 56 userOf (now (a .s)) (a .users-at) (a .n) (l .i) (userOf []) (l .inv .0) (omega (arith, c .before .before .before .before .before .loop-test)) (c .before .before .before .read-user .ensures)) (c .user-positions-valid .ensures) e
-
-slice-aggregate-gather : tie.Need-slice-aggregate-gather Inv-loop μ-loop
-slice-aggregate-gather c = search needs
-
-slice-aggregate-gather-2 : tie.Need-slice-aggregate-gather-2 Inv-loop μ-loop
-slice-aggregate-gather-2 c = search needs
-
-gather-requires : tie.Need-gather-requires Inv-loop μ-loop
-gather-requires c κs =
-    let s = c .before .before .before .before .before in
-    ((s .pre .0 .many, s .pre .0 .trades), gatherable (s .pre .1) (rw length-recordsOf (s .pre .0 .few)))
+asked : {answer : Bool} (c : tie.After-user-positions-valid Inv-loop μ-loop) → c .user-positions-valid .result ≡ answer → (ts : List Trade)
+    → DaySums (usersFrom (c .before .before .before .before .before .before .before .before .args .at) (c .before .before .before .before .before .before .before .before .args .n) (now (c .before .before .before .before .before .before .before .before .args .s))) ts (now (c .before .before .before .before .before .before .before .before .args .sold)) (now (c .before .before .before .before .before .before .before .before .args .bought))
+    → positionsValid ts (getD (usersFrom (c .before .before .before .before .before .before .before .before .args .at) (c .before .before .before .before .before .before .before .before .args .n) (now (c .before .before .before .before .before .before .before .before .args .s))) (c .before .before .before .before .loop .i) (userOf [])) ≡ answer
+asked c e ts sums =
+    let l = c .before .before .before .before .loop in
+    let a = c .before .before .before .before .before .before .before .before .args in
+    as-asked sums (l .i) (userOf []) (within (c .before .before .before))
+    (record-at 56 userOf (now (a .s)) (a .at) (a .n) (l .i) (userOf []) (l .inv .0) (omega (arith, c .before .before .before .loop-test)) (c .before .read-user .ensures)) (c .user-positions-valid .ensures) e
 
 loop-holds : tie.Need-loop-holds Inv-loop μ-loop
-loop-holds c = (omega arith, passed-start)
+loop-holds c = (omega arith, λ ts sums. passed-start)
 
 add-read-user : tie.Need-add-read-user Inv-loop μ-loop
-add-read-user c = omega (arith, lies c, c .before .before .before .before .before .before .before .before .before .before .fits)
+add-read-user c = omega (arith, lies c, c .before .before .before .before .before .fits)
 
 sub-read-user : tie.Need-sub-read-user Inv-loop μ-loop
 sub-read-user c = search needs
@@ -73,24 +62,20 @@ part-read-user-end c = omega (arith, lies c)
 read-user-requires : tie.Need-read-user-requires Inv-loop μ-loop
 read-user-requires c κs = simp (length-take, length-drop) (omega arith)
 
-slice-aggregate-user-positions-valid :
-    tie.Need-slice-aggregate-user-positions-valid Inv-loop μ-loop
-slice-aggregate-user-positions-valid c = search needs
-
-slice-aggregate-user-positions-valid-2 :
-    tie.Need-slice-aggregate-user-positions-valid-2 Inv-loop μ-loop
-slice-aggregate-user-positions-valid-2 c = search needs
-
 user-positions-valid-requires : tie.Need-user-positions-valid-requires Inv-loop μ-loop
 user-positions-valid-requires c κs =
-    let g = c .before .before .before .before .before .before .before .before .gather .ensures in
-    (omega (arith, c .before .before .before .before .loop-test, c .before .before .before .before .before .before .before .before .before .before .before .before .before .before .pre .0 .few), bounded (g .0), bounded (g .1))
+    let s = c .before .before .before .before .before .before .before in
+    (omega (arith, c .before .before .loop-test, s .pre .0), s .pre .2, s .pre .3)
 
 returns : tie.Need-returns Inv-loop μ-loop
-returns c = passed-no (userOf []) (c .before .before .before .before .before .before .before .loop .inv .1) (within (c .before .before .before .before .before .before)) (asked (c .before) (not-true (c .before .user-positions-valid .result) (c .if1 .taken)))
+returns c =
+    let asks = c .before in
+    record {
+      answer = λ ts sums. passed-no (userOf []) (asks .before .before .before .before .loop .inv .1 ts sums) (within (asks .before .before .before)) (asked asks (not-true (asks .user-positions-valid .result) (c .if1 .taken)) ts sums);
+    }
 
 add-a : tie.Need-add-a Inv-loop μ-loop
-add-a c = omega (arith, lies (c .before .before .before .before .before .before), c .before .before .before .before .before .before .before .before .before .before .before .before .before .before .before .before .fits)
+add-a c = omega (arith, lies (c .before .before .before .before), c .before .before .before .before .before .before .before .before .before .fits)
 
 add-i : tie.Need-add-i Inv-loop μ-loop
 add-i c = search needs
@@ -99,10 +84,15 @@ loop-less : tie.Need-loop-less Inv-loop μ-loop
 loop-less c = search needs
 
 loop-again : tie.Need-loop-again Inv-loop μ-loop
-loop-again c = (omega (arith, c .before .before .before .before .before .before .before .loop .inv .0), passed-turn (userOf []) (c .before .before .before .before .before .before .before .loop .inv .1) (within (c .before .before .before .before .before .before)) (asked (c .before) (not-false (c .before .user-positions-valid .result) (c .if1 .left))))
+loop-again c =
+    let asks = c .before in
+    let l = asks .before .before .before .before .loop in (
+      omega (arith, l .inv .0),
+      λ ts sums. passed-turn (userOf []) (l .inv .1 ts sums) (within (asks .before .before .before)) (asked asks (not-false (asks .user-positions-valid .result) (c .if1 .left)) ts sums),
+    )
 
 returns-2 : tie.Need-returns-2 Inv-loop μ-loop
-returns-2 c = passed-end (c .before .loop .inv .1) (rw length-recordsOf (omega arith))
+returns-2 c = record { answer = λ ts sums. passed-end (c .before .loop .inv .1 ts sums) (rw length-recordsOf (omega arith)) }
 
 pub positions-valid-spec : {M : Type 1} → statement M
 positions-valid-spec =
@@ -110,17 +100,12 @@ positions-valid-spec =
     (tie.spec
     Inv-loop
     μ-loop
-    slice-aggregate-gather
-    slice-aggregate-gather-2
-    gather-requires
     loop-holds
     add-read-user
     sub-read-user
     part-read-user-start
     part-read-user-end
     read-user-requires
-    slice-aggregate-user-positions-valid
-    slice-aggregate-user-positions-valid-2
     user-positions-valid-requires
     returns
     add-a

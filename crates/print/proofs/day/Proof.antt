@@ -1,5 +1,5 @@
--- `print::day`: the book at the end is what the run left, and the risk of every user of a book that was read can be told. Assumes nothing.
-use Rattle.print.proofs.Opened.{opened-all}
+-- `print::day`: the book at the end is what the run left, and an accepted run leaves an accepted book. Assumes nothing.
+use Rattle.print.proofs.Ran.{ran-accepted}
 use borrow.Author.Needs.{needs}
 use Rattle.print.proofs.day.Statement.{statement}
 use Rattle.print.proofs.day.Tie as tie
@@ -19,11 +19,8 @@ returns c = search needs
 totals-requires : tie.Need-totals-requires
 totals-requires c κs = search needs
 
-read-requires : tie.Need-read-requires
-read-requires c κs = search needs
-
 lines-requires : tie.Need-lines-requires
-lines-requires c κs = let o = c .before .read in opened-all (o .result .number) (o .ensures)
+lines-requires c κs = let e = c .before .before in ran-accepted (e .before .before .before .run .ensures) (e .if1 .left)
 
 same-length-2 : tie.Need-same-length-2
 same-length-2 c = search needs
@@ -40,7 +37,6 @@ day-spec =
     same-length
     returns
     totals-requires
-    read-requires
     lines-requires
     same-length-2
     returns-2)

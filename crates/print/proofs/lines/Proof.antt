@@ -1,18 +1,24 @@
--- `print::lines` is safe and ends: `i` counts up to the number of users, and the risk of each of them can be told. Assumes nothing.
+-- `print::lines` is safe and ends: `i` counts up to the number of users, and an accepted book has the line of each of them. Assumes nothing.
 use Prim.Native.Nat.{_≤_, _-_}
 use native.Mathlib.Omega.{arith}
+use denote.Ref.{now}
+use Rattle.format.specs.Book.{userCount}
+use Rattle.format.proofs.Passed.{passed}
 use borrow.Author.Needs.{needs}
 use Rattle.print.proofs.lines.Statement.{statement}
 use Rattle.print.proofs.lines.Tie as tie
 
 abbrev Inv-loop : tie.InvT-loop
-Inv-loop b limits n i₀ i = i ≤ n
+Inv-loop book limits n i₀ i = i ≤ n
 
 abbrev μ-loop : tie.MeasureT-loop
-μ-loop b limits n i₀ i = n - i
+μ-loop book limits n i₀ i = n - i
 
 today-requires : tie.Need-today-requires Inv-loop μ-loop
 today-requires c κs = search needs
+
+get-u8-requires : tie.Need-get-u8-requires Inv-loop μ-loop
+get-u8-requires c κs = let s = c .before .before in omega (arith, passed (now (s .args .book)) (s .pre) .form .head)
 
 cast-n : tie.Need-cast-n Inv-loop μ-loop
 cast-n c = search needs
@@ -21,9 +27,11 @@ loop-holds : tie.Need-loop-holds Inv-loop μ-loop
 loop-holds c = search needs
 
 line-at-requires : tie.Need-line-at-requires Inv-loop μ-loop
+unfolding userCount
 line-at-requires c κs =
-    let t = c .before .before .before in
-    (t .before .pre .each (c .before .loop .i) (omega arith), t .today .ensures .1)
+    let n = c .before .before in
+    let t = n .before in
+    (t .before .before .pre, (omega (arith, n .get-u8 .ensures), t .today .ensures .1))
 
 line-requires : tie.Need-line-requires Inv-loop μ-loop
 line-requires c κs = search needs
@@ -47,6 +55,7 @@ lines-spec =
     Inv-loop
     μ-loop
     today-requires
+    get-u8-requires
     cast-n
     loop-holds
     line-at-requires

@@ -1,25 +1,53 @@
 -- `trades_valid`: the trades that are left have the whole answer, until one is not valid or none is left; a party is a user where its place is below n,
--- and the places of the parties of those passed are listed. Assumes nothing.
-use Prim.Native.Nat.{_-_}
+-- and of those passed the places of the parties are listed, and what stands for the day is summed at each. Assumes nothing.
+use Prim.Native.Nat.{ℕ, _-_}
+use mathlib.Core.Bool.{Bool, true}
+use mathlib.Core.Path.{_≡_, sym, ap, _∙_}
 use native.Mathlib.Omega.{arith}
 use denote.Ref.{now}
-use lib.ListN.{take, length-take, length-drop}
+use lib.ListN.{length, take, length-take, length-drop, length-replicate}
 use borrow.Author.Needs.{needs}
 use borrow.Author.Tests.{not-true, not-false}
 use Rattle.records.specs.Trade.{asTrade}
-use Rattle.questions.proofs.Asking.{TradesWalk, trades-walk-start, trades-walk-no, trades-walk-turn, trades-walk-end}
+use Rattle.positions.specs.Sums.{Countable}
+use Rattle.questions.specs.Asked.{tradeAmong}
+use Rattle.questions.proofs.Asking.{TradesWalk, trades-walk-start, trades-walk-no, trades-walk-countable, trades-walk-turn, trades-walk-end}
 use Rattle.questions.proofs.Known.{tradeAmong-places}
 use Rattle.questions.proofs.trades_valid.Statement.{statement}
 use Rattle.questions.proofs.trades_valid.Tie as tie
 
 abbrev Inv-loop : tie.InvT-loop
-Inv-loop ids n s at m sellers₀ buyers₀ i₀ a₀ sellers buyers i a = TradesWalk (take n ids) s at m sellers buyers i a
+Inv-loop ids n s at m sellers₀ buyers₀ sold₀ bought₀ i₀ a₀ sellers buyers sold bought i a = TradesWalk (take n ids) s at m sellers buyers sold bought i a
 
 abbrev μ-loop : tie.MeasureT-loop
-μ-loop ids n s at m sellers₀ buyers₀ i₀ a₀ sellers buyers i a = m - i
+μ-loop ids n s at m sellers₀ buyers₀ sold₀ bought₀ i₀ a₀ sellers buyers sold bought i a = m - i
+
+-- the trade that was read is valid between the ids as the answer says
+asked : {answer : Bool} (c : tie.After-trade-valid Inv-loop μ-loop) → c .trade-valid .result ≡ answer
+    → tradeAmong (take (c .before .before .before .before .before .before .before .before .before .before .before .before .before .args .n) (now (c .before .before .before .before .before .before .before .before .before .before .before .before .before .args .ids))) (asTrade (c .before .before .before .read-trade .result)) ≡ answer
+unfolding asTrade
+asked c e =
+    let places = c .before in
+    let start = c .before .before .before .before .before .before .before .before .before .before .before .before .before in
+    tradeAmong-places (now (start .args .ids)) (start .args .n) _ (places .before .place-of .result) (places .place-of2 .result) (search needs)
+    (places .before .place-of .ensures .0) (places .place-of2 .ensures .0) (c .trade-valid .ensures) e
+
+-- where it is, it can be counted for both parties
+countable : (c : tie.After-trade-valid Inv-loop μ-loop) → c .trade-valid .result ≡ true
+    → Countable (c .before .before .place-of .result) (asTrade (c .before .before .before .read-trade .result)) (c .before .before .before .before .before .before .loop .sold)
+    × Countable (c .before .place-of2 .result) (asTrade (c .before .before .before .read-trade .result)) (c .before .before .before .before .before .before .loop .bought)
+unfolding asTrade
+countable c e =
+    let places = c .before in
+    let read = places .before .before in
+    let start = c .before .before .before .before .before .before .before .before .before .before .before .before .before in
+    trades-walk-countable (c .before .before .before .before .before .before .loop .inv) (omega arith) (read .read-trade .ensures) (search needs) (asked c e) (places .before .place-of .ensures .0) (places .place-of2 .ensures .0)
+    (rw length-take (omega (arith, start .pre .0 .few)))
 
 loop-holds : tie.Need-loop-holds Inv-loop μ-loop
-loop-holds c = trades-walk-start (search needs) (search needs)
+loop-holds c =
+    let start = c .before .before .before .before .before .before in
+    trades-walk-start (search needs) (search needs) (start .pre .1 .4) (start .pre .1 .5)
 
 add-read-trade : tie.Need-add-read-trade Inv-loop μ-loop
 add-read-trade c = search needs
@@ -51,16 +79,21 @@ same-length c = search needs
 same-length-2 : tie.Need-same-length-2 Inv-loop μ-loop
 same-length-2 c = search needs
 
+same-length-3 : tie.Need-same-length-3 Inv-loop μ-loop
+same-length-3 c =
+    let l = c .before .before .before .before .before .before .before in
+    l .loop .inv .of-sold .room ∙ sym (ap length (l .before .before .before .before .before .before .before .pre .1 .4) ∙ length-replicate {A = ℕ} 192 0)
+
+same-length-4 : tie.Need-same-length-4 Inv-loop μ-loop
+same-length-4 c =
+    let l = c .before .before .before .before .before .before .before in
+    l .loop .inv .of-bought .room ∙ sym (ap length (l .before .before .before .before .before .before .before .pre .1 .5) ∙ length-replicate {A = ℕ} 192 0)
+
 returns : tie.Need-returns Inv-loop μ-loop
 unfolding asTrade
 returns c =
-    let asked = c .before in
-    let places = asked .before in
-    let read = places .before .before in
-    let start = read .before .before .before .before .before .before .before .before in
-    trades-walk-no (read .before .before .before .loop .inv) (omega arith) (read .read-trade .ensures)
-    (tradeAmong-places (now (start .args .ids)) (start .args .n) _ (places .before .place-of .result) (places .place-of2 .result) (search needs)
-    (places .before .place-of .ensures .0) (places .place-of2 .ensures .0) (asked .trade-valid .ensures) (not-true (asked .trade-valid .result) (c .if1 .taken)))
+    let read = c .before .before .before .before in
+    trades-walk-no (read .before .before .before .loop .inv) (omega arith) (read .read-trade .ensures) (asked (c .before) (not-true (c .before .trade-valid .result) (c .if1 .taken)))
 
 cast-sellers : tie.Need-cast-sellers Inv-loop μ-loop
 cast-sellers c = search needs
@@ -74,11 +107,24 @@ cast-buyers c = search needs
 slice-write-buyers : tie.Need-slice-write-buyers Inv-loop μ-loop
 slice-write-buyers c = search needs
 
+count-requires : tie.Need-count-requires Inv-loop μ-loop
+count-requires c κs =
+    let valid = c .before in
+    countable (valid .before) (not-false (valid .before .trade-valid .result) (valid .if1 .left)) .0
+
+count-requires-2 : tie.Need-count-requires-2 Inv-loop μ-loop
+count-requires-2 c κs =
+    let valid = c .before .before .before .before .before in
+    countable (valid .before) (not-false (valid .before .trade-valid .result) (valid .if1 .left)) .1
+
 add-a : tie.Need-add-a Inv-loop μ-loop
-add-a c = search needs
+add-a c =
+    let inside = c .before .before .before .before .before .before .before .before .before .before .before .before .before .before in
+    let start = inside .before .before .before .before .before .before .before .before in
+    omega (arith, inside .loop-test, inside .before .loop .inv .place, start .pre .1 .1, start .fits)
 
 add-i : tie.Need-add-i Inv-loop μ-loop
-add-i c = search needs
+add-i c = omega (arith, c .before .before .before .before .before .before .before .before .before .before .before .before .before .before .loop-test, c .before .before .before .before .before .before .before .before .before .before .before .before .before .before .before .before .before .before .before .before .before .before .pre .1 .0)
 
 loop-less : tie.Need-loop-less Inv-loop μ-loop
 loop-less c = search needs
@@ -86,23 +132,32 @@ loop-less c = search needs
 loop-again : tie.Need-loop-again Inv-loop μ-loop
 unfolding asTrade
 loop-again c =
-    let asked = c .before in
-    let places = asked .before in
+    let sums = c .before .before in
+    let valid = sums .before .before .before .before .before .before in
+    let answer = valid .before in
+    let places = answer .before in
     let read = places .before .before in
-    let start = read .before .before .before .before .before .before .before .before in
-    trades-walk-turn (read .before .before .before .loop .inv) (omega arith) (read .read-trade .ensures) (search needs)
-    (tradeAmong-places (now (start .args .ids)) (start .args .n) _ (places .before .place-of .result) (places .place-of2 .result) (search needs)
-    (places .before .place-of .ensures .0) (places .place-of2 .ensures .0) (asked .trade-valid .ensures) (not-false (asked .trade-valid .result) (c .if1 .left)))
-    (places .before .place-of .ensures .0) (places .place-of2 .ensures .0)
+    trades-walk-turn (read .before .before .before .loop .inv) (omega (arith, read .before .before .loop-test)) (read .read-trade .ensures) (read .before .before .before .before .before .before .before .before .before .before .pre .1 .0) (asked answer (not-false (answer .trade-valid .result) (valid .if1 .left)))
+    (places .before .place-of .ensures .0) (places .place-of2 .ensures .0) (sums .before .before .before .before .count .ensures) (sums .count2 .ensures)
 
-same-length-3 : tie.Need-same-length-3 Inv-loop μ-loop
-same-length-3 c = search needs
+same-length-5 : tie.Need-same-length-5 Inv-loop μ-loop
+same-length-5 c = search needs
 
-same-length-4 : tie.Need-same-length-4 Inv-loop μ-loop
-same-length-4 c = search needs
+same-length-6 : tie.Need-same-length-6 Inv-loop μ-loop
+same-length-6 c = search needs
+
+same-length-7 : tie.Need-same-length-7 Inv-loop μ-loop
+same-length-7 c =
+    let l = c .before in
+    l .loop .inv .of-sold .room ∙ sym (ap length (l .before .before .before .before .before .before .before .pre .1 .4) ∙ length-replicate {A = ℕ} 192 0)
+
+same-length-8 : tie.Need-same-length-8 Inv-loop μ-loop
+same-length-8 c =
+    let l = c .before in
+    l .loop .inv .of-bought .room ∙ sym (ap length (l .before .before .before .before .before .before .before .pre .1 .5) ∙ length-replicate {A = ℕ} 192 0)
 
 returns-2 : tie.Need-returns-2 Inv-loop μ-loop
-returns-2 c = trades-walk-end (c .before .loop .inv) (omega arith)
+returns-2 c = trades-walk-end (c .before .loop .inv) (omega arith) (search needs)
 
 pub trades-valid-spec : {M : Type 1} → statement M
 trades-valid-spec =
@@ -121,15 +176,21 @@ trades-valid-spec =
     trade-valid-requires
     same-length
     same-length-2
+    same-length-3
+    same-length-4
     returns
     cast-sellers
     slice-write-sellers
     cast-buyers
     slice-write-buyers
+    count-requires
+    count-requires-2
     add-a
     add-i
     loop-less
     loop-again
-    same-length-3
-    same-length-4
+    same-length-5
+    same-length-6
+    same-length-7
+    same-length-8
     returns-2)

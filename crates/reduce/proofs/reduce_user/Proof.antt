@@ -10,7 +10,8 @@ use Rattle.format.proofs.Passed.{passed}
 use Rattle.levels.specs.Limits.{asLimits}
 use Rattle.levels.proofs.Sums.{afternoon-level-held}
 use Rattle.reducing.specs.Reducing.{sellerAt}
-use Rattle.reduce.proofs.Ways.{gives-refused, user-refused, user-asked}
+use Rattle.reduction.proofs.Ways.{gives-refused}
+use Rattle.reduce.proofs.Ways.{user-refused, user-asked}
 use borrow.Author.Needs.{needs}
 use Rattle.reduce.proofs.reduce_user.Statement.{statement}
 use Rattle.reduce.proofs.reduce_user.Tie as tie

@@ -7,7 +7,7 @@ use Rattle.rules.specs.Levels.{today}
 use Rattle.entry.specs.Entered.{Found}
 use Rattle.entry.proofs.Calls.{called}
 use Rattle.held.proofs.Held.{held-accepted}
-use Rattle.reduce.specs.Answers.{reductionOf}
+use Rattle.reduce.specs.Call.{reductionOf}
 use Rattle.reduce.proofs.Ways.{call-unentered, call-gives}
 use borrow.Author.Needs.{needs}
 use Rattle.reduce.proofs.reduction.Statement.{statement}

@@ -1,5 +1,5 @@
 -- `reductions::print_book`: the counts of a book that was read are those of a book. Assumes nothing.
-use Rattle.print.proofs.Opened.{opened-trades, opened-all}
+use Rattle.reductions.proofs.Opened.{opened-trades, opened-users}
 use borrow.Author.Needs.{needs}
 use Rattle.reductions.proofs.print_book.Statement.{statement}
 use Rattle.reductions.proofs.print_book.Tie as tie
@@ -11,7 +11,7 @@ print-standing-requires : tie.Need-print-standing-requires
 print-standing-requires c κs = let o = c .before .read in opened-trades (o .result .number) (o .ensures)
 
 print-users-requires : tie.Need-print-users-requires
-print-users-requires c κs = let o = c .before .before .read in opened-all (o .result .number) (o .ensures) .few
+print-users-requires c κs = let o = c .before .before .read in opened-users (o .result .number) (o .ensures)
 
 returns : tie.Need-returns
 returns c = search needs

@@ -5,10 +5,10 @@ use Rattle.reductions.proofs.print_users.Statement.{statement}
 use Rattle.reductions.proofs.print_users.Tie as tie
 
 abbrev Inv-loop : tie.InvT-loop
-Inv-loop b n i₀ i = i ≤ n
+Inv-loop n users i₀ i = i ≤ n
 
 abbrev μ-loop : tie.MeasureT-loop
-μ-loop b n i₀ i = n - i
+μ-loop n users i₀ i = n - i
 
 cast-n : tie.Need-cast-n Inv-loop μ-loop
 cast-n c = search needs
@@ -16,8 +16,11 @@ cast-n c = search needs
 loop-holds : tie.Need-loop-holds Inv-loop μ-loop
 loop-holds c = search needs
 
-user-at-requires : tie.Need-user-at-requires Inv-loop μ-loop
-user-at-requires c κs = search needs
+mul-user : tie.Need-mul-user Inv-loop μ-loop
+mul-user c = search needs
+
+array-copy-out-user : tie.Need-array-copy-out-user Inv-loop μ-loop
+array-copy-out-user c = search needs
 
 print-user-requires : tie.Need-print-user-requires Inv-loop μ-loop
 print-user-requires c κs = search needs
@@ -42,7 +45,8 @@ print-users-spec =
     μ-loop
     cast-n
     loop-holds
-    user-at-requires
+    mul-user
+    array-copy-out-user
     print-user-requires
     add-i
     loop-less

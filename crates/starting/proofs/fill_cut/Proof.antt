@@ -7,8 +7,8 @@ use native.Mathlib.Omega.{arith}
 use borrow.Author.Needs.{needs}
 use denote.Ref.{now}
 use Rattle.laws.proofs.Positions.{seller-known, buyer-known}
-use Rattle.listing.proofs.Sellers.{party-room, party-inside}
-use Rattle.listing.specs.Listing.{usersIn, tradesIn}
+use Rattle.columns.proofs.Trades.{party-room, party-inside}
+use Rattle.columns.specs.Columns.{usersIn, tradesIn}
 use Rattle.records.specs.Trade.{asTrade}
 use Rattle.starting.proofs.Cut.{cut-start, cut-more, cut-end}
 use Rattle.starting.specs.Starting.{CutFlags}

@@ -1,22 +1,20 @@
 -- `store` stores the numbers from the first up: what is left to store gives the whole. Assumes nothing.
-use mathlib.Core.Path.{_≡_, sym, _∙_}
-use Prim.Native.Nat.{_-_, _≤_}
+use mathlib.Core.Path.{refl, sym, _∙_}
+use Prim.Native.Nat.{_-_}
 use native.Mathlib.Omega.{arith}
-use lib.ListN.{length, getD, drop, length-set}
-use lib.Seq.{sets}
-use Rattle.fields.proofs.Sets.{sets-whole}
-use Rattle.image.proofs.Storing.{store-step, stored-all}
+use lib.ListN.{length, getD, length-set}
+use Rattle.tier.proofs.Stores.{Stored, stored-none, stored-more, stored-all}
 use Rattle.storing.proofs.store.Statement.{statement}
 use Rattle.storing.proofs.store.Tie as tie
 
 abbrev Inv-loop : tie.InvT-loop
-Inv-loop answer₀ numbers i₀ answer i = (i ≤ length answer) × (length answer ≡ length numbers) × (sets answer i (drop i numbers) ≡ numbers)
+Inv-loop answer₀ numbers i₀ answer i = Stored numbers answer i
 
 abbrev μ-loop : tie.MeasureT-loop
 μ-loop answer₀ numbers i₀ answer i = length answer - i
 
 loop-holds : tie.Need-loop-holds Inv-loop μ-loop
-loop-holds c = (omega arith, c .pre, sets-whole _ _ (c .pre))
+loop-holds c = stored-none _ _ (c .pre)
 
 mul-answer : tie.Need-mul-answer Inv-loop μ-loop
 mul-answer c = omega (arith, c .before .before .good)
@@ -41,19 +39,17 @@ loop-less c =
 loop-again : tie.Need-loop-again Inv-loop μ-loop
 loop-again c =
     let l = c .before .before .loop in
-    let n = c .before .before .before .args .numbers .now in
-    let k = length-set (l .answer) (l .i) (getD n (l .i) 0) in
-    (omega (arith, k), k ∙ l .inv .1, store-step n (l .answer) (l .i) 0 (omega arith) ∙ l .inv .2)
+    stored-more (c .before .before .before .args .numbers .now) (l .answer) (l .i) _ (omega (arith, l .inv .long)) refl (l .inv)
 
 same-length : tie.Need-same-length Inv-loop μ-loop
 same-length c =
     let l = c .before .loop in
-    l .inv .1 ∙ sym (c .before .before .pre)
+    l .inv .long ∙ sym (c .before .before .pre)
 
 returns : tie.Need-returns Inv-loop μ-loop
 returns c =
     let l = c .before .loop in
-    stored-all (c .before .before .args .numbers .now) (l .answer) (l .i) (omega arith) (l .inv .2)
+    stored-all (c .before .before .args .numbers .now) (l .answer) (l .i) (omega (arith, l .inv .long)) (l .inv)
 
 pub store-spec : {M : Type 1} → statement M
 store-spec =

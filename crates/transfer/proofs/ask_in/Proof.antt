@@ -14,7 +14,7 @@ use Rattle.transfer.proofs.ask_in.Statement.{statement}
 use Rattle.transfer.proofs.ask_in.Tie as tie
 
 -- the part that was written and lent again is the bytes of the book
-written : (c : tie.After-ask-fields-arg) → take (c .before .before .before .before .before .before .args .len) (c .before .before .before .write-book .last .0 ++ drop (c .before .before .before .before .before .before .args .len) (now (c .before .before .before .before .before .before .args .scratch)))
+written : (c : tie.After-fields-number-arg) → take (c .before .before .before .before .before .before .args .len) (c .before .before .before .write-book .last .0 ++ drop (c .before .before .before .before .before .before .args .len) (now (c .before .before .before .before .before .before .args .scratch)))
     ≡ bytesOf (asBook (c .before .before .before .before .before .before .args .b))
 written c =
     let w = c .before .before .before in
@@ -33,26 +33,36 @@ write-book-requires c κs =
     let p = c .before .before .pre in
     (p .0 .users, p .0 .trades, rw length-take (omega (arith, p .1, p .2)))
 
-slice-reshare-prefix-ask-fields : tie.Need-slice-reshare-prefix-ask-fields
-slice-reshare-prefix-ask-fields c = search needs
+slice-reshare-prefix-fields-number : tie.Need-slice-reshare-prefix-fields-number
+slice-reshare-prefix-fields-number c = search needs
 
-slice-aggregate-ask-fields : tie.Need-slice-aggregate-ask-fields
-slice-aggregate-ask-fields c =
+slice-aggregate-fields-number : tie.Need-slice-aggregate-fields-number
+slice-aggregate-fields-number c =
     let w = c .before .before .before in
     let st = w .before .before .before in
     sym (ap length (written c) ∙ length-written (st .args .b) (st .pre .0) (w .write-book .ensures .user-room) (w .write-book .ensures .trade-room) ∙ sym (st .pre .1))
 
-ask-fields-requires : tie.Need-ask-fields-requires
-ask-fields-requires c κs =
-    let w = c .before .before .before in
-    let st = w .before .before .before in
-    rw (written c) (formed-written (st .args .b) (st .pre .0) (w .write-book .ensures .user-room) (w .write-book .ensures .trade-room))
+slice-aggregate-fields-number-2 : tie.Need-slice-aggregate-fields-number-2
+slice-aggregate-fields-number-2 c = search needs
+
+slice-aggregate-fields-number-3 : tie.Need-slice-aggregate-fields-number-3
+slice-aggregate-fields-number-3 c = search needs
+
+fields-number-requires : tie.Need-fields-number-requires
+fields-number-requires c κs =
+    let arg = c .before .before in
+    let w = arg .before .before .before in
+    let st = w .before .before .before in (
+      rw (written arg) (formed-written (st .args .b) (st .pre .0) (w .write-book .ensures .user-room) (w .write-book .ensures .trade-room)),
+      search needs,
+      search needs,
+    )
 
 same-length : tie.Need-same-length
 same-length c = search needs
 
 returns : tie.Need-returns
-returns c = c .ask-fields .ensures .asked ∙ ap fieldsNumber (written (c .before))
+returns c = c .before .before .fields-number .ensures .asked ∙ ap fieldsNumber (written (c .before .before .before .before .before))
 
 pub ask-in-spec : {M : Type 1} → statement M
 ask-in-spec =
@@ -61,8 +71,10 @@ ask-in-spec =
     slice-relend-prefix-write-book
     slice-aggregate-write-book
     write-book-requires
-    slice-reshare-prefix-ask-fields
-    slice-aggregate-ask-fields
-    ask-fields-requires
+    slice-reshare-prefix-fields-number
+    slice-aggregate-fields-number
+    slice-aggregate-fields-number-2
+    slice-aggregate-fields-number-3
+    fields-number-requires
     same-length
     returns)

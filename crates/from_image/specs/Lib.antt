@@ -1,0 +1,2 @@
+-- The book that an image's fields are.
+pub mod ImageBook

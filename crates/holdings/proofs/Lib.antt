@@ -1,0 +1,2 @@
+-- Laws of needs.
+mod Needs

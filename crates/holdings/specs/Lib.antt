@@ -1,0 +1,2 @@
+-- The holdings of the rules that the code's structs are.
+pub mod Holdings

@@ -1,0 +1,2 @@
+-- The ways out of a level.
+mod Ways

@@ -1,0 +1,2 @@
+-- The two times of the day.
+pub mod Times

@@ -1,0 +1,75 @@
+// The morning or the afternoon level of a user, on a lent book in bytes. Both times of the day go one way, with the level of the time.
+use account::Account;
+use answers::LevelAnswer;
+use levels::Limits;
+use units::Cents;
+ghost use mathlib.Core.Path.{_≡_};
+ghost use mathlib.Core.List.{List};
+ghost use Prim.Native.Nat.{ℕ};
+ghost use Rattle.rules.specs.Levels.{today};
+ghost use Rattle.rules.specs.Queries.{morningLevelOf, afternoonLevelOf};
+ghost use Rattle.records.specs.User.{asUser};
+ghost use Rattle.format.specs.Book.{bookOf};
+ghost use Rattle.format.specs.Steps.{replyBytes};
+ghost use Rattle.levels.specs.Limits.{asLimits, LimitsInRange};
+ghost use Rattle.answers.specs.Level.{replyOf};
+ghost use Rattle.account.specs.Account.{Ready, AccountIn};
+ghost use Rattle.level.specs.Times.{levelOf, queryOf};
+
+// The level of the user of an account, the afternoon's or the morning's: in every book that the account is of.
+pub fn level_of(account: Account, limits: Limits, afternoon: bool) -> Cents
+    requires { ⌜ Ready account ⌝ }
+    requires { ⌜ LimitsInRange (asLimits limits) ⌝ }
+    ensures { λ r. ⌜ ((s : List ℕ) → AccountIn s account → r .0 ≡ levelOf afternoon (asLimits limits) (bookOf s) (asUser (account .user))) ⌝ }
+{
+    let user = account.user;
+    let prices = account.prices;
+    let dealings = account.dealings;
+    if afternoon {
+        return levels::afternoon_level(limits, prices, user, dealings);
+    }
+    levels::morning_level(limits, prices, user, dealings)
+}
+
+// The level of the user of an id, at one time of the day.
+fn level(book: &[u8], id: u32, afternoon: bool) -> LevelAnswer
+    ensures { λ r. ⌜ replyOf r ≡ replyBytes today (now (book .entry)) (queryOf afternoon id) ⌝ }
+{
+    let entry = entry::enter(book, id);
+    let number = entry.number;
+    let place = entry.place;
+    if number != 0 {
+        return LevelAnswer {
+            number: number,
+            level: Cents(0),
+        };
+    }
+    let account = account::account_at(book, place);
+    let user = account.user;
+    if user.role != 0 {
+        return LevelAnswer {
+            number: 9,
+            level: Cents(0),
+        };
+    }
+    let limits = Limits::today();
+    let level = level_of(account, limits, afternoon);
+    LevelAnswer {
+        number: 0,
+        level: level,
+    }
+}
+
+// The morning level of the user of an id.
+pub fn morning_level(book: &[u8], id: u32) -> LevelAnswer
+    ensures { λ r. ⌜ replyOf r ≡ replyBytes today (now (book .entry)) (morningLevelOf id) ⌝ }
+{
+    level(book, id, false)
+}
+
+// The afternoon level of the user of an id.
+pub fn afternoon_level(book: &[u8], id: u32) -> LevelAnswer
+    ensures { λ r. ⌜ replyOf r ≡ replyBytes today (now (book .entry)) (afternoonLevelOf id) ⌝ }
+{
+    level(book, id, true)
+}

@@ -1,0 +1,2 @@
+-- What a book is that was opened.
+pub mod Opened

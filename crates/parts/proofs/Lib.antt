@@ -1,0 +1,2 @@
+-- Laws of the sums before each place.
+pub mod Sums

@@ -1,2 +1,0 @@
--- A book of which every user's line can be printed.
-pub mod Told

@@ -1,0 +1,24 @@
+-- The call of the rules that the function `reduction` is, and its questions past the user's id with what they leave. Assumes nothing.
+use mathlib.Core.List.{List, [], _∷_, _++_}
+use Prim.Native.Nat.{ℕ}
+use Rattle.rules.specs.Book.{Book, User}
+use Rattle.rules.specs.Questions.{Question, decided, refusal}
+use Rattle.rules.specs.Levels.{Limits, afternoonLevel}
+use Rattle.rules.specs.Calls.{Call, reduction, isShipper, calledInBeyondMargin, assignedFallsShort, eligibleTrade, only, reduced}
+use Rattle.format.specs.Book.{bookOf}
+use Rattle.format.specs.Steps.{InBytes, inBytes}
+
+-- the call that the function `reduction` is
+abbrev pub reductionOf : ℕ → Call
+reductionOf id = reduction id
+
+-- the questions 9, 11 and 13
+unfoldable pub levelQuestions : Limits → Book → User → List Question
+levelQuestions limits b u =
+    isShipper u ∷ (calledInBeyondMargin limits b u ∷ (assignedFallsShort (afternoonLevel limits b u) u ∷ []))
+
+-- the questions 9, 11, 13 and 14, and the reduction of the user for its target
+unfoldable pub onUser : Limits → List ℕ → User → InBytes
+onUser limits s u =
+    decided (refusal (levelQuestions limits (bookOf s) u ++ (eligibleTrade (bookOf s) u ∷ []))) (λ n. record { answer = only n; bytes = s })
+    (inBytes (reduced limits (bookOf s) u))

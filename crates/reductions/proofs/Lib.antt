@@ -1,0 +1,2 @@
+-- Laws of a book that was opened.
+pub mod Opened

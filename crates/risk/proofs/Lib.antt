@@ -1,3 +1,0 @@
--- Laws of a user of a book by its place, and of states.
-pub mod Places
-pub mod Tests

@@ -1,0 +1,2 @@
+-- What is left of a run.
+pub mod Left

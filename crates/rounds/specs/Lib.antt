@@ -1,0 +1,2 @@
+-- What a run in bytes gives.
+pub mod Reductions

@@ -1,0 +1,2 @@
+-- Laws of the loops over a seller's sales.
+pub mod Turns

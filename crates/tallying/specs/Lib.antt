@@ -1,0 +1,2 @@
+-- Cuts that can be taken off and tallied.
+pub mod Tallying

@@ -1,0 +1,2 @@
+-- The totals of a run.
+pub mod Totals
