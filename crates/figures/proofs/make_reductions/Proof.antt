@@ -1,11 +1,11 @@
--- `reductions::make_all` is safe and ends: the file keeps its length, `at` is at most it and every turn moves `at` on, the last call's part lies in the file, and the place of a
--- call is never above the place of its bytes. Assumes nothing.
+-- `figures::make_reductions` is safe and ends: the file keeps its length, `at` is at most it and every turn moves `at` on, the last part lies in the file, and the place of a
+-- reduction is never above the place of its bytes. Assumes nothing.
 use Prim.Native.Nat.{_≤_, _-_}
 use mathlib.Core.Path.{_≡_}
 use lib.ListN.{length}
 use borrow.Author.Needs.{needs}
-use Rattle.reductions.proofs.make_all.Statement.{statement}
-use Rattle.reductions.proofs.make_all.Tie as tie
+use Rattle.figures.proofs.make_reductions.Statement.{statement}
+use Rattle.figures.proofs.make_reductions.Tie as tie
 
 abbrev Inv-loop : tie.InvT-loop
 Inv-loop file₀ at₀ place₀ part₀ file at place part = (length file₀ ≡ length file) × (at ≤ length file) × (place ≤ at) × (part .start ≤ part .end) × (part .end ≤ length file)
@@ -49,17 +49,17 @@ add-at c = search needs
 part-of-requires : tie.Need-part-of-requires Inv-loop μ-loop
 part-of-requires c κs = search needs
 
-sub-make : tie.Need-sub-make Inv-loop μ-loop
-sub-make c = search needs
+sub-reduce : tie.Need-sub-reduce Inv-loop μ-loop
+sub-reduce c = search needs
 
-part-make-start : tie.Need-part-make-start Inv-loop μ-loop
-part-make-start c = search needs
+part-reduce-start : tie.Need-part-reduce-start Inv-loop μ-loop
+part-reduce-start c = search needs
 
-part-make-end : tie.Need-part-make-end Inv-loop μ-loop
-part-make-end c = search needs
+part-reduce-end : tie.Need-part-reduce-end Inv-loop μ-loop
+part-reduce-end c = search needs
 
-make-requires : tie.Need-make-requires Inv-loop μ-loop
-make-requires c κs = search needs
+reduce-requires : tie.Need-reduce-requires Inv-loop μ-loop
+reduce-requires c κs = search needs
 
 add-place : tie.Need-add-place Inv-loop μ-loop
 add-place c = search needs
@@ -76,8 +76,8 @@ same-length-2 c = search needs
 returns-2 : tie.Need-returns-2 Inv-loop μ-loop
 returns-2 c = search needs
 
-pub make-all-spec : {M : Type 1} → statement M
-make-all-spec =
+pub make-reductions-spec : {M : Type 1} → statement M
+make-reductions-spec =
     tie.close
     (tie.spec
     Inv-loop
@@ -94,10 +94,10 @@ make-all-spec =
     returns
     add-at
     part-of-requires
-    sub-make
-    part-make-start
-    part-make-end
-    make-requires
+    sub-reduce
+    part-reduce-start
+    part-reduce-end
+    reduce-requires
     add-place
     loop-less
     loop-again

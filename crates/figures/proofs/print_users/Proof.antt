@@ -1,8 +1,8 @@
--- `reductions::print_users` is safe and ends: `i` counts up to the number of users. Assumes nothing.
+-- `figures::print_users` is safe and ends: `i` counts up to the number of users. Assumes nothing.
 use Prim.Native.Nat.{_≤_, _-_}
 use borrow.Author.Needs.{needs}
-use Rattle.reductions.proofs.print_users.Statement.{statement}
-use Rattle.reductions.proofs.print_users.Tie as tie
+use Rattle.figures.proofs.print_users.Statement.{statement}
+use Rattle.figures.proofs.print_users.Tie as tie
 
 abbrev Inv-loop : tie.InvT-loop
 Inv-loop n users i₀ i = i ≤ n

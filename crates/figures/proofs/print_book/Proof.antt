@@ -1,8 +1,8 @@
--- `reductions::print_book`: the counts of a book that was read are those of a book. Assumes nothing.
-use Rattle.reductions.proofs.Opened.{opened-trades, opened-users}
+-- `figures::print_book`: the counts of a book that was read are those of a book. Assumes nothing.
+use Rattle.figures.proofs.Opened.{opened-trades, opened-users}
 use borrow.Author.Needs.{needs}
-use Rattle.reductions.proofs.print_book.Statement.{statement}
-use Rattle.reductions.proofs.print_book.Tie as tie
+use Rattle.figures.proofs.print_book.Statement.{statement}
+use Rattle.figures.proofs.print_book.Tie as tie
 
 read-requires : tie.Need-read-requires
 read-requires c κs = search needs

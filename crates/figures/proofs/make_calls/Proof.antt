@@ -1,11 +1,11 @@
--- `figures::make_all` is safe and ends: the file keeps its length, `at` is at most it and every turn moves `at` on, and the place of a call is never above the place of its bytes.
+-- `figures::make_calls` is safe and ends: the file keeps its length, `at` is at most it and every turn moves `at` on, and the place of a call is never above the place of its bytes.
 -- Assumes nothing.
 use Prim.Native.Nat.{_≤_, _-_}
 use mathlib.Core.Path.{_≡_}
 use lib.ListN.{length}
 use borrow.Author.Needs.{needs}
-use Rattle.figures.proofs.make_all.Statement.{statement}
-use Rattle.figures.proofs.make_all.Tie as tie
+use Rattle.figures.proofs.make_calls.Statement.{statement}
+use Rattle.figures.proofs.make_calls.Tie as tie
 
 abbrev Inv-loop : tie.InvT-loop
 Inv-loop file₀ at₀ place₀ file at place = (length file₀ ≡ length file) × (at ≤ length file) × (place ≤ at)
@@ -94,8 +94,8 @@ same-length-2 c = search needs
 returns-2 : tie.Need-returns-2 Inv-loop μ-loop
 returns-2 c = search needs
 
-pub make-all-spec : {M : Type 1} → statement M
-make-all-spec =
+pub make-calls-spec : {M : Type 1} → statement M
+make-calls-spec =
     tie.close
     (tie.spec
     Inv-loop

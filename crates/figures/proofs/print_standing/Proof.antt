@@ -1,8 +1,8 @@
--- `reductions::print_standing` is safe and ends: `i` counts up to the number of trades. Assumes nothing.
+-- `figures::print_standing` is safe and ends: `i` counts up to the number of trades. Assumes nothing.
 use Prim.Native.Nat.{_≤_, _-_}
 use borrow.Author.Needs.{needs}
-use Rattle.reductions.proofs.print_standing.Statement.{statement}
-use Rattle.reductions.proofs.print_standing.Tie as tie
+use Rattle.figures.proofs.print_standing.Statement.{statement}
+use Rattle.figures.proofs.print_standing.Tie as tie
 
 abbrev Inv-loop : tie.InvT-loop
 Inv-loop n trades i₀ t7 i = i ≤ n
