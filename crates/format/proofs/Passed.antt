@@ -12,7 +12,8 @@ use Rattle.format.proofs.Formed.{book-passed, formed-of}
 use Rattle.format.specs.Book.{bookOf, tradeCount, tradesAt, tradesOf, userCount, usersOf, versionOf}
 use Rattle.format.specs.Questions.{Formed, aboutBytes, aboutFields, aboutForm, bookNumber, partsOf, tradeZerosValid, userZerosValid}
 use Rattle.laws.proofs.Refusals.{append-yes, first-yes}
-use Rattle.laws.proofs.Sound.{Sound, sound}
+use Rattle.laws.proofs.Sound.{sound}
+use Rattle.laws.specs.Sound.{Sound}
 use Rattle.laws.proofs.Tests.{and-i, and-l, and-r, eqb-of}
 use Rattle.records.specs.Trade.{tradeOf, tradeZeros}
 use Rattle.records.specs.User.{userOf, userZeros}

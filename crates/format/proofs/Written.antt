@@ -19,7 +19,7 @@ use Rattle.format.specs.Book.{bytesOf, headerValues, headerWidths, bookO
 use Rattle.format.specs.Questions.{partsOf, aboutBytes, aboutFields, aboutForm, bookNumber, marked, sized, tradeZerosValid, userZerosValid, versioned, Formed}
 use Rattle.laws.proofs.Bounds.{entry-le, position-bound, within-le, prices-le}
 use Rattle.laws.proofs.Refusals.{yes-first}
-use Rattle.laws.proofs.Sound.{Sound}
+use Rattle.laws.specs.Sound.{Sound}
 use Rattle.laws.proofs.Tests.{and-l, and-r, and-i, eqb-of, same-test}
 use Rattle.laws.proofs.Users.{all-find, known-id}
 use Rattle.records.proofs.Trades.{all-bytes-tradeBytes, length-tradeBytes, trade-of-bytes, tradeZeros-tradeBytes}

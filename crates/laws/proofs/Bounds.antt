@@ -13,7 +13,7 @@ use Rattle.integers.proofs.Linear.{abs-parts, negPart-of, posPart-of, negPart-p
 use Rattle.integers.specs.Parts.{negPart, posPart}
 use Rattle.integers.specs.Sums.{sum}
 use Rattle.laws.proofs.Positions.{parts-defined, position-is}
-use Rattle.laws.proofs.Sound.{Sound}
+use Rattle.laws.specs.Sound.{Sound}
 use Rattle.laws.proofs.Tests.{and-l, and-r, by-test}
 use Rattle.rules.specs.Areas.{referencePrice, areas}
 use Rattle.rules.specs.Book.{Book, Trade, User, Terms, dealt, at, bought, definedPosition, sold}

@@ -4,7 +4,7 @@ use mathlib.Core.Path.{_≡_, refl}
 use Prim.Native.Nat.{ℕ}
 use lib.Dec.{T, eqb}
 use lib.ListN.{length-map}
-use Rattle.laws.proofs.Sound.{Sound}
+use Rattle.laws.specs.Sound.{Sound}
 use Rattle.laws.proofs.Tests.{by-test}
 use Rattle.laws.proofs.Users.{trades-map, change-all, idsRise-map}
 use Rattle.rules.specs.Book.{User, Book, find}

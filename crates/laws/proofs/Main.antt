@@ -16,7 +16,8 @@ use Rattle.laws.proofs.Reduction.{cuts-lowered}
 use Rattle.laws.proofs.Refusals.{append-yes, first-yes}
 use Rattle.laws.proofs.Run.{Done, has-target, next-none, reduced-law, run-count, run-done, run-law, run-none}
 use Rattle.laws.proofs.Settle.{retraded-anew}
-use Rattle.laws.proofs.Sound.{Sound, accept, sound}
+use Rattle.laws.proofs.Sound.{accept, sound}
+use Rattle.laws.specs.Sound.{Sound}
 use Rattle.laws.proofs.Tests.{and-l, and-r}
 use Rattle.laws.proofs.Trades.{framed, lowered-refl}
 use Rattle.laws.proofs.Users.{all-find}

@@ -14,7 +14,7 @@ use Rattle.integers.specs.Sums.{sum, sumℤ}
 use Rattle.laws.proofs.Areas.{at-add}
 use Rattle.laws.proofs.Moved.{Moved}
 use Rattle.laws.proofs.Positions.{parts-defined, position-is, eqbℤ-refl}
-use Rattle.laws.proofs.Sound.{Sound}
+use Rattle.laws.specs.Sound.{Sound}
 use Rattle.laws.proofs.Tests.{and-l, and-r, and-i, by-test, map-by, eqb-comm}
 use Rattle.laws.proofs.Trades.{parts-lost}
 use Rattle.laws.proofs.Users.{map-sum, trades-map, idsRise-map}

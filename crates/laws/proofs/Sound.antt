@@ -1,22 +1,14 @@
--- What a book that passes the questions 2 to 7 is, as a record of facts. Assumes nothing.
+-- A book passes the questions 2 to 7 exactly when it is sound. Assumes nothing.
 use mathlib.Core.Option.{Option, none, some}
 use mathlib.Core.Path.{_≡_, refl}
 use Prim.Native.Nat.{ℕ}
 use lib.Dec.{T}
 use Rattle.laws.proofs.Refusals.{first-yes, yes-first}
+use Rattle.laws.specs.Sound.{Sound}
 use Rattle.laws.proofs.Tests.{and-l, and-r, and-i}
 use Rattle.rules.specs.Book.{Book}
 use Rattle.rules.specs.Lists.{all}
 use Rattle.rules.specs.Questions.{refusal, aboutBook, isNone, accepted, countsValid, idsRise, userValid, tradeValid, positionsValid, headerValid, usersValid, versionValid}
-
-pub record Sound (b : Book) : Type 0 where
-  pub version : T (versionValid b)
-  pub counts : T (countsValid b)
-  pub header : T (headerValid (b .header))
-  pub ids : T (idsRise 0 (b .users))
-  pub users : T (all userValid (b .users))
-  pub trades : T (all (tradeValid (b .users)) (b .trades))
-  pub positions : T (all (positionsValid (b .trades)) (b .users))
 
 pub sound-of : (b : Book) → refusal (aboutBook b) ≡ none → Sound b
 unfolding aboutBook usersValid

@@ -13,7 +13,7 @@ use Rattle.format.specs.Book.{userCount}
 use Rattle.format.specs.Steps.{placeOf}
 use Rattle.held.proofs.Held.{held-users, held-userCount}
 use Rattle.held.specs.Held.{HeldAs}
-use Rattle.laws.proofs.Sound.{Sound}
+use Rattle.laws.specs.Sound.{Sound}
 use Rattle.laws.proofs.Tests.{and-l, and-r}
 use Rattle.listed.specs.Listed.{ListsOf, StateOf}
 use Rattle.rules.specs.Book.{Book, Terms, User, nobody}

@@ -8,7 +8,7 @@ use Rattle.cover.specs.Cover.{Bounded}
 use Rattle.format.specs.Book.{bookOf, tradesAt}
 use Rattle.format.specs.Steps.{placeOf}
 use Rattle.held.specs.Held.{HeldAs}
-use Rattle.laws.proofs.Sound.{Sound}
+use Rattle.laws.specs.Sound.{Sound}
 use Rattle.rules.specs.Areas.{Prices}
 use Rattle.rules.specs.Book.{Book, nobody, sold, bought}
 use Rattle.rules.specs.Levels.{Limits, shortOfCover}

@@ -2,3 +2,4 @@
 pub mod Amounts
 pub mod Users
 pub mod Trades
+pub mod Blank

@@ -13,7 +13,7 @@ use Rattle.held.specs.Held.{noTrade}
 use Rattle.integers.proofs.Linear.{by-order}
 use Rattle.integers.specs.Parts.{negPart}
 use Rattle.laws.proofs.Bounds.{prices-le, tariffs-pos}
-use Rattle.laws.proofs.Sound.{Sound}
+use Rattle.laws.specs.Sound.{Sound}
 use Rattle.records.specs.User.{asAmounts}
 use Rattle.rules.specs.Book.{at, Book, User, nobody}
 use Rattle.rules.specs.Lists.{any}

@@ -7,7 +7,7 @@ use lib.ListN.{length, drop, getD, length-map, drop-of-length-le}
 use lib.Seq.{drop-cons}
 use Rattle.format.specs.Steps.{placeOf}
 use Rattle.held.specs.Held.{noTrade}
-use Rattle.laws.proofs.Sound.{Sound}
+use Rattle.laws.specs.Sound.{Sound}
 use Rattle.reducing.proofs.Own.{own-area, own-buyer, own-buyer-inside}
 use Rattle.reducing.specs.Reducing.{sellerAt}
 use Rattle.rules.specs.Book.{Book, Trade, User}

@@ -9,7 +9,7 @@ use Rattle.format.specs.Book.{bookOf, tradesAt}
 use Rattle.format.specs.Steps.{placeOf}
 use Rattle.held.specs.Held.{HeldAs}
 use Rattle.integers.specs.Parts.{negPart}
-use Rattle.laws.proofs.Sound.{Sound}
+use Rattle.laws.specs.Sound.{Sound}
 use Rattle.rules.specs.Areas.{Prices}
 use Rattle.rules.specs.Book.{at, Book, User, nobody}
 use Rattle.rules.specs.Calls.{reducedBy}

@@ -10,7 +10,7 @@ use Rattle.rules.specs.Book.{PerArea, User, Trade, Book, definedPosition
 use Rattle.rules.specs.Questions.{accepted}
 use Rattle.rules.specs.Levels.{today, morningLevel, afternoonLevel, flagged}
 use Rattle.rules.specs.Reduction.{target}
-use Rattle.rules.specs.Calls.{Call, morningCall, reduction, step}
+use Rattle.rules.specs.Calls.{Call, morningCall, afternoonCall, reduction, step}
 use Rattle.rules.proofs.Opened.{opened}
 
 -- ---- books
@@ -80,6 +80,10 @@ unfoldable pub selling : ℕ → ℕ → ℕ → Book
 selling asked m n =
     bookWith (pos (9998000 + asked)) 10000000 0 (amounts (pos (m + n) -ℤ pos 1) (pos 0)) (sale 0 0 m ∷ (sale 0 0 n ∷ (cutBefore ∷ [])))
 
+-- called in, with a level of 10,000,000 and 9,000,000 blocked
+unfoldable pub atMargin : ℕ → Book
+atMargin assigned = bookWith (pos 0) assigned 9000000 (amounts (pos 0) (pos 0)) (cutBefore ∷ [])
+
 -- what stands of each trade after a call
 unfoldable pub standingAfter : Book → Call → List ℕ
 standingAfter b c = map (λ t. t .standing) (step today b c .book .trades)
@@ -92,12 +96,16 @@ pub record Rows : Type 0 where
   pub not-flagged : flagged today (shortInPvb 20000000) (first (shortInPvb 20000000)) ≡ false
   pub is-flagged : flagged today (shortInPvb 19999999) (first (shortInPvb 19999999)) ≡ true
   -- charges −5,000,000, all else 0: level 10,000,000, in the morning and in the afternoon
-  pub floor-book : accepted (charged (negℤ (pos 5000000)) 0) ≡ true
-  pub morning-floor : morningLevel today (charged (negℤ (pos 5000000)) 0) (first (charged (negℤ (pos 5000000)) 0)) ≡ 10000000
-  pub afternoon-floor : afternoonLevel today (charged (negℤ (pos 5000000)) 0) (first (charged (negℤ (pos 5000000)) 0)) ≡ 10000000
+  pub floor-book : accepted (bookWith (negℤ (pos 5000000)) 0 0 (amounts (pos 0) (pos 0)) []) ≡ true
+  pub morning-floor : morningLevel today (bookWith (negℤ (pos 5000000)) 0 0 (amounts (pos 0) (pos 0)) []) (first (bookWith (negℤ (pos 5000000)) 0 0 (amounts (pos 0) (pos 0)) [])) ≡ 10000000
+  pub afternoon-floor : afternoonLevel today (bookWith (negℤ (pos 5000000)) 0 0 (amounts (pos 0) (pos 0)) []) (first (bookWith (negℤ (pos 5000000)) 0 0 (amounts (pos 0) (pos 0)) [])) ≡ 10000000
   -- level − blocked 1,000,000: 11
   pub margin-book : accepted (charged (pos 0) 9000000) ≡ true
   pub margin-call : step today (charged (pos 0) 9000000) (morningCall 101) .answer .number ≡ 11
+  pub margin-in-book : accepted (atMargin 10000000) ≡ true
+  pub margin-in-book2 : accepted (atMargin 9000000) ≡ true
+  pub margin-afternoon : step today (atMargin 10000000) (afternoonCall 101) .answer .number ≡ 11
+  pub margin-reduction : step today (atMargin 9000000) (reduction 101) .answer .number ≡ 11
   -- TVB position 500, sold d+1 800, charges 10,000,000: afternoon level 10,720,000
   pub stock-book : accepted (bookWith (pos 10000000) 0 0 (amounts (pos 0) (pos 500)) (sale 1 1 800 ∷ [])) ≡ true
   pub stock-level :
@@ -128,7 +136,7 @@ pub record Rows : Type 0 where
       ≡ record { number = 0; level = 0; added = 0; reductions = 0; mwh = 6; worth = 12000; target = 12001; short = 1; over = 0 }
 
 pub rows : Rows
-unfolding opened prices amounts user positioned trade sale bookOf two first bookWith shortInPvb charged cutBefore selling standingAfter
+unfolding opened prices amounts user positioned trade sale bookOf two first bookWith shortInPvb charged cutBefore selling standingAfter atMargin
 rows =
     record {
       flag-books = (refl, refl);
@@ -139,6 +147,10 @@ rows =
       afternoon-floor = refl;
       margin-book = refl;
       margin-call = refl;
+      margin-in-book = refl;
+      margin-in-book2 = refl;
+      margin-afternoon = refl;
+      margin-reduction = refl;
       stock-book = refl;
       stock-level = refl;
       need-book = refl;

@@ -14,7 +14,7 @@ use Rattle.integers.specs.Parts.{posPart, negPart}
 use Rattle.laws.proofs.Bounds.{position-bound}
 use Rattle.laws.proofs.Reduction.{cuts-sound}
 use Rattle.laws.proofs.Shares.{within-at}
-use Rattle.laws.proofs.Sound.{Sound}
+use Rattle.laws.specs.Sound.{Sound}
 use Rattle.laws.proofs.Tests.{and-i, and-r, or-r}
 use Rattle.laws.specs.Trades.{cutWithin, cutsWithin}
 use Rattle.rules.specs.Book.{at, Party, Book, User, Trade, bilateralForDay, nobody}

@@ -11,7 +11,7 @@ use lib.ListN.{getD}
 use borrow.Author.Tests.{ltb-false}
 use Rattle.dealings.specs.Parties.{cutBefore}
 use Rattle.laws.proofs.Run.{reducedBy-law}
-use Rattle.laws.proofs.Sound.{Sound}
+use Rattle.laws.specs.Sound.{Sound}
 use Rattle.laws.proofs.Tests.{eqb-comm}
 use Rattle.laws.proofs.Trades.{framed}
 use Rattle.rules.specs.Book.{Header, Book, User, Trade}

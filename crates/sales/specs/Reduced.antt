@@ -5,7 +5,7 @@ use mathlib.Core.Path.{_≡_}
 use Prim.Native.Nat.{ℕ}
 use lib.ListN.{take}
 use Rattle.dealings.specs.Parties.{cutBefore}
-use Rattle.laws.proofs.Sound.{Sound}
+use Rattle.laws.specs.Sound.{Sound}
 use Rattle.laws.specs.Trades.{Lowered, Pairwise}
 use Rattle.rules.specs.Book.{Book, User, Trade}
 use Rattle.rules.specs.Calls.{Result, ofCuts}

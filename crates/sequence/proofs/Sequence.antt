@@ -145,6 +145,7 @@ module _ (limits : Limits) where
       record {
         defined = q .defined;
         book = q .book;
+        bytes = sym (bytesOf-bookOf t (q .all-bytes) p) ∙ ap bytesOf (q .book);
         accepted = q .number;
         each = q .each;
         positions = λ a l. positions-sum (usersOf t) (tradesOf t) a l (z .ids) (z .trades) (z .positions) ∙ q .moved .physical a l;

@@ -14,7 +14,8 @@ use Rattle.laws.proofs.Moved.{Moved, moved-refl}
 use Rattle.laws.proofs.Posting.{posting-moved, posting-sound}
 use Rattle.laws.proofs.Refusals.{append-yes, first-yes, numbered, refusal-is}
 use Rattle.laws.proofs.Run.{reduced-law, run-law}
-use Rattle.laws.proofs.Sound.{Sound, accept, sound}
+use Rattle.laws.proofs.Sound.{accept, sound}
+use Rattle.laws.specs.Sound.{Sound}
 use Rattle.laws.proofs.Tests.{all-append, and-l, and-r}
 use Rattle.laws.proofs.Trades.{lowered-refl}
 use Rattle.laws.specs.Statements.{AllCovered}

@@ -74,6 +74,7 @@ pub data Each (limits : Limits) : List Link → Type 0 where
 pub record Claim (limits : Limits) (s : List ℕ) (ls : List Link) (t : List ℕ) : Type 0 where
   pub defined : AsDefined ls (events limits (bookOf s) (callsOf ls))
   pub book : bookOf t ≡ final limits (bookOf s) (callsOf ls)
+  pub bytes : t ≡ bytesOf (final limits (bookOf s) (callsOf ls))
   pub accepted : bookNumber t ≡ 0
   pub each : Each limits ls
   pub positions : (a : ℕ) → a < 3

@@ -1,9 +1,10 @@
 // The shown record: a user's 56 bytes as that part of the lent book, no copy and no offset.
-ghost use Rattle.shown.specs.Shown.{Shown, picked};
+ghost use Rattle.shown.specs.Shown.{Shown, PartOf, picked, pickedAt};
 
 // The record of the user of an id as a part of the book, and 0; or the empty part and the number of the first question that is answered by no.
 pub fn show<'a>(book: &'a [u8], id: u32, number: &mut u32) -> &'a [u8]
     ensures { λ r. ⌜ Shown (now (book .entry)) id (now (number .exit)) (now r) ⌝ }
+    ensures { λ r. ⌜ PartOf (now (book .entry)) id (book .entry .ptr) (r .ptr) ⌝ }
 {
     let entry = entry::enter(book, id);
     let place = entry.place;
@@ -24,6 +25,7 @@ pub fn show_picked<'a>(
     number: &mut u32,
 ) -> &'a [u8]
     ensures { λ r. ⌜ Shown (picked «afternoon_picked» (now (morning .entry)) (now (afternoon .entry))) id (now (number .exit)) (now r) ⌝ }
+    ensures { λ r. ⌜ PartOf (picked «afternoon_picked» (now (morning .entry)) (now (afternoon .entry))) id (pickedAt «afternoon_picked» (morning .entry .ptr) (afternoon .entry .ptr)) (r .ptr) ⌝ }
 {
     if afternoon_picked {
         show(afternoon, id, number)

@@ -9,7 +9,7 @@ use Rattle.cover.specs.Cover.{Ranges}
 use Rattle.dealings.specs.Parties.{cutBefore}
 use Rattle.format.specs.Book.{userCount, tradeCount, usersOf, tradesOf, bookOf}
 use Rattle.held.specs.Held.{HeldAs}
-use Rattle.laws.proofs.Sound.{Sound}
+use Rattle.laws.specs.Sound.{Sound}
 use Rattle.listed.specs.Listed.{NextDealt}
 use Rattle.places.specs.Ids.{Placed}
 use Rattle.rules.specs.Areas.{Prices}

@@ -1,5 +1,5 @@
 -- `show` gives the empty part and the number of the entry, or the 56 bytes where the found user stands. Assumes nothing.
-use mathlib.Core.Path.{_≡_, sym, ap, _∙_}
+use mathlib.Core.Path.{_≡_, sym, ap, _∙_, refl}
 use mathlib.Core.List.{List, []}
 use Prim.Native.Nat.{ℕ, _+_, _-_, _*_, _<_, _≤_}
 use native.Mathlib.Omega.{arith}
@@ -13,6 +13,7 @@ use Rattle.entry.specs.Entered.{Found}
 use Rattle.entry.proofs.Asked.{entry-found}
 use Rattle.entry.proofs.Calls.{found-few, found-lies}
 use borrow.Author.Needs.{needs}
+use Rattle.shown.specs.Shown.{shownAt}
 use Rattle.shown.proofs.show.Statement.{statement}
 use Rattle.shown.proofs.show.Tie as tie
 
@@ -36,11 +37,11 @@ slice-aggregate-result : tie.Need-slice-aggregate-result
 slice-aggregate-result c = search needs
 
 returns : tie.Need-returns
-unfolding aboutQuery shownPart decided numberOf
+unfolding aboutQuery shownPart shownAt decided numberOf
 returns c =
     let e = c .before .before .before in
     let r = e .enter .ensures .refused (c .before .if1 .taken) in
-    record { asked = sym (ap numberOf r); shows = rw r }
+    (record { asked = sym (ap numberOf r); shows = rw r }, record { block = refl; offset = rw r (omega arith) })
 
 mul-a : tie.Need-mul-a
 mul-a c = omega (arith, inside c)
@@ -61,13 +62,13 @@ part-result-end : tie.Need-part-result-end
 part-result-end c = omega (arith, inside c)
 
 returns-2 : tie.Need-returns-2
-unfolding aboutQuery shownPart decided numberOf refusal userAt bookOf
+unfolding aboutQuery shownPart shownAt decided numberOf refusal userAt bookOf
 returns-2 c =
     let e = c .before .before .before in
     let f = found (c .before) in
     let r = entry-found (bytes e) (asked e) [] f in
     let k : 32 + 56 * e .enter .result .place + 56 - (32 + 56 * e .enter .result .place) ≡ 56 = omega arith in
-    record { asked = c .before .if1 .left ∙ sym (ap numberOf r); shows = rw (r, ← f .stands, k) }
+    (record { asked = c .before .if1 .left ∙ sym (ap numberOf r); shows = rw (r, ← f .stands, k) }, record { block = refl; offset = rw (r, ← f .stands) (omega arith) })
 
 pub show-spec : {M : Type 1} → statement M
 show-spec =
