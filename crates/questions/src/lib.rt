@@ -38,6 +38,7 @@ fn users_valid(s: &[u8], at: usize, n: usize, ids: &mut [u32]) -> bool
 // summed at each: one walk serves the questions 6 and 7.
 fn trades_valid(
     ids: &[u32],
+    guesses: &[u8; 1024],
     n: usize,
     s: &[u8],
     at: usize,
@@ -55,8 +56,8 @@ fn trades_valid(
     let mut a = at;
     while i < m {
         let t = records::read_trade(&s[a..a + 20]);
-        let seller = places::place_of(ids, n, t.seller);
-        let buyer = places::place_of(ids, n, t.buyer);
+        let seller = places::find(ids, guesses, n, t.seller);
+        let buyer = places::find(ids, guesses, n, t.buyer);
         if !validity::trade_valid(seller < n, buyer < n, t) {
             return false;
         }
@@ -93,11 +94,14 @@ pub fn records_number(
     if !(user_zeros & users_valid(s, users_at, n, &mut ids)) {
         return 5;
     }
+    let mut guesses = [0u8; 1024];
+    places::fill_guesses(&ids, n, &mut guesses);
     let mut sold = [0u64; 192];
     let mut bought = [0u64; 192];
     if !(trade_zeros
         & trades_valid(
             &ids,
+            &guesses,
             n,
             s,
             trades_at,

@@ -19,6 +19,9 @@ users-valid-requires c κs = search needs
 returns : tie.Need-returns
 returns c = records-5 (c .before .before .users-valid .ensures) (not-true _ (c .if1 .taken))
 
+fill-guesses-requires : tie.Need-fill-guesses-requires
+fill-guesses-requires c κs = search needs
+
 slice-aggregate-trades-valid : tie.Need-slice-aggregate-trades-valid
 slice-aggregate-trades-valid c = search needs
 
@@ -30,7 +33,7 @@ slice-aggregate-trades-valid-3 c = search needs
 
 trades-valid-requires : tie.Need-trades-valid-requires
 trades-valid-requires c κs =
-    let passed = c .before .before .before .before .before in
+    let passed = c .before .before .before .before .before .before .before .before .before in
     let users = passed .before .before .users-valid in
     let start = passed .before .before .before .before .before .before .before in
     (users .ensures .padded (second-yes (start .args .user-zeros) (users .result) (not-false _ (passed .if1 .left))), search needs)
@@ -44,7 +47,7 @@ same-length-2 c = search needs
 returns-2 : tie.Need-returns-2
 returns-2 c =
     let trades = c .before .before .before .before .before .before .before in
-    let passed = trades .before .before .before .before .before .before in
+    let passed = trades .before .before .before .before .before .before .before .before .before .before in
     let a = passed .before .before .before .before .before .before .before .args in
     records-6 {ts = tradesFrom (a .trades-at) (a .m) (now (a .s))} (passed .before .before .users-valid .ensures) (trades .trades-valid .ensures) (not-false _ (passed .if1 .left)) (not-true _ (c .if2 .taken))
 
@@ -58,19 +61,19 @@ positions-valid-requires : tie.Need-positions-valid-requires
 positions-valid-requires c κs =
     let allowed = c .before .before in
     let trades = allowed .before .before .before .before .before .before .before in
-    let start = trades .before .before .before .before .before .before .before .before .before .before .before .before .before in
-    let passed = trades .before .before .before .before .before .before in
+    let start = trades .before .before .before .before .before .before .before .before .before .before .before .before .before .before .before .before .before in
+    let passed = trades .before .before .before .before .before .before .before .before .before .before in
     let a = start .args in
     let low = records-bounded {ts = tradesFrom (a .trades-at) (a .m) (now (a .s))} (passed .before .before .users-valid .ensures) (trades .trades-valid .ensures) (second-yes (a .trade-zeros) (trades .trades-valid .result) (not-false _ (allowed .if2 .left))) in
     (start .pre .0 .few, start .pre .0 .users, low .0, low .1)
 
 -- the answer to question 7 is that of the rules
 positions-answer : (c : tie.After-positions-valid)
-    → c .positions-valid .result ≡ all (positionsValid (tradesFrom (c .before .before .before .before .before .before .before .before .before .before .before .before .before .before .before .before .before .before .before .before .before .before .before .args .trades-at) (c .before .before .before .before .before .before .before .before .before .before .before .before .before .before .before .before .before .before .before .before .before .before .before .args .m) (now (c .before .before .before .before .before .before .before .before .before .before .before .before .before .before .before .before .before .before .before .before .before .before .before .args .s)))) (usersFrom (c .before .before .before .before .before .before .before .before .before .before .before .before .before .before .before .before .before .before .before .before .before .before .before .args .users-at) (c .before .before .before .before .before .before .before .before .before .before .before .before .before .before .before .before .before .before .before .before .before .before .before .args .n) (now (c .before .before .before .before .before .before .before .before .before .before .before .before .before .before .before .before .before .before .before .before .before .before .before .args .s)))
+    → c .positions-valid .result ≡ all (positionsValid (tradesFrom (c .before .before .before .before .before .before .before .before .before .before .before .before .before .before .before .before .before .before .before .before .before .before .before .before .before .before .before .args .trades-at) (c .before .before .before .before .before .before .before .before .before .before .before .before .before .before .before .before .before .before .before .before .before .before .before .before .before .before .before .args .m) (now (c .before .before .before .before .before .before .before .before .before .before .before .before .before .before .before .before .before .before .before .before .before .before .before .before .before .before .before .args .s)))) (usersFrom (c .before .before .before .before .before .before .before .before .before .before .before .before .before .before .before .before .before .before .before .before .before .before .before .before .before .before .before .args .users-at) (c .before .before .before .before .before .before .before .before .before .before .before .before .before .before .before .before .before .before .before .before .before .before .before .before .before .before .before .args .n) (now (c .before .before .before .before .before .before .before .before .before .before .before .before .before .before .before .before .before .before .before .before .before .before .before .before .before .before .before .args .s)))
 positions-answer c =
     let allowed = c .before .before .before in
     let trades = allowed .before .before .before .before .before .before .before in
-    let passed = trades .before .before .before .before .before .before in
+    let passed = trades .before .before .before .before .before .before .before .before .before .before in
     let users = passed .before .before .users-valid in
     let a = passed .before .before .before .before .before .before .before .args in
     let ts = tradesFrom (a .trades-at) (a .m) (now (a .s)) in
@@ -87,7 +90,7 @@ returns-3 : tie.Need-returns-3
 returns-3 c =
     let allowed = c .before .before .before .before in
     let trades = allowed .before .before .before .before .before .before .before in
-    let passed = trades .before .before .before .before .before .before in
+    let passed = trades .before .before .before .before .before .before .before .before .before .before in
     let a = passed .before .before .before .before .before .before .before .args in
     records-7 {ts = tradesFrom (a .trades-at) (a .m) (now (a .s))} (passed .before .before .users-valid .ensures) (trades .trades-valid .ensures) (not-false _ (passed .if1 .left))
     (not-false _ (allowed .if2 .left)) (positions-answer (c .before)) (not-true _ (c .if3 .taken))
@@ -102,7 +105,7 @@ returns-4 : tie.Need-returns-4
 returns-4 c =
     let allowed = c .before .before .before .before in
     let trades = allowed .before .before .before .before .before .before .before in
-    let passed = trades .before .before .before .before .before .before in
+    let passed = trades .before .before .before .before .before .before .before .before .before .before in
     let a = passed .before .before .before .before .before .before .before .args in
     records-0 {ts = tradesFrom (a .trades-at) (a .m) (now (a .s))} (passed .before .before .users-valid .ensures) (trades .trades-valid .ensures) (not-false _ (passed .if1 .left))
     (not-false _ (allowed .if2 .left)) (positions-answer (c .before)) (not-false _ (c .if3 .left))
@@ -114,6 +117,7 @@ records-number-spec =
     slice-aggregate-users-valid
     users-valid-requires
     returns
+    fill-guesses-requires
     slice-aggregate-trades-valid
     slice-aggregate-trades-valid-2
     slice-aggregate-trades-valid-3

@@ -17,10 +17,10 @@ use Rattle.questions.proofs.trades_valid.Statement.{statement}
 use Rattle.questions.proofs.trades_valid.Tie as tie
 
 abbrev Inv-loop : tie.InvT-loop
-Inv-loop ids n s at m sellers₀ buyers₀ sold₀ bought₀ i₀ a₀ sellers buyers sold bought i a = TradesWalk (take n ids) s at m sellers buyers sold bought i a
+Inv-loop ids guesses n s at m sellers₀ buyers₀ sold₀ bought₀ i₀ a₀ sellers buyers sold bought i a = TradesWalk (take n ids) s at m sellers buyers sold bought i a
 
 abbrev μ-loop : tie.MeasureT-loop
-μ-loop ids n s at m sellers₀ buyers₀ sold₀ bought₀ i₀ a₀ sellers buyers sold bought i a = m - i
+μ-loop ids guesses n s at m sellers₀ buyers₀ sold₀ bought₀ i₀ a₀ sellers buyers sold bought i a = m - i
 
 -- the trade that was read is valid between the ids as the answer says
 asked : {answer : Bool} (c : tie.After-trade-valid Inv-loop μ-loop) → c .trade-valid .result ≡ answer
@@ -29,19 +29,19 @@ unfolding asTrade
 asked c e =
     let places = c .before in
     let start = c .before .before .before .before .before .before .before .before .before .before .before .before .before in
-    tradeAmong-places (now (start .args .ids)) (start .args .n) _ (places .before .place-of .result) (places .place-of2 .result) (search needs)
-    (places .before .place-of .ensures .0) (places .place-of2 .ensures .0) (c .trade-valid .ensures) e
+    tradeAmong-places (now (start .args .ids)) (start .args .n) _ (places .before .find .result) (places .find2 .result) (search needs)
+    (places .before .find .ensures .0) (places .find2 .ensures .0) (c .trade-valid .ensures) e
 
 -- where it is, it can be counted for both parties
 countable : (c : tie.After-trade-valid Inv-loop μ-loop) → c .trade-valid .result ≡ true
-    → Countable (c .before .before .place-of .result) (asTrade (c .before .before .before .read-trade .result)) (c .before .before .before .before .before .before .loop .sold)
-    × Countable (c .before .place-of2 .result) (asTrade (c .before .before .before .read-trade .result)) (c .before .before .before .before .before .before .loop .bought)
+    → Countable (c .before .before .find .result) (asTrade (c .before .before .before .read-trade .result)) (c .before .before .before .before .before .before .loop .sold)
+    × Countable (c .before .find2 .result) (asTrade (c .before .before .before .read-trade .result)) (c .before .before .before .before .before .before .loop .bought)
 unfolding asTrade
 countable c e =
     let places = c .before in
     let read = places .before .before in
     let start = c .before .before .before .before .before .before .before .before .before .before .before .before .before in
-    trades-walk-countable (c .before .before .before .before .before .before .loop .inv) (omega arith) (read .read-trade .ensures) (search needs) (asked c e) (places .before .place-of .ensures .0) (places .place-of2 .ensures .0)
+    trades-walk-countable (c .before .before .before .before .before .before .loop .inv) (omega arith) (read .read-trade .ensures) (search needs) (asked c e) (places .before .find .ensures .0) (places .find2 .ensures .0)
     (rw length-take (omega (arith, start .pre .0 .few)))
 
 loop-holds : tie.Need-loop-holds Inv-loop μ-loop
@@ -64,11 +64,11 @@ part-read-trade-end c = search needs
 read-trade-requires : tie.Need-read-trade-requires Inv-loop μ-loop
 read-trade-requires c κs = simp (length-take, length-drop) (omega arith)
 
-place-of-requires : tie.Need-place-of-requires Inv-loop μ-loop
-place-of-requires c κs = search needs
+find-requires : tie.Need-find-requires Inv-loop μ-loop
+find-requires c κs = search needs
 
-place-of-requires-2 : tie.Need-place-of-requires-2 Inv-loop μ-loop
-place-of-requires-2 c κs = search needs
+find-requires-2 : tie.Need-find-requires-2 Inv-loop μ-loop
+find-requires-2 c κs = search needs
 
 trade-valid-requires : tie.Need-trade-valid-requires Inv-loop μ-loop
 trade-valid-requires c κs = search needs
@@ -138,7 +138,7 @@ loop-again c =
     let places = answer .before in
     let read = places .before .before in
     trades-walk-turn (read .before .before .before .loop .inv) (omega (arith, read .before .before .loop-test)) (read .read-trade .ensures) (read .before .before .before .before .before .before .before .before .before .before .pre .1 .0) (asked answer (not-false (answer .trade-valid .result) (valid .if1 .left)))
-    (places .before .place-of .ensures .0) (places .place-of2 .ensures .0) (sums .before .before .before .before .count .ensures) (sums .count2 .ensures)
+    (places .before .find .ensures .0) (places .find2 .ensures .0) (sums .before .before .before .before .count .ensures) (sums .count2 .ensures)
 
 same-length-5 : tie.Need-same-length-5 Inv-loop μ-loop
 same-length-5 c = search needs
@@ -171,8 +171,8 @@ trades-valid-spec =
     part-read-trade-start
     part-read-trade-end
     read-trade-requires
-    place-of-requires
-    place-of-requires-2
+    find-requires
+    find-requires-2
     trade-valid-requires
     same-length
     same-length-2
