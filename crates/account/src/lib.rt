@@ -1,24 +1,29 @@
 // What a call needs of one user of an accepted book in bytes: the user's record, the prices, and what the user dealt in the trades; and whether the user is
 // called in. Nothing but that is read.
+use dealings::Amounts;
 use dealings::Dealings;
 use levels::Limits;
 use records::Trade;
 use records::User;
+use units::Mwh;
 use units::Prices;
 ghost use mathlib.Core.Path.{_≡_};
+ghost use mathlib.Core.List.{List};
 ghost use Prim.Native.Nat.{_+_, _*_, _≤_, _<_, _^_};
 ghost use lib.ListN.{length, drop, getD};
+ghost use Rattle.rules.specs.Book as model;
 ghost use Rattle.rules.specs.Book.{nobody};
 ghost use Rattle.rules.specs.Levels.{calledIn};
 ghost use Rattle.fields.specs.Layout.{recordsOf};
 ghost use Rattle.records.specs.User.{asUser};
 ghost use Rattle.records.specs.Trade.{tradeOf, asTrade};
-ghost use Rattle.format.specs.Book.{userCount, usersOf, bookOf};
+ghost use Rattle.format.specs.Book.{userCount, usersOf, tradesOf, bookOf};
 ghost use Rattle.format.specs.Questions.{Formed, bookNumber};
 ghost use Rattle.dealings.specs.Dealt.{Dealt, Counted, AllWithin};
 ghost use Rattle.dealings.specs.Parties.{isCut, cutBefore};
 ghost use Rattle.levels.specs.Limits.{asLimits, LimitsInRange};
-ghost use Rattle.account.specs.Account.{Ready, AccountIn, AccountAt};
+ghost use Rattle.positions.specs.Twelve.{TwelveOf, Low};
+ghost use Rattle.account.specs.Account.{Ready, AccountIn, AccountAt, AmountsFrom};
 
 // ---- the trades
 
@@ -48,6 +53,47 @@ fn dealings_in(s: &[u8], at: usize, m: usize, id: u32) -> Dealings
         i += 1;
     }
     dealings
+}
+
+// A sum as an energy.
+fn energy(sum: u32) -> Mwh
+    ensures { λ r. ⌜ r .0 ≡ sum ⌝ }
+{
+    Mwh(sum as u64)
+}
+
+// The energies of three sums, of the areas in their order.
+fn amounts_from(sums: &[u32; 768], k: usize) -> Amounts
+    requires { ⌜ k < 766 ⌝ }
+    ensures { λ r. ⌜ AmountsFrom (now (sums .entry)) k r ⌝ }
+{
+    let pvb = energy(sums[k]);
+    let tvb = energy(sums[k + 1]);
+    let avb = energy(sums[k + 2]);
+    Amounts {
+        pvb: pvb,
+        tvb: tvb,
+        avb: avb,
+    }
+}
+
+// The dealings of the user at a place, by the twelve sums of each user: no trade is read.
+fn dealings_from(sums: &[u32; 768], place: usize) -> Dealings
+    requires { ⌜ place < 64 ⌝ }
+    requires { ⌜ Low (now sums) ⌝ }
+    ensures { λ r. ⌜ ((us : List model.User) (ts : List model.Trade) → TwelveOf us ts (now (sums .entry)) → place < length us → Dealt 256 (getD us place nobody .party .id) ts r) ⌝ }
+{
+    let k = 12 * place;
+    let sold = amounts_from(sums, k);
+    let sold_next = amounts_from(sums, k + 3);
+    let bought = amounts_from(sums, k + 6);
+    let bought_next = amounts_from(sums, k + 9);
+    Dealings {
+        sold: sold,
+        bought: bought,
+        sold_next: sold_next,
+        bought_next: bought_next,
+    }
 }
 
 // Is the user of an id party to the trade of 20 bytes, and stands less than was notified?
@@ -109,6 +155,23 @@ pub fn account_at(s: &[u8], place: usize) -> Account
     let user = user_at(s, place);
     let prices = header::read_prices(s);
     let dealings = dealings_in(s, 32 + 56 * n, m, user.id);
+    Account {
+        user: user,
+        prices: prices,
+        dealings: dealings,
+    }
+}
+
+// The same by the sums that the questions told: no trade is read.
+pub fn account_from(s: &[u8], place: usize, sums: &[u32; 768]) -> Account
+    requires { ⌜ bookNumber (now s) ≡ 0 ⌝ }
+    requires { ⌜ place < userCount (now s) ⌝ }
+    requires { ⌜ TwelveOf (usersOf (now s)) (tradesOf (now s)) (now sums) × Low (now sums) ⌝ }
+    ensures { λ r. ⌜ AccountAt (now (s .entry)) place r ⌝ }
+{
+    let user = user_at(s, place);
+    let prices = header::read_prices(s);
+    let dealings = dealings_from(sums, place);
     Account {
         user: user,
         prices: prices,

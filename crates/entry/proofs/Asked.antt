@@ -3,10 +3,12 @@ use mathlib.Core.List.{List, [], _++_, _∷_, append-assoc}
 use mathlib.Core.Option.{some}
 use mathlib.Core.Path.{_≡_, _∙_}
 use Prim.Native.Nat.{_≤_, ℕ}
-use Rattle.entry.specs.Entered.{Found}
+use lib.Dec.{T}
+use Rattle.entry.specs.Entered.{Entered, Found, SumsFound}
+use Rattle.questions.specs.Asked.{AskedOf, Summed, pastSix}
 use Rattle.format.proofs.Formed.{book-passed, book-refused}
 use Rattle.format.proofs.OneUser.{known-place, unknown-place}
-use Rattle.format.specs.Book.{bookOf, userCount, usersOf}
+use Rattle.format.specs.Book.{bookOf, tradesOf, userCount, usersOf}
 use Rattle.format.specs.Questions.{aboutBytes, bookNumber}
 use Rattle.format.specs.Steps.{placeOf}
 use Rattle.laws.proofs.Refusals.{refusal-first, refusal-next, yes-first}
@@ -33,3 +35,19 @@ entry-unknown s id h k =
 -- bytes that fail a question of the book
 pub entry-unread : (s : List ℕ) (id n : ℕ) → n ≡ bookNumber s → (n ≡ 0 → ⊥) → refusal (aboutBytes s ++ (idKnown (bookOf s) id ∷ [])) ≡ some n
 entry-unread s id n e h = refusal-first (aboutBytes s) (idKnown (bookOf s) id ∷ []) n (book-refused s n e h)
+
+-- ---- the sums
+
+-- 0 is past question 6
+past-none : {k : ℕ} → k ≡ 0 → T (pastSix k)
+unfolding pastSix
+past-none e = rw e tt
+
+-- where the user is found, no question refused
+pub sums-found : {s : List ℕ} {id k read count number place : ℕ} {sellers buyers sums : List ℕ} → AskedOf s k sellers buyers
+    → Summed (usersOf s) (tradesOf s) count k read sums → Entered s id number place → SumsFound s number sums
+sums-found asked summed entered =
+    record {
+      twelve = λ e. summed .twelve (past-none (asked .number ∙ entered .found e .passes));
+      low = λ e. summed .low (past-none (asked .number ∙ entered .found e .passes));
+    }

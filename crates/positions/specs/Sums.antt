@@ -5,7 +5,7 @@ use mathlib.Core.Path.{_≡_}
 use Prim.Native.Nat.{ℕ, _+_, _*_, _≤_, _<_, _^_}
 use lib.Dec.{T, eqb, ltb}
 use lib.ListN.{length, take, getD, replicate}
-use Rattle.rules.specs.Book.{Terms, Trade, User, sold, bought}
+use Rattle.rules.specs.Book.{Terms, Trade, User}
 use Rattle.rules.specs.Lists.{all}
 use Rattle.places.specs.Ids.{idsOf, among, placeIn, Rising, Placed}
 
@@ -18,11 +18,6 @@ unfoldable pub givenBy : ℕ → List ℕ → List Trade → ℕ → ℕ → ℕ
 givenBy day [] ts i area = 0
 givenBy day (p ∷ ps) [] i area = 0
 givenBy day (p ∷ ps) (t ∷ ts) i area = given day p t i area + givenBy day ps ts i area
-
--- there is room for 64 users, and none is above what 256 trades can have: 2^32 − 1 MWh each
-pub record Bounded (sums : List ℕ) : Type 0 where
-  pub room : length sums ≡ 192
-  pub low : (k : ℕ) → getD sums k 0 ≤ 256 * 4294967295
 
 -- the sums are what trades give for a day, each counted at its place; none is above `most`
 pub record Sums (day : ℕ) (places : List ℕ) (ts : List Trade) (most : ℕ) (sums : List ℕ) : Type 0 where
@@ -63,11 +58,6 @@ partiesAmong ids t = (among ids (t .terms .seller) && among ids (t .terms .buyer
 -- the place among ids of the party of each trade, the seller's or the buyer's
 abbrev pub placesOf : List ℕ → (Terms → ℕ) → List Trade → List ℕ
 placesOf ids side ts = map (λ t. placeIn ids (side (t .terms))) ts
-
--- at the place of each user stands what it sold for the day in trades, and what it bought
-pub record DaySums (us : List User) (ts : List Trade) (sums-sold sums-bought : List ℕ) : Type 0 where
-  pub sold-at : (i area : ℕ) (d : User) → i < length us → area < 3 → getD sums-sold (3 * i + area) 0 ≡ sold ts (getD us i d .party .id) area 0
-  pub bought-at : (i area : ℕ) (d : User) → i < length us → area < 3 → getD sums-bought (3 * i + area) 0 ≡ bought ts (getD us i d .party .id) area 0
 
 -- what users sold and bought can be told by the places of trades' parties: their ids rise, the parties are among them, and the places of these are given
 pub record Askable (us : List User) (ts : List Trade) (sellers buyers : List ℕ) : Type 0 where

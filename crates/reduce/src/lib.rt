@@ -68,7 +68,7 @@ pub fn reduction(book: &mut [u8], id: u32) -> ReductionAnswer
 {
     let mut sellers = [0u8; 256];
     let mut parties = [0u8; 256];
-    let number = questions::ask(book, &mut sellers, &mut parties);
+    let number = questions::ask_places(book, &mut sellers, &mut parties);
     let entry = entry::seek(book, number, id);
     let number = entry.number;
     let place = entry.place;

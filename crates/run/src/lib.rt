@@ -29,7 +29,7 @@ pub fn run(book: &mut [u8]) -> RunAnswer
 {
     let mut sellers = [0u8; 256];
     let mut buyers = [0u8; 256];
-    let number = questions::ask(book, &mut sellers, &mut buyers);
+    let number = questions::ask_places(book, &mut sellers, &mut buyers);
     if number != 0 {
         return RunAnswer::refused(number);
     }

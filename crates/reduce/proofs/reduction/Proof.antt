@@ -25,14 +25,14 @@ asked c = start c .args .id
 found : (c : tie.Else1) → Found (bytes (c .before)) (asked (c .before)) (c .before .seek .result .place)
 found c = c .before .seek .ensures .found (c .if1 .left)
 
-slice-aggregate-ask : tie.Need-slice-aggregate-ask
-slice-aggregate-ask c = search needs
+slice-aggregate-ask-places : tie.Need-slice-aggregate-ask-places
+slice-aggregate-ask-places c = search needs
 
-slice-aggregate-ask-2 : tie.Need-slice-aggregate-ask-2
-slice-aggregate-ask-2 c = search needs
+slice-aggregate-ask-places-2 : tie.Need-slice-aggregate-ask-places-2
+slice-aggregate-ask-places-2 c = search needs
 
-ask-requires : tie.Need-ask-requires
-ask-requires c κs = search needs
+ask-places-requires : tie.Need-ask-places-requires
+ask-places-requires c κs = search needs
 
 seek-requires : tie.Need-seek-requires
 seek-requires c κs = search needs
@@ -63,7 +63,7 @@ reduce-user-requires c κs =
       passes = f .passes;
       held = held-accepted (bytes (e .before)) (λ i. a .before .before .before .before .slice-known .given i .fits) (f .passes);
       inside = f .known;
-      placed = a .ask .ensures .placed (a .ask .ensures .number ∙ f .passes);
+      placed = a .ask-places .ensures .placed (a .ask-places .ensures .number ∙ f .passes);
     }
 
 same-length-2 : tie.Need-same-length-2
@@ -79,9 +79,9 @@ pub reduction-spec : {M : Type 1} → statement M
 reduction-spec =
     tie.close
     (tie.spec
-    slice-aggregate-ask
-    slice-aggregate-ask-2
-    ask-requires
+    slice-aggregate-ask-places
+    slice-aggregate-ask-places-2
+    ask-places-requires
     seek-requires
     refused-requires
     same-length

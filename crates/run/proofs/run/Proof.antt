@@ -6,14 +6,14 @@ use Rattle.run.proofs.Ways.{run-refused, asked-book, run-called}
 use Rattle.run.proofs.run.Statement.{statement}
 use Rattle.run.proofs.run.Tie as tie
 
-slice-aggregate-ask : tie.Need-slice-aggregate-ask
-slice-aggregate-ask c = search needs
+slice-aggregate-ask-places : tie.Need-slice-aggregate-ask-places
+slice-aggregate-ask-places c = search needs
 
-slice-aggregate-ask-2 : tie.Need-slice-aggregate-ask-2
-slice-aggregate-ask-2 c = search needs
+slice-aggregate-ask-places-2 : tie.Need-slice-aggregate-ask-places-2
+slice-aggregate-ask-places-2 c = search needs
 
-ask-requires : tie.Need-ask-requires
-ask-requires c κs = search needs
+ask-places-requires : tie.Need-ask-places-requires
+ask-places-requires c κs = search needs
 
 refused-requires : tie.Need-refused-requires
 refused-requires c κs = search needs
@@ -25,7 +25,7 @@ returns : tie.Need-returns
 returns c =
     let o = c .before .before .before .before in
     let s = o .before .before .before .before .before in
-    run-refused today (now (s .args .book)) (o .ask .result) (o .ask .ensures .number) (c .before .if1 .taken) (c .refused .ensures)
+    run-refused today (now (s .args .book)) (o .ask-places .result) (o .ask-places .ensures .number) (c .before .if1 .taken) (c .refused .ensures)
 
 today-requires : tie.Need-today-requires
 today-requires c κs = search needs
@@ -40,7 +40,7 @@ run-in-requires : tie.Need-run-in-requires
 run-in-requires c κs =
     let t = c .before .before .before in
     let o = t .before .before .before .before in
-    (t .today .ensures .1, asked-book (o .ask .ensures) (t .before .if1 .left) (λ j. o .before .before .before .before .slice-known .given j .fits))
+    (t .today .ensures .1, asked-book (o .ask-places .ensures) (t .before .if1 .left) (λ j. o .before .before .before .before .slice-known .given j .fits))
 
 accepted-requires : tie.Need-accepted-requires
 accepted-requires c κs = search needs
@@ -53,15 +53,15 @@ returns-2 c =
     let w = c .before .before .before in
     let t = w .before .before .before .before in
     let o = t .before .before .before .before in
-    run-called (o .ask .ensures) (t .before .if1 .left) (t .today .ensures .0) (w .run-in .ensures) (c .accepted .ensures)
+    run-called (o .ask-places .ensures) (t .before .if1 .left) (t .today .ensures .0) (w .run-in .ensures) (c .accepted .ensures)
 
 pub run-spec : {M : Type 1} → statement M
 run-spec =
     tie.close
     (tie.spec
-    slice-aggregate-ask
-    slice-aggregate-ask-2
-    ask-requires
+    slice-aggregate-ask-places
+    slice-aggregate-ask-places-2
+    ask-places-requires
     refused-requires
     same-length
     returns

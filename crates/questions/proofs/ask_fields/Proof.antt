@@ -1,10 +1,11 @@
--- `fields_number` asks question 4, and then those of the users and trades. Assumes nothing.
+-- `ask_fields` asks question 4, and then those of the users and trades. Assumes nothing.
 use denote.Ref.{now}
 use borrow.Author.Tests.{not-true, not-false}
-use Rattle.questions.proofs.Asked.{formed-bytes, fields-4, fields-rest}
+use Rattle.questions.specs.Asked.{pastSix}
+use Rattle.questions.proofs.Asked.{formed-bytes, fields-4, fields-rest, fields-summed, summed-none}
 use borrow.Author.Needs.{needs}
-use Rattle.questions.proofs.fields_number.Statement.{statement}
-use Rattle.questions.proofs.fields_number.Tie as tie
+use Rattle.questions.proofs.ask_fields.Statement.{statement}
+use Rattle.questions.proofs.ask_fields.Tie as tie
 
 get-u8-requires : tie.Need-get-u8-requires
 get-u8-requires c κs = search needs
@@ -28,11 +29,12 @@ header-valid-requires : tie.Need-header-valid-requires
 header-valid-requires c κs = search needs
 
 returns : tie.Need-returns
+unfolding pastSix
 returns c =
     let header = c .before in
     let prices = header .before .before in
     let start = prices .before .before .before .before .before .before in
-    fields-4 (now (start .args .s)) (header .before .get-u32 .ensures) (prices .read-prices .ensures) (header .header-valid .ensures) (not-true _ (c .if1 .taken))
+    (fields-4 (now (start .args .s)) (header .before .get-u32 .ensures) (prices .read-prices .ensures) (header .header-valid .ensures) (not-true _ (c .if1 .taken)), summed-none 4 (λ p. p))
 
 mul-trades-at : tie.Need-mul-trades-at
 mul-trades-at c = search needs
@@ -50,9 +52,9 @@ trade-zeros-valid-requires c κs =
     let counts = c .before .before .before .before .before in
     formed-bytes (counts .before .before .before .before .before .pre .0) (counts .before .get-u8 .ensures) (counts .get-u16 .ensures) .trades
 
-records-number-requires : tie.Need-records-number-requires
-records-number-requires c κs =
-    let counts = c .before .before .before .before .before .before .before .before in
+ask-records-requires : tie.Need-ask-records-requires
+ask-records-requires c κs =
+    let counts = c .before .before .before .before .before .before .before .before .before in
     (formed-bytes (counts .before .before .before .before .before .pre .0) (counts .before .get-u8 .ensures) (counts .get-u16 .ensures), search needs)
 
 same-length : tie.Need-same-length
@@ -64,17 +66,19 @@ same-length-2 c = search needs
 returns-2 : tie.Need-returns-2
 returns-2 c =
     let records = c .before .before .before .before in
-    let zeros = records .before .before .before in
+    let zeros = records .before .before .before .before in
     let passed = zeros .before .before in
     let header = passed .before in
     let prices = header .before .before in
     let counts = prices .before in
-    let start = counts .before .before .before .before .before in
-    fields-rest (now (start .args .s)) (header .before .get-u32 .ensures) (prices .read-prices .ensures) (header .header-valid .ensures) (not-false _ (passed .if1 .left))
-    (counts .before .get-u8 .ensures) (counts .get-u16 .ensures) (zeros .before .user-zeros-valid .ensures) (zeros .trade-zeros-valid .ensures) (records .records-number .ensures)
+    let start = counts .before .before .before .before .before in (
+      fields-rest (now (start .args .s)) (header .before .get-u32 .ensures) (prices .read-prices .ensures) (header .header-valid .ensures) (not-false _ (passed .if1 .left))
+          (counts .before .get-u8 .ensures) (counts .get-u16 .ensures) (zeros .before .user-zeros-valid .ensures) (zeros .trade-zeros-valid .ensures) (records .ask-records .ensures .0),
+      fields-summed (now (start .args .s)) (counts .before .get-u8 .ensures) (counts .get-u16 .ensures) (records .ask-records .ensures .1),
+    )
 
-pub fields-number-spec : {M : Type 1} → statement M
-fields-number-spec =
+pub ask-fields-spec : {M : Type 1} → statement M
+ask-fields-spec =
     tie.close
     (tie.spec
     get-u8-requires
@@ -89,7 +93,7 @@ fields-number-spec =
     add-trades-at
     user-zeros-valid-requires
     trade-zeros-valid-requires
-    records-number-requires
+    ask-records-requires
     same-length
     same-length-2
     returns-2)
