@@ -7,6 +7,7 @@ use Rattle.rules.specs.Levels.{today}
 use Rattle.entry.specs.Entered.{Found}
 use Rattle.entry.proofs.Calls.{called}
 use Rattle.held.proofs.Held.{held-accepted}
+use Rattle.questions.proofs.Asked.{sums-told}
 use Rattle.reduce.specs.Call.{reductionOf}
 use Rattle.reduce.proofs.Ways.{call-unentered, call-gives}
 use borrow.Author.Needs.{needs}
@@ -14,7 +15,7 @@ use Rattle.reduce.proofs.reduction.Statement.{statement}
 use Rattle.reduce.proofs.reduction.Tie as tie
 
 abbrev start : tie.After-seek → tie.Start
-start c = c .before .before .before .before .before .before .before .before .before
+start c = c .before .before .before .before .before .before .before .before .before .before
 
 abbrev bytes : tie.After-seek → List ℕ
 bytes c = now (start c .args .book)
@@ -25,14 +26,14 @@ asked c = start c .args .id
 found : (c : tie.Else1) → Found (bytes (c .before)) (asked (c .before)) (c .before .seek .result .place)
 found c = c .before .seek .ensures .found (c .if1 .left)
 
-slice-aggregate-ask-places : tie.Need-slice-aggregate-ask-places
-slice-aggregate-ask-places c = search needs
+slice-aggregate-ask : tie.Need-slice-aggregate-ask
+slice-aggregate-ask c = search needs
 
-slice-aggregate-ask-places-2 : tie.Need-slice-aggregate-ask-places-2
-slice-aggregate-ask-places-2 c = search needs
+slice-aggregate-ask-2 : tie.Need-slice-aggregate-ask-2
+slice-aggregate-ask-2 c = search needs
 
-ask-places-requires : tie.Need-ask-places-requires
-ask-places-requires c κs = search needs
+ask-requires : tie.Need-ask-requires
+ask-requires c κs = search needs
 
 seek-requires : tie.Need-seek-requires
 seek-requires c κs = search needs
@@ -56,15 +57,17 @@ slice-aggregate-reduce-user-2 c = search needs
 
 reduce-user-requires : tie.Need-reduce-user-requires
 reduce-user-requires c κs =
-    let e = c .before .before .before in
+    let e = c .before .before .before .before in
     let a = e .before .before .before .before .before in
-    let f = found e in
-    record {
-      passes = f .passes;
-      held = held-accepted (bytes (e .before)) (λ i. a .before .before .before .before .slice-known .given i .fits) (f .passes);
-      inside = f .known;
-      placed = a .ask-places .ensures .placed (a .ask-places .ensures .number ∙ f .passes);
-    }
+    let f = found e in (
+      record {
+        passes = f .passes;
+        held = held-accepted (bytes (e .before)) (λ i. a .before .before .before .before .before .slice-known .given i .fits) (f .passes);
+        inside = f .known;
+        placed = a .ask .ensures .0 .placed (a .ask .ensures .0 .number ∙ f .passes);
+      },
+      sums-told (a .ask .ensures .1) (a .ask .ensures .0 .number ∙ f .passes),
+    )
 
 same-length-2 : tie.Need-same-length-2
 same-length-2 c = search needs
@@ -72,16 +75,16 @@ same-length-2 c = search needs
 returns-2 : tie.Need-returns-2
 returns-2 c =
     let r = c .before .before in
-    let e = r .before .before .before .before in
+    let e = r .before .before .before .before .before in
     call-gives today (bytes (e .before)) (asked (e .before)) (found e) (r .reduce-user .ensures)
 
 pub reduction-spec : {M : Type 1} → statement M
 reduction-spec =
     tie.close
     (tie.spec
-    slice-aggregate-ask-places
-    slice-aggregate-ask-places-2
-    ask-places-requires
+    slice-aggregate-ask
+    slice-aggregate-ask-2
+    ask-requires
     seek-requires
     refused-requires
     same-length
