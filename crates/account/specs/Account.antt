@@ -1,12 +1,13 @@
 -- What the account of a user holds, and the range in which the user's risk is told. Assumes nothing.
 use mathlib.Core.Path.{_≡_}
 use mathlib.Core.List.{List}
-use Prim.Native.Nat.{ℕ, _≤_, _^_}
+use Prim.Native.Nat.{ℕ, _+_, _≤_, _^_}
 use lib.ListN.{getD}
 use Rattle.rules.specs.Book.{nobody}
 use Rattle.units.specs.Prices.{asPrices, InRange}
 use Rattle.records.specs.User.{asUser}
 use Rattle.format.specs.Book.{usersOf, bookOf}
+use Rattle.dealings.specs.declared.Amounts.{Amounts}
 use Rattle.dealings.specs.Dealt.{Dealt, AllWithin}
 use Rattle.account.specs.declared.Account.{Account}
 
@@ -26,3 +27,9 @@ pub record AccountAt (s : List ℕ) (place : ℕ) (a : Account) : Type 0 where
   pub user : asUser (a .user) ≡ getD (usersOf s) place nobody
   pub held : AccountIn s a
   pub ready : Ready a
+
+-- the energies are three sums, from a place on
+pub record AmountsFrom (sums : List ℕ) (k : ℕ) (v : Amounts) : Type 0 where
+  pub pvb : v .pvb .0 ≡ getD sums k 0
+  pub tvb : v .tvb .0 ≡ getD sums (k + 1) 0
+  pub avb : v .avb .0 ≡ getD sums (k + 2) 0

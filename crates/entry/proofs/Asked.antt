@@ -3,10 +3,12 @@ use mathlib.Core.List.{List, [], _++_, _∷_, append-assoc}
 use mathlib.Core.Option.{some}
 use mathlib.Core.Path.{_≡_, _∙_}
 use Prim.Native.Nat.{_≤_, ℕ}
-use Rattle.entry.specs.Entered.{Found}
+use Rattle.entry.specs.Entered.{Entered, Found, SumsFound}
+use Rattle.questions.specs.Asked.{AskedOf, Summed}
+use Rattle.questions.proofs.Asked.{sums-told}
 use Rattle.format.proofs.Formed.{book-passed, book-refused}
 use Rattle.format.proofs.OneUser.{known-place, unknown-place}
-use Rattle.format.specs.Book.{bookOf, userCount, usersOf}
+use Rattle.format.specs.Book.{bookOf, tradesOf, userCount, usersOf}
 use Rattle.format.specs.Questions.{aboutBytes, bookNumber}
 use Rattle.format.specs.Steps.{placeOf}
 use Rattle.laws.proofs.Refusals.{refusal-first, refusal-next, yes-first}
@@ -33,3 +35,14 @@ entry-unknown s id h k =
 -- bytes that fail a question of the book
 pub entry-unread : (s : List ℕ) (id n : ℕ) → n ≡ bookNumber s → (n ≡ 0 → ⊥) → refusal (aboutBytes s ++ (idKnown (bookOf s) id ∷ [])) ≡ some n
 entry-unread s id n e h = refusal-first (aboutBytes s) (idKnown (bookOf s) id ∷ []) n (book-refused s n e h)
+
+-- ---- the sums
+
+-- where the user is found, no question refused
+pub sums-found : {s : List ℕ} {id k read count number place : ℕ} {sellers buyers sums : List ℕ} → AskedOf s k sellers buyers
+    → Summed (usersOf s) (tradesOf s) count k read sums → Entered s id number place → SumsFound s number sums
+sums-found asked summed entered =
+    record {
+      twelve = λ e. sums-told summed (asked .number ∙ entered .found e .passes) .0;
+      low = λ e. sums-told summed (asked .number ∙ entered .found e .passes) .1;
+    }

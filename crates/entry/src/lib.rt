@@ -1,10 +1,11 @@
 // The common beginning of every call on a user: the questions 1 to 8, and the user's place in the book.
 ghost use mathlib.Core.Path.{_≡_};
 ghost use Prim.Native.Nat.{_≤_};
+ghost use lib.ListN.{replicate};
 ghost use Rattle.format.specs.Book.{userCount, usersOf};
 ghost use Rattle.format.specs.Questions.{Formed, bookNumber};
 ghost use Rattle.format.specs.Steps.{placeOf};
-ghost use Rattle.entry.specs.Entered.{Entered};
+ghost use Rattle.entry.specs.Entered.{Entered, SumsFound};
 
 // The place of the user of an id in a book; the number of users where there is none.
 pub fn place_of(s: &[u8], id: u32) -> usize
@@ -60,4 +61,17 @@ pub fn enter(s: &[u8], id: u32) -> Entry
     ensures { λ r. ⌜ Entered (now (s .entry)) id (r .number) (r .place) ⌝ }
 {
     seek(s, questions::number(s), id)
+}
+
+// The same, with the twelve sums of every user where no question refuses.
+pub fn enter_summed(s: &[u8], id: u32, sums: &mut [u32; 768]) -> Entry
+    requires { ⌜ now sums ≡ replicate 768 0 ⌝ }
+    ensures { λ r. ⌜ Entered (now (s .entry)) id (r .number) (r .place) ⌝ }
+    ensures { λ r. ⌜ SumsFound (now (s .entry)) (r .number) (now (sums .exit)) ⌝ }
+{
+    let mut sellers = [0u8; 256];
+    let mut buyers = [0u8; 256];
+    let answer = questions::ask(s, &mut sellers, &mut buyers, sums);
+    let number = answer.number;
+    seek(s, number, id)
 }

@@ -65,13 +65,14 @@ fn raise(book: &mut [u8], place: usize, user: User, level: Cents, due: bool) -> 
 fn call(book: &mut [u8], id: u32, afternoon: bool) -> CallAnswer
     ensures { λ r. ⌜ Called today (now (book .entry)) (callOf afternoon id) (answerOf r) (now (book .exit)) ⌝ }
 {
-    let entry = entry::enter(book, id);
+    let mut sums = [0u32; 768];
+    let entry = entry::enter_summed(book, id, &mut sums);
     let number = entry.number;
     let place = entry.place;
     if number != 0 {
         return CallAnswer::refused(number);
     }
-    let account = account::account_at(book, place);
+    let account = account::account_from(book, place, &sums);
     let user = account.user;
     if user.role != 0 {
         return CallAnswer::refused(9);

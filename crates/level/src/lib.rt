@@ -35,7 +35,8 @@ pub fn level_of(account: Account, limits: Limits, afternoon: bool) -> Cents
 fn level(book: &[u8], id: u32, afternoon: bool) -> LevelAnswer
     ensures { λ r. ⌜ replyOf r ≡ replyBytes today (now (book .entry)) (queryOf afternoon id) ⌝ }
 {
-    let entry = entry::enter(book, id);
+    let mut sums = [0u32; 768];
+    let entry = entry::enter_summed(book, id, &mut sums);
     let number = entry.number;
     let place = entry.place;
     if number != 0 {
@@ -44,7 +45,7 @@ fn level(book: &[u8], id: u32, afternoon: bool) -> LevelAnswer
             level: Cents(0),
         };
     }
-    let account = account::account_at(book, place);
+    let account = account::account_from(book, place, &sums);
     let user = account.user;
     if user.role != 0 {
         return LevelAnswer {

@@ -1,116 +1,64 @@
-// Question 7: is every position as defined, by what each user sold and bought for the day in each area? Trades are counted one by one for these sums.
+// What each user sold and bought in each area for each day, counted trade by trade, and question 7: is every position as defined by it?
 ghost use mathlib.Core.Path.{_≡_};
-ghost use mathlib.Core.Bool.{cond};
-ghost use lib.Dec.{eqb};
 ghost use Prim.Native.Nat.{_+_, _*_, _≤_, _<_};
-ghost use lib.ListN.{length, take, getD};
+ghost use lib.ListN.{length};
 ghost use Rattle.units.specs.Amounts.{net};
 ghost use Rattle.records.specs.User.{asUser};
 ghost use Rattle.records.specs.Trade.{asTrade};
-ghost use Rattle.places.specs.Ids.{usersFrom, tradesFrom};
+ghost use Rattle.places.specs.Ids.{usersFrom};
 ghost use Rattle.positions.specs.Positions.{positionAs, positionsFrom, PositionsAsked};
-ghost use Rattle.positions.specs.Sums.{Sums, Counted, Countable, Gatherable, Bounded};
+ghost use Rattle.positions.specs.Twelve.{added, Addable};
 use records::Trade;
 use records::User;
 use units::Net;
 
-// ---- the sums: three areas for each user, in the order of the users
+// ---- the sums of both sides and days: twelve for each user, in the order of the users
 
-// What stands of a trade where it is for a day, else 0. The product has no branch, which a processor would foresee only half of the times.
-fn amount_for(t: Trade, day: u8) -> u64
-    ensures { λ r. ⌜ (r ≡ cond (eqb (t .day) day) (t .standing) 0) × (r ≤ 4294967295) ⌝ }
+// Counts a trade that is valid for its party at a place, on the side of the sellers (0) or of the buyers (1): what stands is added in its area and day.
+pub fn add_trade(sums: &mut [u32; 768], place: usize, side: usize, t: Trade)
+    requires { ⌜ Addable side place (asTrade t) (now sums) ⌝ }
+    ensures { λ _. ⌜ now (sums .exit) ≡ added side place (asTrade t) (now (sums .entry)) ⌝ }
 {
-    let standing = t.standing;
-    let is = t.day == day;
-    standing as u64 * (is as u64)
-}
-
-// Counts a trade for its party at a place: where it is for a day, what stands is added in its area.
-pub fn count(place: usize, t: Trade, day: u8, sums: &mut [u64])
-    requires { ⌜ Countable place (asTrade t) (now sums) ⌝ }
-    ensures { λ _. ⌜ Counted day place (asTrade t) (now (sums .entry)) (now (sums .exit)) ⌝ }
-{
-    let k = 3 * place + t.area as usize;
+    let k = 12 * place + 6 * side + 3 * (t.day as usize) + t.area as usize;
     let x = sums[k];
-    sums[k] = x + amount_for(t, day);
-}
-
-// Gathers what is sold and bought for a day at each place in the m trades from byte `at` on, by the places of their sellers and buyers.
-pub fn gather(
-    s: &[u8],
-    at: usize,
-    m: usize,
-    day: u8,
-    sellers: &[u8],
-    buyers: &[u8],
-    sold: &mut [u64],
-    bought: &mut [u64],
-)
-    requires { ⌜ (m ≤ 256) × (at + 20 * m ≤ length (now s)) ⌝ }
-    requires { ⌜ Gatherable (tradesFrom at m (now s)) (now sellers) (now buyers) (now sold) (now bought) ⌝ }
-    ensures { λ _. ⌜ Sums day (take m (now (sellers .entry))) (tradesFrom at m (now (s .entry))) (256 * 4294967295) (now (sold .exit)) ⌝ }
-    ensures { λ _. ⌜ Sums day (take m (now (buyers .entry))) (tradesFrom at m (now (s .entry))) (256 * 4294967295) (now (bought .exit)) ⌝ }
-{
-    let mut i = 0;
-    let mut a = at;
-    while i < m {
-        let t = records::read_trade(&s[a..a + 20]);
-        let seller = sellers[i] as usize;
-        let buyer = buyers[i] as usize;
-        count(seller, t, day, sold);
-        count(buyer, t, day, bought);
-        a += 20;
-        i += 1;
-    }
+    sums[k] = x + t.standing;
 }
 
 // ---- the positions
 
-// Is a position its physical entry + bought − sold, as the sums at k have them?
-fn is_position<'a>(
-    position: Net,
-    physical: Net,
-    sold: &'a [u64],
-    bought: &'a [u64],
-    k: usize,
-) -> bool
-    requires { ⌜ (k < 192) × Bounded (now sold) × Bounded (now bought) ⌝ }
-    ensures { λ r. ⌜ r ≡ positionAs (net position) (net physical) (getD (now (bought .entry)) k 0) (getD (now (sold .entry)) k 0) ⌝ }
+// Is a position its physical entry + bought − sold?
+fn is_position(position: Net, physical: Net, sold: u32, bought: u32) -> bool
+    ensures { λ r. ⌜ r ≡ positionAs (net position) (net physical) bought sold ⌝ }
 {
     let x = position.0;
     let h = physical.0;
-    x as u64 + sold[k] == h as u64 + bought[k]
+    x as u64 + sold as u64 == h as u64 + bought as u64
 }
 
 // Are the three positions of the user at place i as the sums have them?
-fn user_positions_valid<'a>(u: User, sold: &'a [u64], bought: &'a [u64], i: usize) -> bool
-    requires { ⌜ (i < 64) × Bounded (now sold) × Bounded (now bought) ⌝ }
-    ensures { λ r. ⌜ r ≡ positionsFrom (asUser u) (now (sold .entry)) (now (bought .entry)) i ⌝ }
+fn user_positions_valid(u: User, sums: &[u32; 768], i: usize) -> bool
+    requires { ⌜ i < 64 ⌝ }
+    ensures { λ r. ⌜ r ≡ positionsFrom (asUser u) (now (sums .entry)) i ⌝ }
 {
     let position = u.position;
     let physical = u.physical;
-    let pvb = is_position(position[0], physical[0], sold, bought, 3 * i);
-    let tvb = is_position(position[1], physical[1], sold, bought, 3 * i + 1);
-    let avb = is_position(position[2], physical[2], sold, bought, 3 * i + 2);
+    let k = 12 * i;
+    let pvb = is_position(position[0], physical[0], sums[k], sums[k + 6]);
+    let tvb = is_position(position[1], physical[1], sums[k + 1], sums[k + 7]);
+    let avb = is_position(position[2], physical[2], sums[k + 2], sums[k + 8]);
     pvb & (tvb & avb)
 }
 
-// Are all positions of the n users from byte `at` on as defined, over trades of which these sums have what each user sold and bought for the day?
-pub fn positions_valid<'a>(
-    s: &[u8],
-    at: usize,
-    n: usize,
-    sold: &'a [u64],
-    bought: &'a [u64],
-) -> bool
-    requires { ⌜ (n ≤ 64) × (at + 56 * n ≤ length (now s)) × Bounded (now sold) × Bounded (now bought) ⌝ }
-    ensures { λ r. ⌜ PositionsAsked (usersFrom at n (now (s .entry))) (now (sold .entry)) (now (bought .entry)) r ⌝ }
+// Are all positions of the n users from byte `at` on as defined, over trades of which these sums have what each user sold and bought?
+pub fn positions_valid(s: &[u8], at: usize, n: usize, sums: &[u32; 768]) -> bool
+    requires { ⌜ (n ≤ 64) × (at + 56 * n ≤ length (now s)) ⌝ }
+    ensures { λ r. ⌜ PositionsAsked (usersFrom at n (now (s .entry))) (now (sums .entry)) r ⌝ }
 {
     let mut i = 0;
     let mut a = at;
     while i < n {
         let u = records::read_user(&s[a..a + 56]);
-        if !user_positions_valid(u, sold, bought, i) {
+        if !user_positions_valid(u, sums, i) {
             return false;
         }
         a += 56;

@@ -1,7 +1,8 @@
 -- The number that the answers to the questions 4 to 7 give, of users and trades and of bytes. Assumes nothing.
-use mathlib.Core.Bool.{Bool, false, true, _&&_}
+use mathlib.Core.Bool.{Bool, false, true, cond, _&&_}
+use mathlib.Core.Option.{none, some}
 use mathlib.Core.List.{List}
-use mathlib.Core.Path.{_≡_, sym, ap, subst, _∙_}
+use mathlib.Core.Path.{_≡_, refl, sym, ap, subst, _∙_}
 use Prim.Native.Nat.{ℕ, _*_, _+_}
 use native.Mathlib.Omega.{arith}
 use lib.Dec.{T}
@@ -16,12 +17,13 @@ use Rattle.fields.specs.Field.{field}
 use Rattle.records.specs.Trade.{tradeZeros}
 use Rattle.records.specs.User.{userZeros}
 use Rattle.format.specs.Book.{bookOf, pricesAt, tradeCount, tradesAt, tradesOf, userAt, userCount, usersOf}
-use Rattle.format.specs.Questions.{Formed, aboutFields, tradeZerosValid, userZerosValid}
+use Rattle.format.specs.Questions.{Formed, aboutFields, aboutForm, formNumber, marked, sized, tradeZerosValid, userZerosValid, versioned}
 use Rattle.places.specs.Ids.{usersFrom, tradesFrom, idsOf}
 use Rattle.form.specs.Zeros.{zerosIn}
-use Rattle.positions.specs.Sums.{Bounded, Sums, placesOf, DaySums}
-use Rattle.positions.proofs.Sums.{bounded, day-sums}
-use Rattle.questions.specs.Asked.{UsersAsked, TradesAsked, InBytes, RecordsAsked, FieldsPlaced, tradeAmong, recordsNumber, fieldsNumber}
+use Rattle.positions.specs.Sums.{placesOf}
+use Rattle.positions.specs.Twelve.{Twelve, TwelveOf, Low}
+use Rattle.positions.proofs.Twelve.{twelve-of}
+use Rattle.questions.specs.Asked.{UsersAsked, TradesAsked, InBytes, RecordsAsked, FieldsPlaced, Summed, pastSix, tradeAmong, recordsNumber, fieldsNumber}
 use Rattle.questions.proofs.Known.{all-tradeAmong, all-parties, valid-rising}
 
 -- ---- 5 to 7
@@ -34,27 +36,43 @@ and-same zeros e h = ap (λ (b : Bool). zeros && b) (sym e) ∙ h
 pub second-yes : (zeros valid : Bool) → (zeros && valid) ≡ true → T valid
 second-yes zeros valid h = and-r zeros valid (rw h tt)
 
+yes-is : (b : Bool) → T b → b ≡ true
+yes-is true t = refl
+
+-- a question before 7 that refuses: nothing is told of the sums
+pub summed-none : {us : List User} {ts : List Trade} {count read : ℕ} {sums : List ℕ} (number : ℕ) → (T (pastSix number) → ⊥) → Summed us ts count number read sums
+summed-none number h = record { twelve = λ p. absurd (h p); low = λ p. absurd (h p); all-read = λ p. absurd (h p) }
+
+-- where no question refuses, the sums are what each user sold and bought
+pub sums-told : {us : List User} {ts : List Trade} {count number read : ℕ} {sums : List ℕ} → Summed us ts count number read sums → number ≡ 0
+    → TwelveOf us ts sums × Low sums
+unfolding pastSix
+sums-told {number = number} summed e = let past : T (pastSix number) = past-none e in (summed .twelve past, summed .low past)
+  where
+    past-none : {k : ℕ} → k ≡ 0 → T (pastSix k)
+    past-none h = rw h tt
+
 module _ {us : List User} {ts : List Trade} {n : ℕ} {valid : Bool} {ids sellers buyers : List ℕ} (users : UsersAsked us n valid ids) where
   -- question 5 is answered by no
   pub records-5 : {userZeros tradeZeros : Bool} → (userZeros && valid) ≡ false → RecordsAsked userZeros tradeZeros us ts 5 sellers buyers
   unfolding recordsNumber refusal numberOf
   records-5 {userZeros} h = record { asked = rw (and-same userZeros (users .answer) h); placed = λ e. absurd (omega arith) }
 
-  module _ {allowed : Bool} {sold bought : List ℕ} (trades : TradesAsked (take n ids) ts allowed sellers buyers sold bought) where
+  module _ {allowed : Bool} {sums : List ℕ} (trades : TradesAsked (take n ids) ts allowed sellers buyers sums) where
     -- the answer to question 6 is that between the users
     trades-answer : T valid → allowed ≡ all (tradeValid us) ts
     trades-answer u = trades .answer ∙ ap (λ (xs : List ℕ). all (tradeAmong xs) ts) (users .listed u) ∙ all-tradeAmong us ts
 
-    -- the sums are what the users sold and bought for the day: question 7 can be asked
-    pub records-sums : T valid → T allowed → DaySums us ts sold bought
+    -- the sums are what the users sold and bought: question 7 can be asked
+    pub records-sums : T valid → T allowed → TwelveOf us ts sums
     records-sums u t =
-        day-sums us ts (valid-rising us (rw (← users .answer) u)) (all-parties (idsOf us) ts (rw (← users .listed u, ← trades .answer) t))
-        (subst (λ (xs : List ℕ). Sums 0 (placesOf xs (λ r. r .seller) ts) ts (256 * 4294967295) sold) (users .listed u) (trades .of-sold t))
-        (subst (λ (xs : List ℕ). Sums 0 (placesOf xs (λ r. r .buyer) ts) ts (256 * 4294967295) bought) (users .listed u) (trades .of-bought t))
+        twelve-of us ts (valid-rising us (rw (← users .answer) u)) (all-parties (idsOf us) ts (rw (← users .listed u, ← trades .answer) t))
+        (subst (λ (xs : List ℕ). Twelve (placesOf xs (λ r. r .seller) ts) (placesOf xs (λ r. r .buyer) ts) ts 25600000 sums) (users .listed u) (trades .twelve t))
 
-    -- and they are within what its code can add
-    pub records-bounded : T allowed → Bounded sold × Bounded bought
-    records-bounded t = (bounded (trades .of-sold t), bounded (trades .of-bought t))
+    -- and they are told, whatever it gives
+    pub records-summed : {count number read : ℕ} → T valid → T allowed → (allowed ≡ true → read ≡ count) → Summed us ts count number read sums
+    records-summed u t whole =
+        record { twelve = λ p. records-sums u t; low = λ p. record { low = trades .twelve t .low }; all-read = λ p. whole (yes-is allowed t) }
 
     module _ {userZeros tradeZeros : Bool} (u : (userZeros && valid) ≡ true) where
       -- question 6 is answered by no
@@ -119,3 +137,20 @@ module _ (s : List ℕ) {date : ℕ} {prices : Prices} {valid : Bool} (d : date 
         asked = asked .asked ∙ rw (uz, tz, f, g, sym header-answer ∙ h);
         placed = λ k. rw (← f, ← g) (asked .placed k);
       }
+
+-- so are the sums
+pub fields-summed : (s : List ℕ) {n m r read : ℕ} {sums : List ℕ} → n ≡ field 1 5 s → m ≡ field 2 6 s
+    → Summed (usersFrom 32 n s) (tradesFrom (32 + 56 * n) m s) m r read sums → Summed (usersOf s) (tradesOf s) (tradeCount s) r read sums
+unfolding usersOf tradesOf tradesAt userAt userCount tradeCount
+fields-summed s f g w = rw (← f, ← g) w
+
+-- the number of a form that is refused is below 4
+pub form-before : (s : List ℕ) {k : ℕ} → k ≡ formNumber s → (k ≡ 0 → ⊥) → T (pastSix k) → ⊥
+unfolding formNumber aboutForm refusal numberOf pastSix
+form-before s e h = go (marked s) (versioned s) (sized s) e h
+  where
+    go : (a b c : Bool) {k : ℕ} → k ≡ numberOf (cond a (cond b (cond c none (some 3)) (some 2)) (some 1)) → (k ≡ 0 → ⊥) → T (pastSix k) → ⊥
+    go true true true e h t = absurd (h e)
+    go true true false e h t = rw e at t
+    go true false c e h t = rw e at t
+    go false b c e h t = rw e at t

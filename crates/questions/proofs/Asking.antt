@@ -1,9 +1,11 @@
 -- Users and trades in bytes that are asked one by one: where a walk over them stands, its start, a turn and its ends. Assumes nothing.
 use Prim.Native.Nat.{ℕ, _+_, _-_, _*_, _<_, _≤_}
-use mathlib.Core.Path.{_≡_, sym, ap, _∙_}
-use mathlib.Core.Bool.{true, false}
+use mathlib.Core.Path.{_≡_, sym, ap, subst, _∙_}
+use mathlib.Core.Bool.{Bool, true, false}
 use mathlib.Core.List.{List, []}
 use native.Mathlib.Omega.{arith}
+use lib.Dec.{T, eqb}
+use borrow.Author.Tests.{eq-eqb, ne-eqb}
 use lib.ListN.{length, take, drop, getD, set, replicate, length-replicate}
 use Rattle.rules.specs.Book.{User, Trade}
 use Rattle.rules.specs.Questions.{userValid}
@@ -12,11 +14,12 @@ use Rattle.records.specs.User.{userOf}
 use Rattle.records.specs.Trade.{tradeOf}
 use Rattle.places.specs.Ids.{usersFrom, tradesFrom, idsOf, placeIn}
 use Rattle.questions.specs.Asked.{UsersAsked, TradesAsked, tradeAmong}
-use Rattle.positions.specs.Sums.{Sums, Counted, Countable, placesOf}
-use Rattle.positions.proofs.Sums.{sums-none, sums-among-next, sums-among-all, countable-among}
+use Rattle.positions.specs.Sums.{placesOf}
+use Rattle.positions.specs.Twelve.{added, Addable, Twelve}
+use Rattle.positions.proofs.Twelve.{twelve-none, addable-sold, addable-bought, twelve-next, twelve-all}
 use Rattle.positions.proofs.Walk.{record-at, Passed, passed-start, passed-no, passed-turn, passed-end}
 use Rattle.questions.proofs.Loops.{UsersLeft, users-start, users-id-no, users-no, users-turn, users-end, Listed, listed-start, listed-turn, listed-end, rest-set}
-use Rattle.questions.proofs.Known.{valid-rising, tradeAmong-parties}
+use Rattle.questions.proofs.Known.{valid-rising, tradeAmong-parties, tradeAmong-day, tradeAmong-small}
 
 -- ---- users
 
@@ -94,15 +97,14 @@ module _ {s : List ℕ} {at n : ℕ} where
 -- ---- trades
 
 -- where i of m trades were valid between users of these ids, of which the next stands at a: those left have the whole answer, and of those passed the places of the
--- parties are listed, and what stands for the day is summed at each
-pub record TradesWalk (ids s : List ℕ) (at m : ℕ) (sellers buyers sold bought : List ℕ) (i a : ℕ) : Type 0 where
+-- parties are listed, and what stands is summed at each
+pub record TradesWalk (ids s : List ℕ) (at m : ℕ) (sellers buyers sums : List ℕ) (i a : ℕ) : Type 0 where
   pub place : a ≡ at + 20 * i
   pub within : i ≤ m
   pub left : Passed (tradeAmong ids) (tradesFrom at m s) i
   pub of-sellers : Listed (λ t. placeIn ids (t .terms .seller)) (tradesFrom at m s) 256 sellers i
   pub of-buyers : Listed (λ t. placeIn ids (t .terms .buyer)) (tradesFrom at m s) 256 buyers i
-  pub of-sold : Sums 0 (take i (placesOf ids (λ r. r .seller) (tradesFrom at m s))) (take i (tradesFrom at m s)) (i * 4294967295) sold
-  pub of-bought : Sums 0 (take i (placesOf ids (λ r. r .buyer) (tradesFrom at m s))) (take i (tradesFrom at m s)) (i * 4294967295) bought
+  pub twelve : Twelve (take i (placesOf ids (λ r. r .seller) (tradesFrom at m s))) (take i (placesOf ids (λ r. r .buyer) (tradesFrom at m s))) (take i (tradesFrom at m s)) (i * 100000) sums
 
 -- there are m trades
 trades-length : (s : List ℕ) (at m : ℕ) → length (tradesFrom at m s) ≡ m
@@ -110,9 +112,9 @@ trades-length s at m = length-recordsOf 20 tradeOf m (drop at s)
 
 module _ {ids s : List ℕ} {at m : ℕ} where
   -- before the first
-  pub trades-walk-start : {sellers buyers sold bought : List ℕ} → length sellers ≡ 256 → length buyers ≡ 256 → sold ≡ replicate 192 0 → bought ≡ replicate 192 0
-      → TradesWalk ids s at m sellers buyers sold bought 0 at
-  trades-walk-start h k e f =
+  pub trades-walk-start : {sellers buyers sums : List ℕ} → length sellers ≡ 256 → length buyers ≡ 256 → sums ≡ replicate 768 0
+      → TradesWalk ids s at m sellers buyers sums 0 at
+  trades-walk-start h k e =
       let ts = tradesFrom at m s in
       record {
         place = omega arith;
@@ -120,11 +122,10 @@ module _ {ids s : List ℕ} {at m : ℕ} where
         left = passed-start;
         of-sellers = listed-start h;
         of-buyers = listed-start k;
-        of-sold = rw e (sums-none 0 (placesOf ids (λ r. r .seller) ts) ts);
-        of-bought = rw f (sums-none 0 (placesOf ids (λ r. r .buyer) ts) ts);
+        twelve = rw e (twelve-none (placesOf ids (λ r. r .seller) ts) (placesOf ids (λ r. r .buyer) ts) ts);
       }
 
-  module _ {sellers buyers sold bought : List ℕ} {i a : ℕ} (walk : TradesWalk ids s at m sellers buyers sold bought i a) (h : i < m) {t : Trade} (e : t ≡ tradeOf (take (a + 20 - a) (drop a s))) where
+  module _ {sellers buyers sums : List ℕ} {i a : ℕ} (walk : TradesWalk ids s at m sellers buyers sums i a) (h : i < m) {t : Trade} (e : t ≡ tradeOf (take (a + 20 - a) (drop a s))) where
     -- the next trade is the one that was read
     trade-inside : i < length (tradesFrom at m s)
     trade-inside = rw (trades-length s at m) h
@@ -132,50 +133,61 @@ module _ {ids s : List ℕ} {at m : ℕ} where
     trade-read : t ≡ getD (tradesFrom at m s) i (tradeOf [])
     trade-read = record-at 20 tradeOf s at m i (tradeOf []) (walk .place) h e
 
-    -- it is not valid
-    pub trades-walk-no : tradeAmong ids t ≡ false → TradesAsked ids (tradesFrom at m s) false sellers buyers sold bought
+    -- it is not valid: fewer than all were
+    pub trades-walk-no : tradeAmong ids t ≡ false → TradesAsked ids (tradesFrom at m s) (eqb i m) sellers buyers sums
     trades-walk-no k =
-        record {
+        subst (λ (valid : Bool). TradesAsked ids (tradesFrom at m s) valid sellers buyers sums) (sym (ne-eqb i m (λ f. omega arith)))
+        (record {
           answer = passed-no (tradeOf []) (walk .left) trade-inside (ap (tradeAmong ids) (sym trade-read) ∙ k);
           placed = λ t. absurd t;
-          of-sold = λ t. absurd t;
-          of-bought = λ t. absurd t;
-        }
+          twelve = λ t. absurd t;
+        })
 
-    module _ {p q : ℕ} (many : m ≤ 256) (k : tradeAmong ids t ≡ true) (f : p ≡ placeIn ids (t .terms .seller)) (g : q ≡ placeIn ids (t .terms .buyer)) where
-      -- it is: it can be counted for both parties
-      pub trades-walk-countable : length ids ≤ 64 → Countable p t sold × Countable q t bought
-      trades-walk-countable few = countable-among ids few (tradeAmong-parties ids t (rw k tt)) (omega arith) f g (walk .of-sold) (walk .of-bought)
+    module _ {p q : ℕ} (few : length ids ≤ 64) (many : m ≤ 256) (k : tradeAmong ids t ≡ true) (f : p ≡ placeIn ids (t .terms .seller)) (g : q ≡ placeIn ids (t .terms .buyer)) where
+      valid : T (tradeAmong ids t)
+      valid = rw k tt
+
+      -- it is: it can be counted for its seller
+      pub trades-walk-sold : Addable 0 p t sums
+      trades-walk-sold =
+          addable-sold ids (tradesFrom at m s) few (tradeOf []) trade-inside trade-read (tradeAmong-parties ids t valid) (tradeAmong-day ids t valid) (tradeAmong-small ids t valid) f g (walk .twelve) (omega arith)
+
+      -- and for its buyer
+      pub trades-walk-bought : {xs : List ℕ} → xs ≡ added 0 p t sums → Addable 1 q t xs
+      trades-walk-bought x =
+          rw x
+          (addable-bought ids (tradesFrom at m s) few (tradeOf []) trade-inside trade-read (tradeAmong-parties ids t valid) (tradeAmong-day ids t valid) (tradeAmong-small ids t valid) f g (walk .twelve) (omega arith))
 
       -- the places of its parties are stored, and it is counted
-      pub trades-walk-turn : {xs ys : List ℕ} → Counted 0 p t sold xs → Counted 0 q t bought ys
-          → TradesWalk ids s at m (set sellers i p) (set buyers i q) xs ys (i + 1) (a + 20)
-      trades-walk-turn c d =
+      pub trades-walk-turn : {xs ys : List ℕ} → xs ≡ added 0 p t sums → ys ≡ added 1 q t xs
+          → TradesWalk ids s at m (set sellers i p) (set buyers i q) ys (i + 1) (a + 20)
+      trades-walk-turn x y =
           record {
             place = omega (arith, walk .place);
             within = omega arith;
             left = passed-turn (tradeOf []) (walk .left) trade-inside (ap (tradeAmong ids) (sym trade-read) ∙ k);
             of-sellers = listed-turn (tradeOf []) (walk .of-sellers) trade-inside (omega arith) (f ∙ ap (λ (x : Trade). placeIn ids (x .terms .seller)) trade-read);
             of-buyers = listed-turn (tradeOf []) (walk .of-buyers) trade-inside (omega arith) (g ∙ ap (λ (x : Trade). placeIn ids (x .terms .buyer)) trade-read);
-            of-sold = sums-among-next 0 ids (λ r. r .seller) (tradesFrom at m s) (tradeOf []) trade-inside trade-read f (walk .of-sold) c;
-            of-bought = sums-among-next 0 ids (λ r. r .buyer) (tradesFrom at m s) (tradeOf []) trade-inside trade-read g (walk .of-bought) d;
+            twelve =
+                rw (y, x)
+                (twelve-next ids (tradesFrom at m s) few (tradeOf []) trade-inside trade-read (tradeAmong-parties ids t valid) (tradeAmong-day ids t valid) (tradeAmong-small ids t valid) f g (walk .twelve));
           }
 
   -- none is left
-  pub trades-walk-end : {sellers buyers sold bought : List ℕ} {i a : ℕ} → TradesWalk ids s at m sellers buyers sold bought i a → m ≤ i → m ≤ 256
-      → TradesAsked ids (tradesFrom at m s) true sellers buyers sold bought
-  trades-walk-end {i = i} walk h many =
+  pub trades-walk-end : {sellers buyers sums : List ℕ} {i a : ℕ} → TradesWalk ids s at m sellers buyers sums i a → m ≤ i → m ≤ 256
+      → TradesAsked ids (tradesFrom at m s) (eqb i m) sellers buyers sums
+  trades-walk-end {sellers} {buyers} {sums} {i = i} walk h many =
       let ts = tradesFrom at m s in
       let full = trades-length s at m in
       let last : i ≡ m = omega (arith, walk .within) in
       let past : length ts ≤ i = rw full h in
       let over : i ≡ length ts = rw full last in
-      record {
+      subst (λ (valid : Bool). TradesAsked ids ts valid sellers buyers sums) (sym (eq-eqb i m last))
+      (record {
         answer = passed-end (walk .left) past;
         placed = λ t us e. record {
           of-sellers = rw (← over, e) (listed-end (walk .of-sellers) past);
           of-buyers = rw (← over, e) (listed-end (walk .of-buyers) past);
         };
-        of-sold = λ t. sums-among-all 0 ids (λ r. r .seller) ts last full many (walk .of-sold);
-        of-bought = λ t. sums-among-all 0 ids (λ r. r .buyer) ts last full many (walk .of-bought);
-      }
+        twelve = λ t. twelve-all ids ts over (rw full many) (walk .twelve);
+      })

@@ -1,12 +1,13 @@
 -- Users and trades by their ids: those of valid users rise, and a trade is valid between the ids where it is between the users. Assumes nothing.
-use Prim.Native.Nat.{ℕ, _≤_}
+use Prim.Native.Nat.{ℕ, _≤_, _<_}
 use mathlib.Core.Path.{_≡_, refl, sym, ap, ap₂, _∙_}
-use mathlib.Core.Bool.{Bool, not, _&&_}
+use mathlib.Core.Bool.{Bool, not, _&&_, _||_}
 use mathlib.Core.List.{List, [], _∷_}
-use lib.Dec.{T, eqb, ltb}
+use lib.Dec.{T, eqb, ltb, leb, ltb→lt, leb→le}
+use native.Mathlib.Omega.{arith}
 use lib.ListN.{length, take}
 use Rattle.rules.specs.Lists.{all}
-use Rattle.rules.specs.Book.{User, Trade}
+use Rattle.rules.specs.Book.{User, Trade, bilateralForDay}
 use Rattle.rules.specs.Questions.{amountsValid, codesValid, idsRise, tradeValid, userValid, usersValid}
 use Rattle.laws.proofs.Tests.{all-by, and-i, and-l, and-r}
 use Rattle.validity.specs.Given.{tradeValidGiven}
@@ -50,6 +51,28 @@ tradeAmong-parties ids t h =
     let codes = ltb (t .terms .kind) 3 && ltb (t .terms .day) 2 in
     and-i both area (and-l both differ (and-l (both && differ) ((area && codes) && amountsValid t) h))
     (and-l area codes (and-l (area && codes) (amountsValid t) (and-r (both && differ) ((area && codes) && amountsValid t) h)))
+
+-- its day is one of the two, and no more stands than 100,000 MWh
+pub tradeAmong-day : (ids : List ℕ) (t : Trade) → T (tradeAmong ids t) → t .terms .day < 2
+unfolding tradeAmong tradeValidGiven codesValid
+tradeAmong-day ids t h =
+    let parties = (among ids (t .terms .seller) && among ids (t .terms .buyer)) && not (eqb (t .terms .seller) (t .terms .buyer)) in
+    let kind = ltb (t .terms .kind) 3 in
+    let day = ltb (t .terms .day) 2 in
+    let codes = ltb (t .terms .area) 3 && (kind && day) in
+    ltb→lt (t .terms .day) 2 (and-r kind day (and-r (ltb (t .terms .area) 3) (kind && day) (and-l codes (amountsValid t) (and-r parties (codes && amountsValid t) h))))
+
+pub tradeAmong-small : (ids : List ℕ) (t : Trade) → T (tradeAmong ids t) → t .standing ≤ 100000
+unfolding tradeAmong tradeValidGiven amountsValid
+tradeAmong-small ids t h =
+    let parties = (among ids (t .terms .seller) && among ids (t .terms .buyer)) && not (eqb (t .terms .seller) (t .terms .buyer)) in
+    let some = leb 1 (t .terms .notified) in
+    let most = leb (t .terms .notified) 100000 in
+    let stands = leb (t .standing) (t .terms .notified) in
+    let equal = bilateralForDay t || eqb (t .standing) (t .terms .notified) in
+    let amounts = and-r (codesValid t) ((some && most) && (stands && equal)) (and-r parties (codesValid t && ((some && most) && (stands && equal))) h) in
+    omega
+    (arith, leb→le (t .terms .notified) 100000 (and-r some most (and-l (some && most) (stands && equal) amounts)), leb→le (t .standing) (t .terms .notified) (and-l stands equal (and-r (some && most) (stands && equal) amounts)))
 
 pub all-parties : (ids : List ℕ) (ts : List Trade) → T (all (tradeAmong ids) ts) → T (all (partiesAmong ids) ts)
 all-parties ids ts = all-by (tradeAmong ids) (partiesAmong ids) (tradeAmong-parties ids) ts

@@ -1,9 +1,9 @@
 -- The questions 5 to 7 as the code asks them, of users and trades; and what bytes are that were asked all questions. Assumes nothing.
 use mathlib.Core.Path.{_≡_}
-use mathlib.Core.Bool.{Bool, _&&_}
+use mathlib.Core.Bool.{Bool, _&&_, _||_}
 use mathlib.Core.List.{List, [], _∷_}
 use Prim.Native.Nat.{ℕ, _+_, _*_, _≤_}
-use lib.Dec.{T}
+use lib.Dec.{T, eqb}
 use lib.ListN.{length, take}
 use Rattle.rules.specs.Book.{User, Trade}
 use Rattle.rules.specs.Lists.{all}
@@ -12,7 +12,8 @@ use Rattle.validity.specs.Given.{tradeValidGiven}
 use Rattle.format.specs.Book.{usersOf, tradesOf}
 use Rattle.format.specs.Questions.{aboutFields, bookNumber}
 use Rattle.places.specs.Ids.{idsOf, among, Padded, Placed}
-use Rattle.positions.specs.Sums.{Sums, placesOf}
+use Rattle.positions.specs.Sums.{placesOf}
+use Rattle.positions.specs.Twelve.{Twelve, TwelveOf, Low}
 
 -- ---- one question
 
@@ -27,12 +28,21 @@ unfoldable pub tradeAmong : List ℕ → Trade → Bool
 tradeAmong ids t = tradeValidGiven (among ids (t .terms .seller)) (among ids (t .terms .buyer)) t
 
 -- trades that were asked question 6 between users of these ids: the answer, and where it is yes, the places of their parties and the sums of what is sold and
--- bought for the day at each place
-pub record TradesAsked (ids : List ℕ) (ts : List Trade) (valid : Bool) (sellers buyers sold bought : List ℕ) : Type 0 where
+-- bought at each place
+pub record TradesAsked (ids : List ℕ) (ts : List Trade) (valid : Bool) (sellers buyers sums : List ℕ) : Type 0 where
   pub answer : valid ≡ all (tradeAmong ids) ts
   pub placed : T valid → (us : List User) → idsOf us ≡ ids → Placed us ts sellers buyers
-  pub of-sold : T valid → Sums 0 (placesOf ids (λ r. r .seller) ts) ts (256 * 4294967295) sold
-  pub of-bought : T valid → Sums 0 (placesOf ids (λ r. r .buyer) ts) ts (256 * 4294967295) bought
+  pub twelve : T valid → Twelve (placesOf ids (λ r. r .seller) ts) (placesOf ids (λ r. r .buyer) ts) ts 25600000 sums
+
+-- no question before 7 refuses
+unfoldable pub pastSix : ℕ → Bool
+pastSix number = eqb number 0 || eqb number 7
+
+-- users and trades that pass the questions 1 to 6: each user's twelve sums are 01's, and as many trades were read as there are
+pub record Summed (us : List User) (ts : List Trade) (count number read : ℕ) (sums : List ℕ) : Type 0 where
+  pub twelve : T (pastSix number) → TwelveOf us ts sums
+  pub low : T (pastSix number) → Low sums
+  pub all-read : T (pastSix number) → read ≡ count
 
 -- ---- 5 to 7
 

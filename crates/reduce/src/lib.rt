@@ -8,12 +8,13 @@ ghost use mathlib.Core.Path.{_≡_};
 ghost use Rattle.rules.specs.Levels.{today, afternoonLevel};
 ghost use Rattle.rules.specs.Questions.{refusal, numberOf};
 ghost use Rattle.records.specs.User.{asUser};
-ghost use Rattle.format.specs.Book.{bookOf};
+ghost use Rattle.format.specs.Book.{bookOf, tradesOf, usersOf};
 ghost use Rattle.format.specs.Questions.{Formed};
 ghost use Rattle.format.specs.Steps.{Called};
 ghost use Rattle.levels.specs.Limits.{asLimits, LimitsInRange};
 ghost use Rattle.answers.specs.Reduction.{answerOf};
 ghost use Rattle.account.specs.Account.{AccountIn, Ready};
+ghost use Rattle.positions.specs.Twelve.{TwelveOf, Low};
 ghost use Rattle.reducing.specs.Reducing.{sellerAt};
 ghost use Rattle.reduction.specs.Reduced.{Gives, UserIn};
 ghost use Rattle.reduce.specs.Call.{levelQuestions, onUser, reductionOf};
@@ -42,13 +43,20 @@ fn ask(book: &[u8], account: Account, limits: Limits, level: Cents) -> u32
     0
 }
 
-// Asks the questions 9, 11, 13 and 14 of the user at a place and reduces it for its target.
-fn reduce_user(book: &mut [u8], place: usize, sellers: &[u8], parties: &[u8]) -> ReductionAnswer
+// Asks the questions 9, 11, 13 and 14 of the user at a place and reduces it for its target; the questions 1 to 7 have told the sums.
+fn reduce_user(
+    book: &mut [u8],
+    place: usize,
+    sellers: &[u8],
+    parties: &[u8],
+    sums: &[u32; 768],
+) -> ReductionAnswer
     requires { ⌜ UserIn (now book) place (now sellers) (now parties) ⌝ }
+    requires { ⌜ TwelveOf (usersOf (now book)) (tradesOf (now book)) (now sums) × Low (now sums) ⌝ }
     ensures { λ r. ⌜ Gives (onUser today (now (book .entry)) (sellerAt (bookOf (now (book .entry))) place)) (answerOf r) (now (book .exit)) ⌝ }
 {
     let limits = Limits::today();
-    let account = account::account_at(book, place);
+    let account = account::account_from(book, place, sums);
     let user = account.user;
     let prices = account.prices;
     let dealings = account.dealings;
@@ -68,12 +76,14 @@ pub fn reduction(book: &mut [u8], id: u32) -> ReductionAnswer
 {
     let mut sellers = [0u8; 256];
     let mut parties = [0u8; 256];
-    let number = questions::ask(book, &mut sellers, &mut parties);
+    let mut sums = [0u32; 768];
+    let answer = questions::ask(book, &mut sellers, &mut parties, &mut sums);
+    let number = answer.number;
     let entry = entry::seek(book, number, id);
     let number = entry.number;
     let place = entry.place;
     if number != 0 {
         return ReductionAnswer::refused(number);
     }
-    reduce_user(book, place, &sellers, &parties)
+    reduce_user(book, place, &sellers, &parties, &sums)
 }

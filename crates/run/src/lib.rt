@@ -29,11 +29,13 @@ pub fn run(book: &mut [u8]) -> RunAnswer
 {
     let mut sellers = [0u8; 256];
     let mut buyers = [0u8; 256];
-    let number = questions::ask(book, &mut sellers, &mut buyers);
+    let mut sums = [0u32; 768];
+    let answer = questions::ask(book, &mut sellers, &mut buyers, &mut sums);
+    let number = answer.number;
     if number != 0 {
         return RunAnswer::refused(number);
     }
     let limits = Limits::today();
-    let totals = running::run_in(book, &sellers, &buyers, limits);
+    let totals = running::run_in(book, &sellers, &buyers, &sums, limits);
     accepted(totals)
 }

@@ -6,6 +6,7 @@ use Prim.Native.Nat.{ℕ, _+_, _*_, _≤_}
 use native.Mathlib.Omega.{arith}
 use lib.ListN.{length, take}
 use Rattle.fields.specs.Field.{field}
+use Rattle.format.proofs.Passed.{length-usersOf}
 use Rattle.format.specs.Book.{bookOf, pricesAt, tradeCount, tradesAt, tradesOf, userAt, userCount, usersOf}
 use Rattle.grouping.specs.Grouping.{AllSales}
 use Rattle.held.proofs.Held.{held-userCount}
@@ -13,8 +14,10 @@ use Rattle.levels.specs.Limits.{LimitsInRange}
 use Rattle.listed.specs.Listed.{Listed, NextDealt}
 use Rattle.columns.specs.Columns.{Trading, tradesIn, usersIn}
 use Rattle.places.specs.Ids.{Placed}
+use Rattle.positions.specs.Twelve.{TwelveOf}
 use Rattle.reducing.proofs.Own.{prices-in}
 use Rattle.rules.specs.Areas.{Prices}
+use Rattle.rules.specs.Book.{Book}
 use Rattle.rules.specs.Levels.{Limits}
 use Rattle.starting.specs.Starting.{AskableIn, BookIn, ShortFlags}
 use Rattle.units.specs.Prices.{InRange}
@@ -56,6 +59,12 @@ module _ {s : List ℕ} {n m : ℕ} {sellers parties : List ℕ} (a : BookIn n m
   pub accepted-prices : {f : Prices} → f ≡ pricesAt 12 s → f ≡ bookOf s .header .prices
   unfolding bookOf
   accepted-prices e = e
+
+  -- what was taken from the sums is what each user sold and bought for d+1
+  pub accepted-next : {sums sells buys : List ℕ} → TwelveOf (usersOf s) (tradesOf s) sums
+      → ((b : Book) → length (b .users) ≡ n → TwelveOf (b .users) (b .trades) sums → NextDealt b sells buys) → NextDealt (bookOf s) sells buys
+  unfolding bookOf
+  accepted-next w next = next (bookOf s) (length-usersOf s ∙ sym (a .users-are)) w
 
   -- the users can be asked
   pub accepted-askable : {limits : Limits} {f : Prices} {sells buys : List ℕ} → LimitsInRange limits → f ≡ bookOf s .header .prices → NextDealt (bookOf s) sells buys

@@ -4,10 +4,11 @@ use totals::Totals;
 use units::Prices;
 ghost use mathlib.Core.Path.{_≡_};
 ghost use lib.ListN.{length};
-ghost use Rattle.format.specs.Book.{bookOf, tradeCount, userCount};
+ghost use Rattle.format.specs.Book.{bookOf, tradeCount, tradesOf, userCount, usersOf};
 ghost use Rattle.levels.specs.Limits.{asLimits, LimitsInRange};
 ghost use Rattle.listed.specs.Listed.{NextDealt};
 ghost use Rattle.grouping.specs.Grouping.{ListsRoom};
+ghost use Rattle.positions.specs.Twelve.{TwelveOf, Low};
 ghost use Rattle.rounds.specs.Reductions.{RanIn};
 ghost use Rattle.starting.specs.Starting.{BookIn, ShortFlags};
 ghost use Rattle.units.specs.Prices.{asPrices};
@@ -70,6 +71,7 @@ fn run_from(
     m: usize,
     sellers: &[u8],
     parties: &[u8],
+    sums: &[u32; 768],
     origins: &mut [u8],
     starts: &mut [u64],
     standing: &mut [u64],
@@ -79,13 +81,14 @@ fn run_from(
     limits: Limits,
 ) -> Totals
     requires { ⌜ LimitsInRange (asLimits limits) × BookIn n m (now book) (now sellers) (now parties) × (length (now short) ≡ n) ⌝ }
+    requires { ⌜ TwelveOf (usersOf (now book)) (tradesOf (now book)) (now sums) × Low (now sums) ⌝ }
     requires { ⌜ ListsRoom n m (now origins) (now starts) (now standing) (now areas) (now buyers) ⌝ }
     ensures { λ r. ⌜ RanIn (asLimits limits) (bookOf (now (book .entry))) (now (book .exit)) r ⌝ }
 {
     let prices = header::read_prices(book);
     let mut sold = [0u64; 192];
     let mut bought = [0u64; 192];
-    starting::fill_next(book, n, m, sellers, parties, &mut sold, &mut bought);
+    starting::fill_next(n, sums, &mut sold, &mut bought);
     starting::fill_short(
         book,
         n,
@@ -117,9 +120,16 @@ fn run_from(
     )
 }
 
-// Runs an accepted book, the parties of whose trades have these places.
-pub fn run_in(book: &mut [u8], sellers: &[u8], parties: &[u8], limits: Limits) -> Totals
+// Runs an accepted book, the parties of whose trades have these places, and whose users these sums.
+pub fn run_in(
+    book: &mut [u8],
+    sellers: &[u8],
+    parties: &[u8],
+    sums: &[u32; 768],
+    limits: Limits,
+) -> Totals
     requires { ⌜ LimitsInRange (asLimits limits) × BookIn (userCount (now book)) (tradeCount (now book)) (now book) (now sellers) (now parties) ⌝ }
+    requires { ⌜ TwelveOf (usersOf (now book)) (tradesOf (now book)) (now sums) × Low (now sums) ⌝ }
     ensures { λ r. ⌜ RanIn (asLimits limits) (bookOf (now (book .entry))) (now (book .exit)) r ⌝ }
 {
     let n = fields::get_u8(book, 5) as usize;
@@ -136,6 +146,7 @@ pub fn run_in(book: &mut [u8], sellers: &[u8], parties: &[u8], limits: Limits) -
         m,
         sellers,
         parties,
+        sums,
         &mut origins,
         &mut starts[..n + 1],
         &mut standing,

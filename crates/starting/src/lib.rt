@@ -14,6 +14,7 @@ ghost use Rattle.format.specs.Book.{userCount, usersOf, tradesOf, bookOf};
 ghost use Rattle.levels.specs.Limits.{asLimits};
 ghost use Rattle.listed.specs.Listed.{NextDealt};
 ghost use Rattle.places.specs.Ids.{Placed};
+ghost use Rattle.positions.specs.Twelve.{TwelveOf, Low};
 ghost use Rattle.records.specs.User.{asUser};
 ghost use Rattle.rules.specs.Book.{Book, nobody};
 ghost use Rattle.rules.specs.Levels.{flagged, shortOfCover};
@@ -22,20 +23,19 @@ ghost use Rattle.starting.specs.Starting.{BookIn, NoSums, CutFlags, Shor
 
 // ---- d+1
 
-// Fills in what each user sold and bought for d+1, three areas for each place.
-pub fn fill_next(
-    s: &[u8],
-    n: usize,
-    m: usize,
-    sellers: &[u8],
-    parties: &[u8],
-    sold: &mut [u64],
-    bought: &mut [u64],
-)
-    requires { ⌜ BookIn n m (now s) (now sellers) (now parties) × NoSums (now sold) (now bought) ⌝ }
-    ensures { λ _. ⌜ NextDealt (bookOf (now (s .entry))) (now (sold .exit)) (now (bought .exit)) ⌝ }
+// Fills in what each of n users sold and bought for d+1, three areas for each place, from the twelve sums of each user.
+pub fn fill_next(n: usize, sums: &[u32; 768], sold: &mut [u64], bought: &mut [u64])
+    requires { ⌜ (n ≤ 64) × Low (now sums) × NoSums (now sold) (now bought) ⌝ }
+    ensures { λ _. ⌜ ((b : Book) → length (b .users) ≡ n → TwelveOf (b .users) (b .trades) (now (sums .entry)) → NextDealt b (now (sold .exit)) (now (bought .exit))) ⌝ }
 {
-    positions::gather(s, 32 + 56 * n, m, 1, sellers, parties, sold, bought);
+    let m = 3 * n;
+    let mut k = 0;
+    while k < m {
+        let j = k + 9 * (k / 3) + 3;
+        sold[k] = sums[j] as u64;
+        bought[k] = sums[j + 6] as u64;
+        k += 1;
+    }
 }
 
 // ---- trades standing below notified

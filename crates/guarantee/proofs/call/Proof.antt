@@ -16,17 +16,17 @@ use borrow.Author.Needs.{needs}
 use Rattle.guarantee.proofs.call.Statement.{statement}
 use Rattle.guarantee.proofs.call.Tie as tie
 
-abbrev bytes : tie.After-enter → List ℕ
-bytes c = now (c .before .before .before .args .book)
+abbrev bytes : tie.After-enter-summed → List ℕ
+bytes c = now (c .before .before .before .before .args .book)
 
-abbrev asked : tie.After-enter → ℕ
-asked c = c .before .before .before .args .id
+abbrev asked : tie.After-enter-summed → ℕ
+asked c = c .before .before .before .before .args .id
 
-found : (c : tie.Else1) → Found (bytes (c .before)) (asked (c .before)) (c .before .enter .result .place)
-found c = c .before .enter .ensures .found (c .if1 .left)
+found : (c : tie.Else1) → Found (bytes (c .before)) (asked (c .before)) (c .before .enter-summed .result .place)
+found c = c .before .enter-summed .ensures .0 .found (c .if1 .left)
 
-enter-requires : tie.Need-enter-requires
-enter-requires c κs = search needs
+enter-summed-requires : tie.Need-enter-summed-requires
+enter-summed-requires c κs = search needs
 
 refused-requires : tie.Need-refused-requires
 refused-requires c κs = search needs
@@ -37,16 +37,19 @@ same-length c = search needs
 returns : tie.Need-returns
 returns c =
     let e = c .before .before in
-    let a = e .before .before .before .args .afternoon in
+    let a = e .before .before .before .before .args .afternoon in
     called (callOf a (asked e)) (c .refused .ensures)
-    (call-unentered today (bytes e) (asked e) a (e .enter .result .number) (e .enter .ensures .refused (c .before .if1 .taken)))
+    (call-unentered today (bytes e) (asked e) a (e .enter-summed .result .number) (e .enter-summed .ensures .0 .refused (c .before .if1 .taken)))
 
-account-at-requires : tie.Need-account-at-requires
-account-at-requires c κs = let f = found (c .before) in (f .passes, f .known)
+account-from-requires : tie.Need-account-from-requires
+account-from-requires c κs =
+    let n = c .before .before in
+    let told = n .before .enter-summed .ensures .1 in
+    (found n .passes, (found n .known, (told .twelve (n .if1 .left), told .low (n .if1 .left))))
 
 -- the account that is read of the user that was found
-account : (c : tie.After-account-at) → let e = c .before .before .before in AccountAt (bytes e) (e .enter .result .place) (c .account-at .result)
-account c = c .account-at .ensures
+account : (c : tie.After-account-from) → let e = c .before .before .before .before in AccountAt (bytes e) (e .enter-summed .result .place) (c .account-from .result)
+account c = c .account-from .ensures
 
 refused-requires-2 : tie.Need-refused-requires-2
 refused-requires-2 c κs = search needs
@@ -58,11 +61,11 @@ returns-2 : tie.Need-returns-2
 returns-2 c =
     let t = c .before in
     let k = t .before .before .before in
-    let n = k .before .before in
+    let n = k .before .before .before in
     let e = n .before in
-    let a = e .before .before .before .args .afternoon in
+    let a = e .before .before .before .before .args .afternoon in
     called (callOf a (asked e)) (c .refused2 .ensures)
-    (call-of-house today (bytes e) (asked e) a (found n) (λ h. t .if2 .taken (read-role (k .account-at .result .user) (found n) (account k .user) ∙ h)))
+    (call-of-house today (bytes e) (asked e) a (found n) (λ h. t .if2 .taken (read-role (k .account-from .result .user) (found n) (account k .user) ∙ h)))
 
 today-requires : tie.Need-today-requires
 today-requires c κs = search needs
@@ -74,12 +77,12 @@ is-due-requires : tie.Need-is-due-requires
 is-due-requires c κs =
     let t = c .before .before in
     let k = t .before .before .before .before in
-    let n = k .before .before in
+    let n = k .before .before .before in
     (passed (bytes (n .before)) (found n .passes) .form, (account k .held, (account k .ready, t .today .ensures .1)))
 
 raise-requires : tie.Need-raise-requires
 raise-requires c κs =
-    let n = c .before .before .before .before .before .before .before .before .before .before in
+    let n = c .before .before .before .before .before .before .before .before .before .before .before in
     record { inside = found-lies (found n); few = omega (arith, found-few (found n)) }
 
 same-length-3 : tie.Need-same-length-3
@@ -92,22 +95,22 @@ returns-3 c =
     let l = d .before .before in
     let t = l .before in
     let k = t .before .before .before .before in
-    let n = k .before .before in
+    let n = k .before .before .before in
     let e = n .before in
     let h = account k in
-    let a = e .before .before .before .args .afternoon in
-    let x = call-ends today (bytes e) (asked e) a (found n) (λ j. e .before .before .slice-known .given j .fits) h (t .today .ensures .0) (t .before .if2 .left) (l .level-of .ensures (bytes e) (h .held)) (d .is-due .ensures) in
+    let a = e .before .before .before .before .args .afternoon in
+    let x = call-ends today (bytes e) (asked e) a (found n) (λ j. e .before .before .before .slice-known .given j .fits) h (t .today .ensures .0) (t .before .if2 .left) (l .level-of .ensures (bytes e) (h .held)) (d .is-due .ensures) in
     record { answer = r .raise .ensures .0 ∙ ap (λ (y : InBytes). y .answer) x; bytes = r .raise .ensures .1 ∙ ap (λ (y : InBytes). y .bytes) x }
 
 pub call-spec : {M : Type 1} → statement M
 call-spec =
     tie.close
     (tie.spec
-    enter-requires
+    enter-summed-requires
     refused-requires
     same-length
     returns
-    account-at-requires
+    account-from-requires
     refused-requires-2
     same-length-2
     returns-2

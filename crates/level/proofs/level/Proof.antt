@@ -12,54 +12,57 @@ use borrow.Author.Needs.{needs}
 use Rattle.level.proofs.level.Statement.{statement}
 use Rattle.level.proofs.level.Tie as tie
 
-abbrev bytes : tie.After-enter → List ℕ
-bytes c = now (c .before .before .args .book)
+abbrev bytes : tie.After-enter-summed → List ℕ
+bytes c = now (c .before .before .before .args .book)
 
-abbrev asked : tie.After-enter → ℕ
-asked c = c .before .before .args .id
+abbrev asked : tie.After-enter-summed → ℕ
+asked c = c .before .before .before .args .id
 
-found : (c : tie.Else1) → Found (bytes (c .before)) (asked (c .before)) (c .before .enter .result .place)
-found c = c .before .enter .ensures .found (c .if1 .left)
+found : (c : tie.Else1) → Found (bytes (c .before)) (asked (c .before)) (c .before .enter-summed .result .place)
+found c = c .before .enter-summed .ensures .0 .found (c .if1 .left)
 
-enter-requires : tie.Need-enter-requires
-enter-requires c κs = search needs
+enter-summed-requires : tie.Need-enter-summed-requires
+enter-summed-requires c κs = search needs
 
 returns : tie.Need-returns
 unfolding onlyNumber
 returns c =
     let e = c .before in
-    level-refused today (bytes e) (asked e) (e .before .before .args .afternoon) (e .enter .result .number) (e .enter .ensures .refused (c .if1 .taken))
+    level-refused today (bytes e) (asked e) (e .before .before .before .args .afternoon) (e .enter-summed .result .number) (e .enter-summed .ensures .0 .refused (c .if1 .taken))
 
-account-at-requires : tie.Need-account-at-requires
-account-at-requires c κs = (found c .passes, found c .known)
+account-from-requires : tie.Need-account-from-requires
+account-from-requires c κs =
+    let n = c .before in
+    let told = n .before .enter-summed .ensures .1 in
+    (found n .passes, (found n .known, (told .twelve (n .if1 .left), told .low (n .if1 .left))))
 
 returns-2 : tie.Need-returns-2
 unfolding onlyNumber
 returns-2 c =
     let k = c .before .before .before in
-    let e = k .before .before in
-    let f = found (k .before) in
-    level-of-house today (bytes e) (asked e) (e .before .before .args .afternoon) f (λ h. c .if2 .taken (read-role (k .account-at .result .user) f (k .account-at .ensures .user) ∙ h))
+    let e = k .before .before .before in
+    let f = found (k .before .before) in
+    level-of-house today (bytes e) (asked e) (e .before .before .before .args .afternoon) f (λ h. c .if2 .taken (read-role (k .account-from .result .user) f (k .account-from .ensures .user) ∙ h))
 
 today-requires : tie.Need-today-requires
 today-requires c κs = search needs
 
 level-of-requires : tie.Need-level-of-requires
-level-of-requires c κs = (c .before .before .before .before .account-at .ensures .ready, c .today .ensures .1)
+level-of-requires c κs = (c .before .before .before .before .account-from .ensures .ready, c .today .ensures .1)
 
 returns-3 : tie.Need-returns-3
 unfolding aLevel
 returns-3 c =
     let t = c .before in
     let k = t .before .before .before .before in
-    let e = k .before .before in
-    let f = found (k .before) in
-    let h = k .account-at .ensures in
-    let a = e .before .before .args .afternoon in
+    let e = k .before .before .before in
+    let f = found (k .before .before) in
+    let h = k .account-from .ensures in
+    let a = e .before .before .before .args .afternoon in
     ap aLevel (c .level-of .ensures (bytes e) (h .held) ∙ account-level f h a (t .today .ensures .0))
-    ∙ level-found today (bytes e) (asked e) a f (sym (read-role (k .account-at .result .user) f (h .user)) ∙ t .before .if2 .left)
+    ∙ level-found today (bytes e) (asked e) a f (sym (read-role (k .account-from .result .user) f (h .user)) ∙ t .before .if2 .left)
 
 pub level-spec : {M : Type 1} → statement M
 level-spec =
     tie.close
-    (tie.spec enter-requires returns account-at-requires returns-2 today-requires level-of-requires returns-3)
+    (tie.spec enter-summed-requires returns account-from-requires returns-2 today-requires level-of-requires returns-3)

@@ -20,24 +20,24 @@ abbrev start : tie.After-today → tie.Start
 start c = c .before .before .before .before
 
 -- the account is that of the user at the place
-user-is : (c : tie.After-account-at) → let s = start (c .before .before) in asUser (c .account-at .result .user) ≡ sellerAt (bookOf (now (s .args .book))) (s .args .place)
+user-is : (c : tie.After-account-from) → let s = start (c .before .before) in asUser (c .account-from .result .user) ≡ sellerAt (bookOf (now (s .args .book))) (s .args .place)
 unfolding bookOf
-user-is c = c .account-at .ensures .user
+user-is c = c .account-from .ensures .user
 
 -- and the level is the user's
 level-is : (c : tie.After-afternoon-level) → let k = c .before .before .before .before in let t = k .before .before in
-    c .afternoon-level .result .0 ≡ afternoonLevel (asLimits (t .today .result)) (bookOf (now (start t .args .book))) (asUser (k .account-at .result .user))
+    c .afternoon-level .result .0 ≡ afternoonLevel (asLimits (t .today .result)) (bookOf (now (start t .args .book))) (asUser (k .account-from .result .user))
 level-is c =
     let k = c .before .before .before .before in
     let t = k .before .before in
-    let h = k .account-at .ensures .held in
-    c .afternoon-level .ensures ∙ afternoon-level-held (asLimits (t .today .result)) (bookOf (now (start t .args .book))) (k .account-at .result .user) (h .dealings) (h .prices)
+    let h = k .account-from .ensures .held in
+    c .afternoon-level .ensures ∙ afternoon-level-held (asLimits (t .today .result)) (bookOf (now (start t .args .book))) (k .account-from .result .user) (h .dealings) (h .prices)
 
 today-requires : tie.Need-today-requires
 today-requires c κs = search needs
 
-account-at-requires : tie.Need-account-at-requires
-account-at-requires c κs = search needs
+account-from-requires : tie.Need-account-from-requires
+account-from-requires c κs = search needs
 
 afternoon-level-requires : tie.Need-afternoon-level-requires
 afternoon-level-requires c κs = search needs
@@ -48,8 +48,8 @@ ask-requires c κs =
     let k = v .before .before .before .before in
     let t = k .before .before in
     let s = start t in
-    let a = k .account-at .ensures in
-    (passed (now (s .args .book)) (s .pre .passes) .form, ((a .held, a .ready), (t .today .ensures .1, level-is v)))
+    let a = k .account-from .ensures in
+    (passed (now (s .args .book)) (s .pre .0 .passes) .form, ((a .held, a .ready), (t .today .ensures .1, level-is v)))
 
 refused-requires : tie.Need-refused-requires
 refused-requires c κs = search needs
@@ -71,19 +71,19 @@ reduce-at-requires : tie.Need-reduce-at-requires
 reduce-at-requires c κs =
     let a = c .before .before .before .before in
     let k = a .before .before .before .before .before .before in
-    (start (k .before .before) .pre, sym (k .account-at .ensures .held .prices))
+    (start (k .before .before) .pre .0, sym (k .account-from .ensures .held .prices))
 
 same-length-2 : tie.Need-same-length-2
 same-length-2 c = search needs
 
 -- the amount is the user's target
 target-is : (c : tie.After-excess) → let v = c .before .before .before .before .before in let k = v .before .before .before .before in let t = k .before .before in
-    c .excess .result .0 ≡ target (asLimits (t .today .result)) (bookOf (now (start t .args .book))) (asUser (k .account-at .result .user))
+    c .excess .result .0 ≡ target (asLimits (t .today .result)) (bookOf (now (start t .args .book))) (asUser (k .account-from .result .user))
 unfolding target asUser
 target-is c =
     let v = c .before .before .before .before .before in
     let k = v .before .before .before .before in
-    c .excess .ensures ∙ ap (λ (n : ℕ). n - k .account-at .result .user .assigned .0) (level-is v)
+    c .excess .ensures ∙ ap (λ (n : ℕ). n - k .account-from .result .user .assigned .0) (level-is v)
 
 returns-2 : tie.Need-returns-2
 returns-2 c =
@@ -100,7 +100,7 @@ reduce-user-spec =
     tie.close
     (tie.spec
     today-requires
-    account-at-requires
+    account-from-requires
     afternoon-level-requires
     ask-requires
     refused-requires

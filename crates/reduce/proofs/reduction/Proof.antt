@@ -7,6 +7,7 @@ use Rattle.rules.specs.Levels.{today}
 use Rattle.entry.specs.Entered.{Found}
 use Rattle.entry.proofs.Calls.{called}
 use Rattle.held.proofs.Held.{held-accepted}
+use Rattle.questions.proofs.Asked.{sums-told}
 use Rattle.reduce.specs.Call.{reductionOf}
 use Rattle.reduce.proofs.Ways.{call-unentered, call-gives}
 use borrow.Author.Needs.{needs}
@@ -14,7 +15,7 @@ use Rattle.reduce.proofs.reduction.Statement.{statement}
 use Rattle.reduce.proofs.reduction.Tie as tie
 
 abbrev start : tie.After-seek → tie.Start
-start c = c .before .before .before .before .before .before .before .before .before
+start c = c .before .before .before .before .before .before .before .before .before .before
 
 abbrev bytes : tie.After-seek → List ℕ
 bytes c = now (start c .args .book)
@@ -56,15 +57,17 @@ slice-aggregate-reduce-user-2 c = search needs
 
 reduce-user-requires : tie.Need-reduce-user-requires
 reduce-user-requires c κs =
-    let e = c .before .before .before in
+    let e = c .before .before .before .before in
     let a = e .before .before .before .before .before in
-    let f = found e in
-    record {
-      passes = f .passes;
-      held = held-accepted (bytes (e .before)) (λ i. a .before .before .before .before .slice-known .given i .fits) (f .passes);
-      inside = f .known;
-      placed = a .ask .ensures .placed (a .ask .ensures .number ∙ f .passes);
-    }
+    let f = found e in (
+      record {
+        passes = f .passes;
+        held = held-accepted (bytes (e .before)) (λ i. a .before .before .before .before .before .slice-known .given i .fits) (f .passes);
+        inside = f .known;
+        placed = a .ask .ensures .0 .placed (a .ask .ensures .0 .number ∙ f .passes);
+      },
+      sums-told (a .ask .ensures .1) (a .ask .ensures .0 .number ∙ f .passes),
+    )
 
 same-length-2 : tie.Need-same-length-2
 same-length-2 c = search needs
@@ -72,7 +75,7 @@ same-length-2 c = search needs
 returns-2 : tie.Need-returns-2
 returns-2 c =
     let r = c .before .before in
-    let e = r .before .before .before .before in
+    let e = r .before .before .before .before .before in
     call-gives today (bytes (e .before)) (asked (e .before)) (found e) (r .reduce-user .ensures)
 
 pub reduction-spec : {M : Type 1} → statement M

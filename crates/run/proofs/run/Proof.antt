@@ -2,6 +2,7 @@
 use borrow.Author.Needs.{needs}
 use denote.Ref.{now}
 use Rattle.rules.specs.Levels.{today}
+use Rattle.questions.proofs.Asked.{sums-told}
 use Rattle.run.proofs.Ways.{run-refused, asked-book, run-called}
 use Rattle.run.proofs.run.Statement.{statement}
 use Rattle.run.proofs.run.Tie as tie
@@ -24,8 +25,8 @@ same-length c = search needs
 returns : tie.Need-returns
 returns c =
     let o = c .before .before .before .before in
-    let s = o .before .before .before .before .before in
-    run-refused today (now (s .args .book)) (o .ask .result) (o .ask .ensures .number) (c .before .if1 .taken) (c .refused .ensures)
+    let s = o .before .before .before .before .before .before in
+    run-refused today (now (s .args .book)) (o .ask .result .number) (o .ask .ensures .0 .number) (c .before .if1 .taken) (c .refused .ensures)
 
 today-requires : tie.Need-today-requires
 today-requires c κs = search needs
@@ -38,9 +39,9 @@ slice-aggregate-run-in-2 c = search needs
 
 run-in-requires : tie.Need-run-in-requires
 run-in-requires c κs =
-    let t = c .before .before .before in
+    let t = c .before .before .before .before in
     let o = t .before .before .before .before in
-    (t .today .ensures .1, asked-book (o .ask .ensures) (t .before .if1 .left) (λ j. o .before .before .before .before .slice-known .given j .fits))
+    ((t .today .ensures .1, asked-book (o .ask .ensures .0) (t .before .if1 .left) (λ j. o .before .before .before .before .before .slice-known .given j .fits)), sums-told (o .ask .ensures .1) (t .before .if1 .left))
 
 accepted-requires : tie.Need-accepted-requires
 accepted-requires c κs = search needs
@@ -51,9 +52,9 @@ same-length-2 c = search needs
 returns-2 : tie.Need-returns-2
 returns-2 c =
     let w = c .before .before .before in
-    let t = w .before .before .before .before in
+    let t = w .before .before .before .before .before in
     let o = t .before .before .before .before in
-    run-called (o .ask .ensures) (t .before .if1 .left) (t .today .ensures .0) (w .run-in .ensures) (c .accepted .ensures)
+    run-called (o .ask .ensures .0) (t .before .if1 .left) (t .today .ensures .0) (w .run-in .ensures) (c .accepted .ensures)
 
 pub run-spec : {M : Type 1} → statement M
 run-spec =

@@ -1,7 +1,7 @@
 -- `run_from`: what the run starts from is filled in. Assumes nothing.
 use borrow.Author.Needs.{needs}
 use mathlib.Core.Path.{refl}
-use Rattle.running.proofs.Lists.{accepted-askable, accepted-prices}
+use Rattle.running.proofs.Lists.{accepted-few, accepted-prices, accepted-next, accepted-askable}
 use Rattle.running.proofs.run_from.Statement.{statement}
 use Rattle.running.proofs.run_from.Tie as tie
 
@@ -16,8 +16,8 @@ slice-aggregate-fill-next-2 c = search needs
 
 fill-next-requires : tie.Need-fill-next-requires
 fill-next-requires c κs =
-    let s = c .before .before .before .before .before .before .before .before .before .before .before .before .before .before in
-    (s .pre .0 .1, record { nothing-sold = refl; nothing-bought = refl })
+    let s = c .before .before .before .before .before .before .before .before .before .before .before .before .before in
+    (accepted-few (s .pre .0 .1) .0, s .pre .1 .0 .1, record { nothing-sold = refl; nothing-bought = refl })
 
 slice-aggregate-fill-short : tie.Need-slice-aggregate-fill-short
 slice-aggregate-fill-short c = search needs
@@ -27,9 +27,9 @@ slice-aggregate-fill-short-2 c = search needs
 
 fill-short-requires : tie.Need-fill-short-requires
 fill-short-requires c κs =
-    let s = c .before .before .before .before .before .before .before .before .before .before .before .before .before .before .before .before .before .before .before .before .before in
+    let s = c .before .before .before .before .before .before .before .before .before .before .before .before .before .before .before .before .before .before .before .before in
     let a = s .pre .0 .1 in
-    ((a, accepted-askable a (s .pre .0 .0) (accepted-prices a (c .before .before .before .before .before .before .before .before .before .before .read-prices .ensures)) (c .before .before .before .before .before .before .fill-next .ensures)), s .pre .0 .2)
+    ((a, accepted-askable a (s .pre .0 .0) (accepted-prices a (c .before .before .before .before .before .before .before .before .before .read-prices .ensures)) (accepted-next a (s .pre .1 .0 .0) (c .before .before .before .before .before .before .fill-next .ensures))), s .pre .0 .2)
 
 slice-aggregate-run-started : tie.Need-slice-aggregate-run-started
 slice-aggregate-run-started c = search needs
@@ -39,9 +39,9 @@ slice-aggregate-run-started-2 c = search needs
 
 run-started-requires : tie.Need-run-started-requires
 run-started-requires c κs =
-    let s = c .before .before .before .before .before .before .before .before .before .before .before .before .before .before .before .before .before .before .before .before .before .before .before .before .before .before .before .before .before .before .before .before .before in
+    let s = c .before .before .before .before .before .before .before .before .before .before .before .before .before .before .before .before .before .before .before .before .before .before .before .before .before .before .before .before .before .before .before .before in
     let a = s .pre .0 .1 in
-    ((s .pre .0 .0, a, accepted-prices a (c .before .before .before .before .before .before .before .before .before .before .before .before .before .before .before .before .before .before .before .before .before .before .read-prices .ensures)), ((c .before .before .before .before .before .before .before .before .before .before .before .before .before .before .before .before .before .before .fill-next .ensures, c .before .before .before .before .before .before .before .before .before .before .before .fill-short .ensures), s .pre .1))
+    ((s .pre .0 .0, a, accepted-prices a (c .before .before .before .before .before .before .before .before .before .before .before .before .before .before .before .before .before .before .before .before .before .read-prices .ensures)), ((accepted-next a (s .pre .1 .0 .0) (c .before .before .before .before .before .before .before .before .before .before .before .before .before .before .before .before .before .before .fill-next .ensures), c .before .before .before .before .before .before .before .before .before .before .before .fill-short .ensures), s .pre .1 .1))
 
 same-length : tie.Need-same-length
 same-length c = search needs

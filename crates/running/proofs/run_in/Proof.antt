@@ -28,13 +28,13 @@ add-starts c = search needs
 array-borrow-prefix-starts : tie.Need-array-borrow-prefix-starts
 array-borrow-prefix-starts c =
     let s = c .before .before .before .before .before .before .before .before .before in
-    let few = users-few (s .pre .1) (c .before .before .before .before .get-u8 .ensures) in
+    let few = users-few (s .pre .0 .1) (c .before .before .before .before .get-u8 .ensures) in
     omega arith
 
 slice-aggregate-run-from-2 : tie.Need-slice-aggregate-run-from-2
 slice-aggregate-run-from-2 c =
     let s = c .before .before .before .before .before .before .before .before .before .before in
-    let few = users-few (s .pre .1) (c .before .before .before .before .before .get-u8 .ensures) in
+    let few = users-few (s .pre .0 .1) (c .before .before .before .before .before .get-u8 .ensures) in
     sym (length-take-le _ _ (omega arith))
 
 slice-aggregate-run-from-3 : tie.Need-slice-aggregate-run-from-3
@@ -49,24 +49,27 @@ slice-aggregate-run-from-5 c = search needs
 array-borrow-prefix-short : tie.Need-array-borrow-prefix-short
 array-borrow-prefix-short c =
     let s = c .before .before .before .before .before .before .before .before .before .before .before .before .before in
-    let few = users-few (s .pre .1) (c .before .before .before .before .before .before .before .before .get-u8 .ensures) in
+    let few = users-few (s .pre .0 .1) (c .before .before .before .before .before .before .before .before .get-u8 .ensures) in
     omega arith
 
 slice-aggregate-run-from-6 : tie.Need-slice-aggregate-run-from-6
 slice-aggregate-run-from-6 c =
     let s = c .before .before .before .before .before .before .before .before .before .before .before .before .before .before in
-    let few = users-few (s .pre .1) (c .before .before .before .before .before .before .before .before .before .get-u8 .ensures) in
+    let few = users-few (s .pre .0 .1) (c .before .before .before .before .before .before .before .before .before .get-u8 .ensures) in
     sym (length-take-le _ _ (omega arith))
 
 run-from-requires : tie.Need-run-from-requires
 run-from-requires c κs =
     let s = c .before .before .before .before .before .before .before .before .before .before .before .before .before .before in
-    let a = book-counted (s .pre .1) (c .before .before .before .before .before .before .before .before .before .get-u8 .ensures) (c .before .before .before .before .before .before .before .get-u16 .ensures) in (
-      (s .pre .0, a, length-take-le _ _ (accepted-few a .0)),
-      record {
-        sales = record { origins-room = accepted-few a .1; standing-room = accepted-few a .1; areas-room = accepted-few a .1; buyers-room = accepted-few a .1 };
-        starts-room = length-take-le _ _ (omega (arith, accepted-few a .0));
-      },
+    let a = book-counted (s .pre .0 .1) (c .before .before .before .before .before .before .before .before .before .get-u8 .ensures) (c .before .before .before .before .before .before .before .get-u16 .ensures) in (
+      (s .pre .0 .0, a, length-take-le _ _ (accepted-few a .0)),
+      (
+        s .pre .1,
+        record {
+          sales = record { origins-room = accepted-few a .1; standing-room = accepted-few a .1; areas-room = accepted-few a .1; buyers-room = accepted-few a .1 };
+          starts-room = length-take-le _ _ (omega (arith, accepted-few a .0));
+        },
+      ),
     )
 
 same-length : tie.Need-same-length
