@@ -17,7 +17,7 @@ use Rattle.lots.specs.Lots.{Sales, cutsOf, shortBy}
 use Rattle.records.specs.User.{userOf}
 use Rattle.reducing.proofs.Own.{own-area-inside, own-buyer-inside, own-most, prices-in}
 use Rattle.reducing.proofs.Settled.{settled-own}
-use Rattle.reducing.proofs.Written.{cut-written}
+use Rattle.sales.proofs.Written.{cut-written}
 use Rattle.reducing.specs.Reducing.{ReducedIn, ReducibleIn, SettledIn, ShortOf, sellerAt}
 use Rattle.rules.specs.Areas.{Prices, tariff}
 use Rattle.rules.specs.Book.{Book, Header, Trade, User, nobody}

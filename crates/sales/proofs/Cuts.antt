@@ -198,7 +198,8 @@ module _ (id : ℕ) (ts : List Trade) (cs : List ℕ) where
 -- ---- the tally
 
 module _ (f : Prices) where
-  tally-zero : (t : Trade) (tally : Tally) → tallied f 0 t tally ≡ tally
+  -- no cut changes no tally
+  pub tally-zero : (t : Trade) (tally : Tally) → tallied f 0 t tally ≡ tally
   unfolding tallied
   tally-zero t tally =
       ap₂ (λ (m n : ℕ). record { mwh = m; worth = n }) (omega arith) (omega (arith, zero-mul (tariff f (t .terms .area))))

@@ -1,4 +1,6 @@
--- Laws of the elements that pass a test:
+-- Laws of a part of a list
+pub mod Parts
+-- of the elements that pass a test
 pub mod Kept
 -- the cuts of a tier
 pub mod Tiers
@@ -15,8 +17,13 @@ pub mod Cover
 pub mod Reduced
 -- the sales of all users in one list
 pub mod Groups
+pub mod Listed
 pub mod Count
 pub mod Origins
+pub mod Apart
 pub mod Standing
+pub mod Written
+pub mod Whole
+pub mod Again
 -- the user that is reduced next
 pub mod Next
