@@ -21,7 +21,7 @@ use Rattle.tier.proofs.Cuts.{cut-le-standing, cuts-length}
 use Rattle.worths.specs.Lots.{lotsOf}
 
 -- the cuts are the same by tests that are the same in three areas
-cuts-of-same : (f : Prices) (short other : ℕ → Bool) (asked : ℕ) (standing areas : List ℕ) → ((a : ℕ) → a < 3 → short a ≡ other a) → ((i : ℕ) → getD areas i 0 < 3)
+pub cuts-of-same : (f : Prices) (short other : ℕ → Bool) (asked : ℕ) (standing areas : List ℕ) → ((a : ℕ) → a < 3 → short a ≡ other a) → ((i : ℕ) → getD areas i 0 < 3)
     → cutsOf f short asked standing areas ≡ cutsOf f other asked standing areas
 unfolding cutsOf
 cuts-of-same f short other asked standing areas e h =

@@ -1,4 +1,4 @@
-// The cuts of a reduction on arrays: what stands of a seller's own sales and the areas of the sales, from..to. The cuts of both tiers are filled in, and taken off.
+// The cuts of a reduction on arrays: what stands of a seller's own sales and the areas of the sales, from..to. The cuts of both tiers are filled in; one is taken off, and tallied.
 use cut_worth::Tally;
 use units::Area;
 use units::Cents;
@@ -90,7 +90,7 @@ pub fn fill_cuts(
     );
 }
 
-// ---- the cuts taken off
+// ---- a cut taken off
 
 // The tally with the cut of a sale in an area, at the area's tariff. Most sales lose nothing.
 pub fn tally_with(tally: Tally, cut: u64, area: u8, prices: Prices) -> Tally
@@ -113,30 +113,4 @@ pub fn lower_sale(standing: &mut [u64; 256], place: usize, cut: u64)
         return;
     }
     standing[place] -= cut;
-}
-
-// Takes the cuts off what stands, and gives their tally.
-pub fn take_off(
-    standing: &mut [u64; 256],
-    areas: &[u8; 256],
-    cuts: &[u64; 256],
-    prices: Prices,
-    from: usize,
-    to: usize,
-) -> Tally
-    requires { ⌜ InRange (asPrices prices) × Sales (now standing) (now areas) from to × Takeable (now standing) (now cuts) from to ⌝ }
-    ensures { λ _. ⌜ now (standing .exit) ≡ sets (now (standing .entry)) from (less (part from to (now (cuts .entry))) (part from to (now (standing .entry)))) ⌝ }
-    ensures { λ r. ⌜ ((ss : List model.Trade) → map (λ s. s .terms .area) ss ≡ part from to (now (areas .entry))
-        → asTally r ≡ tallyAll (asPrices prices) (part from to (now (cuts .entry))) ss nothing) ⌝ }
-    ensures { λ r. ⌜ (r .mwh .0 ≤ 100000 * (to - from)) × (r .worth .0 ≤ 10000000000 * (to - from)) ⌝ }
-{
-    let mut tally = Tally::none();
-    let mut i = from;
-    while i < to {
-        let cut = cuts[i];
-        lower_sale(standing, i, cut);
-        tally = tally_with(tally, cut, areas[i], prices);
-        i += 1;
-    }
-    tally
 }

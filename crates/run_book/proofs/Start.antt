@@ -6,16 +6,17 @@ use Prim.Native.Nat.{ℕ}
 use native.Mathlib.Omega.{arith}
 use lib.ListN.{length, take}
 use Rattle.columns.specs.Columns.{tradesIn, usersIn}
-use Rattle.format.specs.Book.{bookOf, tradeCount, tradesAt, tradesOf, userAt, usersOf}
+use Rattle.cut_lists.specs.Sales.{BookIn}
+use Rattle.format.specs.Book.{bookOf, tradeCount, tradesAt, tradesOf, userAt, userCount, usersOf}
 use Rattle.rules.specs.Areas.{Prices}
 use Rattle.rules.specs.Book.{Book}
 use Rattle.rules.specs.Levels.{Limits}
 use Rattle.run_state.proofs.Grouped.{going-first, sales-listed, standing-listed}
-use Rattle.run_state.specs.Asked.{PositionsOf}
+use Rattle.risk_user.specs.Account.{PositionsOf}
 use Rattle.run_state.specs.Going.{Going, OwedOf, SalesIn, StandingIn}
 use Rattle.run_targets.specs.Asking.{CutFlags, Opening}
-use Rattle.run_turns.specs.Turns.{RunOf}
-use Rattle.run_book.specs.Books.{Listed, OwedRoom, Runnable}
+use Rattle.run_reduction.specs.Reductions.{RunOf}
+use Rattle.run_book.specs.Books.{Listed, Runnable}
 
 -- ---- the lists of a book
 
@@ -31,17 +32,10 @@ module _ {b : Book} {ss origins ns areaCodes bs : List ℕ} {count : ℕ} (l : L
 
 -- ---- an accepted book
 
-module _ {limits : Limits} {f : Prices} {n m : ℕ} {s sellers parties sums : List ℕ} (r : Runnable limits f n m s sellers parties sums) where
-  -- by the number of trades that the bytes say
-  pub run-counted : Runnable limits f n (tradeCount s) s sellers parties sums
-  run-counted =
-      record {
-        book = record { held = r .book .held; sound = r .book .sound; users-are = r .book .users-are; trades-are = refl; placed = r .book .placed };
-        limits-in = r .limits-in;
-        prices-are = r .prices-are;
-        twelve = r .twelve;
-        low = r .low;
-      }
+module _ {limits : Limits} {f : Prices} {s sellers parties sums : List ℕ} (r : Runnable limits f s sellers parties sums) where
+  -- by the numbers of users and trades that were read
+  pub run-counted : {n m : ℕ} → n ≡ userCount s → m ≡ tradeCount s → BookIn n m s sellers parties
+  run-counted e k = rw (e, k) (r .book)
 
   module _ {ss origins ns areaCodes bs : List ℕ} {count : ℕ} (l : Listed (bookOf s) ss origins ns areaCodes bs count) where
     -- what stays
@@ -58,14 +52,15 @@ module _ {limits : Limits} {f : Prices} {n m : ℕ} {s sellers parties sums : Li
         }
 
     -- what the first targets are asked from
-    pub run-opening : {ps : List ℕ} {flags : List Bool} → PositionsOf (usersOf s) ps → CutFlags (usersIn n s) (tradesIn n m s) flags → Opening f n s sums ps ss ns flags
+    pub run-opening : {n m : ℕ} → n ≡ userCount s → m ≡ tradeCount s → {ps : List ℕ} {flags : List Bool} → PositionsOf (usersOf s) ps → CutFlags (usersIn n s) (tradesIn n m s) flags
+        → Opening f n s sums ps ss ns flags
     unfolding bookOf usersOf tradesOf tradesAt userAt
-    run-opening {ps} {flags} p c =
+    run-opening {n} {m} e k {ps} {flags} p c =
         let q = l .sales in
         record {
           form = r .book .held .form;
           sound = r .book .sound;
-          users-are = r .book .users-are;
+          users-are = e;
           prices-are = r .prices-are;
           twelve = r .twelve;
           positions = p;
@@ -73,12 +68,12 @@ module _ {limits : Limits} {f : Prices} {n m : ℕ} {s sellers parties sums : Li
           few = omega (arith, q .all, q .few);
           standing-room = l .room .standing-room;
           standing = listed-standing l refl;
-          cut = rw (r .book .users-are, r .book .trades-are) at c;
+          cut = rw (e, k) at c;
         }
 
     -- the run starts at its opening book
-    pub run-going : {ms ps ts : List ℕ} {es : List Bool} → take count ms ≡ take count ns → length ms ≡ 256 → PositionsOf (usersOf s) ps → OwedOf limits (bookOf s) ts es → OwedRoom ps ts es
-        → Going limits (bookOf s) (bookOf s) ms ps ts es
+    pub run-going : {ms ps ts : List ℕ} {es : List Bool} → take count ms ≡ take count ns → length ms ≡ 256 → PositionsOf (usersOf s) ps → length ps ≡ 192
+        → OwedOf limits (bookOf s) ts es → length ts ≡ 64 → length es ≡ 64 → Going limits (bookOf s) (bookOf s) ms ps ts es
     unfolding bookOf
-    run-going e long p w room =
-        going-first (r .book .sound) (listed-standing l e) p w (record { standing = long; positions = room .positions; targets = room .targets; eligible = room .eligible })
+    run-going e long p ps-room w ts-room es-room =
+        going-first (r .book .sound) (listed-standing l e) p w (record { standing = long; positions = ps-room; targets = ts-room; eligible = es-room })

@@ -1,5 +1,4 @@
 -- The run of a book in bytes: what it starts from, its arrays, and what it gives. Assumes nothing.
-use mathlib.Core.Bool.{Bool}
 use mathlib.Core.List.{List}
 use mathlib.Core.Path.{_≡_}
 use Prim.Native.Nat.{ℕ, _+_, _≤_, _<_}
@@ -7,18 +6,18 @@ use lib.ListN.{length, getD}
 use Rattle.cut_lists.specs.Sales.{BookIn, SalesOf, SalesRoom, StandingOf}
 use Rattle.cut_worth.specs.Totals.{totals}
 use Rattle.cut_worth.specs.declared.Totals.{Totals}
-use Rattle.format.specs.Book.{bookOf, tradesOf, usersOf}
+use Rattle.format.specs.Book.{bookOf, tradeCount, tradesOf, userCount, usersOf}
 use Rattle.held.specs.Held.{HeldAs}
 use Rattle.levels.specs.Limits.{LimitsInRange}
 use Rattle.rules.specs.Areas.{Prices}
 use Rattle.rules.specs.Book.{Book}
 use Rattle.rules.specs.Levels.{Limits}
-use Rattle.run_state.specs.Asked.{Low, TwelveOf}
+use Rattle.positions.specs.Twelve.{Low, TwelveOf}
 use Rattle.run_state.specs.Running.{wholeRun}
 
 -- the bytes of an accepted book, limits and prices, and the twelve sums of each user
-pub record Runnable (limits : Limits) (f : Prices) (n m : ℕ) (s sellers parties sums : List ℕ) : Type 0 where
-  pub book : BookIn n m s sellers parties
+pub record Runnable (limits : Limits) (f : Prices) (s sellers parties sums : List ℕ) : Type 0 where
+  pub book : BookIn (userCount s) (tradeCount s) s sellers parties
   pub limits-in : LimitsInRange limits
   pub prices-are : f ≡ bookOf s .header .prices
   pub twelve : TwelveOf (usersOf s) (tradesOf s) sums
@@ -29,12 +28,6 @@ pub record Listed (b : Book) (ss origins ns areaCodes bs : List ℕ) (count : �
   pub sales : SalesOf b ss origins areaCodes bs count
   pub standing : StandingOf b ns count
   pub room : SalesRoom origins ns areaCodes bs
-
--- room for three positions and a target of each of 64 places, and for who of them has an eligible trade
-pub record OwedRoom (ps ts : List ℕ) (es : List Bool) : Type 0 where
-  pub positions : length ps ≡ 192
-  pub targets : length ts ≡ 64
-  pub eligible : length es ≡ 64
 
 -- what stood of sales and what is left of the first of them
 pub record LeftOf (ns ms : List ℕ) (count : ℕ) : Type 0 where

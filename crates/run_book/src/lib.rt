@@ -1,15 +1,13 @@
 // The run of a book in its bytes, by arrays: they are filled in from the opening book, the run goes on in them, and what its sales have lost is taken off in the bytes at the end.
 use cut_worth::Totals;
-use run_targets::Day;
+use risk_user::Day;
 ghost use mathlib.Core.Path.{_≡_};
 ghost use Prim.Native.Nat.{_≤_};
 ghost use lib.ListN.{length, take};
-ghost use Rattle.format.specs.Book.{bookOf, tradeCount, usersOf};
+ghost use Rattle.format.specs.Book.{bookOf};
 ghost use Rattle.levels.specs.Limits.{asLimits};
-ghost use Rattle.run_state.specs.Asked.{PositionsOf};
-ghost use Rattle.run_state.specs.Going.{OwedOf};
 ghost use Rattle.units.specs.Prices.{asPrices};
-ghost use Rattle.run_book.specs.Books.{LeftOf, Listed, LostOf, OwedRoom, RanIn, Runnable};
+ghost use Rattle.run_book.specs.Books.{LeftOf, Listed, LostOf, RanIn, Runnable};
 
 // ---- what was lost
 
@@ -39,54 +37,9 @@ fn lost_of(standing: &[u64; 256], left: &mut [u64; 256], count: usize)
 
 // ---- the run
 
-// Runs a book of which all arrays are filled in.
-fn run_owed(
-    book: &mut [u8],
-    n: usize,
-    sellers: &[u8; 256],
-    parties: &[u8; 256],
-    sums: &[u32; 768],
-    starts: &[usize; 65],
-    origins: &[u8; 256],
-    standing: &[u64; 256],
-    areas: &[u8; 256],
-    buyers: &[u8; 256],
-    count: usize,
-    positions: &mut [u32; 192],
-    eligible: &mut [bool; 64],
-    targets: &mut [u64; 64],
-    day: Day,
-) -> Totals
-    requires { ⌜ Runnable (asLimits (day .limits)) (asPrices (day .prices)) n (tradeCount (now book)) (now book) (now sellers) (now parties) (now sums) ⌝ }
-    requires { ⌜ Listed (bookOf (now book)) (now starts) (now origins) (now standing) (now areas) (now buyers) count ⌝ }
-    requires { ⌜ PositionsOf (usersOf (now book)) (now positions) × OwedOf (asLimits (day .limits)) (bookOf (now book)) (now targets) (now eligible) × OwedRoom (now positions) (now targets) (now eligible) ⌝ }
-    ensures { λ r. ⌜ RanIn (asLimits (day .limits)) (bookOf (now (book .entry))) (now (book .exit)) r ⌝ }
-{
-    let mut left = [0u64; 256];
-    copy_sales(standing, &mut left, count);
-    let totals = run_turns::run_on(
-        book,
-        n,
-        sums,
-        starts,
-        &mut left,
-        areas,
-        buyers,
-        positions,
-        eligible,
-        targets,
-        day,
-    );
-    lost_of(standing, &mut left, count);
-    cut_apply::apply(book, n, sellers, parties, origins, &left, 0, count);
-    totals
-}
-
-// Runs a book of which the own sales are listed: fills in positions, who has been cut, and who owes what.
+// Runs a book of which the own sales are listed: fills in positions, who has been cut and who owes what, runs on in a copy of what stands, and takes off what was lost.
 fn run_listed(
     book: &mut [u8],
-    n: usize,
-    m: usize,
     sellers: &[u8; 256],
     parties: &[u8; 256],
     sums: &[u32; 768],
@@ -98,10 +51,12 @@ fn run_listed(
     count: usize,
     day: Day,
 ) -> Totals
-    requires { ⌜ Runnable (asLimits (day .limits)) (asPrices (day .prices)) n m (now book) (now sellers) (now parties) (now sums) ⌝ }
+    requires { ⌜ Runnable (asLimits (day .limits)) (asPrices (day .prices)) (now book) (now sellers) (now parties) (now sums) ⌝ }
     requires { ⌜ Listed (bookOf (now book)) (now starts) (now origins) (now standing) (now areas) (now buyers) count ⌝ }
     ensures { λ r. ⌜ RanIn (asLimits (day .limits)) (bookOf (now (book .entry))) (now (book .exit)) r ⌝ }
 {
+    let n = fields::get_u8(book, 5) as usize;
+    let m = fields::get_u16(book, 6) as usize;
     let mut positions = [0u32; 192];
     run_positions::fill_positions(book, n, &mut positions);
     let mut cut = [false; 64];
@@ -120,39 +75,40 @@ fn run_listed(
         &mut targets,
         day,
     );
-    run_owed(
+    let mut left = [0u64; 256];
+    copy_sales(standing, &mut left, count);
+    let totals = run_turns::run_on(
         book,
         n,
-        sellers,
-        parties,
         sums,
         starts,
-        origins,
-        standing,
+        &mut left,
         areas,
         buyers,
-        count,
         &mut positions,
         &mut eligible,
         &mut targets,
         day,
-    )
+    );
+    lost_of(standing, &mut left, count);
+    cut_apply::apply(book, n, sellers, parties, origins, &left, 0, count);
+    totals
 }
 
-// Runs an accepted book of n users and m trades, the parties of whose trades have these places and whose users these sums: while some user that is short of cover has an own
-// sale to cut, the one of the lowest id is reduced.
+// Runs an accepted book, the parties of whose trades have these places and whose users these sums: while some user that is short of cover has an own sale to cut, the one of
+// the lowest id is reduced.
 pub fn run_book(
     book: &mut [u8],
-    n: usize,
-    m: usize,
     sellers: &[u8; 256],
     parties: &[u8; 256],
     sums: &[u32; 768],
     day: Day,
 ) -> Totals
-    requires { ⌜ Runnable (asLimits (day .limits)) (asPrices (day .prices)) n m (now book) (now sellers) (now parties) (now sums) ⌝ }
+    requires { ⌜ Runnable (asLimits (day .limits)) (asPrices (day .prices)) (now book) (now sellers) (now parties) (now sums) ⌝ }
     ensures { λ r. ⌜ RanIn (asLimits (day .limits)) (bookOf (now (book .entry))) (now (book .exit)) r ⌝ }
 {
+    let n = fields::get_u8(book, 5) as usize;
+    let m = fields::get_u16(book, 6) as usize;
     let mut starts = [0usize; 65];
     let mut origins = [0u8; 256];
     let mut standing = [0u64; 256];
@@ -172,8 +128,6 @@ pub fn run_book(
     );
     run_listed(
         book,
-        n,
-        m,
         sellers,
         parties,
         sums,

@@ -20,7 +20,7 @@ use Rattle.records.specs.User.{userOf}
 use Rattle.rules.specs.Book.{at, User, nobody}
 use Rattle.rules.specs.Signed.{signedOf}
 use Rattle.run_positions.specs.Moving.{ShortIn}
-use Rattle.run_state.specs.Asked.{PositionsOf, positionIn}
+use Rattle.risk_user.specs.Account.{PositionsOf, positionIn}
 use Rattle.units.proofs.Amounts.{negPart-net}
 use Rattle.units.specs.Amounts.{net}
 

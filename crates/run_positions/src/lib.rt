@@ -8,7 +8,8 @@ ghost use Rattle.format.specs.Book.{userCount, usersOf};
 ghost use Rattle.format.specs.Questions.{Formed};
 ghost use Rattle.integers.specs.Parts.{negPart};
 ghost use Rattle.rules.specs.Book.{at, nobody};
-ghost use Rattle.run_state.specs.Asked.{PositionsOf, movedOne};
+ghost use Rattle.run_state.specs.Asked.{movedOne};
+ghost use Rattle.risk_user.specs.Account.{PositionsOf};
 ghost use Rattle.units.specs.Amounts.{net};
 ghost use Rattle.run_positions.specs.Moving.{ShortIn};
 

@@ -11,7 +11,8 @@ use Rattle.laws.proofs.Trades.{lowered-refl}
 use Rattle.rules.specs.Book.{Book, Terms}
 use Rattle.rules.specs.Levels.{Limits}
 use Rattle.run_state.proofs.Stays.{Stays, parties-stay, users-many, with-same}
-use Rattle.run_state.specs.Asked.{memberAt, PositionsOf}
+use Rattle.run_state.specs.Asked.{memberAt}
+use Rattle.risk_user.specs.Account.{PositionsOf}
 use Rattle.run_state.specs.Going.{Going, OwedOf, Rooms, SalesIn, StandingIn}
 use Rattle.sales.proofs.Groups.{start-same}
 use Rattle.sales.proofs.Listed.{all-grouped, part-grouped, terms-many}

@@ -19,7 +19,8 @@ use Rattle.rules.specs.Book.{at, Book, Trade, User, nobody}
 use Rattle.rules.specs.Calls.{reducedBy}
 use Rattle.rules.specs.Changes.{moved}
 use Rattle.run_state.proofs.Reduced.{place-id, place-inside}
-use Rattle.run_state.specs.Asked.{positionIn, PositionsOf, movedOne, movedAll}
+use Rattle.run_state.specs.Asked.{movedOne, movedAll}
+use Rattle.risk_user.specs.Account.{positionIn, PositionsOf}
 use Rattle.sales.proofs.FirstCuts.{first-all, first-bound, first-length, first-next, first-none, own-cut-le, own-cuts-length}
 use Rattle.sales.proofs.Kept.{by-case, holds}
 use Rattle.sales.proofs.Numbers.{read-at}

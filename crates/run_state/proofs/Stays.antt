@@ -16,7 +16,9 @@ use Rattle.rules.specs.Areas.{Prices}
 use Rattle.rules.specs.Book.{Book, Header, Party, User, nobody, sold, bought}
 use Rattle.rules.specs.Levels.{Limits, Holding, exposure, holding, leastReferencePrice, shipper, exceedsMargin}
 use Rattle.rules.specs.Reduction.{withTrades}
-use Rattle.run_state.specs.Asked.{memberAt, TwelveOf, PositionsOf, flaggedAt, heldAt, levelAt, targetAt}
+use Rattle.run_state.specs.Asked.{memberAt}
+use Rattle.positions.specs.Twelve.{TwelveOf}
+use Rattle.risk_user.specs.Account.{PositionsOf, flaggedAt, heldAt, levelAt, targetAt}
 use Rattle.run_state.specs.Going.{owedCalled}
 use Rattle.sales.proofs.Cover.{sold-next, bought-next, exposure-next, level-next, short-next, target-from}
 use Rattle.sales.proofs.Settled.{settle-none}

@@ -27,7 +27,9 @@ use Rattle.run_state.proofs.Moves.{all-moved, moved-length}
 use Rattle.run_state.proofs.Own.{own-areas, own-buyers}
 use Rattle.run_state.proofs.Reduced.{apart, asked-other, asked-own, eligible-left, eligible-own, law, member-stays, members-stay}
 use Rattle.run_state.proofs.Stays.{Stays, stays, target-is, users-many}
-use Rattle.run_state.specs.Asked.{memberAt, PositionsOf, TwelveOf, LookedAgain, movedAll, targetAt, touched}
+use Rattle.run_state.specs.Asked.{memberAt, LookedAgain, movedAll, touched}
+use Rattle.risk_user.specs.Account.{PositionsOf, targetAt}
+use Rattle.positions.specs.Twelve.{TwelveOf}
 use Rattle.run_state.specs.Going.{Going, OwedOf, SalesIn, StandingIn, owed, owedCalled}
 use Rattle.sales.proofs.Again.{retraded-again}
 use Rattle.sales.proofs.Kept.{by-case, holds}

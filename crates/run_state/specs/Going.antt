@@ -10,7 +10,8 @@ use Rattle.laws.specs.Trades.{Lowered, Pairwise}
 use Rattle.rules.specs.Book.{Book, User}
 use Rattle.rules.specs.Levels.{Limits, holding}
 use Rattle.rules.specs.Reduction.{hasEligible, target, withTrades}
-use Rattle.run_state.specs.Asked.{memberAt, PositionsOf}
+use Rattle.run_state.specs.Asked.{memberAt}
+use Rattle.risk_user.specs.Account.{PositionsOf}
 use Rattle.sales.specs.Cover.{due, shortFrom}
 use Rattle.sales.specs.Groups.{starts, standings}
 use Rattle.sales.specs.Parts.{part}

@@ -19,7 +19,8 @@ use Rattle.rules.specs.Lists.{any}
 use Rattle.rules.specs.Reduction.{hasEligible, target}
 use Rattle.sales.proofs.Listed.{starts-rise}
 use Rattle.run_state.proofs.Stays.{flagged-is, stays-first, target-is}
-use Rattle.run_state.specs.Asked.{flaggedAt, memberAt, targetAt}
+use Rattle.run_state.specs.Asked.{memberAt}
+use Rattle.risk_user.specs.Account.{flaggedAt, targetAt}
 use Rattle.run_state.specs.Going.{OwedOf, owed, owedCalled}
 use Rattle.run_targets.specs.Asking.{Opening, owedIf}
 use Rattle.sales.proofs.Cover.{has-eligible-sales, short-from}
@@ -39,18 +40,13 @@ has-left true e = refl
 has-left false e = absurd (subst T e tt)
 
 module _ (t : ℕ) (left : Bool) (l : not left ≡ false) where
-  pub first-cut : (flagged : Bool) {cut : Bool} → cut ≡ true → t ≡ owedIf flagged left cut t
+  pub first-called : (flagged cut : Bool) {r : Bool} → r ≡ (flagged || cut) → r ≡ true → t ≡ owedIf flagged left cut t
   unfolding owedIf
-  first-cut true e = rw (has-left left l)
-  first-cut false e = rw (has-left left l, e)
+  first-called flagged cut g e = rw (has-left left l, sym g ∙ e)
 
-  pub first-flagged : {flagged : Bool} (cut : Bool) {r : Bool} → r ≡ flagged → r ≡ true → t ≡ owedIf flagged left cut t
+  pub first-uncalled : (flagged cut : Bool) {r : Bool} → r ≡ (flagged || cut) → r ≡ false → 0 ≡ owedIf flagged left cut t
   unfolding owedIf
-  first-flagged cut g e = rw (has-left left l, sym g ∙ e)
-
-  pub first-neither : {flagged cut : Bool} {r : Bool} → r ≡ flagged → r ≡ false → cut ≡ false → 0 ≡ owedIf flagged left cut t
-  unfolding owedIf
-  first-neither g e c = rw (has-left left l, sym g ∙ e, c)
+  first-uncalled flagged cut g e = rw (has-left left l, sym g ∙ e)
 
 -- of a user that is party to a trade standing below notified
 pub owed-cut : (flagged left : Bool) (t : ℕ) → owedIf flagged left true t ≡ cond left t 0

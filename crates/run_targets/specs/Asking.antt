@@ -1,4 +1,4 @@
--- What can be asked of the user at a place of a book in bytes. Assumes nothing.
+-- What a run asks of its users before the first reduction and after each. Assumes nothing.
 use mathlib.Core.Bool.{Bool, false, cond, _||_}
 use mathlib.Core.List.{List}
 use mathlib.Core.Path.{_≡_}
@@ -9,25 +9,12 @@ use Rattle.dealings.specs.Parties.{cutBefore}
 use Rattle.format.specs.Book.{bookOf, tradesOf, userCount, usersOf}
 use Rattle.format.specs.Questions.{Formed}
 use Rattle.laws.specs.Sound.{Sound}
-use Rattle.levels.specs.Limits.{LimitsInRange}
 use Rattle.rules.specs.Areas.{Prices}
-use Rattle.rules.specs.Book.{Trade, User, nobody}
-use Rattle.rules.specs.Levels.{Limits}
-use Rattle.run_state.specs.Asked.{PositionsOf, TwelveOf}
+use Rattle.rules.specs.Book.{Trade, User}
+use Rattle.risk_user.specs.Account.{PositionsOf}
+use Rattle.positions.specs.Twelve.{TwelveOf}
 use Rattle.run_state.specs.Going.{StandingIn}
 use Rattle.sales.specs.Groups.{starts}
-use Rattle.units.specs.Prices.{InRange}
-
--- bytes hold a book with a user at a place
-pub record UserIn (s : List ℕ) (place : ℕ) : Type 0 where
-  pub form : Formed s
-  pub inside : place < userCount s
-
--- limits and prices in range, and users whose blocked guarantee is
-pub record DayOf (limits : Limits) (f : Prices) (s : List ℕ) : Type 0 where
-  pub limits-in : LimitsInRange limits
-  pub prices-in : InRange f
-  pub blocked-most : (i : ℕ) → getD (usersOf s) i nobody .blocked ≤ 1000000000000
 
 -- the buyers of the sales from..to are among the users
 pub record BuyersIn (s bs : List ℕ) (from to : ℕ) : Type 0 where

@@ -1,234 +1,22 @@
-// Who owes a guarantee in a run, and how much: the level, the flag and the target of the user at a place. The money is read from the bytes of the opening book, which a run
-// leaves as they are; positions, and what was sold and bought for d+1, from arrays with three positions and twelve sums for each place.
-use levels::Limits;
-use units::Area;
-use units::Balance;
-use units::Cents;
-use units::Mwh;
-use units::Net;
-use units::Prices;
+// Who owes a guarantee in a run, and how much: the targets before the first reduction, and after each those of the users that it touched.
+use risk_user::Day;
 ghost use mathlib.Core.Bool.{false, cond};
-ghost use mathlib.Core.List.{[]};
 ghost use mathlib.Core.Path.{_≡_};
-ghost use Prim.Native.Nat.{_*_, _≤_, _<_, _^_, min};
+ghost use Prim.Native.Nat.{_≤_, _<_, min};
 ghost use lib.Dec.{ltb};
 ghost use lib.ListN.{getD, length, replicate, set};
 ghost use Rattle.columns.specs.Columns.{Trading, tradesIn, usersIn};
 ghost use Rattle.format.specs.Book.{bookOf, usersOf};
-ghost use Rattle.integers.specs.Parts.{posPart, negPart};
 ghost use Rattle.levels.specs.Limits.{asLimits};
-ghost use Rattle.rules.specs.Areas.{referencePrice};
-ghost use Rattle.rules.specs.Book.{nobody};
-ghost use Rattle.rules.specs.Levels.{afternoonNeed, exposure, stock};
 ghost use Rattle.rules.specs.Lists.{any};
 ghost use Rattle.places.specs.Ids.{Placed};
-ghost use Rattle.run_state.specs.Asked.{LookedAgain, Low, flaggedAt, heldAt, levelAt, positionIn, targetAt};
+ghost use Rattle.run_state.specs.Asked.{LookedAgain};
+ghost use Rattle.positions.specs.Twelve.{Low};
+ghost use Rattle.risk_user.specs.Account.{flaggedAt, targetAt, DayOf, UserIn};
 ghost use Rattle.run_state.specs.Going.{OwedOf};
 ghost use Rattle.sales.specs.Parts.{part};
-ghost use Rattle.units.specs.Amounts.{balance, net};
-ghost use Rattle.units.specs.Prices.{InRange, asPrices};
-ghost use Rattle.run_targets.specs.Asking.{BuyersIn, CutFlags, DayOf, Opening, UserIn, owedIf};
-
-// The limits and the prices of a day.
-pub struct Day {
-    pub limits: Limits,
-    pub prices: Prices,
-}
-
-// ---- the money of the user at a place, in the bytes
-
-// The role: 0 is a shipper's.
-fn role_at(book: &[u8], place: usize) -> u8
-    requires { ⌜ UserIn (now book) place ⌝ }
-    ensures { λ r. ⌜ r ≡ getD (usersOf (now (book .entry))) place nobody .party .role ⌝ }
-{
-    fields::get_u8(book, 32 + 56 * place + 4)
-}
-
-// The charges.
-fn charges_at(book: &[u8], place: usize) -> Balance
-    requires { ⌜ UserIn (now book) place ⌝ }
-    ensures { λ r. ⌜ balance r ≡ getD (usersOf (now (book .entry))) place nobody .party .charges ⌝ }
-{
-    Balance::of_bits(fields::get_u64(book, 32 + 56 * place + 32))
-}
-
-// The assigned guarantee.
-fn assigned_at(book: &[u8], place: usize) -> Cents
-    requires { ⌜ UserIn (now book) place ⌝ }
-    ensures { λ r. ⌜ r .0 ≡ getD (usersOf (now (book .entry))) place nobody .party .assigned ⌝ }
-{
-    Cents(fields::get_u64(book, 32 + 56 * place + 40))
-}
-
-// The blocked guarantee.
-fn blocked_at(book: &[u8], place: usize) -> Cents
-    requires { ⌜ UserIn (now book) place ⌝ }
-    ensures { λ r. ⌜ r .0 ≡ getD (usersOf (now (book .entry))) place nobody .blocked ⌝ }
-{
-    Cents(fields::get_u64(book, 32 + 56 * place + 48))
-}
-
-// ---- energies of the user at a place in an area
-
-// The position.
-fn position_at(positions: &[u32; 192], place: usize, area: u8) -> Net
-    requires { ⌜ (place < 64) × (area < 3) ⌝ }
-    ensures { λ r. ⌜ net r ≡ positionIn (now (positions .entry)) place area ⌝ }
-{
-    let k = 3 * place + area as usize;
-    Net(positions[k])
-}
-
-// A number of 32 bits in 64.
-fn wide(x: u32) -> u64
-    ensures { λ r. ⌜ r ≡ x ⌝ }
-{
-    x as u64
-}
-
-// A byte as a place.
-fn index(b: u8) -> usize
-    ensures { λ r. ⌜ r ≡ b ⌝ }
-{
-    b as usize
-}
-
-// One of the twelve sums.
-fn sum_at(sums: &[u32; 768], k: usize) -> u64
-    requires { ⌜ Low (now sums) × (k < 768) ⌝ }
-    ensures { λ r. ⌜ (r ≡ getD (now (sums .entry)) k 0) × (r ≤ 25600000) ⌝ }
-{
-    wide(sums[k])
-}
-
-// What a long position takes off the afternoon's need: nothing in PVB.
-fn stock_at(positions: &[u32; 192], place: usize, area: u8) -> Mwh
-    requires { ⌜ (place < 64) × (area < 3) ⌝ }
-    ensures { λ r. ⌜ r .0 ≡ stock area (heldAt [] (now (positions .entry)) place area) ⌝ }
-    ensures { λ r. ⌜ r .0 < 2 ^ 31 ⌝ }
-{
-    if area == Area::PVB {
-        return Mwh(0);
-    }
-    position_at(positions, place, area).long()
-}
-
-// The afternoon's need, for d+1, and never below 0.
-fn need_at(sums: &[u32; 768], positions: &[u32; 192], place: usize, area: u8) -> Mwh
-    requires { ⌜ Low (now sums) × (place < 64) × (area < 3) ⌝ }
-    ensures { λ r. ⌜ r .0 ≡ posPart (afternoonNeed area (heldAt (now (sums .entry)) (now (positions .entry)) place area)) ⌝ }
-    ensures { λ r. ⌜ r .0 ≤ 2 ^ 42 ⌝ }
-{
-    let k = 12 * place + area as usize;
-    let sold = sum_at(sums, k + 3);
-    let covered = sum_at(sums, k + 9) + stock_at(positions, place, area).0;
-    if sold < covered {
-        return Mwh(0);
-    }
-    Mwh(sold - covered)
-}
-
-// ---- what they are worth
-
-// What the afternoon's need is worth in an area.
-fn need_worth(
-    sums: &[u32; 768],
-    positions: &[u32; 192],
-    place: usize,
-    area: u8,
-    prices: Prices,
-) -> Cents
-    requires { ⌜ Low (now sums) × InRange (asPrices prices) × (place < 64) × (area < 3) ⌝ }
-    ensures { λ r. ⌜ r .0 ≡ posPart (afternoonNeed area (heldAt (now (sums .entry)) (now (positions .entry)) place area)) * referencePrice (asPrices prices) area ⌝ }
-    ensures { λ r. ⌜ r .0 ≤ 300000 * 2 ^ 42 ⌝ }
-{
-    holdings::worth_in(prices, area, need_at(sums, positions, place, area))
-}
-
-// What a short position is worth in an area.
-fn short_worth(positions: &[u32; 192], place: usize, area: u8, prices: Prices) -> Cents
-    requires { ⌜ InRange (asPrices prices) × (place < 64) × (area < 3) ⌝ }
-    ensures { λ r. ⌜ r .0 ≡ negPart (positionIn (now (positions .entry)) place area) * referencePrice (asPrices prices) area ⌝ }
-    ensures { λ r. ⌜ r .0 ≤ 300000 * 2 ^ 42 ⌝ }
-{
-    holdings::worth_in(prices, area, position_at(positions, place, area).short())
-}
-
-// The sum over the areas of what short positions are worth.
-fn exposure_at(positions: &[u32; 192], place: usize, prices: Prices) -> Cents
-    requires { ⌜ InRange (asPrices prices) × (place < 64) ⌝ }
-    ensures { λ r. ⌜ r .0 ≡ exposure (asPrices prices) (heldAt [] (now (positions .entry)) place) ⌝ }
-    ensures { λ r. ⌜ r .0 ≤ 900000 * 2 ^ 42 ⌝ }
-{
-    let pvb = short_worth(positions, place, Area::PVB, prices);
-    let tvb = short_worth(positions, place, Area::TVB, prices);
-    let avb = short_worth(positions, place, Area::AVB, prices);
-    Cents(pvb.0 + tvb.0 + avb.0)
-}
-
-// ---- levels, flags and targets
-
-// The afternoon level of the user at a place.
-pub fn level_at(
-    book: &[u8],
-    sums: &[u32; 768],
-    positions: &[u32; 192],
-    place: usize,
-    day: Day,
-) -> Cents
-    requires { ⌜ DayOf (asLimits (day .limits)) (asPrices (day .prices)) (now book) × UserIn (now book) place × Low (now sums) ⌝ }
-    ensures { λ r. ⌜ r .0 ≡ levelAt (asLimits (day .limits)) (asPrices (day .prices)) (usersOf (now (book .entry))) (now (sums .entry)) (now (positions .entry)) place ⌝ }
-{
-    let limits = day.limits;
-    let prices = day.prices;
-    let charges = charges_at(book, place);
-    let pvb = need_worth(sums, positions, place, Area::PVB, prices);
-    let tvb = need_worth(sums, positions, place, Area::TVB, prices);
-    let avb = need_worth(sums, positions, place, Area::AVB, prices);
-    let short = exposure_at(positions, place, prices);
-    levels::floored(limits, charges, Cents(pvb.0 + tvb.0 + avb.0 + short.0))
-}
-
-// Is the user at a place flagged?
-pub fn flagged_at(book: &[u8], positions: &[u32; 192], place: usize, day: Day) -> bool
-    requires { ⌜ DayOf (asLimits (day .limits)) (asPrices (day .prices)) (now book) × UserIn (now book) place ⌝ }
-    ensures { λ r. ⌜ r ≡ flaggedAt (asLimits (day .limits)) (asPrices (day .prices)) (usersOf (now (book .entry))) (now (positions .entry)) place ⌝ }
-{
-    let prices = day.prices;
-    let energy = day.limits.flag_mwh;
-    let allowed = levels::least_reference_price(prices).worth(energy);
-    let blocked = blocked_at(book, place);
-    let short = exposure_at(positions, place, prices);
-    allowed.0 + blocked.0 < short.0
-}
-
-// T where the user at a place, who is called in, is short of cover; else 0.
-pub fn target_at(
-    book: &[u8],
-    sums: &[u32; 768],
-    positions: &[u32; 192],
-    place: usize,
-    day: Day,
-) -> u64
-    requires { ⌜ DayOf (asLimits (day .limits)) (asPrices (day .prices)) (now book) × UserIn (now book) place × Low (now sums) ⌝ }
-    ensures { λ r. ⌜ r ≡ targetAt (asLimits (day .limits)) (asPrices (day .prices)) (usersOf (now (book .entry))) (now (sums .entry)) (now (positions .entry)) place ⌝ }
-{
-    if role_at(book, place) != 0 {
-        return 0;
-    }
-    let level = level_at(book, sums, positions, place, day);
-    let assigned = assigned_at(book, place);
-    if level.0 <= assigned.0 {
-        return 0;
-    }
-    let margin = day.limits.margin;
-    let blocked = blocked_at(book, place);
-    if level.0 <= margin.0 + blocked.0 {
-        return 0;
-    }
-    level.0 - assigned.0
-}
+ghost use Rattle.units.specs.Prices.{asPrices};
+ghost use Rattle.run_targets.specs.Asking.{BuyersIn, CutFlags, Opening, owedIf};
 
 // ---- before the first reduction
 
@@ -245,6 +33,13 @@ pub fn any_left(standing: &[u64; 256], from: usize, to: usize) -> bool
         i += 1;
     }
     false
+}
+
+// A byte as a place.
+fn index(b: u8) -> usize
+    ensures { λ r. ⌜ r ≡ b ⌝ }
+{
+    b as usize
 }
 
 // Fills in a flag for each user that is party to a trade standing below notified, of a book of n users and m trades.
@@ -289,11 +84,8 @@ pub fn owed_at(
     if !left {
         return 0;
     }
-    if cut {
-        return target_at(book, sums, positions, place, day);
-    }
-    if flagged_at(book, positions, place, day) {
-        return target_at(book, sums, positions, place, day);
+    if risk_user::called_at(book, positions, place, cut, day) {
+        return risk_user::target_at(book, sums, positions, place, day);
     }
     0
 }
@@ -355,7 +147,7 @@ fn look_at(
         (now (targets .entry))) × (r ≡ cond (getD (now (eligible .entry)) place false) (min least place) least) ⌝ }
 {
     if eligible[place] {
-        targets[place] = target_at(book, sums, positions, place, day);
+        targets[place] = risk_user::target_at(book, sums, positions, place, day);
         return lesser(least, place);
     }
     least

@@ -8,30 +8,16 @@ use Rattle.cut_worth.specs.Tallies.{asTally}
 use Rattle.cut_worth.specs.Totals.{totals}
 use Rattle.cut_worth.specs.declared.Tally.{Tally}
 use Rattle.cut_worth.specs.declared.Totals.{Totals}
-use Rattle.format.specs.Book.{bookOf, tradesOf, usersOf}
-use Rattle.format.specs.Questions.{Formed}
 use Rattle.laws.specs.Sound.{Sound}
 use Rattle.laws.specs.Trades.{Lowered, Pairwise}
-use Rattle.levels.specs.Limits.{LimitsInRange}
-use Rattle.rules.specs.Areas.{Prices}
 use Rattle.rules.specs.Book.{Book}
 use Rattle.rules.specs.Calls.{ofCuts, reduced}
 use Rattle.rules.specs.Levels.{Limits}
 use Rattle.rules.specs.Reduction.{target, withTrades}
-use Rattle.run_state.specs.Asked.{Low, TwelveOf, memberAt}
-use Rattle.run_state.specs.Going.{Going, SalesIn, StandingIn}
+use Rattle.run_state.specs.Asked.{memberAt}
+use Rattle.run_state.specs.Going.{Going, StandingIn}
 use Rattle.run_state.specs.Running.{wholeRun}
 use Rattle.sales.specs.Reduced.{ownCuts}
-
--- what stays: the bytes of an accepted book, limits and prices, the twelve sums of each user, and where the own sales of each start, their areas and the places of their buyers
-pub record RunOf (limits : Limits) (f : Prices) (s sums ss areaCodes bs : List ℕ) : Type 0 where
-  pub form : Formed s
-  pub sound : Sound (bookOf s)
-  pub limits-in : LimitsInRange limits
-  pub prices-are : f ≡ bookOf s .header .prices
-  pub twelve : TwelveOf (usersOf s) (tradesOf s) sums
-  pub low : Low sums
-  pub sales : SalesIn (bookOf s) ss areaCodes bs
 
 -- a run of a book has come to some book
 pub record Ongoing (limits : Limits) (o : Book) (ns ps ts : List ℕ) (es : List Bool) : Type 0 where

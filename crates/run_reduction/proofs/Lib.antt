@@ -1,0 +1,3 @@
+-- Laws of a reduction on arrays.
+pub mod Steps
+pub mod Filled

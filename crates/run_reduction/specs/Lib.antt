@@ -1,0 +1,2 @@
+-- What a reduction on arrays starts from.
+pub mod Reductions
