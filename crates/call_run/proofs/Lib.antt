@@ -1,0 +1,2 @@
+-- The ways out of the call.
+pub mod Ways

@@ -1,0 +1,2 @@
+-- The call that a run is.
+pub mod Call
