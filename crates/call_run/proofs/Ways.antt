@@ -1,24 +1,19 @@
 -- The ways out of the call: refused by a question about the book, or run. Assumes nothing.
 use mathlib.Core.List.{List}
-use mathlib.Core.Path.{_≡_, refl, sym, ap, subst, _∙_}
+use mathlib.Core.Path.{_≡_, sym, ap, subst, _∙_}
 use Prim.Native.Nat.{ℕ}
-use lib.Dec.{T}
 use Rattle.cut_worth.specs.Totals.{totals}
 use Rattle.cut_worth.specs.declared.Totals.{Totals}
-use Rattle.fields.specs.Field.{AllBytes}
-use Rattle.format.proofs.Passed.{passed}
 use Rattle.format.proofs.Steps.{step-passed, step-refused}
-use Rattle.format.specs.Book.{bookOf, pricesAt, tradeCount, tradesOf, usersOf}
+use Rattle.format.specs.Book.{bookOf}
 use Rattle.format.specs.Questions.{bookNumber}
 use Rattle.format.specs.Steps.{Called, InBytes, inBytes, stepBytes}
-use Rattle.held.proofs.Held.{held-accepted}
-use Rattle.levels.specs.Limits.{LimitsInRange}
-use Rattle.questions.specs.Asked.{AskedOf, Summed, pastSix}
-use Rattle.rules.specs.Areas.{Prices}
+use Rattle.questions.specs.Asked.{AskedOf}
 use Rattle.rules.specs.Calls.{Answer, about, effect, only}
 use Rattle.rules.specs.Levels.{Limits}
 use Rattle.rules.specs.Questions.{decided, refusal}
-use Rattle.run_book.specs.Books.{RanIn, Runnable}
+use Rattle.run_book.specs.Books.{RanIn}
+use Rattle.run_reduction.proofs.Asked.{asked-passes}
 use Rattle.run_state.specs.Running.{wholeRun}
 use Rattle.call_run.specs.Call.{runCall}
 
@@ -34,32 +29,14 @@ module _ (limits : Limits) (s : List ℕ) where
   unfolding about refusal decided effect
   run-passed h = step-passed limits s runCall h
 
--- bytes that passed, the places of the parties of their trades, and the sums of their users
-module _ {s : List ℕ} {n : ℕ} {sellers parties : List ℕ} (o : AskedOf s n sellers parties) (yes : n ≡ 0) where
-  passes : bookNumber s ≡ 0
-  passes = sym (o .number) ∙ yes
-
-  -- they can be run
-  pub asked-runnable : {limits : Limits} {f : Prices} {read : ℕ} {sums : List ℕ} → AllBytes s → LimitsInRange limits → f ≡ pricesAt 12 s
-      → Summed (usersOf s) (tradesOf s) (tradeCount s) n read sums → Runnable limits f s sellers parties sums
-  unfolding bookOf pastSix
-  asked-runnable bytes l e w =
-      let six : T (pastSix n) = subst (λ (k : ℕ). T (pastSix k)) (sym yes) tt in
-      record {
-        book = record { held = held-accepted s bytes passes; sound = passed s passes .sound; users-are = refl; trades-are = refl; placed = o .placed yes };
-        limits-in = l;
-        prices-are = e;
-        twelve = w .twelve six;
-        low = w .low six;
-      }
-
-  -- by limits that are the same
-  pub run-called : {l limits : Limits} → l ≡ limits → {t : List ℕ} {r : Totals} → RanIn l (bookOf s) t r → {a : Answer} → a ≡ totals r → Called limits s runCall a t
-  unfolding inBytes
-  run-called {l} {limits} same {t} {r} ran e =
-      let w : RanIn limits (bookOf s) t r = subst (λ (x : Limits). RanIn x (bookOf s) t r) same ran in
-      let step = run-passed limits s passes in
-      record {
-        answer = e ∙ w .answer ∙ sym (ap (λ (x : InBytes). x .answer) step);
-        bytes = w .held .bytes ∙ sym (ap (λ (x : InBytes). x .bytes) step);
-      }
+-- bytes that passed, run by limits that are the same
+pub run-called : {s : List ℕ} {n : ℕ} {sellers parties : List ℕ} → AskedOf s n sellers parties → n ≡ 0 → {l limits : Limits} → l ≡ limits → {t : List ℕ} {r : Totals}
+    → RanIn l (bookOf s) t r → {a : Answer} → a ≡ totals r → Called limits s runCall a t
+unfolding inBytes
+run-called {s} o passes {l} {limits} same {t} {r} ran e =
+    let w : RanIn limits (bookOf s) t r = subst (λ (x : Limits). RanIn x (bookOf s) t r) same ran in
+    let step = run-passed limits s (asked-passes o passes) in
+    record {
+      answer = e ∙ w .answer ∙ sym (ap (λ (x : InBytes). x .answer) step);
+      bytes = w .held .bytes ∙ sym (ap (λ (x : InBytes). x .bytes) step);
+    }

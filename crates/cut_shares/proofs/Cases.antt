@@ -17,9 +17,9 @@ use Rattle.laws.proofs.Shares.{tier-length}
 use Rattle.rules.specs.Reduction.{together}
 use Rattle.rules.specs.Shares.{Share, shareOf, tierWorth, byTurns, tierCuts}
 use Rattle.sales.specs.Parts.{part}
-use Rattle.tier.proofs.Cuts.{cuts-none, cuts-whole, cuts-part}
-use Rattle.worths.proofs.Lots.{lots-length}
-use Rattle.worths.specs.Lots.{lotsOf}
+use Rattle.cut_shares.proofs.Cuts.{cuts-none, cuts-whole, cuts-part}
+use Rattle.sales.proofs.Lots.{lots-length}
+use Rattle.sales.specs.Lots.{lotsOf}
 
 -- the rates of shares are those of the lots
 share-rates : (asked worth : ℕ) (ns ts : List ℕ) → length ts ≡ length ns → map (λ s. s .tariff) (map (shareOf asked worth) (lotsOf ns ts)) ≡ ts

@@ -11,7 +11,7 @@ use Rattle.cut_worth.specs.Rates.{rateIn, ratesIn, lotsIn}
 use Rattle.rules.specs.Reduction.{together}
 use Rattle.rules.specs.Shares.{Share, shareOf}
 use Rattle.sales.specs.Parts.{part}
-use Rattle.tier.specs.Turns.{sharesOf, Sharing, Earliest}
+use Rattle.cut_shares.specs.Turns.{sharesOf, Sharing, Earliest}
 
 -- an array of cuts in which no sale of the tier, of a part of the sales, has a cut yet
 pub record Untouched (rates areas cuts : List ℕ) (from to : ℕ) : Type 0 where

@@ -17,8 +17,8 @@ use Rattle.rules.specs.Shares.{tierWorth, tierCuts}
 use Rattle.sales.proofs.Numbers.{sale-cuts-lots, standing-in-at, standing-in-length}
 use Rattle.sales.specs.Parts.{part}
 use Rattle.sales.specs.Sales.{saleCuts, standingIn}
-use Rattle.tier.proofs.Cuts.{cut-le-standing, cuts-length}
-use Rattle.worths.specs.Lots.{lotsOf}
+use Rattle.cut_shares.proofs.Cuts.{cut-le-standing, cuts-length}
+use Rattle.sales.specs.Lots.{lotsOf}
 
 -- the cuts are the same by tests that are the same in three areas
 pub cuts-of-same : (f : Prices) (short other : ℕ → Bool) (asked : ℕ) (standing areas : List ℕ) → ((a : ℕ) → a < 3 → short a ≡ other a) → ((i : ℕ) → getD areas i 0 < 3)

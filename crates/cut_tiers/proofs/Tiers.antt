@@ -22,10 +22,10 @@ use Rattle.rules.specs.Reduction.{together}
 use Rattle.rules.specs.Shares.{tierWorth, tierCuts}
 use Rattle.sales.specs.Parts.{part}
 use Rattle.sales.specs.Sales.{standingIn}
-use Rattle.tier.proofs.Cuts.{asked-nothing, cuts-length, cut-le-standing}
+use Rattle.cut_shares.proofs.Cuts.{asked-nothing, cuts-length, cut-le-standing}
 use Rattle.units.specs.Prices.{InRange}
-use Rattle.worths.proofs.Ranges.{cond-le}
-use Rattle.worths.specs.Lots.{lotsOf}
+use Rattle.sales.proofs.Ranges.{cond-le}
+use Rattle.sales.specs.Lots.{lotsOf}
 
 -- cuts added to none
 together-first : (zs ds : List ℕ) → length ds ≡ length zs → ((k : ℕ) → getD zs k 0 ≡ 0) → together zs ds ≡ ds

@@ -15,8 +15,8 @@ use Rattle.rules.specs.Shares.{tierWorth}
 use Rattle.sales.proofs.Numbers.{read-at, standing-in-at, standing-in-length}
 use Rattle.sales.specs.Parts.{part}
 use Rattle.sales.specs.Sales.{standingIn}
-use Rattle.worths.proofs.Ranges.{cond-le}
-use Rattle.worths.specs.Lots.{lotsOf, Tier}
+use Rattle.sales.proofs.Ranges.{cond-le}
+use Rattle.sales.specs.Lots.{lotsOf, Tier}
 
 -- what is outside the tier has no worth at its rate
 weighted : (n rate : ℕ) → cond (ltb 0 rate) n 0 * rate ≡ n * rate

@@ -7,7 +7,7 @@ use lib.Dec.{ltb}
 use lib.ListN.{length, getD}
 use Rattle.rules.specs.Shares.{Lot}
 use Rattle.sales.specs.Sales.{standingIn}
-use Rattle.worths.specs.Lots.{lotsOf}
+use Rattle.sales.specs.Lots.{lotsOf}
 
 -- the rate of an area
 abbrev pub rateIn : List ℕ → ℕ → ℕ

@@ -9,7 +9,7 @@ ghost use mathlib.Core.Path.{_≡_};
 ghost use Rattle.rules.specs.Levels.{today};
 ghost use Rattle.format.specs.Questions.{bookNumber};
 ghost use Rattle.format.specs.Steps.{stepBytes};
-ghost use Rattle.run.specs.Call.{runCall};
+ghost use Rattle.call_run.specs.Call.{runCall};
 
 // A space and a number.
 pub fn number(n: u64) {
@@ -101,7 +101,7 @@ fn totals(answer: RunAnswer) {
 pub fn day(book: &mut [u8])
     ensures { λ _. ⌜ now (book .exit) ≡ stepBytes today (now (book .entry)) runCall .bytes ⌝ }
 {
-    let answer = run::run(book);
+    let answer = call_run::run(book);
     let question = answer.number;
     if question != 0 {
         refusal(question);

@@ -21,7 +21,8 @@ use Rattle.run_state.proofs.Stays.{Stays, parties-stay, stays}
 use Rattle.run_state.specs.Running.{wholeRun}
 use Rattle.run_turns.specs.Turns.{Ran}
 use Rattle.sales.specs.Parts.{part}
-use Rattle.run_book.specs.Books.{LeftOf, Listed, LostOf, RanIn}
+use Rattle.run_book.specs.Books.{LeftOf, LostOf, RanIn}
+use Rattle.run_reduction.specs.Books.{Listed}
 
 -- no trade stands above what it stood at
 lowered-at : {ts ns : List Trade} → Pairwise Lowered ts ns → (i : ℕ) (d : Trade) → getD ns i d .standing ≤ getD ts i d .standing

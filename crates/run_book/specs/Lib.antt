@@ -1,2 +1,2 @@
--- A book that can be run, its arrays, and what the run gives.
+-- What the sales of a run lose, and what the run gives.
 pub mod Books

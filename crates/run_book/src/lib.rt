@@ -7,7 +7,8 @@ ghost use lib.ListN.{length, take};
 ghost use Rattle.format.specs.Book.{bookOf};
 ghost use Rattle.levels.specs.Limits.{asLimits};
 ghost use Rattle.units.specs.Prices.{asPrices};
-ghost use Rattle.run_book.specs.Books.{LeftOf, Listed, LostOf, RanIn, Runnable};
+ghost use Rattle.run_book.specs.Books.{LeftOf, LostOf, RanIn};
+ghost use Rattle.run_reduction.specs.Books.{Listed, Runnable};
 
 // ---- what was lost
 

@@ -2,9 +2,10 @@
 use mathlib.Core.Bool.{Bool}
 use mathlib.Core.List.{List}
 use mathlib.Core.Path.{_≡_}
-use Prim.Native.Nat.{ℕ}
+use Prim.Native.Nat.{ℕ, _≤_}
 use native.Mathlib.Omega.{arith}
-use Rattle.cut_tiers.specs.Tiers.{Takeable, cutsOf, shortBy}
+use lib.ListN.{replicate, length-replicate, getD-replicate}
+use Rattle.cut_tiers.specs.Tiers.{NoCuts, Takeable, cutsOf, shortBy}
 use Rattle.cut_tiers.proofs.After.{cuts-of-same}
 use Rattle.cut_worth.specs.Rates.{Sales}
 use Rattle.rules.specs.Areas.{Prices}
@@ -38,3 +39,7 @@ module _ {place from to : ℕ} {ns areas bs ps : List ℕ} (s : Sales ns areas f
   filled-short f asked {short} w =
       cuts-of-same f (shortBy short) (shortIn ps place) asked (part from to ns) (part from to areas) (λ a l. w .each a l)
       (λ i. omega (arith, part-most areas from to 2 (λ k l m. omega (arith, s .area-most k l m)) i))
+
+-- an array of zeros has no cut
+pub no-cuts : (from to : ℕ) → from ≤ to → to ≤ 256 → NoCuts (replicate 256 0) from to
+no-cuts from to h few = record { rising = h; long = length-replicate {A = ℕ} 256 0; none = λ i l m. getD-replicate {A = ℕ} 256 i 0 0 (omega arith) }

@@ -20,6 +20,7 @@ use Rattle.integers.proofs.Linear.{by-order}
 use Rattle.integers.specs.Parts.{negPart, posPart}
 use Rattle.laws.proofs.Bounds.{prices-le, tariffs-pos}
 use Rattle.laws.specs.Sound.{Sound}
+use Rattle.levels.specs.Limits.{LimitsInRange}
 use Rattle.laws.proofs.Tests.{and-l, and-r}
 use Rattle.rules.specs.Areas.{Prices}
 use Rattle.rules.specs.Book.{at, Book, Header, Trade, User, nobody}
@@ -61,21 +62,29 @@ prices-in b s =
     let g = tariffs-pos b s in
     record { p-least = g .0; p-most = l .0; q-least = g .1; q-most = l .1; l-most = l .2; x-most = l .3; i-most = l .4 }
 
-module _ {limits : Limits} {f : Prices} {s sums ss areaCodes bs : List ℕ} (q : RunOf limits f s sums ss areaCodes bs) where
-  pub run-prices : InRange f
-  run-prices = subst InRange (sym (q .prices-are)) (prices-in (bookOf s) (q .sound))
+module _ {f : Prices} (s : List ℕ) (sound : Sound (bookOf s)) (prices-are : f ≡ bookOf s .header .prices) where
+  day-prices : InRange f
+  day-prices = subst InRange (sym prices-are) (prices-in (bookOf s) sound)
 
-  pub run-day : DayOf limits f s
+  -- what levels are asked by
+  pub accepted-day : {limits : Limits} → LimitsInRange limits → DayOf limits f s
   unfolding bookOf nobody
-  run-day =
+  accepted-day l =
       record {
-        limits-in = q .limits-in;
-        prices-in = run-prices;
+        limits-in = l;
+        prices-in = day-prices;
         blocked-most = λ i.
             by-order i (length (usersOf s))
-            (λ h. blocked-le (getD (usersOf s) i nobody) (all-at userValid (usersOf s) (q .sound .users) i nobody h))
+            (λ h. blocked-le (getD (usersOf s) i nobody) (all-at userValid (usersOf s) (sound .users) i nobody h))
             (λ h. let e : getD (usersOf s) i nobody .blocked ≡ 0 = ap (λ (u : User). u .blocked) (List·getD-eq-default (usersOf s) nobody {n = i} h) in omega (arith, e));
       }
+
+module _ {limits : Limits} {f : Prices} {s sums ss areaCodes bs : List ℕ} (q : RunOf limits f s sums ss areaCodes bs) where
+  pub run-prices : InRange f
+  run-prices = day-prices s (q .sound) (q .prices-are)
+
+  pub run-day : DayOf limits f s
+  run-day = accepted-day s (q .sound) (q .prices-are) (q .limits-in)
 
   -- ---- the user at a place
 
@@ -119,7 +128,7 @@ module _ {limits : Limits} {f : Prices} {s sums ss areaCodes bs : List ℕ} (q :
       abbrev sales : List Trade
       sales = ownSales b (getD (b .users) place nobody)
 
-      own-standing : part from to ns ≡ map (λ t. t .standing) sales
+      pub own-standing : part (getD ss place 0) (getD ss (place + 1) 0) ns ≡ map (λ t. t .standing) (ownSales b (getD (b .users) place nobody))
       own-standing = ap₂ (λ (m n : ℕ). part m n ns) start-is end-is ∙ h .standing .each place member-in
 
       pub own-codes : part (getD ss place 0) (getD ss (place + 1) 0) areaCodes ≡ map (λ t. t .terms .area) (ownSales b (getD (b .users) place nobody))

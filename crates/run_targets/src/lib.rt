@@ -1,11 +1,12 @@
 // Who owes a guarantee in a run, and how much: the targets before the first reduction, and after each those of the users that it touched.
 use risk_user::Day;
-ghost use mathlib.Core.Bool.{false, cond};
+ghost use mathlib.Core.Bool.{false, cond, _&&_, _||_};
 ghost use mathlib.Core.Path.{_≡_};
-ghost use Prim.Native.Nat.{_≤_, _<_, min};
-ghost use lib.Dec.{ltb};
+ghost use Prim.Native.Nat.{_+_, _*_, _≤_, _<_, min};
+ghost use lib.Dec.{eqb, ltb};
 ghost use lib.ListN.{getD, length, replicate, set};
-ghost use Rattle.columns.specs.Columns.{Trading, tradesIn, usersIn};
+ghost use Rattle.columns.specs.Columns.{Trading, idAt, tradeIn, tradesIn, usersIn};
+ghost use Rattle.dealings.specs.Parties.{cutBefore};
 ghost use Rattle.format.specs.Book.{bookOf, usersOf};
 ghost use Rattle.levels.specs.Limits.{asLimits};
 ghost use Rattle.rules.specs.Lists.{any};
@@ -65,6 +66,41 @@ pub fn fill_cut(
         cut[buyer] = cut[buyer] | below;
         i += 1;
     }
+}
+
+// Is the user at a place one of the parties of the trade i, at their places, and does the trade stand below notified?
+fn is_cut(book: &[u8], n: usize, i: usize, seller: u8, buyer: u8, place: usize) -> bool
+    requires { ⌜ (n ≤ 64) × (i < 256) × (32 + 56 * n + 20 * i + 20 ≤ length (now book)) ⌝ }
+    ensures { λ r. ⌜ r ≡ (eqb seller place || eqb buyer place) && ltb (tradeIn n (now (book .entry)) i .standing) (tradeIn n (now (book .entry)) i .terms .notified) ⌝ }
+{
+    let party = (index(seller) == place) | (index(buyer) == place);
+    if !party {
+        return false;
+    }
+    let t = columns::trade_in(book, n, i);
+    t.standing < t.notified
+}
+
+// Is the user at a place party to a trade standing below notified? The same of one user alone.
+pub fn cut_at(
+    book: &[u8],
+    n: usize,
+    m: usize,
+    sellers: &[u8; 256],
+    parties: &[u8; 256],
+    place: usize,
+) -> bool
+    requires { ⌜ Trading n m (now book) × Placed (usersIn n (now book)) (tradesIn n m (now book)) (now sellers) (now parties) × (place < n) ⌝ }
+    ensures { λ r. ⌜ r ≡ cutBefore (idAt (usersIn n (now (book .entry))) place) (tradesIn n m (now (book .entry))) ⌝ }
+{
+    let mut i = 0;
+    while i < m {
+        if is_cut(book, n, i, sellers[i], parties[i], place) {
+            return true;
+        }
+        i += 1;
+    }
+    false
 }
 
 // T where the user at a place is due, else 0. `left`: it has an eligible trade; `cut`: it is party to a trade standing below notified.

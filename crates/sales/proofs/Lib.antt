@@ -2,6 +2,9 @@
 pub mod Parts
 -- of the elements that pass a test
 pub mod Kept
+-- the trades of a tier by their numbers
+pub mod Lots
+pub mod Ranges
 -- the cuts of a tier
 pub mod Tiers
 -- cuts of own sales and of all trades

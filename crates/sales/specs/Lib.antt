@@ -3,5 +3,6 @@ pub mod Parts
 pub mod Kept
 pub mod Sales
 pub mod Cover
+pub mod Lots
 pub mod Reduced
 pub mod Groups

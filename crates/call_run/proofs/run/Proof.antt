@@ -1,11 +1,11 @@
 -- `run` is refused by a question about the book, or runs it in its bytes. Assumes nothing.
-use mathlib.Core.Path.{sym, _∙_}
 use native.Mathlib.Omega.{arith}
 use borrow.Author.Needs.{needs}
 use denote.Ref.{now}
 use Rattle.format.proofs.Passed.{passed}
 use Rattle.rules.specs.Levels.{today}
-use Rattle.call_run.proofs.Ways.{asked-runnable, run-called, run-refused}
+use Rattle.run_reduction.proofs.Asked.{asked-passes, asked-runnable}
+use Rattle.call_run.proofs.Ways.{run-called, run-refused}
 use Rattle.call_run.proofs.run.Statement.{statement}
 use Rattle.call_run.proofs.run.Tie as tie
 
@@ -35,7 +35,7 @@ today-requires c κs = search needs
 read-prices-requires : tie.Need-read-prices-requires
 read-prices-requires c κs =
     let o = c .before .before .before .before .before .ask .ensures .0 in
-    omega (arith, passed (now (c .before .before .before .before .before .before .before .before .before .before .before .args .book)) (sym (o .number) ∙ c .before .before .if1 .left) .form .whole)
+    omega (arith, passed (now (c .before .before .before .before .before .before .before .before .before .before .before .args .book)) (asked-passes o (c .before .before .if1 .left)) .form .whole)
 
 run-book-requires : tie.Need-run-book-requires
 run-book-requires c κs =

@@ -5,7 +5,7 @@ use mathlib.Core.Path.{sym}
 use Prim.Native.Nat.{ℕ, _-_, _≤_, _<_}
 use borrow.Fn.Kinds.{In}
 use borrow.Fn.PlainCycle.{Measures, is, falls, and}
-use Rattle.worths.proofs.Lots.{one-worth-le}
+use Rattle.sales.proofs.Lots.{one-worth-le}
 use Rattle.cut_worth.proofs.Rates.{worth-none, worth-first, sales-rest}
 use Rattle.cut_worth.proofs.worth_from.Reads as worth-from
 use Rattle.cut_worth.proofs.worth_from.Kinds as worth-from-kinds

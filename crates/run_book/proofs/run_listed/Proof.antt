@@ -7,7 +7,8 @@ use Rattle.cut_lists.proofs.Lists.{accepted-placed, accepted-trading}
 use Rattle.format.specs.Book.{tradeCount, userCount}
 use Rattle.run_reduction.proofs.Steps.{run-day}
 use Rattle.run_book.proofs.Ending.{lost-cuttable, ran-in, ran-left}
-use Rattle.run_book.proofs.Start.{run-counted, run-going, run-opening, run-stays}
+use Rattle.run_book.proofs.Start.{run-going, run-opening}
+use Rattle.run_reduction.proofs.Start.{run-counted, run-stays}
 use Rattle.run_book.proofs.run_listed.Statement.{statement}
 use Rattle.run_book.proofs.run_listed.Tie as tie
 

@@ -1,5 +1,5 @@
 -- `reduce`: the cuts are filled in by the tiers that the positions tell, and can be taken off. Assumes nothing.
-use mathlib.Core.Path.{_≡_, ap, _∙_}
+use mathlib.Core.Path.{ap, _∙_}
 use Prim.Native.Nat.{ℕ}
 use mathlib.Core.List.{List}
 use borrow.Author.Needs.{needs}

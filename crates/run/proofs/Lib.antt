@@ -1,2 +1,0 @@
--- The ways out of the call.
-pub mod Ways

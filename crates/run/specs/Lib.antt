@@ -1,2 +1,0 @@
--- The call that a run is.
-pub mod Call
