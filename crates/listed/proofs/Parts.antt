@@ -59,7 +59,6 @@ users-asking {b} h w x y i k =
 
 -- as many places, and as many terms, as amounts that stand
 places-many : (b : Book) (id : ℕ) → length (places (b .trades) id) ≡ length (standings (b .trades) id)
-unfolding salesOf
 places-many b id = places-length (ownSale id) (b .trades) ∙ sym (length-map (salesOf (b .trades) id) (λ s. s .standing))
 
 terms-many : (b : Book) (g : Terms → ℕ) (id : ℕ) → length (map (λ s. g (s .terms)) (salesOf (b .trades) id)) ≡ length (standings (b .trades) id)

@@ -16,8 +16,9 @@ use Rattle.rules.specs.Reduction.{target}
 use Rattle.sales.proofs.Cover.{bought-next, level-next, sold-next, target-from}
 use Rattle.sales.proofs.Groups.{grouped-parties}
 use Rattle.sales.proofs.Origins.{grouped-ext}
-use Rattle.sales.proofs.Standing.{places-stay, same-length, starts-stay, terms-stay}
+use Rattle.sales.proofs.Own.{own-sales}
 use Rattle.sales.proofs.Settled.{party-at}
+use Rattle.sales.proofs.Standing.{places-stay, same-length, starts-stay, terms-stay}
 use Rattle.sales.specs.Cover.{AllNext}
 use Rattle.sales.specs.Groups.{grouped, places, termsOf}
 use Rattle.sales.specs.Reduced.{SalesReduced}
@@ -77,7 +78,7 @@ module _ {b : Book} {u : User} {asked : ℕ} {r : Result} (w : SalesReduced b u 
   terms-all-stay : (g : Terms → ℕ) → termsOf g b ≡ termsOf g (r .book)
   terms-all-stay g =
       grouped-stays (λ id. map (λ s. g (s .terms)) (salesOf (b .trades) id)) (λ id. map (λ s. g (s .terms)) (salesOf (r .book .trades) id))
-      (λ id. terms-stay g id (framed (w .lowered)))
+      (λ id. terms-stay own-sales g id (framed (w .lowered)))
 
   -- the lists stay
   pub lists-stay : {sells buys ss origins areaCodes bs : List ℕ} → ListsOf b sells buys ss origins areaCodes bs → ListsOf (r .book) sells buys ss origins areaCodes bs
@@ -85,8 +86,8 @@ module _ {b : Book} {u : User} {asked : ℕ} {r : Result} (w : SalesReduced b u 
       record {
         next = next-stays (q .next);
         starts-length = q .starts-length ∙ ap (λ (n : ℕ). n + 1) (sym users-stay);
-        starts-at = λ i k. q .starts-at i (omega (arith, users-stay)) ∙ sym (starts-stay b (r .book) (framed (w .lowered)) (w .parties) i);
-        origins-are = q .origins-are ∙ grouped-stays (places (b .trades)) (places (r .book .trades)) (λ id. places-stay id (framed (w .lowered)));
+        starts-at = λ i k. q .starts-at i (omega (arith, users-stay)) ∙ sym (starts-stay own-sales b (r .book) (framed (w .lowered)) (w .parties) i);
+        origins-are = q .origins-are ∙ grouped-stays (places (b .trades)) (places (r .book .trades)) (λ id. places-stay own-sales id (framed (w .lowered)));
         areas = q .areas ∙ terms-all-stay (λ t. t .area);
         buyers =
             q .buyers ∙ terms-all-stay (λ t. placeOf (b .users) (t .buyer))

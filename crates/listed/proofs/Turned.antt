@@ -33,6 +33,7 @@ use Rattle.sales.proofs.Cover.{some-cut-buyer, some-cut-seller}
 use Rattle.sales.proofs.FirstCuts.{own-cuts-length}
 use Rattle.sales.proofs.Groups.{grouped-change, grouped-parties}
 use Rattle.sales.proofs.Kept.{by-case}
+use Rattle.sales.proofs.Own.{own-sales}
 use Rattle.sales.proofs.Reduced.{cover-after, cover-left, sales-reduced, user-left}
 use Rattle.sales.proofs.Settled.{same-place}
 use Rattle.sales.proofs.Valid.{sales-own, sales-valid}
@@ -129,7 +130,7 @@ module _ {limits : Limits} {b : Book} {s ns : List ℕ} {flags : List Bool} (h :
     some-lost : someCut (isParty (user .party .id)) cuts sales ≡ true
     unfolding reduced ofCuts nothing
     some-lost =
-        let seller = some-cut-seller (user .party .id) cuts sales (sales-own (b .trades) (user .party .id)) (own-cuts-length b user asked) in
+        let seller = some-cut-seller (user .party .id) cuts sales (sales-own (b .trades) (user .party .id)) (own-cuts-length own-sales b user asked) in
         by-case (any (λ c. ltb 0 c) cuts) (λ e. seller ∙ e)
         (λ e.
         let less-mwh = reduced-less limits b user (h .sound) next in

@@ -21,6 +21,5 @@ own-inside n m s id k h =
 
 -- and there the sales are read
 pub own-read : (n m : ℕ) (s : List ℕ) (id : ℕ) (g : Trade → ℕ) → map (λ i. g (getD (tradesIn n m s) i noTrade)) (places (tradesIn n m s) id) ≡ map g (salesOf (tradesIn n m s) id)
-unfolding salesOf
 own-read n m s id g =
     sym (map-map g (λ i. getD (tradesIn n m s) i noTrade) (places (tradesIn n m s) id)) ∙ ap (map g) (places-kept (ownSale id) noTrade (tradesIn n m s))

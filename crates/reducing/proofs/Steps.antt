@@ -33,7 +33,8 @@ use Rattle.sales.proofs.Valid.{sales-few}
 use Rattle.sales.specs.Groups.{places, written}
 use Rattle.sales.specs.Kept.{placesOf}
 use Rattle.sales.specs.Reduced.{ownCuts, ownSales}
-use Rattle.sales.specs.Sales.{less, ownSale, saleCuts, salesOf, shortAt, standingIn}
+use Rattle.sales.specs.Sales.{less, ownSale, saleCuts, shortAt, standingIn}
+use Rattle.sales.proofs.Own.{own-sales}
 use Rattle.settling.specs.Positions.{Settling, settledAll}
 use Rattle.settling.specs.Standing.{Writing}
 use Rattle.units.specs.Prices.{InRange}
@@ -83,7 +84,6 @@ module _ {s : List ℕ} {from place : ℕ} {origins own areas buyers : List ℕ}
   buyers-length = ap length (p .buyers-are) ∙ length-map (ownSales b u) (λ t. placeOf (b .users) (t .terms .buyer))
 
   pub origins-length : length origins ≡ length (ownSales b u)
-  unfolding salesOf
   origins-length = ap length (p .origins-are) ∙ places-length (ownSale (u .party .id)) (b .trades)
 
   origin-inside : (i : ℕ) → i < length origins → getD origins i 0 < length (b .trades)
@@ -116,7 +116,7 @@ module _ {s : List ℕ} {from place : ℕ} {origins own areas buyers : List ℕ}
         ∙ ap (λ (x : Prices). saleCuts x (shortAt u) asked (ownSales b u)) (p .prices)
 
     cuts-length : length cs ≡ length (ownSales b u)
-    cuts-length = ap length cuts-are ∙ own-cuts-length b u asked
+    cuts-length = ap length cuts-are ∙ own-cuts-length own-sales b u asked
 
     -- they can be settled
     pub settling : Settling (userCount s) (usersOf s) place areas buyers cs
@@ -127,9 +127,9 @@ module _ {s : List ℕ} {from place : ℕ} {origins own areas buyers : List ℕ}
       seller-inside = omega (arith, p .inside, held-userCount (p .held));
       buyer-inside = λ i h. omega (arith, ap (λ (xs : List ℕ). getD xs i 0) (p .buyers-are), own-buyer-inside b (p .sound) u i (omega (arith, cuts-length)), held-userCount (p .held));
       area-inside = λ i h. omega (arith, ap (λ (xs : List ℕ). getD xs i 0) (p .areas-are), own-area-inside b (p .sound) u i (omega (arith, cuts-length)));
-      most = λ i. omega (arith, ap (λ (xs : List ℕ). getD xs i 0) cuts-are, own-cut-le b u asked i, own-most b (p .sound) u i);
+      most = λ i. omega (arith, ap (λ (xs : List ℕ). getD xs i 0) cuts-are, own-cut-le own-sales b u asked i, own-most b (p .sound) u i);
       bounded = record {
-        each = λ i a h k. rw (held-users (p .held) ∙ sym (first-none b u asked)) (first-bound b u asked (p .sound) 0 i a (omega (arith, held-userCount (p .held))) k);
+        each = λ i a h k. rw (held-users (p .held) ∙ sym (first-none own-sales b u asked)) (first-bound own-sales b u asked (p .sound) 0 i a (omega (arith, held-userCount (p .held))) k);
       };
     }
 
@@ -180,11 +180,11 @@ module _ {s : List ℕ} {from place : ℕ} {origins own areas buyers : List ℕ}
 
     -- and is what the rules leave
     trades-are : written noTrade origins left (tradesOf after) ≡ reducedBy b u asked .book .trades
-    unfolding withUsers salesOf
+    unfolding withUsers
     trades-are =
         ap₂ (λ (is ns : List ℕ). written noTrade is ns (tradesOf after)) (p .origins-are) left-is
         ∙ ap (written noTrade (places (b .trades) (u .party .id)) (less (ownCuts b u asked) (map (λ t. t .standing) (ownSales b u)))) (held-trades (o .held))
-        ∙ cut-written noTrade (ownSale (u .party .id)) (b .trades) (ownCuts b u asked) (own-cuts-length b u asked)
+        ∙ cut-written noTrade (ownSale (u .party .id)) (b .trades) (ownCuts b u asked) (own-cuts-length own-sales b u asked)
         ∙ sym (sales-reduced b u asked (p .sound) .trades)
 
     book-is : tradesReplaced (bookOf after) (written noTrade origins left (tradesOf after)) ≡ reducedBy b u asked .book

@@ -81,7 +81,7 @@ module _ {s : List ℕ} {from place : ℕ} {origins own areas buyers : List ℕ}
 
     -- what stands of them then is what the reduction leaves
     lowered-is : less cs (map (λ i. getD (tradesOf after) i noTrade .standing) origins) ≡ left
-    unfolding withUsers salesOf
+    unfolding withUsers
     lowered-is =
         let ts = bookOf s .trades in
         let is = places ts (u .party .id) in

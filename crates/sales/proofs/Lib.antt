@@ -2,6 +2,8 @@
 pub mod Parts
 -- of the elements that pass a test
 pub mod Kept
+-- whose sale a trade is
+pub mod Own
 -- the cuts of a tier
 pub mod Tiers
 -- cuts of own sales and of all trades

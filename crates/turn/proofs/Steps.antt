@@ -24,6 +24,7 @@ use Rattle.rules.specs.Calls.{reduced}
 use Rattle.rules.specs.Levels.{Limits}
 use Rattle.rules.specs.Reduction.{target}
 use Rattle.sales.proofs.FirstCuts.{own-cuts-length}
+use Rattle.sales.proofs.Own.{own-sales}
 use Rattle.sales.proofs.Reduced.{sales-reduced}
 use Rattle.sales.specs.Reduced.{ownSales}
 use Rattle.turn.specs.Turn.{OwnRoom, OwnTurn, Turning, Turned}
@@ -56,7 +57,7 @@ module _ {limits : Limits} (range : LimitsInRange limits) {s : List ℕ} {from :
         users-asking (w .held) (sales-reduced (bookOf s) (sellerAt (bookOf s) place) asked (p .reducible .sound) .sound) (p .sold-bounded) (p .bought-bounded) i k
 
     cuts-many : length cs ≡ length (ownSales (bookOf s) (sellerAt (bookOf s) place))
-    cuts-many = ap length (w .cuts) ∙ own-cuts-length (bookOf s) (sellerAt (bookOf s) place) asked
+    cuts-many = ap length (w .cuts) ∙ own-cuts-length own-sales (bookOf s) (sellerAt (bookOf s) place) asked
 
     -- the buyers
     pub own-marking : Marking short t sells buys buyers cs
