@@ -1,6 +1,6 @@
 -- The cuts of a user's own sales, settled by the places of the user and of the buyers, settle the positions as the rules do. Assumes nothing.
 use mathlib.Core.List.{List, map}
-use mathlib.Core.Path.{_≡_, refl, sym, ap, _∙_}
+use mathlib.Core.Path.{_≡_, sym, ap, _∙_}
 use Prim.Native.Nat.{ℕ, zero, suc, _+_, _<_}
 use native.Mathlib.Omega.{arith}
 use lib.ListN.{length, drop, getD, length-map, drop-of-length-le}
@@ -14,6 +14,7 @@ use Rattle.rules.specs.Book.{Book, Trade, User}
 use Rattle.rules.specs.Reduction.{cutAll, settle}
 use Rattle.sales.proofs.FirstCuts.{own-cuts-length, first-none, first-all, first-next}
 use Rattle.sales.proofs.Own.{own-sales}
+use Rattle.sales.proofs.Valid.{sale-at}
 use Rattle.sales.specs.Reduced.{ownSales, ownCuts, settledFirst}
 use Rattle.sales.specs.Sales.{ownSale, settledAt}
 use Rattle.settling.specs.Positions.{settledAll}

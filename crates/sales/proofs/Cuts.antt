@@ -5,16 +5,16 @@ use mathlib.Core.Path.{_≡_, refl, sym, ap, ap₂, subst, fun-ext, _∙_}
 use Prim.Native.Nat.{ℕ, _+_, _-_}
 use native.Mathlib.Nat.{sub-zero, zero-mul}
 use native.Mathlib.Omega.{arith}
-use lib.Dec.{T, eqb, ltb, eqb→eq}
+use lib.Dec.{T, ltb}
 use lib.ListN.{length, length-map}
-use borrow.Author.Tests.{ltb-false, ne-eqb}
+use borrow.Author.Tests.{ltb-false}
 use Rattle.laws.proofs.Cuts.{together-within, lot-standings}
 use Rattle.laws.proofs.Shares.{eachWithin, within-length, tier-length, tier-within}
-use Rattle.laws.proofs.Tests.{and-l, map-by}
+use Rattle.laws.proofs.Tests.{map-by}
 use Rattle.laws.specs.Trades.{standingIf}
 use Rattle.rules.specs.Areas.{Prices, tariff}
-use Rattle.rules.specs.Book.{Book, User, Trade, bilateralForDay}
-use Rattle.rules.specs.Levels.{holding, sells}
+use Rattle.rules.specs.Book.{Book, User, Trade}
+use Rattle.rules.specs.Levels.{holding}
 use Rattle.rules.specs.Reduction.{eligible, shortIn, lot, tierOne, tierTwo, together, cuts, cutBy, cutAll, Tally, tallied, tallyAll}
 use Rattle.rules.specs.Shares.{Lot, tierWorth, tierCuts}
 use Rattle.sales.proofs.Kept.{by-case, holds, kept-yes, kept-no, kept-pass, spread-yes, spread-no, spread-together}
