@@ -1,27 +1,35 @@
 -- The loop over a part of the arrays, and what follows it: the noted trades are lowered as records. Assumes nothing.
-use mathlib.Core.List.{List, map}
-use mathlib.Core.Path.{_≡_, sym, ap, ap₂, subst, _∙_}
+use mathlib.Core.List.{List}
+use mathlib.Core.Path.{_≡_, refl, sym, ap, ap₂, subst, _∙_}
 use Prim.Native.Nat.{ℕ, suc, _+_, _*_, _-_, _≤_, _<_}
 use native.Mathlib.Omega.{arith}
-use lib.ListN.{getD, length, take}
-use lib.Seq.{getD-take, length-take-le}
+use lib.ListN.{getD, length, length-replicate, replicate, take}
+use lib.Seq.{length-take-le}
 use Rattle.cut_lists.specs.Sales.{BookIn}
-use Rattle.cut_records.specs.Places.{PlacesIn}
+use Rattle.cut_records.specs.Places.{LoweredIn, PlacesIn}
 use Rattle.format.specs.Book.{bookOf, tradeCount, tradesAt, tradesOf, userAt, userCount}
 use Rattle.held.proofs.Held.{held-itself, held-tradeCount, held-trades, held-userCount}
-use Rattle.held.specs.Held.{HeldAs, noTrade, tradesReplaced}
+use Rattle.held.specs.Held.{HeldAs, tradesReplaced}
 use Rattle.rules.specs.Book.{Book, Trade}
 use Rattle.rules.specs.Changes.{withUsers}
 use Rattle.rules.specs.Reduction.{settle, withTrades}
 use Rattle.sales.proofs.Settled.{settle-parties}
 use Rattle.sales.proofs.Standing.{same-length}
-use Rattle.sales.specs.Groups.{written}
 use Rattle.sales.proofs.Parts.{part-here, part-length}
 use Rattle.sales.specs.Parts.{part}
-use Rattle.sales.specs.Sales.{less}
 use Rattle.cut_apply.proofs.Cutting.{loweredTo}
-use Rattle.cut_apply.proofs.Turns.{MovedSo, moved-end, moved-more, moved-start, sale-here}
-use Rattle.cut_apply.specs.Cutting.{CuttablePart, MovedBy, SaleCut, SaleIn, loweredAt}
+use Rattle.cut_apply.proofs.Losing.{losing-le}
+use Rattle.cut_apply.proofs.Turns.{MovedSo, moved-end, moved-more, moved-start, sale-here, sale-room}
+use Rattle.cut_apply.specs.Cutting.{Cutting, CuttablePart, MovedBy, SaleCut, SaleIn, losing, loweredAt}
+
+-- ---- the lists that are lent
+
+-- fronts of two arrays with room for those that lose something
+pub lent-room : (room : ℕ) {s sellers parties origins cuts : List ℕ} {n from to lost : ℕ} → Cutting s n sellers parties origins cuts from to lost → lost ≤ room
+    → Cutting s n sellers parties origins cuts from to (length (take lost (replicate {A = ℕ} room 0))) × (length (take lost (replicate {A = ℕ} room 0)) ≡ length (take lost (replicate {A = ℕ} room 0)))
+lent-room room {lost = lost} p h =
+    let e = length-take-le lost (replicate {A = ℕ} room 0) (omega (arith, length-replicate {A = ℕ} room 0)) in
+    (record { book = p .book; cuttable = p .cuttable; count = e ∙ p .count }, refl)
 
 -- ---- the loop
 
@@ -31,9 +39,8 @@ pub record MovedTo (b : Book) (origins cuts : List ℕ) (from to : ℕ) (places 
   pub inside : k ≤ to
   pub so : MovedSo b (part from to origins) (part from to cuts) places amounts s lost (k - from)
 
-module _ {n : ℕ} {s₀ sellers parties : List ℕ} (a : BookIn n (tradeCount s₀) s₀ sellers parties) {origins cuts : List ℕ} {from to : ℕ} (p : CuttablePart (bookOf s₀ .trades) origins cuts from to)
-    (short : to ≤ from + 32) where
-  pub loop-start : {places amounts : List ℕ} → length places ≡ 32 → length amounts ≡ 32 → MovedTo (bookOf s₀) origins cuts from to places amounts s₀ 0 from
+module _ {n : ℕ} {s₀ sellers parties : List ℕ} (a : BookIn n (tradeCount s₀) s₀ sellers parties) {origins cuts : List ℕ} {from to : ℕ} (p : CuttablePart (bookOf s₀ .trades) origins cuts from to) where
+  pub loop-start : {places amounts : List ℕ} → length places ≡ losing (part from to cuts) → length amounts ≡ losing (part from to cuts) → MovedTo (bookOf s₀) origins cuts from to places amounts s₀ 0 from
   loop-start {places} {amounts} e f =
       let none : 0 ≡ from - from = omega arith in
       record {
@@ -54,20 +61,24 @@ module _ {n : ℕ} {s₀ sellers parties : List ℕ} (a : BookIn n (tradeCount s
     cut-is : cut ≡ getD (part from to cuts) (k - from) 0
     cut-is = loses ∙ sym (part-here cuts from to k 0 (q .begun) h)
 
-    few : length (part from to origins) ≤ 32
-    few = omega (arith, long, short)
-
     inside-part : k - from < length (part from to origins)
     inside-part = omega (arith, long, q .begun)
 
-    pub loop-place : place < length (bookOf s₀ .trades)
-    loop-place = omega (arith, place-is, p .cuttable .inside (k - from) inside-part)
-
-    pub loop-sale : SaleIn s n seller buyer place cut lost
+    pub loop-sale : SaleIn s n seller buyer place cut
     loop-sale =
-        subst (λ (x : ℕ). SaleIn s n seller buyer x cut lost) (sym place-is)
-        (subst (λ (x : ℕ). SaleIn s n seller buyer (getD (part from to origins) (k - from) 0) x lost) (sym cut-is)
-        (sale-here a (p .cuttable) (k - from) inside-part (sells ∙ ap (λ (x : ℕ). getD sellers x 0) place-is) (buys ∙ ap (λ (x : ℕ). getD parties x 0) place-is) (q .so) few))
+        subst (λ (x : ℕ). SaleIn s n seller buyer x cut) (sym place-is)
+        (subst (λ (x : ℕ). SaleIn s n seller buyer (getD (part from to origins) (k - from) 0) x) (sym cut-is)
+        (sale-here a (p .cuttable) (k - from) inside-part (sells ∙ ap (λ (x : ℕ). getD sellers x 0) place-is) (buys ∙ ap (λ (x : ℕ). getD parties x 0) place-is) (q .so)))
+
+    -- where it loses something, there is room to note it
+    pub loop-room : (length places ≤ 256) × (0 < cut → (lost < length places) × (lost < length amounts))
+    loop-room =
+        let cs = part from to cuts in
+        let room : 0 < cut → lost < losing cs = λ l.
+        sale-room a (p .cuttable) (k - from) inside-part (sells ∙ ap (λ (x : ℕ). getD sellers x 0) place-is) (buys ∙ ap (λ (x : ℕ). getD parties x 0) place-is) (q .so) (omega (arith, cut-is)) in (
+          omega (arith, q .so .places-room, losing-le cs, p .cuttable .same, long, p .few),
+          λ l. (omega (arith, room l, q .so .places-room), omega (arith, room l, q .so .amounts-room)),
+        )
 
     pub loop-more : {places' amounts' s' : List ℕ} {lost' : ℕ} → SaleCut s n seller buyer place cut lost places amounts s' places' amounts' lost'
         → MovedTo (bookOf s₀) origins cuts from to places' amounts' s' lost' (k + 1)
@@ -80,13 +91,13 @@ module _ {n : ℕ} {s₀ sellers parties : List ℕ} (a : BookIn n (tradeCount s
           begun = omega (arith, q .begun);
           inside = omega arith;
           so = subst (MovedSo (bookOf s₀) (part from to origins) (part from to cuts) places' amounts' s' lost') next
-              (moved-more a (p .cuttable) (k - from) inside-part (sells ∙ ap (λ (x : ℕ). getD sellers x 0) place-is) (buys ∙ ap (λ (x : ℕ). getD parties x 0) place-is) (q .so) here few);
+              (moved-more a (p .cuttable) (k - from) inside-part (sells ∙ ap (λ (x : ℕ). getD sellers x 0) place-is) (buys ∙ ap (λ (x : ℕ). getD parties x 0) place-is) (q .so) here);
         }
 
   -- all are passed
   pub loop-end : {places amounts s : List ℕ} {lost k : ℕ} → MovedTo (bookOf s₀) origins cuts from to places amounts s lost k → to ≤ k
-      → MovedBy (bookOf s₀) (part from to origins) (part from to cuts) places amounts s lost
-  loop-end q h = moved-end a (p .cuttable) (q .so) (omega (arith, long)) (omega (arith, q .inside, short))
+      → MovedBy (bookOf s₀) (part from to origins) (part from to cuts) places amounts s
+  loop-end q h = moved-end a (p .cuttable) (q .so) (omega (arith, long))
 
   -- ---- bytes that differ in positions only
 
@@ -109,29 +120,23 @@ module _ {n : ℕ} {s₀ sellers parties : List ℕ} (a : BookIn n (tradeCount s
 
   -- ---- the trades
 
-  module _ {places amounts s : List ℕ} {lost : ℕ} (q : MovedBy (bookOf s₀) (part from to origins) (part from to cuts) places amounts s lost) where
-    pub moved-bytes : length s ≡ length s₀
-    moved-bytes = bytes-stay (loweredAt (part from to origins) (part from to cuts) (bookOf s₀ .trades)) (q .held)
-
+  module _ {places amounts s : List ℕ} (q : MovedBy (bookOf s₀) (part from to origins) (part from to cuts) places amounts s) where
     -- the noted ones can be lowered
-    pub noted-places : PlacesIn s (32 + 56 * n) (take lost places)
+    pub noted-places : PlacesIn 256 s (32 + 56 * n) places
     unfolding tradesAt userAt withUsers
     noted-places =
-        let k : length (take lost places) ≡ lost = length-take-le lost places (omega (arith, q .few, q .places-room)) in
         record {
           held = held-itself (q .held);
           begin = omega (arith, a .users-are, users-stay (loweredAt (part from to origins) (part from to cuts) (bookOf s₀ .trades)) (q .held));
-          inside = λ i h. omega (arith, getD-take lost places i 0 (omega arith), q .inside i (omega arith), held-tradeCount (q .held));
-          few = omega (arith, q .few);
+          inside = λ i l. omega (arith, q .inside i l, held-tradeCount (q .held));
+          few = omega (arith, q .count, losing-le (part from to cuts), p .cuttable .same, long, p .few);
         }
 
     -- they are lowered: the book has the trades of all cuts, and the positions with them
-    pub all-cut : {t : List ℕ}
-        → HeldAs (tradesReplaced (bookOf s) (written noTrade (take lost places) (less (take lost amounts) (map (λ i. getD (tradesOf s) i noTrade .standing) (take lost places))) (tradesOf s))) t
-        → HeldAs (withTrades (bookOf s₀) (loweredAt (part from to origins) (part from to cuts) (bookOf s₀ .trades))) t
+    pub all-cut : {t : List ℕ} → LoweredIn s places amounts t → HeldAs (withTrades (bookOf s₀) (loweredAt (part from to origins) (part from to cuts) (bookOf s₀ .trades))) t
     unfolding withUsers withTrades tradesReplaced loweredAt
     all-cut {t} h =
         let b = bookOf s₀ in
         let ts = loweredAt (part from to origins) (part from to cuts) (b .trades) in
-        let ns : loweredAt (take lost places) (take lost amounts) (tradesOf s) ≡ ts = ap (loweredAt (take lost places) (take lost amounts)) (held-trades (q .held)) ∙ q .same in
+        let ns : loweredAt places amounts (tradesOf s) ≡ ts = ap (loweredAt places amounts) (held-trades (q .held)) ∙ q .same in
         subst (λ (x : Book). HeldAs x t) (ap₂ (λ (x : Book) (xs : List Trade). tradesReplaced x xs) (q .held .book) ns) h

@@ -18,6 +18,7 @@ use Rattle.sales.proofs.Groups.{grouped-parties, places-kept}
 use Rattle.sales.proofs.Listed.{places-many}
 use Rattle.sales.proofs.Numbers.{less-at, less-length, read-at}
 use Rattle.sales.proofs.Origins.{origin-inside, origins-length, origins-read}
+use Rattle.sales.proofs.Own.{own-among, own-sales}
 use Rattle.sales.proofs.Parts.{part-at, part-length}
 use Rattle.sales.proofs.Whole.{whole}
 use Rattle.sales.proofs.Written.{cut-written}
@@ -31,7 +32,7 @@ use Rattle.cut_apply.specs.Cutting.{CuttablePart, loweredAt}
 
 -- the user's own sales, lowered at their places, are the trades with these cuts
 pub own-lowered : (ts : List Trade) (id : ℕ) (cs : List ℕ) → length cs ≡ length (salesOf ts id) → loweredAt (places ts id) cs ts ≡ cutAll (spread (ownSale id) ts cs) ts
-unfolding loweredAt salesOf
+unfolding loweredAt
 own-lowered ts id cs e =
     ap (λ (ns : List ℕ). written noTrade (places ts id) (less cs ns) ts)
     (sym (map-map (λ t. t .standing) (λ i. getD ts i noTrade) (places ts id)) ∙ ap (map (λ t. t .standing)) (places-kept (ownSale id) noTrade ts))
@@ -44,7 +45,7 @@ module _ {b : Book} (sound : Sound b) {ss origins areaCodes bs ns : List ℕ} {c
   all-places = grouped (places (b .trades)) (b .users)
 
   count-places : count ≡ length all-places
-  count-places = count-is q ∙ sym (origins-length (b .trades) (b .users))
+  count-places = count-is q ∙ sym (origins-length ownSale (b .trades) (b .users))
 
   -- the place of a sale, and what stands of it
   origin-at : (k : ℕ) → k < count → getD origins k 0 ≡ getD all-places k 0
@@ -53,7 +54,7 @@ module _ {b : Book} (sound : Sound b) {ss origins areaCodes bs ns : List ℕ} {c
   standing-at : (k : ℕ) → k < count → getD (b .trades) (getD all-places k 0) noTrade .standing ≡ getD ns k 0
   standing-at k h =
       sym (read-at (λ i. getD (b .trades) i noTrade .standing) all-places k 0 0 (omega (arith, count-places)))
-      ∙ ap (λ (xs : List ℕ). getD xs k 0) (sym (z .standing-are ∙ origins-read (b .trades) (b .users) (λ t. t .standing) noTrade))
+      ∙ ap (λ (xs : List ℕ). getD xs k 0) (sym (z .standing-are ∙ origins-read ownSale (b .trades) (b .users) (λ t. t .standing) noTrade))
       ∙ getD-take count ns k 0 h
 
   pub standing-there : (k : ℕ) → k < count → getD (b .trades) (getD origins k 0) noTrade .standing ≡ getD ns k 0
@@ -64,7 +65,7 @@ module _ {b : Book} (sound : Sound b) {ss origins areaCodes bs ns : List ℕ} {c
       → CuttablePart (b .trades) origins cuts from to
   cuttable-part cuts from to h l room most =
       let ts = b .trades in
-      let wide : to ≤ length origins = omega (arith, count-room q (places ts) (places-many b) origins (q .origins-are)) in
+      let wide : to ≤ length origins = omega (arith, count-room q (places ts) (places-many ownSale (b .trades)) origins (q .origins-are)) in
       let long = part-length origins from to wide in
       let at : (k : ℕ) → k < to - from → getD (part from to origins) k 0 ≡ getD all-places (from + k) 0 = λ k m. part-at origins from to k 0 (omega arith) ∙ origin-at (from + k) (omega arith) in
       record {
@@ -74,9 +75,9 @@ module _ {b : Book} (sound : Sound b) {ss origins areaCodes bs ns : List ℕ} {c
         cuts-room = room;
         cuttable = record {
           same = part-length cuts from to room ∙ sym long;
-          inside = λ k m. omega (arith, long, at k (omega (arith, long)), origin-inside ts (b .users) (from + k) (omega (arith, long, count-places)));
-          bilateral = λ k m. rw (at k (omega (arith, long))) (origin-bilateral ts (b .users) noTrade (from + k) (omega (arith, long, count-places)));
-          apart = λ j k m o e. origins-apart ts (b .users) noTrade (sound .ids) (from + j) (from + k) (omega arith) (omega (arith, long, count-places))
+          inside = λ k m. omega (arith, long, at k (omega (arith, long)), origin-inside ownSale ts (b .users) (from + k) (omega (arith, long, count-places)));
+          bilateral = λ k m. rw (at k (omega (arith, long))) (origin-bilateral own-sales ts (b .users) noTrade (from + k) (omega (arith, long, count-places)));
+          apart = λ j k m o e. origins-apart own-sales ts (b .users) noTrade (sound .ids) (from + j) (from + k) (omega arith) (omega (arith, long, count-places))
               (sym (at j (omega (arith, long))) ∙ e ∙ at k (omega (arith, long)));
           most = λ k m. rw (at k (omega (arith, long))) (omega (arith, long, standing-at (from + k) (omega (arith, long)), part-at cuts from to k 0 (omega (arith, long)), most (from + k) (omega arith) (omega (arith, long))));
         };
@@ -108,4 +109,4 @@ module _ {b : Book} (sound : Sound b) {ss origins areaCodes bs ns : List ℕ} {c
       )) in
       ap₂ (λ (xs ys : List ℕ). written noTrade xs (less ys (map at xs)) ts) (ap (λ (n : ℕ). take n origins) none ∙ q .origins-are) (ap (λ (n : ℕ). take n cuts) none)
       ∙ ap (λ (xs : List ℕ). written noTrade all-places xs ts) (left ∙ later)
-      ∙ whole noTrade (b .users) f (sound .trades)
+      ∙ whole own-sales noTrade (b .users) (own-among (b .users)) f (sound .trades)

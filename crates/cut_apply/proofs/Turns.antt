@@ -8,7 +8,7 @@ use native.Mathlib.Omega.{arith}
 use lib.Dec.{T, ltb}
 use lib.ListN.{drop, getD, length, length-set, set, take}
 use lib.Seq.{getD-set-other, getD-set-same, length-take-le, take-all, take-suc-set}
-use borrow.Author.Tests.{eq-eqb, eqb-true, ltb-false}
+use borrow.Author.Tests.{eq-eqb, eqb-true, ltb-false, ltb-true}
 use Rattle.columns.proofs.Trades.{party-inside, party-is, trade-at}
 use Rattle.columns.specs.Columns.{PlacedOn, idAt, tradeIn, tradesIn, usersIn}
 use Rattle.cut_lists.proofs.Lists.{accepted-placed, accepted-trading}
@@ -37,7 +37,8 @@ use Rattle.sales.proofs.Standing.{same-length}
 use Rattle.sales.specs.Groups.{written}
 use Rattle.sales.specs.Sales.{settledAt}
 use Rattle.cut_apply.proofs.Cutting.{lowered-long, lowered-more, lowered-next, lowered-none, lowered-snoc, lowered-to, lowered-valid, loweredTo, next-stands}
-use Rattle.cut_apply.specs.Cutting.{Cuttable, MovedBy, SaleCut, SaleIn, loweredAt}
+use Rattle.cut_apply.proofs.Losing.{losing-first, losing-none}
+use Rattle.cut_apply.specs.Cutting.{Cuttable, MovedBy, SaleCut, SaleIn, losing, loweredAt}
 use Rattle.cut_apply.specs.Positions.{PartiesIn, positionOf}
 
 -- ---- one trade of a list
@@ -56,20 +57,20 @@ pub record MovedSo (b : Book) (is cs places amounts s : List ℕ) (lost j : ℕ)
   pub held : HeldAs (withUsers b (withTrades b (loweredTo is cs (b .trades) j) .users)) s
   pub same : loweredAt (take lost places) (take lost amounts) (b .trades) ≡ loweredTo is cs (b .trades) j
   pub inside : (k : ℕ) → k < lost → getD places k 0 < length (b .trades)
-  pub few : lost ≤ j
-  pub places-room : length places ≡ 32
-  pub amounts-room : length amounts ≡ 32
+  pub count : lost + losing (drop j cs) ≡ losing cs
+  pub places-room : length places ≡ losing cs
+  pub amounts-room : length amounts ≡ losing cs
 
 module _ {n : ℕ} {s₀ sellers parties : List ℕ} (a : BookIn n (tradeCount s₀) s₀ sellers parties) {is cs : List ℕ} (p : Cuttable (bookOf s₀ .trades) is cs) where
   -- none is passed yet
-  pub moved-start : {places amounts : List ℕ} → length places ≡ 32 → length amounts ≡ 32 → MovedSo (bookOf s₀) is cs places amounts s₀ 0 0
+  pub moved-start : {places amounts : List ℕ} → length places ≡ losing cs → length amounts ≡ losing cs → MovedSo (bookOf s₀) is cs places amounts s₀ 0 0
   unfolding withUsers withTrades loweredAt written
   moved-start e f =
       record {
         held = subst (λ (us : List User). HeldAs (withUsers (bookOf s₀) us) s₀) (sym (settle-none (bookOf s₀ .trades) (bookOf s₀ .users))) (a .held);
         same = refl;
         inside = λ k h. absurd (not-suc-le-zero h);
-        few = omega arith;
+        count = omega arith;
         places-room = e;
         amounts-room = f;
       }
@@ -187,9 +188,9 @@ module _ {n : ℕ} {s₀ sellers parties : List ℕ} (a : BookIn n (tradeCount s
             rw users-here (omega (arith, e .0), omega (arith, e .1))
 
         -- the sale can be cut
-        pub sale-here : length is ≤ 32 → SaleIn s n seller buyer place cut lost
+        pub sale-here : SaleIn s n seller buyer place cut
         unfolding withUsers
-        sale-here many =
+        sale-here =
             let area-is : sale .terms .area ≡ tradeIn n s place .terms .area = ap (λ (t : Trade). t .terms .area) (sym trade-here) in
             let area = area-lt (bookOf s₀ .users) sale sale-valid in
             record {
@@ -204,8 +205,11 @@ module _ {n : ℕ} {s₀ sellers parties : List ℕ} (a : BookIn n (tradeCount s
                     buyer-low = position-here buyer (sale .terms .area) buyer-low area .1;
                     energy-low = omega (arith, p .most j h, standing-le (bookOf s₀ .users) sale sale-valid);
                   });
-              room = omega (arith, q .few);
             }
+
+        -- where it loses something, there is room to note it
+        pub sale-room : 0 < cut → lost < losing cs
+        sale-room l = omega (arith, q .count, losing-first cs j (omega (arith, p .same)))
 
         -- it is cut, and noted where it loses something
         module _ {places' amounts' s' : List ℕ} {lost' : ℕ} (g : SaleCut s n seller buyer place cut lost places amounts s' places' amounts' lost') where
@@ -217,7 +221,7 @@ module _ {n : ℕ} {s₀ sellers parties : List ℕ} (a : BookIn n (tradeCount s
               (ap₂ (λ (b : Book) (us : List User). withUsers b us) (q .held .book) (ap₂ (λ (x : ℕ) (us : List User). settledAt seller buyer x cut us) area-is users-here ∙ users-settled)) (g .users)
 
           -- the noted ones with this one more
-          same-more : lost < 32 → loweredAt (take (suc lost) (set places lost place)) (take (suc lost) (set amounts lost cut)) (bookOf s₀ .trades) ≡ loweredTo is cs (bookOf s₀ .trades) (suc j)
+          same-more : lost < losing cs → loweredAt (take (suc lost) (set places lost place)) (take (suc lost) (set amounts lost cut)) (bookOf s₀ .trades) ≡ loweredTo is cs (bookOf s₀ .trades) (suc j)
           same-more room =
               let ts = bookOf s₀ .trades in
               let front = loweredAt (take lost places) (take lost amounts) ts in
@@ -227,24 +231,26 @@ module _ {n : ℕ} {s₀ sellers parties : List ℕ} (a : BookIn n (tradeCount s
               (ap (λ (ns : List Trade). getD ns place noTrade) (q .same) ∙ next-stands p j h)
               ∙ ap (λ (ns : List Trade). set ns place (cutBy cut sale)) (q .same) ∙ sym (lowered-more p j h)
 
-          inside-more : lost < 32 → (k : ℕ) → k < suc lost → getD (set places lost place) k 0 < length (bookOf s₀ .trades)
+          inside-more : lost < losing cs → (k : ℕ) → k < suc lost → getD (set places lost place) k 0 < length (bookOf s₀ .trades)
           inside-more room k l =
               by-order k lost (λ z. omega (arith, getD-set-other places lost k place 0 (λ e. omega arith), q .inside k z))
               (λ z.
               let e : lost ≡ k = omega arith in
               subst (λ (x : ℕ). getD (set places lost place) x 0 < length (bookOf s₀ .trades)) e (omega (arith, getD-set-same places lost place 0 (omega (arith, q .places-room)), p .inside j h)))
 
-          pub moved-more : length is ≤ 32 → MovedSo (bookOf s₀) is cs places' amounts' s' lost' (suc j)
-          moved-more many =
+          pub moved-more : MovedSo (bookOf s₀) is cs places' amounts' s' lost' (suc j)
+          moved-more =
+              let left = losing-first cs j (omega (arith, p .same)) in
               by-case (ltb 0 cut)
               (λ y.
-              let room : lost < 32 = omega (arith, q .few) in
+              let loses = ltb-true 0 cut y in
+              let room = sale-room loses in
               rw (g .places-are, g .amounts-are, g .count, y, add-one)
               (record {
                 held = held-more;
                 same = same-more room;
                 inside = inside-more room;
-                few = omega (arith, q .few);
+                count = omega (arith, q .count, left, loses);
                 places-room = length-set places lost place ∙ q .places-room;
                 amounts-room = length-set amounts lost cut ∙ q .amounts-room;
               }))
@@ -254,21 +260,21 @@ module _ {n : ℕ} {s₀ sellers parties : List ℕ} (a : BookIn n (tradeCount s
                 held = held-more;
                 same = q .same ∙ sym (lowered-none p j h (omega (arith, ltb-false 0 cut y)));
                 inside = q .inside;
-                few = omega (arith, q .few);
+                count = omega (arith, q .count, left, ltb-false 0 cut y);
                 places-room = q .places-room;
                 amounts-room = q .amounts-room;
               }))
 
   -- all are passed
-  pub moved-end : {places amounts s : List ℕ} {lost j : ℕ} → MovedSo (bookOf s₀) is cs places amounts s lost j → length is ≤ j → j ≤ 32 → MovedBy (bookOf s₀) is cs places amounts s lost
-  moved-end {s = s} {j = j} q h k =
-      let whole : loweredTo is cs (bookOf s₀ .trades) j ≡ loweredAt is cs (bookOf s₀ .trades)
-      = ap₂ (λ (xs ys : List ℕ). loweredAt xs ys (bookOf s₀ .trades)) (take-all j is h) (take-all j cs (omega (arith, p .same))) in
+  pub moved-end : {places amounts s : List ℕ} {lost j : ℕ} → MovedSo (bookOf s₀) is cs places amounts s lost j → length is ≤ j → MovedBy (bookOf s₀) is cs places amounts s
+  moved-end {places} {amounts} {s} {lost} {j} q h =
+      let ts = bookOf s₀ .trades in
+      let all : lost ≡ losing cs = omega (arith, q .count, losing-none cs j (omega (arith, p .same))) in
+      let whole : loweredTo is cs ts j ≡ loweredAt is cs ts = ap₂ (λ (xs ys : List ℕ). loweredAt xs ys ts) (take-all j is h) (take-all j cs (omega (arith, p .same))) in
       record {
-        held = subst (λ (ts : List Trade). HeldAs (withUsers (bookOf s₀) (withTrades (bookOf s₀) ts .users)) s) whole (q .held);
-        same = q .same ∙ whole;
-        inside = q .inside;
-        few = omega (arith, q .few);
-        places-room = q .places-room;
-        amounts-room = q .amounts-room;
+        held = subst (λ (ns : List Trade). HeldAs (withUsers (bookOf s₀) (withTrades (bookOf s₀) ns .users)) s) whole (q .held);
+        same = ap₂ (λ (xs ys : List ℕ). loweredAt xs ys ts) (sym (take-all lost places (omega (arith, q .places-room)))) (sym (take-all lost amounts (omega (arith, q .amounts-room))))
+            ∙ q .same ∙ whole;
+        inside = λ k l. q .inside k (omega (arith, q .places-room));
+        count = q .places-room;
       }

@@ -1,11 +1,12 @@
 -- Trades of a book that are cut at their places. Assumes nothing.
 use mathlib.Core.Bool.{cond}
-use mathlib.Core.List.{List, map}
+use mathlib.Core.List.{List, [], _∷_, map}
 use mathlib.Core.Path.{_≡_}
-use Prim.Native.Nat.{ℕ, _+_, _≤_, _<_}
+use Prim.Native.Nat.{ℕ, _+_, _≤_, _<_, min}
 use lib.Dec.{T, ltb}
-use lib.ListN.{getD, length, set, take}
+use lib.ListN.{getD, length, set}
 use Rattle.columns.specs.Columns.{tradeIn}
+use Rattle.cut_lists.specs.Sales.{BookIn}
 use Rattle.format.specs.Book.{bookOf, tradeCount, userCount, usersOf}
 use Rattle.held.specs.Held.{HeldAs, noTrade}
 use Rattle.rules.specs.Book.{Book, Trade, bilateralForDay}
@@ -36,15 +37,25 @@ pub record CuttablePart (ts : List Trade) (origins cuts : List ℕ) (from to : �
   pub cuts-room : to ≤ length cuts
   pub cuttable : Cuttable ts (part from to origins) (part from to cuts)
 
+-- how many cuts are not 0
+unfoldable pub losing : List ℕ → ℕ
+losing [] = 0
+losing (c ∷ cs) = min 1 c + losing cs
+
+-- an accepted book with the places of the parties of its trades, cuts of its sales from a place up to another, and how many are not 0
+pub record Cutting (s : List ℕ) (n : ℕ) (sellers parties origins cuts : List ℕ) (from to lost : ℕ) : Type 0 where
+  pub book : BookIn n (tradeCount s) s sellers parties
+  pub cuttable : CuttablePart (bookOf s .trades) origins cuts from to
+  pub count : lost ≡ losing (part from to cuts)
+
 -- ---- one sale
 
--- a sale between two users of a book, its cut, and room to note it
-pub record SaleIn (s : List ℕ) (n seller buyer place cut lost : ℕ) : Type 0 where
+-- a sale between two users of a book, and its cut
+pub record SaleIn (s : List ℕ) (n seller buyer place cut : ℕ) : Type 0 where
   pub held : HeldAs (bookOf s) s
   pub users-are : n ≡ userCount s
   pub inside : place < tradeCount s
   pub parties : PartiesIn s seller buyer (tradeIn n s place .terms .area) cut
-  pub room : lost < 32
 
 -- the positions of its parties are settled; where it loses something its place and its cut are the next of two lists
 pub record SaleCut (s : List ℕ) (n seller buyer place cut lost : ℕ) (places amounts s' places' amounts' : List ℕ) (r : ℕ) : Type 0 where
@@ -55,11 +66,9 @@ pub record SaleCut (s : List ℕ) (n seller buyer place cut lost : ℕ) (places 
 
 -- ---- all of them
 
--- the positions are those of the book with the lowered trades; those that lose something, alone, are as many places and cuts at the front of two lists
-pub record MovedBy (b : Book) (is cs places amounts s : List ℕ) (lost : ℕ) : Type 0 where
+-- the positions are those of the book with the lowered trades; those that lose something, alone, are as many places and cuts
+pub record MovedBy (b : Book) (is cs places amounts s : List ℕ) : Type 0 where
   pub held : HeldAs (withUsers b (withTrades b (loweredAt is cs (b .trades)) .users)) s
-  pub same : loweredAt (take lost places) (take lost amounts) (b .trades) ≡ loweredAt is cs (b .trades)
-  pub inside : (k : ℕ) → k < lost → getD places k 0 < length (b .trades)
-  pub few : lost ≤ 32
-  pub places-room : length places ≡ 32
-  pub amounts-room : length amounts ≡ 32
+  pub same : loweredAt places amounts (b .trades) ≡ loweredAt is cs (b .trades)
+  pub inside : (k : ℕ) → k < length places → getD places k 0 < length (b .trades)
+  pub count : length places ≡ losing cs

@@ -1,4 +1,4 @@
-// Sales that lose something, in the bytes of a book: the positions of the seller and the buyer of each move, and the trades are lowered as records and written back.
+// Sales that lose something, in the bytes of a book: the positions of the seller and the buyer of each move, and the trades are lowered as records, in one list, and written back.
 ghost use mathlib.Core.Path.{_≡_};
 ghost use Prim.Native.Nat.{_+_, _*_, _≤_, _<_, _^_};
 ghost use lib.IntN.{pos, negℤ, _+ℤ_};
@@ -13,7 +13,7 @@ ghost use Rattle.rules.specs.Signed.{bitsOf, signedOf};
 ghost use Rattle.sales.specs.Parts.{part};
 ghost use Rattle.sales.specs.Sales.{settledAt};
 ghost use Rattle.cut_apply.specs.Positions.{PositionIn, PartiesIn, movedAt, positionOf};
-ghost use Rattle.cut_apply.specs.Cutting.{CuttablePart, MovedBy, SaleCut, SaleIn, loweredAt};
+ghost use Rattle.cut_apply.specs.Cutting.{Cutting, CuttablePart, MovedBy, SaleCut, SaleIn, losing, loweredAt};
 
 // ---- positions
 
@@ -79,6 +79,20 @@ fn move_parties(book: &mut [u8], seller: usize, buyer: usize, area: usize, energ
 
 // ---- sales
 
+// How many of the cuts, from a place up to another, are not 0.
+fn count_losing(cuts: &[u64; 256], from: usize, to: usize) -> usize
+    requires { ⌜ (from ≤ to) × (to ≤ 256) × (to ≤ length (now cuts)) ⌝ }
+    ensures { λ r. ⌜ (r ≡ losing (part from to (now (cuts .entry)))) × (r ≤ 256) ⌝ }
+{
+    let mut lost = 0;
+    let mut k = from;
+    while k < to {
+        lost = columns::place_after(lost, 0 < cuts[k]);
+        k += 1;
+    }
+    lost
+}
+
 // Moves the positions of the parties of a sale by its cut, and notes its place and the cut as the next of those that lose something; gives the number of these. A cut of 0 is passed by.
 fn cut_sale(
     book: &mut [u8],
@@ -88,10 +102,11 @@ fn cut_sale(
     place: usize,
     cut: u64,
     lost: usize,
-    places: &mut [u8; 32],
-    amounts: &mut [u64; 32],
+    places: &mut [u8],
+    amounts: &mut [u64],
 ) -> usize
-    requires { ⌜ SaleIn (now book) n seller buyer place cut lost ⌝ }
+    requires { ⌜ SaleIn (now book) n seller buyer place cut ⌝ }
+    requires { ⌜ (length (now places) ≤ 256) × (0 < cut → (lost < length (now places)) × (lost < length (now amounts))) ⌝ }
     ensures { λ r. ⌜ SaleCut (now (book .entry)) n seller buyer place cut lost (now (places .entry)) (now (amounts .entry)) (now (book .exit)) (now (places .exit)) (now (amounts .exit)) r ⌝ }
 {
     if 0 < cut {
@@ -105,7 +120,7 @@ fn cut_sale(
     lost
 }
 
-// Moves the positions of the parties of at most 32 sales, from a place up to another, by their cuts, and notes those that lose something; gives the number of these.
+// Moves the positions of the parties of the sales, from a place up to another, by their cuts, and notes those that lose something, for which there is room.
 fn move_all(
     book: &mut [u8],
     n: usize,
@@ -115,12 +130,11 @@ fn move_all(
     cuts: &[u64; 256],
     from: usize,
     to: usize,
-    places: &mut [u8; 32],
-    amounts: &mut [u64; 32],
-) -> usize
-    requires { ⌜ BookIn n (tradeCount (now book)) (now book) (now sellers) (now parties) × CuttablePart (bookOf (now book) .trades) (now origins) (now cuts) from to ⌝ }
-    requires { ⌜ (to ≤ from + 32) × (length (now places) ≡ 32) × (length (now amounts) ≡ 32) ⌝ }
-    ensures { λ r. ⌜ MovedBy (bookOf (now (book .entry))) (part from to (now (origins .entry))) (part from to (now (cuts .entry))) (now (places .exit)) (now (amounts .exit)) (now (book .exit)) r ⌝ }
+    places: &mut [u8],
+    amounts: &mut [u64],
+)
+    requires { ⌜ Cutting (now book) n (now sellers) (now parties) (now origins) (now cuts) from to (length (now places)) × (length (now amounts) ≡ length (now places)) ⌝ }
+    ensures { λ _. ⌜ MovedBy (bookOf (now (book .entry))) (part from to (now (origins .entry))) (part from to (now (cuts .entry))) (now (places .exit)) (now (amounts .exit)) (now (book .exit)) ⌝ }
 {
     let mut lost = 0;
     let mut k = from;
@@ -132,10 +146,40 @@ fn move_all(
         lost = cut_sale(book, n, seller, buyer, place, cut, lost, places, amounts);
         k += 1;
     }
-    lost
 }
 
-// Cuts at most 32 sales, from a place up to another: what stands of each falls by its cut, and the positions of its parties move by it. The trades that lose something are lowered as records.
+// Cuts the sales from a place up to another: what stands of each falls by its cut, and the positions of its parties move by it. Those that lose something are noted, as many as there is room for, and lowered as records.
+fn apply_noting(
+    book: &mut [u8],
+    n: usize,
+    sellers: &[u8; 256],
+    parties: &[u8; 256],
+    origins: &[u8; 256],
+    cuts: &[u64; 256],
+    from: usize,
+    to: usize,
+    places: &mut [u8],
+    amounts: &mut [u64],
+)
+    requires { ⌜ Cutting (now book) n (now sellers) (now parties) (now origins) (now cuts) from to (length (now places)) × (length (now amounts) ≡ length (now places)) ⌝ }
+    ensures { λ _. ⌜ HeldAs (withTrades (bookOf (now (book .entry))) (loweredAt (part from to (now (origins .entry))) (part from to (now (cuts .entry))) (bookOf (now (book .entry)) .trades))) (now (book .exit)) ⌝ }
+{
+    move_all(
+        book,
+        n,
+        sellers,
+        parties,
+        origins,
+        cuts,
+        from,
+        to,
+        places,
+        amounts,
+    );
+    cut_records::lower_sales(book, 32 + 56 * n, places, amounts);
+}
+
+// The same with room for 32.
 fn apply_few(
     book: &mut [u8],
     n: usize,
@@ -145,13 +189,14 @@ fn apply_few(
     cuts: &[u64; 256],
     from: usize,
     to: usize,
+    lost: usize,
 )
-    requires { ⌜ BookIn n (tradeCount (now book)) (now book) (now sellers) (now parties) × CuttablePart (bookOf (now book) .trades) (now origins) (now cuts) from to × (to ≤ from + 32) ⌝ }
+    requires { ⌜ Cutting (now book) n (now sellers) (now parties) (now origins) (now cuts) from to lost × (lost ≤ 32) ⌝ }
     ensures { λ _. ⌜ HeldAs (withTrades (bookOf (now (book .entry))) (loweredAt (part from to (now (origins .entry))) (part from to (now (cuts .entry))) (bookOf (now (book .entry)) .trades))) (now (book .exit)) ⌝ }
 {
     let mut places = [0u8; 32];
     let mut amounts = [0u64; 32];
-    let lost = move_all(
+    apply_noting(
         book,
         n,
         sellers,
@@ -160,25 +205,43 @@ fn apply_few(
         cuts,
         from,
         to,
-        &mut places,
-        &mut amounts,
+        &mut places[..lost],
+        &mut amounts[..lost],
     );
-    cut_records::lower_sales(book, 32 + 56 * n, &places[..lost], &amounts[..lost]);
 }
 
-// Where a batch of at most 32 sales ends.
-fn batch_end(from: usize, to: usize) -> usize
-    requires { ⌜ (from < to) × (to ≤ 256) ⌝ }
-    ensures { λ r. ⌜ (from < r) × (r ≤ to) × (r ≤ from + 32) ⌝ }
+// The same with room for 256.
+fn apply_many(
+    book: &mut [u8],
+    n: usize,
+    sellers: &[u8; 256],
+    parties: &[u8; 256],
+    origins: &[u8; 256],
+    cuts: &[u64; 256],
+    from: usize,
+    to: usize,
+    lost: usize,
+)
+    requires { ⌜ Cutting (now book) n (now sellers) (now parties) (now origins) (now cuts) from to lost × (lost ≤ 256) ⌝ }
+    ensures { λ _. ⌜ HeldAs (withTrades (bookOf (now (book .entry))) (loweredAt (part from to (now (origins .entry))) (part from to (now (cuts .entry))) (bookOf (now (book .entry)) .trades))) (now (book .exit)) ⌝ }
 {
-    let full = from + 32;
-    if full < to {
-        return full;
-    }
-    to
+    let mut places = [0u8; 256];
+    let mut amounts = [0u64; 256];
+    apply_noting(
+        book,
+        n,
+        sellers,
+        parties,
+        origins,
+        cuts,
+        from,
+        to,
+        &mut places[..lost],
+        &mut amounts[..lost],
+    );
 }
 
-// Cuts the sales from a place up to another, in batches: an array of records for all of them would take longer to clear than a usual part to cut.
+// Cuts the sales from a place up to another. Mostly few lose something, and room for 256 would take longer to clear than they to cut.
 pub fn apply(
     book: &mut [u8],
     n: usize,
@@ -192,10 +255,10 @@ pub fn apply(
     requires { ⌜ BookIn n (tradeCount (now book)) (now book) (now sellers) (now parties) × CuttablePart (bookOf (now book) .trades) (now origins) (now cuts) from to ⌝ }
     ensures { λ _. ⌜ HeldAs (withTrades (bookOf (now (book .entry))) (loweredAt (part from to (now (origins .entry))) (part from to (now (cuts .entry))) (bookOf (now (book .entry)) .trades))) (now (book .exit)) ⌝ }
 {
-    let mut k = from;
-    while k < to {
-        let end = batch_end(k, to);
-        apply_few(book, n, sellers, parties, origins, cuts, k, end);
-        k = end;
+    let lost = count_losing(cuts, from, to);
+    if lost <= 32 {
+        apply_few(book, n, sellers, parties, origins, cuts, from, to, lost);
+        return;
     }
+    apply_many(book, n, sellers, parties, origins, cuts, from, to, lost);
 }

@@ -16,10 +16,11 @@ use Rattle.risk_user.specs.Account.{PositionsOf}
 use Rattle.run_state.specs.Going.{Going, OwedOf, Rooms, SalesIn, StandingIn}
 use Rattle.sales.proofs.Groups.{start-same}
 use Rattle.sales.proofs.Listed.{all-grouped, part-grouped, terms-many}
+use Rattle.sales.proofs.Own.{own-sales}
 use Rattle.sales.proofs.Standing.{starts-stay}
 use Rattle.sales.specs.Groups.{areasOf, grouped, standings, starts, termsOf}
 use Rattle.sales.specs.Parts.{part}
-use Rattle.sales.specs.Sales.{salesOf}
+use Rattle.sales.specs.Sales.{ownSale, salesOf}
 
 -- ---- the lists of a book
 
@@ -29,7 +30,7 @@ module _ (b : Book) {count : ℕ} (all : count ≡ starts b (length (b .users)))
       → part (starts b i) (starts b (suc i)) xs ≡ map (λ s. g (s .terms)) (salesOf (b .trades) (memberAt b i .party .id))
   terms-part g xs e i k =
       let of : ℕ → List ℕ = λ id. map (λ s. g (s .terms)) (salesOf (b .trades) id) in
-      let same = start-same of (standings (b .trades)) (terms-many b g) (b .users) in
+      let same = start-same of (standings (b .trades)) (terms-many ownSale (b .trades) g) (b .users) in
       ap₂ (λ (m n : ℕ). part m n xs) (sym (same i)) (sym (same (suc i))) ∙ part-grouped of (b .users) xs count e (omega (arith, all, same (length (b .users)))) i k
 
   pub sales-listed : {ss areaCodes bs : List ℕ} → count ≤ 256 → ((i : ℕ) → i ≤ length (b .users) → getD ss i 0 ≡ starts b i) → take count areaCodes ≡ areasOf b
@@ -55,6 +56,6 @@ going-first {b = b} s n p w r = record { sound = s; lowered = lowered-refl (b .t
 -- what stands of all own sales of a run's book
 pub standing-all : {o b : Book} {ns : List ℕ} → Stays o b → StandingIn o b ns → take (starts o (length (o .users))) ns ≡ grouped (standings (b .trades)) (b .users)
 standing-all {o} {b} {ns} t p =
-    let stay = starts-stay o b (t .framed) (parties-stay t) in
+    let stay = starts-stay own-sales o b (t .framed) (parties-stay t) in
     ap (λ (n : ℕ). take n ns) (sym (ap (starts b) (users-many t) ∙ stay (length (o .users))))
     ∙ all-grouped (standings (b .trades)) (b .users) ns (λ i h. ap₂ (λ (m n : ℕ). part m n ns) (stay i) (stay (suc i)) ∙ p .each i h)

@@ -24,10 +24,11 @@ use Rattle.risk_user.specs.Account.{positionIn, PositionsOf}
 use Rattle.sales.proofs.FirstCuts.{first-all, first-bound, first-length, first-next, first-none, own-cut-le, own-cuts-length}
 use Rattle.sales.proofs.Kept.{by-case, holds}
 use Rattle.sales.proofs.Numbers.{read-at}
+use Rattle.sales.proofs.Own.{own-sales}
 use Rattle.sales.proofs.Reduced.{sales-reduced}
 use Rattle.sales.proofs.Valid.{sale-at}
 use Rattle.sales.specs.Reduced.{ownSales, ownCuts, settledFirst}
-use Rattle.sales.specs.Sales.{settledAt}
+use Rattle.sales.specs.Sales.{ownSale, settledAt}
 use Rattle.units.proofs.Amounts.{net-eq, parts-net}
 use Rattle.units.specs.Amounts.{net}
 
@@ -157,34 +158,34 @@ module _ (b : Book) (s : Sound b) (place : ℕ) (k : place < length (b .users)) 
 
   -- after some of the cuts
   moved-first : (n : ℕ) → n ≤ length sales
-      → PositionsOf (settledFirst b seller asked n) (movedAll place (take n buyers) (take n codes) (take n cuts) ps)
+      → PositionsOf (settledFirst ownSale b seller asked n) (movedAll place (take n buyers) (take n codes) (take n cuts) ps)
   unfolding movedAll
-  moved-first zero h = subst (λ (us : List User). PositionsOf us ps) (sym (first-none b seller asked)) p
+  moved-first zero h = subst (λ (us : List User). PositionsOf us ps) (sym (first-none own-sales b seller asked)) p
   moved-first (suc n) h =
       let before = moved-first n (omega arith) in
       let qs = movedAll place (take n buyers) (take n codes) (take n cuts) ps in
-      let us = settledFirst b seller asked n in
+      let us = settledFirst ownSale b seller asked n in
       let t = getD sales n nothing in
       let sale = sale-at (b .users) (b .trades) (seller .party .id) n nothing (s .trades) (omega arith) in
       let buyer = placeOf (b .users) (t .terms .buyer) in
       let inside = place-inside (b .users) (t .terms .buyer) (sale .buyer) in
       let area = t .terms .area in
       let c = getD cuts n 0 in
-      let many = first-length b seller asked n in
+      let many = first-length own-sales b seller asked n in
       let stands = read-at (λ x. x .standing) sales n nothing 0 (omega arith) in
-      let bound = first-bound b seller asked s n buyer area inside (sale .area) in
+      let bound = first-bound own-sales b seller asked s n buyer area inside (sale .area) in
       let x = getD qs (3 * buyer + area) 0 in
       let here = before .each buyer area (omega (arith, many)) (sale .area) in
-      let small : c ≤ x = omega (arith, own-cut-le b seller asked n, stands, sale .standing, bound .1, parts-net (record { 0 = x }), ap negPart here) in
+      let small : c ≤ x = omega (arith, own-cut-le own-sales b seller asked n, stands, sale .standing, bound .1, parts-net (record { 0 = x }), ap negPart here) in
       let eb : getD buyers n 0 ≡ buyer = read-at (λ x. placeOf (b .users) (x .terms .buyer)) sales n nothing 0 (omega arith) in
       let ea : getD codes n 0 ≡ area = read-at (λ x. x .terms .area) sales n nothing 0 (omega arith) in
       let next : movedAll place (take (suc n) buyers) (take (suc n) codes) (take (suc n) cuts) ps ≡ movedOne place buyer area c qs
-      = moved-next place buyers codes cuts ps n (omega (arith, length-map sales (λ x. placeOf (b .users) (x .terms .buyer)))) (omega (arith, length-map sales (λ x. x .terms .area))) (omega (arith, own-cuts-length b seller asked))
+      = moved-next place buyers codes cuts ps n (omega (arith, length-map sales (λ x. placeOf (b .users) (x .terms .buyer)))) (omega (arith, length-map sales (λ x. x .terms .area))) (omega (arith, own-cuts-length own-sales b seller asked))
       ∙ ap₂ (λ (i j : ℕ). movedOne place i j c qs) eb ea in
       let long = moved-length place (take n buyers) (take n codes) (take n cuts) ps in
-      subst (λ (rs : List ℕ). PositionsOf (settledFirst b seller asked (suc n)) rs) (sym next)
+      subst (λ (rs : List ℕ). PositionsOf (settledFirst ownSale b seller asked (suc n)) rs) (sym next)
       (subst (λ (vs : List User). PositionsOf vs (movedOne place buyer area c qs))
-      (sym (first-next b seller asked s n place buyer nothing (omega arith) k inside refl (place-id (b .users) (t .terms .buyer) (sale .buyer))))
+      (sym (first-next own-sales b seller asked s n place buyer nothing (omega arith) k inside (sym (sale .seller)) (place-id (b .users) (t .terms .buyer) (sale .buyer))))
       (one-moved us qs place buyer area c (omega (arith, many)) (omega (arith, many)) (sale .area) (omega (arith, many, long)) small before))
 
   -- after all
@@ -193,8 +194,8 @@ module _ (b : Book) (s : Sound b) (place : ℕ) (k : place < length (b .users)) 
       let n = length sales in
       let e : movedAll place (take n buyers) (take n codes) (take n cuts) ps ≡ movedAll place buyers codes cuts ps
       = ap₂ (λ (xs ys : List ℕ). movedAll place xs ys (take n cuts) ps) (take-all n buyers (omega (arith, length-map sales (λ x. placeOf (b .users) (x .terms .buyer))))) (take-all n codes (omega (arith, length-map sales (λ x. x .terms .area))))
-      ∙ ap (λ (xs : List ℕ). movedAll place buyers codes xs ps) (take-all n cuts (omega (arith, own-cuts-length b seller asked))) in
+      ∙ ap (λ (xs : List ℕ). movedAll place buyers codes xs ps) (take-all n cuts (omega (arith, own-cuts-length own-sales b seller asked))) in
       subst (λ (rs : List ℕ). PositionsOf (reducedBy b seller asked .book .users) rs) e
       (subst (λ (us : List User). PositionsOf us (movedAll place (take n buyers) (take n codes) (take n cuts) ps))
-      (first-all b seller asked n (omega arith) ∙ sym (sales-reduced b seller asked s .users))
+      (first-all own-sales b seller asked n (omega arith) ∙ sym (sales-reduced b seller asked s .users))
       (moved-first n (omega arith)))

@@ -10,6 +10,7 @@ use Rattle.rules.specs.Book.{Book, Party, Terms, Trade, User}
 use Rattle.run_state.proofs.Stays.{Stays, party-stays, users-many}
 use Rattle.run_state.specs.Asked.{memberAt}
 use Rattle.run_state.specs.Going.{SalesIn}
+use Rattle.sales.proofs.Own.{own-sales}
 use Rattle.sales.proofs.Standing.{terms-stay}
 use Rattle.sales.specs.Groups.{starts}
 use Rattle.sales.specs.Parts.{part}
@@ -31,7 +32,7 @@ module _ {o b : Book} (t : Stays o b) where
 
     terms-all : (g : Terms → ℕ) → map (λ s. g (s .terms)) (ownSales o (memberAt o i)) ≡ map (λ s. g (s .terms)) (ownSales b (memberAt b i))
     terms-all g =
-        sym (terms-stay g (memberAt o i .party .id) (t .framed))
+        sym (terms-stay own-sales g (memberAt o i .party .id) (t .framed))
         ∙ ap (λ (p : Party). map (λ s. g (s .terms)) (salesOf (b .trades) (p .id))) (sym (party-stays t i))
 
     pub own-areas : part (starts o i) (starts o (suc i)) areaCodes ≡ map (λ s. s .terms .area) (ownSales b (memberAt b i))

@@ -29,6 +29,7 @@ use Rattle.run_state.specs.Going.{owed, owedCalled}
 use Rattle.sales.proofs.Cover.{has-eligible-sales, level-next, next-holding, short-from, some-cut-buyer, some-cut-seller, target-from}
 use Rattle.sales.proofs.FirstCuts.{own-cuts-length}
 use Rattle.sales.proofs.Kept.{by-case, holds}
+use Rattle.sales.proofs.Own.{own-sales}
 use Rattle.sales.proofs.Reduced.{cover-left, sales-reduced, user-left}
 use Rattle.sales.proofs.Settled.{party-at, same-place}
 use Rattle.sales.proofs.Standing.{same-length}
@@ -205,7 +206,7 @@ module _ (limits : Limits) (b : Book) (sound : Sound b) (place : ℕ) (k : place
         let whole = holds is-due in
         let s = and-l (shortOfCover limits b seller) (hasEligible b seller) whole in
         let eligible = and-r (shortOfCover limits b seller) (hasEligible b seller) whole in
-        let some = some-cut-seller (seller .party .id) cuts sales (sales-own (b .trades) (seller .party .id)) (own-cuts-length b seller asked) in
+        let some = some-cut-seller (seller .party .id) cuts sales (sales-own (b .trades) (seller .party .id)) (own-cuts-length own-sales b seller asked) in
         by-case (any (λ c. ltb 0 c) cuts) (λ e. some ∙ e)
         (λ e.
         let less-mwh = reducedBy-less b seller asked sound (has-target limits b seller s) eligible in

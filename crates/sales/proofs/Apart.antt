@@ -1,11 +1,11 @@
 -- The places of all own sales: each is that of a trade of kind 0 and day 0, and no two are the same. Assumes nothing.
 use mathlib.Core.Bool.{Bool, not}
 use mathlib.Core.List.{List, [], _∷_, _++_, map}
-use mathlib.Core.Path.{_≡_, sym, ap}
-use Prim.Native.Nat.{ℕ, zero, suc, _<_}
+use mathlib.Core.Path.{_≡_, sym, subst}
+use Prim.Native.Nat.{ℕ, zero, suc, _≤_, _<_}
 use native.Mathlib.Nat.{le-of-suc-le-suc, not-suc-le-zero}
 use native.Mathlib.Omega.{arith}
-use lib.Dec.{T, T-not, eqb, eqb→eq, eqb·suc-suc, le→leb, ltb, ltb→lt}
+use lib.Dec.{T, T-not, eqb, eqb·suc-suc, ltb, ltb→lt}
 use lib.ListN.{getD, length}
 use borrow.Author.Tests.{ne-eqb}
 use Rattle.arrays.proofs.Fronts.{all-at}
@@ -15,9 +15,9 @@ use Rattle.rules.specs.Lists.{all}
 use Rattle.rules.specs.Questions.{idsRise}
 use Rattle.sales.proofs.Kept.{by-case, fails, holds}
 use Rattle.sales.proofs.Origins.{grouped-all}
-use Rattle.sales.specs.Groups.{grouped, places}
+use Rattle.sales.specs.Groups.{grouped}
 use Rattle.sales.specs.Kept.{placesOf}
-use Rattle.sales.specs.Sales.{ownSale}
+use Rattle.sales.specs.Own.{Owned}
 
 -- ---- numbers that differ
 
@@ -84,47 +84,43 @@ module _ {A : Type 0} (p : A → Bool) where
 
 -- ---- the places of all own sales
 
-module _ (ts : List Trade) (d : Trade) where
-  abbrev sellerAt : ℕ → ℕ
-  sellerAt i = getD ts i d .terms .seller
+module _ {own : ℕ → Trade → Bool} (o : Owned own) (ts : List Trade) (d : Trade) where
+  -- of one user
+  abbrev of : ℕ → List ℕ
+  of id = placesOf (own id) ts
 
-  -- of one seller
-  places-sold : (id : ℕ) → T (all (λ i. eqb (sellerAt i) id) (places ts id))
-  unfolding ownSale
-  places-sold id = all-by (λ i. ownSale id (getD ts i d)) (λ i. eqb (sellerAt i) id) (λ i t. and-l (eqb (sellerAt i) id) (bilateralForDay (getD ts i d)) t) (places ts id) (places-pass (ownSale id) d ts)
-
-  -- of sellers above an id
-  sold-above : (us : List User) (low : ℕ) → T (idsRise low us) → T (all (λ i. ltb low (sellerAt i)) (grouped (places ts) us))
+  -- no sale of a user is at a place of one with a higher id
+  none-above : (us : List User) (id low : ℕ) → id ≤ low → T (idsRise low us) → T (all (λ j. not (own id (getD ts j d))) (grouped of us))
   unfolding grouped idsRise all
-  sold-above [] low r = tt
-  sold-above (u ∷ us) low r =
-      let id = u .party .id in
-      let l = ltb→lt low id (and-l (ltb low id) (idsRise id us) r) in
-      all-append (λ i. ltb low (sellerAt i)) (places ts id) (grouped (places ts) us)
-      (all-by (λ i. eqb (sellerAt i) id) (λ i. ltb low (sellerAt i)) (λ i t. let e = eqb→eq (sellerAt i) id t in le→leb (suc low) (sellerAt i) (omega arith)) (places ts id) (places-sold id))
-      (all-by (λ i. ltb id (sellerAt i)) (λ i. ltb low (sellerAt i)) (λ i t. let k = ltb→lt id (sellerAt i) t in le→leb (suc low) (sellerAt i) (omega arith)) (grouped (places ts) us) (sold-above us id (and-r (ltb low id) (idsRise id us) r)))
+  none-above [] id low h r = tt
+  none-above (u ∷ us) id low h r =
+      let other = u .party .id in
+      let l = ltb→lt low other (and-l (ltb low other) (idsRise other us) r) in
+      all-append (λ j. not (own id (getD ts j d))) (of other) (grouped of us)
+      (all-by (λ j. own other (getD ts j d)) (λ j. not (own id (getD ts j d))) (λ j t. fails (o .apart other id (λ e. omega arith) (getD ts j d) t)) (of other) (places-pass (own other) d ts))
+      (none-above us id other (omega arith) (and-r (ltb low other) (idsRise other us) r))
 
-  all-apart : (us : List User) (low : ℕ) → T (idsRise low us) → Apart (grouped (places ts) us)
+  all-apart : (us : List User) (low : ℕ) → T (idsRise low us) → Apart (grouped of us)
   unfolding grouped idsRise
   all-apart [] low r = none
   all-apart (u ∷ us) low r =
       let id = u .party .id in
       let rest = and-r (ltb low id) (idsRise id us) r in
-      apart-append (places-apart (ownSale id) ts) (all-apart us id rest)
-      (all-by (λ i. eqb (sellerAt i) id) (λ i. without i (grouped (places ts) us)) (λ i t. differs us id rest i (eqb→eq (sellerAt i) id t)) (places ts id) (places-sold id))
-    where
-      differs : (us : List User) (id : ℕ) → T (idsRise id us) → (i : ℕ) → sellerAt i ≡ id → T (without i (grouped (places ts) us))
-      differs us id rest i e =
-          all-by (λ j. ltb id (sellerAt j)) (λ j. not (eqb j i)) (λ j t. not-same j i (λ z. omega (arith, ltb→lt id (sellerAt j) t, ap sellerAt z))) (grouped (places ts) us) (sold-above us id rest)
+      apart-append (places-apart (own id) ts) (all-apart us id rest)
+      (all-by (λ i. own id (getD ts i d)) (λ i. without i (grouped of us))
+      (λ i t. all-by (λ j. not (own id (getD ts j d))) (λ j. not (eqb j i)) (λ j k. not-same j i (λ z. T-not (own id (getD ts j d)) k (subst (λ (n : ℕ). T (own id (getD ts n d))) (sym z) t))) (grouped of us) (none-above us id id (omega arith) rest))
+      (of id) (places-pass (own id) d ts))
 
 -- no two are the same; d is what is read past the end
-pub origins-apart : (ts : List Trade) (us : List User) (d : Trade) → T (idsRise 0 us) → (j k : ℕ) → j < k → k < length (grouped (places ts) us) → getD (grouped (places ts) us) j 0 ≡ getD (grouped (places ts) us) k 0 → ⊥
-origins-apart ts us d r j k h l e = apart-at (all-apart ts d us 0 r) j k h l e
+pub origins-apart : {own : ℕ → Trade → Bool} → Owned own → (ts : List Trade) (us : List User) (d : Trade) → T (idsRise 0 us) → (j k : ℕ) → j < k → k < length (grouped (λ id. placesOf (own id) ts) us)
+    → getD (grouped (λ id. placesOf (own id) ts) us) j 0 ≡ getD (grouped (λ id. placesOf (own id) ts) us) k 0 → ⊥
+origins-apart o ts us d r j k h l e = apart-at (all-apart o ts d us 0 r) j k h l e
 
 -- each is that of a trade of kind 0 and day 0
-pub origin-bilateral : (ts : List Trade) (us : List User) (d : Trade) (k : ℕ) → k < length (grouped (places ts) us) → T (bilateralForDay (getD ts (getD (grouped (places ts) us) k 0) d))
-unfolding ownSale
-origin-bilateral ts us d k h =
-    all-at (λ i. bilateralForDay (getD ts i d)) (grouped (places ts) us)
-    (grouped-all (λ i. bilateralForDay (getD ts i d)) (places ts)
-    (λ id. all-by (λ i. ownSale id (getD ts i d)) (λ i. bilateralForDay (getD ts i d)) (λ i t. and-r (eqb (getD ts i d .terms .seller) id) (bilateralForDay (getD ts i d)) t) (places ts id) (places-pass (ownSale id) d ts)) us) k 0 h
+pub origin-bilateral : {own : ℕ → Trade → Bool} → Owned own → (ts : List Trade) (us : List User) (d : Trade) (k : ℕ) → k < length (grouped (λ id. placesOf (own id) ts) us)
+    → T (bilateralForDay (getD ts (getD (grouped (λ id. placesOf (own id) ts) us) k 0) d))
+origin-bilateral {own} o ts us d k h =
+    let of : ℕ → List ℕ = λ id. placesOf (own id) ts in
+    all-at (λ i. bilateralForDay (getD ts i d)) (grouped of us)
+    (grouped-all (λ i. bilateralForDay (getD ts i d)) of
+    (λ id. all-by (λ i. own id (getD ts i d)) (λ i. bilateralForDay (getD ts i d)) (λ i t. o .bilateral id (getD ts i d) t) (of id) (places-pass (own id) d ts)) us) k 0 h

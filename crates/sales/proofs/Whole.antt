@@ -1,24 +1,23 @@
 -- What stands of all own sales, written at their places, is what stands of the trades. Assumes nothing.
-use mathlib.Core.Bool.{Bool, true, false, cond, _||_}
+use mathlib.Core.Bool.{Bool, true, false, not, cond, _||_}
 use mathlib.Core.List.{List, [], _∷_, map}
 use mathlib.Core.Path.{_≡_, refl, sym, ap, ap₂, _∙_}
 use Prim.Native.Nat.{ℕ}
-use lib.Dec.{T, eqb}
+use lib.Dec.{T, T-not}
 use lib.ListN.{length, length-map}
-use Rattle.laws.proofs.Positions.{seller-known}
-use Rattle.laws.proofs.Tests.{and-l, and-r, eqb-comm}
+use Rattle.laws.proofs.Tests.{and-l, and-r}
 use Rattle.laws.proofs.Trades.{framed-refl}
 use Rattle.laws.specs.Trades.{Framed, Pairwise, ended, then}
 use Rattle.rules.specs.Book.{Terms, Trade, User, bilateralForDay}
 use Rattle.rules.specs.Lists.{all, any}
-use Rattle.rules.specs.Questions.{known, tradeValid}
+use Rattle.rules.specs.Questions.{tradeValid}
 use Rattle.sales.proofs.Groups.{places-length}
 use Rattle.sales.proofs.Kept.{by-case, fails}
 use Rattle.sales.proofs.Origins.{grouped-ext}
-use Rattle.sales.proofs.Standing.{BySame, own-same, places-stay, written-append, written-past}
-use Rattle.sales.specs.Groups.{grouped, places, standingAt, standings, written}
+use Rattle.sales.proofs.Standing.{places-stay, written-append, written-past}
+use Rattle.sales.specs.Groups.{grouped, standingAt, written}
 use Rattle.sales.specs.Kept.{kept, placesOf}
-use Rattle.sales.specs.Sales.{ownSale, salesOf}
+use Rattle.sales.specs.Own.{OfTerms, Owned, OwnedAmong}
 
 -- trades, and in their place others where they pass a test
 mixed : (Trade → Bool) → List Trade → List Trade → List Trade
@@ -33,8 +32,8 @@ same-trade {t} {n} e f = ap₂ (λ (r : Terms) (s : ℕ). record { terms = r; st
 -- ---- one test
 
 -- what stands of those that pass, written at their places
-written-kept : (d : Trade) (p : Trade → Bool) → BySame p → {ts ns : List Trade} → Pairwise Framed ts ns → written d (placesOf p ts) (map (λ n. n .standing) (kept p ns)) ts ≡ mixed p ts ns
-unfolding written placesOf kept mixed standingAt BySame
+written-kept : (d : Trade) (p : Trade → Bool) → OfTerms p → {ts ns : List Trade} → Pairwise Framed ts ns → written d (placesOf p ts) (map (λ n. n .standing) (kept p ns)) ts ≡ mixed p ts ns
+unfolding written placesOf kept mixed standingAt OfTerms
 written-kept d p o ended = refl
 written-kept d p o (then {t = t} {n = n} {ts = ts} {ns = ns} f fs) =
     let rest = written-past d (placesOf p ts) (map (λ n. n .standing) (kept p ns)) in
@@ -67,51 +66,51 @@ mixed-none (then {t = t} f fs) = ap (λ (xs : List Trade). t ∷ xs) (mixed-none
 
 -- ---- all users
 
--- the trade is an own sale of some user
-ownOfSome : List User → Trade → Bool
-ownOfSome us t = any (λ u. ownSale (u .party .id) t) us
+module _ {own : ℕ → Trade → Bool} (o : Owned own) where
+  -- the trade is a sale of some user
+  ofSome : List User → Trade → Bool
+  ofSome us t = any (λ u. own (u .party .id) t) us
 
--- as many places as amounts
-many : (id : ℕ) {ts ns : List Trade} → Pairwise Framed ts ns → length (places ts id) ≡ length (standings ns id)
-unfolding salesOf
-many id {ts} {ns} f = ap length (sym (places-stay id f)) ∙ places-length (ownSale id) ns ∙ sym (length-map (kept (ownSale id) ns) (λ s. s .standing))
+  -- the places of a user's sales, and what stands of them
+  abbrev at : List Trade → ℕ → List ℕ
+  at ts id = placesOf (own id) ts
 
-written-users : (d : Trade) (us : List User) {ts ns : List Trade} → Pairwise Framed ts ns → written d (grouped (places ts) us) (grouped (standings ns) us) ts ≡ mixed (ownOfSome us) ts ns
-unfolding grouped written ownOfSome any salesOf
-written-users d [] f = sym (mixed-none f)
-written-users d (u ∷ us) {ts} {ns} f =
-    let id = u .party .id in
-    let own = mixed (ownSale id) ts ns in
-    let both = mixed-framed (ownSale id) f in
-    written-append d (places ts id) (standings ns id) (grouped (places ts) us) (grouped (standings ns) us) ts (many id f)
-    ∙ ap (written d (grouped (places ts) us) (grouped (standings ns) us)) (written-kept d (ownSale id) (own-same id) f)
-    ∙ ap (λ (is : List ℕ). written d is (grouped (standings ns) us) own) (grouped-ext (places ts) (places own) (λ i. sym (places-stay i (both .0))) us)
-    ∙ written-users d us (both .1)
-    ∙ mixed-twice (ownSale id) (ownOfSome us) f
+  abbrev stands : List Trade → ℕ → List ℕ
+  stands ts id = map (λ s. s .standing) (kept (own id) ts)
 
--- a trade of kind 0 and day 0 with a known seller is one
-own-known : (us : List User) (t : Trade) → bilateralForDay t ≡ true → T (known us (t .terms .seller)) → ownOfSome us t ≡ true
-unfolding ownOfSome any known ownSale
-own-known [] t e h = absurd h
-own-known (u ∷ us) t e h =
-    by-case (eqb (u .party .id) (t .terms .seller))
-    (λ k. rw (eqb-comm (t .terms .seller) (u .party .id) ∙ k, e) refl)
-    (λ k. rw (eqb-comm (t .terms .seller) (u .party .id) ∙ k) (own-known us t e (rw k at h)))
+  -- as many places as amounts
+  many : (id : ℕ) {ts ns : List Trade} → Pairwise Framed ts ns → length (at ts id) ≡ length (stands ns id)
+  many id {ts} {ns} f = ap length (sym (places-stay o id f)) ∙ places-length (own id) ns ∙ sym (length-map (kept (own id) ns) (λ s. s .standing))
 
--- of valid trades the others have nothing that differs
-mixed-all : (us : List User) {ts ns : List Trade} → Pairwise Framed ts ns → T (all (tradeValid us) ts) → mixed (ownOfSome us) ts ns ≡ ns
-unfolding mixed all
-mixed-all us ended v = refl
-mixed-all us (then {t = t} {n = n} {ts = ts} f fs) v =
-    let valid = and-l (tradeValid us t) (all (tradeValid us) ts) v in
-    ap₂ (λ (x : Trade) (xs : List Trade). x ∷ xs)
-    (by-case (bilateralForDay t)
-    (λ e. rw (own-known us t e (seller-known us t valid)) refl)
-    (λ e.
-    let same : t ≡ n = same-trade (f .terms) (f .other (fails e)) in
-    by-case (ownOfSome us t) (λ k. rw k refl) (λ k. rw k same)))
-    (mixed-all us fs (and-r (tradeValid us t) (all (tradeValid us) ts) v))
+  written-users : (d : Trade) (us : List User) {ts ns : List Trade} → Pairwise Framed ts ns → written d (grouped (at ts) us) (grouped (stands ns) us) ts ≡ mixed (ofSome us) ts ns
+  unfolding grouped written ofSome any
+  written-users d [] f = sym (mixed-none f)
+  written-users d (u ∷ us) {ts} {ns} f =
+      let id = u .party .id in
+      let mine = mixed (own id) ts ns in
+      let both = mixed-framed (own id) f in
+      written-append d (at ts id) (stands ns id) (grouped (at ts) us) (grouped (stands ns) us) ts (many id f)
+      ∙ ap (written d (grouped (at ts) us) (grouped (stands ns) us)) (written-kept d (own id) (o .of-terms id) f)
+      ∙ ap (λ (is : List ℕ). written d is (grouped (stands ns) us) mine) (grouped-ext (at ts) (at mine) (λ i. sym (places-stay o i (both .0))) us)
+      ∙ written-users d us (both .1)
+      ∙ mixed-twice (own id) (ofSome us) f
 
--- trades that differ in what stands of kind 0 and day 0 only: with what stands of the others' own sales written, they are the others
-pub whole : (d : Trade) (us : List User) {ts ns : List Trade} → Pairwise Framed ts ns → T (all (tradeValid us) ts) → written d (grouped (places ts) us) (grouped (standings ns) us) ts ≡ ns
-whole d us f v = written-users d us f ∙ mixed-all us f v
+  -- of valid trades the others have nothing that differs
+  mixed-all : (us : List User) → OwnedAmong own us → {ts ns : List Trade} → Pairwise Framed ts ns → T (all (tradeValid us) ts) → mixed (ofSome us) ts ns ≡ ns
+  unfolding mixed all ofSome
+  mixed-all us a ended v = refl
+  mixed-all us a (then {t = t} {n = n} {ts = ts} f fs) v =
+      let valid = and-l (tradeValid us t) (all (tradeValid us) ts) v in
+      ap₂ (λ (x : Trade) (xs : List Trade). x ∷ xs)
+      (by-case (ofSome us t) (λ k. rw k refl)
+      (λ k. rw k (same-trade (f .terms) (f .other (not-by (bilateralForDay t) (λ h. T-not (ofSome us t) (fails k) (a .some t valid h)))))))
+      (mixed-all us a fs (and-r (tradeValid us t) (all (tradeValid us) ts) v))
+    where
+      not-by : (c : Bool) → (T c → ⊥) → T (not c)
+      not-by true h = h tt
+      not-by false h = tt
+
+  -- trades that differ in what stands of kind 0 and day 0 only: with what stands of the others' own sales written, they are the others
+  pub whole : (d : Trade) (us : List User) → OwnedAmong own us → {ts ns : List Trade} → Pairwise Framed ts ns → T (all (tradeValid us) ts)
+      → written d (grouped (λ id. placesOf (own id) ts) us) (grouped (λ id. map (λ s. s .standing) (kept (own id) ns)) us) ts ≡ ns
+  whole d us a f v = written-users d us f ∙ mixed-all us a f v
