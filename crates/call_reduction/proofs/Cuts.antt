@@ -38,9 +38,11 @@ use Rattle.run_reduction.specs.Reductions.{Reached, RunOf, shortIn}
 use Rattle.sales.proofs.Cover.{has-eligible-sales}
 use Rattle.sales.proofs.Cuts.{cuts-sales}
 use Rattle.sales.proofs.FirstCuts.{own-cuts-length}
+use Rattle.sales.proofs.Own.{own-eligible, own-sales}
 use Rattle.sales.proofs.Reduced.{sales-reduced}
 use Rattle.sales.specs.Parts.{part}
 use Rattle.sales.specs.Reduced.{ownCuts, ownSales}
+use Rattle.sales.specs.Sales.{ownSale}
 use Rattle.call_reduction.specs.Books.{UserOf, allSales}
 use Rattle.call_reduction.specs.Call.{Gives, levelQuestions, onSales}
 use Rattle.call_reduction.specs.States.{refusedBy}
@@ -158,8 +160,8 @@ module _ {f : Prices} {s : List ℕ} {place : ℕ} {sellers parties ps : List �
           let ts = bookOf s .trades in
           ap (withTrades (bookOf s))
           (ap₂ (λ (xs ys : List ℕ). loweredAt xs ys ts) (own-origins (l .sales) place inside-users) lost
-          ∙ own-lowered ts (u .party .id) (ownCuts (bookOf s) u asked) (own-cuts-length (bookOf s) u asked)
-          ∙ ap (λ (xs : List ℕ). cutAll xs ts) (sym (cuts-sales (bookOf s) u asked)))
+          ∙ own-lowered ts (u .party .id) (ownCuts (bookOf s) u asked) (own-cuts-length own-sales (bookOf s) u asked)
+          ∙ ap (λ (xs : List ℕ). cutAll xs ts) (sym (cuts-sales (bookOf s) u (ownSale (u .party .id)) (own-eligible (bookOf s) u) asked)))
 
       pub own-reduced : {left : Bool} → left ≡ any (λ n. ltb 0 n) (part (getD ss place 0) (getD ss (place + 1) 0) ns) → left ≡ true → {tally : Tally}
           → ((xs : List Trade) → map (λ t. t .terms .area) xs ≡ part (getD ss place 0) (getD ss (place + 1) 0) areaCodes

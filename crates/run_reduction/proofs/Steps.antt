@@ -34,6 +34,7 @@ use Rattle.run_reduction.specs.Reductions.{Reached, Reducible, RunOf, sh
 use Rattle.sales.proofs.FirstCuts.{first-bound, first-none, own-cut-le, own-cuts-length}
 use Rattle.sales.proofs.Listed.{starts-rise}
 use Rattle.sales.proofs.Numbers.{less-length, read-at}
+use Rattle.sales.proofs.Own.{own-sales}
 use Rattle.sales.proofs.Parts.{Around, around-sets, part-here, part-length, part-most, part-stored}
 use Rattle.sales.proofs.Valid.{Sale, sale-at}
 use Rattle.sales.specs.Groups.{starts}
@@ -173,8 +174,8 @@ module _ {limits : Limits} {f : Prices} {s sums ss areaCodes bs : List ℕ} (q :
       -- a position of one of the users, in the array
       near : (i area : ℕ) → i < length (b .users) → area < 3 → (51200000 ≤ getD ps (3 * i + area) 0) × (getD ps (3 * i + area) 0 + 51200000 < 2 ^ 32)
       near i area l m =
-          let bound = first-bound b user 0 (h .sound) 0 i area l m in
-          let same = ap (λ (us : List User). at (getD us i nobody .position) area) (first-none b user 0) in
+          let bound = first-bound own-sales b user 0 (h .sound) 0 i area l m in
+          let same = ap (λ (us : List User). at (getD us i nobody .position) area) (first-none own-sales b user 0) in
           let here = h .positions .each i area l m in
           let x = parts-net (record { 0 = getD ps (3 * i + area) 0 }) in
           let p : posPart (positionIn ps i area) ≤ 26600000 = omega (arith, bound .0, ap posPart same, ap posPart here) in
@@ -215,7 +216,7 @@ module _ {limits : Limits} {f : Prices} {s sums ss areaCodes bs : List ℕ} (q :
         -- the user's part of the cuts has them, and the rest is as it was
         module _ (cs cs₀ xs : List ℕ) (c : cs ≡ sets cs₀ (getD ss place 0) xs) (room : length cs₀ ≡ 256) (own : xs ≡ ownCuts b (getD (b .users) place nobody) asked) where
           cuts-many : length xs ≡ to - from
-          cuts-many = ap length own ∙ own-cuts-length b user asked ∙ sales-many
+          cuts-many = ap length own ∙ own-cuts-length own-sales b user asked ∙ sales-many
 
           pub cuts-room : length cs ≡ 256
           cuts-room = ap length c ∙ length-sets cs₀ from xs ∙ room
@@ -236,7 +237,7 @@ module _ {limits : Limits} {f : Prices} {s sums ss areaCodes bs : List ℕ} (q :
             omega (
               arith,
               sym (part-here cs from to i 0 l m) ∙ ap (λ (ys : List ℕ). getD ys (i - from) 0) own,
-              own-cut-le b user asked (i - from),
+              own-cut-le own-sales b user asked (i - from),
               sym (part-here ns from to i 0 l m) ∙ ap (λ (ys : List ℕ). getD ys (i - from) 0) own-standing,
             )
 
