@@ -1,21 +1,16 @@
--- Laws of the walks over trades in bytes: the one that gathers dealings, and a search, in which what is left to look at has the whole answer. Assumes nothing.
-use mathlib.Core.Bool.{Bool, false, true, _||_}
+-- Laws of a search through trades in bytes, in which what is left to look at has the whole answer. Assumes nothing.
+use mathlib.Core.Bool.{Bool, false, true}
 use mathlib.Core.List.{List, [], _∷_, map}
-use mathlib.Core.Path.{_≡_, _∙_, ap, refl, subst, sym}
+use mathlib.Core.Path.{_≡_, _∙_, ap, refl, sym}
 use Prim.Native.Nat.{ℕ, suc, zero, _+_, _-_, _*_, _<_, _≤_}
 use native.Mathlib.Omega.{arith}
-use lib.Dec.{T, eqb}
 use lib.ListN.{drop, getD, length, take}
 use lib.Seq.{drop-drop}
-use Rattle.rules.specs.Book.{Trade, bought, sold}
+use Rattle.rules.specs.Book.{Trade}
 use Rattle.rules.specs.Lists.{any}
 use Rattle.fields.proofs.Records.{getD-recordsOf, length-recordsOf}
 use Rattle.fields.specs.Layout.{recordsOf}
 use Rattle.records.specs.Trade.{tradeOf}
-use Rattle.dealings.specs.declared.Dealings.{Dealings}
-use Rattle.dealings.specs.Dealt.{Counted, Dealt}
-use Rattle.dealings.proofs.Gathered.{dealt-most, dealt-next, raised-one}
-use Rattle.dealings.proofs.Raising.{raised-none}
 use Rattle.dealings.proofs.Search.{Left, left-all, left-found, left-next, left-none}
 use Rattle.format.specs.Questions.{partsOf}
 
@@ -38,51 +33,6 @@ module _ (s : List ℕ) (at m : ℕ) where
   part-at : (i a n : ℕ) → a ≡ at + 20 * i → i < m → n ≡ 20 → getD parts i [] ≡ take n (drop a s)
   unfolding partsOf
   part-at i a n e h k = getD-recordsOf 20 (λ (c : List ℕ). c) m i (drop at s) [] h ∙ rw (drop-drop, e, k)
-
--- ---- dealings
-
--- two tests that together fail
-neither : (a b : Bool) → (a || b) ≡ false → (a ≡ false) × (b ≡ false)
-neither true b h = absurd (subst T h tt)
-neither false b h = (refl, h)
-
--- a trade between others gives a user nothing, on either side and for either day
-pub counted-none : (id : ℕ) (t : Trade) (d : Dealings) → (eqb (t .terms .seller) id || eqb (t .terms .buyer) id) ≡ false → Counted id t d d
-unfolding sold bought
-counted-none id t d h =
-    let others = neither (eqb (t .terms .seller) id) (eqb (t .terms .buyer) id) h in
-    record {
-      sold = raised-one (λ s. s .seller) id 0 t (raised-none (λ area. rw (others .0)));
-      bought = raised-one (λ s. s .buyer) id 0 t (raised-none (λ area. rw (others .1)));
-      sold-next = raised-one (λ s. s .seller) id 1 t (raised-none (λ area. rw (others .0)));
-      bought-next = raised-one (λ s. s .buyer) id 1 t (raised-none (λ area. rw (others .1)));
-    }
-
--- where i of m trades are counted: the next one stands at a
-pub record Gathering (s : List ℕ) (at m id : ℕ) (d : Dealings) (i a : ℕ) : Type 0 where
-  pub place : a ≡ at + 20 * i
-  pub within : i ≤ m
-  pub gathered : Dealt i id (map tradeOf (take i (partsOf 20 m (drop at s)))) d
-
-module _ {s : List ℕ} {at m id : ℕ} where
-  pub gathering-start : {d : Dealings} → Dealt 0 id [] d → Gathering s at m id d 0 at
-  gathering-start h = record { place = omega arith; within = omega arith; gathered = h }
-
-  pub gathering-turn : {d r : Dealings} {i a : ℕ} {t : Trade} → Gathering s at m id d i a → i < m → t ≡ tradeOf (take (a + 20 - a) (drop a s)) → Counted id t d r
-      → Gathering s at m id r (i + 1) (a + 20)
-  gathering-turn {d} {r} {i} {a} {t} before h e counted =
-      let k : a + 20 - a ≡ 20 = omega arith in
-      let u : t ≡ tradeOf (getD (partsOf 20 m (drop at s)) i []) = e ∙ ap tradeOf (sym (part-at s at m i a (a + 20 - a) (before .place) h k)) in
-      record {
-        place = omega (arith, before .place);
-        within = omega arith;
-        gathered = dealt-next tradeOf (partsOf 20 m (drop at s)) i [] (rw (length-parts s at m) h) id (before .gathered) (subst (λ (x : Trade). Counted id x d r) u counted);
-      }
-
-  pub gathering-end : {d : Dealings} {i a : ℕ} → Gathering s at m id d i a → m ≤ i → m ≤ 256 → Dealt 256 id (recordsOf 20 tradeOf m (drop at s)) d
-  gathering-end {d} {i} before h k =
-      let e : i ≡ m = omega (arith, before .within) in
-      dealt-most 256 k (subst (λ (ts : List Trade). Dealt m id ts d) (parts-trades m (drop at s)) (rw e at (before .gathered)))
 
 -- ---- a search
 

@@ -1,59 +1,30 @@
-// What a call needs of one user of an accepted book in bytes: the user's record, the prices, and what the user dealt in the trades; and whether the user is
-// called in. Nothing but that is read.
+// What a call needs of one user of an accepted book in bytes: the user's record, the prices, and what the user dealt, which the questions have told; and whether the
+// user is called in. Nothing but that is read.
 use dealings::Amounts;
 use dealings::Dealings;
 use levels::Limits;
-use records::Trade;
 use records::User;
 use units::Mwh;
 use units::Prices;
 ghost use mathlib.Core.Path.{_≡_};
 ghost use mathlib.Core.List.{List};
-ghost use Prim.Native.Nat.{_+_, _*_, _≤_, _<_, _^_};
+ghost use Prim.Native.Nat.{_+_, _*_, _≤_, _<_};
 ghost use lib.ListN.{length, drop, getD};
 ghost use Rattle.rules.specs.Book as model;
 ghost use Rattle.rules.specs.Book.{nobody};
 ghost use Rattle.rules.specs.Levels.{calledIn};
 ghost use Rattle.fields.specs.Layout.{recordsOf};
 ghost use Rattle.records.specs.User.{asUser};
-ghost use Rattle.records.specs.Trade.{tradeOf, asTrade};
+ghost use Rattle.records.specs.Trade.{tradeOf};
 ghost use Rattle.format.specs.Book.{userCount, usersOf, tradesOf, bookOf};
 ghost use Rattle.format.specs.Questions.{Formed, bookNumber};
-ghost use Rattle.dealings.specs.Dealt.{Dealt, Counted, AllWithin};
+ghost use Rattle.dealings.specs.Dealt.{Dealt};
 ghost use Rattle.dealings.specs.Parties.{isCut, cutBefore};
 ghost use Rattle.levels.specs.Limits.{asLimits, LimitsInRange};
 ghost use Rattle.positions.specs.Twelve.{TwelveOf, Low};
 ghost use Rattle.account.specs.Account.{Ready, AccountIn, AccountAt, AmountsFrom};
 
-// ---- the trades
-
-// The dealings with one trade more, of the user of an id. Most trades are between others, and are passed over.
-fn counted(dealings: Dealings, t: Trade, id: u32) -> Dealings
-    requires { ⌜ AllWithin (2 ^ 63) dealings ⌝ }
-    ensures { λ r. ⌜ Counted id (asTrade t) dealings r ⌝ }
-{
-    if (t.seller == id) | (t.buyer == id) {
-        return dealings.counted(t, id);
-    }
-    dealings
-}
-
-// The dealings of the user of an id in the m trades that stand from `at`.
-fn dealings_in(s: &[u8], at: usize, m: usize, id: u32) -> Dealings
-    requires { ⌜ (m ≤ 256) × (at + 20 * m ≤ length (now s)) ⌝ }
-    ensures { λ r. ⌜ Dealt 256 id (recordsOf 20 tradeOf m (drop at (now (s .entry)))) r ⌝ }
-{
-    let mut dealings = Dealings::none();
-    let mut i = 0;
-    let mut a = at;
-    while i < m {
-        let t = records::read_trade(&s[a..a + 20]);
-        dealings = counted(dealings, t, id);
-        a += 20;
-        i += 1;
-    }
-    dealings
-}
+// ---- the dealings
 
 // A sum as an energy.
 fn energy(sum: u32) -> Mwh
@@ -95,6 +66,8 @@ fn dealings_from(sums: &[u32; 768], place: usize) -> Dealings
         bought_next: bought_next,
     }
 }
+
+// ---- trades standing below notified
 
 // Is the user of an id party to the trade of 20 bytes, and stands less than was notified?
 fn is_cut(c: &[u8], id: u32) -> bool
@@ -144,25 +117,7 @@ pub fn user_at(s: &[u8], place: usize) -> User
     records::read_user(&s[a..a + 56])
 }
 
-// The account of the user at a place of an accepted book.
-pub fn account_at(s: &[u8], place: usize) -> Account
-    requires { ⌜ bookNumber (now s) ≡ 0 ⌝ }
-    requires { ⌜ place < userCount (now s) ⌝ }
-    ensures { λ r. ⌜ AccountAt (now (s .entry)) place r ⌝ }
-{
-    let n = fields::get_u8(s, 5) as usize;
-    let m = fields::get_u16(s, 6) as usize;
-    let user = user_at(s, place);
-    let prices = header::read_prices(s);
-    let dealings = dealings_in(s, 32 + 56 * n, m, user.id);
-    Account {
-        user: user,
-        prices: prices,
-        dealings: dealings,
-    }
-}
-
-// The same by the sums that the questions told: no trade is read.
+// The account of the user at a place of an accepted book, by the sums that its questions told: no trade is read.
 pub fn account_from(s: &[u8], place: usize, sums: &[u32; 768]) -> Account
     requires { ⌜ bookNumber (now s) ≡ 0 ⌝ }
     requires { ⌜ place < userCount (now s) ⌝ }

@@ -16,7 +16,7 @@ ghost use Rattle.call_reduction.specs.Call.{reductionOf};
 ghost use Rattle.call_run.specs.Call.{runCall};
 ghost use Rattle.opening.specs.Opened.{Opened};
 ghost use Rattle.transfer.specs.Written.{Written};
-ghost use Rattle.shown.specs.Shown.{Shown, picked};
+ghost use Rattle.shown.specs.Shown.{PartOf, Shown, picked, pickedAt};
 use answers::CallAnswer;
 use answers::LevelAnswer;
 use answers::ReductionAnswer;
@@ -42,6 +42,7 @@ pub fn write(book: Book, out: &mut [u8]) -> u32
 // The 56 bytes of a user's record as that part of the book, and 0; or the empty part and the number of the first question that is answered by no.
 pub fn show<'a>(book: &'a [u8], id: u32, number: &mut u32) -> &'a [u8]
     ensures { λ r. ⌜ Shown (now (book .entry)) id (now (number .exit)) (now r) ⌝ }
+    ensures { λ r. ⌜ PartOf (now (book .entry)) id (book .entry .ptr) (r .ptr) ⌝ }
 {
     shown::show(book, id, number)
 }
@@ -55,6 +56,7 @@ pub fn show_picked<'a>(
     number: &mut u32,
 ) -> &'a [u8]
     ensures { λ r. ⌜ Shown (picked «afternoon_picked» (now (morning .entry)) (now (afternoon .entry))) id (now (number .exit)) (now r) ⌝ }
+    ensures { λ r. ⌜ PartOf (picked «afternoon_picked» (now (morning .entry)) (now (afternoon .entry))) id (pickedAt «afternoon_picked» (morning .entry .ptr) (afternoon .entry .ptr)) (r .ptr) ⌝ }
 {
     shown::show_picked(morning, afternoon, afternoon_picked, id, number)
 }

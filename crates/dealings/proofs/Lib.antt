@@ -1,5 +1,5 @@
 -- Laws of dealings, and of a search through the first trades.
-pub mod Raising
-pub mod Gathered
+pub mod Energies
+pub mod Bounds
 pub mod Search
 pub mod Ruled

@@ -1,9 +1,9 @@
 -- The dealings of a user: what the rules say that was sold and bought in each area, for d and for d+1. Assumes nothing.
-use mathlib.Core.List.{List, [], _∷_}
+use mathlib.Core.List.{List}
 use Prim.Native.Nat.{ℕ, _*_}
 use Rattle.rules.specs.Book as model
 use Rattle.dealings.specs.declared.Dealings.{Dealings}
-use Rattle.dealings.specs.Energies.{Within, Raised, Totals}
+use Rattle.dealings.specs.Energies.{Within, Totals}
 
 -- the dealings of the user of an id in trades, no energy above what n trades can have: 2^32 − 1 MWh each
 pub record Dealt (n id : ℕ) (ts : List model.Trade) (d : Dealings) : Type 0 where
@@ -11,13 +11,6 @@ pub record Dealt (n id : ℕ) (ts : List model.Trade) (d : Dealings) : Type 0 wh
   pub bought : Totals (λ area. model.bought ts id area 0) (n * 4294967295) (d .bought)
   pub sold-next : Totals (λ area. model.sold ts id area 1) (n * 4294967295) (d .«sold_next»)
   pub bought-next : Totals (λ area. model.bought ts id area 1) (n * 4294967295) (d .«bought_next»)
-
--- r is d with the dealings in one trade more
-pub record Counted (id : ℕ) (t : model.Trade) (d r : Dealings) : Type 0 where
-  pub sold : Raised (λ area. model.sold (t ∷ []) id area 0) 4294967295 (d .sold) (r .sold)
-  pub bought : Raised (λ area. model.bought (t ∷ []) id area 0) 4294967295 (d .bought) (r .bought)
-  pub sold-next : Raised (λ area. model.sold (t ∷ []) id area 1) 4294967295 (d .«sold_next») (r .«sold_next»)
-  pub bought-next : Raised (λ area. model.bought (t ∷ []) id area 1) 4294967295 (d .«bought_next») (r .«bought_next»)
 
 -- no energy is above `most`
 pub record AllWithin (most : ℕ) (d : Dealings) : Type 0 where

@@ -1,6 +1,6 @@
--- Energies per area: how they are read, bounded, raised and known to be sums. Assumes nothing.
+-- Energies per area: how they are read, bounded and known to be sums. Assumes nothing.
 use mathlib.Core.Path.{_≡_}
-use Prim.Native.Nat.{ℕ, zero, suc, _+_, _≤_, _<_}
+use Prim.Native.Nat.{ℕ, zero, suc, _≤_, _<_}
 use Rattle.dealings.specs.declared.Amounts.{Amounts}
 
 -- the energy of an area in MWh: 0 PVB, 1 TVB, any other AVB
@@ -14,13 +14,6 @@ pub record Within (most : ℕ) (v : Amounts) : Type 0 where
   pub pvb : v .pvb .0 ≤ most
   pub tvb : v .tvb .0 ≤ most
   pub avb : v .avb .0 ≤ most
-
--- each is raised by what is given for its area, and by `most` at the most
-pub record Raised (given : ℕ → ℕ) (most : ℕ) (v r : Amounts) : Type 0 where
-  pub each : (area : ℕ) → area < 3 → amountOf r area ≡ amountOf v area + given area
-  pub pvb : r .pvb .0 ≤ v .pvb .0 + most
-  pub tvb : r .tvb .0 ≤ v .tvb .0 + most
-  pub avb : r .avb .0 ≤ v .avb .0 + most
 
 -- each is the total of its area, and none is above `most`
 pub record Totals (total : ℕ → ℕ) (most : ℕ) (v : Amounts) : Type 0 where

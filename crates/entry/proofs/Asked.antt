@@ -3,9 +3,9 @@ use mathlib.Core.List.{List, [], _++_, _∷_, append-assoc}
 use mathlib.Core.Option.{some}
 use mathlib.Core.Path.{_≡_, _∙_}
 use Prim.Native.Nat.{_≤_, ℕ}
-use lib.Dec.{T}
 use Rattle.entry.specs.Entered.{Entered, Found, SumsFound}
-use Rattle.questions.specs.Asked.{AskedOf, Summed, pastSix}
+use Rattle.questions.specs.Asked.{AskedOf, Summed}
+use Rattle.questions.proofs.Asked.{sums-told}
 use Rattle.format.proofs.Formed.{book-passed, book-refused}
 use Rattle.format.proofs.OneUser.{known-place, unknown-place}
 use Rattle.format.specs.Book.{bookOf, tradesOf, userCount, usersOf}
@@ -38,16 +38,11 @@ entry-unread s id n e h = refusal-first (aboutBytes s) (idKnown (bookOf s) id �
 
 -- ---- the sums
 
--- 0 is past question 6
-past-none : {k : ℕ} → k ≡ 0 → T (pastSix k)
-unfolding pastSix
-past-none e = rw e tt
-
 -- where the user is found, no question refused
 pub sums-found : {s : List ℕ} {id k read count number place : ℕ} {sellers buyers sums : List ℕ} → AskedOf s k sellers buyers
     → Summed (usersOf s) (tradesOf s) count k read sums → Entered s id number place → SumsFound s number sums
 sums-found asked summed entered =
     record {
-      twelve = λ e. summed .twelve (past-none (asked .number ∙ entered .found e .passes));
-      low = λ e. summed .low (past-none (asked .number ∙ entered .found e .passes));
+      twelve = λ e. sums-told summed (asked .number ∙ entered .found e .passes) .0;
+      low = λ e. sums-told summed (asked .number ∙ entered .found e .passes) .1;
     }

@@ -1,19 +1,19 @@
-// Figures of document 01, run: each call of the file `calls` is made on its book, and its place, its kind, its number and its fields are printed, a line each; after a call
-// that may change the book, the user's record too, in hexadecimal. data/index says what each call shows.
-// In the file a call is its kind (1 byte), id (4), area (4), amount (8, two's complement), the length of its book (2), and the book.
-
+// Calls of document 01, run and printed, of two files; NAME.index says what each call of the file NAME shows.
+// File `calls`: each call is made on its book, and its place, its kind, its number and its fields are printed, a line each; after a call that may change the book, the user's
+// record too, in hexadecimal. In the file a call is its kind (1 byte), id (4), area (4), amount (8, two's complement), the length of its book (2), and the book.
+// File `reductions`: for each are printed a line of its place, its number, MWh, worth, target, short and over; a line of what stands of every trade of the book afterwards; and a
+// line of id and positions for each user. In the file a reduction is an id (4 bytes), the length of its book (2), and the book; where the length is 0, it is made on the book that
+// the one before it left.
+ghost use Prim.Native.Nat.{_≤_, max};
 use answers::CallAnswer;
 use answers::LevelAnswer;
+use answers::ReductionAnswer;
+use book::Book;
 use libc::STDOUT_FILENO;
+use records::User;
 
 // The least number whose top bit is set: 2^63.
 const TOP: u64 = 9223372036854775808;
-
-// A space and a number.
-fn number(n: u64) {
-    io::write_all(STDOUT_FILENO, b" ");
-    io::print_decimal(STDOUT_FILENO, n);
-}
 
 // The amount that 64 bits stand for. Where the top bit is set it is −1 − rest, which is !rest.
 fn amount_of(bits: u64) -> i64 {
@@ -26,16 +26,16 @@ fn amount_of(bits: u64) -> i64 {
 
 fn print_level(answer: LevelAnswer) {
     let level = answer.level;
-    number(answer.number as u64);
-    number(level.0);
+    print::number(answer.number as u64);
+    print::number(level.0);
 }
 
 fn print_call(answer: CallAnswer) {
     let level = answer.level;
     let added = answer.added;
-    number(answer.number as u64);
-    number(level.0);
-    number(added.0);
+    print::number(answer.number as u64);
+    print::number(level.0);
+    print::number(added.0);
 }
 
 // A space and bytes in hexadecimal.
@@ -66,8 +66,8 @@ fn ask(kind: u8, book: &[u8], id: u32) {
         return;
     }
     let answer = daybook::warning(book, id);
-    number(answer.number as u64);
-    number(answer.warned as u64);
+    print::number(answer.number as u64);
+    print::number(answer.warned as u64);
 }
 
 // A call that may change the book.
@@ -80,7 +80,7 @@ fn change(kind: u8, book: &mut [u8], id: u32, area: u32, amount: i64) {
         print_call(daybook::afternoon_call(book, id));
         return;
     }
-    number(daybook::posting(book, id, area, amount) as u64);
+    print::number(daybook::posting(book, id, area, amount) as u64);
 }
 
 // A call: 0 posting, 1 morning level, 2 afternoon level, 3 warning, 4 morning call, 5 afternoon call.
@@ -96,13 +96,13 @@ fn call(kind: u8, book: &mut [u8], id: u32, area: u32, amount: i64) {
 // The call at a place of the file, as a line.
 fn make(place: u64, kind: u8, book: &mut [u8], id: u32, area: u32, amount: i64) {
     io::print_decimal(STDOUT_FILENO, place);
-    number(kind as u64);
+    print::number(kind as u64);
     call(kind, book, id, area, amount);
     io::write_all(STDOUT_FILENO, b"\n");
 }
 
-// Makes every call of the file, up to the last that is whole.
-fn make_all(file: &mut [u8]) {
+// Makes every call of the file `calls`, up to the last that is whole.
+fn make_calls(file: &mut [u8]) {
     let mut at = 0;
     let mut place = 0;
     while 19 <= file.len() - at {
@@ -129,8 +129,118 @@ fn make_all(file: &mut [u8]) {
     }
 }
 
-fn main() {
-    let path = b"calls";
+// What a reduction answered.
+fn print_answer(answer: ReductionAnswer) {
+    let mwh = answer.mwh;
+    let worth = answer.worth;
+    let target = answer.target;
+    let short = answer.short;
+    let over = answer.over;
+    print::number(answer.number as u64);
+    print::number(mwh.0);
+    print::number(worth.0);
+    print::number(target.0);
+    print::number(short.0);
+    print::number(over.0);
+}
+
+// What stands of every trade, in a line.
+fn print_standing(b: Book)
+    requires { ⌜ b .«trade_count» ≤ 256 ⌝ }
+{
+    let n = b.trade_count as usize;
+    let trades = b.trades;
+    let mut i = 0;
+    io::write_all(STDOUT_FILENO, b"standing");
+    while i < n {
+        let trade = trades[i];
+        print::number(trade.standing as u64);
+        i += 1;
+    }
+    io::write_all(STDOUT_FILENO, b"\n");
+}
+
+// The id and the positions of a user, in a line.
+fn print_user(user: User) {
+    let position = user.position;
+    io::print_decimal(STDOUT_FILENO, user.id as u64);
+    print::nets(position);
+    io::write_all(STDOUT_FILENO, b"\n");
+}
+
+// Every user.
+fn print_users(b: Book)
+    requires { ⌜ b .«user_count» ≤ 64 ⌝ }
+{
+    let n = b.user_count as usize;
+    let users = b.users;
+    let mut i = 0;
+    while i < n {
+        let user = users[i];
+        print_user(user);
+        i += 1;
+    }
+}
+
+// The trades and the users of a book in bytes; none where it is refused.
+fn print_book(bytes: &[u8]) {
+    let opening = daybook::read(bytes);
+    let b = opening.book;
+    print_standing(b);
+    print_users(b);
+}
+
+// The reduction at a place of the file.
+fn reduce(place: u64, id: u32, book: &mut [u8]) {
+    io::print_decimal(STDOUT_FILENO, place);
+    print_answer(daybook::reduction(book, id));
+    io::write_all(STDOUT_FILENO, b"\n");
+    print_book(book);
+}
+
+// Where a book stands in the file.
+struct Part {
+    start: usize,
+    end: usize,
+}
+
+// The part of a reduction: that from `start` to `end`, or that of the one before where it is empty.
+fn part_of(start: usize, end: usize, last: Part) -> Part
+    requires { ⌜ (start ≤ end) × (last .start ≤ last .end) ⌝ }
+    ensures { λ r. ⌜ (r .start ≤ r .end) × (r .end ≤ max end (last .end)) ⌝ }
+{
+    if start == end {
+        return last;
+    }
+    Part {
+        start: start,
+        end: end,
+    }
+}
+
+// Makes every reduction of the file `reductions`, up to the last that is whole.
+fn make_reductions(file: &mut [u8]) {
+    let mut at = 0;
+    let mut place = 0;
+    let mut part = Part { start: 0, end: 0 };
+    while 6 <= file.len() - at {
+        let id = fields::get_u32(file, at);
+        let len = fields::get_u16(file, at + 4) as usize;
+        let own = at + 6;
+        if file.len() - own < len {
+            return;
+        }
+        at = own + len;
+        part = part_of(own, at, part);
+        let start = part.start;
+        let end = part.end;
+        reduce(place, id, &mut file[start..end]);
+        place += 1;
+    }
+}
+
+// The calls of the file of a name: reductions, or calls of the other kinds.
+fn make_file(path: &[u8], reductions: bool) {
     let fd = os::open_read(path);
     if fd < 0 {
         os::fail(path);
@@ -139,5 +249,14 @@ fn main() {
     let mut file = io::large_buffer();
     let n = io::read_full(fd, &mut file);
     libc::close(fd);
-    make_all(&mut file[..n]);
+    if reductions {
+        make_reductions(&mut file[..n]);
+        return;
+    }
+    make_calls(&mut file[..n]);
+}
+
+fn main() {
+    make_file(b"calls", false);
+    make_file(b"reductions", true);
 }

@@ -63,7 +63,19 @@ module _ (s : List ℕ) (f : Formed s) where
       ∙ ap (recordsOf 20 tradeOf m) (ap (drop 3616) (sym (append-assoc (take 32 s) users (padded 5120 all))) ∙ drop-at (take 32 s ++ users) (padded 5120 all) 3616 front)
       ∙ records-front 20 tradeOf m all _ k
 
-  same-counts : (userCount (imageOf s) ≡ userCount s) × (tradeCount (imageOf s) ≡ tradeCount s)
+  -- an image has one length, whatever the counts
+  pub image-length : length (imageOf s) ≡ 8736
+  unfolding imageOf tradesAt userAt
+  image-length =
+      let users = take (56 * userCount s) (drop 32 s) in
+      let trades = drop (32 + 56 * userCount s) s in
+      let u : length (padded 3584 users) ≡ 3584 = length-padded 3584 users (rw (length-take, length-drop) (omega (arith, f .users))) in
+      let t : length (padded 5120 trades) ≡ 5120 = length-padded 5120 trades (rw length-drop (omega (arith, f .whole, f .trades))) in
+      length-append (take 32 s) (padded 3584 users ++ padded 5120 trades)
+      ∙ omega (arith, header-length, u, t, length-append (padded 3584 users) (padded 5120 trades))
+
+  -- the counts of the image are the book's
+  pub same-counts : (userCount (imageOf s) ≡ userCount s) × (tradeCount (imageOf s) ≡ tradeCount s)
   unfolding userCount tradeCount
   same-counts = (same-field 1 5 (omega arith), same-field 2 6 (omega arith))
 

@@ -1,15 +1,12 @@
-// What each user sold and bought, counted trade by trade, and question 7: is every position as defined by it?
+// What each user sold and bought in each area for each day, counted trade by trade, and question 7: is every position as defined by it?
 ghost use mathlib.Core.Path.{_≡_};
-ghost use mathlib.Core.Bool.{cond};
-ghost use lib.Dec.{eqb};
 ghost use Prim.Native.Nat.{_+_, _*_, _≤_, _<_};
-ghost use lib.ListN.{length, take};
+ghost use lib.ListN.{length};
 ghost use Rattle.units.specs.Amounts.{net};
 ghost use Rattle.records.specs.User.{asUser};
 ghost use Rattle.records.specs.Trade.{asTrade};
-ghost use Rattle.places.specs.Ids.{usersFrom, tradesFrom};
+ghost use Rattle.places.specs.Ids.{usersFrom};
 ghost use Rattle.positions.specs.Positions.{positionAs, positionsFrom, PositionsAsked};
-ghost use Rattle.positions.specs.Sums.{Sums, Counted, Countable, Gatherable};
 ghost use Rattle.positions.specs.Twelve.{added, Addable};
 use records::Trade;
 use records::User;
@@ -25,56 +22,6 @@ pub fn add_trade(sums: &mut [u32; 768], place: usize, side: usize, t: Trade)
     let k = 12 * place + 6 * side + 3 * (t.day as usize) + t.area as usize;
     let x = sums[k];
     sums[k] = x + t.standing;
-}
-
-// ---- the sums of one side and day: three areas for each user, in the order of the users
-
-// What stands of a trade where it is for a day, else 0. The product has no branch, which a processor would foresee only half of the times.
-fn amount_for(t: Trade, day: u8) -> u64
-    ensures { λ r. ⌜ (r ≡ cond (eqb (t .day) day) (t .standing) 0) × (r ≤ 4294967295) ⌝ }
-{
-    let standing = t.standing;
-    let is = t.day == day;
-    standing as u64 * (is as u64)
-}
-
-// Counts a trade for its party at a place: where it is for a day, what stands is added in its area.
-pub fn count(place: usize, t: Trade, day: u8, sums: &mut [u64])
-    requires { ⌜ Countable place (asTrade t) (now sums) ⌝ }
-    ensures { λ _. ⌜ Counted day place (asTrade t) (now (sums .entry)) (now (sums .exit)) ⌝ }
-{
-    let k = 3 * place + t.area as usize;
-    let x = sums[k];
-    sums[k] = x + amount_for(t, day);
-}
-
-// Gathers what is sold and bought for a day at each place in the m trades from byte `at` on, by the places of their sellers and buyers.
-pub fn gather(
-    s: &[u8],
-    at: usize,
-    m: usize,
-    day: u8,
-    sellers: &[u8],
-    buyers: &[u8],
-    sold: &mut [u64],
-    bought: &mut [u64],
-)
-    requires { ⌜ (m ≤ 256) × (at + 20 * m ≤ length (now s)) ⌝ }
-    requires { ⌜ Gatherable (tradesFrom at m (now s)) (now sellers) (now buyers) (now sold) (now bought) ⌝ }
-    ensures { λ _. ⌜ Sums day (take m (now (sellers .entry))) (tradesFrom at m (now (s .entry))) (256 * 4294967295) (now (sold .exit)) ⌝ }
-    ensures { λ _. ⌜ Sums day (take m (now (buyers .entry))) (tradesFrom at m (now (s .entry))) (256 * 4294967295) (now (bought .exit)) ⌝ }
-{
-    let mut i = 0;
-    let mut a = at;
-    while i < m {
-        let t = records::read_trade(&s[a..a + 20]);
-        let seller = sellers[i] as usize;
-        let buyer = buyers[i] as usize;
-        count(seller, t, day, sold);
-        count(buyer, t, day, bought);
-        a += 20;
-        i += 1;
-    }
 }
 
 // ---- the positions

@@ -66,15 +66,19 @@ fn line(line: Line) {
     io::write_all(STDOUT_FILENO, b"\n");
 }
 
-// The line of every user of an accepted book in bytes, in its order.
+// The line of every user of an accepted book in bytes, in its order. Its questions are asked for the sums of the users.
 fn lines(book: &[u8])
     requires { ⌜ bookNumber (now book) ≡ 0 ⌝ }
 {
+    let mut sellers = [0u8; 256];
+    let mut buyers = [0u8; 256];
+    let mut sums = [0u32; 768];
+    questions::ask(book, &mut sellers, &mut buyers, &mut sums);
     let limits = Limits::today();
     let n = fields::get_u8(book, 5) as usize;
     let mut i = 0;
     while i < n {
-        line(printed::line_at(book, i, limits));
+        line(printed::line_at(book, i, &sums, limits));
         i += 1;
     }
 }

@@ -10,10 +10,11 @@ ghost use Prim.Native.Nat.{_<_};
 ghost use Rattle.rules.specs.Levels.{afternoonLevel, shipper};
 ghost use Rattle.rules.specs.Day.{state};
 ghost use Rattle.records.specs.User.{asUser};
-ghost use Rattle.format.specs.Book.{bookOf, userCount};
+ghost use Rattle.format.specs.Book.{bookOf, tradesOf, userCount, usersOf};
 ghost use Rattle.format.specs.Questions.{Formed, bookNumber};
 ghost use Rattle.levels.specs.Limits.{asLimits, LimitsInRange};
 ghost use Rattle.account.specs.Account.{AccountIn, Ready};
+ghost use Rattle.positions.specs.Twelve.{TwelveOf, Low};
 ghost use Rattle.printed.specs.Lines.{asLine, lineIn};
 ghost use Rattle.printed.specs.States.{stateOf};
 
@@ -67,14 +68,15 @@ pub struct Line {
     pub position: [Net; 3],
 }
 
-// The line of the user at a place of an accepted book.
-pub fn line_at(book: &[u8], place: usize, limits: Limits) -> Line
+// The line of the user at a place of an accepted book, by the sums that its questions told.
+pub fn line_at(book: &[u8], place: usize, sums: &[u32; 768], limits: Limits) -> Line
     requires { ⌜ bookNumber (now book) ≡ 0 ⌝ }
     requires { ⌜ place < userCount (now book) ⌝ }
+    requires { ⌜ TwelveOf (usersOf (now book)) (tradesOf (now book)) (now sums) × Low (now sums) ⌝ }
     requires { ⌜ LimitsInRange (asLimits limits) ⌝ }
     ensures { λ r. ⌜ asLine r ≡ lineIn (asLimits limits) (bookOf (now (book .entry))) place ⌝ }
 {
-    let account = account::account_at(book, place);
+    let account = account::account_from(book, place, sums);
     let user = account.user;
     let prices = account.prices;
     let dealings = account.dealings;

@@ -21,7 +21,7 @@ use Rattle.format.specs.Questions.{Formed, aboutFields, aboutForm, formNumber, 
 use Rattle.places.specs.Ids.{usersFrom, tradesFrom, idsOf}
 use Rattle.form.specs.Zeros.{zerosIn}
 use Rattle.positions.specs.Sums.{placesOf}
-use Rattle.positions.specs.Twelve.{Twelve, TwelveOf}
+use Rattle.positions.specs.Twelve.{Twelve, TwelveOf, Low}
 use Rattle.positions.proofs.Twelve.{twelve-of}
 use Rattle.questions.specs.Asked.{UsersAsked, TradesAsked, InBytes, RecordsAsked, FieldsPlaced, Summed, pastSix, tradeAmong, recordsNumber, fieldsNumber}
 use Rattle.questions.proofs.Known.{all-tradeAmong, all-parties, valid-rising}
@@ -42,6 +42,15 @@ yes-is true t = refl
 -- a question before 7 that refuses: nothing is told of the sums
 pub summed-none : {us : List User} {ts : List Trade} {count read : ℕ} {sums : List ℕ} (number : ℕ) → (T (pastSix number) → ⊥) → Summed us ts count number read sums
 summed-none number h = record { twelve = λ p. absurd (h p); low = λ p. absurd (h p); all-read = λ p. absurd (h p) }
+
+-- where no question refuses, the sums are what each user sold and bought
+pub sums-told : {us : List User} {ts : List Trade} {count number read : ℕ} {sums : List ℕ} → Summed us ts count number read sums → number ≡ 0
+    → TwelveOf us ts sums × Low sums
+unfolding pastSix
+sums-told {number = number} summed e = let past : T (pastSix number) = past-none e in (summed .twelve past, summed .low past)
+  where
+    past-none : {k : ℕ} → k ≡ 0 → T (pastSix k)
+    past-none h = rw h tt
 
 module _ {us : List User} {ts : List Trade} {n : ℕ} {valid : Bool} {ids sellers buyers : List ℕ} (users : UsersAsked us n valid ids) where
   -- question 5 is answered by no

@@ -214,21 +214,13 @@ pub fn fields_number(s: &[u8], sellers: &mut [u8], buyers: &mut [u8]) -> u32
     answer.number
 }
 
-// The number of the first of the questions 1 to 7 that is answered by no, 0 where there is none, and the places of the trades' parties.
-pub fn ask_places(s: &[u8], sellers: &mut [u8], buyers: &mut [u8]) -> u32
-    requires { ⌜ (length (now sellers) ≡ 256) × (length (now buyers) ≡ 256) ⌝ }
-    ensures { λ r. ⌜ AskedOf (now (s .entry)) r (now (sellers .exit)) (now (buyers .exit)) ⌝ }
-{
-    let mut sums = [0u32; 768];
-    let answer = ask(s, sellers, buyers, &mut sums);
-    answer.number
-}
-
 // The number of the first of the questions 1 to 7 that any bytes fail, 0 where they fail none.
 pub fn number(s: &[u8]) -> u32
     ensures { λ r. ⌜ r ≡ bookNumber (now (s .entry)) ⌝ }
 {
     let mut sellers = [0u8; 256];
     let mut buyers = [0u8; 256];
-    ask_places(s, &mut sellers, &mut buyers)
+    let mut sums = [0u32; 768];
+    let answer = ask(s, &mut sellers, &mut buyers, &mut sums);
+    answer.number
 }

@@ -86,7 +86,11 @@ definedPosition ts u area =
 
 -- ---- users by id
 
--- every field 0
+-- the trade whose every field is 0
+abbrev pub noTrade : Trade
+noTrade = record { terms = record { seller = 0; buyer = 0; area = 0; kind = 0; day = 0; notified = 0 }; standing = 0 }
+
+-- the user whose every field is 0
 unfoldable pub nobody : User
 nobody =
     let none : PerArea = record { pvb = pos 0; tvb = pos 0; avb = pos 0 } in

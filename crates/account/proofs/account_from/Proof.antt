@@ -11,7 +11,7 @@ use Rattle.format.specs.Book.{bookOf, usersOf, tradesOf}
 use Rattle.format.specs.Questions.{Formed}
 use Rattle.format.proofs.Passed.{passed, length-usersOf}
 use Rattle.dealings.specs.Dealt.{Dealt}
-use Rattle.dealings.proofs.Gathered.{dealt-within}
+use Rattle.dealings.proofs.Bounds.{dealt-within}
 use Rattle.account.proofs.Accepted.{prices-within, blocked-within}
 use Rattle.account.proofs.account_from.Statement.{statement}
 use Rattle.account.proofs.account_from.Tie as tie

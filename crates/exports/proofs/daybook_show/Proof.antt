@@ -13,7 +13,7 @@ show-requires : tie.Need-show-requires
 show-requires c κs = search needs
 
 fill-requires : tie.Need-fill-requires
-fill-requires c κs = rw (c .before .show .ensures .shows, c .before .before .before .if1 .left) (shown-length _ _)
+fill-requires c κs = rw (c .before .show .ensures .0 .shows, c .before .before .before .if1 .left) (shown-length _ _)
 
 same-length : tie.Need-same-length
 same-length c = search needs
@@ -22,7 +22,7 @@ returns-2 : tie.Need-returns-2
 returns-2 c =
     let filled = c .before .before in
     let shown = filled .before .before in
-    copied _ _ _ _ _ _ (shown .before .before .if1 .left) (shown .show .ensures) (filled .fill .ensures)
+    copied _ _ _ _ _ _ (shown .before .before .if1 .left) (shown .show .ensures .0) (filled .fill .ensures)
 
 pub daybook-show-spec : {M : Type 1} → statement M
 daybook-show-spec = tie.close (tie.spec returns show-requires fill-requires same-length returns-2)

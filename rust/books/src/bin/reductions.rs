@@ -1,6 +1,6 @@
-//! Writes the calls that the program `reductions` of the engine makes, and
-//! prints by the reference what it has to print. The folder for the files
-//! `calls` and `index` is the argument.
+//! Writes the reductions that the program `figures` of the engine makes, and
+//! prints by the reference what it has to print for them. The folder for the
+//! files `reductions` and `reductions.index` is the argument.
 //!
 //! A call is its id (4 bytes), the length of its book (2), and the book; where
 //! the length is 0, it is made on the book that the call before it left.
@@ -476,6 +476,6 @@ fn main() -> std::io::Result<()> {
         );
         print!("{}", printed(&bytes));
     }
-    std::fs::write(format!("{folder}/calls"), file)?;
-    std::fs::write(format!("{folder}/index"), index)
+    std::fs::write(format!("{folder}/reductions"), file)?;
+    std::fs::write(format!("{folder}/reductions.index"), index)
 }

@@ -3,7 +3,7 @@ use mathlib.Core.Path.{sym}
 use native.Mathlib.Omega.{arith}
 use borrow.Author.Needs.{needs}
 use Rattle.dealings.specs.Energies.{amountOf}
-use Rattle.dealings.proofs.Raising.{amount-avb}
+use Rattle.dealings.proofs.Energies.{amount-avb}
 use Rattle.dealings.proofs.Amounts.of.Statement.{statement}
 use Rattle.dealings.proofs.Amounts.of.Tie as tie
 

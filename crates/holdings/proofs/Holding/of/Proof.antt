@@ -2,7 +2,7 @@
 use Prim.Native.Nat.{_^_}
 use native.Mathlib.Omega.{arith}
 use Rattle.records.proofs.Amounts.{at-asAmounts}
-use Rattle.dealings.proofs.Raising.{amount-le}
+use Rattle.dealings.proofs.Energies.{amount-le}
 use Rattle.holdings.specs.Holdings.{held, asHolding}
 use borrow.Author.Needs.{needs}
 use Rattle.holdings.proofs.Holding.of.Statement.{statement}

@@ -1,0 +1,97 @@
+-- Reading and writing back gives the same bytes: what was read passes the questions of writing, and the bytes of the book that bytes hold are these bytes. Assumes nothing.
+use mathlib.Core.Bool.{Bool, _&&_, cond, true, false}
+use mathlib.Core.List.{List}
+use mathlib.Core.Option.{Option, none}
+use mathlib.Core.Path.{_≡_, ap, refl, sym, _∙_}
+use Prim.Native.Nat.{ℕ, _*_, _+_}
+use native.Mathlib.Omega.{arith}
+use lib.Dec.{eqb, eqb→eq, leb, le→leb}
+use lib.ListN.{length, replicate}
+use Rattle.book.specs.Book.{asBook}
+use Rattle.book.specs.declared.Book.{Book}
+use Rattle.exports.specs.Answers.{ReadInto, WrittenFrom}
+use Rattle.exports.specs.Lent.{byLength}
+use Rattle.fields.specs.Field.{AllBytes}
+use Rattle.format.proofs.Formed.{book-passed}
+use Rattle.format.proofs.Passed.{Passed, passed}
+use Rattle.format.proofs.Round.{bytesOf-bookOf}
+use Rattle.format.specs.Book.{bookOf, bytesOf, tradeCount, userCount, versionOf}
+use Rattle.format.specs.Questions.{aboutBytes, aboutFields, aboutForm, bookNumber}
+use Rattle.from_image.proofs.RoundTrip.{image-book, image-length, same-counts}
+use Rattle.from_image.specs.ImageBook.{imageBook}
+use Rattle.image.specs.Image.{imageOf, readImage}
+use Rattle.laws.proofs.Refusals.{append-yes, yes-first}
+use Rattle.laws.proofs.Tests.{and-i, eqb-of}
+use Rattle.opening.specs.Opened.{Opened}
+use Rattle.rules.specs.Book as model
+use Rattle.rules.specs.Questions.{decided, numberOf, refusal}
+use Rattle.transfer.specs.Written.{Written, aboutWriting, countsInRange}
+use Rattle.round_trip.specs.RoundTrip.{ImageReadAndWritten, ReadAndWritten}
+
+-- ---- accepted bytes and a part of their length
+
+module _ (s : List ℕ) (bytes : AllBytes s) (h : bookNumber s ≡ 0) where
+  -- the book that the bytes hold passes the questions of writing
+  none-refuses : refusal (aboutWriting (userCount s) (tradeCount s) (bookOf s) (length s)) ≡ none
+  unfolding aboutWriting countsInRange bookOf aboutBytes
+  none-refuses =
+      let p = passed s h in
+      let f = p .form in
+      let n = userCount s in
+      let m = tradeCount s in
+      let q : refusal (aboutFields s) ≡ none = append-yes (aboutForm s) (aboutFields s) (book-passed s h) .1 in
+      yes-first 2 (eqb (versionOf s) 1) _ (eqb-of (versionOf s) 1 (f .version))
+      ∙ yes-first 3 (((leb 1 n && leb n 64) && leb m 256) && eqb (length s) (32 + 56 * n + 20 * m)) _
+      (and-i ((leb 1 n && leb n 64) && leb m 256) (eqb (length s) (32 + 56 * n + 20 * m))
+      (and-i (leb 1 n && leb n 64) (leb m 256) (and-i (leb 1 n) (leb n 64) (le→leb 1 n (f .some)) (le→leb n 64 (f .users))) (le→leb m 256 (f .trades)))
+      (eqb-of (length s) (32 + 56 * n + 20 * m) (f .whole)))
+      ∙ ap (λ x. refusal (aboutFields x)) (bytesOf-bookOf s bytes p) ∙ q
+
+  -- so what is written of that book, with these counts, are the bytes
+  written-back :
+      (users trades : ℕ) (b : model.Book) (out t : List ℕ) (r : ℕ)
+      → users ≡ userCount s → trades ≡ tradeCount s → b ≡ bookOf s → length out ≡ length s
+      → r ≡ numberOf (refusal (aboutWriting users trades b (length out)))
+      → t ≡ decided (refusal (aboutWriting users trades b (length out))) (λ n. out) (bytesOf b)
+      → (r ≡ 0) × (t ≡ s)
+  unfolding numberOf decided
+  written-back users trades b out t r n m k l number part =
+      let q : refusal (aboutWriting users trades b (length out)) ≡ none = rw (k, n, m, l) none-refuses in
+      (number ∙ ap numberOf q, part ∙ ap (λ (z : Option ℕ). decided z (λ i. out) (bytesOf b)) q ∙ ap bytesOf k ∙ bytesOf-bookOf s bytes (passed s h))
+
+-- ---- by fields
+
+pub read-and-written : ReadAndWritten
+read-and-written =
+    record {
+      same = λ s out t n r b bytes o e l w.
+          let k = o .book e in
+          written-back s bytes (sym (o .asked) ∙ e) (b .«user_count») (b .«trade_count») (asBook b) out t r (k .users) (k .trades) (k .book) l (w .asked) (w .part);
+    }
+
+-- ---- by an image
+
+-- the number 0 tells that the lent part had the length of an image
+lent-whole : (s lent image : List ℕ) (n : ℕ) → ReadInto s lent n image → n ≡ 0 → (n ≡ bookNumber s) × (image ≡ readImage s)
+unfolding byLength
+lent-whole s lent image n o e = go (eqb (length lent) 8736) refl
+  where
+    go : (t : Bool) → eqb (length lent) 8736 ≡ t → (n ≡ bookNumber s) × (image ≡ readImage s)
+    go true t = (o .number ∙ ap (λ (x : Bool). cond x (bookNumber s) 255) t, o .part ∙ ap (λ (x : Bool). cond x (readImage s) lent) t)
+    go false t = absurd (omega (arith, e, o .number ∙ ap (λ (x : Bool). cond x (bookNumber s) 255) t))
+
+pub image-read-and-written : ImageReadAndWritten
+unfolding byLength readImage decided
+image-read-and-written =
+    record {
+      same = λ s lent image out t n r bytes o e l w.
+          let h : bookNumber s ≡ 0 = sym (lent-whole s lent image n o e .0) ∙ e in
+          let f = passed s h .form in
+          let i : image ≡ imageOf s = lent-whole s lent image n o e .1 ∙ ap (λ (z : Option ℕ). decided z (λ k. replicate 8736 0) (imageOf s)) (book-passed s h) in
+          let whole : eqb (length image) 8736 ≡ true = ap (λ x. eqb (length x) 8736) i ∙ ap (λ x. eqb x 8736) (image-length s f) in
+          let q = refusal (aboutWriting (userCount image) (tradeCount image) (imageBook image) (length out)) in
+          written-back s bytes h (userCount image) (tradeCount image) (imageBook image) out t r
+          (ap userCount i ∙ same-counts s f .0) (ap tradeCount i ∙ same-counts s f .1) (ap imageBook i ∙ image-book s f) l
+          (w .number ∙ ap (λ (x : Bool). cond x (numberOf q) 255) whole)
+          (w .part ∙ ap (λ (x : Bool). cond x (decided q (λ k. out) (bytesOf (imageBook image))) out) whole);
+    }
