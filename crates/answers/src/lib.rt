@@ -1,11 +1,11 @@
 // The answers of the public calls: a number, and what the call found, made or cut; 0 in every other field where the number is not 0.
+use cut_worth::Tally;
 use units::Cents;
 use units::Mwh;
-use worths::Tally;
 ghost use mathlib.Core.Path.{_≡_};
 ghost use Prim.Native.Nat.{_-_};
 ghost use Rattle.rules.specs.Calls.{only, ofCuts};
-ghost use Rattle.worths.specs.Tallies.{asTally};
+ghost use Rattle.cut_worth.specs.Tallies.{asTally};
 ghost use Rattle.answers.specs.Call as call;
 ghost use Rattle.answers.specs.Reduction as reduction;
 ghost use Rattle.answers.specs.Run as run;

@@ -1,3 +1,2 @@
--- Laws of the trades of a book in bytes and of their parties, and of what is read off them.
+-- Laws of the trades of a book in bytes and of their parties.
 pub mod Trades
-pub mod Columns

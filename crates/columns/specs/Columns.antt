@@ -1,10 +1,9 @@
--- The users and the trades of a book in bytes, and what is read off trades, in lists. Assumes nothing.
+-- The users and the trades of a book in bytes, and the places of the parties. Assumes nothing.
 use mathlib.Core.List.{List, map}
 use mathlib.Core.Path.{_≡_}
-use Prim.Native.Nat.{ℕ, _+_, _*_, _≤_, _<_}
+use Prim.Native.Nat.{ℕ, _+_, _*_, _≤_}
 use lib.Dec.{T}
 use lib.ListN.{length, take, drop, getD}
-use Rattle.format.specs.Steps.{placeOf}
 use Rattle.places.specs.Ids.{usersFrom, tradesFrom, idsOf, placeIn}
 use Rattle.records.specs.Trade.{tradeOf}
 use Rattle.rules.specs.Book.{User, Terms, Trade, nobody}
@@ -43,27 +42,3 @@ pub record Trading (n m : ℕ) (s : List ℕ) : Type 0 where
 -- the places among users of those that stand on one side of trades, a place for each trade
 abbrev pub PlacedOn : (Terms → ℕ) → List User → List Trade → List ℕ → Type 0
 PlacedOn side us ts ps = take (length ts) ps ≡ map (λ t. placeIn (idsOf us) (side (t .terms))) ts
-
--- ---- what is read off trades
-
--- what stands of trades at places, their areas, and the places of their buyers, at the front of three lists
-pub record ColumnsOf (n : ℕ) (s parties origins ns areaCodes bs : List ℕ) (count : ℕ) : Type 0 where
-  pub standing-in : take count ns ≡ map (λ i. tradeIn n s i .standing) (take count origins)
-  pub areas-in : take count areaCodes ≡ map (λ i. tradeIn n s i .terms .area) (take count origins)
-  pub buyers-in : take count bs ≡ map (λ i. getD parties i 0) (take count origins)
-
--- room for as many, each of them a trade in the bytes, with a buyer
-pub record ColumnRoom (n : ℕ) (s parties origins ns areaCodes bs : List ℕ) (count : ℕ) : Type 0 where
-  pub users-few : n ≤ 64
-  pub inside : (k : ℕ) → k < count → 32 + 56 * n + 20 * getD origins k 0 + 20 ≤ length s
-  pub bought : (k : ℕ) → k < count → getD origins k 0 < length parties
-  pub origins-room : count ≤ length origins
-  pub standing-room : count ≤ length ns
-  pub areas-room : count ≤ length areaCodes
-  pub buyers-room : count ≤ length bs
-
--- what is read off sales, of which `read` reads a number each: what stands, the area, and the buyer's place among users
-pub record SalesRead (us : List User) (read : (Trade → ℕ) → List ℕ) (ns areaCodes bs : List ℕ) (count : ℕ) : Type 0 where
-  pub standing-in : take count ns ≡ read (λ t. t .standing)
-  pub areas-in : take count areaCodes ≡ read (λ t. t .terms .area)
-  pub buyers-in : take count bs ≡ read (λ t. placeOf us (t .terms .buyer))

@@ -1,2 +1,2 @@
--- The trades of a book in bytes, and what is read off them.
+-- The trades of a book in bytes.
 pub mod Columns

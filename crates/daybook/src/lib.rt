@@ -12,8 +12,8 @@ ghost use Rattle.answers.specs.Warning as warned;
 ghost use Rattle.answers.specs.Reduction as reducing;
 ghost use Rattle.answers.specs.Run as running;
 ghost use Rattle.warning.specs.Warned.{warningOf};
-ghost use Rattle.reduce.specs.Call.{reductionOf};
-ghost use Rattle.run.specs.Call.{runCall};
+ghost use Rattle.call_reduction.specs.Call.{reductionOf};
+ghost use Rattle.call_run.specs.Call.{runCall};
 ghost use Rattle.opening.specs.Opened.{Opened};
 ghost use Rattle.transfer.specs.Written.{Written};
 ghost use Rattle.shown.specs.Shown.{PartOf, Shown, picked, pickedAt};
@@ -107,12 +107,12 @@ pub fn warning(book: &[u8], id: u32) -> WarningAnswer
 pub fn reduction(book: &mut [u8], id: u32) -> ReductionAnswer
     ensures { λ r. ⌜ Called today (now (book .entry)) (reductionOf id) (reducing.answerOf r) (now (book .exit)) ⌝ }
 {
-    reduce::reduction(book, id)
+    call_reduction::reduction(book, id)
 }
 
 // Reduces the user of the lowest id among those short of cover with an eligible trade, until there is none.
 pub fn run(book: &mut [u8]) -> RunAnswer
     ensures { λ r. ⌜ Called today (now (book .entry)) runCall (running.answerOf r) (now (book .exit)) ⌝ }
 {
-    run::run(book)
+    call_run::run(book)
 }

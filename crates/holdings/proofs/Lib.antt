@@ -1,2 +1,2 @@
 -- Laws of needs.
-mod Needs
+pub mod Needs

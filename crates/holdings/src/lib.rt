@@ -98,7 +98,7 @@ impl Holding {
 }
 
 // What an energy is worth at the reference price of an area.
-fn worth_in(prices: Prices, area: u8, energy: Mwh) -> Cents
+pub fn worth_in(prices: Prices, area: u8, energy: Mwh) -> Cents
     requires { ⌜ InRange (asPrices prices) ⌝ }
     requires { ⌜ energy .0 ≤ 2 ^ 42 ⌝ }
     ensures { λ r. ⌜ r .0 ≡ energy .0 * referencePrice (asPrices prices) area ⌝ }

@@ -53,7 +53,7 @@ pub fn exposure(prices: Prices, user: User) -> Cents
 }
 
 // Charges and a worth together, and never below the floor.
-fn floored(limits: Limits, charges: Balance, worth: Cents) -> Cents
+pub fn floored(limits: Limits, charges: Balance, worth: Cents) -> Cents
     requires { ⌜ LimitsInRange (asLimits limits) ⌝ }
     requires { ⌜ worth .0 ≤ 1800000 * 2 ^ 42 ⌝ }
     ensures { λ r. ⌜ r .0 ≡ floored (asLimits limits) (balance charges +ℤ pos (worth .0)) ⌝ }

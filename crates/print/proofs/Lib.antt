@@ -1,2 +1,3 @@
--- Laws of a book that was run.
+-- Laws of a book that was run, and of what its lines are told from.
 pub mod Ran
+pub mod Told

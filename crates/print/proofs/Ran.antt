@@ -13,7 +13,7 @@ use Rattle.laws.proofs.Run.{run-law}
 use Rattle.rules.specs.Calls.{Answer, about, cuttable, effect, only}
 use Rattle.rules.specs.Levels.{Limits}
 use Rattle.rules.specs.Questions.{decided, refusal}
-use Rattle.run.specs.Call.{runCall}
+use Rattle.call_run.specs.Call.{runCall}
 
 module _ {limits : Limits} {s t : List ℕ} {a : Answer} (called : Called limits s runCall a t) where
   -- a book that is refused gets another number than 0

@@ -3,13 +3,17 @@ use answers::RunAnswer;
 use levels::Limits;
 use libc::STDOUT_FILENO;
 use printed::Line;
-use printed::State;
+use risk_user::Day;
+use risk_user::State;
 use units::Net;
 ghost use mathlib.Core.Path.{_≡_};
 ghost use Rattle.rules.specs.Levels.{today};
 ghost use Rattle.format.specs.Questions.{bookNumber};
 ghost use Rattle.format.specs.Steps.{stepBytes};
-ghost use Rattle.run.specs.Call.{runCall};
+ghost use Rattle.call_run.specs.Call.{runCall};
+ghost use Rattle.levels.specs.Limits.{asLimits};
+ghost use Rattle.units.specs.Prices.{asPrices};
+ghost use Rattle.print.specs.Lines.{LinesAsked};
 
 // A space and a number.
 pub fn number(n: u64) {
@@ -66,21 +70,43 @@ fn line(line: Line) {
     io::write_all(STDOUT_FILENO, b"\n");
 }
 
-// The line of every user of an accepted book in bytes, in its order. Its questions are asked for the sums of the users.
+// The line of every user of an accepted book in bytes, in its order; `cut` says which of them are party to a trade standing below notified.
+fn lines_of(
+    book: &[u8],
+    n: usize,
+    sums: &[u32; 768],
+    positions: &[u32; 192],
+    cut: &[bool; 64],
+    day: Day,
+)
+    requires { ⌜ LinesAsked (asLimits (day .limits)) (asPrices (day .prices)) (now book) n (now sums) (now positions) (now cut) ⌝ }
+{
+    let mut i = 0;
+    while i < n {
+        line(printed::line_at(book, sums, positions, i, cut[i], day));
+        i += 1;
+    }
+}
+
+// The lines of an accepted book: its users' sums, positions and cut trades are gathered once for all of them.
 fn lines(book: &[u8])
     requires { ⌜ bookNumber (now book) ≡ 0 ⌝ }
 {
     let mut sellers = [0u8; 256];
-    let mut buyers = [0u8; 256];
+    let mut parties = [0u8; 256];
     let mut sums = [0u32; 768];
-    questions::ask(book, &mut sellers, &mut buyers, &mut sums);
-    let limits = Limits::today();
+    questions::ask(book, &mut sellers, &mut parties, &mut sums);
+    let day = Day {
+        limits: Limits::today(),
+        prices: header::read_prices(book),
+    };
     let n = fields::get_u8(book, 5) as usize;
-    let mut i = 0;
-    while i < n {
-        line(printed::line_at(book, i, &sums, limits));
-        i += 1;
-    }
+    let m = fields::get_u16(book, 6) as usize;
+    let mut positions = [0u32; 192];
+    run_positions::fill_positions(book, n, &mut positions);
+    let mut cut = [false; 64];
+    run_targets::fill_cut(book, n, m, &sellers, &parties, &mut cut);
+    lines_of(book, n, &sums, &positions, &cut, day);
 }
 
 // The line of a refused book.
@@ -105,7 +131,7 @@ fn totals(answer: RunAnswer) {
 pub fn day(book: &mut [u8])
     ensures { λ _. ⌜ now (book .exit) ≡ stepBytes today (now (book .entry)) runCall .bytes ⌝ }
 {
-    let answer = run::run(book);
+    let answer = call_run::run(book);
     let question = answer.number;
     if question != 0 {
         refusal(question);

@@ -1,3 +1,2 @@
--- Laws of a state by its cases, and of a line by its user's place.
-pub mod States
+-- Laws of a line by its user's place.
 pub mod Places

@@ -1,3 +1,2 @@
--- The states and the lines of the rules that the code's are.
-pub mod States
+-- The line of the rules that a line of the code is, and what it is told from.
 pub mod Lines

@@ -7,23 +7,25 @@ use native.Mathlib.Omega.{arith}
 use lib.Dec.{T, eqb, ltb, leb, leb→le, eqb→eq, ltb→lt}
 use lib.IntN.{ℤ, pos, _+ℤ_}
 use lib.ListN.{length}
-use borrow.Author.Tests.{lt-ltb, le-ltb, ltb-true, ltb-false, eq-eqb, ne-eqb}
+use borrow.Author.Tests.{lt-ltb, le-ltb, ltb-true, ltb-false, ne-eqb}
 use Rattle.dealings.specs.Parties.{isCut, cutBefore}
 use Rattle.integers.specs.Parts.{posPart, negPart}
 use Rattle.integers.specs.Sums.{sum}
 use Rattle.laws.proofs.Shares.{eachWithin}
-use Rattle.laws.proofs.Tests.{and-l, and-r, all-by, sum-by}
+use Rattle.laws.proofs.Tests.{and-l, and-r, or-l, all-by, sum-by}
 use Rattle.laws.specs.Trades.{Framed, Pairwise, ended, then}
 use Rattle.rules.specs.Areas.{Prices, areas, referencePrice}
 use Rattle.rules.specs.Book.{Party, Terms, Book, User, Trade, bilateralForDay, dealt, sold, bought}
 use Rattle.rules.specs.Levels.{Limits, Holding, holding, sells, buys, partyTo, floored, stock, afternoonNeed, afternoonSum, exposure, leastReferencePrice, afternoonLevel, flagged, calledIn, shortOfCover}
 use Rattle.rules.specs.Lists.{all, any}
 use Rattle.rules.specs.Questions.{tradeValid, amountsValid}
-use Rattle.rules.specs.Reduction.{eligible, hasEligible, target, cutBy, cutAll}
+use Rattle.rules.specs.Reduction.{hasEligible, target, cutBy, cutAll}
 use Rattle.sales.proofs.Cuts.{cut-yes, cut-no}
 use Rattle.sales.proofs.Kept.{by-case, fails, kept-yes, kept-no, any-kept}
+use Rattle.sales.proofs.Own.{own-eligible}
 use Rattle.sales.specs.Cover.{SameNext, AllNext, levelFrom, flaggedFrom, shortFrom}
 use Rattle.sales.specs.Kept.{kept, spread}
+use Rattle.sales.specs.Own.{EligibleBy}
 use Rattle.sales.specs.Sales.{ownSale, salesOf, isParty, someCut}
 
 -- ---- trades standing below notified
@@ -98,29 +100,43 @@ cut-before-kept id p (t ∷ ts) cs v h =
         ∙ regroup (isCut id t) (isParty id t && ltb 0 c) (cutBefore id ts) (someCut (isParty id) cs (kept p ts))
         ∙ ap (λ (ss : List Trade). cutBefore id (t ∷ ts) || someCut (isParty id) (c ∷ cs) ss) (sym (kept-yes p t ts e))
 
--- of the seller's own sales: some cut is above 0
+-- of sales that all pass: some cut is above 0
+some-cut-all : (q : Trade → Bool) (cs : List ℕ) (ss : List Trade) → T (all q ss) → length cs ≡ length ss → someCut q cs ss ≡ any (λ c. ltb 0 c) cs
+unfolding someCut any all
+some-cut-all q [] ss h e = refl
+some-cut-all q (c ∷ cs) [] h e = absurd (omega arith)
+some-cut-all q (c ∷ cs) (s ∷ ss) h e =
+    ap₂ (λ (x y : Bool). (x && ltb 0 c) || y) (is-true (q s) (and-l (q s) (all q ss) h)) (some-cut-all q cs ss (and-r (q s) (all q ss) h) (omega arith))
+  where
+    is-true : (a : Bool) → T a → a ≡ true
+    is-true true t = refl
+    is-true false t = absurd t
+
+-- of sales on which two tests agree
+some-cut-same : (p q r : Trade → Bool) → ((t : Trade) → T (p t) → q t ≡ r t) → (cs : List ℕ) (ss : List Trade) → T (all p ss) → someCut q cs ss ≡ someCut r cs ss
+unfolding someCut all
+some-cut-same p q r f [] ss h = refl
+some-cut-same p q r f (c ∷ cs) [] h = refl
+some-cut-same p q r f (c ∷ cs) (s ∷ ss) h =
+    ap₂ (λ (x y : Bool). (x && ltb 0 c) || y) (f s (and-l (p s) (all p ss) h)) (some-cut-same p q r f cs ss (and-r (p s) (all p ss) h))
+
+-- the seller is party to all its own sales
 pub some-cut-seller : (id : ℕ) (cs : List ℕ) (ss : List Trade) → T (all (ownSale id) ss) → length cs ≡ length ss
     → someCut (isParty id) cs ss ≡ any (λ c. ltb 0 c) cs
-unfolding someCut any all ownSale isParty
-some-cut-seller id [] ss h e = refl
-some-cut-seller id (c ∷ cs) [] h e = absurd (omega arith)
-some-cut-seller id (c ∷ cs) (s ∷ ss) h e =
-    let own = and-l (ownSale id s) (all (ownSale id) ss) h in
-    let seller = and-l (eqb (s .terms .seller) id) (bilateralForDay s) own in
-    rw (eq-eqb (s .terms .seller) id (eqb→eq (s .terms .seller) id seller))
-    (ap (λ (x : Bool). ltb 0 c || x) (some-cut-seller id cs ss (and-r (ownSale id s) (all (ownSale id) ss) h) (omega arith)))
+unfolding ownSale isParty
+some-cut-seller id cs ss h e =
+    some-cut-all (isParty id) cs ss
+    (all-by (ownSale id) (isParty id) (λ t k. or-l (eqb (t .terms .seller) id) (eqb (t .terms .buyer) id) (and-l (eqb (t .terms .seller) id) (bilateralForDay t) k)) ss h) e
 
--- for another user: some cut is above 0 of a sale that it buys
+-- another user to those that it buys
 pub some-cut-buyer : (id other : ℕ) → (other ≡ id → ⊥) → (cs : List ℕ) (ss : List Trade) → T (all (ownSale id) ss)
     → someCut (isParty other) cs ss ≡ someCut (λ s. eqb (s .terms .buyer) other) cs ss
-unfolding someCut all ownSale isParty
-some-cut-buyer id other n [] ss h = refl
-some-cut-buyer id other n (c ∷ cs) [] h = refl
-some-cut-buyer id other n (c ∷ cs) (s ∷ ss) h =
-    let own = and-l (ownSale id s) (all (ownSale id) ss) h in
-    let seller = eqb→eq (s .terms .seller) id (and-l (eqb (s .terms .seller) id) (bilateralForDay s) own) in
-    rw (ne-eqb (s .terms .seller) other (λ e. n (sym e ∙ seller)))
-    (ap (λ (x : Bool). (eqb (s .terms .buyer) other && ltb 0 c) || x) (some-cut-buyer id other n cs ss (and-r (ownSale id s) (all (ownSale id) ss) h)))
+unfolding ownSale isParty
+some-cut-buyer id other n cs ss h =
+    some-cut-same (ownSale id) (isParty other) (λ s. eqb (s .terms .buyer) other)
+    (λ t k.
+    let seller = eqb→eq (t .terms .seller) id (and-l (eqb (t .terms .seller) id) (bilateralForDay t) k) in
+    rw (ne-eqb (t .terms .seller) other (λ e. n (sym e ∙ seller))) refl) cs ss h
 
 -- ---- eligible trades
 
@@ -129,17 +145,16 @@ unfolding any
 any-map q g [] = refl
 any-map q g (x ∷ xs) = ap (λ (c : Bool). q (g x) || c) (any-map q g xs)
 
-and-assoc : (a b c : Bool) → (a && (b && c)) ≡ ((a && b) && c)
-and-assoc true b c = refl
-and-assoc false b c = refl
-
 -- the user has an eligible trade where an own sale stands above 0
+has-eligible-kept : (b : Book) (u : User) (p : Trade → Bool) → EligibleBy b u p → hasEligible b u ≡ any (λ n. ltb 0 n) (map (λ s. s .standing) (kept p (b .trades)))
+unfolding hasEligible EligibleBy
+has-eligible-kept b u p own =
+    ap (λ (q : Trade → Bool). any q (b .trades)) (fun-ext own)
+    ∙ any-kept p (λ t. ltb 0 (t .standing)) (b .trades)
+    ∙ any-map (λ n. ltb 0 n) (λ t. t .standing) (kept p (b .trades))
+
 pub has-eligible-sales : (b : Book) (u : User) → hasEligible b u ≡ any (λ n. ltb 0 n) (map (λ s. s .standing) (salesOf (b .trades) (u .party .id)))
-unfolding hasEligible salesOf eligible sells ownSale
-has-eligible-sales b u =
-    ap (λ (q : Trade → Bool). any q (b .trades)) (fun-ext (λ t. and-assoc (eqb (t .terms .seller) (u .party .id)) (bilateralForDay t) (ltb 0 (t .standing))))
-    ∙ any-kept (ownSale (u .party .id)) (λ t. ltb 0 (t .standing)) (b .trades)
-    ∙ any-map (λ n. ltb 0 n) (λ t. t .standing) (kept (ownSale (u .party .id)) (b .trades))
+has-eligible-sales b u = has-eligible-kept b u (ownSale (u .party .id)) (own-eligible b u)
 
 -- ---- what was sold and bought for d+1
 

@@ -5,22 +5,23 @@ use mathlib.Core.Path.{_≡_, refl, sym, ap, ap₂, subst, fun-ext, _∙_}
 use Prim.Native.Nat.{ℕ, _+_, _-_}
 use native.Mathlib.Nat.{sub-zero, zero-mul}
 use native.Mathlib.Omega.{arith}
-use lib.Dec.{T, eqb, ltb, eqb→eq}
+use lib.Dec.{T, ltb}
 use lib.ListN.{length, length-map}
-use borrow.Author.Tests.{ltb-false, ne-eqb}
+use borrow.Author.Tests.{ltb-false}
 use Rattle.laws.proofs.Cuts.{together-within, lot-standings}
 use Rattle.laws.proofs.Shares.{eachWithin, within-length, tier-length, tier-within}
-use Rattle.laws.proofs.Tests.{and-l, map-by}
+use Rattle.laws.proofs.Tests.{map-by}
 use Rattle.laws.specs.Trades.{standingIf}
 use Rattle.rules.specs.Areas.{Prices, tariff}
-use Rattle.rules.specs.Book.{Book, User, Trade, bilateralForDay}
-use Rattle.rules.specs.Levels.{holding, sells}
+use Rattle.rules.specs.Book.{Book, User, Trade}
+use Rattle.rules.specs.Levels.{holding}
 use Rattle.rules.specs.Reduction.{eligible, shortIn, lot, tierOne, tierTwo, together, cuts, cutBy, cutAll, Tally, tallied, tallyAll}
 use Rattle.rules.specs.Shares.{Lot, tierWorth, tierCuts}
 use Rattle.sales.proofs.Kept.{by-case, holds, kept-yes, kept-no, kept-pass, spread-yes, spread-no, spread-together}
 use Rattle.sales.proofs.Tiers.{tier-kept, worth-kept}
 use Rattle.sales.specs.Kept.{kept, spread}
-use Rattle.sales.specs.Sales.{ownSale, salesOf, shortAt, saleLots, saleCuts}
+use Rattle.sales.specs.Own.{EligibleBy, OfTerms, Owned}
+use Rattle.sales.specs.Sales.{shortAt, saleLots, saleCuts}
 
 -- ---- the cuts of own sales
 
@@ -58,60 +59,54 @@ module _ (f : Prices) (short : ℕ → Bool) (asked : ℕ) (ss : List Trade) whe
 -- ---- the cuts of a reduction
 
 -- a sale of the user is eligible where it stands above 0
-kept-standing : (sold day some belongs : Bool) (n : ℕ) → T (sold && day) → (some ≡ false → n ≡ 0)
-    → cond ((sold && (day && some)) && belongs) n 0 ≡ cond belongs n 0
-kept-standing true true true belongs n h z = refl
-kept-standing true true false true n h z = sym (z refl)
-kept-standing true true false false n h z = refl
-kept-standing true false some belongs n h z = absurd h
-kept-standing false day some belongs n h z = absurd h
+kept-standing : (own some belongs : Bool) (n : ℕ) → T own → (some ≡ false → n ≡ 0) → cond ((own && some) && belongs) n 0 ≡ cond belongs n 0
+kept-standing true true belongs n h z = refl
+kept-standing true false true n h z = sym (z refl)
+kept-standing true false false n h z = refl
+kept-standing false some belongs n h z = absurd h
 
-other-standing : (sold day some belongs : Bool) (n : ℕ) → T (not (sold && day)) → cond ((sold && (day && some)) && belongs) n 0 ≡ 0
-other-standing true true some belongs n h = absurd h
-other-standing true false some belongs n h = refl
-other-standing false day some belongs n h = refl
+other-standing : (own some belongs : Bool) (n : ℕ) → T (not own) → cond ((own && some) && belongs) n 0 ≡ 0
+other-standing true some belongs n h = absurd h
+other-standing false some belongs n h = refl
 
 -- what does not stand above 0 is 0
 not-above : (n : ℕ) → ltb 0 n ≡ false → n ≡ 0
 not-above n e = omega (arith, ltb-false 0 n e)
 
-module _ (b : Book) (u : User) where
+module _ (b : Book) (u : User) (p : Trade → Bool) (own : EligibleBy b u p) where
   -- a tier of the book: the user's eligible trades in areas that pass a test
   lotIn : (ℕ → Bool) → Trade → Lot
   lotIn belongs = lot (b .header .prices) (λ t. eligible b u t && belongs (t .terms .area))
 
   module _ (belongs : ℕ → Bool) where
-    lot-none : (t : Trade) → T (not (ownSale (u .party .id) t)) → lotIn belongs t .standing ≡ 0
-    unfolding lotIn lot eligible sells ownSale
+    lot-none : (t : Trade) → T (not (p t)) → lotIn belongs t .standing ≡ 0
+    unfolding lotIn lot EligibleBy
     lot-none t h =
-        other-standing (eqb (t .terms .seller) (u .party .id)) (bilateralForDay t) (ltb 0 (t .standing)) (belongs (t .terms .area)) (t .standing) h
+        ap (λ (c : Bool). cond (c && belongs (t .terms .area)) (t .standing) 0) (own t)
+        ∙ other-standing (p t) (ltb 0 (t .standing)) (belongs (t .terms .area)) (t .standing) h
 
-    lots-sales : map (lotIn belongs) (salesOf (b .trades) (u .party .id)) ≡ saleLots (b .header .prices) belongs (salesOf (b .trades) (u .party .id))
-    unfolding lotIn lot eligible sells ownSale salesOf saleLots
+    lots-sales : map (lotIn belongs) (kept p (b .trades)) ≡ saleLots (b .header .prices) belongs (kept p (b .trades))
+    unfolding lotIn lot saleLots EligibleBy
     lots-sales =
-        map-by (ownSale (u .party .id)) (lotIn belongs) (lot (b .header .prices) (λ t. belongs (t .terms .area)))
+        map-by p (lotIn belongs) (lot (b .header .prices) (λ t. belongs (t .terms .area)))
         (λ t h. ap (λ (n : ℕ). record { standing = n; tariff = tariff (b .header .prices) (t .terms .area) })
-        (kept-standing (eqb (t .terms .seller) (u .party .id)) (bilateralForDay t) (ltb 0 (t .standing)) (belongs (t .terms .area)) (t .standing) h (not-above (t .standing))))
-        (kept (ownSale (u .party .id)) (b .trades)) (kept-pass (ownSale (u .party .id)) (b .trades))
+        (ap (λ (c : Bool). cond (c && belongs (t .terms .area)) (t .standing) 0) (own t)
+        ∙ kept-standing (p t) (ltb 0 (t .standing)) (belongs (t .terms .area)) (t .standing) h (not-above (t .standing))))
+        (kept p (b .trades)) (kept-pass p (b .trades))
 
-    tier-worth-sales : tierWorth (map (lotIn belongs) (b .trades)) ≡ tierWorth (saleLots (b .header .prices) belongs (salesOf (b .trades) (u .party .id)))
-    unfolding salesOf
-    tier-worth-sales = worth-kept (ownSale (u .party .id)) (lotIn belongs) lot-none (b .trades) ∙ ap tierWorth lots-sales
+    tier-worth-sales : tierWorth (map (lotIn belongs) (b .trades)) ≡ tierWorth (saleLots (b .header .prices) belongs (kept p (b .trades)))
+    tier-worth-sales = worth-kept p (lotIn belongs) lot-none (b .trades) ∙ ap tierWorth lots-sales
 
-    tier-sales : (asked : ℕ) → tierCuts asked (map (lotIn belongs) (b .trades))
-        ≡ spread (ownSale (u .party .id)) (b .trades) (tierCuts asked (saleLots (b .header .prices) belongs (salesOf (b .trades) (u .party .id))))
-    unfolding salesOf
+    tier-sales : (asked : ℕ) → tierCuts asked (map (lotIn belongs) (b .trades)) ≡ spread p (b .trades) (tierCuts asked (saleLots (b .header .prices) belongs (kept p (b .trades))))
     tier-sales asked =
-        tier-kept (ownSale (u .party .id)) (lotIn belongs) lot-none asked (b .trades)
-        ∙ ap (λ (xs : List Lot). spread (ownSale (u .party .id)) (b .trades) (tierCuts asked xs)) lots-sales
+        tier-kept p (lotIn belongs) lot-none asked (b .trades)
+        ∙ ap (λ (xs : List Lot). spread p (b .trades) (tierCuts asked xs)) lots-sales
 
   -- the cuts of a reduction are the cuts of the user's own sales, each at its place, and 0 elsewhere
-  pub cuts-sales : (asked : ℕ) → cuts b u asked
-      ≡ spread (ownSale (u .party .id)) (b .trades) (saleCuts (b .header .prices) (shortAt u) asked (salesOf (b .trades) (u .party .id)))
+  pub cuts-sales : (asked : ℕ) → cuts b u asked ≡ spread p (b .trades) (saleCuts (b .header .prices) (shortAt u) asked (kept p (b .trades)))
   unfolding cuts tierOne tierTwo shortIn holding shortAt saleCuts lotIn
   cuts-sales asked =
-      let p = ownSale (u .party .id) in
-      let ss = salesOf (b .trades) (u .party .id) in
+      let ss = kept p (b .trades) in
       let long : ℕ → Bool = λ area. not (shortAt u area) in
       let one = saleLots (b .header .prices) (shortAt u) ss in
       let two = saleLots (b .header .prices) long ss in
@@ -133,14 +128,6 @@ unfolding spread cutAll
 cut-nobody p [] = refl
 cut-nobody p (t ∷ ts) = ap₂ (λ (n : Trade) (ns : List Trade). n ∷ ns) (cut-zero t) (cut-nobody p ts)
 
--- no cut changes a test of the terms
-unfoldable pub OfTerms : (Trade → Bool) → Type 0
-OfTerms p = (c : ℕ) (t : Trade) → p (cutBy c t) ≡ p t
-
-pub own-of-terms : (id : ℕ) → OfTerms (ownSale id)
-unfolding OfTerms ownSale cutBy bilateralForDay
-own-of-terms id c t = refl
-
 -- one element of the cuts of those that pass
 pub cut-yes : (p : Trade → Bool) (t : Trade) (ts : List Trade) (c : ℕ) (cs : List ℕ) → p t ≡ true
     → cutAll (spread p (t ∷ ts) (c ∷ cs)) (t ∷ ts) ≡ cutBy c t ∷ cutAll (spread p ts cs) ts
@@ -154,12 +141,12 @@ cut-no p t ts cs e = rw (spread-no p t ts cs e) (ap (λ (n : Trade). n ∷ cutAl
 
 -- of those that pass, the cuts are taken off
 pub kept-cut : (p : Trade → Bool) → OfTerms p → (ts : List Trade) (cs : List ℕ) → kept p (cutAll (spread p ts cs) ts) ≡ cutAll cs (kept p ts)
-unfolding OfTerms cutAll kept spread
+unfolding OfTerms cutAll kept spread cutBy
 kept-cut p o ts [] = ap (kept p) (cut-nobody p ts)
 kept-cut p o [] (c ∷ cs) = refl
 kept-cut p o (t ∷ ts) (c ∷ cs) =
     by-case (p t)
-    (λ e. ap (kept p) (cut-yes p t ts c cs e) ∙ kept-yes p (cutBy c t) (cutAll (spread p ts cs) ts) (o c t ∙ e)
+    (λ e. ap (kept p) (cut-yes p t ts c cs e) ∙ kept-yes p (cutBy c t) (cutAll (spread p ts cs) ts) (o t (cutBy c t) refl ∙ e)
     ∙ ap (λ (ns : List Trade). cutBy c t ∷ ns) (kept-cut p o ts cs) ∙ ap (cutAll (c ∷ cs)) (sym (kept-yes p t ts e)))
     (λ e. ap (kept p) (cut-no p t ts (c ∷ cs) e) ∙ kept-no p t (cutAll (spread p ts (c ∷ cs)) ts) e
     ∙ kept-cut p o ts (c ∷ cs) ∙ ap (cutAll (c ∷ cs)) (sym (kept-no p t ts e)))
@@ -167,38 +154,32 @@ kept-cut p o (t ∷ ts) (c ∷ cs) =
 -- of others, nothing is
 pub kept-apart : (p q : Trade → Bool) → OfTerms q → ((t : Trade) → T (p t) → q t ≡ false) → (ts : List Trade) (cs : List ℕ)
     → kept q (cutAll (spread p ts cs) ts) ≡ kept q ts
-unfolding OfTerms cutAll spread
+unfolding OfTerms cutAll spread cutBy
 kept-apart p q o d ts [] = ap (kept q) (cut-nobody p ts)
 kept-apart p q o d [] (c ∷ cs) = refl
 kept-apart p q o d (t ∷ ts) (c ∷ cs) =
     by-case (p t)
-    (λ e. ap (kept q) (cut-yes p t ts c cs e) ∙ kept-no q (cutBy c t) (cutAll (spread p ts cs) ts) (o c t ∙ d t (holds e))
+    (λ e. ap (kept q) (cut-yes p t ts c cs e) ∙ kept-no q (cutBy c t) (cutAll (spread p ts cs) ts) (o t (cutBy c t) refl ∙ d t (holds e))
     ∙ kept-apart p q o d ts cs ∙ sym (kept-no q t ts (d t (holds e))))
     (λ e. ap (kept q) (cut-no p t ts (c ∷ cs) e)
     ∙ by-case (q t)
     (λ k. kept-yes q t (cutAll (spread p ts (c ∷ cs)) ts) k ∙ ap (λ (ns : List Trade). t ∷ ns) (kept-apart p q o d ts (c ∷ cs)) ∙ sym (kept-yes q t ts k))
     (λ k. kept-no q t (cutAll (spread p ts (c ∷ cs)) ts) k ∙ kept-apart p q o d ts (c ∷ cs) ∙ sym (kept-no q t ts k)))
 
-module _ (id : ℕ) (ts : List Trade) (cs : List ℕ) where
+module _ {own : ℕ → Trade → Bool} (o : Owned own) (id : ℕ) (ts : List Trade) (cs : List ℕ) where
   -- the user's own sales after the cuts
-  pub sales-cut : salesOf (cutAll (spread (ownSale id) ts cs) ts) id ≡ cutAll cs (salesOf ts id)
-  unfolding salesOf
-  sales-cut = kept-cut (ownSale id) (own-of-terms id) ts cs
+  pub sales-cut : kept (own id) (cutAll (spread (own id) ts cs) ts) ≡ cutAll cs (kept (own id) ts)
+  sales-cut = kept-cut (own id) (o .of-terms id) ts cs
 
   -- another's
-  pub sales-other : (other : ℕ) → (other ≡ id → ⊥) → salesOf (cutAll (spread (ownSale id) ts cs) ts) other ≡ salesOf ts other
-  unfolding salesOf ownSale
-  sales-other other n = kept-apart (ownSale id) (ownSale other) (own-of-terms other) apart ts cs
-    where
-      apart : (t : Trade) → T (ownSale id t) → ownSale other t ≡ false
-      apart t h =
-          let e = eqb→eq (t .terms .seller) id (and-l (eqb (t .terms .seller) id) (bilateralForDay t) h) in
-          rw (ne-eqb (t .terms .seller) other (λ k. n (sym k ∙ e)))
+  pub sales-other : (other : ℕ) → (other ≡ id → ⊥) → kept (own other) (cutAll (spread (own id) ts cs) ts) ≡ kept (own other) ts
+  sales-other other n = kept-apart (own id) (own other) (o .of-terms other) (o .apart id other n) ts cs
 
 -- ---- the tally
 
 module _ (f : Prices) where
-  tally-zero : (t : Trade) (tally : Tally) → tallied f 0 t tally ≡ tally
+  -- no cut changes no tally
+  pub tally-zero : (t : Trade) (tally : Tally) → tallied f 0 t tally ≡ tally
   unfolding tallied
   tally-zero t tally =
       ap₂ (λ (m n : ℕ). record { mwh = m; worth = n }) (omega arith) (omega (arith, zero-mul (tariff f (t .terms .area))))

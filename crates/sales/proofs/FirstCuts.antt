@@ -15,7 +15,7 @@ use Rattle.laws.proofs.Bounds.{position-bound}
 use Rattle.laws.proofs.Reduction.{cuts-sound}
 use Rattle.laws.proofs.Shares.{within-at}
 use Rattle.laws.specs.Sound.{Sound}
-use Rattle.laws.proofs.Tests.{and-i, and-r, or-r}
+use Rattle.laws.proofs.Tests.{and-i, or-r}
 use Rattle.laws.specs.Trades.{cutWithin, cutsWithin}
 use Rattle.rules.specs.Book.{at, Party, Book, User, Trade, bilateralForDay, nobody}
 use Rattle.rules.specs.Questions.{positionsValid, userValid}
@@ -24,10 +24,10 @@ use Rattle.sales.proofs.Cuts.{sale-length, sale-within}
 use Rattle.sales.proofs.Kept.{by-case, holds, kept-yes, kept-no}
 use Rattle.sales.proofs.Numbers.{read-at}
 use Rattle.sales.proofs.Settled.{settle-none, settle-kept, settle-front, settle-parties, settle-rise, settle-one-at, party-at}
-use Rattle.sales.proofs.Valid.{sale-at}
 use Rattle.sales.specs.Kept.{kept, spread}
-use Rattle.sales.specs.Reduced.{ownSales, ownCuts, settledFirst}
-use Rattle.sales.specs.Sales.{ownSale, salesOf, shortAt, settledAt}
+use Rattle.sales.specs.Own.{Owned}
+use Rattle.sales.specs.Reduced.{cutsBy, salesBy, settledFirst}
+use Rattle.sales.specs.Sales.{shortAt, settledAt}
 
 -- ---- cuts of some of the sales
 
@@ -58,60 +58,56 @@ take-le n cs i =
     by-order i n (λ h. omega (arith, getD-take n cs i 0 h))
     (λ h. omega (arith, List·getD-eq-default (take n cs) 0 {n = i} (omega (arith, length-take n cs))))
 
-own-bilateral : (id : ℕ) (t : Trade) → T (ownSale id t) → T (bilateralForDay t)
-unfolding ownSale
-own-bilateral id t h = and-r (eqb (t .terms .seller) id) (bilateralForDay t) h
-
-module _ (b : Book) (u : User) (asked : ℕ) where
+module _ {own : ℕ → Trade → Bool} (o : Owned own) (b : Book) (u : User) (asked : ℕ) where
   -- a cut is at most what stands
-  pub own-cut-le : (i : ℕ) → getD (ownCuts b u asked) i 0 ≤ getD (map (λ s. s .standing) (ownSales b u)) i 0
+  pub own-cut-le : (i : ℕ) → getD (cutsBy own b u asked) i 0 ≤ getD (map (λ s. s .standing) (salesBy own b u)) i 0
   own-cut-le i =
-      within-at (ownCuts b u asked) (map (λ s. s .standing) (ownSales b u)) (sale-within (b .header .prices) (shortAt u) asked (ownSales b u)) i
+      within-at (cutsBy own b u asked) (map (λ s. s .standing) (salesBy own b u)) (sale-within (b .header .prices) (shortAt u) asked (salesBy own b u)) i
 
   -- a cut for each own sale
-  pub own-cuts-length : length (ownCuts b u asked) ≡ length (ownSales b u)
-  own-cuts-length = sale-length (b .header .prices) (shortAt u) asked (ownSales b u)
+  pub own-cuts-length : length (cutsBy own b u asked) ≡ length (salesBy own b u)
+  own-cuts-length = sale-length (b .header .prices) (shortAt u) asked (salesBy own b u)
 
   -- the book after the first cuts
   bookAfter : ℕ → Book
-  bookAfter n = withTrades b (cutAll (spread (ownSale (u .party .id)) (b .trades) (take n (ownCuts b u asked))) (b .trades))
+  bookAfter n = withTrades b (cutAll (spread (own (u .party .id)) (b .trades) (take n (cutsBy own b u asked))) (b .trades))
 
-  after-users : (n : ℕ) → bookAfter n .users ≡ settledFirst b u asked n
-  unfolding bookAfter withTrades salesOf
-  after-users n = settle-kept (ownSale (u .party .id)) (b .trades) (take n (ownCuts b u asked)) (b .users)
+  after-users : (n : ℕ) → bookAfter n .users ≡ settledFirst own b u asked n
+  unfolding bookAfter withTrades
+  after-users n = settle-kept (own (u .party .id)) (b .trades) (take n (cutsBy own b u asked)) (b .users)
 
   -- before the first cut
-  pub first-none : settledFirst b u asked 0 ≡ b .users
+  pub first-none : settledFirst own b u asked 0 ≡ b .users
   unfolding cutAll
-  first-none = settle-none (ownSales b u) (b .users)
+  first-none = settle-none (salesBy own b u) (b .users)
 
   -- after the last
-  pub first-all : (n : ℕ) → length (ownSales b u) ≤ n → settledFirst b u asked n ≡ settle (ownSales b u) (cutAll (ownCuts b u asked) (ownSales b u)) (b .users)
+  pub first-all : (n : ℕ) → length (salesBy own b u) ≤ n → settledFirst own b u asked n ≡ settle (salesBy own b u) (cutAll (cutsBy own b u asked) (salesBy own b u)) (b .users)
   first-all n h =
-      ap (λ (cs : List ℕ). settle (ownSales b u) (cutAll cs (ownSales b u)) (b .users)) (take-all n (ownCuts b u asked) (omega (arith, own-cuts-length)))
+      ap (λ (cs : List ℕ). settle (salesBy own b u) (cutAll cs (salesBy own b u)) (b .users)) (take-all n (cutsBy own b u asked) (omega (arith, own-cuts-length)))
 
   -- the users are the same parties
-  pub first-parties : (n : ℕ) → map (λ v. v .party) (settledFirst b u asked n) ≡ map (λ v. v .party) (b .users)
-  first-parties n = settle-parties (ownSales b u) (cutAll (take n (ownCuts b u asked)) (ownSales b u)) (b .users)
+  pub first-parties : (n : ℕ) → map (λ v. v .party) (settledFirst own b u asked n) ≡ map (λ v. v .party) (b .users)
+  first-parties n = settle-parties (salesBy own b u) (cutAll (take n (cutsBy own b u asked)) (salesBy own b u)) (b .users)
 
-  pub first-length : (n : ℕ) → length (settledFirst b u asked n) ≡ length (b .users)
+  pub first-length : (n : ℕ) → length (settledFirst own b u asked n) ≡ length (b .users)
   first-length n =
-      sym (length-map (settledFirst b u asked n) (λ v. v .party)) ∙ ap length (first-parties n) ∙ length-map (b .users) (λ v. v .party)
+      sym (length-map (settledFirst own b u asked n) (λ v. v .party)) ∙ ap length (first-parties n) ∙ length-map (b .users) (λ v. v .party)
 
   module _ (s : Sound b) where
     after-sound : (n : ℕ) → Sound (bookAfter n)
-    unfolding bookAfter salesOf
+    unfolding bookAfter
     after-sound n =
-        cuts-sound b (spread (ownSale (u .party .id)) (b .trades) (take n (ownCuts b u asked))) s
-        (spread-within (ownSale (u .party .id)) bilateralForDay (own-bilateral (u .party .id)) (b .trades) (take n (ownCuts b u asked))
-        (λ i. omega (arith, take-le n (ownCuts b u asked) i, own-cut-le i)))
+        cuts-sound b (spread (own (u .party .id)) (b .trades) (take n (cutsBy own b u asked))) s
+        (spread-within (own (u .party .id)) bilateralForDay (o .bilateral (u .party .id)) (b .trades) (take n (cutsBy own b u asked))
+        (λ i. omega (arith, take-le n (cutsBy own b u asked) i, own-cut-le i)))
 
     -- each position is that of an accepted book
     pub first-bound : (n i area : ℕ) → i < length (b .users) → area < 3
-        → (posPart (at (getD (settledFirst b u asked n) i nobody .position) area) ≤ 26600000)
-        × (negPart (at (getD (settledFirst b u asked n) i nobody .position) area) ≤ 26600000)
+        → (posPart (at (getD (settledFirst own b u asked n) i nobody .position) area) ≤ 26600000)
+        × (negPart (at (getD (settledFirst own b u asked n) i nobody .position) area) ≤ 26600000)
     first-bound n i area h k =
-        let vs = settledFirst b u asked n in
+        let vs = settledFirst own b u asked n in
         let users = after-users n in
         let valid = after-sound n in
         let inside : i < length vs = omega (arith, first-length n) in
@@ -121,22 +117,21 @@ module _ (b : Book) (u : User) (asked : ℕ) where
         (all-at (positionsValid (bookAfter n .trades)) vs (rw users at (valid .positions)) i nobody inside)
         area k
 
-    -- one cut more, by the places of the seller and of the sale's buyer
-    pub first-next : (n seller buyer : ℕ) (d : Trade) → n < length (ownSales b u) → seller < length (b .users) → buyer < length (b .users)
-        → getD (b .users) seller nobody .party .id ≡ u .party .id → getD (b .users) buyer nobody .party .id ≡ getD (ownSales b u) n d .terms .buyer
-        → settledFirst b u asked (suc n) ≡ settledAt seller buyer (getD (ownSales b u) n d .terms .area) (getD (ownCuts b u asked) n 0) (settledFirst b u asked n)
+    -- one cut more, by the places of the sale's seller and buyer
+    pub first-next : (n seller buyer : ℕ) (d : Trade) → n < length (salesBy own b u) → seller < length (b .users) → buyer < length (b .users)
+        → getD (b .users) seller nobody .party .id ≡ getD (salesBy own b u) n d .terms .seller → getD (b .users) buyer nobody .party .id ≡ getD (salesBy own b u) n d .terms .buyer
+        → settledFirst own b u asked (suc n) ≡ settledAt seller buyer (getD (salesBy own b u) n d .terms .area) (getD (cutsBy own b u asked) n 0) (settledFirst own b u asked n)
     first-next n seller buyer d h k l e g =
-        let ss = ownSales b u in
-        let cs = ownCuts b u asked in
-        let vs = settledFirst b u asked n in
+        let ss = salesBy own b u in
+        let cs = cutsBy own b u asked in
+        let vs = settledFirst own b u asked n in
         let t = getD ss n d in
         let same = first-parties n in
-        let sale = sale-at (b .users) (b .trades) (u .party .id) n d (s .trades) h in
         let stands : getD (map (λ s. s .standing) ss) n 0 ≡ t .standing
         = read-at (λ s. s .standing) ss n d 0 h in
         settle-front cs ss (b .users) n d h (omega (arith, own-cuts-length))
         ∙ settle-one-at (getD cs n 0) t vs 0 seller buyer
         (rw (settle-rise ss (cutAll (take n cs) ss) 0 (b .users)) (s .ids)) (omega (arith, first-length n)) (omega (arith, first-length n))
-        (ap (λ (q : Party). q .id) (party-at (b .users) vs same seller nobody) ∙ e ∙ sym (sale .seller))
+        (ap (λ (q : Party). q .id) (party-at (b .users) vs same seller nobody) ∙ e)
         (ap (λ (q : Party). q .id) (party-at (b .users) vs same buyer nobody) ∙ g)
         (omega (arith, own-cut-le n))

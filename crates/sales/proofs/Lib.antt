@@ -1,5 +1,12 @@
--- Laws of the elements that pass a test:
+-- Laws of a part of a list
+pub mod Parts
+-- of the elements that pass a test
 pub mod Kept
+-- the trades of a tier by their numbers
+pub mod Lots
+pub mod Ranges
+-- whose sale a trade is
+pub mod Own
 -- the cuts of a tier
 pub mod Tiers
 -- cuts of own sales and of all trades
@@ -15,8 +22,13 @@ pub mod Cover
 pub mod Reduced
 -- the sales of all users in one list
 pub mod Groups
+pub mod Listed
 pub mod Count
 pub mod Origins
+pub mod Apart
 pub mod Standing
+pub mod Written
+pub mod Whole
+pub mod Again
 -- the user that is reduced next
 pub mod Next

@@ -13,8 +13,8 @@ use Rattle.rules.specs.Book.{Terms, Trade}
 use Rattle.rules.specs.Reduction.{together, cutBy, cutAll}
 use Rattle.rules.specs.Shares.{tierWorth, tierCuts}
 use Rattle.sales.specs.Sales.{saleLots, saleCuts, standingIn, less}
-use Rattle.worths.proofs.Lots.{lots-map}
-use Rattle.worths.specs.Lots.{lotsOf}
+use Rattle.sales.proofs.Lots.{lots-map}
+use Rattle.sales.specs.Lots.{lotsOf}
 
 -- what is read off a list, at a place
 pub read-at : {A B : Type 0} (g : A → B) (xs : List A) (i : ℕ) (d : A) (e : B) → i < length xs → getD (map g xs) i e ≡ g (getD xs i d)

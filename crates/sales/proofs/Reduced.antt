@@ -22,55 +22,59 @@ use Rattle.rules.specs.Reduction.{cutBy, cutAll, settleOne, settle, tallyAll, n
 use Rattle.sales.proofs.Cover.{valid-notified, cut-before-kept, next-holding, or-false, short-from, short-next}
 use Rattle.sales.proofs.Cuts.{sale-within, cuts-sales, sales-cut, sales-other, tally-kept, cut-zero}
 use Rattle.sales.proofs.Kept.{by-case}
+use Rattle.sales.proofs.Own.{own-eligible, own-sales}
 use Rattle.sales.proofs.Settled.{settle-kept, settle-parties, settle-one-none, settle-none}
 use Rattle.sales.specs.Cover.{AllNext, shortFrom}
-use Rattle.sales.specs.Kept.{spread}
-use Rattle.sales.specs.Reduced.{ownSales, ownCuts, SalesReduced}
-use Rattle.sales.specs.Sales.{ownSale, salesOf, shortAt, isParty, someCut}
+use Rattle.sales.specs.Kept.{kept, spread}
+use Rattle.sales.specs.Own.{EligibleBy, Owned}
+use Rattle.sales.specs.Reduced.{ReducedOf, SalesReduced, cutsBy, salesBy}
+use Rattle.sales.specs.Sales.{shortAt, isParty, someCut}
 
-module _ (b : Book) (u : User) (asked : ℕ) where
+module _ {own : ℕ → Trade → Bool} (o : Owned own) (b : Book) (u : User) (mine : EligibleBy b u (own (u .party .id))) (asked : ℕ) where
   -- the trades after the reduction
-  trades-reduced : reducedBy b u asked .book .trades ≡ cutAll (spread (ownSale (u .party .id)) (b .trades) (ownCuts b u asked)) (b .trades)
+  trades-reduced : reducedBy b u asked .book .trades ≡ cutAll (spread (own (u .party .id)) (b .trades) (cutsBy own b u asked)) (b .trades)
   unfolding reducedBy withTrades
-  trades-reduced = ap (λ (cs : List ℕ). cutAll cs (b .trades)) (cuts-sales b u asked)
+  trades-reduced = ap (λ (cs : List ℕ). cutAll cs (b .trades)) (cuts-sales b u (own (u .party .id)) mine asked)
 
-  users-reduced : reducedBy b u asked .book .users ≡ settle (ownSales b u) (cutAll (ownCuts b u asked) (ownSales b u)) (b .users)
-  unfolding reducedBy withTrades salesOf
+  users-reduced : reducedBy b u asked .book .users ≡ settle (salesBy own b u) (cutAll (cutsBy own b u asked) (salesBy own b u)) (b .users)
+  unfolding reducedBy withTrades
   users-reduced =
-      ap (λ (cs : List ℕ). settle (b .trades) (cutAll cs (b .trades)) (b .users)) (cuts-sales b u asked)
-      ∙ settle-kept (ownSale (u .party .id)) (b .trades) (ownCuts b u asked) (b .users)
+      ap (λ (cs : List ℕ). settle (b .trades) (cutAll cs (b .trades)) (b .users)) (cuts-sales b u (own (u .party .id)) mine asked)
+      ∙ settle-kept (own (u .party .id)) (b .trades) (cutsBy own b u asked) (b .users)
 
-  answer-reduced : reducedBy b u asked .answer ≡ ofCuts asked (tallyAll (b .header .prices) (ownCuts b u asked) (ownSales b u) nothing)
-  unfolding reducedBy salesOf
+  answer-reduced : reducedBy b u asked .answer ≡ ofCuts asked (tallyAll (b .header .prices) (cutsBy own b u asked) (salesBy own b u) nothing)
+  unfolding reducedBy
   answer-reduced =
-      ap (λ (cs : List ℕ). ofCuts asked (tallyAll (b .header .prices) cs (b .trades) nothing)) (cuts-sales b u asked)
-      ∙ ap (ofCuts asked) (tally-kept (b .header .prices) (ownSale (u .party .id)) (b .trades) (ownCuts b u asked) nothing)
+      ap (λ (cs : List ℕ). ofCuts asked (tallyAll (b .header .prices) cs (b .trades) nothing)) (cuts-sales b u (own (u .party .id)) mine asked)
+      ∙ ap (ofCuts asked) (tally-kept (b .header .prices) (own (u .party .id)) (b .trades) (cutsBy own b u asked) nothing)
 
   header-reduced : reducedBy b u asked .book .header ≡ b .header
   unfolding reducedBy withTrades
   header-reduced = refl
 
-  -- what the step of a run cites
-  pub sales-reduced : Sound b → SalesReduced b u asked (reducedBy b u asked)
-  unfolding salesOf
-  sales-reduced s =
+  reduced-of : Sound b → ReducedOf own b u asked (reducedBy b u asked)
+  reduced-of s =
       let id = u .party .id in
       let ts = b .trades in
-      let cs = ownCuts b u asked in
+      let cs = cutsBy own b u asked in
       let law = reducedBy-law b u asked s in
       record {
         header = header-reduced;
         trades = trades-reduced;
         lowered = law .lowered;
         users = users-reduced;
-        parties = ap (map (λ v. v .party)) users-reduced ∙ settle-parties (ownSales b u) (cutAll cs (ownSales b u)) (b .users);
+        parties = ap (map (λ v. v .party)) users-reduced ∙ settle-parties (salesBy own b u) (cutAll cs (salesBy own b u)) (b .users);
         answer = answer-reduced;
-        own = ap (λ (ns : List Trade). salesOf ns id) trades-reduced ∙ sales-cut id ts cs;
-        other = λ other n. ap (λ (ns : List Trade). salesOf ns other) trades-reduced ∙ sales-other id ts cs other n;
+        own = ap (kept (own id)) trades-reduced ∙ sales-cut o id ts cs;
+        other = λ other n. ap (kept (own other)) trades-reduced ∙ sales-other o id ts cs other n;
         cut = λ other. ap (cutBefore other) trades-reduced
-            ∙ cut-before-kept other (ownSale id) ts cs (valid-notified (b .users) ts (s .trades)) (sale-within (b .header .prices) (shortAt u) asked (ownSales b u));
+            ∙ cut-before-kept other (own id) ts cs (valid-notified (b .users) ts (s .trades)) (sale-within (b .header .prices) (shortAt u) asked (salesBy own b u));
         sound = law .sound;
       }
+
+-- what the step of a run cites: a sale is its seller's
+pub sales-reduced : (b : Book) (u : User) (asked : ℕ) → Sound b → SalesReduced b u asked (reducedBy b u asked)
+sales-reduced b u asked s = reduced-of own-sales b u (own-eligible b u) asked s
 
 -- ---- users that are left as they were
 
@@ -122,18 +126,18 @@ settle-other (c ∷ cs) (s ∷ ss) us i d e =
     let first = settle-one-other c s us i d (neither .0) in
     settle-other cs ss (settleOne s (cutBy c s) us) i d (ap (λ (v : User). someCut (isParty (v .party .id)) cs ss) first ∙ neither .1) ∙ first
 
-module _ {b : Book} {u : User} {asked : ℕ} {r : Result} (h : SalesReduced b u asked r) where
+module _ {own : ℕ → Trade → Bool} {b : Book} {u : User} {asked : ℕ} {r : Result} (h : ReducedOf own b u asked r) where
   -- the user at a place that is party to no sale that lost something
-  pub user-left : (i : ℕ) (d : User) → someCut (isParty (getD (b .users) i d .party .id)) (ownCuts b u asked) (ownSales b u) ≡ false
+  pub user-left : (i : ℕ) (d : User) → someCut (isParty (getD (b .users) i d .party .id)) (cutsBy own b u asked) (salesBy own b u) ≡ false
       → getD (r .book .users) i d ≡ getD (b .users) i d
   user-left i d e =
-      ap (λ (vs : List User). getD vs i d) (h .users) ∙ settle-other (ownCuts b u asked) (ownSales b u) (b .users) i d e
+      ap (λ (vs : List User). getD vs i d) (h .users) ∙ settle-other (cutsBy own b u asked) (salesBy own b u) (b .users) i d e
 
   module _ (limits : Limits) (v : User) where
     -- short of cover after the reduction, from the position and what was sold and bought for d+1
     pub cover-after : {g : ℕ → Holding} → AllNext g (holding (r .book) v)
         → shortOfCover limits (r .book) v
-        ≡ shortFrom limits (b .header .prices) v g (cutBefore (v .party .id) (b .trades) || someCut (isParty (v .party .id)) (ownCuts b u asked) (ownSales b u))
+        ≡ shortFrom limits (b .header .prices) v g (cutBefore (v .party .id) (b .trades) || someCut (isParty (v .party .id)) (cutsBy own b u asked) (salesBy own b u))
     cover-after {g} same =
         short-from limits (r .book) v
         ∙ ap (λ (x : Header). shortFrom limits (x .prices) v (holding (r .book) v) (cutBefore (v .party .id) (r .book .trades))) (h .header)
@@ -148,9 +152,9 @@ module _ {b : Book} {u : User} {asked : ℕ} {r : Result} (h : SalesReduced b u 
     }
 
     -- the cover of a user that is party to no sale that lost something
-    pub cover-left : someCut (isParty (v .party .id)) (ownCuts b u asked) (ownSales b u) ≡ false → shortOfCover limits (r .book) v ≡ shortOfCover limits b v
+    pub cover-left : someCut (isParty (v .party .id)) (cutsBy own b u asked) (salesBy own b u) ≡ false → shortOfCover limits (r .book) v ≡ shortOfCover limits b v
     cover-left e =
         cover-after held-before
         ∙ ap (shortFrom limits (b .header .prices) v (holding b v))
-        (or-false (cutBefore (v .party .id) (b .trades)) (someCut (isParty (v .party .id)) (ownCuts b u asked) (ownSales b u)) e)
+        (or-false (cutBefore (v .party .id) (b .trades)) (someCut (isParty (v .party .id)) (cutsBy own b u asked) (salesBy own b u)) e)
         ∙ sym (short-from limits b v)

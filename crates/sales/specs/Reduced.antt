@@ -1,5 +1,5 @@
 -- What a reduction of a user for an amount does to a book, said of the user's own sales alone. Assumes nothing.
-use mathlib.Core.Bool.{_||_}
+use mathlib.Core.Bool.{Bool, _||_}
 use mathlib.Core.List.{List, map}
 use mathlib.Core.Path.{_≡_}
 use Prim.Native.Nat.{ℕ}
@@ -10,35 +10,47 @@ use Rattle.laws.specs.Trades.{Lowered, Pairwise}
 use Rattle.rules.specs.Book.{Book, User, Trade}
 use Rattle.rules.specs.Calls.{Result, ofCuts}
 use Rattle.rules.specs.Reduction.{cutAll, settle, tallyAll, nothing}
-use Rattle.sales.specs.Kept.{spread}
-use Rattle.sales.specs.Sales.{ownSale, salesOf, shortAt, saleCuts, isParty, someCut}
+use Rattle.sales.specs.Kept.{kept, spread}
+use Rattle.sales.specs.Sales.{ownSale, shortAt, saleCuts, isParty, someCut}
 
--- the user's own sales
-abbrev pub ownSales : Book → User → List Trade
-ownSales b u = salesOf (b .trades) (u .party .id)
+-- the user's own sales by a test for each id
+abbrev pub salesBy : (ℕ → Trade → Bool) → Book → User → List Trade
+salesBy own b u = kept (own (u .party .id)) (b .trades)
 
 -- and what each of them loses
+abbrev pub cutsBy : (ℕ → Trade → Bool) → Book → User → ℕ → List ℕ
+cutsBy own b u asked = saleCuts (b .header .prices) (shortAt u) asked (salesBy own b u)
+
+-- by the seller
+abbrev pub ownSales : Book → User → List Trade
+ownSales b u = salesBy ownSale b u
+
 abbrev pub ownCuts : Book → User → ℕ → List ℕ
-ownCuts b u asked = saleCuts (b .header .prices) (shortAt u) asked (ownSales b u)
+ownCuts b u asked = cutsBy ownSale b u asked
 
 -- the users after the cuts of the first of them, as many as a number says
-abbrev pub settledFirst : Book → User → ℕ → ℕ → List User
-settledFirst b u asked n = settle (ownSales b u) (cutAll (take n (ownCuts b u asked)) (ownSales b u)) (b .users)
+abbrev pub settledFirst : (ℕ → Trade → Bool) → Book → User → ℕ → ℕ → List User
+settledFirst own b u asked n = settle (salesBy own b u) (cutAll (take n (cutsBy own b u asked)) (salesBy own b u)) (b .users)
 
-pub record SalesReduced (b : Book) (u : User) (asked : ℕ) (r : Result) : Type 0 where
+-- the result of a reduction by tests of whose sale a trade is
+pub record ReducedOf (sale : ℕ → Trade → Bool) (b : Book) (u : User) (asked : ℕ) (r : Result) : Type 0 where
   pub header : r .book .header ≡ b .header
   -- each own sale stands lower by its cut, at its place; all other trades are as they were
-  pub trades : r .book .trades ≡ cutAll (spread (ownSale (u .party .id)) (b .trades) (ownCuts b u asked)) (b .trades)
+  pub trades : r .book .trades ≡ cutAll (spread (sale (u .party .id)) (b .trades) (cutsBy sale b u asked)) (b .trades)
   pub lowered : Pairwise Lowered (b .trades) (r .book .trades)
   -- the positions are settled sale by sale
-  pub users : r .book .users ≡ settle (ownSales b u) (cutAll (ownCuts b u asked) (ownSales b u)) (b .users)
+  pub users : r .book .users ≡ settle (salesBy sale b u) (cutAll (cutsBy sale b u asked) (salesBy sale b u)) (b .users)
   pub parties : map (λ v. v .party) (r .book .users) ≡ map (λ v. v .party) (b .users)
   -- the answer is made of the tally of the own sales
-  pub answer : r .answer ≡ ofCuts asked (tallyAll (b .header .prices) (ownCuts b u asked) (ownSales b u) nothing)
+  pub answer : r .answer ≡ ofCuts asked (tallyAll (b .header .prices) (cutsBy sale b u asked) (salesBy sale b u) nothing)
   -- the own sales of the user, and of another, afterwards
-  pub own : salesOf (r .book .trades) (u .party .id) ≡ cutAll (ownCuts b u asked) (ownSales b u)
-  pub other : (id : ℕ) → (id ≡ u .party .id → ⊥) → salesOf (r .book .trades) id ≡ salesOf (b .trades) id
+  pub own : kept (sale (u .party .id)) (r .book .trades) ≡ cutAll (cutsBy sale b u asked) (salesBy sale b u)
+  pub other : (id : ℕ) → (id ≡ u .party .id → ⊥) → kept (sale id) (r .book .trades) ≡ kept (sale id) (b .trades)
   -- who is party to a trade standing below notified: who was, and who is party to an own sale that lost something
-  pub cut : (id : ℕ) → cutBefore id (r .book .trades) ≡ cutBefore id (b .trades) || someCut (isParty id) (ownCuts b u asked) (ownSales b u)
+  pub cut : (id : ℕ) → cutBefore id (r .book .trades) ≡ cutBefore id (b .trades) || someCut (isParty id) (cutsBy sale b u asked) (salesBy sale b u)
   -- the book is accepted
   pub sound : Sound (r .book)
+
+-- by the seller
+abbrev pub SalesReduced : Book → User → ℕ → Result → Type 0
+SalesReduced b u asked r = ReducedOf ownSale b u asked r

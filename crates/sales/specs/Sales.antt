@@ -18,7 +18,7 @@ unfoldable pub ownSale : ℕ → Trade → Bool
 ownSale id t = eqb (t .terms .seller) id && bilateralForDay t
 
 -- the own sales of the user of an id, in the order of the trades
-unfoldable pub salesOf : List Trade → ℕ → List Trade
+abbrev pub salesOf : List Trade → ℕ → List Trade
 salesOf ts id = kept (ownSale id) ts
 
 -- the user of an id sells or buys in the trade

@@ -1,86 +1,86 @@
--- `print::lines` is safe and ends: `i` counts up to the number of users; an accepted book has the line of each of them, and its questions tell the sums. Assumes nothing.
-use Prim.Native.Nat.{_≤_, _-_}
+-- `print::lines`: an accepted book passes the questions again, which tell the sums of its users and the places of the parties of its trades. Assumes nothing.
+use mathlib.Core.Path.{_≡_, refl, _∙_}
 use native.Mathlib.Omega.{arith}
-use mathlib.Core.Path.{_∙_}
-use denote.Ref.{now}
-use Rattle.format.specs.Book.{userCount}
-use Rattle.format.proofs.Passed.{passed}
-use Rattle.questions.proofs.Asked.{sums-told}
 use borrow.Author.Needs.{needs}
+use denote.Ref.{now}
+use Rattle.cut_lists.proofs.Lists.{accepted-placed, accepted-trading}
+use Rattle.format.proofs.Passed.{passed}
+use Rattle.format.specs.Book.{tradeCount, userCount}
+use Rattle.run_reduction.proofs.Asked.{asked-runnable}
+use Rattle.run_reduction.proofs.Start.{run-counted}
+use Rattle.print.proofs.Told.{lines-asked}
 use Rattle.print.proofs.lines.Statement.{statement}
 use Rattle.print.proofs.lines.Tie as tie
 
-abbrev Inv-loop : tie.InvT-loop
-Inv-loop book sums limits n i₀ i = i ≤ n
+-- the counts of the book
+users-are : (c : tie.After-get-u8) → c .get-u8 .result ≡ userCount (now (c .before .before .before .before .before .before .before .before .before .before .args .book))
+unfolding userCount
+users-are c = c .get-u8 .ensures
 
-abbrev μ-loop : tie.MeasureT-loop
-μ-loop book sums limits n i₀ i = n - i
+trades-are : (c : tie.After-get-u16) → c .get-u16 .result ≡ tradeCount (now (c .before .before .before .before .before .before .before .before .before .before .before .args .book))
+unfolding tradeCount
+trades-are c = c .get-u16 .ensures
 
--- where the function starts
-abbrev start : tie.After-today Inv-loop μ-loop → tie.Start Inv-loop μ-loop
-start c = c .before .before .before .before .before .before .before .before
-
-slice-aggregate-ask : tie.Need-slice-aggregate-ask Inv-loop μ-loop
+slice-aggregate-ask : tie.Need-slice-aggregate-ask
 slice-aggregate-ask c = search needs
 
-slice-aggregate-ask-2 : tie.Need-slice-aggregate-ask-2 Inv-loop μ-loop
+slice-aggregate-ask-2 : tie.Need-slice-aggregate-ask-2
 slice-aggregate-ask-2 c = search needs
 
-ask-requires : tie.Need-ask-requires Inv-loop μ-loop
+ask-requires : tie.Need-ask-requires
 ask-requires c κs = search needs
 
-today-requires : tie.Need-today-requires Inv-loop μ-loop
+today-requires : tie.Need-today-requires
 today-requires c κs = search needs
 
-get-u8-requires : tie.Need-get-u8-requires Inv-loop μ-loop
-get-u8-requires c κs = let s = start c in omega (arith, passed (now (s .args .book)) (s .pre) .form .head)
+read-prices-requires : tie.Need-read-prices-requires
+read-prices-requires c κs = let s = c .before .before .before .before .before .before .before .before in passed (now (s .args .book)) (s .pre) .form .head
 
-cast-n : tie.Need-cast-n Inv-loop μ-loop
+get-u8-requires : tie.Need-get-u8-requires
+get-u8-requires c κs = let s = c .before .before .before .before .before .before .before .before .before in omega (arith, passed (now (s .args .book)) (s .pre) .form .head)
+
+cast-n : tie.Need-cast-n
 cast-n c = search needs
 
-loop-holds : tie.Need-loop-holds Inv-loop μ-loop
-loop-holds c = search needs
+get-u16-requires : tie.Need-get-u16-requires
+get-u16-requires c κs = let s = c .before .before .before .before .before .before .before .before .before .before in omega (arith, passed (now (s .args .book)) (s .pre) .form .head)
 
-line-at-requires : tie.Need-line-at-requires Inv-loop μ-loop
-unfolding userCount
-line-at-requires c κs =
-    let n = c .before .before .before in
-    let t = n .before in
-    let told = t .before .before .before .ask .ensures in
-    let passes = start t .pre in
-    (passes, (omega (arith, n .get-u8 .ensures), (sums-told (told .1) (told .0 .number ∙ passes), t .today .ensures .1)))
+cast-m : tie.Need-cast-m
+cast-m c = search needs
 
-line-requires : tie.Need-line-requires Inv-loop μ-loop
-line-requires c κs = search needs
+fill-positions-requires : tie.Need-fill-positions-requires
+fill-positions-requires c κs = let s = c .before .before .before .before .before .before .before .before .before .before .before .before in (passed (now (s .args .book)) (s .pre) .form, users-are (c .before .before), refl)
 
-add-i : tie.Need-add-i Inv-loop μ-loop
-add-i c = search needs
+fill-cut-requires : tie.Need-fill-cut-requires
+fill-cut-requires c κs =
+    let o = c .before .before .before .before .before .before .before .before .before .before .before .ask .ensures in
+    let r = asked-runnable (o .0) (o .0 .number ∙ c .before .before .before .before .before .before .before .before .before .before .before .before .before .before .before .before .pre) (λ j. c .before .before .before .before .before .before .before .before .before .before .before .before .before .before .before .shared-slice-known .given j .fits) (c .before .before .before .before .before .before .before .before .today .ensures .1) (c .before .before .before .before .before .before .before .read-prices .ensures) (o .1) in
+    let b = run-counted r (users-are (c .before .before .before .before .before .before)) (trades-are (c .before .before .before .before .before)) in
+    ((accepted-trading b, accepted-placed b), refl)
 
-loop-less : tie.Need-loop-less Inv-loop μ-loop
-loop-less c = search needs
+lines-of-requires : tie.Need-lines-of-requires
+lines-of-requires c κs =
+    let o = c .before .before .before .before .before .before .before .before .before .before .before .before .before .before .before .ask .ensures in
+    let r = asked-runnable (o .0) (o .0 .number ∙ c .before .before .before .before .before .before .before .before .before .before .before .before .before .before .before .before .before .before .before .before .pre) (λ j. c .before .before .before .before .before .before .before .before .before .before .before .before .before .before .before .before .before .before .before .shared-slice-known .given j .fits) (c .before .before .before .before .before .before .before .before .before .before .before .before .today .ensures .1) (c .before .before .before .before .before .before .before .before .before .before .before .read-prices .ensures) (o .1) in
+    lines-asked r (c .before .before .before .before .before .before .before .before .before .before .before .before .before .before .before .before .before .before .before .before .pre) (users-are (c .before .before .before .before .before .before .before .before .before .before)) (trades-are (c .before .before .before .before .before .before .before .before .before)) (c .before .before .before .before .before .before .before .fill-positions .ensures .0) (c .before .before .before .fill-cut .ensures)
 
-loop-again : tie.Need-loop-again Inv-loop μ-loop
-loop-again c = search needs
-
-returns : tie.Need-returns Inv-loop μ-loop
+returns : tie.Need-returns
 returns c = search needs
 
 pub lines-spec : {M : Type 1} → statement M
 lines-spec =
     tie.close
     (tie.spec
-    Inv-loop
-    μ-loop
     slice-aggregate-ask
     slice-aggregate-ask-2
     ask-requires
     today-requires
+    read-prices-requires
     get-u8-requires
     cast-n
-    loop-holds
-    line-at-requires
-    line-requires
-    add-i
-    loop-less
-    loop-again
+    get-u16-requires
+    cast-m
+    fill-positions-requires
+    fill-cut-requires
+    lines-of-requires
     returns)

@@ -3,7 +3,7 @@ use mathlib.Core.Path.{refl, sym, _∙_}
 use Prim.Native.Nat.{_-_}
 use native.Mathlib.Omega.{arith}
 use lib.ListN.{length, getD, length-set}
-use Rattle.tier.proofs.Stores.{Stored, stored-none, stored-more, stored-all}
+use Rattle.storing.proofs.Stores.{Stored, stored-none, stored-more, stored-all}
 use Rattle.storing.proofs.store.Statement.{statement}
 use Rattle.storing.proofs.store.Tie as tie
 

@@ -1,0 +1,3 @@
+-- The ways out of the call, and the cuts of the user.
+pub mod Ways
+pub mod Cuts

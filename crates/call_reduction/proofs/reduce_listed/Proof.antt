@@ -1,0 +1,99 @@
+-- `reduce_listed`: the user's part of the lists is cut as in a run, and what it loses is taken off in the bytes. Assumes nothing.
+use mathlib.Core.Path.{_≡_, refl}
+use native.Mathlib.Omega.{arith}
+use borrow.Author.Needs.{needs}
+use borrow.Author.Tests.{not-false, not-true}
+use denote.Ref.{now}
+use Rattle.format.specs.Book.{userCount}
+use Rattle.run_reduction.proofs.Filled.{no-cuts}
+use Rattle.run_reduction.proofs.Start.{run-counted}
+use Rattle.run_reduction.proofs.Steps.{part-few, part-rises, reducible, run-prices, sales-in}
+use Rattle.call_reduction.proofs.Cuts.{own-cuttable, own-reduced, own-refused, user-reached, user-run}
+use Rattle.call_reduction.proofs.reduce_listed.Statement.{statement}
+use Rattle.call_reduction.proofs.reduce_listed.Tie as tie
+
+-- the number of users
+users-are : (c : tie.After-get-u8) → c .get-u8 .result ≡ userCount (now (c .before .before .before .before .before .before .before .before .before .before .before .before .before .args .book))
+unfolding userCount
+users-are c = c .get-u8 .ensures
+
+mul-from : tie.Need-mul-from
+mul-from c = search needs
+
+element-copy-out-from : tie.Need-element-copy-out-from
+element-copy-out-from c = search needs
+
+add-to : tie.Need-add-to
+add-to c = search needs
+
+mul-to : tie.Need-mul-to
+mul-to c = search needs
+
+element-copy-out-to : tie.Need-element-copy-out-to
+element-copy-out-to c = search needs
+
+any-left-requires : tie.Need-any-left-requires
+any-left-requires c κs =
+    let s = c .before .before .before .before in
+    (part-few (user-run (s .pre .0) (s .pre .1)) (s .pre .0 .inside), s .pre .1 .room .standing-room)
+
+refused-requires : tie.Need-refused-requires
+refused-requires c κs = search needs
+
+returns : tie.Need-returns
+returns c =
+    let s = c .before .before .before .before .before .before .before in
+    let left = c .before .before .any-left in
+    own-refused (s .pre .0) (s .pre .1) (s .args .asked .0) (left .ensures) (not-true (left .result) (c .before .if1 .taken)) (c .refused .ensures)
+
+reduce-requires : tie.Need-reduce-requires
+reduce-requires c κs =
+    let s = c .before .before .before .before .before .before .before .before .before .before in
+    let q = user-run (s .pre .0) (s .pre .1) in
+    let h = user-reached (s .pre .0) (s .pre .1) in
+    let k = s .pre .0 .inside in
+    ((run-prices q, sales-in q k h, reducible q k h), (no-cuts _ _ (part-rises q k) (part-few q k), refl))
+
+get-u8-requires : tie.Need-get-u8-requires
+get-u8-requires c κs = omega (arith, c .before .before .before .before .before .before .before .before .before .before .before .before .pre .0 .book .book .held .form .head)
+
+cast-n : tie.Need-cast-n
+cast-n c = search needs
+
+apply-requires : tie.Need-apply-requires
+apply-requires c κs =
+    let s = c .before .before .before .before .before .before .before .before .before .before .before .before .before .before .before in
+    (run-counted (s .pre .0 .book) (users-are (c .before .before)) refl, own-cuttable (s .pre .0) (s .pre .1) (s .args .asked .0) _ _ (c .before .before .before .before .reduce .ensures .0) refl)
+
+of-cuts-requires : tie.Need-of-cuts-requires
+of-cuts-requires c κs = search needs
+
+same-length : tie.Need-same-length
+same-length c = search needs
+
+returns-2 : tie.Need-returns-2
+returns-2 c =
+    let s = c .before .before .before .before .before .before .before .before .before .before .before .before .before .before .before .before .before .before .before in
+    let left = c .before .before .before .before .before .before .before .before .before .before .before .before .before .before .any-left in
+    let r = c .before .before .before .before .before .before .before .before .reduce .ensures in
+    own-reduced (s .pre .0) (s .pre .1) (s .args .asked .0) _ _ (r .0) refl (left .ensures) (not-false (left .result) (c .before .before .before .before .before .before .before .before .before .before .before .before .before .if1 .left)) (r .1 .1 .1 .0) (c .before .before .before .apply .ensures) (c .of-cuts .ensures)
+
+pub reduce-listed-spec : {M : Type 1} → statement M
+reduce-listed-spec =
+    tie.close
+    (tie.spec
+    mul-from
+    element-copy-out-from
+    add-to
+    mul-to
+    element-copy-out-to
+    any-left-requires
+    refused-requires
+    returns
+    reduce-requires
+    get-u8-requires
+    cast-n
+    apply-requires
+    of-cuts-requires
+    same-length
+    returns-2)

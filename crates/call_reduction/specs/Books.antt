@@ -1,0 +1,25 @@
+-- A user of a book in bytes that is reduced for an amount. Assumes nothing.
+use mathlib.Core.List.{List}
+use mathlib.Core.Path.{_≡_}
+use Prim.Native.Nat.{ℕ, _<_}
+use lib.ListN.{length}
+use Rattle.format.specs.Book.{userCount, usersOf}
+use Rattle.risk_user.specs.Account.{PositionsOf}
+use Rattle.rules.specs.Areas.{Prices}
+use Rattle.rules.specs.Book.{Book}
+use Rattle.rules.specs.Levels.{Limits}
+use Rattle.run_reduction.specs.Books.{Runnable}
+use Rattle.sales.specs.Groups.{starts}
+
+-- an accepted book, a user's place in it, and the positions of its users; the limits and sums that the user's questions were asked by are of no use to the cuts
+pub record UserOf (f : Prices) (s : List ℕ) (place : ℕ) (sellers parties ps : List ℕ) : Type 0 where
+  pub limits : Limits
+  pub sums : List ℕ
+  pub book : Runnable limits f s sellers parties sums
+  pub inside : place < userCount s
+  pub positions : PositionsOf (usersOf s) ps
+  pub room : length ps ≡ 192
+
+-- the number of own sales of all users
+abbrev pub allSales : Book → ℕ
+allSales b = starts b (length (b .users))

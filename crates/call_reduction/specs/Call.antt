@@ -1,0 +1,36 @@
+-- The call of the rules that the function `reduction` is, and its questions past the user's id with what they leave. Assumes nothing.
+use mathlib.Core.List.{List, [], _∷_, _++_}
+use mathlib.Core.Path.{_≡_}
+use Prim.Native.Nat.{ℕ}
+use Rattle.rules.specs.Book.{Book, User}
+use Rattle.rules.specs.Questions.{Question, decided, refusal}
+use Rattle.rules.specs.Levels.{Limits, afternoonLevel}
+use Rattle.rules.specs.Calls.{Answer, Call, reduction, isShipper, calledInBeyondMargin, assignedFallsShort, eligibleTrade, only, reduced, reducedBy}
+use Rattle.format.specs.Book.{bookOf}
+use Rattle.format.specs.Steps.{InBytes, inBytes}
+
+-- the call that the function `reduction` is
+abbrev pub reductionOf : ℕ → Call
+reductionOf id = reduction id
+
+-- the questions 9, 11 and 13
+unfoldable pub levelQuestions : Limits → Book → User → List Question
+levelQuestions limits b u =
+    isShipper u ∷ (calledInBeyondMargin limits b u ∷ (assignedFallsShort (afternoonLevel limits b u) u ∷ []))
+
+-- the questions 9, 11, 13 and 14, and the reduction of the user for its target
+unfoldable pub onUser : Limits → List ℕ → User → InBytes
+onUser limits s u =
+    decided (refusal (levelQuestions limits (bookOf s) u ++ (eligibleTrade (bookOf s) u ∷ []))) (λ n. record { answer = only n; bytes = s })
+    (inBytes (reduced limits (bookOf s) u))
+
+-- question 14, and the reduction of the user for an amount
+unfoldable pub onSales : List ℕ → User → ℕ → InBytes
+onSales s u asked =
+    decided (refusal (eligibleTrade (bookOf s) u ∷ [])) (λ n. record { answer = only n; bytes = s })
+    (inBytes (reducedBy (bookOf s) u asked))
+
+-- an answer, and the bytes after it
+pub record Gives (x : InBytes) (a : Answer) (t : List ℕ) : Type 0 where
+  pub answer : a ≡ x .answer
+  pub bytes : t ≡ x .bytes

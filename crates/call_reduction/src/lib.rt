@@ -1,0 +1,187 @@
+// A reduction on a lent book in bytes: its questions, and the cuts of the user's own sales for what its afternoon level exceeds its assigned guarantee by. The sales are cut on
+// arrays, as in a run, and what they lose is taken off in the bytes.
+use answers::ReductionAnswer;
+use levels::Limits;
+use risk_user::Day;
+use risk_user::State;
+use units::Cents;
+use units::Prices;
+ghost use mathlib.Core.Path.{_≡_};
+ghost use Prim.Native.Nat.{_<_};
+ghost use lib.ListN.{getD};
+ghost use Rattle.answers.specs.Reduction.{answerOf};
+ghost use Rattle.format.specs.Book.{bookOf, userCount, usersOf};
+ghost use Rattle.format.specs.Steps.{Called};
+ghost use Rattle.levels.specs.Limits.{asLimits};
+ghost use Rattle.risk_user.specs.States.{stateOf};
+ghost use Rattle.rules.specs.Book.{nobody};
+ghost use Rattle.rules.specs.Levels.{today};
+ghost use Rattle.run_reduction.specs.Books.{Listed, Runnable};
+ghost use Rattle.units.specs.Prices.{asPrices};
+ghost use Rattle.call_reduction.specs.Call.{Gives, onSales, onUser, reductionOf};
+ghost use Rattle.call_reduction.specs.States.{refusedBy};
+ghost use Rattle.call_reduction.specs.Books.{UserOf, allSales};
+
+// ---- the cuts
+
+// Asks question 14 of the user at a place and reduces it for an amount, by the lists of all own sales.
+fn reduce_listed(
+    book: &mut [u8],
+    sellers: &[u8; 256],
+    parties: &[u8; 256],
+    starts: &[usize; 65],
+    origins: &[u8; 256],
+    standing: &mut [u64; 256],
+    areas: &[u8; 256],
+    buyers: &[u8; 256],
+    positions: &mut [u32; 192],
+    place: usize,
+    asked: Cents,
+    prices: Prices,
+) -> ReductionAnswer
+    requires { ⌜ UserOf (asPrices prices) (now book) place (now sellers) (now parties) (now positions) ⌝ }
+    requires { ⌜ Listed (bookOf (now book)) (now starts) (now origins) (now standing) (now areas) (now buyers) (allSales (bookOf (now book))) ⌝ }
+    ensures { λ r. ⌜ Gives (onSales (now (book .entry)) (getD (usersOf (now (book .entry))) place nobody) (asked .0)) (answerOf r) (now (book .exit)) ⌝ }
+{
+    let from = starts[place];
+    let to = starts[place + 1];
+    if !run_targets::any_left(standing, from, to) {
+        return ReductionAnswer::refused(14);
+    }
+    let mut cuts = [0u64; 256];
+    let mut rests = [0u64; 256];
+    let tally = run_reduction::reduce(
+        standing,
+        areas,
+        buyers,
+        positions,
+        &mut cuts,
+        &mut rests,
+        place,
+        asked,
+        prices,
+        from,
+        to,
+    );
+    let n = fields::get_u8(book, 5) as usize;
+    cut_apply::apply(book, n, sellers, parties, origins, &cuts, from, to);
+    ReductionAnswer::of_cuts(asked, tally)
+}
+
+// Asks question 14 of the user at a place and reduces it for an amount.
+fn reduce_sales(
+    book: &mut [u8],
+    sellers: &[u8; 256],
+    parties: &[u8; 256],
+    positions: &mut [u32; 192],
+    place: usize,
+    asked: Cents,
+    prices: Prices,
+) -> ReductionAnswer
+    requires { ⌜ UserOf (asPrices prices) (now book) place (now sellers) (now parties) (now positions) ⌝ }
+    ensures { λ r. ⌜ Gives (onSales (now (book .entry)) (getD (usersOf (now (book .entry))) place nobody) (asked .0)) (answerOf r) (now (book .exit)) ⌝ }
+{
+    let n = fields::get_u8(book, 5) as usize;
+    let m = fields::get_u16(book, 6) as usize;
+    let mut starts = [0usize; 65];
+    let mut origins = [0u8; 256];
+    let mut standing = [0u64; 256];
+    let mut areas = [0u8; 256];
+    let mut buyers = [0u8; 256];
+    cut_lists::fill_lists(
+        book,
+        n,
+        m,
+        sellers,
+        parties,
+        &mut starts,
+        &mut origins,
+        &mut standing,
+        &mut areas,
+        &mut buyers,
+    );
+    reduce_listed(
+        book,
+        sellers,
+        parties,
+        &starts,
+        &origins,
+        &mut standing,
+        &areas,
+        &buyers,
+        positions,
+        place,
+        asked,
+        prices,
+    )
+}
+
+// ---- the questions
+
+// The number of the question 9, 11 or 13 that refuses a user in this state; 0 where none does.
+fn refused_by(state: State) -> u32
+    ensures { λ r. ⌜ r ≡ refusedBy (stateOf state) ⌝ }
+{
+    match state {
+        State::Clear => 9,
+        State::Short => 0,
+        State::Call => 13,
+        State::Quiet => 11,
+    }
+}
+
+// Asks the questions 9, 11, 13 and 14 of the user at a place and reduces it for its target.
+fn reduce_user(
+    book: &mut [u8],
+    sellers: &[u8; 256],
+    parties: &[u8; 256],
+    sums: &[u32; 768],
+    place: usize,
+    day: Day,
+) -> ReductionAnswer
+    requires { ⌜ Runnable (asLimits (day .limits)) (asPrices (day .prices)) (now book) (now sellers) (now parties) (now sums) × (place < userCount (now book)) ⌝ }
+    ensures { λ r. ⌜ Gives (onUser (asLimits (day .limits)) (now (book .entry)) (getD (usersOf (now (book .entry))) place nobody)) (answerOf r) (now (book .exit)) ⌝ }
+{
+    let n = fields::get_u8(book, 5) as usize;
+    let m = fields::get_u16(book, 6) as usize;
+    let mut positions = [0u32; 192];
+    run_positions::fill_positions(book, n, &mut positions);
+    let cut = run_targets::cut_at(book, n, m, sellers, parties, place);
+    let called = risk_user::called_at(book, &positions, place, cut, day);
+    let level = risk_user::level_at(book, sums, &positions, place, day);
+    let number = refused_by(risk_user::state_of(book, place, level, called, day));
+    if number != 0 {
+        return ReductionAnswer::refused(number);
+    }
+    let target = risk_user::target_of(book, place, level, day);
+    reduce_sales(
+        book,
+        sellers,
+        parties,
+        &mut positions,
+        place,
+        Cents(target),
+        day.prices,
+    )
+}
+
+// The reduction of the user of an id: its eligible trades are cut for its target.
+pub fn reduction(book: &mut [u8], id: u32) -> ReductionAnswer
+    ensures { λ r. ⌜ Called today (now (book .entry)) (reductionOf id) (answerOf r) (now (book .exit)) ⌝ }
+{
+    let mut sellers = [0u8; 256];
+    let mut parties = [0u8; 256];
+    let mut sums = [0u32; 768];
+    let asked = questions::ask(book, &mut sellers, &mut parties, &mut sums);
+    let entry = entry::seek(book, asked.number, id);
+    let number = entry.number;
+    let place = entry.place;
+    if number != 0 {
+        return ReductionAnswer::refused(number);
+    }
+    let day = Day {
+        limits: Limits::today(),
+        prices: header::read_prices(book),
+    };
+    reduce_user(book, &sellers, &parties, &sums, place, day)
+}

@@ -1,2 +1,0 @@
--- Laws of flags that are brought up to date.
-pub mod Flags

@@ -1,0 +1,129 @@
+-- A user's position in an area: four bytes of the book, and with these set the bytes hold the book with that user moved. Assumes nothing.
+use mathlib.Core.List.{List}
+use mathlib.Core.Path.{_≡_, refl, sym, ap, ap₂, subst⁻¹, _∙_}
+use Prim.Native.Nat.{ℕ, zero, suc, _+_, _*_, _≤_, _<_, _^_}
+use native.Mathlib.Omega.{arith}
+use lib.IntN.{ℤ, pos, negℤ, _+ℤ_}
+use lib.ListN.{length, take, drop, getD}
+use lib.Seq.{sets}
+use Rattle.fields.proofs.Field.{field-lt, field-part, length-toBytes}
+use Rattle.fields.specs.Field.{field, setField, toBytes}
+use Rattle.fields.specs.Layout.{size}
+use Rattle.format.proofs.Passed.{length-usersOf}
+use Rattle.format.specs.Book.{bookOf, usersOf}
+use Rattle.held.proofs.Held.{held-bytes, held-user, held-user-fits, held-user-part}
+use Rattle.held.proofs.Positions.{position-bytes}
+use Rattle.held.proofs.Parts.{pack-set}
+use Rattle.held.specs.Held.{HeldAs}
+use Rattle.integers.proofs.Linear.{negPart-neg, negPart-of, negPart-pos, parts-add, posPart-neg, posPart-of, posPart-pos}
+use Rattle.integers.specs.Parts.{negPart, posPart}
+use Rattle.records.proofs.Users.{user-of-bytes}
+use Rattle.records.specs.User.{FitsAmounts, FitsSigned, FitsUser, amountValues, amountWidths, userBytes, userValues, userWidths}
+use Rattle.rules.specs.Book.{PerArea, User, at, nobody}
+use Rattle.rules.specs.Changes.{add, moved, withUsers}
+use Rattle.rules.specs.Signed.{bitsOf, signedOf}
+use Rattle.units.proofs.TwosComplement.{negPart-signedOf-le, posPart-signedOf-lt}
+use Rattle.cut_apply.specs.Positions.{PositionIn, movedAt, positionOf}
+
+-- ---- one user
+
+-- amounts that fit still do where the new one does
+fits-added : (v : PerArea) (z : ℤ) (area : ℕ) → FitsAmounts v → FitsSigned 32 (at v area +ℤ z) → FitsAmounts (add v area z)
+unfolding add at
+fits-added v z zero f p = record { pvb = p; tvb = f .tvb; avb = f .avb }
+fits-added v z (suc zero) f p = record { pvb = f .pvb; tvb = p; avb = f .avb }
+fits-added v z (suc (suc area)) f p = record { pvb = f .pvb; tvb = f .tvb; avb = p }
+
+module _ (u : User) (z : ℤ) where
+  -- a user that is moved differs in them
+  bytes-moved : (area : ℕ) → area < 3 → userBytes (moved area z u) ≡ sets (userBytes u) (20 + 4 * area) (toBytes 4 (bitsOf 32 (at (u .position) area +ℤ z)))
+  unfolding userBytes userValues amountValues userWidths amountWidths moved add at size setField
+  bytes-moved zero h = pack-set userWidths (userValues u) 6 (bitsOf 32 (u .position .pvb +ℤ z)) (omega arith) refl
+  bytes-moved (suc zero) h = pack-set userWidths (userValues u) 7 (bitsOf 32 (u .position .tvb +ℤ z)) (omega arith) refl
+  bytes-moved (suc (suc zero)) h = pack-set userWidths (userValues u) 8 (bitsOf 32 (u .position .avb +ℤ z)) (omega arith) refl
+  bytes-moved (suc (suc (suc area))) h = absurd (omega arith)
+
+  -- a user that fits still does where the new position does
+  fits-moved : (area : ℕ) → FitsUser u → FitsSigned 32 (at (u .position) area +ℤ z) → FitsUser (moved area z u)
+  unfolding moved
+  fits-moved area f p =
+      record {
+        id = f .id;
+        role = f .role;
+        physical = f .physical;
+        position = fits-added (u .position) z area (f .position) p;
+        charges = f .charges;
+        assigned = f .assigned;
+        blocked = f .blocked;
+      }
+
+-- a sum is at most its parts
+pub add-le : (x z : ℤ) → (posPart (x +ℤ z) ≤ posPart x + posPart z) × (negPart (x +ℤ z) ≤ negPart x + negPart z)
+add-le x z =
+    let e = parts-add x z in
+    (omega (arith, posPart-of (x +ℤ z) (posPart x + posPart z) (negPart x + negPart z) e), omega (arith, negPart-of (x +ℤ z) (posPart x + posPart z) (negPart x + negPart z) e))
+
+-- ---- in the book
+
+module _ (s : List ℕ) {place area : ℕ} (p : PositionIn s place area) where
+  -- the user is one of the book's
+  among-users : place < length (usersOf s)
+  among-users = omega (arith, length-usersOf s, p .user-inside)
+
+  -- the four bytes of the position stand for it
+  position-read : signedOf 32 (field 4 (32 + 56 * place + 20 + 4 * area) s) ≡ positionOf (usersOf s) place area
+  unfolding bookOf
+  position-read =
+      let n : 32 + 56 * place + 20 + 4 * area ≡ 32 + 56 * place + (20 + 4 * area) = omega arith in
+      let c = take 56 (drop (32 + 56 * place) s) in
+      rw n
+      (ap (signedOf 32) (sym (field-part 4 (20 + 4 * area) (32 + 56 * place) 56 s (omega (arith, p .area-inside))))
+      ∙ sym (position-bytes c area (p .area-inside))
+      ∙ ap (λ (u : User). at (u .position) area) (held-user (p .held) place nobody among-users))
+
+  -- with them set, the user is moved
+  position-set : (z : ℤ) → FitsSigned 32 (positionOf (usersOf s) place area +ℤ z)
+      → HeldAs (withUsers (bookOf s) (movedAt place area z (usersOf s))) (setField 4 (32 + 56 * place + 20 + 4 * area) (bitsOf 32 (positionOf (usersOf s) place area +ℤ z)) s)
+  unfolding bookOf setField
+  position-set z f =
+      let u = getD (usersOf s) place nobody in
+      let v = toBytes 4 (bitsOf 32 (at (u .position) area +ℤ z)) in
+      held-user-part (p .held) place (moved area z u) among-users (user-of-bytes (moved area z u) (fits-moved u z area (held-user-fits (p .held) place nobody among-users) f)) (20 + 4 * area)
+      (32 + 56 * place + 20 + 4 * area) nobody v (omega arith) (omega (arith, length-toBytes 4 (bitsOf 32 (at (u .position) area +ℤ z)), p .area-inside)) (bytes-moved u z area (p .area-inside))
+
+  -- what is read stands for the position
+  pub position-is : {a bits : ℕ} → a ≡ 32 + 56 * place + 20 + 4 * area → bits ≡ field 4 a s → signedOf 32 bits ≡ positionOf (usersOf s) place area
+  position-is stands read = ap (signedOf 32) (read ∙ ap (λ (i : ℕ). field 4 i s) stands) ∙ position-read
+
+  -- the bits after a move are put there
+  pub position-moved : (z : ℤ) {a bits r : ℕ} {t : List ℕ} → a ≡ 32 + 56 * place + 20 + 4 * area → bits ≡ field 4 a s → r ≡ bitsOf 32 (signedOf 32 bits +ℤ z) → t ≡ setField 4 a r s
+      → FitsSigned 32 (positionOf (usersOf s) place area +ℤ z) → HeldAs (withUsers (bookOf s) (movedAt place area z (usersOf s))) t
+  position-moved z {a} {bits} {r} stands read put e fits =
+      let same : setField 4 a r s ≡ setField 4 (32 + 56 * place + 20 + 4 * area) (bitsOf 32 (positionOf (usersOf s) place area +ℤ z)) s =
+      ap₂ (λ (i v : ℕ). setField 4 i v s) stands (put ∙ ap (λ (x : ℤ). bitsOf 32 (x +ℤ z)) (position-is stands read)) in
+      subst⁻¹ (HeldAs (withUsers (bookOf s) (movedAt place area z (usersOf s)))) (e ∙ same) (position-set z fits)
+
+  -- its four bytes lie in the book
+  pub position-inside : {a : ℕ} → a ≡ 32 + 56 * place + 20 + 4 * area → a + 4 ≤ length s
+  position-inside e = omega (arith, e, p .held .form .whole, p .user-inside, p .area-inside)
+
+  -- there are at most 64 users
+  pub position-low : place < 64
+  position-low = omega (arith, p .held .form .users, p .user-inside)
+
+  -- a position that is raised, or lowered, within 32 bits
+  pub fits-raised : (n : ℕ) → posPart (positionOf (usersOf s) place area) + n < 2 ^ 31 → FitsSigned 32 (positionOf (usersOf s) place area +ℤ pos n)
+  fits-raised n h =
+      let l = add-le (positionOf (usersOf s) place area) (pos n) in
+      let low = negPart-signedOf-le 32 (field 4 (32 + 56 * place + 20 + 4 * area) s) in
+      record { above = omega (arith, l .0, posPart-pos n); below = omega (arith, l .1, negPart-pos n, low, ap negPart position-read) }
+
+  pub fits-lowered : (n : ℕ) → negPart (positionOf (usersOf s) place area) + n ≤ 2 ^ 31 → FitsSigned 32 (positionOf (usersOf s) place area +ℤ negℤ (pos n))
+  fits-lowered n h =
+      let l = add-le (positionOf (usersOf s) place area) (negℤ (pos n)) in
+      let u = field 4 (32 + 56 * place + 20 + 4 * area) s in
+      let low = posPart-signedOf-lt 32 u (field-lt 4 (32 + 56 * place + 20 + 4 * area) s (held-bytes (p .held))) in
+      record {
+        above = omega (arith, l .0, posPart-neg (pos n), negPart-pos n, low, ap posPart position-read);
+        below = omega (arith, l .1, negPart-neg (pos n), posPart-pos n);
+      }

@@ -1,0 +1,54 @@
+-- `count_losing`: those passed and those left are all. Assumes nothing.
+use Prim.Native.Nat.{_-_}
+use native.Mathlib.Omega.{arith}
+use borrow.Author.Needs.{needs}
+use Rattle.cut_apply.proofs.Losing.{CountedTo, counted-end, counted-more, counted-start}
+use Rattle.cut_apply.proofs.count_losing.Statement.{statement}
+use Rattle.cut_apply.proofs.count_losing.Tie as tie
+
+abbrev Inv-loop : tie.InvT-loop
+Inv-loop cuts from to lost₀ k₀ lost k = CountedTo cuts from to lost k
+
+abbrev μ-loop : tie.MeasureT-loop
+μ-loop cuts from to lost₀ k₀ lost k = to - k
+
+loop-holds : tie.Need-loop-holds Inv-loop μ-loop
+loop-holds c = counted-start (c .pre .0)
+
+mul-place-after : tie.Need-mul-place-after Inv-loop μ-loop
+mul-place-after c = search needs
+
+element-copy-out-place-after : tie.Need-element-copy-out-place-after Inv-loop μ-loop
+element-copy-out-place-after c = omega (arith, c .loop-test .taken, c .before .before .pre .1)
+
+place-after-requires : tie.Need-place-after-requires Inv-loop μ-loop
+place-after-requires c κs = omega (arith, c .before .before .loop .inv .few, c .before .before .loop .inv .inside, c .before .before .before .pre .1)
+
+add-k : tie.Need-add-k Inv-loop μ-loop
+add-k c = search needs
+
+loop-less : tie.Need-loop-less Inv-loop μ-loop
+loop-less c = search needs
+
+loop-again : tie.Need-loop-again Inv-loop μ-loop
+loop-again c = counted-more (c .before .before .before .loop .inv) (c .before .before .loop-test .taken) (c .before .before .before .before .pre .2) (c .place-after .ensures)
+
+returns : tie.Need-returns Inv-loop μ-loop
+returns c =
+    let q = c .before .loop .inv in
+    (counted-end q (c .loop-test .left), omega (arith, q .few, q .inside, c .before .before .pre .1))
+
+pub count-losing-spec : {M : Type 1} → statement M
+count-losing-spec =
+    tie.close
+    (tie.spec
+    Inv-loop
+    μ-loop
+    loop-holds
+    mul-place-after
+    element-copy-out-place-after
+    place-after-requires
+    add-k
+    loop-less
+    loop-again
+    returns)

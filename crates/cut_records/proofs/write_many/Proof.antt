@@ -1,0 +1,76 @@
+-- `write_many`: what is left to write gives all. Assumes nothing.
+use Prim.Native.Nat.{_-_}
+use native.Mathlib.Omega.{arith}
+use borrow.Author.Needs.{needs}
+use lib.ListN.{length}
+use Rattle.cut_records.proofs.Places.{place-low, place-of}
+use Rattle.cut_records.proofs.Placed.{PlacedSo, placed-start, placed-next, placed-turn, placed-long, placed-end}
+use Rattle.cut_records.proofs.write_many.Statement.{statement}
+use Rattle.cut_records.proofs.write_many.Tie as tie
+
+abbrev Inv-loop : tie.InvT-loop
+Inv-loop book₀ at origins many k₀ book k = PlacedSo book₀ origins many book k
+
+abbrev μ-loop : tie.MeasureT-loop
+μ-loop book₀ at origins many k₀ book k = length origins - k
+
+loop-holds : tie.Need-loop-holds Inv-loop μ-loop
+loop-holds c = placed-start (c .before .before .pre)
+
+shared-slice-read-place : tie.Need-shared-slice-read-place Inv-loop μ-loop
+shared-slice-read-place c = search needs
+
+cast-place : tie.Need-cast-place Inv-loop μ-loop
+cast-place c =
+    let l = c .before .before in
+    let s = l .before .before .before in
+    omega (arith, place-low (place-of (s .pre) (l .loop .k) (c .before .loop-test .taken)))
+
+mul-put-trade : tie.Need-mul-put-trade Inv-loop μ-loop
+mul-put-trade c = search needs
+
+array-copy-out-put-trade : tie.Need-array-copy-out-put-trade Inv-loop μ-loop
+array-copy-out-put-trade c = search needs
+
+put-trade-requires : tie.Need-put-trade-requires Inv-loop μ-loop
+put-trade-requires c κs =
+    let l = c .before .before .before .before in
+    let s = l .before .before .before in
+    placed-next (s .pre) (l .loop .inv) (c .before .before .before .loop-test .taken)
+
+add-k : tie.Need-add-k Inv-loop μ-loop
+add-k c = search needs
+
+loop-less : tie.Need-loop-less Inv-loop μ-loop
+loop-less c = search needs
+
+loop-again : tie.Need-loop-again Inv-loop μ-loop
+loop-again c =
+    let l = c .before .before .before .before .before .before .before in
+    let s = l .before .before .before in
+    let few = s .pre .few in
+    placed-turn (s .pre) (l .loop .inv) _ (c .before .before .before .before .before .before .loop-test .taken) (search needs) (c .before .before .put-trade .ensures)
+
+same-length : tie.Need-same-length Inv-loop μ-loop
+same-length c = placed-long (c .before .before .before .before .pre) (c .before .loop .inv)
+
+returns : tie.Need-returns Inv-loop μ-loop
+returns c = placed-end (c .before .before .before .before .pre) (c .before .loop .inv) (c .loop-test .left)
+
+pub write-many-spec : {M : Type 1} → statement M
+write-many-spec =
+    tie.close
+    (tie.spec
+    Inv-loop
+    μ-loop
+    loop-holds
+    shared-slice-read-place
+    cast-place
+    mul-put-trade
+    array-copy-out-put-trade
+    put-trade-requires
+    add-k
+    loop-less
+    loop-again
+    same-length
+    returns)

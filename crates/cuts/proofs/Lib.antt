@@ -1,2 +1,0 @@
--- Laws of cuts that are added.
-pub mod Together

@@ -1,2 +1,0 @@
--- What is lent to the cuts of a reduction.
-pub mod Cuts

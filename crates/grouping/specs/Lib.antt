@@ -1,2 +1,0 @@
--- The own sales of all users in lists, user by user.
-pub mod Grouping

@@ -1,2 +1,0 @@
--- Laws of a reduction on numbers: the cuts in range.
-pub mod Cuts

@@ -1,2 +1,0 @@
--- A run's book as the code's lists have it.
-pub mod Listed

@@ -1,2 +1,0 @@
--- The own sales of a user in lists, read from the bytes of a book.
-pub mod Listing

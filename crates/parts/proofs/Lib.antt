@@ -1,2 +1,0 @@
--- Laws of the sums before each place.
-pub mod Sums

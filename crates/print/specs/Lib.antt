@@ -1,0 +1,2 @@
+-- What the lines of a day are told from.
+pub mod Lines

@@ -1,2 +1,0 @@
--- The ways out of a reduction.
-pub mod Ways

@@ -1,2 +1,0 @@
--- The call that a reduction is, and the questions that are its own.
-pub mod Call

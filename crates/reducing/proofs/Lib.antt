@@ -1,5 +1,0 @@
--- Laws of one reduction in the bytes of a book: the own sales in range, their positions settled by places, what stands of them written, and the steps together.
-pub mod Own
-pub mod Settled
-pub mod Written
-pub mod Steps

@@ -1,2 +1,0 @@
--- One reduction in the bytes of a book.
-pub mod Reducing

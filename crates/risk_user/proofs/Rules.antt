@@ -1,0 +1,56 @@
+-- What is read of a user of a book is what the rules say of it: level, flag, called in and state. Assumes nothing.
+use mathlib.Core.Bool.{Bool, true, false, cond, _&&_, _||_}
+use mathlib.Core.List.{List, []}
+use mathlib.Core.Path.{_≡_, refl, sym, ap, ap₂, subst, _∙_}
+use Prim.Native.Nat.{ℕ, _+_, _*_, _-_, _<_}
+use native.Mathlib.Omega.{arith}
+use lib.Dec.{T, leb, ltb}
+use lib.ListN.{length, getD}
+use Rattle.dealings.specs.Parties.{cutBefore, isCut}
+use Rattle.positions.specs.Twelve.{TwelveOf}
+use Rattle.rules.specs.Book.{Book, User, nobody}
+use Rattle.rules.specs.Day.{State, call, callDue, clear, quiet, short, state}
+use Rattle.rules.specs.Levels.{Limits, afternoonLevel, buys, calledIn, exceedsMargin, exposure, flagged, holding, partyTo, sells, shipper, shortOfCover}
+use Rattle.sales.proofs.Cover.{exposure-next, flagged-next, level-next}
+use Rattle.sales.specs.Cover.{AllNext, flaggedFrom, levelFrom}
+use Rattle.risk_user.specs.Account.{PositionsOf, flaggedAt, heldAt, levelAt, targetOf}
+use Rattle.risk_user.specs.States.{stateBy}
+
+module _ (b : Book) {sums ps : List ℕ} (w : TwelveOf (b .users) (b .trades) sums) (p : PositionsOf (b .users) ps) (i : ℕ) (k : i < length (b .users)) where
+  -- what the user holds
+  held-own : AllNext (heldAt sums ps i) (holding b (getD (b .users) i nobody))
+  unfolding heldAt holding
+  held-own =
+      record {
+        each = λ area h. record {
+          position = p .each i area k h;
+          sold = w .sold-at i area 1 k h (omega arith);
+          bought = ap (λ (n : ℕ). getD sums n 0) (next area) ∙ w .bought-at i area 1 k h (omega arith);
+        };
+      }
+    where
+      next : (area : ℕ) → 12 * i + 9 + area ≡ 12 * i + 6 + 3 * 1 + area
+      next area = omega arith
+
+  module _ (limits : Limits) where
+    pub level-own : levelAt limits (b .header .prices) (b .users) sums ps i ≡ afternoonLevel limits b (getD (b .users) i nobody)
+    unfolding levelAt levelFrom afternoonLevel
+    level-own = level-next held-own limits (b .header .prices) (getD (b .users) i nobody)
+
+    -- flagged, or party to a trade standing below notified
+    pub called-own : {r cut : Bool} → r ≡ (flaggedAt limits (b .header .prices) (b .users) ps i || cut) → cut ≡ cutBefore (getD (b .users) i nobody .party .id) (b .trades)
+        → r ≡ calledIn limits b (getD (b .users) i nobody)
+    unfolding flaggedAt flaggedFrom heldAt exposure calledIn flagged cutBefore isCut partyTo sells buys
+    called-own {r} {cut} e c = e ∙ ap₂ (λ (x y : Bool). x || y) (flagged-next held-own limits (b .header .prices) (getD (b .users) i nobody)) c
+
+module _ (limits : Limits) (b : Book) (u : User) {level : ℕ} (e : level ≡ afternoonLevel limits b u) where
+  pub state-own : {called : Bool} → called ≡ calledIn limits b u → stateBy limits u level called ≡ state limits b u
+  unfolding stateBy state shortOfCover callDue
+  state-own c = rw (e, c) (go (shipper u))
+    where
+      go : (x : Bool) → cond x (cond (calledIn limits b u && (exceedsMargin limits (afternoonLevel limits b u) u && ltb (u .party .assigned) (afternoonLevel limits b u))) short
+          (cond (calledIn limits b u && (exceedsMargin limits (afternoonLevel limits b u) u && leb (afternoonLevel limits b u) (u .party .assigned))) call quiet)) clear
+          ≡ cond x (cond ((x && calledIn limits b u) && (exceedsMargin limits (afternoonLevel limits b u) u && ltb (u .party .assigned) (afternoonLevel limits b u))) short
+          (cond (calledIn limits b u && (exceedsMargin limits (afternoonLevel limits b u) u && leb (afternoonLevel limits b u) (u .party .assigned))) call quiet)) clear
+      go true = refl
+      go false = refl

@@ -1,0 +1,58 @@
+-- `state_of`: each way out is a case of the definition. Assumes nothing.
+use lib.ListN.{getD}
+use borrow.Author.Needs.{needs}
+use borrow.Author.Tests.{not-true, not-false}
+use denote.Ref.{now}
+use Rattle.format.specs.Book.{usersOf}
+use Rattle.levels.specs.Limits.{asLimits}
+use Rattle.rules.specs.Book.{User, nobody}
+use Rattle.rules.specs.Levels.{Limits}
+use Rattle.risk_user.proofs.States.{state-call, state-clear, state-short, state-uncalled, state-within}
+use Rattle.risk_user.proofs.state_of.Statement.{statement}
+use Rattle.risk_user.proofs.state_of.Tie as tie
+
+-- the limits and the user of the rules
+abbrev l : tie.Start → Limits
+l s = asLimits (s .args .day .limits)
+
+abbrev u : tie.Start → User
+u s = getD (usersOf (now (s .args .book))) (s .args .place) nobody
+
+role-at-requires : tie.Need-role-at-requires
+role-at-requires c κs = search needs
+
+returns : tie.Need-returns
+returns c =
+    let s = c .before .before .before in
+    state-clear (l s) (u s) (s .args .level .0) (s .args .called) (c .before .role-at .ensures) (c .if1 .taken)
+
+returns-2 : tie.Need-returns-2
+returns-2 c =
+    let s = c .before .before .before .before in
+    state-uncalled (l s) (u s) (s .args .level .0) (c .before .before .role-at .ensures) (c .before .if1 .left) (not-true (s .args .called) (c .if2 .taken))
+
+target-of-requires : tie.Need-target-of-requires
+target-of-requires c κs = search needs
+
+returns-3 : tie.Need-returns-3
+returns-3 c =
+    let s = c .before .before .before .before .before .before in
+    state-short (l s) (u s) (s .args .level .0) (c .before .before .before .before .role-at .ensures) (c .before .before .before .if1 .left) (not-false (s .args .called) (c .before .before .if2 .left)) (c .before .target-of .ensures) (c .if3 .taken)
+
+exceeds-margin-requires : tie.Need-exceeds-margin-requires
+exceeds-margin-requires c κs = search needs
+
+returns-4 : tie.Need-returns-4
+returns-4 c =
+    let s = c .before .before .before .before .before .before .before .before in
+    state-call (l s) (u s) (s .args .level .0) (c .before .before .before .before .before .before .role-at .ensures) (c .before .before .before .before .before .if1 .left) (not-false (s .args .called) (c .before .before .before .before .if2 .left)) (c .before .before .before .target-of .ensures) (c .before .before .if3 .left)
+    (c .before .exceeds-margin .ensures) (c .if4 .taken)
+
+returns-5 : tie.Need-returns-5
+returns-5 c =
+    let s = c .before .before .before .before .before .before .before .before in
+    state-within (l s) (u s) (s .args .level .0) (c .before .before .before .before .before .before .role-at .ensures) (c .before .before .before .before .before .if1 .left) (not-false (s .args .called) (c .before .before .before .before .if2 .left)) (c .before .before .before .target-of .ensures) (c .before .before .if3 .left)
+    (c .before .exceeds-margin .ensures) (c .if4 .left)
+
+pub state-of-spec : {M : Type 1} → statement M
+state-of-spec = tie.close (tie.spec role-at-requires returns returns-2 target-of-requires returns-3 exceeds-margin-requires returns-4 returns-5)

@@ -1,2 +1,0 @@
--- What a run in bytes gives.
-pub mod Reductions

@@ -1,0 +1,63 @@
+-- What stands of sales, copied, and what they have lost put in its place, one by one. Assumes nothing.
+use mathlib.Core.List.{List, [], _∷_, _++_}
+use mathlib.Core.Path.{_≡_, refl, sym, ap, subst, _∙_}
+use Prim.Native.Nat.{ℕ, _+_, _-_, _≤_, _<_}
+use native.Mathlib.Numerals.{add-one}
+use native.Mathlib.Omega.{arith}
+use lib.ListN.{length, take, getD, set, length-set}
+use lib.Seq.{getD-set-same, getD-set-other, take-suc, take-suc-set}
+use Rattle.integers.proofs.Linear.{by-order}
+use Rattle.run_book.specs.Books.{LeftOf, LostOf}
+
+-- ---- copied
+
+-- the first i are
+pub record CopiedTo (ns ms : List ℕ) (i : ℕ) : Type 0 where
+  pub room : length ms ≡ 256
+  pub front : take i ms ≡ take i ns
+
+pub copied-start : (ns : List ℕ) {ms : List ℕ} → length ms ≡ 256 → CopiedTo ns ms 0
+copied-start ns e = record { room = e; front = refl }
+
+pub copied-more : {ns ms : List ℕ} {i : ℕ} → length ns ≡ 256 → i < 256 → CopiedTo ns ms i → CopiedTo ns (set ms i (getD ns i 0)) (i + 1)
+copied-more {ns} {ms} {i} e h p =
+    let more : take (i + 1) (set ms i (getD ns i 0)) ≡ take i ms ++ (getD ns i 0 ∷ []) = rw add-one (take-suc-set ms i (getD ns i 0) (omega (arith, p .room))) in
+    let next : take (i + 1) ns ≡ take i ns ++ (getD ns i 0 ∷ []) = rw add-one (take-suc ns i 0 (omega arith)) in
+    record {
+      room = length-set ms i (getD ns i 0) ∙ p .room;
+      front = more ∙ ap (λ (xs : List ℕ). xs ++ (getD ns i 0 ∷ [])) (p .front) ∙ sym next;
+    }
+
+-- ---- lost
+
+-- the first i have what was lost, the rest what is left
+pub record LostTo (ns ms cs : List ℕ) (i : ℕ) : Type 0 where
+  pub room : length cs ≡ 256
+  pub each : (k : ℕ) → k < i → getD ms k 0 + getD cs k 0 ≡ getD ns k 0
+  pub rest : (k : ℕ) → i ≤ k → getD cs k 0 ≡ getD ms k 0
+
+module _ {ns ms : List ℕ} {count : ℕ} (q : LeftOf ns ms count) where
+  pub lost-start : LostTo ns ms ms 0
+  lost-start = record { room = q .room; each = λ k h. absurd (omega arith); rest = λ k h. refl }
+
+  module _ {cs : List ℕ} {i : ℕ} (p : LostTo ns ms cs i) where
+    -- what is left is no more than stood
+    pub lost-fits : i < count → getD cs i 0 ≤ getD ns i 0
+    lost-fits h = omega (arith, p .rest i (omega arith), q .most i h)
+
+    pub lost-more : i < count → LostTo ns ms (set cs i (getD ns i 0 - getD cs i 0)) (i + 1)
+    lost-more h =
+        let v = getD ns i 0 - getD cs i 0 in
+        let here : getD ms i 0 + getD (set cs i v) i 0 ≡ getD ns i 0
+        = omega (arith, getD-set-same cs i v 0 (omega (arith, p .room, q .few)), p .rest i (omega arith), q .most i h) in
+        record {
+          room = length-set cs i v ∙ p .room;
+          each = λ k l.
+              by-order k i
+              (λ m. omega (arith, getD-set-other cs i k v 0 (λ z. omega arith), p .each k m))
+              (λ m. let z : i ≡ k = omega arith in subst (λ (j : ℕ). getD ms j 0 + getD (set cs i v) j 0 ≡ getD ns j 0) z here);
+          rest = λ k l. getD-set-other cs i k v 0 (λ z. omega arith) ∙ p .rest k (omega arith);
+        }
+
+    pub lost-end : count ≤ i → LostOf ns ms cs count
+    lost-end h = record { room = p .room; each = λ k l. p .each k (omega arith) }

@@ -1,0 +1,46 @@
+-- The arrays that a run starts from. Assumes nothing.
+use mathlib.Core.Bool.{Bool}
+use mathlib.Core.List.{List}
+use mathlib.Core.Path.{_≡_, refl}
+use Prim.Native.Nat.{ℕ}
+use native.Mathlib.Omega.{arith}
+use lib.ListN.{length, take}
+use Rattle.columns.specs.Columns.{tradesIn, usersIn}
+use Rattle.format.specs.Book.{bookOf, tradeCount, tradesAt, tradesOf, userAt, userCount, usersOf}
+use Rattle.rules.specs.Areas.{Prices}
+use Rattle.rules.specs.Levels.{Limits}
+use Rattle.run_state.proofs.Grouped.{going-first}
+use Rattle.risk_user.specs.Account.{PositionsOf}
+use Rattle.run_state.specs.Going.{Going, OwedOf}
+use Rattle.run_targets.specs.Asking.{CutFlags, Opening}
+use Rattle.run_reduction.specs.Books.{Listed, Runnable}
+use Rattle.run_reduction.proofs.Start.{listed-standing}
+
+module _ {limits : Limits} {f : Prices} {s sellers parties sums : List ℕ} (r : Runnable limits f s sellers parties sums)
+    {ss origins ns areaCodes bs : List ℕ} {count : ℕ} (l : Listed (bookOf s) ss origins ns areaCodes bs count) where
+  -- what the first targets are asked from
+  pub run-opening : {n m : ℕ} → n ≡ userCount s → m ≡ tradeCount s → {ps : List ℕ} {flags : List Bool} → PositionsOf (usersOf s) ps → CutFlags (usersIn n s) (tradesIn n m s) flags
+      → Opening f n s sums ps ss ns flags
+  unfolding bookOf usersOf tradesOf tradesAt userAt
+  run-opening {n} {m} e k {ps} {flags} p c =
+      let q = l .sales in
+      record {
+        form = r .book .held .form;
+        sound = r .book .sound;
+        users-are = e;
+        prices-are = r .prices-are;
+        twelve = r .twelve;
+        positions = p;
+        starts-at = q .starts-at;
+        few = omega (arith, q .all, q .few);
+        standing-room = l .room .standing-room;
+        standing = listed-standing l refl;
+        cut = rw (e, k) at c;
+      }
+
+  -- the run starts at its opening book
+  pub run-going : {ms ps ts : List ℕ} {es : List Bool} → take count ms ≡ take count ns → length ms ≡ 256 → PositionsOf (usersOf s) ps → length ps ≡ 192
+      → OwedOf limits (bookOf s) ts es → length ts ≡ 64 → length es ≡ 64 → Going limits (bookOf s) (bookOf s) ms ps ts es
+  unfolding bookOf
+  run-going e long p ps-room w ts-room es-room =
+      going-first (r .book .sound) (listed-standing l e) p w (record { standing = long; positions = ps-room; targets = ts-room; eligible = es-room })

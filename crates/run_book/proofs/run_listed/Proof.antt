@@ -1,0 +1,103 @@
+-- `run_listed`: positions, who has been cut and who owes what are those of the opening book; the run goes on in a copy of what stands, and what its sales have lost, taken off in
+-- the bytes, gives the rules' book. Assumes nothing.
+use mathlib.Core.Path.{_≡_, refl}
+use borrow.Author.Needs.{needs}
+use denote.Ref.{now}
+use Rattle.cut_lists.proofs.Lists.{accepted-placed, accepted-trading}
+use Rattle.format.specs.Book.{tradeCount, userCount}
+use Rattle.run_reduction.proofs.Steps.{run-day}
+use Rattle.run_book.proofs.Ending.{lost-cuttable, ran-in, ran-left}
+use Rattle.run_book.proofs.Start.{run-going, run-opening}
+use Rattle.run_reduction.proofs.Start.{run-counted, run-stays}
+use Rattle.run_book.proofs.run_listed.Statement.{statement}
+use Rattle.run_book.proofs.run_listed.Tie as tie
+
+-- the counts of the book
+users-are : (c : tie.After-get-u8) → c .get-u8 .result ≡ userCount (now (c .before .before .before .args .book))
+unfolding userCount
+users-are c = c .get-u8 .ensures
+
+trades-are : (c : tie.After-get-u16) → c .get-u16 .result ≡ tradeCount (now (c .before .before .before .before .before .args .book))
+unfolding tradeCount
+trades-are c = c .get-u16 .ensures
+
+get-u8-requires : tie.Need-get-u8-requires
+get-u8-requires c κs = search needs
+
+cast-n : tie.Need-cast-n
+cast-n c = search needs
+
+get-u16-requires : tie.Need-get-u16-requires
+get-u16-requires c κs = search needs
+
+cast-m : tie.Need-cast-m
+cast-m c = search needs
+
+fill-positions-requires : tie.Need-fill-positions-requires
+fill-positions-requires c κs = (c .before .before .before .before .before .before .before .pre .0 .book .held .form, users-are (c .before .before .before .before), refl)
+
+fill-cut-requires : tie.Need-fill-cut-requires
+fill-cut-requires c κs =
+    let b = run-counted (c .before .before .before .before .before .before .before .before .before .before .pre .0) (users-are (c .before .before .before .before .before .before .before)) (trades-are (c .before .before .before .before .before)) in
+    ((accepted-trading b, accepted-placed b), refl)
+
+fill-targets-requires : tie.Need-fill-targets-requires
+fill-targets-requires c κs =
+    let s = c .before .before .before .before .before .before .before .before .before .before .before .before .before .before .before .before in
+    let r = s .pre .0 in
+    let l = s .pre .1 in (
+      (run-day (run-stays r l), r .low),
+      (run-opening r l (users-are (c .before .before .before .before .before .before .before .before .before .before .before .before .before)) (trades-are (c .before .before .before .before .before .before .before .before .before .before .before)) (c .before .before .before .before .before .before .before .before .fill-positions .ensures .0) (c .before .before .before .before .before .fill-cut .ensures), refl, refl),
+    )
+
+copy-sales-requires : tie.Need-copy-sales-requires
+copy-sales-requires c κs =
+    let l = c .before .before .before .before .before .before .before .before .before .before .before .before .before .before .before .before .before .before .pre .1 in
+    (l .sales .few, l .room .standing-room, refl)
+
+run-on-requires : tie.Need-run-on-requires
+run-on-requires c κs =
+    let s = c .before .before .before .before .before .before .before .before .before .before .before .before .before .before .before .before .before .before .before .before .before .before .before .before in
+    let r = s .pre .0 in
+    let l = s .pre .1 in
+    let copied = c .before .before .before .before .before .copy-sales .ensures in
+    let filled = c .before .before .before .before .before .before .before .before .before .before .before .before .before .before .before .before .fill-positions .ensures in
+    let owed = c .before .before .before .before .before .before .before .fill-targets .ensures in
+    ((run-stays r l, users-are (c .before .before .before .before .before .before .before .before .before .before .before .before .before .before .before .before .before .before .before .before .before)), run-going r l (copied .0) (copied .1) (filled .0) (filled .1) (owed .0) (owed .1) (owed .2))
+
+lost-of-requires : tie.Need-lost-of-requires
+lost-of-requires c κs =
+    let s = c .before .before .before .before .before .before .before .before .before .before .before .before .before .before .before .before .before .before .before .before .before .before .before .before .before .before in
+    ran-left (s .pre .0 .book .sound) (s .pre .1) (c .before .run-on .ensures)
+
+apply-requires : tie.Need-apply-requires
+apply-requires c κs =
+    let s = c .before .before .before .before .before .before .before .before .before .before .before .before .before .before .before .before .before .before .before .before .before .before .before .before .before .before .before .before .before in
+    let r = s .pre .0 in
+    (run-counted r (users-are (c .before .before .before .before .before .before .before .before .before .before .before .before .before .before .before .before .before .before .before .before .before .before .before .before .before .before)) refl, lost-cuttable (r .book .sound) (s .pre .1) (c .before .before .before .before .run-on .ensures) (c .before .before .lost-of .ensures))
+
+same-length : tie.Need-same-length
+same-length c = search needs
+
+returns : tie.Need-returns
+returns c =
+    let s = c .before .before .before .before .before .before .before .before .before .before .before .before .before .before .before .before .before .before .before .before .before .before .before .before .before .before .before .before .before .before .before .before in
+    ran-in (s .pre .0 .book .sound) (s .pre .1) (c .before .before .before .before .before .before .before .run-on .ensures) (c .before .before .before .before .before .lost-of .ensures) (c .before .before .apply .ensures)
+
+pub run-listed-spec : {M : Type 1} → statement M
+run-listed-spec =
+    tie.close
+    (tie.spec
+    get-u8-requires
+    cast-n
+    get-u16-requires
+    cast-m
+    fill-positions-requires
+    fill-cut-requires
+    fill-targets-requires
+    copy-sales-requires
+    run-on-requires
+    lost-of-requires
+    apply-requires
+    same-length
+    returns)

@@ -1,0 +1,2 @@
+-- What the sales of a run lose, and what the run gives.
+pub mod Books

@@ -1,0 +1,107 @@
+-- Positions filled in from the bytes of a book, user by user; and which of a user's are negative. Assumes nothing.
+use mathlib.Core.Bool.{Bool, false}
+use mathlib.Core.List.{List, [], _∷_}
+use mathlib.Core.Path.{_≡_, sym, ap, subst, _∙_}
+use Prim.Native.Nat.{ℕ, zero, suc, _+_, _*_, _-_, _≤_, _<_, _^_}
+use native.Mathlib.Omega.{arith}
+use lib.Dec.{ltb}
+use lib.ListN.{length, take, drop, getD, set, length-set}
+use lib.Seq.{getD-set-same, getD-set-other}
+use borrow.Author.Tests.{lt-ltb, le-ltb}
+use Rattle.fields.proofs.Field.{field-part}
+use Rattle.fields.specs.Field.{field}
+use Rattle.format.proofs.Passed.{length-usersOf}
+use Rattle.format.specs.Book.{userCount, usersOf}
+use Rattle.held.proofs.Positions.{position-bytes}
+use Rattle.held.proofs.Parts.{record-at}
+use Rattle.integers.proofs.Linear.{by-order}
+use Rattle.integers.specs.Parts.{negPart}
+use Rattle.records.specs.User.{userOf}
+use Rattle.rules.specs.Book.{at, User, nobody}
+use Rattle.rules.specs.Signed.{signedOf}
+use Rattle.run_positions.specs.Moving.{ShortIn}
+use Rattle.risk_user.specs.Account.{PositionsOf, positionIn}
+use Rattle.units.proofs.Amounts.{negPart-net}
+use Rattle.units.specs.Amounts.{net}
+
+-- ---- bytes
+
+pub position-is : (s : List ℕ) (place area : ℕ) → place < userCount s → area < 3
+    → signedOf 32 (field 4 (32 + 56 * place + 20 + 4 * area) s) ≡ at (getD (usersOf s) place nobody .position) area
+unfolding usersOf
+position-is s place area h k =
+    let n : 32 + 56 * place + 20 + 4 * area ≡ 32 + 56 * place + (20 + 4 * area) = omega arith in
+    let c = take 56 (drop (32 + 56 * place) s) in
+    ap (λ (m : ℕ). signedOf 32 (field 4 m s)) n
+    ∙ ap (signedOf 32) (sym (field-part 4 (20 + 4 * area) (32 + 56 * place) 56 s (omega (arith, k))))
+    ∙ sym (position-bytes c area k)
+    ∙ ap (λ (u : User). at (u .position) area) (record-at 56 userOf (userCount s) place 32 s nobody h)
+
+-- ---- user by user
+
+-- the first i users have their positions
+pub record PlacedTo (us : List User) (i : ℕ) (ps : List ℕ) : Type 0 where
+  pub room : length ps ≡ 192
+  pub each : (j area : ℕ) → j < i → area < 3 → positionIn ps j area ≡ at (getD us j nobody .position) area
+
+module _ (us : List User) where
+  pub placed-start : {ps : List ℕ} → length ps ≡ 192 → PlacedTo us 0 ps
+  placed-start e = record { room = e; each = λ j area h k. absurd (omega arith) }
+
+  pub placed-more : {i : ℕ} {ps : List ℕ} (x y z : ℕ) → i < 64 → PlacedTo us i ps
+      → net (record { 0 = x }) ≡ at (getD us i nobody .position) 0 → net (record { 0 = y }) ≡ at (getD us i nobody .position) 1
+      → net (record { 0 = z }) ≡ at (getD us i nobody .position) 2 → PlacedTo us (i + 1) (set (set (set ps (3 * i) x) (3 * i + 1) y) (3 * i + 2) z)
+  placed-more {i} {ps} x y z l p ex ey ez =
+      let one = set ps (3 * i) x in
+      let two = set one (3 * i + 1) y in
+      let all = set two (3 * i + 2) z in
+      record {
+        room = length-set two (3 * i + 2) z ∙ length-set one (3 * i + 1) y ∙ length-set ps (3 * i) x ∙ p .room;
+        each = λ j area h k.
+            by-order j i
+            (λ m.
+            ap (λ (n : ℕ). net (record { 0 = n }))
+            (getD-set-other two (3 * i + 2) (3 * j + area) z 0 (λ e. omega arith) ∙ getD-set-other one (3 * i + 1) (3 * j + area) y 0 (λ e. omega arith) ∙ getD-set-other ps (3 * i) (3 * j + area) x 0 (λ e. omega arith))
+            ∙ p .each j area m k)
+            (λ m. let e : i ≡ j = omega arith in subst (λ (n : ℕ). positionIn all n area ≡ at (getD us n nobody .position) area) e (here area k));
+      }
+    where
+      here : (area : ℕ) → area < 3 → positionIn (set (set (set ps (3 * i) x) (3 * i + 1) y) (3 * i + 2) z) i area ≡ at (getD us i nobody .position) area
+      here zero k =
+          let one = set ps (3 * i) x in
+          let two = set one (3 * i + 1) y in
+          ap (λ (n : ℕ). net (record { 0 = n }))
+          (getD-set-other two (3 * i + 2) (3 * i + 0) z 0 (λ e. omega arith) ∙ getD-set-other one (3 * i + 1) (3 * i + 0) y 0 (λ e. omega arith)
+          ∙ ap (λ (m : ℕ). getD one m 0) (let e : 3 * i + 0 ≡ 3 * i = omega arith in e) ∙ getD-set-same ps (3 * i) x 0 (omega (arith, p .room))) ∙ ex
+      here (suc zero) k =
+          let one = set ps (3 * i) x in
+          let two = set one (3 * i + 1) y in
+          ap (λ (n : ℕ). net (record { 0 = n }))
+          (getD-set-other two (3 * i + 2) (3 * i + 1) z 0 (λ e. omega arith) ∙ getD-set-same one (3 * i + 1) y 0 (omega (arith, length-set ps (3 * i) x, p .room))) ∙ ey
+      here (suc (suc zero)) k =
+          let one = set ps (3 * i) x in
+          let two = set one (3 * i + 1) y in
+          ap (λ (n : ℕ). net (record { 0 = n })) (getD-set-same two (3 * i + 2) z 0 (omega (arith, length-set one (3 * i + 1) y, length-set ps (3 * i) x, p .room))) ∙ ez
+      here (suc (suc (suc area))) k = absurd (omega arith)
+
+pub placed-end : (s : List ℕ) {i : ℕ} {ps : List ℕ} → userCount s ≤ i → PlacedTo (usersOf s) i ps → PositionsOf (usersOf s) ps × (length ps ≡ 192)
+placed-end s h p = (record { each = λ j area l k. p .each j area (omega (arith, length-usersOf s)) k }, p .room)
+
+-- ---- negative positions
+
+pub short-is : (x : ℕ) → ltb x (2 ^ 31) ≡ ltb 0 (negPart (net (record { 0 = x })))
+short-is x =
+    let n = negPart (net (record { 0 = x })) in
+    by-order x (2 ^ 31)
+    (λ h. lt-ltb x (2 ^ 31) h ∙ sym (lt-ltb 0 n (omega (arith, negPart-net (record { 0 = x })))))
+    (λ h. le-ltb x (2 ^ 31) h ∙ sym (le-ltb 0 n (omega (arith, negPart-net (record { 0 = x })))))
+
+pub short-each : (ps : List ℕ) (place : ℕ) {p t a : Bool} → p ≡ ltb 0 (negPart (net (record { 0 = getD ps (3 * place) 0 }))) → t ≡ ltb 0 (negPart (net (record { 0 = getD ps (3 * place + 1) 0 })))
+    → a ≡ ltb 0 (negPart (net (record { 0 = getD ps (3 * place + 2) 0 }))) → ShortIn ps place (p ∷ t ∷ a ∷ [])
+short-each ps place {p} {t} {a} x y z = record { each = each }
+  where
+    each : (area : ℕ) → area < 3 → getD (p ∷ t ∷ a ∷ []) area false ≡ ltb 0 (negPart (positionIn ps place area))
+    each zero h = x ∙ ap (λ (n : ℕ). ltb 0 (negPart (net (record { 0 = getD ps n 0 })))) (let e : 3 * place ≡ 3 * place + 0 = omega arith in e)
+    each (suc zero) h = y
+    each (suc (suc zero)) h = z
+    each (suc (suc (suc area))) h = absurd (omega arith)

@@ -1,0 +1,65 @@
+-- The lists of a book in bytes, and what stays through its reductions. Assumes nothing.
+use mathlib.Core.List.{List}
+use mathlib.Core.Path.{_≡_, _∙_}
+use Prim.Native.Nat.{ℕ}
+use native.Mathlib.Omega.{arith}
+use lib.ListN.{length, take}
+use Rattle.cut_lists.specs.Sales.{BookIn}
+use Rattle.format.specs.Book.{bookOf, tradeCount, userCount, usersOf}
+use Rattle.laws.proofs.Trades.{lowered-refl}
+use Rattle.rules.specs.Areas.{Prices}
+use Rattle.rules.specs.Book.{Book}
+use Rattle.rules.specs.Levels.{Limits}
+use Rattle.run_state.proofs.Stays.{with-same}
+use Rattle.run_state.proofs.Grouped.{sales-listed, standing-listed}
+use Rattle.risk_user.specs.Account.{PositionsOf}
+use Rattle.run_state.specs.Going.{SalesIn, StandingIn}
+use Rattle.run_reduction.specs.Reductions.{Reached, RunOf}
+use Rattle.run_reduction.specs.Books.{Listed, Runnable}
+
+-- ---- the lists of a book
+
+module _ {b : Book} {ss origins ns areaCodes bs : List ℕ} {count : ℕ} (l : Listed b ss origins ns areaCodes bs count) where
+  -- of each user
+  pub listed-sales : SalesIn b ss areaCodes bs
+  listed-sales =
+      let q = l .sales in
+      sales-listed b (q .all) (q .few) (q .starts-at) (q .areas-are) (q .buyers-are) (l .room .areas-room) (l .room .buyers-room)
+
+  pub listed-standing : {ms : List ℕ} → take count ms ≡ take count ns → StandingIn b b ms
+  listed-standing e = standing-listed b (l .sales .all) (e ∙ l .standing .standing-are)
+
+-- ---- an accepted book
+
+module _ {limits : Limits} {f : Prices} {s sellers parties sums : List ℕ} (r : Runnable limits f s sellers parties sums) where
+  -- by the numbers of users and trades that were read
+  pub run-counted : {n m : ℕ} → n ≡ userCount s → m ≡ tradeCount s → BookIn n m s sellers parties
+  run-counted e k = rw (e, k) (r .book)
+
+  module _ {ss origins ns areaCodes bs : List ℕ} {count : ℕ} (l : Listed (bookOf s) ss origins ns areaCodes bs count) where
+    -- what stays
+    pub run-stays : RunOf limits f s sums ss areaCodes bs
+    run-stays =
+        record {
+          form = r .book .held .form;
+          sound = r .book .sound;
+          limits-in = r .limits-in;
+          prices-are = r .prices-are;
+          twelve = r .twelve;
+          low = r .low;
+          sales = listed-sales l;
+        }
+
+    -- no reduction has been made yet
+    pub first-reached : {ms ps : List ℕ} → take count ms ≡ take count ns → length ms ≡ 256 → PositionsOf (usersOf s) ps → length ps ≡ 192 → Reached (bookOf s) (bookOf s) ms ps
+    unfolding bookOf
+    first-reached e long p room =
+        record {
+          sound = r .book .sound;
+          lowered = lowered-refl (bookOf s .trades);
+          same = with-same (bookOf s);
+          standing = listed-standing l e;
+          positions = p;
+          standing-room = long;
+          positions-room = room;
+        }

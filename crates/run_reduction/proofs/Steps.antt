@@ -1,0 +1,256 @@
+-- One reduction on arrays, step by step: the user's own sales in them, what they lose, and the positions that this moves. Assumes nothing.
+use mathlib.Core.List.{List, map}
+use mathlib.Core.Logic.{inl, inr}
+use mathlib.Core.Path.{_≡_, sym, ap, ap₂, subst, _∙_}
+use Prim.Native.Nat.{ℕ, suc, _+_, _*_, _-_, _≤_, _<_, _^_}
+use native.Mathlib.Numerals.{add-one}
+use native.Mathlib.Omega.{arith}
+use lib.Dec.{T, leb→le, ltb}
+use lib.ListN.{length, getD, length-map, List·getD-eq-default}
+use lib.Seq.{length-sets, sets}
+use Rattle.arrays.proofs.Fronts.{all-at}
+use Rattle.cut_tiers.proofs.After.{cuts-of-sales}
+use Rattle.cut_tiers.specs.Tiers.{cutsOf}
+use Rattle.cut_worth.specs.Rates.{Sales}
+use Rattle.fields.proofs.Sets.{getD-apart}
+use Rattle.format.proofs.Passed.{length-usersOf}
+use Rattle.format.specs.Book.{bookOf, userCount, usersOf}
+use Rattle.format.specs.Steps.{placeOf}
+use Rattle.integers.proofs.Linear.{by-order}
+use Rattle.integers.specs.Parts.{negPart, posPart}
+use Rattle.laws.proofs.Bounds.{prices-le, tariffs-pos}
+use Rattle.laws.specs.Sound.{Sound}
+use Rattle.levels.specs.Limits.{LimitsInRange}
+use Rattle.laws.proofs.Tests.{and-l, and-r}
+use Rattle.rules.specs.Areas.{Prices}
+use Rattle.rules.specs.Book.{at, Book, Header, Trade, User, nobody}
+use Rattle.rules.specs.Levels.{Limits}
+use Rattle.rules.specs.Questions.{guaranteesValid, userValid}
+use Rattle.run_state.proofs.Own.{own-areas, own-buyers}
+use Rattle.run_state.proofs.Reduced.{place-inside}
+use Rattle.run_state.proofs.Stays.{Stays, stays, users-many}
+use Rattle.risk_user.specs.Account.{positionIn, DayOf}
+use Rattle.run_reduction.specs.Reductions.{Reached, Reducible, RunOf, shortIn}
+use Rattle.sales.proofs.FirstCuts.{first-bound, first-none, own-cut-le, own-cuts-length}
+use Rattle.sales.proofs.Listed.{starts-rise}
+use Rattle.sales.proofs.Numbers.{less-length, read-at}
+use Rattle.sales.proofs.Own.{own-sales}
+use Rattle.sales.proofs.Parts.{Around, around-sets, part-here, part-length, part-most, part-stored}
+use Rattle.sales.proofs.Valid.{Sale, sale-at}
+use Rattle.sales.specs.Groups.{starts}
+use Rattle.sales.specs.Parts.{part}
+use Rattle.sales.specs.Reduced.{ownCuts, ownSales}
+use Rattle.sales.specs.Sales.{less, shortAt}
+use Rattle.units.proofs.Amounts.{parts-net}
+use Rattle.units.specs.Prices.{InRange}
+
+-- every field 0: what is read past the end of a list of trades
+abbrev nothing : Trade
+nothing = record { terms = record { seller = 0; buyer = 0; area = 0; kind = 0; day = 0; notified = 0 }; standing = 0 }
+
+-- ---- an accepted book
+
+blocked-le : (u : User) → T (userValid u) → u .blocked ≤ 1000000000000
+unfolding userValid guaranteesValid
+blocked-le u t =
+    let a = leb→le (u .blocked) (u .party .assigned) (search (and-l, and-r)) in
+    let b = leb→le (u .party .assigned) 1000000000000 (search (and-l, and-r)) in
+    omega arith
+
+prices-in : (b : Book) → Sound b → InRange (b .header .prices)
+prices-in b s =
+    let l = prices-le b s in
+    let g = tariffs-pos b s in
+    record { p-least = g .0; p-most = l .0; q-least = g .1; q-most = l .1; l-most = l .2; x-most = l .3; i-most = l .4 }
+
+module _ {f : Prices} (s : List ℕ) (sound : Sound (bookOf s)) (prices-are : f ≡ bookOf s .header .prices) where
+  day-prices : InRange f
+  day-prices = subst InRange (sym prices-are) (prices-in (bookOf s) sound)
+
+  -- what levels are asked by
+  pub accepted-day : {limits : Limits} → LimitsInRange limits → DayOf limits f s
+  unfolding bookOf nobody
+  accepted-day l =
+      record {
+        limits-in = l;
+        prices-in = day-prices;
+        blocked-most = λ i.
+            by-order i (length (usersOf s))
+            (λ h. blocked-le (getD (usersOf s) i nobody) (all-at userValid (usersOf s) (sound .users) i nobody h))
+            (λ h. let e : getD (usersOf s) i nobody .blocked ≡ 0 = ap (λ (u : User). u .blocked) (List·getD-eq-default (usersOf s) nobody {n = i} h) in omega (arith, e));
+      }
+
+module _ {limits : Limits} {f : Prices} {s sums ss areaCodes bs : List ℕ} (q : RunOf limits f s sums ss areaCodes bs) where
+  pub run-prices : InRange f
+  run-prices = day-prices s (q .sound) (q .prices-are)
+
+  pub run-day : DayOf limits f s
+  run-day = accepted-day s (q .sound) (q .prices-are) (q .limits-in)
+
+  -- ---- the user at a place
+
+  module _ {place : ℕ} (inside : place < userCount s) where
+    member-first : place < length (bookOf s .users)
+    unfolding bookOf
+    member-first = omega (arith, length-usersOf s)
+
+    pub start-is : getD ss place 0 ≡ starts (bookOf s) place
+    start-is = q .sales .starts-at place (omega (arith, member-first))
+
+    pub end-is : getD ss (place + 1) 0 ≡ starts (bookOf s) (suc place)
+    end-is = rw add-one (q .sales .starts-at (suc place) (omega (arith, member-first)))
+
+    pub part-rises : getD ss place 0 ≤ getD ss (place + 1) 0
+    part-rises = omega (arith, start-is, end-is, starts-rise (bookOf s) place (suc place) (omega arith) (omega (arith, member-first)))
+
+    pub part-few : getD ss (place + 1) 0 ≤ 256
+    part-few = omega (arith, end-is, starts-rise (bookOf s) (suc place) (length (bookOf s .users)) (omega (arith, member-first)) (omega arith), q .sales .few)
+
+    abbrev from : ℕ
+    from = getD ss place 0
+
+    abbrev to : ℕ
+    to = getD ss (place + 1) 0
+
+    module _ {b : Book} {ns ps : List ℕ} (h : Reached (bookOf s) b ns ps) where
+      now : Stays (bookOf s) b
+      now = stays (bookOf s) b (q .sound) (h .lowered) (h .same)
+
+      pub member-in : place < length (b .users)
+      member-in = omega (arith, users-many now, member-first)
+
+      pub members-few : length (b .users) ≤ 64
+      unfolding bookOf
+      members-few = omega (arith, users-many now, length-usersOf s, q .form .users)
+
+      abbrev user : User
+      user = getD (b .users) place nobody
+
+      abbrev sales : List Trade
+      sales = ownSales b (getD (b .users) place nobody)
+
+      pub own-standing : part (getD ss place 0) (getD ss (place + 1) 0) ns ≡ map (λ t. t .standing) (ownSales b (getD (b .users) place nobody))
+      own-standing = ap₂ (λ (m n : ℕ). part m n ns) start-is end-is ∙ h .standing .each place member-in
+
+      pub own-codes : part (getD ss place 0) (getD ss (place + 1) 0) areaCodes ≡ map (λ t. t .terms .area) (ownSales b (getD (b .users) place nobody))
+      own-codes = ap₂ (λ (m n : ℕ). part m n areaCodes) start-is end-is ∙ own-areas now (q .sales) place member-in
+
+      own-places : part from to bs ≡ map (λ t. placeOf (b .users) (t .terms .buyer)) sales
+      own-places = ap₂ (λ (m n : ℕ). part m n bs) start-is end-is ∙ own-buyers now (q .sales) place member-in
+
+      sales-many : length sales ≡ to - from
+      sales-many = sym (length-map sales (λ t. t .standing)) ∙ ap length (sym own-standing) ∙ part-length ns from to (omega (arith, part-few, h .standing-room))
+
+      -- what is known of the sale at a place
+      sale-here : (k : ℕ) → from ≤ k → k < to → Sale (b .users) (user .party .id) (getD sales (k - from) nothing)
+      sale-here k l m = sale-at (b .users) (b .trades) (user .party .id) (k - from) nothing (h .sound .trades) (omega (arith, sales-many))
+
+      -- what is read off it, from an array
+      read-here : (g : Trade → ℕ) (xs : List ℕ) → part from to xs ≡ map g sales → (k : ℕ) → from ≤ k → k < to → getD xs k 0 ≡ g (getD sales (k - from) nothing)
+      read-here g xs e k l m =
+          sym (part-here xs from to k 0 l m) ∙ ap (λ (ys : List ℕ). getD ys (k - from) 0) e ∙ read-at g sales (k - from) nothing 0 (omega (arith, sales-many))
+
+      standing-most : (k : ℕ) → from ≤ k → k < to → getD ns k 0 ≤ 100000
+      standing-most k l m = omega (arith, read-here (λ t. t .standing) ns own-standing k l m, sale-here k l m .standing)
+
+      area-most : (k : ℕ) → from ≤ k → k < to → getD areaCodes k 0 < 3
+      area-most k l m = omega (arith, read-here (λ t. t .terms .area) areaCodes own-codes k l m, sale-here k l m .area)
+
+      pub sales-in : Sales ns areaCodes (getD ss place 0) (getD ss (place + 1) 0)
+      sales-in =
+          record { inside = part-few; standing-long = h .standing-room; areas-long = q .sales .areas-room; standing-most = standing-most; area-most = area-most }
+
+      -- the buyer of a sale is one of the users
+      pub buyer-inside : (k : ℕ) → getD ss place 0 ≤ k → k < getD ss (place + 1) 0 → getD bs k 0 < length (b .users)
+      buyer-inside k l m =
+          omega (
+            arith,
+            read-here (λ t. placeOf (b .users) (t .terms .buyer)) bs own-places k l m,
+            place-inside (b .users) (getD sales (k - from) nothing .terms .buyer) (sale-here k l m .buyer),
+          )
+
+      -- the positions that the cuts move have room for them
+
+      -- a position of one of the users, in the array
+      near : (i area : ℕ) → i < length (b .users) → area < 3 → (51200000 ≤ getD ps (3 * i + area) 0) × (getD ps (3 * i + area) 0 + 51200000 < 2 ^ 32)
+      near i area l m =
+          let bound = first-bound own-sales b user 0 (h .sound) 0 i area l m in
+          let same = ap (λ (us : List User). at (getD us i nobody .position) area) (first-none own-sales b user 0) in
+          let here = h .positions .each i area l m in
+          let x = parts-net (record { 0 = getD ps (3 * i + area) 0 }) in
+          let p : posPart (positionIn ps i area) ≤ 26600000 = omega (arith, bound .0, ap posPart same, ap posPart here) in
+          let n : negPart (positionIn ps i area) ≤ 26600000 = omega (arith, bound .1, ap negPart same, ap negPart here) in
+          (omega (arith, x, p, n), omega (arith, x, p, n))
+
+      pub reducible : Reducible place (getD ss place 0) (getD ss (place + 1) 0) areaCodes bs ps
+      reducible =
+          record {
+            rising = part-rises;
+            buyers-room = q .sales .buyers-room;
+            room = h .positions-room;
+            place-in = omega (arith, member-in, members-few);
+            buyer-in = λ k l m. omega (arith, buyer-inside k l m, members-few);
+            low = λ k l m. near (getD bs k 0) (getD areaCodes k 0) (buyer-inside k l m) (area-most k l m) .0;
+            high = λ k l m. near place (getD areaCodes k 0) member-in (area-most k l m) .1;
+          }
+
+      -- ---- what the sales lose
+
+      short-is : (area : ℕ) → area < 3 → shortIn ps place area ≡ shortAt user area
+      unfolding shortAt
+      short-is area l = ap (λ z. ltb 0 (negPart z)) (h .positions .each place area member-in l)
+
+      pub prices-same : f ≡ b .header .prices
+      prices-same = q .prices-are ∙ ap (λ (x : Header). x .prices) (sym (now .header))
+
+      pub cuts-own : (asked : ℕ) → cutsOf f (shortIn ps place) asked (part (getD ss place 0) (getD ss (place + 1) 0) ns) (part (getD ss place 0) (getD ss (place + 1) 0) areaCodes)
+          ≡ ownCuts b (getD (b .users) place nobody) asked
+      cuts-own asked =
+          ap (λ (g : Prices). cutsOf g (shortIn ps place) asked (part from to ns) (part from to areaCodes)) prices-same
+          ∙ cuts-of-sales (b .header .prices) (shortIn ps place) (shortAt user) asked sales short-is
+          (λ i. omega (arith, part-most areaCodes from to 2 (λ k l m. omega (arith, area-most k l m)) i)) own-standing own-codes
+
+      -- ---- stored, taken off, and moved
+
+      module _ (asked : ℕ) where
+        -- the user's part of the cuts has them, and the rest is as it was
+        module _ (cs cs₀ xs : List ℕ) (c : cs ≡ sets cs₀ (getD ss place 0) xs) (room : length cs₀ ≡ 256) (own : xs ≡ ownCuts b (getD (b .users) place nobody) asked) where
+          cuts-many : length xs ≡ to - from
+          cuts-many = ap length own ∙ own-cuts-length own-sales b user asked ∙ sales-many
+
+          pub cuts-room : length cs ≡ 256
+          cuts-room = ap length c ∙ length-sets cs₀ from xs ∙ room
+
+          pub cuts-part : part (getD ss place 0) (getD ss (place + 1) 0) cs ≡ ownCuts b (getD (b .users) place nobody) asked
+          cuts-part = ap (part from to) c ∙ part-stored cs₀ from to xs cuts-many part-rises (omega (arith, part-few, room)) ∙ own
+
+          pub cuts-before : (k : ℕ) → k < getD ss place 0 → getD cs k 0 ≡ getD cs₀ k 0
+          cuts-before k l = ap (λ (ys : List ℕ). getD ys k 0) c ∙ getD-apart xs cs₀ from k 0 (inl l)
+
+          pub cuts-behind : (k : ℕ) → getD ss (place + 1) 0 ≤ k → getD cs k 0 ≡ getD cs₀ k 0
+          cuts-behind k l = ap (λ (ys : List ℕ). getD ys k 0) c ∙ getD-apart xs cs₀ from k 0 (inr (omega (arith, cuts-many, part-rises)))
+
+        -- no cut is above what stands
+        pub cut-within : (cs : List ℕ) → part (getD ss place 0) (getD ss (place + 1) 0) cs ≡ ownCuts b (getD (b .users) place nobody) asked
+            → (k : ℕ) → getD ss place 0 ≤ k → k < getD ss (place + 1) 0 → getD cs k 0 ≤ getD ns k 0
+        cut-within cs own i l m =
+            omega (
+              arith,
+              sym (part-here cs from to i 0 l m) ∙ ap (λ (ys : List ℕ). getD ys (i - from) 0) own,
+              own-cut-le own-sales b user asked (i - from),
+              sym (part-here ns from to i 0 l m) ∙ ap (λ (ys : List ℕ). getD ys (i - from) 0) own-standing,
+            )
+
+      -- what stands after it
+      module _ (cs ms : List ℕ) (e : ms ≡ sets ns (getD ss place 0) (less (part (getD ss place 0) (getD ss (place + 1) 0) cs) (part (getD ss place 0) (getD ss (place + 1) 0) ns))) where
+        left-many : length (less (part from to cs) (part from to ns)) ≡ to - from
+        left-many = less-length (part from to cs) (part from to ns) ∙ part-length ns from to (omega (arith, part-few, h .standing-room))
+
+        pub left-room : length ms ≡ 256
+        left-room = ap length e ∙ length-sets ns from (less (part from to cs) (part from to ns)) ∙ h .standing-room
+
+        pub left-part : part (getD ss place 0) (getD ss (place + 1) 0) ms ≡ less (part (getD ss place 0) (getD ss (place + 1) 0) cs) (part (getD ss place 0) (getD ss (place + 1) 0) ns)
+        left-part = ap (part from to) e ∙ part-stored ns from to (less (part from to cs) (part from to ns)) left-many part-rises (omega (arith, part-few, h .standing-room))
+
+        pub left-only : Around (getD ss place 0) (getD ss (place + 1) 0) ns ms
+        left-only = subst (λ (xs : List ℕ). Around from to ns xs) (sym e) (around-sets ns (less (part from to cs) (part from to ns)) left-many part-rises)

@@ -1,0 +1,25 @@
+-- A book in bytes that can be run, or reduced for a user, and the lists of its own sales. Assumes nothing.
+use mathlib.Core.List.{List}
+use mathlib.Core.Path.{_≡_}
+use Prim.Native.Nat.{ℕ}
+use Rattle.cut_lists.specs.Sales.{BookIn, SalesOf, SalesRoom, StandingOf}
+use Rattle.format.specs.Book.{bookOf, tradeCount, tradesOf, userCount, usersOf}
+use Rattle.levels.specs.Limits.{LimitsInRange}
+use Rattle.positions.specs.Twelve.{Low, TwelveOf}
+use Rattle.rules.specs.Areas.{Prices}
+use Rattle.rules.specs.Book.{Book}
+use Rattle.rules.specs.Levels.{Limits}
+
+-- the bytes of an accepted book, limits and prices, and the twelve sums of each user
+pub record Runnable (limits : Limits) (f : Prices) (s sellers parties sums : List ℕ) : Type 0 where
+  pub book : BookIn (userCount s) (tradeCount s) s sellers parties
+  pub limits-in : LimitsInRange limits
+  pub prices-are : f ≡ bookOf s .header .prices
+  pub twelve : TwelveOf (usersOf s) (tradesOf s) sums
+  pub low : Low sums
+
+-- the own sales of all users of a book, and what stands of them
+pub record Listed (b : Book) (ss origins ns areaCodes bs : List ℕ) (count : ℕ) : Type 0 where
+  pub sales : SalesOf b ss origins areaCodes bs count
+  pub standing : StandingOf b ns count
+  pub room : SalesRoom origins ns areaCodes bs

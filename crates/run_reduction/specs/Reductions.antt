@@ -1,0 +1,58 @@
+-- A reduction on arrays: the room that it needs, what stays through it, and the book that it starts from. Assumes nothing.
+use mathlib.Core.Bool.{Bool}
+use mathlib.Core.List.{List}
+use mathlib.Core.Path.{_≡_}
+use Prim.Native.Nat.{ℕ, _+_, _*_, _≤_, _<_, _^_}
+use lib.Dec.{ltb}
+use lib.ListN.{length, getD}
+use Rattle.format.specs.Book.{bookOf, tradesOf, usersOf}
+use Rattle.format.specs.Questions.{Formed}
+use Rattle.integers.specs.Parts.{negPart}
+use Rattle.laws.specs.Sound.{Sound}
+use Rattle.laws.specs.Trades.{Lowered, Pairwise}
+use Rattle.levels.specs.Limits.{LimitsInRange}
+use Rattle.positions.specs.Twelve.{Low, TwelveOf}
+use Rattle.risk_user.specs.Account.{PositionsOf, positionIn}
+use Rattle.rules.specs.Areas.{Prices}
+use Rattle.rules.specs.Book.{Book}
+use Rattle.rules.specs.Levels.{Limits}
+use Rattle.rules.specs.Reduction.{withTrades}
+use Rattle.run_state.specs.Going.{SalesIn, StandingIn}
+
+-- ---- numbers
+
+-- the position of the user at a place is negative in the area
+abbrev pub shortIn : List ℕ → ℕ → ℕ → Bool
+shortIn ps place area = ltb 0 (negPart (positionIn ps place area))
+
+-- the sales from..to of the user at a place: areas and places of buyers; the positions that their cuts move have room for 256 of them
+pub record Reducible (place from to : ℕ) (areas bs ps : List ℕ) : Type 0 where
+  pub rising : from ≤ to
+  pub buyers-room : length bs ≡ 256
+  pub room : length ps ≡ 192
+  pub place-in : place < 64
+  pub buyer-in : (k : ℕ) → from ≤ k → k < to → getD bs k 0 < 64
+  pub low : (k : ℕ) → from ≤ k → k < to → 51200000 ≤ getD ps (3 * getD bs k 0 + getD areas k 0) 0
+  pub high : (k : ℕ) → from ≤ k → k < to → getD ps (3 * place + getD areas k 0) 0 + 51200000 < 2 ^ 32
+
+-- ---- books
+
+-- what stays: the bytes of an accepted book, limits and prices, the twelve sums of each user, and where the own sales of each start, their areas and the places of their buyers
+pub record RunOf (limits : Limits) (f : Prices) (s sums ss areaCodes bs : List ℕ) : Type 0 where
+  pub form : Formed s
+  pub sound : Sound (bookOf s)
+  pub limits-in : LimitsInRange limits
+  pub prices-are : f ≡ bookOf s .header .prices
+  pub twelve : TwelveOf (usersOf s) (tradesOf s) sums
+  pub low : Low sums
+  pub sales : SalesIn (bookOf s) ss areaCodes bs
+
+-- what stands and the positions are those of the book b, to which reductions of the book o have led
+pub record Reached (o b : Book) (ns ps : List ℕ) : Type 0 where
+  pub sound : Sound b
+  pub lowered : Pairwise Lowered (o .trades) (b .trades)
+  pub same : b ≡ withTrades o (b .trades)
+  pub standing : StandingIn o b ns
+  pub positions : PositionsOf (b .users) ps
+  pub standing-room : length ns ≡ 256
+  pub positions-room : length ps ≡ 192

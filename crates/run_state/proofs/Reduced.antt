@@ -1,0 +1,239 @@
+-- What a reduction of the user at a place leaves of who is due: it and the buyers of sales that lost something are party to a trade standing below notified; the others are due as before.
+-- Assumes nothing.
+use mathlib.Core.Bool.{Bool, true, false, cond, _&&_, _||_}
+use mathlib.Core.List.{List, [], _∷_, map}
+use mathlib.Core.Path.{_≡_, refl, sym, ap, ap₂, subst, _∙_}
+use Prim.Native.Nat.{ℕ, _-_, _<_}
+use native.Mathlib.Omega.{arith}
+use lib.Dec.{T, eqb, ltb, eqb→eq, ltb→lt}
+use lib.ListN.{length, getD}
+use borrow.Author.Tests.{eq-eqb, ltb-false}
+use Rattle.dealings.specs.Parties.{cutBefore}
+use Rattle.format.proofs.OneUser.{place-known}
+use Rattle.format.specs.Steps.{placeOf}
+use Rattle.laws.proofs.Fuel.{reducedBy-mwh}
+use Rattle.laws.proofs.Positions.{buyer-known}
+use Rattle.laws.proofs.Run.{has-target, reducedBy-less}
+use Rattle.laws.specs.Sound.{Sound}
+use Rattle.laws.proofs.Tests.{and-l, and-r, all-by}
+use Rattle.laws.proofs.Trades.{framed}
+use Rattle.rules.specs.Areas.{Prices}
+use Rattle.rules.specs.Book.{Book, Header, Party, Trade, User, nobody}
+use Rattle.rules.specs.Calls.{Answer, ofCuts, reducedBy}
+use Rattle.rules.specs.Levels.{Limits, holding, shortOfCover}
+use Rattle.rules.specs.Lists.{all, any}
+use Rattle.rules.specs.Questions.{idsRise, known, tradeValid}
+use Rattle.rules.specs.Reduction.{Tally, hasEligible, nothing, tallied, tallyAll, target}
+use Rattle.run_state.specs.Asked.{memberAt, touched}
+use Rattle.run_state.specs.Going.{owed, owedCalled}
+use Rattle.sales.proofs.Cover.{has-eligible-sales, level-next, next-holding, short-from, some-cut-buyer, some-cut-seller, target-from}
+use Rattle.sales.proofs.FirstCuts.{own-cuts-length}
+use Rattle.sales.proofs.Kept.{by-case, holds}
+use Rattle.sales.proofs.Own.{own-sales}
+use Rattle.sales.proofs.Reduced.{cover-left, sales-reduced, user-left}
+use Rattle.sales.proofs.Settled.{party-at, same-place}
+use Rattle.sales.proofs.Standing.{same-length}
+use Rattle.sales.proofs.Valid.{sales-own, sales-valid}
+use Rattle.sales.specs.Cover.{AllNext, due, levelFrom, shortFrom}
+use Rattle.sales.specs.Groups.{standings}
+use Rattle.sales.specs.Reduced.{ownSales, ownCuts, SalesReduced}
+use Rattle.sales.specs.Sales.{isParty, someCut}
+
+-- ---- the user of a known id stands at its place
+
+pub place-inside : (us : List User) (id : ℕ) → T (known us id) → placeOf us id < length us
+place-inside us id k = ltb→lt (placeOf us id) (length us) (subst T (sym (place-known us id)) k)
+
+pub place-id : (us : List User) (id : ℕ) → T (known us id) → getD us (placeOf us id) nobody .party .id ≡ id
+unfolding placeOf known any
+place-id [] id k = absurd k
+place-id (u ∷ us) id k =
+    by-case (eqb (u .party .id) id)
+    (λ e. rw e (eqb→eq (u .party .id) id (holds e)))
+    (λ e. rw e (place-id us id (rw e at k)))
+
+-- a place is that of an id where the user there has the id
+place-test : (us : List User) (id j : ℕ) → T (idsRise 0 us) → T (known us id) → j < length us → eqb (placeOf us id) j ≡ eqb id (getD us j nobody .party .id)
+place-test us id j r k h =
+    sym (same-place us 0 (placeOf us id) j nobody r (place-inside us id k) h) ∙ ap (λ (n : ℕ). eqb n (getD us j nobody .party .id)) (place-id us id k)
+
+-- ---- cuts
+
+-- no cut is above 0: nothing is tallied
+tally-none : (f : Prices) (cs : List ℕ) (ss : List Trade) (y : Tally) → any (λ c. ltb 0 c) cs ≡ false → tallyAll f cs ss y .mwh ≡ y .mwh
+unfolding any tallyAll tallied
+tally-none f [] ss y e = refl
+tally-none f (c ∷ cs) [] y e = refl
+tally-none f (c ∷ cs) (s ∷ ss) y e =
+    let first = neither (ltb 0 c) (any (λ d. ltb 0 d) cs) e in
+    omega (arith, ltb-false 0 c (first .0), tally-none f cs ss (tallied f c s y) (first .1))
+  where
+    neither : (x z : Bool) → (x || z) ≡ false → (x ≡ false) × (z ≡ false)
+    neither true z k = absurd (subst T k tt)
+    neither false z k = (refl, k)
+
+-- who buys in a sale that lost something
+touched-buyers : (us : List User) (j : ℕ) → T (idsRise 0 us) → j < length us → (cs : List ℕ) (ss : List Trade) → T (all (λ s. known us (s .terms .buyer)) ss)
+    → touched j (map (λ s. placeOf us (s .terms .buyer)) ss) cs ≡ someCut (λ s. eqb (s .terms .buyer) (getD us j nobody .party .id)) cs ss
+unfolding touched someCut all
+touched-buyers us j r h [] [] v = refl
+touched-buyers us j r h [] (s ∷ ss) v = refl
+touched-buyers us j r h (c ∷ cs) [] v = refl
+touched-buyers us j r h (c ∷ cs) (s ∷ ss) v =
+    ap₂ (λ (x y : Bool). (x && ltb 0 c) || y)
+    (place-test us (s .terms .buyer) j r (and-l (known us (s .terms .buyer)) (all (λ t. known us (t .terms .buyer)) ss) v) h)
+    (touched-buyers us j r h cs ss (and-r (known us (s .terms .buyer)) (all (λ t. known us (t .terms .buyer)) ss) v))
+
+or-true : (x : Bool) → (x || true) ≡ true
+or-true true = refl
+or-true false = refl
+
+-- ---- the reduction
+
+module _ (limits : Limits) (b : Book) (sound : Sound b) (place : ℕ) (k : place < length (b .users)) where
+  abbrev seller : User
+  seller = getD (b .users) place nobody
+
+  abbrev asked : ℕ
+  asked = target limits b (getD (b .users) place nobody)
+
+  abbrev after : Book
+  after = reducedBy b (getD (b .users) place nobody) (target limits b (getD (b .users) place nobody)) .book
+
+  abbrev sales : List Trade
+  sales = ownSales b (getD (b .users) place nobody)
+
+  abbrev cuts : List ℕ
+  cuts = ownCuts b (getD (b .users) place nobody) (target limits b (getD (b .users) place nobody))
+
+  pub law : SalesReduced b seller asked (reducedBy b seller asked)
+  law = sales-reduced b seller asked sound
+
+  pub members-stay : length (after .users) ≡ length (b .users)
+  members-stay = same-length (b .users) (after .users) (law .parties)
+
+  pub member-stays : (j : ℕ) → memberAt after j .party ≡ memberAt b j .party
+  member-stays j = party-at (b .users) (after .users) (law .parties) j nobody
+
+  id-stays : (j : ℕ) → memberAt after j .party .id ≡ memberAt b j .party .id
+  id-stays j = ap (λ (p : Party). p .id) (member-stays j)
+
+  -- users at two places have two ids
+  pub apart : (j : ℕ) → j < length (b .users) → (j ≡ place → ⊥) → memberAt b j .party .id ≡ seller .party .id → ⊥
+  apart j l n e = n (eqb→eq j place (subst T (sym (eq-eqb _ _ e) ∙ same-place (b .users) 0 j place nobody (sound .ids) l k) tt))
+
+  -- ---- eligible trades
+
+  -- another user has one as before
+  pub eligible-left : (j : ℕ) → j < length (b .users) → (j ≡ place → ⊥) → hasEligible after (memberAt after j) ≡ hasEligible b (memberAt b j)
+  eligible-left j l n =
+      has-eligible-sales after (memberAt after j)
+      ∙ ap (λ (id : ℕ). any (λ m. ltb 0 m) (standings (after .trades) id)) (id-stays j)
+      ∙ ap (λ (ss : List Trade). any (λ m. ltb 0 m) (map (λ s. s .standing) ss)) (law .other (memberAt b j .party .id) (apart j l n))
+      ∙ sym (has-eligible-sales b (memberAt b j))
+
+  -- the user has one where one of its own sales stands
+  pub eligible-own : hasEligible after (memberAt after place) ≡ any (λ m. ltb 0 m) (standings (after .trades) (seller .party .id))
+  eligible-own = has-eligible-sales after (memberAt after place) ∙ ap (λ (id : ℕ). any (λ m. ltb 0 m) (standings (after .trades) id)) (id-stays place)
+
+  -- ---- who is touched
+
+  all-known : T (all (λ s. known (b .users) (s .terms .buyer)) sales)
+  all-known =
+      all-by (tradeValid (b .users)) (λ s. known (b .users) (s .terms .buyer)) (λ s v. buyer-known (b .users) s v) sales
+      (sales-valid (b .users) (b .trades) (seller .party .id) (sound .trades))
+
+  -- the buyers of sales that lost something
+  abbrev buyers : List ℕ
+  buyers = map (λ s. placeOf (b .users) (s .terms .buyer)) (ownSales b (getD (b .users) place nobody))
+
+  touched-is : (j : ℕ) → j < length (b .users) → (j ≡ place → ⊥) → touched j buyers cuts ≡ someCut (isParty (memberAt b j .party .id)) cuts sales
+  touched-is j l n =
+      touched-buyers (b .users) j (sound .ids) l cuts sales all-known
+      ∙ sym (some-cut-buyer (seller .party .id) (memberAt b j .party .id) (apart j l n) cuts sales (sales-own (b .trades) (seller .party .id)))
+
+  -- who is party to a sale that lost something: with an eligible trade its cover is asked as of a user that is called in
+  asked-anew : (j : ℕ) → someCut (isParty (memberAt b j .party .id)) cuts sales ≡ true
+      → owed limits after (memberAt after j)
+      ≡ cond (hasEligible after (memberAt after j)) (owedCalled limits after (memberAt after j)) 0
+  unfolding due
+  asked-anew j e =
+      let v = memberAt after j in
+      let cut : cutBefore (v .party .id) (after .trades) ≡ true
+      = law .cut (v .party .id) ∙ ap (λ (n : ℕ). cutBefore (v .party .id) (b .trades) || someCut (isParty n) cuts sales) (id-stays j)
+      ∙ ap (λ (x : Bool). cutBefore (v .party .id) (b .trades) || x) e ∙ or-true (cutBefore (v .party .id) (b .trades)) in
+      let short : shortOfCover limits after v ≡ shortFrom limits (after .header .prices) v (holding after v) true
+      = short-from limits after v ∙ ap (shortFrom limits (after .header .prices) v (holding after v)) cut in
+      ap (λ (x : Bool). cond (x && hasEligible after v) (target limits after v) 0) short
+      ∙ both (shortFrom limits (after .header .prices) v (holding after v) true) (hasEligible after v) (target limits after v)
+    where
+      both : (x y : Bool) (n : ℕ) → cond (x && y) n 0 ≡ cond y (cond x n 0) 0
+      both true true n = refl
+      both true false n = refl
+      both false true n = refl
+      both false false n = refl
+
+  -- what a user holds, as the afternoon reads it, where its record is as before
+  held-kept : (u : User) → AllNext (holding b u) (holding after u)
+  unfolding holding
+  held-kept u = record { each = λ area h. next-holding b after u u refl (framed (law .lowered)) area (holding b u area) refl refl refl }
+
+  target-kept : (u : User) → target limits after u ≡ target limits b u
+  target-kept u =
+      target-from limits after u ∙ ap (λ (x : Header). levelFrom limits (x .prices) u (holding after u) - u .party .assigned) (law .header)
+      ∙ ap (λ (m : ℕ). m - u .party .assigned) (sym (level-next (held-kept u) limits (b .header .prices) u)) ∙ sym (target-from limits b u)
+
+  -- who is party to none is due as before, for the same target
+  asked-before : (j : ℕ) → j < length (b .users) → (j ≡ place → ⊥) → someCut (isParty (memberAt b j .party .id)) cuts sales ≡ false
+      → owed limits after (memberAt after j) ≡ owed limits b (memberAt b j)
+  unfolding due
+  asked-before j l n e =
+      let u = memberAt b j in
+      let v = memberAt after j in
+      let same : v ≡ u = user-left law j nobody e in
+      let cover : shortOfCover limits after v ≡ shortOfCover limits b u = ap (shortOfCover limits after) same ∙ cover-left law limits u e in
+      let goal : target limits after v ≡ target limits b u = ap (target limits after) same ∙ target-kept u in
+      ap₂ (λ (x y : Bool). cond (x && y) (target limits after v) 0) cover (eligible-left j l n)
+      ∙ ap (λ (m : ℕ). cond (shortOfCover limits b u && hasEligible b u) m 0) goal
+
+  -- ---- the user
+
+  module _ (is-due : due limits b seller ≡ true) where
+    -- something is cut
+    some-lost : someCut (isParty (seller .party .id)) cuts sales ≡ true
+    unfolding due ofCuts nothing
+    some-lost =
+        let whole = holds is-due in
+        let s = and-l (shortOfCover limits b seller) (hasEligible b seller) whole in
+        let eligible = and-r (shortOfCover limits b seller) (hasEligible b seller) whole in
+        let some = some-cut-seller (seller .party .id) cuts sales (sales-own (b .trades) (seller .party .id)) (own-cuts-length own-sales b seller asked) in
+        by-case (any (λ c. ltb 0 c) cuts) (λ e. some ∙ e)
+        (λ e.
+        let less-mwh = reducedBy-less b seller asked sound (has-target limits b seller s) eligible in
+        let mwh = reducedBy-mwh b seller asked in
+        let zero-mwh : reducedBy b seller asked .answer .mwh ≡ 0
+        = ap (λ (a : Answer). a .mwh) (law .answer) ∙ tally-none (b .header .prices) cuts sales nothing e in
+        absurd (omega (arith, less-mwh, mwh, zero-mwh)))
+
+    pub asked-own : owed limits after (memberAt after place)
+        ≡ cond (hasEligible after (memberAt after place)) (owedCalled limits after (memberAt after place)) 0
+    asked-own = asked-anew place some-lost
+
+  -- another user: touched and with an eligible trade it is asked anew, else its target stays
+  pub asked-other : (j : ℕ) → j < length (b .users) → (j ≡ place → ⊥)
+      → owed limits after (memberAt after j)
+      ≡ cond (touched j buyers cuts && hasEligible b (memberAt b j))
+      (owedCalled limits after (memberAt after j))
+      (owed limits b (memberAt b j))
+  unfolding due
+  asked-other j l n =
+      by-case (touched j buyers cuts)
+      (λ e. rw e (asked-anew j (sym (touched-is j l n) ∙ e) ∙ ap (λ (x : Bool). cond x (owedCalled limits after (memberAt after j)) 0) (eligible-left j l n)
+      ∙ none (shortOfCover limits b (memberAt b j)) (hasEligible b (memberAt b j)) (owedCalled limits after (memberAt after j)) (target limits b (memberAt b j))))
+      (λ e. rw e (asked-before j l n (sym (touched-is j l n) ∙ e)))
+    where
+      -- without an eligible trade there was no target
+      none : (x y : Bool) (m t : ℕ) → cond y m 0 ≡ cond y m (cond (x && y) t 0)
+      none x true m t = refl
+      none true false m t = refl
+      none false false m t = refl

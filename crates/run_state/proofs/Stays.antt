@@ -1,0 +1,126 @@
+-- A run's book and the opening book: the same users but for their positions, and the same trades but for what stands of kind 0 and day 0. What is read from the arrays is what the
+-- rules say of the run's book. Assumes nothing.
+use mathlib.Core.Bool.{Bool, true, cond}
+use mathlib.Core.List.{List, [], map, map-map}
+use mathlib.Core.Path.{_≡_, refl, sym, ap, ap₂, _∙_}
+use Prim.Native.Nat.{ℕ, _+_, _*_, _-_, _<_}
+use native.Mathlib.Omega.{arith}
+use lib.Dec.{ltb}
+use lib.ListN.{length, getD, length-map, List·getD-map}
+use Rattle.laws.proofs.Settle.{retraded-anew}
+use Rattle.laws.specs.Sound.{Sound}
+use Rattle.laws.proofs.Trades.{framed, lowered-refl}
+use Rattle.laws.specs.Books.{anew, repositioned}
+use Rattle.laws.specs.Trades.{Framed, Lowered, Pairwise}
+use Rattle.rules.specs.Areas.{Prices}
+use Rattle.rules.specs.Book.{Book, Header, Party, User, nobody, sold, bought}
+use Rattle.rules.specs.Levels.{Limits, Holding, exposure, holding, leastReferencePrice, shipper, exceedsMargin}
+use Rattle.rules.specs.Reduction.{withTrades}
+use Rattle.run_state.specs.Asked.{memberAt}
+use Rattle.positions.specs.Twelve.{TwelveOf}
+use Rattle.risk_user.specs.Account.{PositionsOf, flaggedAt, heldAt, levelAt, targetAt}
+use Rattle.run_state.specs.Going.{owedCalled}
+use Rattle.sales.proofs.Cover.{sold-next, bought-next, exposure-next, level-next, short-next, target-from}
+use Rattle.sales.proofs.Settled.{settle-none}
+use Rattle.sales.specs.Cover.{AllNext, levelFrom, flaggedFrom, shortFrom}
+
+-- ---- of a user, levels and cover read the money
+
+module _ (limits : Limits) (f : Prices) (h : ℕ → Holding) (u v : User) (p : u .party ≡ v .party) where
+  level-money : levelFrom limits f u h - u .party .assigned ≡ levelFrom limits f v h - v .party .assigned
+  unfolding levelFrom
+  level-money = rw p
+
+  short-money : u .blocked ≡ v .blocked → shortFrom limits f u h true ≡ shortFrom limits f v h true
+  unfolding shortFrom flaggedFrom levelFrom shipper exceedsMargin
+  short-money g = rw (p, g)
+
+-- a run's book has the opening book's header, users but for their positions, and trades but for what stands
+pub record Stays (o b : Book) : Type 0 where
+  pub header : b .header ≡ o .header
+  pub users : b .users ≡ map (repositioned (b .trades)) (o .users)
+  pub framed : Pairwise Framed (o .trades) (b .trades)
+
+pub stays : (o b : Book) → Sound o → Pairwise Lowered (o .trades) (b .trades) → b ≡ withTrades o (b .trades) → Stays o b
+unfolding anew
+stays o b s l e =
+    let same : b ≡ anew o (b .trades) = e ∙ retraded-anew o (b .trades) s (framed l) in
+    record { header = ap (λ (x : Book). x .header) same; users = ap (λ (x : Book). x .users) same; framed = framed l }
+
+module _ {o b : Book} (t : Stays o b) where
+  pub users-many : length (b .users) ≡ length (o .users)
+  users-many = ap length (t .users) ∙ length-map (o .users) (repositioned (b .trades))
+
+  -- who they are
+  pub parties-stay : map (λ u. u .party) (b .users) ≡ map (λ u. u .party) (o .users)
+  unfolding repositioned
+  parties-stay = ap (map (λ (u : User). u .party)) (t .users) ∙ map-map (λ (u : User). u .party) (repositioned (b .trades)) (o .users)
+
+  pub party-stays : (i : ℕ) → memberAt b i .party ≡ memberAt o i .party
+  party-stays i =
+      sym (List·getD-map (λ (u : User). u .party) (b .users) i nobody)
+      ∙ ap (λ (ps : List Party). getD ps i (nobody .party)) parties-stay ∙ List·getD-map (λ (u : User). u .party) (o .users) i nobody
+
+  -- and their blocked guarantee
+  pub blocked-stays : (i : ℕ) → memberAt b i .blocked ≡ memberAt o i .blocked
+  unfolding repositioned
+  blocked-stays i =
+      sym (List·getD-map (λ (u : User). u .blocked) (b .users) i nobody)
+      ∙ ap (λ (ns : List ℕ). getD ns i (nobody .blocked)) (ap (map (λ (u : User). u .blocked)) (t .users) ∙ map-map (λ (u : User). u .blocked) (repositioned (b .trades)) (o .users))
+      ∙ List·getD-map (λ (u : User). u .blocked) (o .users) i nobody
+
+  -- ---- what the afternoon reads
+
+  module _ {sums ps : List ℕ} (w : TwelveOf (o .users) (o .trades) sums) (p : PositionsOf (b .users) ps) (i : ℕ) (k : i < length (b .users)) where
+    held-is : AllNext (heldAt sums ps i) (holding b (memberAt b i))
+    unfolding heldAt holding
+    held-is =
+        let id : memberAt o i .party .id ≡ memberAt b i .party .id = sym (ap (λ (q : Party). q .id) (party-stays i)) in
+        let l : i < length (o .users) = omega (arith, users-many) in
+        record {
+          each = λ area h. record {
+            position = p .each i area k h;
+            sold = w .sold-at i area 1 l h (omega arith) ∙ sym (sold-next (memberAt o i .party .id) area (t .framed)) ∙ ap (λ (n : ℕ). sold (b .trades) n area 1) id;
+            bought = ap (λ (n : ℕ). getD sums n 0) (next area) ∙ w .bought-at i area 1 l h (omega arith) ∙ sym (bought-next (memberAt o i .party .id) area (t .framed)) ∙ ap (λ (n : ℕ). bought (b .trades) n area 1) id;
+          };
+        }
+      where
+        next : (area : ℕ) → 12 * i + 9 + area ≡ 12 * i + 6 + 3 * 1 + area
+        next area = omega arith
+
+    -- exposure reads the positions alone
+    exposed : (f : Prices) → exposure f (heldAt [] ps i) ≡ exposure f (heldAt sums ps i)
+    unfolding exposure heldAt
+    exposed f = refl
+
+    module _ (limits : Limits) where
+      -- the target, where a user that is called in is short of cover
+      pub target-is : targetAt limits (o .header .prices) (o .users) sums ps i
+          ≡ owedCalled limits b (memberAt b i)
+      unfolding targetAt levelAt
+      target-is =
+          let f = o .header .prices in
+          let u = memberAt o i in
+          let v = memberAt b i in
+          ap₂ (λ (x : Bool) (n : ℕ). cond x n 0)
+          (short-money limits f (heldAt sums ps i) u v (sym (party-stays i)) (sym (blocked-stays i)) ∙ short-next held-is limits f v true)
+          (level-money limits f (heldAt sums ps i) u v (sym (party-stays i)) ∙ ap (λ (n : ℕ). n - v .party .assigned) (level-next held-is limits f v))
+          ∙ ap (λ (x : Header). cond (shortFrom limits (x .prices) v (holding b v) true) (levelFrom limits (x .prices) v (holding b v) - v .party .assigned) 0) (sym (t .header))
+          ∙ ap (λ (n : ℕ). cond (shortFrom limits (b .header .prices) v (holding b v) true) n 0) (sym (target-from limits b v))
+
+      -- flagged
+      pub flagged-is : flaggedAt limits (o .header .prices) (o .users) ps i ≡ flaggedFrom limits (b .header .prices) (memberAt b i) (holding b (memberAt b i))
+      unfolding flaggedAt flaggedFrom
+      flagged-is =
+          let f = o .header .prices in
+          let least = limits .flagMwh * leastReferencePrice f in
+          ap₂ (λ (m n : ℕ). ltb (least + m) n) (sym (blocked-stays i)) (exposed f ∙ exposure-next held-is f)
+          ∙ ap (λ (x : Header). ltb (limits .flagMwh * leastReferencePrice (x .prices) + memberAt b i .blocked) (exposure (x .prices) (holding b (memberAt b i)))) (sym (t .header))
+
+-- the opening book is one that a run has come to
+pub with-same : (b : Book) → b ≡ withTrades b (b .trades)
+unfolding withTrades
+with-same b = ap (λ (us : List User). record { header = b .header; users = us; trades = b .trades }) (sym (settle-none (b .trades) (b .users)))
+
+pub stays-first : (b : Book) → Sound b → Stays b b
+stays-first b s = stays b b s (lowered-refl (b .trades)) (with-same b)

@@ -1,0 +1,212 @@
+-- A reduction of a user that is due, in the arrays of a run: they are those of the rules' book after it, and no target before the least place that was asked anew has changed.
+-- Assumes nothing.
+use mathlib.Core.Bool.{Bool, true, false, cond, _&&_}
+use mathlib.Core.List.{List, map}
+use mathlib.Core.Path.{_≡_, refl, sym, ap, ap₂, subst, _∙_}
+use Prim.Native.Nat.{ℕ, suc, _≤_, _<_}
+use native.Mathlib.Omega.{arith}
+use lib.Dec.{T, eqb, ltb, eqb→eq}
+use lib.ListN.{length, getD, set, length-set}
+use lib.Seq.{getD-set-same, getD-set-other}
+use borrow.Author.Tests.{eq-eqb}
+use Rattle.format.specs.Steps.{placeOf}
+use Rattle.integers.proofs.Linear.{by-order}
+use Rattle.laws.specs.Sound.{Sound}
+use Rattle.laws.proofs.Tests.{all-by}
+use Rattle.laws.proofs.Trades.{framed, lowered-trans}
+use Rattle.laws.proofs.Users.{tradeValid-map}
+use Rattle.laws.specs.Books.{repositioned}
+use Rattle.laws.specs.Trades.{Lowered, Pairwise}
+use Rattle.rules.specs.Book.{Book, Party, Trade, User, nobody}
+use Rattle.rules.specs.Calls.{reduced, reducedBy}
+use Rattle.rules.specs.Levels.{Limits}
+use Rattle.rules.specs.Lists.{all, any}
+use Rattle.rules.specs.Questions.{tradeValid}
+use Rattle.rules.specs.Reduction.{hasEligible, target, withTrades}
+use Rattle.run_state.proofs.Moves.{all-moved, moved-length}
+use Rattle.run_state.proofs.Own.{own-areas, own-buyers}
+use Rattle.run_state.proofs.Reduced.{apart, asked-other, asked-own, eligible-left, eligible-own, law, member-stays, members-stay}
+use Rattle.run_state.proofs.Stays.{Stays, stays, target-is, users-many}
+use Rattle.run_state.specs.Asked.{memberAt, LookedAgain, movedAll, touched}
+use Rattle.risk_user.specs.Account.{PositionsOf, targetAt}
+use Rattle.positions.specs.Twelve.{TwelveOf}
+use Rattle.run_state.specs.Going.{Going, OwedOf, SalesIn, StandingIn, owed, owedCalled}
+use Rattle.sales.proofs.Again.{retraded-again}
+use Rattle.sales.proofs.Kept.{by-case, holds}
+use Rattle.sales.proofs.Listed.{starts-rise}
+use Rattle.sales.proofs.Numbers.{standing-cut}
+use Rattle.sales.proofs.Parts.{Around, part-before, part-behind}
+use Rattle.sales.specs.Cover.{due}
+use Rattle.sales.specs.Groups.{standings, starts}
+use Rattle.sales.specs.Parts.{part}
+use Rattle.sales.specs.Reduced.{ownSales, ownCuts}
+use Rattle.sales.specs.Sales.{less}
+
+-- a user with something owed is due, and owes its target
+pub owed-due : (limits : Limits) (b : Book) (u : User) {n : ℕ} → n ≡ owed limits b u → 0 < n → (due limits b u ≡ true) × (n ≡ target limits b u)
+owed-due limits b u {n} e h = go (due limits b u) e
+  where
+    go : (x : Bool) → n ≡ cond x (target limits b u) 0 → (x ≡ true) × (n ≡ target limits b u)
+    go true g = (refl, g)
+    go false g = absurd (omega (arith, g))
+
+module _ {limits : Limits} {o b : Book} {ns ps ts : List ℕ} {es : List Bool} (first : Sound o) (h : Going limits o b ns ps ts es) (place : ℕ) (k : place < length (b .users)) where
+  abbrev user : User
+  user = getD (b .users) place nobody
+
+  abbrev asked : ℕ
+  asked = target limits b (getD (b .users) place nobody)
+
+  abbrev after : Book
+  after = reducedBy b (getD (b .users) place nobody) (target limits b (getD (b .users) place nobody)) .book
+
+  abbrev cuts : List ℕ
+  cuts = ownCuts b (getD (b .users) place nobody) (target limits b (getD (b .users) place nobody))
+
+  abbrev buyers : List ℕ
+  buyers = map (λ s. placeOf (b .users) (s .terms .buyer)) (ownSales b (getD (b .users) place nobody))
+
+  abbrev codes : List ℕ
+  codes = map (λ s. s .terms .area) (ownSales b (getD (b .users) place nobody))
+
+  pub now-stays : Stays o b
+  now-stays = stays o b first (h .lowered) (h .same)
+
+  -- ---- the book
+
+  trades-valid : T (all (tradeValid (o .users)) (b .trades))
+  unfolding repositioned
+  trades-valid =
+      let g = repositioned (b .trades) in
+      all-by (tradeValid (b .users)) (tradeValid (o .users))
+      (λ t v. subst T (ap (λ (us : List User). tradeValid us t) (now-stays .users) ∙ tradeValid-map g (keeps (b .trades)) (o .users) t) v) (b .trades) (h .sound .trades)
+    where
+      keeps : (xs : List Trade) (u : User) → repositioned xs u .party ≡ u .party
+      keeps xs u = refl
+
+  after-same : after ≡ withTrades o (after .trades)
+  unfolding reducedBy withTrades
+  after-same =
+      let ms = after .trades in
+      ap (λ (x : Book). withTrades x ms) (h .same) ∙ retraded-again o (b .trades) ms first (framed (h .lowered)) trades-valid (framed (law limits b (h .sound) place k .lowered))
+
+  after-lowered : Pairwise Lowered (o .trades) (after .trades)
+  after-lowered = lowered-trans (h .lowered) (law limits b (h .sound) place k .lowered)
+
+  after-stays : Stays o after
+  after-stays = stays o after first after-lowered after-same
+
+  -- ---- what stands
+
+  same-members : length (after .users) ≡ length (b .users)
+  same-members = members-stay limits b (h .sound) place k
+
+  -- the user's part has what stands after the cuts, and the others have not changed
+  module _ {ms cs : List ℕ} (long : length ms ≡ 256) (few : length (b .users) ≤ 64) (c : cs ≡ cuts)
+      (own : part (starts o place) (starts o (suc place)) ms ≡ less cs (part (starts o place) (starts o (suc place)) ns)) (only : Around (starts o place) (starts o (suc place)) ns ms) where
+    standing-own : part (starts o place) (starts o (suc place)) ms ≡ standings (after .trades) (user .party .id)
+    standing-own =
+        own ∙ ap₂ less c (h .standing .each place k) ∙ sym (standing-cut cuts (ownSales b user))
+        ∙ ap (map (λ (t : Trade). t .standing)) (sym (law limits b (h .sound) place k .own))
+
+    -- another user's
+    standing-other : (i : ℕ) → i < length (b .users) → (i ≡ place → ⊥) → part (starts o i) (starts o (suc i)) ms ≡ part (starts o i) (starts o (suc i)) ns
+    standing-other i l n =
+        let many = users-many now-stays in
+        by-order i place
+        (λ m. part-before only (starts o i) (starts o (suc i)) (starts-rise o i (suc i) (omega arith) (omega arith)) (starts-rise o (suc i) place (omega arith) (omega arith)))
+        (λ m. part-behind only (starts o i) (starts o (suc i)) (starts-rise o (suc place) i (later m) (omega arith)))
+      where
+        later : place ≤ i → suc place ≤ i
+        later m = by-order place i (λ x. omega arith) (λ x. absurd (n (omega arith)))
+
+    standing-after : StandingIn o after ms
+    standing-after =
+        record {
+          each = λ i l.
+              let m : i < length (b .users) = omega (arith, same-members) in
+              let party : memberAt after i .party .id ≡ memberAt b i .party .id = ap (λ (p : Party). p .id) (member-stays limits b (h .sound) place k i) in
+              by-case (eqb i place)
+              (λ e. let z : place ≡ i = sym (eqb→eq i place (holds e)) in
+              subst (λ (j : ℕ). part (starts o j) (starts o (suc j)) ms ≡ standings (after .trades) (memberAt b j .party .id)) z standing-own ∙ ap (standings (after .trades)) (sym party))
+              (λ e. let n : i ≡ place → ⊥ = λ z. absurd (subst T (sym (eq-eqb i place z) ∙ e) tt) in
+              standing-other i m n ∙ h .standing .each i m
+              ∙ ap (map (λ (t : Trade). t .standing)) (sym (law limits b (h .sound) place k .other (memberAt b i .party .id) (apart limits b (h .sound) place k i m n)))
+              ∙ ap (standings (after .trades)) (sym party));
+        }
+
+    -- ---- who is due
+
+    module _ (is-due : due limits b user ≡ true) {sums qs ss areaCodes bs : List ℕ} (w : TwelveOf (o .users) (o .trades) sums) (q : SalesIn o ss areaCodes bs)
+        (moved : qs ≡ movedAll place (part (starts o place) (starts o (suc place)) bs) (part (starts o place) (starts o (suc place)) areaCodes) cs ps) where
+      moved-room : length qs ≡ 192
+      moved-room = ap length moved ∙ moved-length place (part (starts o place) (starts o (suc place)) bs) (part (starts o place) (starts o (suc place)) areaCodes) cs ps ∙ h .rooms .positions
+
+      positions-after : PositionsOf (after .users) qs
+      positions-after =
+          let e : movedAll place (part (starts o place) (starts o (suc place)) bs) (part (starts o place) (starts o (suc place)) areaCodes) cs ps
+          ≡ movedAll place buyers codes cuts ps
+          = ap₂ (λ (xs ys : List ℕ). movedAll place xs ys cs ps) (own-buyers now-stays q place k) (own-areas now-stays q place k) ∙ ap (λ (xs : List ℕ). movedAll place buyers codes xs ps) c in
+          subst (λ (xs : List ℕ). PositionsOf (after .users) xs) (sym (moved ∙ e)) (all-moved b (h .sound) place k asked ps (omega (arith, h .rooms .positions)) (h .positions))
+
+      -- what a user that is called in owes, from the arrays
+      abbrev now : ℕ → ℕ
+      now j = targetAt limits (o .header .prices) (o .users) sums qs j
+
+      now-is : (j : ℕ) → j < length (b .users) → targetAt limits (o .header .prices) (o .users) sums qs j ≡ owedCalled limits after (memberAt after j)
+      now-is j l = target-is after-stays w positions-after j (omega (arith, same-members)) limits
+
+      module _ {mid : List ℕ} {least : ℕ} {left : Bool}
+          (look : LookedAgain (λ j. targetAt limits (o .header .prices) (o .users) sums qs j) es (part (starts o place) (starts o (suc place)) bs) cs ts mid least)
+          (is-left : left ≡ any (λ n. ltb 0 n) (part (starts o place) (starts o (suc place)) ms)) where
+        left-is : left ≡ hasEligible after (memberAt after place)
+        left-is = is-left ∙ ap (any (λ n. ltb 0 n)) standing-own ∙ sym (eligible-own limits b (h .sound) place k)
+
+        target-other : (j : ℕ) → j < length (b .users) → (j ≡ place → ⊥) → getD mid j 0 ≡ owed limits after (memberAt after j)
+        target-other j l n =
+            look .each j (omega arith)
+            ∙ ap₂ (λ (xs ys : List ℕ). cond (touched j xs ys && getD es j false) (now j) (getD ts j 0)) (own-buyers now-stays q place k) c
+            ∙ ap₂ (λ (x : Bool) (m : ℕ). cond (touched j buyers cuts && x) m (getD ts j 0)) (h .owed .open-at j l) (now-is j l)
+            ∙ ap (λ (m : ℕ). cond (touched j buyers cuts && hasEligible b (memberAt b j)) (owedCalled limits after (memberAt after j)) m) (h .owed .target-at j l)
+            ∙ sym (asked-other limits b (h .sound) place k j l n)
+
+        owed-after : OwedOf limits after (set mid place (cond left (now place) 0)) (set es place left)
+        owed-after =
+            record {
+              target-at = λ j l.
+                  let m : j < length (b .users) = omega (arith, same-members) in
+                  at-place j (λ (n : ℕ). getD (set mid place (cond left (now place) 0)) n 0 ≡ owed limits after (memberAt after n))
+                  (getD-set-same mid place (cond left (now place) 0) 0 (omega (arith, look .room))
+                  ∙ ap₂ (λ (x : Bool) (n : ℕ). cond x n 0) left-is (now-is place k) ∙ sym (asked-own limits b (h .sound) place k is-due))
+                  (λ n. getD-set-other mid place j (cond left (now place) 0) 0 n ∙ target-other j m n);
+              open-at = λ j l.
+                  let m : j < length (b .users) = omega (arith, same-members) in
+                  at-place j (λ (n : ℕ). getD (set es place left) n false ≡ hasEligible after (memberAt after n))
+                  (getD-set-same es place left false (omega (arith, h .rooms .eligible)) ∙ left-is)
+                  (λ n. getD-set-other es place j left false n ∙ h .owed .open-at j m ∙ sym (eligible-left limits b (h .sound) place k j m n));
+            }
+          where
+            at-place : (j : ℕ) (P : ℕ → Type 0) → P place → ((j ≡ place → ⊥) → P j) → P j
+            at-place j P x y =
+                by-case (eqb j place)
+                (λ e. subst P (sym (eqb→eq j place (holds e))) x)
+                (λ e. y (λ z. absurd (subst T (sym (eq-eqb j place z) ∙ e) tt)))
+
+        -- the run goes on with the rules' book
+        pub turn-going : Going limits o (reduced limits b (getD (b .users) place nobody) .book) ms qs (set mid place (cond left (targetAt limits (o .header .prices) (o .users) sums qs place) 0)) (set es place left)
+        unfolding reduced
+        turn-going =
+            record {
+              sound = law limits b (h .sound) place k .sound;
+              lowered = after-lowered;
+              same = after-same;
+              standing = standing-after;
+              positions = positions-after;
+              owed = owed-after;
+              rooms = record {
+                standing = long;
+                positions = moved-room;
+                targets = length-set mid place (cond left (now place) 0) ∙ look .room;
+                eligible = length-set es place left ∙ h .rooms .eligible;
+              };
+            }

@@ -1,0 +1,162 @@
+-- Targets before the first reduction: called in or not, and the loop over the users. Assumes nothing.
+use mathlib.Core.Bool.{Bool, true, false, cond, not, _&&_, _||_}
+use mathlib.Core.List.{List}
+use mathlib.Core.Path.{_≡_, refl, sym, ap, ap₂, subst, _∙_}
+use Prim.Native.Nat.{ℕ, suc, _+_, _-_, _≤_, _<_}
+use native.Mathlib.Numerals.{add-one}
+use native.Mathlib.Omega.{arith}
+use lib.Dec.{T, ltb}
+use lib.ListN.{length, getD, set, length-set}
+use lib.Seq.{getD-set-same, getD-set-other}
+use Rattle.dealings.specs.Parties.{cutBefore}
+use Rattle.format.proofs.Passed.{length-usersOf}
+use Rattle.format.specs.Book.{bookOf, usersOf}
+use Rattle.integers.proofs.Linear.{by-order}
+use Rattle.rules.specs.Areas.{Prices}
+use Rattle.rules.specs.Book.{Book, User}
+use Rattle.rules.specs.Levels.{Limits, Holding, holding, shipper, exceedsMargin}
+use Rattle.rules.specs.Lists.{any}
+use Rattle.rules.specs.Reduction.{hasEligible, target}
+use Rattle.sales.proofs.Listed.{starts-rise}
+use Rattle.run_state.proofs.Stays.{flagged-is, stays-first, target-is}
+use Rattle.run_state.specs.Asked.{memberAt}
+use Rattle.risk_user.specs.Account.{flaggedAt, targetAt}
+use Rattle.run_state.specs.Going.{OwedOf, owed, owedCalled}
+use Rattle.run_targets.specs.Asking.{Opening, owedIf}
+use Rattle.sales.proofs.Cover.{has-eligible-sales, short-from}
+use Rattle.sales.specs.Cover.{due, flaggedFrom, levelFrom, shortFrom}
+use Rattle.sales.specs.Groups.{starts}
+use Rattle.sales.specs.Parts.{part}
+
+-- ---- T or 0, by cases
+
+pub first-none : (flagged cut : Bool) (t : ℕ) (left : Bool) → not left ≡ true → 0 ≡ owedIf flagged left cut t
+unfolding owedIf
+first-none flagged cut t true e = absurd (subst T (sym e) tt)
+first-none flagged cut t false e = refl
+
+has-left : (left : Bool) → not left ≡ false → left ≡ true
+has-left true e = refl
+has-left false e = absurd (subst T e tt)
+
+module _ (t : ℕ) (left : Bool) (l : not left ≡ false) where
+  pub first-called : (flagged cut : Bool) {r : Bool} → r ≡ (flagged || cut) → r ≡ true → t ≡ owedIf flagged left cut t
+  unfolding owedIf
+  first-called flagged cut g e = rw (has-left left l, sym g ∙ e)
+
+  pub first-uncalled : (flagged cut : Bool) {r : Bool} → r ≡ (flagged || cut) → r ≡ false → 0 ≡ owedIf flagged left cut t
+  unfolding owedIf
+  first-uncalled flagged cut g e = rw (has-left left l, sym g ∙ e)
+
+-- of a user that is party to a trade standing below notified
+pub owed-cut : (flagged left : Bool) (t : ℕ) → owedIf flagged left true t ≡ cond left t 0
+unfolding owedIf
+owed-cut true left t = refl
+owed-cut false left t = refl
+
+-- ---- it is what the rules say
+
+-- short of cover is called in, and short of cover as one who is
+called-in : (limits : Limits) (f : Prices) (u : User) (h : ℕ → Holding) (cut e : Bool) (t : ℕ)
+    → cond e (cond (flaggedFrom limits f u h || cut) (cond (shortFrom limits f u h true) t 0) 0) 0 ≡ cond (shortFrom limits f u h cut && e) t 0
+unfolding shortFrom
+called-in limits f u h cut e t = go (shipper u) (flaggedFrom limits f u h) cut (exceedsMargin limits (levelFrom limits f u h) u && ltb (u .party .assigned) (levelFrom limits f u h)) e
+  where
+    go : (a g c r e : Bool) → cond e (cond (g || c) (cond ((a && (g || true)) && r) t 0) 0) 0 ≡ cond (((a && (g || c)) && r) && e) t 0
+    go true true c true true = refl
+    go true true c true false = refl
+    go true true c false true = refl
+    go true true c false false = refl
+    go true false true true true = refl
+    go true false true true false = refl
+    go true false true false true = refl
+    go true false true false false = refl
+    go true false false r true = refl
+    go true false false r false = refl
+    go false true c r true = refl
+    go false true c r false = refl
+    go false false true r true = refl
+    go false false true r false = refl
+    go false false false r true = refl
+    go false false false r false = refl
+
+module _ {f : Prices} {n : ℕ} {s sums ps ss ns : List ℕ} {flags : List Bool} (p : Opening f n s sums ps ss ns flags) where
+  -- the users are n, at most 64
+  pub member-in : {i : ℕ} → i < n → i < length (usersOf s)
+  member-in h = omega (arith, length-usersOf s, p .users-are)
+
+  pub member-few : {i : ℕ} → i < length (usersOf s) → i < 64
+  member-few h = omega (arith, length-usersOf s, p .form .users)
+
+  pub members-end : {i : ℕ} → n ≤ i → length (bookOf s .users) ≤ i
+  unfolding bookOf
+  members-end h = omega (arith, length-usersOf s, p .users-are)
+
+module _ {f : Prices} {n : ℕ} {s sums ps ss ns : List ℕ} {flags : List Bool} (p : Opening f n s sums ps ss ns flags) (i : ℕ) (k : i < length (usersOf s)) where
+  -- where the user's own sales start and end
+  pub start-is : getD ss i 0 ≡ starts (bookOf s) i
+  start-is = p .starts-at i (omega arith)
+
+  pub end-is : getD ss (i + 1) 0 ≡ starts (bookOf s) (suc i)
+  end-is = rw add-one (p .starts-at (suc i) (omega arith))
+
+  pub end-few : getD ss (i + 1) 0 ≤ 256
+  unfolding bookOf
+  end-few = omega (arith, end-is, starts-rise (bookOf s) (suc i) (length (usersOf s)) (omega arith) (omega arith), p .few)
+
+  -- an eligible trade
+  pub left-is : {left : Bool} → left ≡ any (λ m. ltb 0 m) (part (getD ss i 0) (getD ss (i + 1) 0) ns) → left ≡ hasEligible (bookOf s) (memberAt (bookOf s) i)
+  unfolding bookOf
+  left-is e =
+      e ∙ ap₂ (λ (a b : ℕ). any (λ m. ltb 0 m) (part a b ns)) start-is end-is ∙ ap (any (λ m. ltb 0 m)) (p .standing .each i k) ∙ sym (has-eligible-sales (bookOf s) (memberAt (bookOf s) i))
+
+  pub first-is : (limits : Limits) {left : Bool} → left ≡ hasEligible (bookOf s) (memberAt (bookOf s) i)
+      → owedIf (flaggedAt limits f (usersOf s) ps i) left (getD flags i false) (targetAt limits f (usersOf s) sums ps i) ≡ owed limits (bookOf s) (memberAt (bookOf s) i)
+  unfolding owedIf bookOf due
+  first-is limits {left} e =
+      let b = bookOf s in
+      let u = memberAt b i in
+      let t = stays-first b (p .sound) in
+      let g = b .header .prices in
+      let called = flaggedFrom limits g u (holding b u) || cutBefore (u .party .id) (b .trades) in
+      let flag : flaggedAt limits f (usersOf s) ps i ≡ flaggedFrom limits g u (holding b u)
+      = ap (λ (x : Prices). flaggedAt limits x (usersOf s) ps i) (p .prices-are) ∙ flagged-is t (p .twelve) (p .positions) i k limits in
+      let goal : targetAt limits f (usersOf s) sums ps i ≡ owedCalled limits b u
+      = ap (λ (x : Prices). targetAt limits x (usersOf s) sums ps i) (p .prices-are) ∙ target-is t (p .twelve) (p .positions) i k limits in
+      ap (λ (x : Bool). cond x (cond (flaggedAt limits f (usersOf s) ps i || getD flags i false) (targetAt limits f (usersOf s) sums ps i) 0) 0) e
+      ∙ ap₂ (λ (x y : Bool). cond (hasEligible b u) (cond (x || y) (targetAt limits f (usersOf s) sums ps i) 0) 0) flag (p .cut .each i k)
+      ∙ ap (λ (m : ℕ). cond (hasEligible b u) (cond called m 0) 0) goal
+      ∙ called-in limits g u (holding b u) (cutBefore (u .party .id) (b .trades)) (hasEligible b u) (target limits b u)
+      ∙ ap (λ (x : Bool). cond (x && hasEligible b u) (target limits b u) 0) (sym (short-from limits b u))
+
+-- ---- all users
+
+-- the first i users have their targets
+pub record FilledTo (limits : Limits) (b : Book) (i : ℕ) (ts : List ℕ) (es : List Bool) : Type 0 where
+  pub targets-room : length ts ≡ 64
+  pub eligible-room : length es ≡ 64
+  pub target-at : (j : ℕ) → j < i → getD ts j 0 ≡ owed limits b (memberAt b j)
+  pub open-at : (j : ℕ) → j < i → getD es j false ≡ hasEligible b (memberAt b j)
+
+module _ (limits : Limits) (b : Book) where
+  pub filled-start : {ts : List ℕ} {es : List Bool} → length ts ≡ 64 → length es ≡ 64 → FilledTo limits b 0 ts es
+  filled-start x y = record { targets-room = x; eligible-room = y; target-at = λ j h. absurd (omega arith); open-at = λ j h. absurd (omega arith) }
+
+  pub filled-more : {i : ℕ} {ts : List ℕ} {es : List Bool} (t : ℕ) (e : Bool) → i < 64 → t ≡ owed limits b (memberAt b i) → e ≡ hasEligible b (memberAt b i)
+      → FilledTo limits b i ts es → FilledTo limits b (i + 1) (set ts i t) (set es i e)
+  filled-more {i} {ts} {es} t e l x y p =
+      record {
+        targets-room = length-set ts i t ∙ p .targets-room;
+        eligible-room = length-set es i e ∙ p .eligible-room;
+        target-at = λ j k.
+            by-order j i (λ m. getD-set-other ts i j t 0 (λ z. omega arith) ∙ p .target-at j m)
+            (λ m. let z : i ≡ j = omega arith in
+            subst (λ (r : ℕ). getD (set ts i t) r 0 ≡ owed limits b (memberAt b r)) z (getD-set-same ts i t 0 (omega (arith, p .targets-room)) ∙ x));
+        open-at = λ j k.
+            by-order j i (λ m. getD-set-other es i j e false (λ z. omega arith) ∙ p .open-at j m)
+            (λ m. let z : i ≡ j = omega arith in
+            subst (λ (r : ℕ). getD (set es i e) r false ≡ hasEligible b (memberAt b r)) z (getD-set-same es i e false (omega (arith, p .eligible-room)) ∙ y));
+      }
+
+  pub filled-end : {i : ℕ} {ts : List ℕ} {es : List Bool} → length (b .users) ≤ i → FilledTo limits b i ts es → OwedOf limits b ts es × (length ts ≡ 64) × (length es ≡ 64)
+  filled-end h p = (record { target-at = λ j k. p .target-at j (omega arith); open-at = λ j k. p .open-at j (omega arith) }, p .targets-room, p .eligible-room)

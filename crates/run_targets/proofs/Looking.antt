@@ -1,0 +1,144 @@
+-- A part of the sales, passed one by one: whether one of them stands above 0, and the buyers of those that lost something, asked anew. Assumes nothing.
+use mathlib.Core.Bool.{Bool, true, false, cond, _&&_, _||_}
+use mathlib.Core.List.{List}
+use mathlib.Core.Path.{_≡_, refl, sym, ap, ap₂, subst, _∙_}
+use Prim.Native.Nat.{ℕ, _+_, _≤_, _<_, min}
+use native.Mathlib.Omega.{arith}
+use lib.Dec.{T, eqb, ltb, eqb→eq}
+use lib.ListN.{length, getD, set, length-set}
+use lib.Seq.{getD-set-same, getD-set-other}
+use borrow.Author.Tests.{eq-eqb, lt-ltb, le-ltb}
+use Rattle.rules.specs.Lists.{any}
+use Rattle.run_state.specs.Asked.{LookedAgain, touched}
+use Rattle.sales.proofs.Kept.{by-case, holds}
+use Rattle.sales.proofs.Parts.{part-first, part-none}
+use Rattle.sales.specs.Parts.{part}
+
+-- ---- one that stands above 0
+
+module _ (xs : List ℕ) (from to : ℕ) (room : to ≤ length xs) where
+  -- what is left has the whole answer
+  module _ {i : ℕ} (h : i < to) (p : any (λ n. ltb 0 n) (part i to xs) ≡ any (λ n. ltb 0 n) (part from to xs)) where
+    next : any (λ n. ltb 0 n) (part i to xs) ≡ (ltb 0 (getD xs i 0) || any (λ n. ltb 0 n) (part (i + 1) to xs))
+    unfolding any
+    next = ap (any (λ n. ltb 0 n)) (part-first xs i to 0 h room)
+
+    pub left-found : 0 < getD xs i 0 → true ≡ any (λ n. ltb 0 n) (part from to xs)
+    left-found k = sym (sym p ∙ next ∙ ap (λ (x : Bool). x || any (λ n. ltb 0 n) (part (i + 1) to xs)) (lt-ltb 0 (getD xs i 0) k))
+
+    pub left-more : getD xs i 0 ≤ 0 → any (λ n. ltb 0 n) (part (i + 1) to xs) ≡ any (λ n. ltb 0 n) (part from to xs)
+    left-more k = sym (sym p ∙ next ∙ ap (λ (x : Bool). x || any (λ n. ltb 0 n) (part (i + 1) to xs)) (le-ltb 0 (getD xs i 0) k))
+
+  pub left-none : {i : ℕ} → to ≤ i → any (λ n. ltb 0 n) (part i to xs) ≡ any (λ n. ltb 0 n) (part from to xs) → false ≡ any (λ n. ltb 0 n) (part from to xs)
+  unfolding any
+  left-none {i} h p = sym (ap (any (λ n. ltb 0 n)) (part-none xs i to h)) ∙ p
+
+-- ---- buyers asked anew
+
+-- a user is asked at this sale, at one of the rest, or not
+asked-step : (x r e : Bool) (n t u : ℕ) → u ≡ cond (x && e) n t → cond (r && e) n u ≡ cond ((x || r) && e) n t
+asked-step true true true n t u f = refl
+asked-step true false true n t u f = f
+asked-step true true false n t u f = f
+asked-step true false false n t u f = f
+asked-step false r e n t u f = ap (cond (r && e) n) f
+
+pub yes : {A : Type 0} {c : Bool} → c ≡ true → (x y : A) → cond c x y ≡ x
+yes e x y = rw e
+
+pub no : {A : Type 0} {c : Bool} → c ≡ false → (x y : A) → cond c x y ≡ y
+no e x y = rw e
+
+module _ (now : ℕ → ℕ) (es : List Bool) (from to : ℕ) (bs cs ts₀ : List ℕ) (least : ℕ) where
+  -- sales up to i are passed: who is asked anew at the rest has its target then, and those before `low` have not been asked
+  pub record LookedTo (ts : List ℕ) (low i : ℕ) : Type 0 where
+    pub room : length ts ≡ 64
+    pub rest : (j : ℕ) → j < 64 → cond (touched j (part i to bs) (part i to cs) && getD es j false) (now j) (getD ts j 0)
+        ≡ cond (touched j (part from to bs) (part from to cs) && getD es j false) (now j) (getD ts₀ j 0)
+    pub before : (j : ℕ) → j < low → getD ts j 0 ≡ getD ts₀ j 0
+    pub most : low ≤ least
+
+  pub looked-start : length ts₀ ≡ 64 → LookedTo ts₀ least from
+  looked-start e = record { room = e; rest = λ j h. refl; before = λ j h. refl; most = omega arith }
+
+  module _ (b-room : to ≤ length bs) (c-room : to ≤ length cs) {ts : List ℕ} {low i : ℕ} (h : i < to) (p : LookedTo ts low i) where
+    next-touched : (j : ℕ) → touched j (part i to bs) (part i to cs) ≡ ((eqb (getD bs i 0) j && ltb 0 (getD cs i 0)) || touched j (part (i + 1) to bs) (part (i + 1) to cs))
+    unfolding touched
+    next-touched j = ap₂ (touched j) (part-first bs i to 0 h (omega arith)) (part-first cs i to 0 h (omega arith))
+
+    -- a sale that lost nothing
+    pub looked-skip : getD cs i 0 ≤ 0 → LookedTo ts low (i + 1)
+    looked-skip k =
+        record {
+          room = p .room;
+          rest = λ j l.
+              let r = touched j (part (i + 1) to bs) (part (i + 1) to cs) in
+              let e : touched j (part i to bs) (part i to cs) ≡ r
+              = next-touched j ∙ ap (λ (x : Bool). (eqb (getD bs i 0) j && x) || r) (le-ltb 0 (getD cs i 0) k) ∙ ap (λ (x : Bool). x || r) (none (eqb (getD bs i 0) j)) in
+              ap (λ (x : Bool). cond (x && getD es j false) (now j) (getD ts j 0)) (sym e) ∙ p .rest j l;
+          before = p .before;
+          most = p .most;
+        }
+      where
+        none : (x : Bool) → (x && false) ≡ false
+        none true = refl
+        none false = refl
+
+    -- one that lost something
+    module _ (k : 0 < getD cs i 0) (b : ℕ) (is : getD bs i 0 ≡ b) (l : b < 64) {us : List ℕ} {n : ℕ} (told : us ≡ cond (getD es b false) (set ts b (now b)) ts)
+        (lower : n ≡ cond (getD es b false) (min low b) low) where
+      told-room : length us ≡ 64
+      told-room = ap length told ∙ by-case (getD es b false) (λ e. ap length (yes e (set ts b (now b)) ts) ∙ length-set ts b (now b)) (λ e. ap length (no e (set ts b (now b)) ts)) ∙ p .room
+
+      told-at : (j : ℕ) → getD us j 0 ≡ cond (eqb b j && getD es j false) (now j) (getD ts j 0)
+      told-at j =
+          ap (λ (xs : List ℕ). getD xs j 0) told
+          ∙ by-case (eqb b j)
+          (λ y.
+          let z : b ≡ j = eqb→eq b j (holds y) in
+          ap (λ (m : ℕ). getD (cond (getD es m false) (set ts m (now m)) ts) j 0) z
+          ∙ by-case (getD es j false) (λ e. rw (y, e) (getD-set-same ts j (now j) 0 (omega (arith, p .room, l, z)))) (λ e. rw (y, e)))
+          (λ y.
+          let apart : j ≡ b → ⊥ = λ z. absurd (subst T (sym (eq-eqb b j (sym z)) ∙ y) tt) in
+          by-case (getD es b false) (λ e. rw (y, e) (getD-set-other ts b j (now b) 0 apart)) (λ e. rw (y, e)))
+
+      told-before : (j : ℕ) → j < n → getD us j 0 ≡ getD ts₀ j 0
+      told-before j m =
+          by-case (getD es b false)
+          (λ e.
+          let w : n ≡ min low b = lower ∙ yes e (min low b) low in
+          ap (λ (xs : List ℕ). getD xs j 0) (told ∙ yes e (set ts b (now b)) ts) ∙ getD-set-other ts b j (now b) 0 (λ z. absurd (omega (arith, w, z))) ∙ p .before j (omega (arith, w)))
+          (λ e.
+          let w : n ≡ low = lower ∙ no e (min low b) low in
+          ap (λ (xs : List ℕ). getD xs j 0) (told ∙ no e (set ts b (now b)) ts) ∙ p .before j (omega (arith, w)))
+
+      pub looked-more : LookedTo us n (i + 1)
+      looked-more =
+          record {
+            room = told-room;
+            rest = λ j m.
+                let r = touched j (part (i + 1) to bs) (part (i + 1) to cs) in
+                let e : touched j (part i to bs) (part i to cs) ≡ (eqb b j || r)
+                = next-touched j ∙ ap₂ (λ (x : ℕ) (y : Bool). (eqb x j && y) || r) is (lt-ltb 0 (getD cs i 0) k) ∙ ap (λ (x : Bool). x || r) (whole (eqb b j)) in
+                asked-step (eqb b j) r (getD es j false) (now j) (getD ts j 0) (getD us j 0) (told-at j)
+                ∙ ap (λ (x : Bool). cond (x && getD es j false) (now j) (getD ts j 0)) (sym e) ∙ p .rest j m;
+            before = told-before;
+            most = by-case (getD es b false) (λ e. omega (arith, p .most, lower ∙ yes e (min low b) low)) (λ e. omega (arith, p .most, lower ∙ no e (min low b) low));
+          }
+        where
+          whole : (x : Bool) → (x && true) ≡ x
+          whole true = refl
+          whole false = refl
+
+  pub looked-end : {ts : List ℕ} {low i : ℕ} → to ≤ i → LookedTo ts low i → LookedAgain now es (part from to bs) (part from to cs) ts₀ ts low × (low ≤ least)
+  unfolding touched
+  looked-end {ts} {low} {i} h p = (
+    record {
+      room = p .room;
+      each = λ j l.
+          let none : touched j (part i to bs) (part i to cs) ≡ false = ap (λ (xs : List ℕ). touched j xs (part i to cs)) (part-none bs i to h) in
+          ap (λ (x : Bool). cond (x && getD es j false) (now j) (getD ts j 0)) (sym none) ∙ p .rest j l;
+      before = p .before;
+    },
+    p .most,
+  )

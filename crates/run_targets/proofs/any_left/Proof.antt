@@ -1,0 +1,62 @@
+-- `any_left`: what is left has the whole answer. Assumes nothing.
+use Prim.Native.Nat.{_-_}
+use Rattle.rules.specs.Lists.{any}
+use Rattle.run_targets.proofs.Looking.{left-found, left-more, left-none}
+use denote.Ref.{now}
+use lib.Dec.{ltb}
+use mathlib.Core.Path.{_≡_, refl}
+use native.Mathlib.Omega.{arith}
+use Rattle.run_targets.proofs.any_left.Statement.{statement}
+use Rattle.run_targets.proofs.any_left.Tie as tie
+use Rattle.sales.specs.Parts.{part}
+
+abbrev Inv-loop : tie.InvT-loop
+Inv-loop standing from to i₀ i = any (λ n. ltb 0 n) (part i to standing) ≡ any (λ n. ltb 0 n) (part from to standing)
+
+abbrev μ-loop : tie.MeasureT-loop
+μ-loop standing from to i₀ i = to - i
+
+loop-holds : tie.Need-loop-holds Inv-loop μ-loop
+loop-holds c = refl
+
+mul-if1 : tie.Need-mul-if1 Inv-loop μ-loop
+mul-if1 c = omega arith
+
+element-copy-out-if1 : tie.Need-element-copy-out-if1 Inv-loop μ-loop
+element-copy-out-if1 c = omega (arith, c .before .before .pre .0)
+
+returns : tie.Need-returns Inv-loop μ-loop
+returns c =
+    let a = c .before .before .before .before .args in
+    left-found (now (a .standing)) (a .from) (a .to) (omega (arith, c .before .before .before .before .pre)) (c .before .before .loop-test .taken) (c .before .before .before .loop .inv) (c .if1 .taken)
+
+add-i : tie.Need-add-i Inv-loop μ-loop
+add-i c = omega arith
+
+loop-less : tie.Need-loop-less Inv-loop μ-loop
+loop-less c = omega arith
+
+loop-again : tie.Need-loop-again Inv-loop μ-loop
+loop-again c =
+    let a = c .before .before .before .before .args in
+    left-more (now (a .standing)) (a .from) (a .to) (omega (arith, c .before .before .before .before .pre)) (c .before .before .loop-test .taken) (c .before .before .before .loop .inv) (c .if1 .left)
+
+returns-2 : tie.Need-returns-2 Inv-loop μ-loop
+returns-2 c =
+    let a = c .before .before .args in
+    left-none (now (a .standing)) (a .from) (a .to) (omega (arith, c .before .before .pre)) (c .loop-test .left) (c .before .loop .inv)
+
+pub any-left-spec : {M : Type 1} → statement M
+any-left-spec =
+    tie.close
+    (tie.spec
+    Inv-loop
+    μ-loop
+    loop-holds
+    mul-if1
+    element-copy-out-if1
+    returns
+    add-i
+    loop-less
+    loop-again
+    returns-2)

@@ -1,0 +1,49 @@
+-- What a run asks of its users before the first reduction and after each. Assumes nothing.
+use mathlib.Core.Bool.{Bool, false, cond, _||_}
+use mathlib.Core.List.{List}
+use mathlib.Core.Path.{_≡_}
+use Prim.Native.Nat.{ℕ, _≤_, _<_}
+use lib.ListN.{length, getD}
+use Rattle.columns.specs.Columns.{idAt}
+use Rattle.dealings.specs.Parties.{cutBefore}
+use Rattle.format.specs.Book.{bookOf, tradesOf, userCount, usersOf}
+use Rattle.format.specs.Questions.{Formed}
+use Rattle.laws.specs.Sound.{Sound}
+use Rattle.rules.specs.Areas.{Prices}
+use Rattle.rules.specs.Book.{Trade, User}
+use Rattle.risk_user.specs.Account.{PositionsOf}
+use Rattle.positions.specs.Twelve.{TwelveOf}
+use Rattle.run_state.specs.Going.{StandingIn}
+use Rattle.sales.specs.Groups.{starts}
+
+-- the buyers of the sales from..to are among the users
+pub record BuyersIn (s bs : List ℕ) (from to : ℕ) : Type 0 where
+  pub form : Formed s
+  pub few : to ≤ 256
+  pub room : length bs ≡ 256
+  pub inside : (k : ℕ) → from ≤ k → k < to → getD bs k 0 < userCount s
+
+-- ---- before the first reduction
+
+-- a flag for each user that is party to a trade standing below notified
+pub record CutFlags (us : List User) (ts : List Trade) (flags : List Bool) : Type 0 where
+  pub room : length flags ≡ 64
+  pub each : (p : ℕ) → p < length us → getD flags p false ≡ cutBefore (idAt us p) ts
+
+-- T of a user that is called in, where it has an eligible trade and is flagged or party to a trade standing below notified
+unfoldable pub owedIf : Bool → Bool → Bool → ℕ → ℕ
+owedIf flagged left cut target = cond left (cond (flagged || cut) target 0) 0
+
+-- the arrays of an accepted book in bytes: prices, sums and positions, where the own sales of each user start and what stands of them, and flags of trades standing below notified
+pub record Opening (f : Prices) (n : ℕ) (s sums ps ss ns : List ℕ) (flags : List Bool) : Type 0 where
+  pub form : Formed s
+  pub sound : Sound (bookOf s)
+  pub users-are : n ≡ userCount s
+  pub prices-are : f ≡ bookOf s .header .prices
+  pub twelve : TwelveOf (usersOf s) (tradesOf s) sums
+  pub positions : PositionsOf (usersOf s) ps
+  pub starts-at : (i : ℕ) → i ≤ length (usersOf s) → getD ss i 0 ≡ starts (bookOf s) i
+  pub few : starts (bookOf s) (length (usersOf s)) ≤ 256
+  pub standing-room : length ns ≡ 256
+  pub standing : StandingIn (bookOf s) (bookOf s) ns
+  pub cut : CutFlags (usersOf s) (tradesOf s) flags

@@ -1,0 +1,220 @@
+// Who owes a guarantee in a run, and how much: the targets before the first reduction, and after each those of the users that it touched.
+use risk_user::Day;
+ghost use mathlib.Core.Bool.{false, cond, _&&_, _||_};
+ghost use mathlib.Core.Path.{_≡_};
+ghost use Prim.Native.Nat.{_+_, _*_, _≤_, _<_, min};
+ghost use lib.Dec.{eqb, ltb};
+ghost use lib.ListN.{getD, length, replicate, set};
+ghost use Rattle.columns.specs.Columns.{Trading, idAt, tradeIn, tradesIn, usersIn};
+ghost use Rattle.dealings.specs.Parties.{cutBefore};
+ghost use Rattle.format.specs.Book.{bookOf, usersOf};
+ghost use Rattle.levels.specs.Limits.{asLimits};
+ghost use Rattle.rules.specs.Lists.{any};
+ghost use Rattle.places.specs.Ids.{Placed};
+ghost use Rattle.run_state.specs.Asked.{LookedAgain};
+ghost use Rattle.positions.specs.Twelve.{Low};
+ghost use Rattle.risk_user.specs.Account.{flaggedAt, targetAt, DayOf, UserIn};
+ghost use Rattle.run_state.specs.Going.{OwedOf};
+ghost use Rattle.sales.specs.Parts.{part};
+ghost use Rattle.units.specs.Prices.{asPrices};
+ghost use Rattle.run_targets.specs.Asking.{BuyersIn, CutFlags, Opening, owedIf};
+
+// ---- before the first reduction
+
+// Does one of the sales from..to stand above 0?
+pub fn any_left(standing: &[u64; 256], from: usize, to: usize) -> bool
+    requires { ⌜ (to ≤ 256) × (length (now standing) ≡ 256) ⌝ }
+    ensures { λ r. ⌜ r ≡ any (λ n. ltb 0 n) (part from to (now (standing .entry))) ⌝ }
+{
+    let mut i = from;
+    while i < to {
+        if 0 < standing[i] {
+            return true;
+        }
+        i += 1;
+    }
+    false
+}
+
+// A byte as a place.
+fn index(b: u8) -> usize
+    ensures { λ r. ⌜ r ≡ b ⌝ }
+{
+    b as usize
+}
+
+// Fills in a flag for each user that is party to a trade standing below notified, of a book of n users and m trades.
+pub fn fill_cut(
+    book: &[u8],
+    n: usize,
+    m: usize,
+    sellers: &[u8; 256],
+    parties: &[u8; 256],
+    cut: &mut [bool; 64],
+)
+    requires { ⌜ Trading n m (now book) × Placed (usersIn n (now book)) (tradesIn n m (now book)) (now sellers) (now parties) ⌝ }
+    requires { ⌜ now cut ≡ replicate 64 false ⌝ }
+    ensures { λ _. ⌜ CutFlags (usersIn n (now (book .entry))) (tradesIn n m (now (book .entry))) (now (cut .exit)) ⌝ }
+{
+    let mut i = 0;
+    while i < m {
+        let t = columns::trade_in(book, n, i);
+        let below = t.standing < t.notified;
+        let seller = index(sellers[i]);
+        cut[seller] = cut[seller] | below;
+        let buyer = index(parties[i]);
+        cut[buyer] = cut[buyer] | below;
+        i += 1;
+    }
+}
+
+// Is the user at a place one of the parties of the trade i, at their places, and does the trade stand below notified?
+fn is_cut(book: &[u8], n: usize, i: usize, seller: u8, buyer: u8, place: usize) -> bool
+    requires { ⌜ (n ≤ 64) × (i < 256) × (32 + 56 * n + 20 * i + 20 ≤ length (now book)) ⌝ }
+    ensures { λ r. ⌜ r ≡ (eqb seller place || eqb buyer place) && ltb (tradeIn n (now (book .entry)) i .standing) (tradeIn n (now (book .entry)) i .terms .notified) ⌝ }
+{
+    let party = (index(seller) == place) | (index(buyer) == place);
+    if !party {
+        return false;
+    }
+    let t = columns::trade_in(book, n, i);
+    t.standing < t.notified
+}
+
+// Is the user at a place party to a trade standing below notified? The same of one user alone.
+pub fn cut_at(
+    book: &[u8],
+    n: usize,
+    m: usize,
+    sellers: &[u8; 256],
+    parties: &[u8; 256],
+    place: usize,
+) -> bool
+    requires { ⌜ Trading n m (now book) × Placed (usersIn n (now book)) (tradesIn n m (now book)) (now sellers) (now parties) × (place < n) ⌝ }
+    ensures { λ r. ⌜ r ≡ cutBefore (idAt (usersIn n (now (book .entry))) place) (tradesIn n m (now (book .entry))) ⌝ }
+{
+    let mut i = 0;
+    while i < m {
+        if is_cut(book, n, i, sellers[i], parties[i], place) {
+            return true;
+        }
+        i += 1;
+    }
+    false
+}
+
+// T where the user at a place is due, else 0. `left`: it has an eligible trade; `cut`: it is party to a trade standing below notified.
+pub fn owed_at(
+    book: &[u8],
+    sums: &[u32; 768],
+    positions: &[u32; 192],
+    place: usize,
+    left: bool,
+    cut: bool,
+    day: Day,
+) -> u64
+    requires { ⌜ DayOf (asLimits (day .limits)) (asPrices (day .prices)) (now book) × UserIn (now book) place × Low (now sums) ⌝ }
+    ensures { λ r. ⌜ r ≡ owedIf (flaggedAt (asLimits (day .limits)) (asPrices (day .prices)) (usersOf (now (book .entry))) (now (positions .entry)) place) left cut
+        (targetAt (asLimits (day .limits)) (asPrices (day .prices)) (usersOf (now (book .entry))) (now (sums .entry)) (now (positions .entry)) place) ⌝ }
+{
+    if !left {
+        return 0;
+    }
+    if risk_user::called_at(book, positions, place, cut, day) {
+        return risk_user::target_at(book, sums, positions, place, day);
+    }
+    0
+}
+
+// Fills in who has an eligible trade, and T where a user is due.
+pub fn fill_targets(
+    book: &[u8],
+    n: usize,
+    sums: &[u32; 768],
+    positions: &[u32; 192],
+    starts: &[usize; 65],
+    standing: &[u64; 256],
+    cut: &[bool; 64],
+    eligible: &mut [bool; 64],
+    targets: &mut [u64; 64],
+    day: Day,
+)
+    requires { ⌜ DayOf (asLimits (day .limits)) (asPrices (day .prices)) (now book) × Low (now sums) ⌝ }
+    requires { ⌜ Opening (asPrices (day .prices)) n (now book) (now sums) (now positions) (now starts) (now standing) (now cut) × (length (now targets) ≡ 64) × (length (now eligible) ≡ 64) ⌝ }
+    ensures { λ _. ⌜ OwedOf (asLimits (day .limits)) (bookOf (now (book .entry))) (now (targets .exit)) (now (eligible .exit)) × (length (now (targets .exit)) ≡ 64) × (length (now (eligible .exit)) ≡ 64) ⌝ }
+{
+    let mut i = 0;
+    while i < n {
+        let from = starts[i];
+        let to = starts[i + 1];
+        let left = any_left(standing, from, to);
+        eligible[i] = left;
+        targets[i] = owed_at(book, sums, positions, i, left, cut[i], day);
+        i += 1;
+    }
+}
+
+// ---- after a reduction
+
+// The lesser of two places.
+fn lesser(a: usize, b: usize) -> usize
+    ensures { λ r. ⌜ r ≡ min a b ⌝ }
+{
+    if a < b {
+        return a;
+    }
+    b
+}
+
+// Asks the user at a place anew where it has an eligible trade: it is party to a trade standing below notified. Hands back the lesser of `least` and the place asked.
+fn look_at(
+    book: &[u8],
+    sums: &[u32; 768],
+    positions: &[u32; 192],
+    eligible: &[bool; 64],
+    targets: &mut [u64; 64],
+    place: usize,
+    least: usize,
+    day: Day,
+) -> usize
+    requires { ⌜ DayOf (asLimits (day .limits)) (asPrices (day .prices)) (now book) × UserIn (now book) place × Low (now sums) ⌝ }
+    ensures { λ r. ⌜ (now (targets .exit) ≡ cond (getD (now (eligible .entry)) place false)
+        (set (now (targets .entry)) place (targetAt (asLimits (day .limits)) (asPrices (day .prices)) (usersOf (now (book .entry))) (now (sums .entry)) (now (positions .entry)) place))
+        (now (targets .entry))) × (r ≡ cond (getD (now (eligible .entry)) place false) (min least place) least) ⌝ }
+{
+    if eligible[place] {
+        targets[place] = risk_user::target_at(book, sums, positions, place, day);
+        return lesser(least, place);
+    }
+    least
+}
+
+// Asks each buyer of a sale from..to that lost something anew. Hands back the least place asked, or `least`.
+pub fn look_again(
+    book: &[u8],
+    sums: &[u32; 768],
+    positions: &[u32; 192],
+    buyers: &[u8; 256],
+    cuts: &[u64; 256],
+    eligible: &[bool; 64],
+    targets: &mut [u64; 64],
+    least: usize,
+    from: usize,
+    to: usize,
+    day: Day,
+) -> usize
+    requires { ⌜ DayOf (asLimits (day .limits)) (asPrices (day .prices)) (now book) × BuyersIn (now book) (now buyers) from to × Low (now sums) × (length (now cuts) ≡ 256) × (length (now targets) ≡ 64) ⌝ }
+    ensures { λ r. ⌜ LookedAgain (targetAt (asLimits (day .limits)) (asPrices (day .prices)) (usersOf (now (book .entry))) (now (sums .entry)) (now (positions .entry))) (now (eligible .entry))
+        (part from to (now (buyers .entry))) (part from to (now (cuts .entry))) (now (targets .entry)) (now (targets .exit)) r × (r ≤ least) ⌝ }
+{
+    let mut low = least;
+    let mut i = from;
+    while i < to {
+        if 0 < cuts[i] {
+            let place = index(buyers[i]);
+            low = look_at(book, sums, positions, eligible, targets, place, low, day);
+        }
+        i += 1;
+    }
+    low
+}

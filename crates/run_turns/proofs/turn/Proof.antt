@@ -1,0 +1,108 @@
+-- `turn`: each step can be taken, and together they are the reduction. Assumes nothing.
+use native.Mathlib.Omega.{arith}
+use borrow.Author.Needs.{needs}
+use Rattle.run_reduction.proofs.Steps.{left-room, part-few, part-rises, reducible, run-day, run-prices, sales-in}
+use Rattle.run_turns.proofs.Turning.{buyers-in, cut-in, reached-now, turn-room, turned}
+use Rattle.run_turns.proofs.turn.Statement.{statement}
+use Rattle.run_turns.proofs.turn.Tie as tie
+
+mul-from : tie.Need-mul-from
+mul-from c = search needs
+
+element-copy-out-from : tie.Need-element-copy-out-from
+element-copy-out-from c = search needs
+
+add-to : tie.Need-add-to
+add-to c = search needs
+
+mul-to : tie.Need-mul-to
+mul-to c = search needs
+
+element-copy-out-to : tie.Need-element-copy-out-to
+element-copy-out-to c = search needs
+
+mul-targets : tie.Need-mul-targets
+mul-targets c = search needs
+
+element-copy-out-targets : tie.Need-element-copy-out-targets
+element-copy-out-targets c = search needs
+
+reduce-requires : tie.Need-reduce-requires
+reduce-requires c κs =
+    let s = c .before .before .before .before .before .before .before .before in
+    let q = s .pre .0 .0 in
+    let k = s .pre .0 .1 in
+    let g = reached-now (s .pre .1 .0 .going) in
+    let none = s .pre .1 .1 in
+    ((run-prices q, sales-in q k g, reducible q k g), (record { rising = part-rises q k; long = none .room; none = λ i l m. none .none i }, s .pre .1 .2))
+
+look-again-requires : tie.Need-look-again-requires
+look-again-requires c κs =
+    let s = c .before .before .before .before .before .before .before .before .before .before .before .before .before in
+    let q = s .pre .0 .0 in
+    let k = s .pre .0 .1 in
+    let g = s .pre .1 .0 .going in
+    (run-day q, buyers-in q k g, q .low, turn-room q k g (s .pre .0 .2) _ _ (c .before .before .before .before .reduce .ensures .0) (s .pre .1 .1 .room), g .rooms .targets)
+
+any-left-requires : tie.Need-any-left-requires
+any-left-requires c κs =
+    let s = c .before .before .before .before .before .before .before .before .before .before .before .before .before .before .before in
+    let q = s .pre .0 .0 in
+    let k = s .pre .0 .1 in
+    (part-few q k, left-room q k (reached-now (s .pre .1 .0 .going)) _ _ (c .before .before .before .before .before .before .reduce .ensures .1 .0))
+
+element-write-eligible : tie.Need-element-write-eligible
+element-write-eligible c =
+    let s = c .before .before .before .before .before .before .before .before .before .before .before .before .before .before .before .before in
+    omega (arith, s .pre .0 .1, s .pre .0 .0 .form .users)
+
+owed-at-requires : tie.Need-owed-at-requires
+owed-at-requires c κs =
+    let s = c .before .before .before .before .before .before .before .before .before .before .before .before .before .before .before .before .before in
+    let q = s .pre .0 .0 in
+    (run-day q, record { form = q .form; inside = s .pre .0 .1 }, q .low)
+
+mul-targets-2 : tie.Need-mul-targets-2
+mul-targets-2 c =
+    let s = c .before .before .before .before .before .before .before .before .before .before .before .before .before .before .before .before .before .before in
+    omega (arith, s .pre .0 .1, s .pre .0 .0 .form .users)
+
+element-write-targets : tie.Need-element-write-targets
+element-write-targets c =
+    let s = c .before .before .before .before .before .before .before .before .before .before .before .before .before .before .before .before .before .before in
+    omega (arith, s .pre .0 .1, s .pre .0 .0 .form .users)
+
+returns : tie.Need-returns
+returns c =
+    let s = c .before .before .before .before .before .before .before .before .before .before .before .before .before .before .before .before .before .before in
+    let q = s .pre .0 .0 in
+    let k = s .pre .0 .1 in
+    let none = s .pre .1 .1 in
+    let r = c .before .before .before .before .before .before .before .before .before .reduce in
+    let look = c .before .before .before .before .look-again in
+    let left = c .before .before .any-left in (
+      λ b h.
+          turned q k h (s .pre .0 .2) _ _ (r .ensures .0) (none .room) _ (r .ensures .1 .0) _ (r .ensures .1 .1 .0) _ (look .result) (look .ensures .0)
+          (left .result) (left .ensures) (r .result) (r .ensures .1 .1 .1 .0) (look .ensures .1) (c .owed-at .ensures),
+      (cut-in q k (s .pre .1 .0 .going) (s .pre .0 .2) _ _ (r .ensures .0) (none .room) (none .none), r .ensures .1 .1 .1 .1),
+    )
+
+pub turn-spec : {M : Type 1} → statement M
+turn-spec =
+    tie.close
+    (tie.spec
+    mul-from
+    element-copy-out-from
+    add-to
+    mul-to
+    element-copy-out-to
+    mul-targets
+    element-copy-out-targets
+    reduce-requires
+    look-again-requires
+    any-left-requires
+    element-write-eligible
+    owed-at-requires
+    mul-targets-2
+    element-write-targets
+    returns)

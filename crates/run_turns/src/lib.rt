@@ -1,0 +1,165 @@
+// The reductions of a run, one after another, on arrays: the book that the run has come to stands in them, and the bytes hold the opening book throughout.
+use cut_worth::Tally;
+use cut_worth::Totals;
+use risk_user::Day;
+use units::Cents;
+use units::Prices;
+ghost use mathlib.Core.Path.{_≡_};
+ghost use Prim.Native.Nat.{_+_, _-_, _≤_, _<_};
+ghost use lib.ListN.{getD, length};
+ghost use Rattle.format.specs.Book.{bookOf, userCount};
+ghost use Rattle.levels.specs.Limits.{asLimits};
+ghost use Rattle.rules.specs.Book.{Book};
+ghost use Rattle.run_state.specs.Going.{Going};
+ghost use Rattle.run_state.specs.Running.{NextFrom};
+ghost use Rattle.sales.specs.Parts.{part};
+ghost use Rattle.units.specs.Prices.{asPrices};
+ghost use Rattle.run_turns.specs.Turns.{CutIn, NoneCut, Ongoing, Ran, Turned};
+ghost use Rattle.run_reduction.specs.Reductions.{RunOf};
+
+// ---- one reduction
+
+// What a reduction of a run gives: its tally, and a place before which nobody has become due.
+pub struct Reduced {
+    pub tally: Tally,
+    pub least: usize,
+}
+
+// Reduces the user at a place, which is due, for its target. `cuts` has what its sales lose, and must be cleared after it; what `rests` holds is of no use.
+pub fn turn(
+    book: &[u8],
+    sums: &[u32; 768],
+    starts: &[usize; 65],
+    standing: &mut [u64; 256],
+    areas: &[u8; 256],
+    buyers: &[u8; 256],
+    positions: &mut [u32; 192],
+    eligible: &mut [bool; 64],
+    targets: &mut [u64; 64],
+    cuts: &mut [u64; 256],
+    rests: &mut [u64; 256],
+    place: usize,
+    day: Day,
+) -> Reduced
+    requires { ⌜ RunOf (asLimits (day .limits)) (asPrices (day .prices)) (now book) (now sums) (now starts) (now areas) (now buyers) × (place < userCount (now book)) × (0 < getD (now targets) place 0) ⌝ }
+    requires { ⌜ Ongoing (asLimits (day .limits)) (bookOf (now book)) (now standing) (now positions) (now targets) (now eligible) × NoneCut (now cuts) × (length (now rests) ≡ 256) ⌝ }
+    ensures { λ r. ⌜ ((b : Book) → Going (asLimits (day .limits)) (bookOf (now (book .entry))) b (now (standing .entry)) (now (positions .entry)) (now (targets .entry)) (now (eligible .entry))
+        → Turned (asLimits (day .limits)) (bookOf (now (book .entry))) b place (now (targets .entry)) (now (standing .exit)) (now (positions .exit)) (now (targets .exit)) (now (eligible .exit))
+        (part (getD (now (starts .entry)) place 0) (getD (now (starts .entry)) (place + 1) 0) (now (cuts .exit))) (r .tally) (r .least)) ⌝ }
+    ensures { λ _. ⌜ CutIn (getD (now (starts .entry)) place 0) (getD (now (starts .entry)) (place + 1) 0) (now (cuts .exit)) × (length (now (rests .exit)) ≡ 256) ⌝ }
+{
+    let from = starts[place];
+    let to = starts[place + 1];
+    let asked = Cents(targets[place]);
+    let tally = run_reduction::reduce(
+        standing,
+        areas,
+        buyers,
+        positions,
+        cuts,
+        rests,
+        place,
+        asked,
+        day.prices,
+        from,
+        to,
+    );
+    let least = run_targets::look_again(
+        book,
+        sums,
+        positions,
+        buyers,
+        cuts,
+        eligible,
+        targets,
+        place,
+        from,
+        to,
+        day,
+    );
+    let left = run_targets::any_left(standing, from, to);
+    eligible[place] = left;
+    targets[place] = run_targets::owed_at(book, sums, positions, place, left, true, day);
+    Reduced {
+        tally: tally,
+        least: least,
+    }
+}
+
+// ---- all of them
+
+// Clears the cuts from..to.
+fn clear(cuts: &mut [u64; 256], from: usize, to: usize)
+    requires { ⌜ CutIn from to (now cuts) × (to ≤ 256) ⌝ }
+    ensures { λ _. ⌜ NoneCut (now (cuts .exit)) ⌝ }
+{
+    let mut i = from;
+    while i < to {
+        cuts[i] = 0;
+        i += 1;
+    }
+}
+
+// The first place from `least` on with a target, of n; n where there is none.
+fn next_from(targets: &[u64; 64], least: usize, n: usize) -> usize
+    requires { ⌜ (least ≤ n) × (n ≤ 64) ⌝ }
+    ensures { λ r. ⌜ NextFrom (now (targets .entry)) least n r ⌝ }
+{
+    let mut i = least;
+    while i < n {
+        if 0 < targets[i] {
+            return i;
+        }
+        i += 1;
+    }
+    i
+}
+
+// Runs a book of n users: reduces the first user that is due until nobody is. What stands of the own sales is then the rules' book.
+pub fn run_on(
+    book: &[u8],
+    n: usize,
+    sums: &[u32; 768],
+    starts: &[usize; 65],
+    standing: &mut [u64; 256],
+    areas: &[u8; 256],
+    buyers: &[u8; 256],
+    positions: &mut [u32; 192],
+    eligible: &mut [bool; 64],
+    targets: &mut [u64; 64],
+    day: Day,
+) -> Totals
+    requires { ⌜ RunOf (asLimits (day .limits)) (asPrices (day .prices)) (now book) (now sums) (now starts) (now areas) (now buyers) × (n ≡ userCount (now book)) ⌝ }
+    requires { ⌜ Going (asLimits (day .limits)) (bookOf (now book)) (bookOf (now book)) (now standing) (now positions) (now targets) (now eligible) ⌝ }
+    ensures { λ r. ⌜ Ran (asLimits (day .limits)) (bookOf (now (book .entry))) (now (standing .exit)) r ⌝ }
+{
+    let mut totals = Totals::none();
+    let mut cuts = [0u64; 256];
+    let mut rests = [0u64; 256];
+    let mut place = next_from(targets, 0, n);
+    while place < n {
+        let turned = turn(
+            book,
+            sums,
+            starts,
+            standing,
+            areas,
+            buyers,
+            positions,
+            eligible,
+            targets,
+            &mut cuts,
+            &mut rests,
+            place,
+            day,
+        );
+        let from = starts[place];
+        let to = starts[place + 1];
+        clear(&mut cuts, from, to);
+        let tally = turned.tally;
+        totals = totals.with(tally);
+        let least = turned.least;
+        place = next_from(targets, least, n);
+    }
+    totals
+}

@@ -1,2 +1,0 @@
--- The lists that a run starts from.
-pub mod Lists

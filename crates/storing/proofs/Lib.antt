@@ -1,0 +1,2 @@
+-- Laws of a loop that stores a list.
+mod Stores

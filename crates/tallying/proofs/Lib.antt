@@ -1,2 +1,0 @@
--- Laws of the loops over a seller's sales.
-pub mod Turns

@@ -1,2 +1,0 @@
--- Cuts that can be taken off and tallied.
-pub mod Tallying

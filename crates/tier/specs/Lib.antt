@@ -1,2 +1,0 @@
--- What is lent to a tier's cuts, and the shares between two turns.
-pub mod Turns

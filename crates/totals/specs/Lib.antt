@@ -1,2 +1,0 @@
--- The totals of a run.
-pub mod Totals

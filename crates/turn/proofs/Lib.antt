@@ -1,2 +1,0 @@
--- Laws of one reduction of a run.
-pub mod Steps
