@@ -14,3 +14,5 @@ pub record RunLength (limits : Limits) : Type 0 where
   pub most : {s t : List ℕ} {a : Answer} → Called limits s run a t → a .reductions ≤ cuttable (tradesOf s)
   -- "A run that reports none leaves the book byte for byte." That s are bytes holds of every part that is lent.
   pub none : {s t : List ℕ} {a : Answer} → AllBytes s → Called limits s run a t → a .reductions ≡ 0 → t ≡ s
+  -- a refused run reports none and leaves the bytes
+  pub refused : {s t : List ℕ} {a : Answer} → Called limits s run a t → (a .number ≡ 0 → ⊥) → (a .reductions ≡ 0) × (t ≡ s)
