@@ -56,16 +56,10 @@ fn no_run_is_longer() {
 /// The bound is reached: these books take one reduction for each MWh.
 #[test]
 fn some_runs_are_as_long() {
-    for book in [chain(4), widest(3)] {
+    for book in [one_seller(100), many_sellers(4), chain(4), widest(3)] {
         let (reductions, most) = run(&book.to_bytes()).expect("an accepted book");
         assert_eq!(reductions, most);
     }
-    assert_eq!(
-        run(&one_seller(100).to_bytes()),
-        Some((999, 999)),
-        "ten sales of 100 MWh, one of which stands one below"
-    );
-    assert_eq!(run(&many_sellers(4).to_bytes()), Some((998, 998)));
 }
 
 /// The most that any book can take.
