@@ -99,7 +99,9 @@ uint32_t daybook_warning(const uint8_t *book, size_t book_len, uint32_t id, uint
 uint32_t daybook_reduction(uint8_t *book, size_t book_len, uint32_t id, uint64_t *answer, size_t answer_len);
 
 /* Reduces the user of the lowest id that is short of cover and has an eligible trade, until there is none; DAYBOOK_RUN_NUMBERS: the reductions, the MWh cut, their worth.
-   A legal book can ask for some 25 million reductions. */
+   It reports at most as many reductions as MWh stand, before the run, in trades of kind 0 and day 0, and leaves the book byte for byte where it reports none (proved:
+   crates/sequence/specs/RunLength.antt). So the most that a book can take is told from its bytes, before the run: add up the 32 bits at byte 16 of each trade whose bytes 9
+   and 10 are 0. That is 25,600,000 at most, and legal books take as many. */
 uint32_t daybook_run(uint8_t *book, size_t book_len, uint64_t *answer, size_t answer_len);
 
 #ifdef __cplusplus

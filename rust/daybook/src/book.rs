@@ -193,6 +193,11 @@ impl User {
 }
 
 impl Trade {
+    /// Whether a reduction may cut it: bilateral, for the gas day.
+    pub fn can_be_cut(&self) -> bool {
+        self.kind == 0 && self.day == 0
+    }
+
     /// The fields of a record. The zero byte is not looked at.
     pub fn from_bytes(bytes: &[u8; TRADE_LENGTH]) -> Trade {
         Trade {

@@ -138,7 +138,8 @@ pub fn reduction(book: &mut [u8], id: u32) -> Result<Reduction, Refusal> {
 }
 
 /// Reduces the lowest id that is short of cover and has an eligible trade,
-/// while there is one.
+/// while there is one. It reports at most [`most_reductions`] of the book that
+/// it is lent, and leaves every byte where it reports none; both are proved.
 pub fn run(book: &mut [u8]) -> Result<Run, Refusal> {
     let mut answer = [0; 3];
     answered(archive::run(book, &mut answer))?;
@@ -148,6 +149,16 @@ pub fn run(book: &mut [u8]) -> Result<Run, Refusal> {
         mwh,
         worth,
     })
+}
+
+/// The most reductions that a run of this book can report: the MWh standing in
+/// its trades of kind 0 and day 0, each reduction cutting one MWh at least. It
+/// is told from the fields alone, before any run, and refused as a run would
+/// be. No book has more than 25,600,000.
+pub fn most_reductions(book: &[u8]) -> Result<u64, Refusal> {
+    let book = read(book)?;
+    let cuttable = book.trades.iter().filter(|trade| trade.can_be_cut());
+    Ok(cuttable.map(|trade| u64::from(trade.standing)).sum())
 }
 
 fn guarantee_call([level, added]: [u64; 2]) -> GuaranteeCall {

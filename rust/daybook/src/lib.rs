@@ -7,7 +7,8 @@
 //!
 //! The engine is the archive `libexports.a`, made by `rt staticlib exports`
 //! from crates that are proved to meet document 01. This package turns its C
-//! interface into Rust types and computes nothing itself.
+//! interface into Rust types and computes nothing itself, but for the sum of
+//! [`most_reductions`].
 //!
 //! ```
 //! use daybook::{Book, Level, Prices, Refusal, User};
@@ -35,7 +36,7 @@ pub use book::{
     USER_LENGTH,
 };
 pub use calls::{
-    afternoon_call, afternoon_level, morning_call, morning_level, posting, read, reduction, run,
-    show, show_picked, warning, write, GuaranteeCall, Level, Reduction, Run,
+    afternoon_call, afternoon_level, morning_call, morning_level, most_reductions, posting, read,
+    reduction, run, show, show_picked, warning, write, GuaranteeCall, Level, Reduction, Run,
 };
 pub use refusal::Refusal;

@@ -95,6 +95,7 @@ fn the_printed_run() {
     };
     assert_eq!(daybook::reduction(&mut reduced, 101), Ok(reduction));
     let mut run = bytes(&book());
+    assert_eq!(daybook::most_reductions(&run), Ok(30_000));
     let done = daybook::Run {
         reductions: 1,
         mwh: 15_000,
