@@ -1,0 +1,97 @@
+-- An accepted posting on a book in bytes, as facts: what its questions tell, and the bytes that it leaves; and the way back. Assumes nothing.
+use mathlib.Core.Bool.{Bool, true, false, _&&_}
+use mathlib.Core.List.{List, [], _∷_, _++_}
+use mathlib.Core.Option.{Option, none, some}
+use mathlib.Core.Path.{_≡_, refl, sym, ap, _∙_}
+use Prim.Native.Nat.{ℕ, _<_}
+use lib.Dec.{T, ltb, ltb→lt, lt→ltb}
+use lib.IntN.{ℤ, _+ℤ_}
+use Rattle.format.proofs.Passed.{passed-of}
+use Rattle.format.proofs.Written.{bookOf-bytesOf}
+use Rattle.format.specs.Book.{bookOf, bytesOf}
+use Rattle.format.specs.Questions.{aboutBytes, aboutFields, aboutForm}
+use Rattle.format.specs.Steps.{Called, inBytes, stepBytes}
+use Rattle.laws.proofs.Posting.{posting-sound}
+use Rattle.laws.proofs.Refusals.{append-yes, first-yes, number-none, numbered, refusal-next}
+use Rattle.laws.specs.Sound.{Sound}
+use Rattle.laws.proofs.Tests.{and-i, and-l, and-r}
+use Rattle.rules.specs.Book.{Book, at, find}
+use Rattle.rules.specs.Calls.{posting, Answer, about, effect, entryInRange, idKnown, only}
+use Rattle.rules.specs.Changes.{change, posted, withUsers}
+use Rattle.rules.specs.Levels.{Limits}
+use Rattle.rules.specs.Lists.{all}
+use Rattle.rules.specs.Questions.{decided, known, numberOf, refusal}
+use Rattle.rules.specs.Signed.{within}
+
+-- the book after a posting
+unfoldable pub postedBook : ℕ → ℕ → ℤ → Book → Book
+postedBook id area z b = withUsers b (change id (posted area z) (b .users))
+
+-- what the questions of an accepted posting tell
+pub record Accepted (s : List ℕ) (id a : ℕ) (z : ℤ) : Type 0 where
+  pub book : refusal (aboutBytes s) ≡ none
+  pub user : T (known (bookOf s .users) id)
+  pub area : a < 3
+  pub range : T (within 1000000 (at (find (bookOf s .users) id .physical) a +ℤ z))
+
+-- the book after it is sound
+pub sound-after : {s : List ℕ} {id area : ℕ} {z : ℤ} → Accepted s id area z → Sound (postedBook id area z (bookOf s))
+unfolding postedBook
+sound-after {s} {id} {area} {z} q = posting-sound (bookOf s) id area z (passed-of s (q .book) .sound) (q .user) (q .area) (q .range)
+
+-- the number of the step is the refusal's
+number-is : (limits : Limits) (s : List ℕ) (id area : ℕ) (z : ℤ) (o : Option ℕ)
+    → decided o (λ n. record { answer = only n; bytes = s }) (inBytes (effect limits (bookOf s) (posting id area z))) .answer .number ≡ numberOf o
+unfolding decided numberOf inBytes effect only
+number-is limits s id area z none = refl
+number-is limits s id area z (some n) = refl
+
+-- no question has the number 0
+all-numbered : (limits : Limits) (s : List ℕ) (id area : ℕ) (z : ℤ) → T (numbered (aboutBytes s ++ about limits (bookOf s) (posting id area z)))
+unfolding numbered all aboutBytes aboutForm aboutFields about idKnown entryInRange
+all-numbered limits s id area z = tt
+
+-- two questions that are answered by yes
+both-yes : (m n : ℕ) (c d : Bool) → T c → T d → refusal (record { number = m; holds = c } ∷ (record { number = n; holds = d } ∷ [])) ≡ none
+unfolding refusal
+both-yes m n true true h k = refl
+both-yes m n true false h k = absurd k
+both-yes m n false d h k = absurd h
+
+module _ (limits : Limits) {s : List ℕ} {id area : ℕ} {z : ℤ} where
+  module _ {a : Answer} {t : List ℕ} (k : Called limits s (posting id area z) a t) (h : a .number ≡ 0) where
+    -- no question refuses it
+    none-refuses : refusal (aboutBytes s ++ about limits (bookOf s) (posting id area z)) ≡ none
+    unfolding stepBytes
+    none-refuses =
+        number-none (aboutBytes s ++ about limits (bookOf s) (posting id area z)) (all-numbered limits s id area z)
+        (sym (number-is limits s id area z (refusal (aboutBytes s ++ about limits (bookOf s) (posting id area z)))) ∙ sym (ap (λ (r : Answer). r .number) (k .answer)) ∙ h)
+
+    -- so each was answered by yes
+    pub accepted : Accepted s id area z
+    unfolding about idKnown entryInRange
+    accepted =
+        let e = append-yes (aboutBytes s) (about limits (bookOf s) (posting id area z)) none-refuses in
+        let q8 = first-yes _ _ (e .1) in
+        let q10 = first-yes _ _ (q8 .1) in
+        let ok = within 1000000 (at (find (bookOf s .users) id .physical) area +ℤ z) in
+        record { book = e .0; user = q8 .0; area = ltb→lt area 3 (and-l (ltb area 3) ok (q10 .0)); range = and-r (ltb area 3) ok (q10 .0) }
+
+    -- the bytes that it leaves
+    pub bytes-left : t ≡ bytesOf (postedBook id area z (bookOf s))
+    unfolding stepBytes decided inBytes effect postedBook
+    bytes-left = k .bytes ∙ rw none-refuses
+
+    -- the book that they hold
+    pub book-left : bookOf t ≡ postedBook id area z (bookOf s)
+    book-left = ap bookOf bytes-left ∙ bookOf-bytesOf (postedBook id area z (bookOf s)) (sound-after accepted)
+
+  -- where every question is answered by yes, the posting is accepted
+  pub called : Accepted s id area z → Called limits s (posting id area z) (only 0) (bytesOf (postedBook id area z (bookOf s)))
+  unfolding stepBytes decided inBytes effect postedBook about idKnown entryInRange
+  called q =
+      let ok = within 1000000 (at (find (bookOf s .users) id .physical) area +ℤ z) in
+      let e : refusal (aboutBytes s ++ about limits (bookOf s) (posting id area z)) ≡ none
+      = refusal-next (aboutBytes s) (about limits (bookOf s) (posting id area z)) (q .book)
+      ∙ both-yes 8 10 (known (bookOf s .users) id) (ltb area 3 && ok) (q .user) (and-i (ltb area 3) ok (lt→ltb area 3 (q .area)) (q .range)) in
+      record { answer = rw e; bytes = rw e }
