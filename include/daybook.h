@@ -1,10 +1,10 @@
-/* Jozmerod for C: the public calls on a gas day's book of users and trades, held in bytes.
+/* Jozmerod for C: the public calls on a gas day's book of users and trades, held in bytes, and the return of retained shrinkage.
  *
  * Link with target/staticlib/libexports.a (`rt staticlib exports` writes it). The library allocates nothing, keeps nothing between calls and prints nothing; the functions
  * are proved in crates/exports to give, for any bytes and any arguments, what document 01 says.
  *
  * A pointer is never NULL and has as many elements behind it as the length after it says; a part that a function may change overlaps no other part of the same call.
- * These two are the only things that the caller answers for. Amounts of money are cents, amounts of gas MWh.
+ * These two are the only things that the caller answers for. Amounts of money are cents, amounts of gas MWh; those of a return of shrinkage are kWh.
  *
  * Every function returns 0 where it did what is asked, or the number of the first question that is answered by no:
  *
@@ -22,9 +22,11 @@
  *   12  call: assigned >= level?
  *   13  reduction: assigned < level?
  *   14  reduction: has the user an eligible trade?
+ *   27  return: every balance within 500,000,000 kWh either way?
+ *   28  return: at most 64 users? (asked before 27)
  *  255  the part lent for the answer, the record or the image is not of the length that the function asks for
  *
- * After a number from 1 to 14 the answer, the record or the image is all 0 and the book is byte for byte the same. After 255 nothing at all is changed.
+ * After a number from 1 to 28 the answer, the record or the image is all 0 and the book is byte for byte the same. After 255 nothing at all is changed.
  */
 #ifndef DAYBOOK_H
 #define DAYBOOK_H
@@ -57,6 +59,12 @@
 #define DAYBOOK_WARNING_NUMBERS 1
 #define DAYBOOK_REDUCTION_NUMBERS 5
 #define DAYBOOK_RUN_NUMBERS 3
+
+/* A return of shrinkage has the numbers H, odd kWh and rest, then from these places on the shares and the remainders of 64 users; a share has 30 days. */
+#define DAYBOOK_RETURN_SHARES 3
+#define DAYBOOK_RETURN_REMAINDERS (DAYBOOK_RETURN_SHARES + DAYBOOK_MAX_USERS)
+#define DAYBOOK_RETURN_NUMBERS (DAYBOOK_RETURN_REMAINDERS + DAYBOOK_MAX_USERS)
+#define DAYBOOK_SHRINKAGE_DAYS 30
 
 #ifdef __cplusplus
 extern "C" {
@@ -103,6 +111,15 @@ uint32_t daybook_reduction(uint8_t *book, size_t book_len, uint32_t id, uint64_t
    crates/sequence/specs/RunLength.antt). So the most that a book can take is told from its bytes, before the run: add up the 32 bits at byte 16 of each trade whose bytes 9
    and 10 are 0. That is 25,600,000 at most, and legal books take as many. */
 uint32_t daybook_run(uint8_t *book, size_t book_len, uint64_t *answer, size_t answer_len);
+
+/* The return of retained shrinkage for the users' balances in kWh, which have a sign; no book is involved. DAYBOOK_RETURN_NUMBERS: H, which is half of a negative total
+   rounded down, the odd kWh, what the shares leave of H for the system account; then each user's share, the whole part of H * own / sum, where own and sum are over negative
+   balances; then the remainder of each such division. All are 0 for a total of 0 or above, and in the places past the users. For a negative total shares, odd kWh, rest and H
+   add up to its absolute value, and no share exceeds the user's own balance (proved: crates/shrinkage/specs/Statements.antt). */
+uint32_t daybook_shrinkage_return(const int64_t *balances, size_t balances_len, uint64_t *answer, size_t answer_len);
+
+/* A share over 30 days: the whole part per day, the remainder spread one kWh a day from the first; DAYBOOK_SHRINKAGE_DAYS: the days. No share is refused. */
+uint32_t daybook_shrinkage_days(uint64_t share, uint64_t *answer, size_t answer_len);
 
 #ifdef __cplusplus
 }

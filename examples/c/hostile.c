@@ -217,6 +217,69 @@ static void every(const uint8_t *bytes, size_t size, uint32_t id)
     write_book(bytes, size, (size_t)(next() % 300));
 }
 
+/* ---- the return of shrinkage */
+
+/* A return for balances in a block of exactly their number. */
+static void return_shrinkage(const int64_t *balances, size_t users, size_t count)
+{
+    uint8_t *given = copy_of((const uint8_t *)balances, users * sizeof *balances);
+    uint64_t *answer = block(count * sizeof *answer);
+    memset(answer, FILLER, count * sizeof *answer);
+    uint32_t number = daybook_shrinkage_return((const int64_t *)(const void *)given, users, answer, count);
+    calls++;
+    if (count != DAYBOOK_RETURN_NUMBERS) {
+        expect(number == DAYBOOK_WRONG_LENGTH, "shrinkage_return", "another length is not refused", number);
+        expect(all_bytes(answer, count * sizeof *answer, FILLER), "shrinkage_return", "a part of another length is changed", number);
+    } else {
+        expect(number == 0 || number == 27 || number == 28, "shrinkage_return", "no number of a question", number);
+        expect((number == 28) == (users > DAYBOOK_MAX_USERS), "shrinkage_return", "28 is for more than 64 users", number);
+        if (number != 0)
+            expect(all_bytes(answer, count * sizeof *answer, 0), "shrinkage_return", "a refused answer is not 0", number);
+    }
+    free(answer);
+    free(given);
+}
+
+/* The days of a share: they sum to it, and none falls below the next. */
+static void spread_share(uint64_t share, size_t count)
+{
+    uint64_t *days = block(count * sizeof *days);
+    memset(days, FILLER, count * sizeof *days);
+    uint32_t number = daybook_shrinkage_days(share, days, count);
+    calls++;
+    if (count != DAYBOOK_SHRINKAGE_DAYS) {
+        expect(number == DAYBOOK_WRONG_LENGTH, "shrinkage_days", "another length is not refused", number);
+        expect(all_bytes(days, count * sizeof *days, FILLER), "shrinkage_days", "a part of another length is changed", number);
+    } else {
+        uint64_t sum = days[0];
+        expect(number == 0, "shrinkage_days", "a share is refused", number);
+        for (size_t i = 1; i < count; i++) {
+            expect(days[i] <= days[i - 1], "shrinkage_days", "a day exceeds the one before", number);
+            sum += days[i];
+        }
+        expect(sum == share, "shrinkage_days", "the days do not sum to the share", number);
+    }
+    free(days);
+}
+
+/* Balances of any 64 bits, in range, and in range below 0, of every number of users up to some more than 64; lent parts of every length near those that are asked for. */
+static void shrinkage_returns(void)
+{
+    int64_t balances[70];
+    for (size_t users = 0; users <= 70; users++)
+        for (int kind = 0; kind < 3; kind++) {
+            for (size_t i = 0; i < users; i++) {
+                uint64_t drawn = next();
+                balances[i] = kind == 0 ? (int64_t)drawn : kind == 1 ? (int64_t)(drawn % 1000000001) - 500000000 : -(int64_t)(drawn % 500000001);
+            }
+            return_shrinkage(balances, users, DAYBOOK_RETURN_NUMBERS);
+        }
+    for (size_t count = 0; count <= DAYBOOK_RETURN_NUMBERS + 3; count++) {
+        return_shrinkage(balances, 3, count);
+        spread_share(next(), count);
+    }
+}
+
 /* ---- the inputs */
 
 /* Random bytes of every length; at every fourth with the sample's header, and the counts that the length allows, so that the fields are asked too. */
@@ -362,6 +425,7 @@ int main(int argc, char **argv)
     hostile_arguments(sample, size, id);
     wrong_lengths(sample, size, id);
     largest_book(sample);
+    shrinkage_returns();
     printf("%lu calls, as the header says\n", calls);
     return 0;
 }

@@ -4,6 +4,7 @@ use mathlib.Core.Bool.{Bool, not}
 use mathlib.Core.List.{List, _++_}
 use Prim.Native.Nat.{ℕ}
 use lib.Dec.{eqb}
+use lib.IntN.{ℤ}
 use lib.ListN.{length}
 use Rattle.rules.specs.Levels.{today}
 use Rattle.rules.specs.Calls.{Call, Answer}
@@ -15,6 +16,9 @@ use Rattle.format.specs.Steps.{stepBytes, replyBytes, shownPart}
 use Rattle.transfer.specs.Written.{aboutWriting}
 use Rattle.image.specs.Image.{padded, readImage}
 use Rattle.from_image.specs.ImageBook.{imageBook}
+use Rattle.shrinkage.specs.Return.{returned}
+use Rattle.shrinkage.specs.Days.{overDays}
+use Rattle.exports_shrinkage.specs.Numbers.{returnNumbers}
 use Rattle.exports.specs.Lent.{byLength, Given, Stored}
 
 -- a query with n numbers: its number and the lent part
@@ -46,3 +50,11 @@ abbrev pub WrittenFrom : List ℕ → List ℕ → ℕ → List ℕ → Type 0
 WrittenFrom image s result after =
     let r = refusal (aboutWriting (userCount image) (tradeCount image) (imageBook image) (length s)) in
     Given 8736 image (numberOf r) (decided r (λ n. s) (bytesOf (imageBook image))) s result after
+
+-- a return of shrinkage: its number, and H, the odd kWh, the rest, the shares and the remainders
+abbrev pub ReturnedInto : List ℤ → List ℕ → ℕ → List ℕ → Type 0
+ReturnedInto balances lent result after = Stored 131 lent (returned balances .number) (returnNumbers (returned balances)) result after
+
+-- the days of a share, which no question refuses
+abbrev pub SpreadInto : ℕ → List ℕ → ℕ → List ℕ → Type 0
+SpreadInto share lent result after = Stored 30 lent 0 (overDays share) result after

@@ -1,4 +1,4 @@
-// The C interface over the public calls of `daybook`; include/daybook.h declares it. A slice is a pointer and a length in C. No function asks anything of what it is lent:
+// The C interface over the public calls of `daybook` and `shrinkage`; include/daybook.h declares it. A slice is a pointer and a length in C. No function asks anything of what it is lent:
 // a part for answers of another length than the function's gets the number 255, and nothing is asked or changed.
 ghost use Rattle.rules.specs.Levels.{today};
 ghost use Rattle.rules.specs.Calls.{only, morningCall, afternoonCall};
@@ -10,7 +10,8 @@ ghost use Rattle.call_reduction.specs.Call.{reductionOf};
 ghost use Rattle.call_run.specs.Call.{runCall};
 ghost use Rattle.shown.specs.Shown.{picked};
 ghost use Rattle.storing.specs.Numbers.{levelNumbers, warningNumbers, callNumbers, reductionNumbers, runNumbers};
-ghost use Rattle.exports.specs.Answers.{isYes, Replied, Answered, Copied, ReadInto, WrittenFrom};
+ghost use Rattle.exports.specs.Answers.{isYes, Replied, Answered, Copied, ReadInto, WrittenFrom, ReturnedInto, SpreadInto};
+use shrinkage::Kwh;
 
 // The number for a lent part of another length than the function asks for.
 const WRONG_LENGTH: u32 = 255;
@@ -30,6 +31,10 @@ const CALL_NUMBERS: usize = 2;
 const REDUCTION_NUMBERS: usize = 5;
 
 const RUN_NUMBERS: usize = 3;
+
+const RETURN_NUMBERS: usize = 131;
+
+const SHRINKAGE_DAYS: usize = 30;
 
 // ---- the functions of the interface
 
@@ -179,4 +184,31 @@ pub extern "C" fn daybook_run(book: &mut [u8], answer: &mut [u64]) -> u32
     }
     let run = daybook::run(book);
     storing::store_run(answer, run)
+}
+
+// ---- the return of shrinkage, without a book
+
+// The return for the users' balances: 131 numbers, H, the odd kWh, the rest, then the shares and the remainders of 64 users.
+#[no_mangle]
+pub extern "C" fn daybook_shrinkage_return(balances: &[i64], answer: &mut [u64]) -> u32
+    ensures { λ r. ⌜ ReturnedInto (now (balances .entry)) (now (answer .entry)) r (now (answer .exit)) ⌝ }
+{
+    if answer.len() != RETURN_NUMBERS {
+        return WRONG_LENGTH;
+    }
+    let returned = shrinkage::shrinkage_return(balances);
+    exports_shrinkage::store_return(answer, returned)
+}
+
+// A share over 30 days: 30 numbers.
+#[no_mangle]
+pub extern "C" fn daybook_shrinkage_days(share: u64, answer: &mut [u64]) -> u32
+    ensures { λ r. ⌜ SpreadInto share (now (answer .entry)) r (now (answer .exit)) ⌝ }
+{
+    if answer.len() != SHRINKAGE_DAYS {
+        return WRONG_LENGTH;
+    }
+    let days = shrinkage::over_days(Kwh(share));
+    exports_shrinkage::store_days(answer, days);
+    0
 }

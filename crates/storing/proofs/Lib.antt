@@ -1,2 +1,2 @@
 -- Laws of a loop that stores a list.
-mod Stores
+pub mod Stores

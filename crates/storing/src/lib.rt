@@ -14,7 +14,7 @@ use answers::RunAnswer;
 use answers::WarningAnswer;
 
 // Stores the numbers of an answer in a part of as many places.
-fn store(answer: &mut [u64], numbers: &[u64])
+pub fn store(answer: &mut [u64], numbers: &[u64])
     requires { ⌜ length (now answer) ≡ length (now numbers) ⌝ }
     ensures { λ _. ⌜ now (answer .exit) ≡ now (numbers .entry) ⌝ }
 {

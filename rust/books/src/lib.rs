@@ -11,6 +11,7 @@ pub mod generator;
 pub mod hard;
 pub mod random;
 pub mod sha256;
+pub mod shrinkage;
 pub mod vectors;
 pub mod written;
 

@@ -3,7 +3,8 @@
 #![forbid(unsafe_code)]
 
 use books::sha256::sha256;
-use books::{answer, vectors};
+use books::{answer, shrinkage, vectors};
+use reference::shrinkage::{over_days, shrinkage_return};
 
 #[test]
 fn sha256_of_known_texts() {
@@ -16,4 +17,10 @@ fn sha256_of_known_texts() {
 #[test]
 fn every_call() {
     assert_eq!(vectors::replay(answer), vectors::CALLS);
+}
+
+#[test]
+fn every_return_of_shrinkage() {
+    let replayed = shrinkage::replay(shrinkage_return, over_days);
+    assert_eq!(replayed, shrinkage::LINES);
 }

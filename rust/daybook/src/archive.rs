@@ -1,9 +1,10 @@
 //! The C interface of the archive, each function with its parts as slices.
 //!
 //! This is the only module with unsafe code. A function answers 0 or the
-//! number 1 to 14 of document 01; after a refusal the part for the answer is 0
-//! and the book is unchanged. An image, record or answer of another length
-//! than said gets [`WRONG_LENGTH`], and nothing is read, asked or changed.
+//! number 1 to 14 of document 01 (a return of shrinkage 27 or 28); after a
+//! refusal the part for the answer is 0 and the book is unchanged. An image,
+//! record or answer of another length than said gets [`WRONG_LENGTH`], and
+//! nothing is read, asked or changed.
 
 #![allow(unsafe_code)]
 
@@ -74,6 +75,13 @@ unsafe extern "C" {
         answer_len: usize,
     ) -> u32;
     fn daybook_run(book: *mut u8, book_len: usize, answer: *mut u64, answer_len: usize) -> u32;
+    fn daybook_shrinkage_return(
+        balances: *const i64,
+        balances_len: usize,
+        answer: *mut u64,
+        answer_len: usize,
+    ) -> u32;
+    fn daybook_shrinkage_days(share: u64, answer: *mut u64, answer_len: usize) -> u32;
 }
 
 /// Reads a book into an image of 8,736 bytes.
@@ -241,4 +249,26 @@ pub fn run(book: &mut [u8], answer: &mut [u64]) -> u32 {
             answer.len(),
         )
     }
+}
+
+/// The return of shrinkage for balances; the answer is H, the odd kWh, the
+/// rest, then the shares and the remainders of 64 users. Answers 0, 27 or 28.
+pub fn shrinkage_return(balances: &[i64], answer: &mut [u64]) -> u32 {
+    // SAFETY: each pointer comes with the length of its slice in elements, both slices live through
+    // the call, and the answer, lent by &mut, does not overlap the balances.
+    unsafe {
+        daybook_shrinkage_return(
+            balances.as_ptr(),
+            balances.len(),
+            answer.as_mut_ptr(),
+            answer.len(),
+        )
+    }
+}
+
+/// A share over 30 days, as the 30 parts of the answer. Answers 0.
+pub fn shrinkage_days(share: u64, answer: &mut [u64]) -> u32 {
+    // SAFETY: the pointer comes with the length of its slice in elements, which is lent by &mut and
+    // lives through the call.
+    unsafe { daybook_shrinkage_days(share, answer.as_mut_ptr(), answer.len()) }
 }

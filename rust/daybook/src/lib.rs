@@ -8,7 +8,8 @@
 //! The engine is the archive `libexports.a`, made by `rt staticlib exports`
 //! from crates that are proved to meet document 01. This package turns its C
 //! interface into Rust types and computes nothing itself, but for the sum of
-//! [`most_reductions`].
+//! [`most_reductions`]. The return of retained shrinkage is a module by itself,
+//! [`shrinkage`].
 //!
 //! ```
 //! use daybook::{Book, Level, Prices, Refusal, User};
@@ -30,6 +31,7 @@ pub mod archive;
 mod book;
 mod calls;
 mod refusal;
+pub mod shrinkage;
 
 pub use book::{
     Book, Image, Prices, Trade, User, IMAGE_LENGTH, MOST_TRADES, MOST_USERS, TRADE_LENGTH,

@@ -5,6 +5,9 @@
 //! document, and the comments cite its sections in quotes. Every number is
 //! computed in 128 bits, where no value of any book can wrap.
 //!
+//! The return of retained shrinkage ([`shrinkage`]) is an ask of document 02 and
+//! has nothing to do with a book.
+//!
 //! Every call takes the book as bytes. A refused call returns the number of
 //! the first question that failed, every other field 0, and leaves the book.
 
@@ -19,6 +22,7 @@ pub mod questions;
 pub mod reduction;
 pub mod run;
 pub mod show;
+pub mod shrinkage;
 pub mod transfer;
 pub mod units;
 pub mod warning;

@@ -1,0 +1,2 @@
+-- The numbers that a return is in a lent part.
+pub mod Numbers

@@ -1,0 +1,124 @@
+-- The days of a share: the loop that fills them, their sum, and how far they are apart. Assumes nothing.
+use mathlib.Core.Bool.{Bool, true, false, cond}
+use mathlib.Core.List.{List, [], _∷_, map, append-nil}
+use mathlib.Core.Path.{_≡_, refl, sym, ap, _∙_}
+use Prim.Native.Nat.{ℕ, zero, suc, _+_, _*_, _-_, _/_, _%_, _<_, _≤_, min}
+use native.Mathlib.Nat.{div-add-mod', le-of-suc-le-suc, mod-lt, not-suc-le-zero}
+use native.Mathlib.Omega.{arith}
+use borrow.Author.Tests.{lt-ltb, le-ltb}
+use lib.Dec.{ltb}
+use lib.ListN.{length, getD, set, replicate, length-append, length-map, length-set, List·getD-append, List·getD-map}
+use lib.Seq.{getD-at}
+use Rattle.integers.proofs.Linear.{by-order}
+use Rattle.integers.proofs.Sums.{sum-append, sum-map}
+use Rattle.integers.specs.Sums.{sum}
+use Rattle.shrinkage.proofs.Places.{placed, placed-start, placed-more, placed-end, kwh-set}
+use Rattle.shrinkage.specs.Answer.{kwhOf}
+use Rattle.shrinkage.specs.Days.{daysTo, onDay, overDays}
+use Rattle.shrinkage.specs.declared.Kwh.{Kwh}
+
+-- ---- the list of the days
+
+length-days : (n : ℕ) → length (daysTo n) ≡ n
+unfolding daysTo
+length-days zero = refl
+length-days (suc n) = length-append (daysTo n) (n ∷ []) ∙ omega (arith, length-days n)
+
+-- the day at a place
+day-at : (n i d : ℕ) → i < n → getD (daysTo n) i d ≡ i
+unfolding daysTo
+day-at zero i d h = absurd (not-suc-le-zero h)
+day-at (suc n) i d h =
+    by-order i n
+    (λ k. List·getD-append (daysTo n) (n ∷ []) d i (omega (arith, length-days n)) ∙ day-at n i d k)
+    (λ k. let e : i ≡ n = omega arith in rw e (getD-at (daysTo n) n [] d n (length-days n)))
+
+-- ---- the loop
+
+-- where the days before one are filled in
+pub record Filling (whole left : ℕ) (days : List Kwh) (day : ℕ) : Type 0 where
+  pub inside : day ≤ 30
+  pub long : length days ≡ 30
+  pub filled : kwhOf days ≡ placed 30 (map (onDay whole left) (daysTo 30)) day
+
+module _ {whole left : ℕ} where
+  pub filling-start : Filling whole left (replicate 30 (record { 0 = 0 })) 0
+  unfolding kwhOf
+  filling-start = record { inside = omega arith; long = refl; filled = placed-start 30 (map (onDay whole left) (daysTo 30)) }
+
+  pub filling-more : {days : List Kwh} {day : ℕ} {k : Kwh} → Filling whole left days day → day < 30 → k .0 ≡ onDay whole left day → Filling whole left (set days day k) (day + 1)
+  filling-more {days} {day} {k} p h e =
+      let vs = map (onDay whole left) (daysTo 30) in
+      let l : length vs ≡ 30 = length-map (daysTo 30) (onDay whole left) ∙ length-days 30 in
+      let g : getD vs day (onDay whole left 0) ≡ k .0 = List·getD-map (onDay whole left) (daysTo 30) day 0 ∙ ap (onDay whole left) (day-at 30 day 0 h) ∙ sym e in
+      record {
+        inside = omega arith;
+        long = length-set days day k ∙ p .long;
+        filled =
+            kwh-set days day k
+            ∙ ap (λ (l : List ℕ). set l day (k .0)) (p .filled)
+            ∙ ap (λ (n : ℕ). set (placed 30 vs day) day n) (sym g)
+            ∙ placed-more 30 vs day (onDay whole left 0) h (omega arith);
+      }
+
+  pub filling-end : {days : List Kwh} {day : ℕ} → Filling whole left days day → 30 ≤ day → kwhOf days ≡ map (onDay whole left) (daysTo 30)
+  filling-end {days} {day} p h =
+      let vs = map (onDay whole left) (daysTo 30) in
+      let l : length vs ≡ 30 = length-map (daysTo 30) (onDay whole left) ∙ length-days 30 in
+      let n : 30 - length vs ≡ 0 = omega arith in
+      p .filled ∙ placed-end 30 vs day (omega (arith, p .inside)) ∙ rw n (append-nil vs)
+
+-- ---- the sum of the first n days
+
+sum-days : (whole left n : ℕ) → sum (onDay whole left) (daysTo n) ≡ n * whole + min n left
+unfolding sum daysTo onDay
+sum-days whole left zero = omega arith
+sum-days whole left (suc n) =
+    let before = sum-days whole left n in
+    let more = sum-append (onDay whole left) (daysTo n) (n ∷ []) in
+    by-order n left
+    (λ h. let e : onDay whole left n ≡ whole + 1 = rw (lt-ltb n left h) in omega (arith, before, more, e))
+    (λ h. let e : onDay whole left n ≡ whole + 0 = rw (le-ltb n left h) in omega (arith, before, more, e))
+
+pub length-over-days : (share : ℕ) → length (overDays share) ≡ 30
+unfolding overDays
+length-over-days share = length-map (daysTo 30) (onDay (share / 30) (share % 30)) ∙ length-days 30
+
+-- the 30 days sum to the share
+pub days-sum : (share : ℕ) → sum (λ n. n) (overDays share) ≡ share
+unfolding overDays
+days-sum share =
+    sum-map (λ n. n) (onDay (share / 30) (share % 30)) (daysTo 30)
+    ∙ omega (arith, sum-days (share / 30) (share % 30) 30, div-add-mod' share 30, mod-lt share {m = 30} (omega arith))
+
+-- ---- how far two days are apart
+
+-- inside a list it does not matter what stands for a place outside
+any-default : (ns : List ℕ) (i d e : ℕ) → i < length ns → getD ns i d ≡ getD ns i e
+any-default [] i d e h = absurd (not-suc-le-zero h)
+any-default (n ∷ ns) zero d e h = refl
+any-default (n ∷ ns) (suc i) d e h = any-default ns i d e (le-of-suc-le-suc h)
+
+-- the day at a place of a share
+over-days-at : (share i : ℕ) → i < 30 → getD (overDays share) i 0 ≡ onDay (share / 30) (share % 30) i
+unfolding overDays
+over-days-at share i h =
+    let f = onDay (share / 30) (share % 30) in
+    any-default (map f (daysTo 30)) i 0 (f 0) (omega (arith, length-over-days share))
+    ∙ List·getD-map f (daysTo 30) i 0
+    ∙ ap f (day-at 30 i 0 h)
+
+-- each has the whole part, or one kWh more
+on-day-bounds : (whole left day : ℕ) → (whole ≤ onDay whole left day) × (onDay whole left day ≤ whole + 1)
+unfolding onDay
+on-day-bounds whole left day = go (ltb day left)
+  where
+    go : (c : Bool) → (whole ≤ whole + cond c 1 0) × (whole + cond c 1 0 ≤ whole + 1)
+    go true = omega arith
+    go false = omega arith
+
+pub days-even : (share i j : ℕ) → i < 30 → j < 30 → getD (overDays share) i 0 ≤ getD (overDays share) j 0 + 1
+days-even share i j h k =
+    let whole = share / 30 in
+    let left = share % 30 in
+    omega (arith, over-days-at share i h, over-days-at share j k, on-day-bounds whole left i .1, on-day-bounds whole left j .0)

@@ -1,0 +1,100 @@
+-- The laws of the return, each as its statement in specs/Statements.antt says it. Assumes nothing.
+use mathlib.Core.Bool.{Bool, true, false, not, cond}
+use mathlib.Core.List.{List}
+use mathlib.Core.Option.{Option, none, some}
+use mathlib.Core.Path.{_≡_, refl, sym, _∙_}
+use Prim.Native.Nat.{ℕ, zero, suc, _+_, _*_, _-_}
+use native.Mathlib.Nat.{div-add-mod', mod-lt}
+use native.Mathlib.Omega.{arith}
+use lib.Dec.{T}
+use lib.IntN.{ℤ, natAbs}
+use lib.ListN.{length, replicate}
+use Rattle.integers.proofs.Sums.{sum-append}
+use Rattle.integers.specs.Sums.{sum}
+use Rattle.laws.proofs.Refusals.{number-none, numbered}
+use Rattle.rules.specs.Lists.{all}
+use Rattle.rules.specs.Questions.{refusal, decided, numberOf}
+use Rattle.shrinkage.proofs.Days.{days-sum, days-even, length-over-days}
+use Rattle.shrinkage.proofs.Division.{shares-given}
+use Rattle.shrinkage.proofs.Gains.{share-most, none-gained}
+use Rattle.shrinkage.proofs.Totals.{own-more}
+use Rattle.shrinkage.specs.Return.{Returned, total, isNegative, half, odd, own, ownSum, shareOf, remainderOf, shares, rest, inPlaces, nothing, given, about, returned}
+use Rattle.shrinkage.specs.Statements.{AddsUp, Exact, Bounded, Spread}
+
+-- ---- sums
+
+sum-zeros : (n : ℕ) → sum (λ m. m) (replicate n 0) ≡ 0
+unfolding sum
+sum-zeros zero = refl
+sum-zeros (suc n) = omega (arith, sum-zeros n)
+
+-- the places past the users add nothing
+sum-places : (ns : List ℕ) → sum (λ n. n) (inPlaces ns) ≡ sum (λ n. n) ns
+unfolding inPlaces
+sum-places ns = omega (arith, sum-append (λ n. n) ns (replicate (64 - length ns) 0), sum-zeros (64 - length ns))
+
+-- shares, odd kWh, rest and half
+given-sum : (zs : List ℤ) → T (isNegative (total zs))
+    → sum (λ n. n) (given zs .shares) + given zs .odd + given zs .rest + given zs .half ≡ natAbs (total zs)
+unfolding given rest half odd
+given-sum zs t =
+    let n = natAbs (total zs) in
+    omega (arith, sum-places (shares zs), shares-given zs (own-more zs t), div-add-mod' n 2)
+
+-- ---- by the questions, and by the sign of the total
+
+-- the number is the refusal's
+number-is : (zs : List ℤ) (o : Option ℕ) (c : Bool) → decided o nothing (cond c (given zs) (nothing 0)) .number ≡ numberOf o
+unfolding decided numberOf given nothing
+number-is zs none true = refl
+number-is zs none false = refl
+number-is zs (some n) c = refl
+
+-- the number 0 is no refusal
+accepted : (zs : List ℤ) → returned zs .number ≡ 0 → returned zs ≡ cond (isNegative (total zs)) (given zs) (nothing 0)
+unfolding returned decided about numbered all
+accepted zs h = rw (number-none (about zs) tt (sym (number-is zs (refusal (about zs)) (isNegative (total zs))) ∙ h))
+
+-- another number is one
+all-zero : (zs : List ℤ) (o : Option ℕ) (c : Bool) → (decided o nothing (cond c (given zs) (nothing 0)) .number ≡ 0 → ⊥)
+    → decided o nothing (cond c (given zs) (nothing 0)) ≡ nothing (decided o nothing (cond c (given zs) (nothing 0)) .number)
+unfolding decided given nothing
+all-zero zs none true h = absurd (h refl)
+all-zero zs none false h = absurd (h refl)
+all-zero zs (some n) c h = refl
+
+-- one of two, by a test
+when-yes : (c : Bool) (x y : Returned) → T c → cond c x y ≡ x
+when-yes true x y t = refl
+when-yes false x y t = absurd t
+
+when-no : (c : Bool) (x y : Returned) → T (not c) → cond c x y ≡ y
+when-no true x y t = absurd t
+when-no false x y t = refl
+
+pub adds-up : AddsUp
+unfolding returned
+adds-up =
+    record {
+      negative = λ zs h t. rw (accepted zs h, when-yes (isNegative (total zs)) (given zs) (nothing 0) t) (given-sum zs t);
+      otherwise = λ zs h t. accepted zs h ∙ when-no (isNegative (total zs)) (given zs) (nothing 0) t;
+      refused = λ zs h. all-zero zs (refusal (about zs)) (isNegative (total zs)) h;
+    }
+
+-- ---- each division
+
+pub exact : Exact
+unfolding shareOf remainderOf
+exact =
+    record {
+      whole = λ zs z. div-add-mod' (half zs * own z) (ownSum zs);
+      below = λ zs z t. mod-lt (half zs * own z) (own-more zs t);
+    }
+
+-- ---- what each user gets, and over which days
+
+pub bounded : Bounded
+bounded = record { most = share-most; none = none-gained }
+
+pub spread : Spread
+spread = record { thirty = length-over-days; whole = days-sum; even = days-even }
