@@ -1,5 +1,4 @@
 -- `target_of`: each way out is a case of the definition. Assumes nothing.
-use Prim.Native.Nat.{ℕ}
 use lib.ListN.{getD}
 use borrow.Author.Needs.{needs}
 use denote.Ref.{now}

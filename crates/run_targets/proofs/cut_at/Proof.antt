@@ -3,7 +3,6 @@ use mathlib.Core.Path.{_≡_, refl}
 use Prim.Native.Nat.{_-_}
 use native.Mathlib.Omega.{arith}
 use lib.ListN.{drop}
-use borrow.Author.Needs.{needs}
 use denote.Ref.{now}
 use Rattle.columns.specs.Columns.{idAt, tradesIn, usersIn}
 use Rattle.dealings.specs.Parties.{cutBefore, isCut}
