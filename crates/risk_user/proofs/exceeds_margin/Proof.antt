@@ -8,9 +8,6 @@ use Rattle.rules.specs.Levels.{exceedsMargin}
 use Rattle.risk_user.proofs.exceeds_margin.Statement.{statement}
 use Rattle.risk_user.proofs.exceeds_margin.Tie as tie
 
-blocked-at-requires : tie.Need-blocked-at-requires
-blocked-at-requires c κs = search needs
-
 add-result : tie.Need-add-result
 add-result c =
     let s = c .before .before .before .before .before in
@@ -23,4 +20,4 @@ returns c =
     ap (λ (n : ℕ). ltb (a .day .limits .margin .0 + n) (a .level .0)) (c .before .before .before .blocked-at .ensures)
 
 pub exceeds-margin-spec : {M : Type 1} → statement M
-exceeds-margin-spec = tie.close (tie.spec blocked-at-requires add-result returns)
+exceeds-margin-spec = tie.close (tie.spec (λ c κs. search needs) add-result returns)

@@ -8,15 +8,6 @@ use mathlib.Core.Path.{ap, _∙_}
 use Rattle.risk_user.proofs.short_worth.Statement.{statement}
 use Rattle.risk_user.proofs.short_worth.Tie as tie
 
-position-at-requires : tie.Need-position-at-requires
-position-at-requires c κs = search needs
-
-short-requires : tie.Need-short-requires
-short-requires c κs = search needs
-
-worth-in-requires : tie.Need-worth-in-requires
-worth-in-requires c κs = search needs
-
 returns : tie.Need-returns
 returns c =
     let a = c .before .before .before .args in
@@ -24,4 +15,4 @@ returns c =
 
 pub short-worth-spec : {M : Type 1} → statement M
 short-worth-spec =
-    tie.close (tie.spec position-at-requires short-requires worth-in-requires returns)
+    tie.close (tie.spec (λ c κs. search needs) (λ c κs. search needs) (λ c κs. search needs) returns)
