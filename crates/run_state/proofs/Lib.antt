@@ -1,4 +1,5 @@
 -- Laws of a run's arrays.
+pub mod Places
 pub mod Stays
 pub mod Reduced
 pub mod Moves
