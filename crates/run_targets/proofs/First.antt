@@ -18,6 +18,7 @@ use Rattle.rules.specs.Levels.{Limits, Holding, holding, shipper, exceedsMargin
 use Rattle.rules.specs.Lists.{any}
 use Rattle.rules.specs.Reduction.{hasEligible, target}
 use Rattle.sales.proofs.Listed.{starts-rise}
+use Rattle.run_state.proofs.Reduced.{cond-and}
 use Rattle.run_state.proofs.Stays.{flagged-is, stays-first, target-is}
 use Rattle.run_state.specs.Asked.{memberAt}
 use Rattle.risk_user.specs.Account.{flaggedAt, targetAt}
@@ -60,25 +61,17 @@ owed-cut false left t = refl
 called-in : (limits : Limits) (f : Prices) (u : User) (h : ℕ → Holding) (cut e : Bool) (t : ℕ)
     → cond e (cond (flaggedFrom limits f u h || cut) (cond (shortFrom limits f u h true) t 0) 0) 0 ≡ cond (shortFrom limits f u h cut && e) t 0
 unfolding shortFrom
-called-in limits f u h cut e t = go (shipper u) (flaggedFrom limits f u h) cut (exceedsMargin limits (levelFrom limits f u h) u && ltb (u .party .assigned) (levelFrom limits f u h)) e
+called-in limits f u h cut e t =
+    let r = exceedsMargin limits (levelFrom limits f u h) u && ltb (u .party .assigned) (levelFrom limits f u h) in
+    ap (λ (n : ℕ). cond e n 0) (go (shipper u) (flaggedFrom limits f u h) cut r) ∙ sym (cond-and (shortFrom limits f u h cut) e t)
   where
-    go : (a g c r e : Bool) → cond e (cond (g || c) (cond ((a && (g || true)) && r) t 0) 0) 0 ≡ cond (((a && (g || c)) && r) && e) t 0
-    go true true c true true = refl
-    go true true c true false = refl
-    go true true c false true = refl
-    go true true c false false = refl
-    go true false true true true = refl
-    go true false true true false = refl
-    go true false true false true = refl
-    go true false true false false = refl
-    go true false false r true = refl
-    go true false false r false = refl
-    go false true c r true = refl
-    go false true c r false = refl
-    go false false true r true = refl
-    go false false true r false = refl
-    go false false false r true = refl
-    go false false false r false = refl
+    go : (a g c r : Bool) → cond (g || c) (cond ((a && (g || true)) && r) t 0) 0 ≡ cond ((a && (g || c)) && r) t 0
+    go true true c r = refl
+    go true false true r = refl
+    go true false false r = refl
+    go false true c r = refl
+    go false false true r = refl
+    go false false false r = refl
 
 module _ {f : Prices} {n : ℕ} {s sums ps ss ns : List ℕ} {flags : List Bool} (p : Opening f n s sums ps ss ns flags) where
   -- the users are n, at most 64

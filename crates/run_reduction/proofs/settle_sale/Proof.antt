@@ -25,15 +25,6 @@ returns c =
       ),
     )
 
-lower-sale-requires : tie.Need-lower-sale-requires
-lower-sale-requires c κs = search needs
-
-move-sale-requires : tie.Need-move-sale-requires
-move-sale-requires c κs = search needs
-
-tally-with-requires : tie.Need-tally-with-requires
-tally-with-requires c κs = search needs
-
 returns-2 : tie.Need-returns-2
 returns-2 c =
     (c .before .before .before .lower-sale .ensures, (c .before .move-sale .ensures, (c .tally-with .ensures .0, c .tally-with .ensures .1)))
@@ -43,7 +34,7 @@ settle-sale-spec =
     tie.close
     (tie.spec
     returns
-    lower-sale-requires
-    move-sale-requires
-    tally-with-requires
+    (λ c κs. search needs)
+    (λ c κs. search needs)
+    (λ c κs. search needs)
     returns-2)
