@@ -1,5 +1,5 @@
 -- A tier of a part of the sales: its worth, first sale first; the amount and the rate of each sale. Assumes nothing.
-use mathlib.Core.Bool.{Bool, cond}
+use mathlib.Core.Bool.{cond}
 use mathlib.Core.List.{List}
 use mathlib.Core.Path.{_≡_, refl, sym, ap, _∙_}
 use Prim.Native.Nat.{ℕ, _+_, _*_, _-_, _≤_, _<_}
@@ -7,7 +7,7 @@ use native.Mathlib.Nat.{mul-zero}
 use native.Mathlib.Omega.{arith}
 use lib.Dec.{ltb, nltb→le}
 use lib.ListN.{length, getD, length-map, List·getD-eq-default}
-use Rattle.sales.proofs.Parts.{part-length, part-here, part-none, part-first, part-most}
+use Rattle.sales.proofs.Parts.{part-length, part-here, part-none, part-first}
 use Rattle.cut_worth.specs.Rates.{rateIn, rated, amountsIn, ratesIn, lotsIn, Sales, Rates}
 use Rattle.integers.proofs.Linear.{by-order}
 use Rattle.laws.proofs.Tests.{by-test}
@@ -15,7 +15,6 @@ use Rattle.rules.specs.Shares.{tierWorth}
 use Rattle.sales.proofs.Numbers.{read-at, standing-in-at, standing-in-length}
 use Rattle.sales.specs.Parts.{part}
 use Rattle.sales.specs.Sales.{standingIn}
-use Rattle.sales.proofs.Ranges.{cond-le}
 use Rattle.sales.proofs.Lots.{one-worth-le}
 use Rattle.sales.specs.Lots.{lotsOf}
 

@@ -1,5 +1,4 @@
 -- Laws of a run's arrays.
-pub mod Places
 pub mod Stays
 pub mod Reduced
 pub mod Moves

@@ -18,7 +18,7 @@ use Rattle.laws.specs.Sound.{Sound}
 use Rattle.rules.specs.Book.{at, Book, Trade, User, nobody}
 use Rattle.rules.specs.Calls.{reducedBy}
 use Rattle.rules.specs.Changes.{moved}
-use Rattle.run_state.proofs.Places.{set-each}
+use Rattle.sales.proofs.Stores.{set-each}
 use Rattle.run_state.proofs.Reduced.{place-id, place-inside}
 use Rattle.run_state.specs.Asked.{movedOne, movedAll}
 use Rattle.risk_user.specs.Account.{positionIn, PositionsOf}

@@ -23,7 +23,7 @@ use Rattle.rules.specs.Questions.{tradeValid}
 use Rattle.rules.specs.Reduction.{hasEligible, target, withTrades}
 use Rattle.run_state.proofs.Moves.{all-moved, moved-length}
 use Rattle.run_state.proofs.Own.{own-areas, own-buyers}
-use Rattle.run_state.proofs.Places.{here-or-apart, set-each}
+use Rattle.sales.proofs.Stores.{here-or-apart, set-each}
 use Rattle.run_state.proofs.Reduced.{apart, asked-other, asked-own, eligible-left, eligible-own, law, member-stays, members-stay}
 use Rattle.run_state.proofs.Stays.{Stays, stays, target-is, users-many}
 use Rattle.run_state.specs.Asked.{memberAt, LookedAgain, movedAll, touched}

@@ -7,17 +7,16 @@ use native.Mathlib.Numerals.{add-one}
 use native.Mathlib.Omega.{arith}
 use lib.Dec.{T, ltb}
 use lib.ListN.{length, getD, set, length-set}
-use lib.Seq.{getD-set-same, getD-set-other}
 use Rattle.dealings.specs.Parties.{cutBefore}
 use Rattle.format.proofs.Passed.{length-usersOf}
 use Rattle.format.specs.Book.{bookOf, usersOf}
-use Rattle.integers.proofs.Linear.{by-order}
 use Rattle.rules.specs.Areas.{Prices}
 use Rattle.rules.specs.Book.{Book, User}
 use Rattle.rules.specs.Levels.{Limits, Holding, holding, shipper, exceedsMargin}
 use Rattle.rules.specs.Lists.{any}
 use Rattle.rules.specs.Reduction.{hasEligible, target}
 use Rattle.sales.proofs.Listed.{starts-rise}
+use Rattle.sales.proofs.Stores.{set-front}
 use Rattle.run_state.proofs.Reduced.{cond-and}
 use Rattle.run_state.proofs.Stays.{flagged-is, stays-first, target-is}
 use Rattle.run_state.specs.Asked.{memberAt}
@@ -141,14 +140,8 @@ module _ (limits : Limits) (b : Book) where
       record {
         targets-room = length-set ts i t ∙ p .targets-room;
         eligible-room = length-set es i e ∙ p .eligible-room;
-        target-at = λ j k.
-            by-order j i (λ m. getD-set-other ts i j t 0 (λ z. omega arith) ∙ p .target-at j m)
-            (λ m. let z : i ≡ j = omega arith in
-            subst (λ (r : ℕ). getD (set ts i t) r 0 ≡ owed limits b (memberAt b r)) z (getD-set-same ts i t 0 (omega (arith, p .targets-room)) ∙ x));
-        open-at = λ j k.
-            by-order j i (λ m. getD-set-other es i j e false (λ z. omega arith) ∙ p .open-at j m)
-            (λ m. let z : i ≡ j = omega arith in
-            subst (λ (r : ℕ). getD (set es i e) r false ≡ hasEligible b (memberAt b r)) z (getD-set-same es i e false (omega (arith, p .eligible-room)) ∙ y));
+        target-at = set-front (λ j n. n ≡ owed limits b (memberAt b j)) ts i t 0 (omega (arith, p .targets-room)) x (p .target-at);
+        open-at = set-front (λ j c. c ≡ hasEligible b (memberAt b j)) es i e false (omega (arith, p .eligible-room)) y (p .open-at);
       }
 
   pub filled-end : {i : ℕ} {ts : List ℕ} {es : List Bool} → length (b .users) ≤ i → FilledTo limits b i ts es → OwedOf limits b ts es × (length ts ≡ 64) × (length es ≡ 64)

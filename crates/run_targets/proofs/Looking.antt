@@ -9,7 +9,7 @@ use lib.ListN.{length, getD, set, length-set}
 use lib.Seq.{getD-set-other}
 use borrow.Author.Tests.{eq-eqb, ne-eqb, lt-ltb, le-ltb}
 use Rattle.rules.specs.Lists.{any}
-use Rattle.run_state.proofs.Places.{here-or-apart, set-each}
+use Rattle.sales.proofs.Stores.{here-or-apart, set-each}
 use Rattle.run_state.specs.Asked.{LookedAgain, touched}
 use Rattle.sales.proofs.Kept.{by-case}
 use Rattle.sales.proofs.Parts.{part-first, part-none}
