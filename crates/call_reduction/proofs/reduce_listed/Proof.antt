@@ -54,19 +54,5 @@ returns-2 c =
 pub reduce-listed-spec : {M : Type 1} → statement M
 reduce-listed-spec =
     tie.close
-    (tie.spec
-    (λ c. search needs)
-    (λ c. search needs)
-    (λ c. search needs)
-    (λ c. search needs)
-    (λ c. search needs)
-    any-left-requires
-    (λ c κs. search needs)
-    returns
-    reduce-requires
-    get-u8-requires
-    (λ c. search needs)
-    apply-requires
-    (λ c κs. search needs)
-    (λ c. search needs)
-    returns-2)
+    (tie.spec (λ c. search needs) (λ c. search needs) (λ c. search needs) (λ c. search needs) (λ c. search needs) any-left-requires (λ c κs. search needs)
+    returns reduce-requires get-u8-requires (λ c. search needs) apply-requires (λ c κs. search needs) (λ c. search needs) returns-2)

@@ -32,12 +32,5 @@ returns c = c .before .before .reduce-listed .ensures
 pub reduce-sales-spec : {M : Type 1} → statement M
 reduce-sales-spec =
     tie.close
-    (tie.spec
-    (λ c κs. search needs)
-    (λ c. search needs)
-    (λ c κs. search needs)
-    (λ c. search needs)
-    fill-lists-requires
-    reduce-listed-requires
-    (λ c. search needs)
-    returns)
+    (tie.spec (λ c κs. search needs) (λ c. search needs) (λ c κs. search needs) (λ c. search needs) fill-lists-requires reduce-listed-requires
+    (λ c. search needs) returns)

@@ -98,21 +98,6 @@ returns-2 c =
 pub reduce-user-spec : {M : Type 1} → statement M
 reduce-user-spec =
     tie.close
-    (tie.spec
-    (λ c κs. search needs)
-    (λ c. search needs)
-    (λ c κs. search needs)
-    (λ c. search needs)
-    fill-positions-requires
-    cut-at-requires
-    called-at-requires
-    level-at-requires
-    state-of-requires
-    (λ c κs. search needs)
-    (λ c κs. search needs)
-    (λ c. search needs)
-    returns
-    target-of-requires
-    reduce-sales-requires
-    (λ c. search needs)
-    returns-2)
+    (tie.spec (λ c κs. search needs) (λ c. search needs) (λ c κs. search needs) (λ c. search needs) fill-positions-requires cut-at-requires called-at-requires
+    level-at-requires state-of-requires (λ c κs. search needs) (λ c κs. search needs) (λ c. search needs) returns target-of-requires reduce-sales-requires
+    (λ c. search needs) returns-2)

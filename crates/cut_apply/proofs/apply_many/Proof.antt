@@ -20,11 +20,5 @@ apply-noting-requires c κs =
 pub apply-many-spec : {M : Type 1} → statement M
 apply-many-spec =
     tie.close
-    (tie.spec
-    (λ c. search needs)
-    slice-aggregate-apply-noting
-    (λ c. search needs)
-    slice-aggregate-apply-noting-2
-    apply-noting-requires
-    (λ c. search needs)
+    (tie.spec (λ c. search needs) slice-aggregate-apply-noting (λ c. search needs) slice-aggregate-apply-noting-2 apply-noting-requires (λ c. search needs)
     (λ c. search needs))

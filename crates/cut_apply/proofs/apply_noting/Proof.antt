@@ -19,12 +19,5 @@ returns c =
 pub apply-noting-spec : {M : Type 1} → statement M
 apply-noting-spec =
     tie.close
-    (tie.spec
-    (λ c κs. search needs)
-    (λ c. search needs)
-    (λ c. search needs)
-    lower-sales-requires
-    (λ c. search needs)
-    (λ c. search needs)
-    (λ c. search needs)
+    (tie.spec (λ c κs. search needs) (λ c. search needs) (λ c. search needs) lower-sales-requires (λ c. search needs) (λ c. search needs) (λ c. search needs)
     returns)

@@ -11,6 +11,4 @@ returns c =
     lowered-in _ _ (d .before .read-few .ensures) (d .cut-few .ensures) (w .write-few .ensures)
 
 pub lower-few-spec : {M : Type 1} → statement M
-lower-few-spec =
-    tie.close
-    (tie.spec (λ c κs. search needs) (λ c κs. search needs) (λ c κs. search needs) (λ c. search needs) returns)
+lower-few-spec = tie.close (tie.spec (λ c κs. search needs) (λ c κs. search needs) (λ c κs. search needs) (λ c. search needs) returns)

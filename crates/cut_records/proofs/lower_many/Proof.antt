@@ -11,6 +11,4 @@ returns c =
     lowered-in _ _ (d .before .read-many .ensures) (d .cut-all .ensures) (w .write-many .ensures)
 
 pub lower-many-spec : {M : Type 1} → statement M
-lower-many-spec =
-    tie.close
-    (tie.spec (λ c κs. search needs) (λ c κs. search needs) (λ c κs. search needs) (λ c. search needs) returns)
+lower-many-spec = tie.close (tie.spec (λ c κs. search needs) (λ c κs. search needs) (λ c κs. search needs) (λ c. search needs) returns)

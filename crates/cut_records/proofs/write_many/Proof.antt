@@ -45,17 +45,5 @@ returns c = placed-end (c .before .before .before .before .pre) (c .before .loop
 pub write-many-spec : {M : Type 1} → statement M
 write-many-spec =
     tie.close
-    (tie.spec
-    Inv-loop
-    μ-loop
-    loop-holds
-    (λ c. search needs)
-    cast-place
-    (λ c. search needs)
-    (λ c. search needs)
-    put-trade-requires
-    (λ c. search needs)
-    (λ c. search needs)
-    loop-again
-    same-length
-    returns)
+    (tie.spec Inv-loop μ-loop loop-holds (λ c. search needs) cast-place (λ c. search needs) (λ c. search needs) put-trade-requires (λ c. search needs)
+    (λ c. search needs) loop-again same-length returns)

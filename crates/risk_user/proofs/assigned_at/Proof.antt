@@ -9,5 +9,4 @@ returns : tie.Need-returns
 returns c = c .get-u64 .ensures ∙ assigned-is (c .before .before .pre)
 
 pub assigned-at-spec : {M : Type 1} → statement M
-assigned-at-spec =
-    tie.close (tie.spec (λ c. search needs) (λ c. search needs) (λ c. search needs) (λ c κs. search needs) returns)
+assigned-at-spec = tie.close (tie.spec (λ c. search needs) (λ c. search needs) (λ c. search needs) (λ c κs. search needs) returns)

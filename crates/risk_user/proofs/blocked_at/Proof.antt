@@ -9,5 +9,4 @@ returns : tie.Need-returns
 returns c = c .get-u64 .ensures ∙ blocked-is (c .before .before .pre)
 
 pub blocked-at-spec : {M : Type 1} → statement M
-blocked-at-spec =
-    tie.close (tie.spec (λ c. search needs) (λ c. search needs) (λ c. search needs) (λ c κs. search needs) returns)
+blocked-at-spec = tie.close (tie.spec (λ c. search needs) (λ c. search needs) (λ c. search needs) (λ c κs. search needs) returns)

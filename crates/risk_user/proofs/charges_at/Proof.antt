@@ -10,6 +10,4 @@ returns : tie.Need-returns
 returns c = c .of-bits .ensures ∙ ap (signedOf 64) (c .before .get-u64 .ensures) ∙ charges-is (c .before .before .before .pre)
 
 pub charges-at-spec : {M : Type 1} → statement M
-charges-at-spec =
-    tie.close
-    (tie.spec (λ c. search needs) (λ c. search needs) (λ c. search needs) (λ c κs. search needs) (λ c κs. search needs) returns)
+charges-at-spec = tie.close (tie.spec (λ c. search needs) (λ c. search needs) (λ c. search needs) (λ c κs. search needs) (λ c κs. search needs) returns)

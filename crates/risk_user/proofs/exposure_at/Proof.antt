@@ -14,12 +14,4 @@ returns c =
     (omega (arith, c .before .before .before .before .before .short-worth .ensures .0, c .before .before .before .before .short-worth2 .ensures .0, c .before .before .before .short-worth3 .ensures .0), omega (arith, c .before .before .before .before .before .short-worth .ensures .1, c .before .before .before .before .short-worth2 .ensures .1, c .before .before .before .short-worth3 .ensures .1))
 
 pub exposure-at-spec : {M : Type 1} → statement M
-exposure-at-spec =
-    tie.close
-    (tie.spec
-    (λ c κs. search needs)
-    (λ c κs. search needs)
-    (λ c κs. search needs)
-    (λ c. search needs)
-    (λ c. search needs)
-    returns)
+exposure-at-spec = tie.close (tie.spec (λ c κs. search needs) (λ c κs. search needs) (λ c κs. search needs) (λ c. search needs) (λ c. search needs) returns)

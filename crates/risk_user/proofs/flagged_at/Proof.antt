@@ -21,12 +21,4 @@ returns c =
     (c .before .before .before .exposure-at .ensures .0)
 
 pub flagged-at-spec : {M : Type 1} → statement M
-flagged-at-spec =
-    tie.close
-    (tie.spec
-    (λ c κs. search needs)
-    (λ c κs. search needs)
-    (λ c κs. search needs)
-    (λ c κs. search needs)
-    add-result
-    returns)
+flagged-at-spec = tie.close (tie.spec (λ c κs. search needs) (λ c κs. search needs) (λ c κs. search needs) (λ c κs. search needs) add-result returns)

@@ -14,5 +14,4 @@ returns c =
     (c .worth-in .ensures .0 ∙ ap (λ (n : ℕ). n * referencePrice (asPrices (a .prices)) (a .area)) (c .before .short .ensures .0 ∙ ap negPart (c .before .before .position-at .ensures)), c .worth-in .ensures .1)
 
 pub short-worth-spec : {M : Type 1} → statement M
-short-worth-spec =
-    tie.close (tie.spec (λ c κs. search needs) (λ c κs. search needs) (λ c κs. search needs) returns)
+short-worth-spec = tie.close (tie.spec (λ c κs. search needs) (λ c κs. search needs) (λ c κs. search needs) returns)

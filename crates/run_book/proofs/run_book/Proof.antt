@@ -26,12 +26,5 @@ returns c = c .before .before .run-listed .ensures
 pub run-book-spec : {M : Type 1} → statement M
 run-book-spec =
     tie.close
-    (tie.spec
-    (λ c κs. search needs)
-    (λ c. search needs)
-    (λ c κs. search needs)
-    (λ c. search needs)
-    fill-lists-requires
-    (λ c κs. search needs)
-    (λ c. search needs)
-    returns)
+    (tie.spec (λ c κs. search needs) (λ c. search needs) (λ c κs. search needs) (λ c. search needs) fill-lists-requires (λ c κs. search needs)
+    (λ c. search needs) returns)

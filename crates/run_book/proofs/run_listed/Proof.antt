@@ -72,17 +72,5 @@ returns c =
 pub run-listed-spec : {M : Type 1} → statement M
 run-listed-spec =
     tie.close
-    (tie.spec
-    (λ c κs. search needs)
-    (λ c. search needs)
-    (λ c κs. search needs)
-    (λ c. search needs)
-    fill-positions-requires
-    fill-cut-requires
-    fill-targets-requires
-    copy-sales-requires
-    run-on-requires
-    lost-of-requires
-    apply-requires
-    (λ c. search needs)
-    returns)
+    (tie.spec (λ c κs. search needs) (λ c. search needs) (λ c κs. search needs) (λ c. search needs) fill-positions-requires fill-cut-requires
+    fill-targets-requires copy-sales-requires run-on-requires lost-of-requires apply-requires (λ c. search needs) returns)

@@ -30,11 +30,4 @@ returns-2 c =
     (c .before .before .before .lower-sale .ensures, (c .before .move-sale .ensures, (c .tally-with .ensures .0, c .tally-with .ensures .1)))
 
 pub settle-sale-spec : {M : Type 1} → statement M
-settle-sale-spec =
-    tie.close
-    (tie.spec
-    returns
-    (λ c κs. search needs)
-    (λ c κs. search needs)
-    (λ c κs. search needs)
-    returns-2)
+settle-sale-spec = tie.close (tie.spec returns (λ c κs. search needs) (λ c κs. search needs) (λ c κs. search needs) returns-2)

@@ -69,19 +69,5 @@ returns c =
 pub turn-spec : {M : Type 1} → statement M
 turn-spec =
     tie.close
-    (tie.spec
-    (λ c. search needs)
-    (λ c. search needs)
-    (λ c. search needs)
-    (λ c. search needs)
-    (λ c. search needs)
-    (λ c. search needs)
-    (λ c. search needs)
-    reduce-requires
-    look-again-requires
-    any-left-requires
-    element-write-eligible
-    owed-at-requires
-    mul-targets-2
-    element-write-targets
-    returns)
+    (tie.spec (λ c. search needs) (λ c. search needs) (λ c. search needs) (λ c. search needs) (λ c. search needs) (λ c. search needs) (λ c. search needs)
+    reduce-requires look-again-requires any-left-requires element-write-eligible owed-at-requires mul-targets-2 element-write-targets returns)
