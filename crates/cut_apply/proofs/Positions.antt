@@ -103,14 +103,6 @@ module _ (s : List ℕ) {place area : ℕ} (p : PositionIn s place area) where
       ap₂ (λ (i v : ℕ). setField 4 i v s) stands (put ∙ ap (λ (x : ℤ). bitsOf 32 (x +ℤ z)) (position-is stands read)) in
       subst⁻¹ (HeldAs (withUsers (bookOf s) (movedAt place area z (usersOf s)))) (e ∙ same) (position-set z fits)
 
-  -- its four bytes lie in the book
-  pub position-inside : {a : ℕ} → a ≡ 32 + 56 * place + 20 + 4 * area → a + 4 ≤ length s
-  position-inside e = omega (arith, e, p .held .form .whole, p .user-inside, p .area-inside)
-
-  -- there are at most 64 users
-  pub position-low : place < 64
-  position-low = omega (arith, p .held .form .users, p .user-inside)
-
   -- a position that is raised, or lowered, within 32 bits
   pub fits-raised : (n : ℕ) → posPart (positionOf (usersOf s) place area) + n < 2 ^ 31 → FitsSigned 32 (positionOf (usersOf s) place area +ℤ pos n)
   fits-raised n h =

@@ -7,7 +7,7 @@ use native.Mathlib.Numerals.{add-one}
 use native.Mathlib.Omega.{arith}
 use lib.Dec.{T, ltb}
 use lib.ListN.{drop, getD, length, length-set, set, take}
-use lib.Seq.{getD-set-other, getD-set-same, length-take-le, take-all, take-suc-set}
+use lib.Seq.{length-take-le, take-all, take-suc-set}
 use borrow.Author.Tests.{eq-eqb, eqb-true, ltb-false, ltb-true}
 use Rattle.columns.proofs.Trades.{party-inside, party-is, trade-at}
 use Rattle.columns.specs.Columns.{PlacedOn, idAt, tradeIn, tradesIn, usersIn}
@@ -17,7 +17,6 @@ use Rattle.format.proofs.Passed.{length-tradesOf, length-usersOf}
 use Rattle.format.specs.Book.{bookOf, tradeCount, tradesAt, tradesOf, userAt, userCount, usersOf}
 use Rattle.held.proofs.Held.{held-itself, held-trade, held-tradeCount, held-userCount, held-users}
 use Rattle.held.specs.Held.{HeldAs, noTrade}
-use Rattle.integers.proofs.Linear.{by-order}
 use Rattle.integers.specs.Parts.{negPart, posPart}
 use Rattle.laws.proofs.Bounds.{position-bound, standing-le}
 use Rattle.laws.proofs.Positions.{buyer-known, seller-known}
@@ -34,6 +33,7 @@ use Rattle.sales.proofs.Again.{retraded-again}
 use Rattle.sales.proofs.Kept.{by-case}
 use Rattle.sales.proofs.Settled.{party-at, settle-none, settle-one-at, settle-one-none, settle-parties}
 use Rattle.sales.proofs.Standing.{same-length}
+use Rattle.sales.proofs.Stores.{set-front}
 use Rattle.sales.specs.Groups.{written}
 use Rattle.sales.specs.Sales.{settledAt}
 use Rattle.cut_apply.proofs.Cutting.{lowered-long, lowered-more, lowered-next, lowered-none, lowered-snoc, lowered-to, lowered-valid, loweredTo, next-stands}
@@ -233,10 +233,7 @@ module _ {n : ℕ} {s₀ sellers parties : List ℕ} (a : BookIn n (tradeCount s
 
           inside-more : lost < losing cs → (k : ℕ) → k < suc lost → getD (set places lost place) k 0 < length (bookOf s₀ .trades)
           inside-more room k l =
-              by-order k lost (λ z. omega (arith, getD-set-other places lost k place 0 (λ e. omega arith), q .inside k z))
-              (λ z.
-              let e : lost ≡ k = omega arith in
-              subst (λ (x : ℕ). getD (set places lost place) x 0 < length (bookOf s₀ .trades)) e (omega (arith, getD-set-same places lost place 0 (omega (arith, q .places-room)), p .inside j h)))
+              set-front (λ m x. x < length (bookOf s₀ .trades)) places lost place 0 (omega (arith, q .places-room)) (p .inside j h) (q .inside) k (omega arith)
 
           pub moved-more : MovedSo (bookOf s₀) is cs places' amounts' s' lost' (suc j)
           moved-more =

@@ -9,7 +9,8 @@ use lib.Seq.{sets, length-sets}
 use Rattle.cut_shares.proofs.Lifted.{together-length, together-at}
 use Rattle.cut_tiers.proofs.Weights.{standing-same}
 use Rattle.cut_tiers.specs.Tiers.{cutsOf, NoCuts, Takeable}
-use Rattle.sales.proofs.Parts.{part-length, part-here, part-stored}
+use Rattle.sales.proofs.Parts.{part-here, part-stored}
+use Rattle.cut_worth.proofs.Rates.{areas-many, sales-many}
 use Rattle.cut_worth.specs.Rates.{Sales}
 use Rattle.rules.specs.Areas.{Prices, tariff}
 use Rattle.rules.specs.Book.{Trade}
@@ -85,19 +86,15 @@ module _ (f : Prices) (short : ℕ → Bool) (asked : ℕ) (standing areas : Lis
 -- ---- in the arrays
 
 module _ (standing areas cuts : List ℕ) (from to : ℕ) (s : Sales standing areas from to) where
-  standing-many : length (part from to standing) ≡ to - from
-  standing-many = part-length standing from to (omega (arith, s .inside, s .standing-long))
-
   -- the cuts that were filled in can be taken off
   pub filled-takeable : (f : Prices) (short : ℕ → Bool) (asked : ℕ) {now : List ℕ} → NoCuts cuts from to
       → now ≡ sets cuts from (cutsOf f short asked (part from to standing) (part from to areas)) → Takeable standing now from to
   filled-takeable f short asked {now} n e =
-      let same : length (part from to areas) ≡ length (part from to standing)
-      = part-length areas from to (omega (arith, s .inside, s .areas-long)) ∙ sym standing-many in
+      let same : length (part from to areas) ≡ length (part from to standing) = areas-many s ∙ sym (sales-many s) in
       let filled : part from to now ≡ cutsOf f short asked (part from to standing) (part from to areas)
       = ap (part from to) e
       ∙ part-stored cuts from to (cutsOf f short asked (part from to standing) (part from to areas))
-      (cuts-of-length f short asked (part from to standing) (part from to areas) same ∙ standing-many) (n .rising) (omega (arith, s .inside, n .long)) in
+      (cuts-of-length f short asked (part from to standing) (part from to areas) same ∙ sales-many s) (n .rising) (omega (arith, s .inside, n .long)) in
       record {
         rising = n .rising;
         long = ap length e ∙ length-sets cuts from (cutsOf f short asked (part from to standing) (part from to areas)) ∙ n .long;
@@ -107,6 +104,6 @@ module _ (standing areas cuts : List ℕ) (from to : ℕ) (s : Sales standing ar
               part-here now from to i 0 h k,
               part-here standing from to i 0 h k,
               ap (λ (ns : List ℕ). getD ns (i - from) 0) filled,
-              cuts-of-le f short asked (part from to standing) (part from to areas) same (i - from) (omega (arith, standing-many)),
+              cuts-of-le f short asked (part from to standing) (part from to areas) same (i - from) (omega (arith, sales-many s)),
             );
       }

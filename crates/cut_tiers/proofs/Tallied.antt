@@ -8,6 +8,7 @@ use lib.ListN.{length, drop, getD, set, length-map, drop-of-length-le, List·get
 use lib.Seq.{drop-cons, sets}
 use Rattle.cut_tiers.specs.Tiers.{Takeable}
 use Rattle.sales.proofs.Parts.{part-length, part-here}
+use Rattle.cut_worth.proofs.Rates.{areas-many, sales-many}
 use Rattle.cut_worth.proofs.Storing.{Storing, storing-start, storing-more, storing-end}
 use Rattle.cut_worth.specs.Rates.{Sales}
 use Rattle.cut_worth.specs.Tallies.{asTally}
@@ -44,14 +45,8 @@ pub record TakenOff (f : Prices) (standing areas cuts : List ℕ) (from to : ℕ
   pub worth-most : y .worth .0 ≤ 10000000000 * (i - from)
 
 module _ (f : Prices) {standing areas cuts : List ℕ} {from to : ℕ} (s : Sales standing areas from to) (t : Takeable standing cuts from to) where
-  standing-many : length (part from to standing) ≡ to - from
-  standing-many = part-length standing from to (omega (arith, s .inside, s .standing-long))
-
   cuts-many : length (part from to cuts) ≡ to - from
   cuts-many = part-length cuts from to (omega (arith, s .inside, t .long))
-
-  areas-many : length (part from to areas) ≡ to - from
-  areas-many = part-length areas from to (omega (arith, s .inside, s .areas-long))
 
   -- before the first sale
   pub taken-start : {y : Tally} → asTally y ≡ nothing → y .mwh .0 ≡ 0 → y .worth .0 ≡ 0 → TakenOff f standing areas cuts from to standing y from
@@ -80,7 +75,7 @@ module _ (f : Prices) {standing areas cuts : List ℕ} {from to : ℕ} (s : Sale
     unfolding tallyAll none
     further next h g ss k =
         let e : i + 1 - from ≡ i - from + 1 = omega (arith, p .starts) in
-        let l : i - from < length ss = omega (arith, length-map ss areaOf, ap length k, areas-many, p .starts) in
+        let l : i - from < length ss = omega (arith, length-map ss areaOf, ap length k, areas-many s, p .starts) in
         let area : areaOf (getD ss (i - from) none) ≡ getD areas i 0
         = sym (List·getD-map areaOf ss (i - from) none) ∙ ap (λ (ns : List ℕ). getD ns (i - from) 0) k ∙ part-here areas from to i 0 (p .starts) h in
         let here = g (getD ss (i - from) none) area in
@@ -99,7 +94,7 @@ module _ (f : Prices) {standing areas cuts : List ℕ} {from to : ℕ} (s : Sale
       ends = omega arith;
       off =
           rw e
-          (storing-more (p .off) (getD now i 0 - getD cuts i 0) (p .starts) (omega (arith, less-length (part from to cuts) (part from to standing), standing-many))
+          (storing-more (p .off) (getD now i 0 - getD cuts i 0) (p .starts) (omega (arith, less-length (part from to cuts) (part from to standing), sales-many s))
           (omega (
             arith,
             less-at (part from to cuts) (part from to standing) (i - from),
@@ -115,7 +110,7 @@ module _ (f : Prices) {standing areas cuts : List ℕ} {from to : ℕ} (s : Sale
     module _ (e : i ≡ to) where
       -- after the last
       pub taken-standing : now ≡ sets standing from (less (part from to cuts) (part from to standing))
-      taken-standing = storing-end (p .off) (omega (arith, less-length (part from to cuts) (part from to standing), standing-many, t .rising))
+      taken-standing = storing-end (p .off) (omega (arith, less-length (part from to cuts) (part from to standing), sales-many s, t .rising))
 
       pub taken-tally : (ss : List model.Trade) → map areaOf ss ≡ part from to areas → asTally y ≡ tallyAll f (part from to cuts) ss nothing
       unfolding tallyAll

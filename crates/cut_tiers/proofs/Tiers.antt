@@ -62,18 +62,13 @@ module _ (f : Prices) (range : InRange f) (short : ℕ → Bool) (asked : ℕ) {
   lots-same : (rates : List ℕ) → length (ratesIn rates (part from to areas)) ≡ length (amountsIn rates (part from to ss) (part from to areas))
   lots-same rates = rates-length areas rates from to (areas-inside s) ∙ sym (amounts-length ss areas rates from to s)
 
-  ones-length : length ones ≡ to - from
+  tier-many : (amount : ℕ) (rates : List ℕ) → length (tierCuts amount (lotsIn rates (part from to ss) (part from to areas))) ≡ to - from
   unfolding lotsIn
-  ones-length =
-      cuts-length asked (amountsIn (ratesFor f short) (part from to ss) (part from to areas)) (ratesIn (ratesFor f short) (part from to areas)) (lots-same (ratesFor f short))
-      ∙ amounts-length ss areas (ratesFor f short) from to s
+  tier-many amount rates =
+      cuts-length amount (amountsIn rates (part from to ss) (part from to areas)) (ratesIn rates (part from to areas)) (lots-same rates) ∙ amounts-length ss areas rates from to s
 
-  twos-length : (left : ℕ) → length (twos left) ≡ to - from
-  unfolding lotsIn
-  twos-length left =
-      let rates = ratesFor f (λ area. not (short area)) in
-      cuts-length left (amountsIn rates (part from to ss) (part from to areas)) (ratesIn rates (part from to areas)) (lots-same rates)
-      ∙ amounts-length ss areas rates from to s
+  ones-length : length ones ≡ to - from
+  ones-length = tier-many asked (ratesFor f short)
 
   -- a cut of tier one is at most what stands in it
   one-le : (i : ℕ) → from ≤ i → i < to → getD ones (i - from) 0 ≤ cond (ltb 0 (rateIn (ratesFor f short) (getD areas i 0))) (getD ss i 0) 0
@@ -158,7 +153,7 @@ module _ (f : Prices) (range : InRange f) (short : ℕ → Bool) (asked : ℕ) {
       unfolding added
       both-tiers two g =
           let sums : length (together ones (twos (asked - v))) ≡ length ones
-          = together-length ones (twos (asked - v)) (twos-length (asked - v) ∙ sym ones-length) in
+          = together-length ones (twos (asked - v)) (tier-many (asked - v) (ratesFor f (λ area. not (short area))) ∙ sym ones-length) in
           g ∙ ap (λ (rs : List ℕ). added from to first (tierCuts (asked - v) (lotsIn rs (part from to ss) (part from to areas)))) two
           ∙ ap₂ (λ (zs cs : List ℕ). sets zs from (together cs (twos (asked - v)))) first-stored first-part
           ∙ stored-over cuts ones (together ones (twos (asked - v))) from sums (omega (arith, ones-length, n .rising, n .long, s .inside))

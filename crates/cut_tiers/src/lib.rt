@@ -5,20 +5,18 @@ use units::Cents;
 use units::Mwh;
 use units::Prices;
 ghost use mathlib.Core.Bool.{Bool, cond};
-ghost use mathlib.Core.List.{List, map};
 ghost use mathlib.Core.Path.{_≡_};
-ghost use Prim.Native.Nat.{ℕ, _+_, _*_, _-_, _≤_, _<_, _^_};
+ghost use Prim.Native.Nat.{ℕ, _+_, _-_, _≤_, _<_, _^_};
 ghost use lib.ListN.{length, getD, set};
 ghost use lib.Seq.{sets};
 ghost use Rattle.rules.specs.Areas.{tariff};
 ghost use Rattle.rules.specs.Book as model;
-ghost use Rattle.rules.specs.Reduction.{nothing, tallied, tallyAll};
+ghost use Rattle.rules.specs.Reduction.{tallied};
 ghost use Rattle.sales.specs.Parts.{part};
-ghost use Rattle.sales.specs.Sales.{less};
 ghost use Rattle.units.specs.Prices.{asPrices, InRange};
 ghost use Rattle.cut_worth.specs.Rates.{Sales};
 ghost use Rattle.cut_worth.specs.Tallies.{asTally};
-ghost use Rattle.cut_tiers.specs.Tiers.{shortBy, ratesFor, cutsOf, NoCuts, Takeable};
+ghost use Rattle.cut_tiers.specs.Tiers.{shortBy, ratesFor, cutsOf, NoCuts};
 
 // ---- the cuts of both tiers
 

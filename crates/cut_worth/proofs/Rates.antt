@@ -1,5 +1,5 @@
 -- A tier of a part of the sales: its worth, first sale first; the amount and the rate of each sale. Assumes nothing.
-use mathlib.Core.Bool.{Bool, cond}
+use mathlib.Core.Bool.{cond}
 use mathlib.Core.List.{List}
 use mathlib.Core.Path.{_≡_, refl, sym, ap, _∙_}
 use Prim.Native.Nat.{ℕ, _+_, _*_, _-_, _≤_, _<_}
@@ -7,7 +7,7 @@ use native.Mathlib.Nat.{mul-zero}
 use native.Mathlib.Omega.{arith}
 use lib.Dec.{ltb, nltb→le}
 use lib.ListN.{length, getD, length-map, List·getD-eq-default}
-use Rattle.sales.proofs.Parts.{part-length, part-here, part-none, part-first, part-most}
+use Rattle.sales.proofs.Parts.{part-length, part-here, part-none, part-first}
 use Rattle.cut_worth.specs.Rates.{rateIn, rated, amountsIn, ratesIn, lotsIn, Sales, Rates}
 use Rattle.integers.proofs.Linear.{by-order}
 use Rattle.laws.proofs.Tests.{by-test}
@@ -15,8 +15,8 @@ use Rattle.rules.specs.Shares.{tierWorth}
 use Rattle.sales.proofs.Numbers.{read-at, standing-in-at, standing-in-length}
 use Rattle.sales.specs.Parts.{part}
 use Rattle.sales.specs.Sales.{standingIn}
-use Rattle.sales.proofs.Ranges.{cond-le}
-use Rattle.sales.specs.Lots.{lotsOf, Tier}
+use Rattle.sales.proofs.Lots.{one-worth-le}
+use Rattle.sales.specs.Lots.{lotsOf}
 
 -- what is outside the tier has no worth at its rate
 weighted : (n rate : ℕ) → cond (ltb 0 rate) n 0 * rate ≡ n * rate
@@ -46,12 +46,18 @@ module _ (ss areas rates : List ℕ) (from to : ℕ) where
 
 -- ---- its amounts and its rates
 
--- what stands in some areas is at most what stands
-in-le : (belongs : ℕ → Bool) (ns areas : List ℕ) → length areas ≡ length ns → (i : ℕ) → getD (standingIn belongs ns areas) i 0 ≤ getD ns i 0
-in-le belongs ns areas same i =
-    by-order i (length ns)
-    (λ l. omega (arith, standing-in-at belongs ns areas i l (omega arith), cond-le (belongs (getD areas i 0)) (getD ns i 0)))
-    (λ l. omega (arith, List·getD-eq-default (standingIn belongs ns areas) 0 {n = i} (omega (arith, standing-in-length belongs ns areas same))))
+-- no rate is above 100,000
+pub rates-most : {rates : List ℕ} → Rates rates → (areas : List ℕ) (k : ℕ) → getD (ratesIn rates areas) k 0 ≤ 100000
+rates-most {rates} r areas k =
+    by-order k (length areas)
+    (λ l. omega (arith, read-at (rateIn rates) areas k 0 0 l, r .most (getD areas k 0)))
+    (λ l. omega (arith, List·getD-eq-default (ratesIn rates areas) 0 {n = k} (omega (arith, length-map areas (rateIn rates)))))
+
+-- the worth of the first sale has a bound
+pub first-worth-le : {ss areas rates : List ℕ} {from to rate : ℕ} → Sales ss areas from to → Rates rates → from < to → rate ≡ rateIn rates (getD areas from 0)
+    → getD ss from 0 * rate ≤ 10000000000
+first-worth-le {areas = areas} {from = from} {rate = rate} s r h e =
+    one-worth-le (s .standing-most from (omega arith) h) (let m : rate ≤ 100000 = omega (arith, e, r .most (getD areas from 0)) in m)
 
 module _ (areas rates : List ℕ) (from to : ℕ) (inside : to ≤ length areas) where
   -- as many rates as there are places
@@ -79,31 +85,20 @@ sales-rest s =
 pub areas-inside : {ss areas : List ℕ} {from to : ℕ} → Sales ss areas from to → to ≤ length areas
 areas-inside s = omega (arith, s .inside, s .areas-long)
 
-module _ (ss areas rates : List ℕ) (from to : ℕ) (s : Sales ss areas from to) where
-  parts-same : length (part from to areas) ≡ length (part from to ss)
-  parts-same = omega (arith, part-length ss from to (omega (arith, s .inside, s .standing-long)), part-length areas from to (omega (arith, s .inside, s .areas-long)))
+-- there is an amount and an area for each place
+pub sales-many : {ss areas : List ℕ} {from to : ℕ} → Sales ss areas from to → length (part from to ss) ≡ to - from
+sales-many {ss} {from = from} {to = to} s = part-length ss from to (omega (arith, s .inside, s .standing-long))
 
+pub areas-many : {ss areas : List ℕ} {from to : ℕ} → Sales ss areas from to → length (part from to areas) ≡ to - from
+areas-many {areas = areas} {from = from} {to = to} s = part-length areas from to (areas-inside s)
+
+module _ (ss areas rates : List ℕ) (from to : ℕ) (s : Sales ss areas from to) where
   -- as many amounts as there are places
   pub amounts-length : length (amountsIn rates (part from to ss) (part from to areas)) ≡ to - from
-  amounts-length =
-      standing-in-length (rated rates) (part from to ss) (part from to areas) parts-same
-      ∙ part-length ss from to (omega (arith, s .inside, s .standing-long))
+  amounts-length = standing-in-length (rated rates) (part from to ss) (part from to areas) (areas-many s ∙ sym (sales-many s)) ∙ sales-many s
 
   -- the amount of the sale at a place
   pub amount-at : (i : ℕ) → from ≤ i → i < to → getD (amountsIn rates (part from to ss) (part from to areas)) (i - from) 0 ≡ cond (rated rates (getD areas i 0)) (getD ss i 0) 0
   amount-at i h k =
-      let n = part-length ss from to (omega (arith, s .inside, s .standing-long)) in
-      standing-in-at (rated rates) (part from to ss) (part from to areas) (i - from) (omega arith) (omega (arith, parts-same))
+      standing-in-at (rated rates) (part from to ss) (part from to areas) (i - from) (omega (arith, sales-many s)) (omega (arith, areas-many s))
       ∙ rw (part-here ss from to i 0 h k, part-here areas from to i 0 h k)
-
-  -- a tier in range
-  pub tier-part : Rates rates → Tier (amountsIn rates (part from to ss) (part from to areas)) (ratesIn rates (part from to areas))
-  tier-part r = record {
-    tariffs-length = rates-length areas rates from to (areas-inside s) ∙ sym amounts-length;
-    few = omega (arith, amounts-length, s .inside);
-    standing-most = λ k. omega (arith, in-le (rated rates) (part from to ss) (part from to areas) parts-same k, part-most ss from to 100000 (s .standing-most) k);
-    tariff-most = λ k.
-        by-order k (length (part from to areas))
-        (λ l. omega (arith, read-at (rateIn rates) (part from to areas) k 0 0 l, r .most (getD (part from to areas) k 0)))
-        (λ l. omega (arith, List·getD-eq-default (ratesIn rates (part from to areas)) 0 {n = k} (omega (arith, length-map (part from to areas) (rateIn rates)))));
-  }

@@ -3,7 +3,6 @@ use mathlib.Core.List.{List}
 use Prim.Native.Nat.{ℕ, _<_, _^_}
 use Rattle.fields.proofs.Field.{field-lt}
 use Rattle.fields.specs.Field.{AllBytes}
-use Rattle.records.specs.Trade.{FitsTrade, tradeOf}
 use Rattle.records.specs.User.{FitsAmounts, FitsSigned, FitsUser, amountsAt, userOf}
 use Rattle.rules.specs.Signed.{signedOf}
 use Rattle.units.proofs.TwosComplement.{posPart-signedOf-lt, negPart-signedOf-le}
@@ -30,18 +29,4 @@ userOf-fits c b =
       charges = signed-fits 64 _ (field-lt 8 32 c b);
       assigned = field-lt 8 40 c b;
       blocked = field-lt 8 48 c b;
-    }
-
--- a trade that is read
-pub tradeOf-fits : (c : List ℕ) → AllBytes c → FitsTrade (tradeOf c)
-unfolding tradeOf
-tradeOf-fits c b =
-    record {
-      seller = field-lt 4 0 c b;
-      buyer = field-lt 4 4 c b;
-      area = field-lt 1 8 c b;
-      kind = field-lt 1 9 c b;
-      day = field-lt 1 10 c b;
-      notified = field-lt 4 12 c b;
-      standing = field-lt 4 16 c b;
     }

@@ -16,12 +16,12 @@ use Rattle.format.proofs.Round.{bytesOf-bookOf}
 use Rattle.format.proofs.Written.{all-bytes-bytesOf, formed-bytesOf, length-header}
 use Rattle.format.specs.Book.{bookOf, bytesOf, headerValues, headerWidths, pricesAt, tradeCount, tradesAt, tradesOf, userAt, userCount, usersOf, versionOf}
 use Rattle.format.specs.Questions.{Formed, bookNumber}
-use Rattle.held.proofs.Fits.{tradeOf-fits, userOf-fits}
+use Rattle.held.proofs.Fits.{userOf-fits}
 use Rattle.held.proofs.Parts.{record-at, records-before, records-part, records-set}
 use Rattle.held.specs.Held.{HeldAs, tradesReplaced}
 use Rattle.records.proofs.Trades.{length-tradeBytes}
 use Rattle.records.proofs.Users.{length-userBytes}
-use Rattle.records.specs.Trade.{FitsTrade, tradeBytes, tradeOf}
+use Rattle.records.specs.Trade.{tradeBytes, tradeOf}
 use Rattle.records.specs.User.{FitsUser, userBytes, userOf}
 use Rattle.rules.specs.Book.{Book, Header, Trade, User}
 use Rattle.rules.specs.Changes.{withUsers}
@@ -101,9 +101,6 @@ module _ {b : Book} {s : List ℕ} (h : HeldAs b s) where
   -- both fit their bytes
   pub held-user-fits : (i : ℕ) (d : User) → i < length (b .users) → FitsUser (getD (b .users) i d)
   held-user-fits i d k = subst FitsUser (held-user i d k) (userOf-fits _ (all-bytes-part (32 + 56 * i) 56 s held-bytes))
-
-  pub held-trade-fits : (i : ℕ) (d : Trade) → i < length (b .trades) → FitsTrade (getD (b .trades) i d)
-  held-trade-fits i d k = subst FitsTrade (held-trade i d k) (tradeOf-fits _ (all-bytes-part (32 + 56 * length (b .users) + 20 * i) 20 s held-bytes))
 
   -- ---- what is set
 
@@ -226,9 +223,3 @@ module _ {b : Book} {s : List ℕ} (h : HeldAs b s) where
         let whole : tradeBytes r ≡ sets (tradeBytes x) 0 (tradeBytes r) = sym (sets-whole (tradeBytes r) (tradeBytes x) (length-tradeBytes x ∙ sym (length-tradeBytes r))) in
         held-changed (tradesReplaced b (set (b .trades) i r)) with-trade trade-front refl refl (length-set (b .trades) i r)
         (trade-bytes i 0 (32 + 56 * length (b .users) + 20 * i) r r (tradeBytes r) k (omega arith) (omega (arith, length-tradeBytes r)) whole) trade-users trade-trades
-
-    -- a part of one trade's bytes is set
-    pub held-trade-part : (j a : ℕ) (d : Trade) (vs : List ℕ) → a ≡ 32 + 56 * length (b .users) + 20 * i + j → j + length vs ≤ 20 → tradeBytes r ≡ sets (tradeBytes (getD (b .trades) i d)) j vs
-        → HeldAs (tradesReplaced b (set (b .trades) i r)) (sets s a vs)
-    held-trade-part j a d vs at l e =
-        subst (HeldAs (tradesReplaced b (set (b .trades) i r))) (held-trade-set .bytes ∙ sym (trade-bytes i j a r d vs k at l e)) held-trade-set

@@ -1,19 +1,19 @@
 -- What is read of a user of a book is what the rules say of it: level, flag, called in and state. Assumes nothing.
 use mathlib.Core.Bool.{Bool, true, false, cond, _&&_, _||_}
-use mathlib.Core.List.{List, []}
-use mathlib.Core.Path.{_≡_, refl, sym, ap, ap₂, subst, _∙_}
-use Prim.Native.Nat.{ℕ, _+_, _*_, _-_, _<_}
+use mathlib.Core.List.{List}
+use mathlib.Core.Path.{_≡_, refl, ap, ap₂, _∙_}
+use Prim.Native.Nat.{ℕ, _+_, _*_, _<_}
 use native.Mathlib.Omega.{arith}
-use lib.Dec.{T, leb, ltb}
+use lib.Dec.{leb, ltb}
 use lib.ListN.{length, getD}
 use Rattle.dealings.specs.Parties.{cutBefore, isCut}
 use Rattle.positions.specs.Twelve.{TwelveOf}
 use Rattle.rules.specs.Book.{Book, User, nobody}
-use Rattle.rules.specs.Day.{State, call, callDue, clear, quiet, short, state}
+use Rattle.rules.specs.Day.{call, callDue, clear, quiet, short, state}
 use Rattle.rules.specs.Levels.{Limits, afternoonLevel, buys, calledIn, exceedsMargin, exposure, flagged, holding, partyTo, sells, shipper, shortOfCover}
-use Rattle.sales.proofs.Cover.{exposure-next, flagged-next, level-next}
+use Rattle.sales.proofs.Cover.{flagged-next, level-next}
 use Rattle.sales.specs.Cover.{AllNext, flaggedFrom, levelFrom}
-use Rattle.risk_user.specs.Account.{PositionsOf, flaggedAt, heldAt, levelAt, targetOf}
+use Rattle.risk_user.specs.Account.{PositionsOf, flaggedAt, heldAt, levelAt}
 use Rattle.risk_user.specs.States.{stateBy}
 
 module _ (b : Book) {sums ps : List ℕ} (w : TwelveOf (b .users) (b .trades) sums) (p : PositionsOf (b .users) ps) (i : ℕ) (k : i < length (b .users)) where

@@ -1,22 +1,18 @@
 -- The state of a user by its level and by whether it is called in, case by case. Assumes nothing.
 use mathlib.Core.Bool.{Bool, true, false, cond, _&&_}
-use mathlib.Core.Path.{_≡_, refl, sym, subst, _∙_}
+use mathlib.Core.Path.{_≡_, refl, sym, _∙_}
 use Prim.Native.Nat.{ℕ, _-_, _<_, _≤_}
 use native.Mathlib.Omega.{arith}
-use lib.Dec.{T, eqb, leb, ltb}
+use lib.Dec.{leb, ltb}
 use borrow.Author.Tests.{eq-eqb, ne-eqb, lt-ltb, le-ltb, le-leb}
 use Rattle.integers.proofs.Linear.{by-order}
 use Rattle.rules.specs.Book.{User}
 use Rattle.rules.specs.Day.{clear, short, call, quiet}
 use Rattle.rules.specs.Levels.{Limits, exceedsMargin, shipper}
-use Rattle.sales.proofs.Kept.{by-case}
 use Rattle.risk_user.specs.Account.{targetOf}
 use Rattle.risk_user.specs.States.{stateBy}
 
 module _ (limits : Limits) (u : User) (level : ℕ) where
-  abbrev beyond : Bool
-  beyond = exceedsMargin limits level u
-
   pub state-clear : {role : ℕ} (called : Bool) → role ≡ u .party .role → (role ≡ 0 → ⊥) → clear ≡ stateBy limits u level called
   unfolding stateBy shipper
   state-clear called e n = rw (ne-eqb (u .party .role) 0 (λ z. n (e ∙ z)))

@@ -1,12 +1,12 @@
 -- What stands of sales, copied, and what they have lost put in its place, one by one. Assumes nothing.
 use mathlib.Core.List.{List, [], _∷_, _++_}
-use mathlib.Core.Path.{_≡_, refl, sym, ap, subst, _∙_}
+use mathlib.Core.Path.{_≡_, refl, sym, ap, _∙_}
 use Prim.Native.Nat.{ℕ, _+_, _-_, _≤_, _<_}
 use native.Mathlib.Numerals.{add-one}
 use native.Mathlib.Omega.{arith}
 use lib.ListN.{length, take, getD, set, length-set}
-use lib.Seq.{getD-set-same, getD-set-other, take-suc, take-suc-set}
-use Rattle.integers.proofs.Linear.{by-order}
+use lib.Seq.{getD-set-other, take-suc, take-suc-set}
+use Rattle.sales.proofs.Stores.{set-front}
 use Rattle.run_book.specs.Books.{LeftOf, LostOf}
 
 -- ---- copied
@@ -48,14 +48,9 @@ module _ {ns ms : List ℕ} {count : ℕ} (q : LeftOf ns ms count) where
     pub lost-more : i < count → LostTo ns ms (set cs i (getD ns i 0 - getD cs i 0)) (i + 1)
     lost-more h =
         let v = getD ns i 0 - getD cs i 0 in
-        let here : getD ms i 0 + getD (set cs i v) i 0 ≡ getD ns i 0
-        = omega (arith, getD-set-same cs i v 0 (omega (arith, p .room, q .few)), p .rest i (omega arith), q .most i h) in
         record {
           room = length-set cs i v ∙ p .room;
-          each = λ k l.
-              by-order k i
-              (λ m. omega (arith, getD-set-other cs i k v 0 (λ z. omega arith), p .each k m))
-              (λ m. let z : i ≡ k = omega arith in subst (λ (j : ℕ). getD ms j 0 + getD (set cs i v) j 0 ≡ getD ns j 0) z here);
+          each = set-front (λ k x. getD ms k 0 + x ≡ getD ns k 0) cs i v 0 (omega (arith, p .room, q .few)) (omega (arith, p .rest i (omega arith), q .most i h)) (p .each);
           rest = λ k l. getD-set-other cs i k v 0 (λ z. omega arith) ∙ p .rest k (omega arith);
         }
 

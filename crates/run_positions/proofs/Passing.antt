@@ -1,17 +1,15 @@
 -- A seller's sales, passed one by one: positions moved by the cuts of those passed. Assumes nothing.
 use mathlib.Core.List.{List, _∷_}
-use mathlib.Core.Path.{_≡_, refl, sym, ap, ap₂, subst, _∙_}
+use mathlib.Core.Path.{_≡_, refl, sym, ap, ap₂, _∙_}
 use Prim.Native.Nat.{ℕ, _+_, _*_, _-_, _≤_, _<_, _^_}
 use native.Mathlib.Omega.{arith}
-use lib.Dec.{T, eqb, eqb→eq}
 use lib.ListN.{length, getD, set}
-use lib.Seq.{getD-set-same, getD-set-other, set-getD, set-out}
-use borrow.Author.Tests.{eq-eqb}
+use lib.Seq.{set-getD, set-out}
 use Rattle.integers.proofs.Linear.{by-order}
 use Rattle.run_positions.specs.Moving.{Movable}
 use Rattle.run_state.proofs.Moves.{one-length}
 use Rattle.run_state.specs.Asked.{movedAll, movedOne}
-use Rattle.sales.proofs.Kept.{by-case, holds}
+use Rattle.sales.proofs.Stores.{set-each}
 use Rattle.sales.proofs.Parts.{part-first, part-none}
 use Rattle.sales.specs.Parts.{part}
 
@@ -21,10 +19,7 @@ use Rattle.sales.specs.Parts.{part}
 stored-near : (ps : List ℕ) (k v c j : ℕ) → v ≤ getD ps k 0 + c → getD ps k 0 ≤ v + c → (getD (set ps k v) j 0 ≤ getD ps j 0 + c) × (getD ps j 0 ≤ getD (set ps k v) j 0 + c)
 stored-near ps k v c j h l =
     by-order k (length ps)
-    (λ m. by-case (eqb j k)
-    (λ e. let z : k ≡ j = sym (eqb→eq j k (holds e)) in
-    subst (λ (i : ℕ). (getD (set ps k v) i 0 ≤ getD ps i 0 + c) × (getD ps i 0 ≤ getD (set ps k v) i 0 + c)) z (let s = getD-set-same ps k v 0 m in (omega (arith, s), omega (arith, s))))
-    (λ e. let s = getD-set-other ps k j v 0 (λ z. absurd (subst T (sym (eq-eqb j k z) ∙ e) tt)) in (omega (arith, s), omega (arith, s))))
+    (λ m. set-each (λ i x. (x ≤ getD ps i 0 + c) × (getD ps i 0 ≤ x + c)) ps k v 0 m (h, l) (λ i n. (omega arith, omega arith)) j)
     (λ m. let s = ap (λ (xs : List ℕ). getD xs j 0) (set-out ps k v m) in (omega (arith, s), omega (arith, s)))
 
 -- a cut of nothing moves nobody

@@ -2,7 +2,6 @@
 use mathlib.Core.List.{List}
 use mathlib.Core.Path.{_≡_, _∙_}
 use Prim.Native.Nat.{ℕ}
-use native.Mathlib.Omega.{arith}
 use lib.ListN.{length, take}
 use Rattle.cut_lists.specs.Sales.{BookIn}
 use Rattle.format.specs.Book.{bookOf, tradeCount, userCount, usersOf}

@@ -1,15 +1,15 @@
 -- Positions in an array while own sales are cut one after the other: they are those of the settled users. Assumes nothing.
-use mathlib.Core.Bool.{false, cond}
+use mathlib.Core.Bool.{cond}
 use mathlib.Core.List.{List, [], _∷_, map}
 use mathlib.Core.Path.{_≡_, refl, sym, ap, ap₂, subst, _∙_}
 use Prim.Native.Nat.{ℕ, zero, suc, _+_, _*_, _-_, _≤_, _<_}
 use native.Mathlib.Nat.{not-suc-le-zero, le-of-suc-le-suc}
 use native.Mathlib.Omega.{arith}
-use lib.Dec.{T, eqb, eqb→eq}
+use lib.Dec.{eqb}
 use lib.IntN.{ℤ, pos, negℤ, _+ℤ_, +ℤ-idr}
 use lib.ListN.{length, take, getD, set, length-map, length-set}
 use lib.Seq.{getD-set-same, getD-set-other, set-out, take-all}
-use borrow.Author.Tests.{eq-eqb}
+use borrow.Author.Tests.{eqb-true, eqb-false}
 use Rattle.format.specs.Steps.{placeOf}
 use Rattle.integers.proofs.Linear.{by-order, negPart-neg, negPart-pos, parts-add, posPart-neg, posPart-pos}
 use Rattle.integers.specs.Parts.{negPart}
@@ -18,11 +18,12 @@ use Rattle.laws.specs.Sound.{Sound}
 use Rattle.rules.specs.Book.{at, Book, Trade, User, nobody}
 use Rattle.rules.specs.Calls.{reducedBy}
 use Rattle.rules.specs.Changes.{moved}
+use Rattle.sales.proofs.Stores.{set-each}
 use Rattle.run_state.proofs.Reduced.{place-id, place-inside}
 use Rattle.run_state.specs.Asked.{movedOne, movedAll}
 use Rattle.risk_user.specs.Account.{positionIn, PositionsOf}
 use Rattle.sales.proofs.FirstCuts.{first-all, first-bound, first-length, first-next, first-none, own-cut-le, own-cuts-length}
-use Rattle.sales.proofs.Kept.{by-case, holds}
+use Rattle.sales.proofs.Kept.{by-case}
 use Rattle.sales.proofs.Numbers.{read-at}
 use Rattle.sales.proofs.Own.{own-sales}
 use Rattle.sales.proofs.Reduced.{sales-reduced}
@@ -54,29 +55,20 @@ net-lowered n c h =
 pub raised-le : (ps : List ℕ) (k c j : ℕ) → getD ps j 0 ≤ getD (set ps k (getD ps k 0 + c)) j 0
 raised-le ps k c j =
     by-order k (length ps)
-    (λ h. by-case (eqb j k)
-    (λ e. let z : j ≡ k = eqb→eq j k (holds e) in
-    subst (λ (i : ℕ). getD ps i 0 ≤ getD (set ps k (getD ps k 0 + c)) i 0) (sym z) (omega (arith, getD-set-same ps k (getD ps k 0 + c) 0 h)))
-    (λ e. omega (arith, getD-set-other ps k j (getD ps k 0 + c) 0 (λ z. absurd (subst T (sym (eq-eqb j k z) ∙ e) tt)))))
+    (λ h. set-each (λ i n. getD ps i 0 ≤ n) ps k (getD ps k 0 + c) 0 h (omega arith) (λ i n. omega arith) j)
     (λ h. omega (arith, ap (λ (xs : List ℕ). getD xs j 0) (set-out ps k (getD ps k 0 + c) h)))
 
 module _ (us : List User) (ps : List ℕ) (i area : ℕ) (z : ℤ) (n : ℕ) (l : i < length us) (a : area < 3) (room : 3 * length us ≤ length ps) (p : PositionsOf us ps)
     (e : net (record { 0 = n }) ≡ positionIn ps i area +ℤ z) where
-  abbrev risen : List User
-  risen = set us i (moved area z (getD us i nobody))
-
   -- the user at the place, in the area and in another
   moved-here : (c : ℕ) → c < 3 → positionIn (set ps (3 * i + area) n) i c ≡ at (getD us i nobody .position) c +ℤ cond (eqb area c) z (pos 0)
   moved-here c h =
       by-case (eqb area c)
-      (λ y. let w : area ≡ c = eqb→eq area c (holds y) in
-      rw y (subst (λ (m : ℕ). positionIn (set ps (3 * i + area) n) i m ≡ at (getD us i nobody .position) m +ℤ z) w
+      (λ y.
+      rw y (subst (λ (m : ℕ). positionIn (set ps (3 * i + area) n) i m ≡ at (getD us i nobody .position) m +ℤ z) (eqb-true area c y)
       (ap (λ (m : ℕ). net (record { 0 = m })) (getD-set-same ps (3 * i + area) n 0 (omega arith)) ∙ e ∙ ap (λ (x : ℤ). x +ℤ z) (p .each i area l a))))
       (λ y. rw y
-      (ap (λ (m : ℕ). net (record { 0 = m })) (getD-set-other ps (3 * i + area) (3 * i + c) n 0 (λ w. other y (omega (arith, w)))) ∙ p .each i c l h ∙ sym (+ℤ-idr (at (getD us i nobody .position) c))))
-    where
-      other : eqb area c ≡ false → area ≡ c → ⊥
-      other y w = absurd (subst T (sym (eq-eqb area c w) ∙ y) tt)
+      (ap (λ (m : ℕ). net (record { 0 = m })) (getD-set-other ps (3 * i + area) (3 * i + c) n 0 (λ w. eqb-false area c y (omega (arith, w)))) ∙ p .each i c l h ∙ sym (+ℤ-idr (at (getD us i nobody .position) c))))
 
   -- the user at a place is moved in an area
   pub position-moved : PositionsOf (set us i (moved area z (getD us i nobody))) (set ps (3 * i + area) n)
@@ -84,15 +76,10 @@ module _ (us : List User) (ps : List ℕ) (i area : ℕ) (z : ℤ) (n : ℕ) (l 
   position-moved =
       record {
         each = λ j c h k.
-            by-case (eqb j i)
-            (λ y. let w : i ≡ j = sym (eqb→eq j i (holds y)) in
-            subst (λ (m : ℕ). positionIn (set ps (3 * i + area) n) m c ≡ at (getD risen m nobody .position) c) w
-            (moved-here c k ∙ sym (at-add (getD us i nobody .position) area z c a k) ∙ ap (λ (u : User). at (u .position) c) (sym (getD-set-same us i (moved area z (getD us i nobody)) nobody l))))
-            (λ y.
-            let apart : j ≡ i → ⊥ = λ w. absurd (subst T (sym (eq-eqb j i w) ∙ y) tt) in
-            let m : j < length us = omega (arith, length-set us i (moved area z (getD us i nobody))) in
-            ap (λ (x : ℕ). net (record { 0 = x })) (getD-set-other ps (3 * i + area) (3 * j + c) n 0 (λ w. apart (omega (arith, w, k, a)))) ∙ p .each j c m k
-            ∙ ap (λ (u : User). at (u .position) c) (sym (getD-set-other us i j (moved area z (getD us i nobody)) nobody apart)));
+            set-each (λ m u. m < length us → positionIn (set ps (3 * i + area) n) m c ≡ at (u .position) c) us i (moved area z (getD us i nobody)) nobody l
+            (λ m. moved-here c k ∙ sym (at-add (getD us i nobody .position) area z c a k))
+            (λ m apart x. ap (λ (y : ℕ). net (record { 0 = y })) (getD-set-other ps (3 * i + area) (3 * m + c) n 0 (λ w. apart (omega (arith, w, k, a)))) ∙ p .each m c x k)
+            j (omega (arith, length-set us i (moved area z (getD us i nobody))));
       }
 
 -- ---- one cut

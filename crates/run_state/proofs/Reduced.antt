@@ -88,6 +88,13 @@ or-true : (x : Bool) → (x || true) ≡ true
 or-true true = refl
 or-true false = refl
 
+-- of two tests, the second first
+pub cond-and : (x y : Bool) (n : ℕ) → cond (x && y) n 0 ≡ cond y (cond x n 0) 0
+cond-and true true n = refl
+cond-and true false n = refl
+cond-and false true n = refl
+cond-and false false n = refl
+
 -- ---- the reduction
 
 module _ (limits : Limits) (b : Book) (sound : Sound b) (place : ℕ) (k : place < length (b .users)) where
@@ -165,13 +172,7 @@ module _ (limits : Limits) (b : Book) (sound : Sound b) (place : ℕ) (k : place
       let short : shortOfCover limits after v ≡ shortFrom limits (after .header .prices) v (holding after v) true
       = short-from limits after v ∙ ap (shortFrom limits (after .header .prices) v (holding after v)) cut in
       ap (λ (x : Bool). cond (x && hasEligible after v) (target limits after v) 0) short
-      ∙ both (shortFrom limits (after .header .prices) v (holding after v) true) (hasEligible after v) (target limits after v)
-    where
-      both : (x y : Bool) (n : ℕ) → cond (x && y) n 0 ≡ cond y (cond x n 0) 0
-      both true true n = refl
-      both true false n = refl
-      both false true n = refl
-      both false false n = refl
+      ∙ cond-and (shortFrom limits (after .header .prices) v (holding after v) true) (hasEligible after v) (target limits after v)
 
   -- what a user holds, as the afternoon reads it, where its record is as before
   held-kept : (u : User) → AllNext (holding b u) (holding after u)

@@ -5,10 +5,8 @@ use mathlib.Core.List.{List, map}
 use mathlib.Core.Path.{_≡_, refl, sym, ap, ap₂, subst, _∙_}
 use Prim.Native.Nat.{ℕ, suc, _≤_, _<_}
 use native.Mathlib.Omega.{arith}
-use lib.Dec.{T, eqb, ltb, eqb→eq}
+use lib.Dec.{T, ltb}
 use lib.ListN.{length, getD, set, length-set}
-use lib.Seq.{getD-set-same, getD-set-other}
-use borrow.Author.Tests.{eq-eqb}
 use Rattle.format.specs.Steps.{placeOf}
 use Rattle.integers.proofs.Linear.{by-order}
 use Rattle.laws.specs.Sound.{Sound}
@@ -25,6 +23,7 @@ use Rattle.rules.specs.Questions.{tradeValid}
 use Rattle.rules.specs.Reduction.{hasEligible, target, withTrades}
 use Rattle.run_state.proofs.Moves.{all-moved, moved-length}
 use Rattle.run_state.proofs.Own.{own-areas, own-buyers}
+use Rattle.sales.proofs.Stores.{here-or-apart, set-each}
 use Rattle.run_state.proofs.Reduced.{apart, asked-other, asked-own, eligible-left, eligible-own, law, member-stays, members-stay}
 use Rattle.run_state.proofs.Stays.{Stays, stays, target-is, users-many}
 use Rattle.run_state.specs.Asked.{memberAt, LookedAgain, movedAll, touched}
@@ -32,7 +31,6 @@ use Rattle.risk_user.specs.Account.{PositionsOf, targetAt}
 use Rattle.positions.specs.Twelve.{TwelveOf}
 use Rattle.run_state.specs.Going.{Going, OwedOf, SalesIn, StandingIn, owed, owedCalled}
 use Rattle.sales.proofs.Again.{retraded-again}
-use Rattle.sales.proofs.Kept.{by-case, holds}
 use Rattle.sales.proofs.Listed.{starts-rise}
 use Rattle.sales.proofs.Numbers.{standing-cut}
 use Rattle.sales.proofs.Parts.{Around, part-before, part-behind}
@@ -126,13 +124,10 @@ module _ {limits : Limits} {o b : Book} {ns ps ts : List ℕ} {es : List Bool} (
           each = λ i l.
               let m : i < length (b .users) = omega (arith, same-members) in
               let party : memberAt after i .party .id ≡ memberAt b i .party .id = ap (λ (p : Party). p .id) (member-stays limits b (h .sound) place k i) in
-              by-case (eqb i place)
-              (λ e. let z : place ≡ i = sym (eqb→eq i place (holds e)) in
-              subst (λ (j : ℕ). part (starts o j) (starts o (suc j)) ms ≡ standings (after .trades) (memberAt b j .party .id)) z standing-own ∙ ap (standings (after .trades)) (sym party))
-              (λ e. let n : i ≡ place → ⊥ = λ z. absurd (subst T (sym (eq-eqb i place z) ∙ e) tt) in
-              standing-other i m n ∙ h .standing .each i m
-              ∙ ap (map (λ (t : Trade). t .standing)) (sym (law limits b (h .sound) place k .other (memberAt b i .party .id) (apart limits b (h .sound) place k i m n)))
-              ∙ ap (standings (after .trades)) (sym party));
+              here-or-apart (λ (j : ℕ). part (starts o j) (starts o (suc j)) ms ≡ standings (after .trades) (memberAt b j .party .id)) place i standing-own
+              (λ n. standing-other i m n ∙ h .standing .each i m
+              ∙ ap (map (λ (t : Trade). t .standing)) (sym (law limits b (h .sound) place k .other (memberAt b i .party .id) (apart limits b (h .sound) place k i m n))))
+              ∙ ap (standings (after .trades)) (sym party);
         }
 
     -- ---- who is due
@@ -174,23 +169,13 @@ module _ {limits : Limits} {o b : Book} {ns ps ts : List ℕ} {es : List Bool} (
         owed-after =
             record {
               target-at = λ j l.
-                  let m : j < length (b .users) = omega (arith, same-members) in
-                  at-place j (λ (n : ℕ). getD (set mid place (cond left (now place) 0)) n 0 ≡ owed limits after (memberAt after n))
-                  (getD-set-same mid place (cond left (now place) 0) 0 (omega (arith, look .room))
-                  ∙ ap₂ (λ (x : Bool) (n : ℕ). cond x n 0) left-is (now-is place k) ∙ sym (asked-own limits b (h .sound) place k is-due))
-                  (λ n. getD-set-other mid place j (cond left (now place) 0) 0 n ∙ target-other j m n);
+                  set-each (λ m x. m < length (b .users) → x ≡ owed limits after (memberAt after m)) mid place (cond left (now place) 0) 0 (omega (arith, look .room))
+                  (λ m. ap₂ (λ (x : Bool) (n : ℕ). cond x n 0) left-is (now-is place k) ∙ sym (asked-own limits b (h .sound) place k is-due))
+                  (λ m n x. target-other m x n) j (omega (arith, same-members));
               open-at = λ j l.
-                  let m : j < length (b .users) = omega (arith, same-members) in
-                  at-place j (λ (n : ℕ). getD (set es place left) n false ≡ hasEligible after (memberAt after n))
-                  (getD-set-same es place left false (omega (arith, h .rooms .eligible)) ∙ left-is)
-                  (λ n. getD-set-other es place j left false n ∙ h .owed .open-at j m ∙ sym (eligible-left limits b (h .sound) place k j m n));
+                  set-each (λ m x. m < length (b .users) → x ≡ hasEligible after (memberAt after m)) es place left false (omega (arith, h .rooms .eligible)) (λ m. left-is)
+                  (λ m n x. h .owed .open-at m x ∙ sym (eligible-left limits b (h .sound) place k m x n)) j (omega (arith, same-members));
             }
-          where
-            at-place : (j : ℕ) (P : ℕ → Type 0) → P place → ((j ≡ place → ⊥) → P j) → P j
-            at-place j P x y =
-                by-case (eqb j place)
-                (λ e. subst P (sym (eqb→eq j place (holds e))) x)
-                (λ e. y (λ z. absurd (subst T (sym (eq-eqb j place z) ∙ e) tt)))
 
         -- the run goes on with the rules' book
         pub turn-going : Going limits o (reduced limits b (getD (b .users) place nobody) .book) ms qs (set mid place (cond left (targetAt limits (o .header .prices) (o .users) sums qs place) 0)) (set es place left)

@@ -2,22 +2,22 @@
 use mathlib.Core.Bool.{Bool, true, false, cond, not, _&&_, _||_}
 use mathlib.Core.List.{List}
 use mathlib.Core.Path.{_≡_, refl, sym, ap, ap₂, subst, _∙_}
-use Prim.Native.Nat.{ℕ, suc, _+_, _-_, _≤_, _<_}
+use Prim.Native.Nat.{ℕ, suc, _+_, _≤_, _<_}
 use native.Mathlib.Numerals.{add-one}
 use native.Mathlib.Omega.{arith}
 use lib.Dec.{T, ltb}
 use lib.ListN.{length, getD, set, length-set}
-use lib.Seq.{getD-set-same, getD-set-other}
 use Rattle.dealings.specs.Parties.{cutBefore}
 use Rattle.format.proofs.Passed.{length-usersOf}
 use Rattle.format.specs.Book.{bookOf, usersOf}
-use Rattle.integers.proofs.Linear.{by-order}
 use Rattle.rules.specs.Areas.{Prices}
 use Rattle.rules.specs.Book.{Book, User}
 use Rattle.rules.specs.Levels.{Limits, Holding, holding, shipper, exceedsMargin}
 use Rattle.rules.specs.Lists.{any}
 use Rattle.rules.specs.Reduction.{hasEligible, target}
 use Rattle.sales.proofs.Listed.{starts-rise}
+use Rattle.sales.proofs.Stores.{set-front}
+use Rattle.run_state.proofs.Reduced.{cond-and}
 use Rattle.run_state.proofs.Stays.{flagged-is, stays-first, target-is}
 use Rattle.run_state.specs.Asked.{memberAt}
 use Rattle.risk_user.specs.Account.{flaggedAt, targetAt}
@@ -60,25 +60,17 @@ owed-cut false left t = refl
 called-in : (limits : Limits) (f : Prices) (u : User) (h : ℕ → Holding) (cut e : Bool) (t : ℕ)
     → cond e (cond (flaggedFrom limits f u h || cut) (cond (shortFrom limits f u h true) t 0) 0) 0 ≡ cond (shortFrom limits f u h cut && e) t 0
 unfolding shortFrom
-called-in limits f u h cut e t = go (shipper u) (flaggedFrom limits f u h) cut (exceedsMargin limits (levelFrom limits f u h) u && ltb (u .party .assigned) (levelFrom limits f u h)) e
+called-in limits f u h cut e t =
+    let r = exceedsMargin limits (levelFrom limits f u h) u && ltb (u .party .assigned) (levelFrom limits f u h) in
+    ap (λ (n : ℕ). cond e n 0) (go (shipper u) (flaggedFrom limits f u h) cut r) ∙ sym (cond-and (shortFrom limits f u h cut) e t)
   where
-    go : (a g c r e : Bool) → cond e (cond (g || c) (cond ((a && (g || true)) && r) t 0) 0) 0 ≡ cond (((a && (g || c)) && r) && e) t 0
-    go true true c true true = refl
-    go true true c true false = refl
-    go true true c false true = refl
-    go true true c false false = refl
-    go true false true true true = refl
-    go true false true true false = refl
-    go true false true false true = refl
-    go true false true false false = refl
-    go true false false r true = refl
-    go true false false r false = refl
-    go false true c r true = refl
-    go false true c r false = refl
-    go false false true r true = refl
-    go false false true r false = refl
-    go false false false r true = refl
-    go false false false r false = refl
+    go : (a g c r : Bool) → cond (g || c) (cond ((a && (g || true)) && r) t 0) 0 ≡ cond ((a && (g || c)) && r) t 0
+    go true true c r = refl
+    go true false true r = refl
+    go true false false r = refl
+    go false true c r = refl
+    go false false true r = refl
+    go false false false r = refl
 
 module _ {f : Prices} {n : ℕ} {s sums ps ss ns : List ℕ} {flags : List Bool} (p : Opening f n s sums ps ss ns flags) where
   -- the users are n, at most 64
@@ -148,14 +140,8 @@ module _ (limits : Limits) (b : Book) where
       record {
         targets-room = length-set ts i t ∙ p .targets-room;
         eligible-room = length-set es i e ∙ p .eligible-room;
-        target-at = λ j k.
-            by-order j i (λ m. getD-set-other ts i j t 0 (λ z. omega arith) ∙ p .target-at j m)
-            (λ m. let z : i ≡ j = omega arith in
-            subst (λ (r : ℕ). getD (set ts i t) r 0 ≡ owed limits b (memberAt b r)) z (getD-set-same ts i t 0 (omega (arith, p .targets-room)) ∙ x));
-        open-at = λ j k.
-            by-order j i (λ m. getD-set-other es i j e false (λ z. omega arith) ∙ p .open-at j m)
-            (λ m. let z : i ≡ j = omega arith in
-            subst (λ (r : ℕ). getD (set es i e) r false ≡ hasEligible b (memberAt b r)) z (getD-set-same es i e false (omega (arith, p .eligible-room)) ∙ y));
+        target-at = set-front (λ j n. n ≡ owed limits b (memberAt b j)) ts i t 0 (omega (arith, p .targets-room)) x (p .target-at);
+        open-at = set-front (λ j c. c ≡ hasEligible b (memberAt b j)) es i e false (omega (arith, p .eligible-room)) y (p .open-at);
       }
 
   pub filled-end : {i : ℕ} {ts : List ℕ} {es : List Bool} → length (b .users) ≤ i → FilledTo limits b i ts es → OwedOf limits b ts es × (length ts ≡ 64) × (length es ≡ 64)

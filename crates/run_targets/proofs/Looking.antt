@@ -1,16 +1,17 @@
 -- A part of the sales, passed one by one: whether one of them stands above 0, and the buyers of those that lost something, asked anew. Assumes nothing.
 use mathlib.Core.Bool.{Bool, true, false, cond, _&&_, _||_}
 use mathlib.Core.List.{List}
-use mathlib.Core.Path.{_≡_, refl, sym, ap, ap₂, subst, _∙_}
+use mathlib.Core.Path.{_≡_, refl, sym, ap, ap₂, _∙_}
 use Prim.Native.Nat.{ℕ, _+_, _≤_, _<_, min}
 use native.Mathlib.Omega.{arith}
-use lib.Dec.{T, eqb, ltb, eqb→eq}
+use lib.Dec.{eqb, ltb}
 use lib.ListN.{length, getD, set, length-set}
-use lib.Seq.{getD-set-same, getD-set-other}
-use borrow.Author.Tests.{eq-eqb, lt-ltb, le-ltb}
+use lib.Seq.{getD-set-other}
+use borrow.Author.Tests.{eq-eqb, ne-eqb, lt-ltb, le-ltb}
 use Rattle.rules.specs.Lists.{any}
+use Rattle.sales.proofs.Stores.{here-or-apart, set-each}
 use Rattle.run_state.specs.Asked.{LookedAgain, touched}
-use Rattle.sales.proofs.Kept.{by-case, holds}
+use Rattle.sales.proofs.Kept.{by-case}
 use Rattle.sales.proofs.Parts.{part-first, part-none}
 use Rattle.sales.specs.Parts.{part}
 
@@ -93,14 +94,12 @@ module _ (now : ℕ → ℕ) (es : List Bool) (from to : ℕ) (bs cs ts₀ : Lis
       told-at : (j : ℕ) → getD us j 0 ≡ cond (eqb b j && getD es j false) (now j) (getD ts j 0)
       told-at j =
           ap (λ (xs : List ℕ). getD xs j 0) told
-          ∙ by-case (eqb b j)
-          (λ y.
-          let z : b ≡ j = eqb→eq b j (holds y) in
-          ap (λ (m : ℕ). getD (cond (getD es m false) (set ts m (now m)) ts) j 0) z
-          ∙ by-case (getD es j false) (λ e. rw (y, e) (getD-set-same ts j (now j) 0 (omega (arith, p .room, l, z)))) (λ e. rw (y, e)))
-          (λ y.
-          let apart : j ≡ b → ⊥ = λ z. absurd (subst T (sym (eq-eqb b j (sym z)) ∙ y) tt) in
-          by-case (getD es b false) (λ e. rw (y, e) (getD-set-other ts b j (now b) 0 apart)) (λ e. rw (y, e)))
+          ∙ by-case (getD es b false)
+          (λ e. rw e
+          (set-each (λ m x. x ≡ cond (eqb b m && getD es m false) (now m) (getD ts m 0)) ts b (now b) 0 (omega (arith, p .room)) (rw (eq-eqb b b refl, e))
+          (λ m n. rw (ne-eqb b m (λ z. n (sym z)))) j))
+          (λ e. rw e
+          (here-or-apart (λ m. getD ts m 0 ≡ cond (eqb b m && getD es m false) (now m) (getD ts m 0)) b j (rw (eq-eqb b b refl, e)) (λ n. rw (ne-eqb b j (λ z. n (sym z))))))
 
       told-before : (j : ℕ) → j < n → getD us j 0 ≡ getD ts₀ j 0
       told-before j m =

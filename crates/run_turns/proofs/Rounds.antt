@@ -1,11 +1,11 @@
 -- A run, reduction after reduction: the array of cuts is cleared, the next place is searched, and what is left of the run, added to the totals so far, is the whole run. Assumes nothing.
 use mathlib.Core.Bool.{Bool}
 use mathlib.Core.List.{List}
-use mathlib.Core.Path.{_≡_, sym, ap, subst, _∙_}
+use mathlib.Core.Path.{_≡_, refl, sym, ap, subst, _∙_}
 use Prim.Native.Nat.{ℕ, _+_, _≤_, _<_}
 use native.Mathlib.Omega.{arith}
 use lib.ListN.{length, getD, set, replicate, length-set, length-replicate, getD-replicate, List·getD-eq-default}
-use lib.Seq.{getD-set-same, getD-set-other}
+use lib.Seq.{getD-set-other}
 use Rattle.cut_worth.specs.Tallies.{asTally}
 use Rattle.cut_worth.specs.Totals.{Within, totals}
 use Rattle.cut_worth.specs.declared.Tally.{Tally}
@@ -18,6 +18,7 @@ use Rattle.rules.specs.Book.{Book}
 use Rattle.rules.specs.Calls.{Answer, nextReduced, ofRun, reduced}
 use Rattle.rules.specs.Levels.{Limits}
 use Rattle.run_state.proofs.Left.{Left, left-end, left-more, left-start, left-turn, next-here, next-nobody, tally-within}
+use Rattle.sales.proofs.Stores.{set-front}
 use Rattle.run_state.proofs.Stays.{stays, users-many}
 use Rattle.run_state.specs.Asked.{memberAt}
 use Rattle.run_state.specs.Going.{Going, StandingIn}
@@ -43,9 +44,7 @@ module _ {from to : ℕ} where
       record {
         above = omega (arith, p .above);
         room = length-set cs i 0 ∙ p .room;
-        before = λ k l.
-            by-order k i (λ m. getD-set-other cs i k 0 0 (λ z. omega arith) ∙ p .before k m)
-            (λ m. let z : i ≡ k = omega arith in subst (λ (j : ℕ). getD (set cs i 0) j 0 ≡ 0) z (getD-set-same cs i 0 0 (omega (arith, p .room))));
+        before = set-front (λ k x. x ≡ 0) cs i 0 0 (omega (arith, p .room)) refl (p .before);
         behind = λ k l. getD-set-other cs i k 0 0 (λ z. omega arith) ∙ p .behind k l;
       }
 

@@ -5,7 +5,7 @@ use risk_user::Day;
 use units::Cents;
 use units::Prices;
 ghost use mathlib.Core.Path.{_≡_};
-ghost use Prim.Native.Nat.{_+_, _-_, _≤_, _<_};
+ghost use Prim.Native.Nat.{_+_, _≤_, _<_};
 ghost use lib.ListN.{getD, length};
 ghost use Rattle.format.specs.Book.{bookOf, userCount};
 ghost use Rattle.levels.specs.Limits.{asLimits};

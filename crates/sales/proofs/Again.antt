@@ -1,6 +1,6 @@
 -- Trades that stand anew twice, one after the other: the book is the one of the last trades. Assumes nothing.
 use mathlib.Core.List.{List, map-map}
-use mathlib.Core.Path.{_≡_, refl, sym, ap, _∙_}
+use mathlib.Core.Path.{_≡_, sym, ap, _∙_}
 use lib.Dec.{T}
 use Rattle.laws.proofs.Settle.{retraded-anew, retraded-sound}
 use Rattle.laws.specs.Sound.{Sound}
@@ -16,10 +16,6 @@ use Rattle.rules.specs.Reduction.{withTrades}
 anew-again : (b : Book) (ns ms : List Trade) → anew (anew b ns) ms ≡ anew b ms
 unfolding anew repositioned definedPosition
 anew-again b ns ms = ap (λ (us : List User). record { header = b .header; users = us; trades = ms }) (map-map (repositioned ms) (repositioned ns) (b .users))
-
-trades-are : (b : Book) (ns : List Trade) → withTrades b ns .trades ≡ ns
-unfolding withTrades
-trades-are b ns = refl
 
 pub retraded-again : (b : Book) (ns ms : List Trade) → Sound b → Pairwise Framed (b .trades) ns → T (all (tradeValid (b .users)) ns)
     → Pairwise Framed ns ms → withTrades (withTrades b ns) ms ≡ withTrades b ms

@@ -2,6 +2,8 @@
 pub mod Parts
 -- of the elements that pass a test
 pub mod Kept
+-- what is stored at a place of a list
+pub mod Stores
 -- the trades of a tier by their numbers
 pub mod Lots
 pub mod Ranges

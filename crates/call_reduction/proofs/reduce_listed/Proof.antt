@@ -17,28 +17,10 @@ users-are : (c : tie.After-get-u8) → c .get-u8 .result ≡ userCount (now (c .
 unfolding userCount
 users-are c = c .get-u8 .ensures
 
-mul-from : tie.Need-mul-from
-mul-from c = search needs
-
-element-copy-out-from : tie.Need-element-copy-out-from
-element-copy-out-from c = search needs
-
-add-to : tie.Need-add-to
-add-to c = search needs
-
-mul-to : tie.Need-mul-to
-mul-to c = search needs
-
-element-copy-out-to : tie.Need-element-copy-out-to
-element-copy-out-to c = search needs
-
 any-left-requires : tie.Need-any-left-requires
 any-left-requires c κs =
     let s = c .before .before .before .before in
     (part-few (user-run (s .pre .0) (s .pre .1)) (s .pre .0 .inside), s .pre .1 .room .standing-room)
-
-refused-requires : tie.Need-refused-requires
-refused-requires c κs = search needs
 
 returns : tie.Need-returns
 returns c =
@@ -57,19 +39,10 @@ reduce-requires c κs =
 get-u8-requires : tie.Need-get-u8-requires
 get-u8-requires c κs = omega (arith, c .before .before .before .before .before .before .before .before .before .before .before .before .pre .0 .book .book .held .form .head)
 
-cast-n : tie.Need-cast-n
-cast-n c = search needs
-
 apply-requires : tie.Need-apply-requires
 apply-requires c κs =
     let s = c .before .before .before .before .before .before .before .before .before .before .before .before .before .before .before in
     (run-counted (s .pre .0 .book) (users-are (c .before .before)) refl, own-cuttable (s .pre .0) (s .pre .1) (s .args .asked .0) _ _ (c .before .before .before .before .reduce .ensures .0) refl)
-
-of-cuts-requires : tie.Need-of-cuts-requires
-of-cuts-requires c κs = search needs
-
-same-length : tie.Need-same-length
-same-length c = search needs
 
 returns-2 : tie.Need-returns-2
 returns-2 c =
@@ -81,19 +54,5 @@ returns-2 c =
 pub reduce-listed-spec : {M : Type 1} → statement M
 reduce-listed-spec =
     tie.close
-    (tie.spec
-    mul-from
-    element-copy-out-from
-    add-to
-    mul-to
-    element-copy-out-to
-    any-left-requires
-    refused-requires
-    returns
-    reduce-requires
-    get-u8-requires
-    cast-n
-    apply-requires
-    of-cuts-requires
-    same-length
-    returns-2)
+    (tie.spec (λ c. search needs) (λ c. search needs) (λ c. search needs) (λ c. search needs) (λ c. search needs) any-left-requires (λ c κs. search needs)
+    returns reduce-requires get-u8-requires (λ c. search needs) apply-requires (λ c κs. search needs) (λ c. search needs) returns-2)

@@ -1,6 +1,5 @@
 -- `reduce_sales`: the lists are those of the book. Assumes nothing.
 use mathlib.Core.Path.{_≡_, refl}
-use native.Mathlib.Omega.{arith}
 use borrow.Author.Needs.{needs}
 use denote.Ref.{now}
 use Rattle.format.specs.Book.{tradeCount, userCount}
@@ -18,18 +17,6 @@ trades-are : (c : tie.After-get-u16) → c .get-u16 .result ≡ tradeCount (now 
 unfolding tradeCount
 trades-are c = c .get-u16 .ensures
 
-get-u8-requires : tie.Need-get-u8-requires
-get-u8-requires c κs = omega (arith, c .before .before .pre .book .book .held .form .head)
-
-cast-n : tie.Need-cast-n
-cast-n c = search needs
-
-get-u16-requires : tie.Need-get-u16-requires
-get-u16-requires c κs = omega (arith, c .before .before .before .before .pre .book .book .held .form .head)
-
-cast-m : tie.Need-cast-m
-cast-m c = search needs
-
 fill-lists-requires : tie.Need-fill-lists-requires
 fill-lists-requires c κs =
     (run-counted (c .before .before .before .before .before .before .before .before .before .before .before .pre .book) (users-are (c .before .before .before .before .before .before .before .before)) (trades-are (c .before .before .before .before .before .before)), (refl, record { origins-room = refl; standing-room = refl; areas-room = refl; buyers-room = refl }))
@@ -39,21 +26,11 @@ reduce-listed-requires c κs =
     let e = c .before .before .before .before .before .before .before .fill-lists .ensures in
     (c .before .before .before .before .before .before .before .before .before .before .before .before .before .before .before .before .before .before .before .pre, all-listed (e .0) (e .1 .0) (e .1 .1))
 
-same-length : tie.Need-same-length
-same-length c = search needs
-
 returns : tie.Need-returns
 returns c = c .before .before .reduce-listed .ensures
 
 pub reduce-sales-spec : {M : Type 1} → statement M
 reduce-sales-spec =
     tie.close
-    (tie.spec
-    get-u8-requires
-    cast-n
-    get-u16-requires
-    cast-m
-    fill-lists-requires
-    reduce-listed-requires
-    same-length
-    returns)
+    (tie.spec (λ c κs. search needs) (λ c. search needs) (λ c κs. search needs) (λ c. search needs) fill-lists-requires reduce-listed-requires
+    (λ c. search needs) returns)

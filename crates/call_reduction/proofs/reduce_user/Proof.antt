@@ -44,18 +44,6 @@ number-is c =
     let s = c .before .before .before .before .before .before .before .before .before .before .before .before .before .before .before .before .before .before .before in
     asked-number (s .pre .0) (s .pre .1) (c .before .before .before .before .before .before .before .before .before .before .before .fill-positions .ensures .0) (level-is (c .before .before .before)) (called-is (c .before .before .before .before .before .before)) (c .refused-by .ensures) (c .before .state-of .ensures)
 
-get-u8-requires : tie.Need-get-u8-requires
-get-u8-requires c κs = search needs
-
-cast-n : tie.Need-cast-n
-cast-n c = search needs
-
-get-u16-requires : tie.Need-get-u16-requires
-get-u16-requires c κs = search needs
-
-cast-m : tie.Need-cast-m
-cast-m c = search needs
-
 fill-positions-requires : tie.Need-fill-positions-requires
 fill-positions-requires c κs = (c .before .before .before .before .before .before .before .pre .0 .book .held .form, users-are (c .before .before .before .before), refl)
 
@@ -80,15 +68,6 @@ state-of-requires c κs =
     let r = c .before .before .before .before .before .before .before .before .before .before .before .before .before .before .before .before .before .pre .0 in
     (accepted-day (now (c .before .before .before .before .before .before .before .before .before .before .before .before .before .before .before .before .before .args .book)) (r .book .sound) (r .prices-are) (r .limits-in), record { form = r .book .held .form; inside = c .before .before .before .before .before .before .before .before .before .before .before .before .before .before .before .before .before .pre .1 })
 
-refused-by-requires : tie.Need-refused-by-requires
-refused-by-requires c κs = search needs
-
-refused-requires : tie.Need-refused-requires
-refused-requires c κs = search needs
-
-same-length : tie.Need-same-length
-same-length c = search needs
-
 returns : tie.Need-returns
 returns c =
     let a = c .before .before .before .before .before .before .before .before .before .before .before .before .before .before .before .before .before .before .before .before .before .args in
@@ -107,9 +86,6 @@ reduce-sales-requires c κs =
     let filled = c .before .before .before .before .before .before .before .before .before .before .before .before .before .before .before .before .fill-positions .ensures in
     record { limits = asLimits (s .args .day .limits); sums = now (s .args .sums); book = s .pre .0; inside = s .pre .1; positions = filled .0; room = filled .1 }
 
-same-length-2 : tie.Need-same-length-2
-same-length-2 c = search needs
-
 returns-2 : tie.Need-returns-2
 returns-2 c =
     let s = c .before .before .before .before .before .before .before .before .before .before .before .before .before .before .before .before .before .before .before .before .before .before .before .before .before .before .before in
@@ -122,21 +98,6 @@ returns-2 c =
 pub reduce-user-spec : {M : Type 1} → statement M
 reduce-user-spec =
     tie.close
-    (tie.spec
-    get-u8-requires
-    cast-n
-    get-u16-requires
-    cast-m
-    fill-positions-requires
-    cut-at-requires
-    called-at-requires
-    level-at-requires
-    state-of-requires
-    refused-by-requires
-    refused-requires
-    same-length
-    returns
-    target-of-requires
-    reduce-sales-requires
-    same-length-2
-    returns-2)
+    (tie.spec (λ c κs. search needs) (λ c. search needs) (λ c κs. search needs) (λ c. search needs) fill-positions-requires cut-at-requires called-at-requires
+    level-at-requires state-of-requires (λ c κs. search needs) (λ c κs. search needs) (λ c. search needs) returns target-of-requires reduce-sales-requires
+    (λ c. search needs) returns-2)

@@ -6,14 +6,8 @@ use Rattle.cut_apply.proofs.Loop.{lent-room}
 use Rattle.cut_apply.proofs.apply_many.Statement.{statement}
 use Rattle.cut_apply.proofs.apply_many.Tie as tie
 
-array-borrow-prefix-places : tie.Need-array-borrow-prefix-places
-array-borrow-prefix-places c = search needs
-
 slice-aggregate-apply-noting : tie.Need-slice-aggregate-apply-noting
 slice-aggregate-apply-noting c = sym (length-take-le _ _ (c .before .before .before .pre .1))
-
-array-borrow-prefix-amounts : tie.Need-array-borrow-prefix-amounts
-array-borrow-prefix-amounts c = search needs
 
 slice-aggregate-apply-noting-2 : tie.Need-slice-aggregate-apply-noting-2
 slice-aggregate-apply-noting-2 c = sym (length-take-le _ _ (c .before .before .before .before .pre .1))
@@ -23,20 +17,8 @@ apply-noting-requires c κs =
     let p = c .before .before .before .before .pre in
     lent-room 256 (p .0) (p .1)
 
-same-length : tie.Need-same-length
-same-length c = search needs
-
-returns : tie.Need-returns
-returns c = search needs
-
 pub apply-many-spec : {M : Type 1} → statement M
 apply-many-spec =
     tie.close
-    (tie.spec
-    array-borrow-prefix-places
-    slice-aggregate-apply-noting
-    array-borrow-prefix-amounts
-    slice-aggregate-apply-noting-2
-    apply-noting-requires
-    same-length
-    returns)
+    (tie.spec (λ c. search needs) slice-aggregate-apply-noting (λ c. search needs) slice-aggregate-apply-noting-2 apply-noting-requires (λ c. search needs)
+    (λ c. search needs))

@@ -15,21 +15,6 @@ abbrev μ-loop : tie.MeasureT-loop
 loop-holds : tie.Need-loop-holds Inv-loop μ-loop
 loop-holds c = counted-start (c .pre .0)
 
-mul-place-after : tie.Need-mul-place-after Inv-loop μ-loop
-mul-place-after c = search needs
-
-element-copy-out-place-after : tie.Need-element-copy-out-place-after Inv-loop μ-loop
-element-copy-out-place-after c = omega (arith, c .loop-test .taken, c .before .before .pre .1)
-
-place-after-requires : tie.Need-place-after-requires Inv-loop μ-loop
-place-after-requires c κs = omega (arith, c .before .before .loop .inv .few, c .before .before .loop .inv .inside, c .before .before .before .pre .1)
-
-add-k : tie.Need-add-k Inv-loop μ-loop
-add-k c = search needs
-
-loop-less : tie.Need-loop-less Inv-loop μ-loop
-loop-less c = search needs
-
 loop-again : tie.Need-loop-again Inv-loop μ-loop
 loop-again c = counted-more (c .before .before .before .loop .inv) (c .before .before .loop-test .taken) (c .before .before .before .before .pre .2) (c .place-after .ensures)
 
@@ -41,14 +26,5 @@ returns c =
 pub count-losing-spec : {M : Type 1} → statement M
 count-losing-spec =
     tie.close
-    (tie.spec
-    Inv-loop
-    μ-loop
-    loop-holds
-    mul-place-after
-    element-copy-out-place-after
-    place-after-requires
-    add-k
-    loop-less
-    loop-again
+    (tie.spec Inv-loop μ-loop loop-holds (λ c. search needs) (λ c. search needs) (λ c κs. search needs) (λ c. search needs) (λ c. search needs) loop-again
     returns)

@@ -4,18 +4,6 @@ use Rattle.cut_records.proofs.Lowered.{lowered-in}
 use Rattle.cut_records.proofs.lower_many.Statement.{statement}
 use Rattle.cut_records.proofs.lower_many.Tie as tie
 
-read-many-requires : tie.Need-read-many-requires
-read-many-requires c κs = search needs
-
-cut-all-requires : tie.Need-cut-all-requires
-cut-all-requires c κs = search needs
-
-write-many-requires : tie.Need-write-many-requires
-write-many-requires c κs = search needs
-
-same-length : tie.Need-same-length
-same-length c = search needs
-
 returns : tie.Need-returns
 returns c =
     let w = c .before .before in
@@ -23,6 +11,4 @@ returns c =
     lowered-in _ _ (d .before .read-many .ensures) (d .cut-all .ensures) (w .write-many .ensures)
 
 pub lower-many-spec : {M : Type 1} → statement M
-lower-many-spec =
-    tie.close
-    (tie.spec read-many-requires cut-all-requires write-many-requires same-length returns)
+lower-many-spec = tie.close (tie.spec (λ c κs. search needs) (λ c κs. search needs) (λ c κs. search needs) (λ c. search needs) returns)

@@ -19,14 +19,8 @@ Inv-loop book at origins few₀ k₀ few k = Rewritten asTrade 32 (atPlaces (tra
 abbrev μ-loop : tie.MeasureT-loop
 μ-loop book at origins few₀ k₀ few k = length origins - k
 
-no-trade-requires : tie.Need-no-trade-requires Inv-loop μ-loop
-no-trade-requires c κs = search needs
-
 loop-holds : tie.Need-loop-holds Inv-loop μ-loop
 loop-holds c = rewritten-start refl
-
-shared-slice-read-place : tie.Need-shared-slice-read-place Inv-loop μ-loop
-shared-slice-read-place c = search needs
 
 cast-place : tie.Need-cast-place Inv-loop μ-loop
 cast-place c =
@@ -39,18 +33,6 @@ trade-at-requires c κs =
     let l = c .before .before in
     let s = l .before .before .before .before in
     place-of (s .pre) (l .loop .k) (c .before .loop-test .taken)
-
-mul-few : tie.Need-mul-few Inv-loop μ-loop
-mul-few c = search needs
-
-array-set-from-few : tie.Need-array-set-from-few Inv-loop μ-loop
-array-set-from-few c = search needs
-
-add-k : tie.Need-add-k Inv-loop μ-loop
-add-k c = search needs
-
-loop-less : tie.Need-loop-less Inv-loop μ-loop
-loop-less c = search needs
 
 loop-again : tie.Need-loop-again Inv-loop μ-loop
 loop-again c =
@@ -68,17 +50,5 @@ returns c =
 pub read-few-spec : {M : Type 1} → statement M
 read-few-spec =
     tie.close
-    (tie.spec
-    Inv-loop
-    μ-loop
-    no-trade-requires
-    loop-holds
-    shared-slice-read-place
-    cast-place
-    trade-at-requires
-    mul-few
-    array-set-from-few
-    add-k
-    loop-less
-    loop-again
-    returns)
+    (tie.spec Inv-loop μ-loop (λ c κs. search needs) loop-holds (λ c. search needs) cast-place trade-at-requires (λ c. search needs) (λ c. search needs)
+    (λ c. search needs) (λ c. search needs) loop-again returns)

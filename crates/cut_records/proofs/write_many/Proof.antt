@@ -17,32 +17,17 @@ abbrev μ-loop : tie.MeasureT-loop
 loop-holds : tie.Need-loop-holds Inv-loop μ-loop
 loop-holds c = placed-start (c .before .before .pre)
 
-shared-slice-read-place : tie.Need-shared-slice-read-place Inv-loop μ-loop
-shared-slice-read-place c = search needs
-
 cast-place : tie.Need-cast-place Inv-loop μ-loop
 cast-place c =
     let l = c .before .before in
     let s = l .before .before .before in
     omega (arith, place-low (place-of (s .pre) (l .loop .k) (c .before .loop-test .taken)))
 
-mul-put-trade : tie.Need-mul-put-trade Inv-loop μ-loop
-mul-put-trade c = search needs
-
-array-copy-out-put-trade : tie.Need-array-copy-out-put-trade Inv-loop μ-loop
-array-copy-out-put-trade c = search needs
-
 put-trade-requires : tie.Need-put-trade-requires Inv-loop μ-loop
 put-trade-requires c κs =
     let l = c .before .before .before .before in
     let s = l .before .before .before in
     placed-next (s .pre) (l .loop .inv) (c .before .before .before .loop-test .taken)
-
-add-k : tie.Need-add-k Inv-loop μ-loop
-add-k c = search needs
-
-loop-less : tie.Need-loop-less Inv-loop μ-loop
-loop-less c = search needs
 
 loop-again : tie.Need-loop-again Inv-loop μ-loop
 loop-again c =
@@ -60,17 +45,5 @@ returns c = placed-end (c .before .before .before .before .pre) (c .before .loop
 pub write-many-spec : {M : Type 1} → statement M
 write-many-spec =
     tie.close
-    (tie.spec
-    Inv-loop
-    μ-loop
-    loop-holds
-    shared-slice-read-place
-    cast-place
-    mul-put-trade
-    array-copy-out-put-trade
-    put-trade-requires
-    add-k
-    loop-less
-    loop-again
-    same-length
-    returns)
+    (tie.spec Inv-loop μ-loop loop-holds (λ c. search needs) cast-place (λ c. search needs) (λ c. search needs) put-trade-requires (λ c. search needs)
+    (λ c. search needs) loop-again same-length returns)

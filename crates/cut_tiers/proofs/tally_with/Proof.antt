@@ -14,16 +14,10 @@ returns c =
     let a = c .before .args in
     ((λ t e. tally-same (asPrices (a .prices)) t (asTally (a .tally)) (c .if1 .taken)), (omega arith, omega arith))
 
-tariff-requires : tie.Need-tariff-requires
-tariff-requires c κs = search needs
-
-with-requires : tie.Need-with-requires
-with-requires c κs = search needs
-
 returns-2 : tie.Need-returns-2
 returns-2 c =
     let f = asPrices (c .before .before .before .args .prices) in
     ((λ t e. c .with .ensures .0 f t (c .before .tariff .ensures .0 ∙ ap (tariff f) (sym e))), c .with .ensures .1)
 
 pub tally-with-spec : {M : Type 1} → statement M
-tally-with-spec = tie.close (tie.spec returns tariff-requires with-requires returns-2)
+tally-with-spec = tie.close (tie.spec returns (λ c κs. search needs) (λ c κs. search needs) returns-2)

@@ -26,11 +26,8 @@ returns c =
     let a = c .before .before .args in
     or-cut (flaggedAt (asLimits (a .day .limits)) (asPrices (a .day .prices)) (usersOf (now (a .book))) (now (a .positions)) (a .place)) (c .if1 .taken)
 
-flagged-at-requires : tie.Need-flagged-at-requires
-flagged-at-requires c κs = search needs
-
 returns-2 : tie.Need-returns-2
 returns-2 c = or-uncut (c .flagged-at .ensures) (c .before .if1 .left)
 
 pub called-at-spec : {M : Type 1} → statement M
-called-at-spec = tie.close (tie.spec returns flagged-at-requires returns-2)
+called-at-spec = tie.close (tie.spec returns (λ c κs. search needs) returns-2)

@@ -1,5 +1,5 @@
 -- `exceeds_margin`: the test of the definition. Assumes nothing.
-use mathlib.Core.Path.{ap, _∙_}
+use mathlib.Core.Path.{ap}
 use Prim.Native.Nat.{ℕ, _+_}
 use native.Mathlib.Omega.{arith}
 use lib.Dec.{ltb}
@@ -7,9 +7,6 @@ use borrow.Author.Needs.{needs}
 use Rattle.rules.specs.Levels.{exceedsMargin}
 use Rattle.risk_user.proofs.exceeds_margin.Statement.{statement}
 use Rattle.risk_user.proofs.exceeds_margin.Tie as tie
-
-blocked-at-requires : tie.Need-blocked-at-requires
-blocked-at-requires c κs = search needs
 
 add-result : tie.Need-add-result
 add-result c =
@@ -23,4 +20,4 @@ returns c =
     ap (λ (n : ℕ). ltb (a .day .limits .margin .0 + n) (a .level .0)) (c .before .before .before .blocked-at .ensures)
 
 pub exceeds-margin-spec : {M : Type 1} → statement M
-exceeds-margin-spec = tie.close (tie.spec blocked-at-requires add-result returns)
+exceeds-margin-spec = tie.close (tie.spec (λ c κs. search needs) add-result returns)

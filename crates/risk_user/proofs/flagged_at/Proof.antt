@@ -9,18 +9,6 @@ use native.Mathlib.Omega.{arith}
 use Rattle.risk_user.proofs.flagged_at.Statement.{statement}
 use Rattle.risk_user.proofs.flagged_at.Tie as tie
 
-least-reference-price-requires : tie.Need-least-reference-price-requires
-least-reference-price-requires c κs = search needs
-
-worth-requires : tie.Need-worth-requires
-worth-requires c κs = search needs
-
-blocked-at-requires : tie.Need-blocked-at-requires
-blocked-at-requires c κs = search needs
-
-exposure-at-requires : tie.Need-exposure-at-requires
-exposure-at-requires c κs = search needs
-
 add-result : tie.Need-add-result
 add-result c = omega (arith, c .before .before .before .before .worth .ensures .1, c .before .before .before .blocked-at .ensures, c .before .before .before .before .before .before .before .before .before .pre .0 .blocked-most (c .before .before .before .before .before .before .before .before .before .args .place), c .before .before .before .before .before .before .before .before .before .pre .0 .limits-in .flag-most)
 
@@ -33,12 +21,4 @@ returns c =
     (c .before .before .before .exposure-at .ensures .0)
 
 pub flagged-at-spec : {M : Type 1} → statement M
-flagged-at-spec =
-    tie.close
-    (tie.spec
-    least-reference-price-requires
-    worth-requires
-    blocked-at-requires
-    exposure-at-requires
-    add-result
-    returns)
+flagged-at-spec = tie.close (tie.spec (λ c κs. search needs) (λ c κs. search needs) (λ c κs. search needs) (λ c κs. search needs) add-result returns)

@@ -7,16 +7,10 @@ use mathlib.Core.Path.{ap, _∙_}
 use Rattle.risk_user.proofs.need_worth.Statement.{statement}
 use Rattle.risk_user.proofs.need_worth.Tie as tie
 
-need-at-requires : tie.Need-need-at-requires
-need-at-requires c κs = search needs
-
-worth-in-requires : tie.Need-worth-in-requires
-worth-in-requires c κs = search needs
-
 returns : tie.Need-returns
 returns c =
     let a = c .before .before .args in
     (c .worth-in .ensures .0 ∙ ap (λ (n : ℕ). n * referencePrice (asPrices (a .prices)) (a .area)) (c .before .need-at .ensures .0), c .worth-in .ensures .1)
 
 pub need-worth-spec : {M : Type 1} → statement M
-need-worth-spec = tie.close (tie.spec need-at-requires worth-in-requires returns)
+need-worth-spec = tie.close (tie.spec (λ c κs. search needs) (λ c κs. search needs) returns)

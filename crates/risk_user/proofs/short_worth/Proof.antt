@@ -8,20 +8,10 @@ use mathlib.Core.Path.{ap, _∙_}
 use Rattle.risk_user.proofs.short_worth.Statement.{statement}
 use Rattle.risk_user.proofs.short_worth.Tie as tie
 
-position-at-requires : tie.Need-position-at-requires
-position-at-requires c κs = search needs
-
-short-requires : tie.Need-short-requires
-short-requires c κs = search needs
-
-worth-in-requires : tie.Need-worth-in-requires
-worth-in-requires c κs = search needs
-
 returns : tie.Need-returns
 returns c =
     let a = c .before .before .before .args in
     (c .worth-in .ensures .0 ∙ ap (λ (n : ℕ). n * referencePrice (asPrices (a .prices)) (a .area)) (c .before .short .ensures .0 ∙ ap negPart (c .before .before .position-at .ensures)), c .worth-in .ensures .1)
 
 pub short-worth-spec : {M : Type 1} → statement M
-short-worth-spec =
-    tie.close (tie.spec position-at-requires short-requires worth-in-requires returns)
+short-worth-spec = tie.close (tie.spec (λ c κs. search needs) (λ c κs. search needs) (λ c κs. search needs) returns)

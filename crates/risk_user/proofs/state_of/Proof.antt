@@ -18,9 +18,6 @@ l s = asLimits (s .args .day .limits)
 abbrev u : tie.Start → User
 u s = getD (usersOf (now (s .args .book))) (s .args .place) nobody
 
-role-at-requires : tie.Need-role-at-requires
-role-at-requires c κs = search needs
-
 returns : tie.Need-returns
 returns c =
     let s = c .before .before .before in
@@ -31,16 +28,10 @@ returns-2 c =
     let s = c .before .before .before .before in
     state-uncalled (l s) (u s) (s .args .level .0) (c .before .before .role-at .ensures) (c .before .if1 .left) (not-true (s .args .called) (c .if2 .taken))
 
-target-of-requires : tie.Need-target-of-requires
-target-of-requires c κs = search needs
-
 returns-3 : tie.Need-returns-3
 returns-3 c =
     let s = c .before .before .before .before .before .before in
     state-short (l s) (u s) (s .args .level .0) (c .before .before .before .before .role-at .ensures) (c .before .before .before .if1 .left) (not-false (s .args .called) (c .before .before .if2 .left)) (c .before .target-of .ensures) (c .if3 .taken)
-
-exceeds-margin-requires : tie.Need-exceeds-margin-requires
-exceeds-margin-requires c κs = search needs
 
 returns-4 : tie.Need-returns-4
 returns-4 c =
@@ -55,4 +46,4 @@ returns-5 c =
     (c .before .exceeds-margin .ensures) (c .if4 .left)
 
 pub state-of-spec : {M : Type 1} → statement M
-state-of-spec = tie.close (tie.spec role-at-requires returns returns-2 target-of-requires returns-3 exceeds-margin-requires returns-4 returns-5)
+state-of-spec = tie.close (tie.spec (λ c κs. search needs) returns returns-2 (λ c κs. search needs) returns-3 (λ c κs. search needs) returns-4 returns-5)

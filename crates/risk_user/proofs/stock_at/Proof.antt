@@ -10,14 +10,8 @@ use Rattle.risk_user.proofs.stock_at.Tie as tie
 returns : tie.Need-returns
 returns c = (stock-none _ _ (c .before .args .area) (c .if1 .taken), omega arith)
 
-position-at-requires : tie.Need-position-at-requires
-position-at-requires c κs = search needs
-
-long-requires : tie.Need-long-requires
-long-requires c κs = search needs
-
 returns-2 : tie.Need-returns-2
 returns-2 c = (c .long .ensures .0 ∙ ap posPart (c .before .position-at .ensures) ∙ stock-some _ _ (c .before .before .before .args .area) (c .before .before .if1 .left), c .long .ensures .1)
 
 pub stock-at-spec : {M : Type 1} → statement M
-stock-at-spec = tie.close (tie.spec returns position-at-requires long-requires returns-2)
+stock-at-spec = tie.close (tie.spec returns (λ c κs. search needs) (λ c κs. search needs) returns-2)

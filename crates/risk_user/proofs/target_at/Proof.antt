@@ -8,19 +8,10 @@ use denote.Ref.{now}
 use Rattle.risk_user.proofs.target_at.Statement.{statement}
 use Rattle.risk_user.proofs.target_at.Tie as tie
 
-role-at-requires : tie.Need-role-at-requires
-role-at-requires c κs = search needs
-
 returns : tie.Need-returns
 returns c =
     let a = c .before .before .before .args in
     target-house (asLimits (a .day .limits)) (asPrices (a .day .prices)) (usersOf (now (a .book))) (now (a .sums)) (now (a .positions)) (a .place) (c .before .role-at .ensures) (c .if1 .taken)
-
-level-at-requires : tie.Need-level-at-requires
-level-at-requires c κs = search needs
-
-target-of-requires : tie.Need-target-of-requires
-target-of-requires c κs = search needs
 
 returns-2 : tie.Need-returns-2
 returns-2 c =
@@ -31,4 +22,4 @@ returns-2 c =
     (e .before .role-at .ensures) (e .if1 .left) (l .level-at .ensures) (c .target-of .ensures)
 
 pub target-at-spec : {M : Type 1} → statement M
-target-at-spec = tie.close (tie.spec role-at-requires returns level-at-requires target-of-requires returns-2)
+target-at-spec = tie.close (tie.spec (λ c κs. search needs) returns (λ c κs. search needs) (λ c κs. search needs) returns-2)

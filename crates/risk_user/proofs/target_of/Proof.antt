@@ -1,5 +1,4 @@
 -- `target_of`: each way out is a case of the definition. Assumes nothing.
-use Prim.Native.Nat.{ℕ}
 use lib.ListN.{getD}
 use borrow.Author.Needs.{needs}
 use denote.Ref.{now}
@@ -10,19 +9,10 @@ use Rattle.risk_user.proofs.Targets.{target-covered, target-short, targ
 use Rattle.risk_user.proofs.target_of.Statement.{statement}
 use Rattle.risk_user.proofs.target_of.Tie as tie
 
-assigned-at-requires : tie.Need-assigned-at-requires
-assigned-at-requires c κs = search needs
-
 returns : tie.Need-returns
 returns c =
     let a = c .before .before .before .before .before .args in
     target-covered (asLimits (a .day .limits)) (getD (usersOf (now (a .book))) (a .place) nobody) (a .level .0) (c .before .before .before .assigned-at .ensures) (c .if1 .taken)
-
-exceeds-margin-requires : tie.Need-exceeds-margin-requires
-exceeds-margin-requires c κs = search needs
-
-sub-result : tie.Need-sub-result
-sub-result c = search needs
 
 returns-2 : tie.Need-returns-2
 returns-2 c =
@@ -36,4 +26,4 @@ returns-3 c =
     target-within (asLimits (a .day .limits)) (getD (usersOf (now (a .book))) (a .place) nobody) (a .level .0) (c .before .exceeds-margin .ensures) (c .if2 .left)
 
 pub target-of-spec : {M : Type 1} → statement M
-target-of-spec = tie.close (tie.spec assigned-at-requires returns exceeds-margin-requires sub-result returns-2 returns-3)
+target-of-spec = tie.close (tie.spec (λ c κs. search needs) returns (λ c κs. search needs) (λ c. search needs) returns-2 returns-3)

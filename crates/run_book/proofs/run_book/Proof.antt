@@ -16,29 +16,9 @@ trades-are : (c : tie.After-get-u16) → c .get-u16 .result ≡ tradeCount (now 
 unfolding tradeCount
 trades-are c = c .get-u16 .ensures
 
-get-u8-requires : tie.Need-get-u8-requires
-get-u8-requires c κs = search needs
-
-cast-n : tie.Need-cast-n
-cast-n c = search needs
-
-get-u16-requires : tie.Need-get-u16-requires
-get-u16-requires c κs = search needs
-
-cast-m : tie.Need-cast-m
-cast-m c = search needs
-
 fill-lists-requires : tie.Need-fill-lists-requires
 fill-lists-requires c κs =
     (run-counted (c .before .before .before .before .before .before .before .before .before .before .before .pre) (users-are (c .before .before .before .before .before .before .before .before)) (trades-are (c .before .before .before .before .before .before)), (refl, record { origins-room = refl; standing-room = refl; areas-room = refl; buyers-room = refl }))
-
-run-listed-requires : tie.Need-run-listed-requires
-run-listed-requires c κs =
-    let e = c .before .before .before .before .before .before .fill-lists .ensures in
-    (c .before .before .before .before .before .before .before .before .before .before .before .before .before .before .before .before .before .before .pre, record { sales = e .0; standing = e .1 .0; room = e .1 .1 })
-
-same-length : tie.Need-same-length
-same-length c = search needs
 
 returns : tie.Need-returns
 returns c = c .before .before .run-listed .ensures
@@ -46,12 +26,5 @@ returns c = c .before .before .run-listed .ensures
 pub run-book-spec : {M : Type 1} → statement M
 run-book-spec =
     tie.close
-    (tie.spec
-    get-u8-requires
-    cast-n
-    get-u16-requires
-    cast-m
-    fill-lists-requires
-    run-listed-requires
-    same-length
-    returns)
+    (tie.spec (λ c κs. search needs) (λ c. search needs) (λ c κs. search needs) (λ c. search needs) fill-lists-requires (λ c κs. search needs)
+    (λ c. search needs) returns)

@@ -21,18 +21,6 @@ trades-are : (c : tie.After-get-u16) → c .get-u16 .result ≡ tradeCount (now 
 unfolding tradeCount
 trades-are c = c .get-u16 .ensures
 
-get-u8-requires : tie.Need-get-u8-requires
-get-u8-requires c κs = search needs
-
-cast-n : tie.Need-cast-n
-cast-n c = search needs
-
-get-u16-requires : tie.Need-get-u16-requires
-get-u16-requires c κs = search needs
-
-cast-m : tie.Need-cast-m
-cast-m c = search needs
-
 fill-positions-requires : tie.Need-fill-positions-requires
 fill-positions-requires c κs = (c .before .before .before .before .before .before .before .pre .0 .book .held .form, users-are (c .before .before .before .before), refl)
 
@@ -76,9 +64,6 @@ apply-requires c κs =
     let r = s .pre .0 in
     (run-counted r (users-are (c .before .before .before .before .before .before .before .before .before .before .before .before .before .before .before .before .before .before .before .before .before .before .before .before .before .before)) refl, lost-cuttable (r .book .sound) (s .pre .1) (c .before .before .before .before .run-on .ensures) (c .before .before .lost-of .ensures))
 
-same-length : tie.Need-same-length
-same-length c = search needs
-
 returns : tie.Need-returns
 returns c =
     let s = c .before .before .before .before .before .before .before .before .before .before .before .before .before .before .before .before .before .before .before .before .before .before .before .before .before .before .before .before .before .before .before .before in
@@ -87,17 +72,5 @@ returns c =
 pub run-listed-spec : {M : Type 1} → statement M
 run-listed-spec =
     tie.close
-    (tie.spec
-    get-u8-requires
-    cast-n
-    get-u16-requires
-    cast-m
-    fill-positions-requires
-    fill-cut-requires
-    fill-targets-requires
-    copy-sales-requires
-    run-on-requires
-    lost-of-requires
-    apply-requires
-    same-length
-    returns)
+    (tie.spec (λ c κs. search needs) (λ c. search needs) (λ c κs. search needs) (λ c. search needs) fill-positions-requires fill-cut-requires
+    fill-targets-requires copy-sales-requires run-on-requires lost-of-requires apply-requires (λ c. search needs) returns)

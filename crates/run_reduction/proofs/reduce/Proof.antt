@@ -2,7 +2,6 @@
 use mathlib.Core.Path.{ap, _∙_}
 use Prim.Native.Nat.{ℕ}
 use mathlib.Core.List.{List}
-use borrow.Author.Needs.{needs}
 use denote.Ref.{now}
 use lib.Seq.{sets}
 use Rattle.cut_tiers.proofs.After.{filled-takeable}
@@ -11,14 +10,7 @@ use Rattle.units.specs.Prices.{asPrices}
 use Rattle.run_reduction.proofs.Filled.{filled-movable, filled-short}
 use Rattle.run_reduction.proofs.reduce.Statement.{statement}
 use Rattle.run_reduction.proofs.reduce.Tie as tie
-
-shorts-at-requires : tie.Need-shorts-at-requires
-shorts-at-requires c κs = c .before .pre .0 .2 .place-in
-
-fill-cuts-requires : tie.Need-fill-cuts-requires
-fill-cuts-requires c κs =
-    let s = c .before .before .before .before .before .before in
-    ((s .pre .0 .0, s .pre .0 .1), s .pre .1)
+use borrow.Author.Needs.{needs}
 
 settle-requires : tie.Need-settle-requires
 settle-requires c κs =
@@ -38,4 +30,4 @@ returns c =
     )
 
 pub reduce-spec : {M : Type 1} → statement M
-reduce-spec = tie.close (tie.spec shorts-at-requires fill-cuts-requires settle-requires returns)
+reduce-spec = tie.close (tie.spec (λ c κs. search needs) (λ c κs. search needs) settle-requires returns)

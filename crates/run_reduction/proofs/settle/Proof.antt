@@ -16,26 +16,11 @@ Inv-loop standing₀ areas buyers cuts positions₀ place prices from to tally�
 abbrev μ-loop : tie.MeasureT-loop
 μ-loop standing₀ areas buyers cuts positions₀ place prices from to tally₀ i₀ standing positions tally i = to - i
 
-none-requires : tie.Need-none-requires Inv-loop μ-loop
-none-requires c κs = search needs
-
 loop-holds : tie.Need-loop-holds Inv-loop μ-loop
 loop-holds c =
     let b = c .before in
     let n = c .none .ensures in
     (taken-start (asPrices (b .args .prices)) (b .pre .0 .1) (b .pre .0 .2) (n .0) (n .1 .0) (n .1 .1), moved-start (b .pre .1))
-
-mul-cut : tie.Need-mul-cut Inv-loop μ-loop
-mul-cut c = omega (arith, c .before .before .before .pre .1 .few)
-
-element-copy-out-cut : tie.Need-element-copy-out-cut Inv-loop μ-loop
-element-copy-out-cut c = omega (arith, c .before .before .before .pre .1 .few)
-
-element-copy-out-settle-sale : tie.Need-element-copy-out-settle-sale Inv-loop μ-loop
-element-copy-out-settle-sale c = omega (arith, c .before .before .before .before .before .before .pre .1 .few, c .before .before .before .loop-test .taken)
-
-element-copy-out-settle-sale-2 : tie.Need-element-copy-out-settle-sale-2 Inv-loop μ-loop
-element-copy-out-settle-sale-2 c = omega (arith, c .before .before .before .before .before .before .before .pre .1 .few, c .before .before .before .before .loop-test .taken)
 
 settle-sale-requires : tie.Need-settle-sale-requires Inv-loop μ-loop
 settle-sale-requires c κs =
@@ -58,12 +43,6 @@ settle-sale-requires c κs =
         ),
       ),
     )
-
-add-i : tie.Need-add-i Inv-loop μ-loop
-add-i c = omega (arith, c .before .before .before .before .before .before .before .before .before .pre .1 .few, c .before .before .before .before .before .before .loop-test .taken)
-
-loop-less : tie.Need-loop-less Inv-loop μ-loop
-loop-less c = omega (arith, c .before .before .before .before .before .before .loop-test .taken)
 
 loop-again : tie.Need-loop-again Inv-loop μ-loop
 loop-again c =
@@ -89,17 +68,5 @@ returns c =
 pub settle-spec : {M : Type 1} → statement M
 settle-spec =
     tie.close
-    (tie.spec
-    Inv-loop
-    μ-loop
-    none-requires
-    loop-holds
-    mul-cut
-    element-copy-out-cut
-    element-copy-out-settle-sale
-    element-copy-out-settle-sale-2
-    settle-sale-requires
-    add-i
-    loop-less
-    loop-again
-    returns)
+    (tie.spec Inv-loop μ-loop (λ c κs. search needs) loop-holds (λ c. search needs) (λ c. search needs) (λ c. search needs) (λ c. search needs)
+    settle-sale-requires (λ c. search needs) (λ c. search needs) loop-again returns)

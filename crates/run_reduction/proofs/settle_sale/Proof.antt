@@ -25,25 +25,9 @@ returns c =
       ),
     )
 
-lower-sale-requires : tie.Need-lower-sale-requires
-lower-sale-requires c κs = search needs
-
-move-sale-requires : tie.Need-move-sale-requires
-move-sale-requires c κs = search needs
-
-tally-with-requires : tie.Need-tally-with-requires
-tally-with-requires c κs = search needs
-
 returns-2 : tie.Need-returns-2
 returns-2 c =
     (c .before .before .before .lower-sale .ensures, (c .before .move-sale .ensures, (c .tally-with .ensures .0, c .tally-with .ensures .1)))
 
 pub settle-sale-spec : {M : Type 1} → statement M
-settle-sale-spec =
-    tie.close
-    (tie.spec
-    returns
-    lower-sale-requires
-    move-sale-requires
-    tally-with-requires
-    returns-2)
+settle-sale-spec = tie.close (tie.spec returns (λ c κs. search needs) (λ c κs. search needs) (λ c κs. search needs) returns-2)

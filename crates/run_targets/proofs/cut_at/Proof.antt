@@ -1,9 +1,8 @@
 -- `cut_at`: what is left to look at has the whole answer, until a trade passes the test or none is left. Assumes nothing.
 use mathlib.Core.Path.{_≡_, refl}
 use Prim.Native.Nat.{_-_}
-use native.Mathlib.Omega.{arith}
-use lib.ListN.{drop}
 use borrow.Author.Needs.{needs}
+use lib.ListN.{drop}
 use denote.Ref.{now}
 use Rattle.columns.specs.Columns.{idAt, tradesIn, usersIn}
 use Rattle.dealings.specs.Parties.{cutBefore, isCut}
@@ -22,29 +21,11 @@ loop-holds : tie.Need-loop-holds Inv-loop μ-loop
 unfolding cutBefore
 loop-holds c = refl
 
-element-copy-out-is-cut : tie.Need-element-copy-out-is-cut Inv-loop μ-loop
-element-copy-out-is-cut c = omega (arith, c .before .before .before .pre .0 .trades-few, c .loop-test .taken)
-
-element-copy-out-is-cut-2 : tie.Need-element-copy-out-is-cut-2 Inv-loop μ-loop
-element-copy-out-is-cut-2 c = omega (arith, c .before .before .before .before .pre .0 .trades-few, c .before .loop-test .taken)
-
-is-cut-requires : tie.Need-is-cut-requires Inv-loop μ-loop
-is-cut-requires c κs =
-    let b = c .before .before .before .before .before .pre .0 in
-    let h = c .before .before .loop-test .taken in
-    (b .users-few, omega (arith, b .trades-few, h), omega (arith, b .inside, h))
-
 returns : tie.Need-returns Inv-loop μ-loop
 returns c =
     let s = c .before .before .before .before .before .before .before in
     let a = s .args in
     one-found (a .n) (a .m) (now (a .book)) (now (a .sellers)) (now (a .parties)) (s .pre .0) (s .pre .1) (a .place) (s .pre .2) (c .before .before .before .before .before .loop .inv) (c .before .before .before .before .loop-test .taken) (c .before .is-cut .ensures) (c .if1 .taken)
-
-add-i : tie.Need-add-i Inv-loop μ-loop
-add-i c = omega (arith, c .before .before .before .before .before .before .before .pre .0 .trades-few, c .before .before .before .before .loop-test .taken)
-
-loop-less : tie.Need-loop-less Inv-loop μ-loop
-loop-less c = omega (arith, c .before .before .before .before .loop-test .taken)
 
 loop-again : tie.Need-loop-again Inv-loop μ-loop
 loop-again c =
@@ -61,15 +42,5 @@ returns-2 c =
 pub cut-at-spec : {M : Type 1} → statement M
 cut-at-spec =
     tie.close
-    (tie.spec
-    Inv-loop
-    μ-loop
-    loop-holds
-    element-copy-out-is-cut
-    element-copy-out-is-cut-2
-    is-cut-requires
-    returns
-    add-i
-    loop-less
-    loop-again
-    returns-2)
+    (tie.spec Inv-loop μ-loop loop-holds (λ c. search needs) (λ c. search needs) (λ c κs. search needs) returns (λ c. search needs) (λ c. search needs)
+    loop-again returns-2)

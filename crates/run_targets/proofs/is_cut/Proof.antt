@@ -10,24 +10,15 @@ use Rattle.run_targets.proofs.Cut.{no-party, one-party}
 use Rattle.run_targets.proofs.is_cut.Statement.{statement}
 use Rattle.run_targets.proofs.is_cut.Tie as tie
 
-index-requires : tie.Need-index-requires
-index-requires c κs = search needs
-
-index-requires-2 : tie.Need-index-requires-2
-index-requires-2 c κs = search needs
-
 returns : tie.Need-returns
 returns c =
     let a = c .before .before .before .before .args in
     let t = tradeIn (a .n) (now (a .book)) (a .i) in
     no-party (a .place) (ltb (t .standing) (t .terms .notified)) (c .before .before .index .ensures) (c .before .index2 .ensures) (c .if1 .taken)
 
-trade-in-requires : tie.Need-trade-in-requires
-trade-in-requires c κs = search needs
-
 returns-2 : tie.Need-returns-2
 unfolding asTrade
 returns-2 c = one-party (c .before .before .before .before .before .before .args .place) (c .before .before .before .before .index .ensures) (c .before .before .before .index2 .ensures) (c .before .before .if1 .left) (ap (λ (t : Trade). ltb (t .standing) (t .terms .notified)) (c .before .trade-in .ensures))
 
 pub is-cut-spec : {M : Type 1} → statement M
-is-cut-spec = tie.close (tie.spec index-requires index-requires-2 returns trade-in-requires returns-2)
+is-cut-spec = tie.close (tie.spec (λ c κs. search needs) (λ c κs. search needs) returns (λ c κs. search needs) returns-2)

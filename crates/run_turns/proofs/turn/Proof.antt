@@ -6,27 +6,6 @@ use Rattle.run_turns.proofs.Turning.{buyers-in, cut-in, reached-now, tu
 use Rattle.run_turns.proofs.turn.Statement.{statement}
 use Rattle.run_turns.proofs.turn.Tie as tie
 
-mul-from : tie.Need-mul-from
-mul-from c = search needs
-
-element-copy-out-from : tie.Need-element-copy-out-from
-element-copy-out-from c = search needs
-
-add-to : tie.Need-add-to
-add-to c = search needs
-
-mul-to : tie.Need-mul-to
-mul-to c = search needs
-
-element-copy-out-to : tie.Need-element-copy-out-to
-element-copy-out-to c = search needs
-
-mul-targets : tie.Need-mul-targets
-mul-targets c = search needs
-
-element-copy-out-targets : tie.Need-element-copy-out-targets
-element-copy-out-targets c = search needs
-
 reduce-requires : tie.Need-reduce-requires
 reduce-requires c κs =
     let s = c .before .before .before .before .before .before .before .before in
@@ -90,19 +69,5 @@ returns c =
 pub turn-spec : {M : Type 1} → statement M
 turn-spec =
     tie.close
-    (tie.spec
-    mul-from
-    element-copy-out-from
-    add-to
-    mul-to
-    element-copy-out-to
-    mul-targets
-    element-copy-out-targets
-    reduce-requires
-    look-again-requires
-    any-left-requires
-    element-write-eligible
-    owed-at-requires
-    mul-targets-2
-    element-write-targets
-    returns)
+    (tie.spec (λ c. search needs) (λ c. search needs) (λ c. search needs) (λ c. search needs) (λ c. search needs) (λ c. search needs) (λ c. search needs)
+    reduce-requires look-again-requires any-left-requires element-write-eligible owed-at-requires mul-targets-2 element-write-targets returns)
