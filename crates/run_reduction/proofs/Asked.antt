@@ -19,16 +19,16 @@ module _ {s : List ℕ} {n : ℕ} {sellers parties sums : List ℕ} {limits : Li
   pub found-runnable : PartiesFound s n sellers parties sums → n ≡ 0 → bookNumber s ≡ 0 → AllBytes s → LimitsInRange limits → f ≡ pricesAt 12 s
       → Runnable limits f s sellers parties sums
   unfolding bookOf
-  found-runnable o yes passes bytes l e =
+  found-runnable o asked passes bytes l e =
       record {
-        book = record { held = held-accepted s bytes passes; sound = passed s passes .sound; users-are = refl; trades-are = refl; placed = o .placed yes };
+        book = record { held = held-accepted s bytes passes; sound = passed s passes .sound; users-are = refl; trades-are = refl; placed = o .placed asked };
         limits-in = l;
         prices-are = e;
-        twelve = o .summed .twelve yes;
-        low = o .summed .low yes;
+        twelve = o .summed .twelve asked;
+        low = o .summed .low asked;
       }
 
   -- as they are asked
   pub asked-runnable : AskedOf s n sellers parties → n ≡ 0 → AllBytes s → LimitsInRange limits → f ≡ pricesAt 12 s → {read : ℕ}
       → Summed (usersOf s) (tradesOf s) (tradeCount s) n read sums → Runnable limits f s sellers parties sums
-  asked-runnable o yes bytes l e w = found-runnable (parties-found w (λ z. z) o) yes (sym (o .number) ∙ yes) bytes l e
+  asked-runnable o passes bytes l e w = found-runnable (parties-found w (λ z. z) o) passes (sym (o .number) ∙ passes) bytes l e
