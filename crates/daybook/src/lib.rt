@@ -152,5 +152,12 @@ pub fn run(book: &mut [u8]) -> RunAnswer
     let mut buyers = [0u8; 256];
     let mut sums = [0u32; 768];
     let asked = questions::ask(book, &mut sellers, &mut buyers, &mut sums);
-    call_run::run(book, asked.number, Limits::today(), &sellers, &buyers, &sums)
+    call_run::run(
+        book,
+        asked.number,
+        Limits::today(),
+        &sellers,
+        &buyers,
+        &sums,
+    )
 }

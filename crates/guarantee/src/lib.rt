@@ -92,7 +92,13 @@ fn call(
 }
 
 // The morning call on the user of an id, after the opening questions, whose number is given with the sums of the users: blocked reaches the morning level.
-pub fn morning_call(book: &mut [u8], number: u32, limits: Limits, sums: &[u32; 768], id: u32) -> CallAnswer
+pub fn morning_call(
+    book: &mut [u8],
+    number: u32,
+    limits: Limits,
+    sums: &[u32; 768],
+    id: u32,
+) -> CallAnswer
     requires { ⌜ (number ≡ 0 → bookNumber (now book) ≡ 0) ⌝ }
     requires { ⌜ LimitsInRange (asLimits limits) ⌝ }
     requires { ⌜ SumsFound (now book) number (now sums) ⌝ }
@@ -102,7 +108,13 @@ pub fn morning_call(book: &mut [u8], number: u32, limits: Limits, sums: &[u32; 7
 }
 
 // The afternoon call on the user of an id, after the opening questions, whose number is given with the sums of the users: blocked reaches the afternoon level.
-pub fn afternoon_call(book: &mut [u8], number: u32, limits: Limits, sums: &[u32; 768], id: u32) -> CallAnswer
+pub fn afternoon_call(
+    book: &mut [u8],
+    number: u32,
+    limits: Limits,
+    sums: &[u32; 768],
+    id: u32,
+) -> CallAnswer
     requires { ⌜ (number ≡ 0 → bookNumber (now book) ≡ 0) ⌝ }
     requires { ⌜ LimitsInRange (asLimits limits) ⌝ }
     requires { ⌜ SumsFound (now book) number (now sums) ⌝ }

@@ -71,7 +71,13 @@ fn level(
 }
 
 // The morning level of the user of an id, after the opening questions, whose number is given with the sums of the users.
-pub fn morning_level(book: &[u8], number: u32, limits: Limits, sums: &[u32; 768], id: u32) -> LevelAnswer
+pub fn morning_level(
+    book: &[u8],
+    number: u32,
+    limits: Limits,
+    sums: &[u32; 768],
+    id: u32,
+) -> LevelAnswer
     requires { ⌜ (number ≡ 0 → bookNumber (now book) ≡ 0) ⌝ }
     requires { ⌜ LimitsInRange (asLimits limits) ⌝ }
     requires { ⌜ SumsFound (now book) number (now sums) ⌝ }
@@ -81,7 +87,13 @@ pub fn morning_level(book: &[u8], number: u32, limits: Limits, sums: &[u32; 768]
 }
 
 // The afternoon level of the user of an id, after the opening questions, whose number is given with the sums of the users.
-pub fn afternoon_level(book: &[u8], number: u32, limits: Limits, sums: &[u32; 768], id: u32) -> LevelAnswer
+pub fn afternoon_level(
+    book: &[u8],
+    number: u32,
+    limits: Limits,
+    sums: &[u32; 768],
+    id: u32,
+) -> LevelAnswer
     requires { ⌜ (number ≡ 0 → bookNumber (now book) ≡ 0) ⌝ }
     requires { ⌜ LimitsInRange (asLimits limits) ⌝ }
     requires { ⌜ SumsFound (now book) number (now sums) ⌝ }

@@ -40,9 +40,10 @@ returns : tie.Need-returns
 unfolding aboutQuery
 returns c =
     let e = c .before .before .before in
-    let k = e .seek .ensures in
-    (record { asked = k .asked; shows = sym (show-refused (bytes e) (asked e) (λ n. []) _ k (c .before .if1 .taken)) },
-    record { block = refl; offset = rw (show-refused (bytes e) (asked e) {R = ℕ} (λ n. 0) _ k (c .before .if1 .taken)) (omega arith) })
+    let k = e .seek .ensures in (
+      record { asked = k .asked; shows = sym (show-refused (bytes e) (asked e) (λ n. []) _ k (c .before .if1 .taken)) },
+      record { block = refl; offset = rw (show-refused (bytes e) (asked e) {R = ℕ} (λ n. 0) _ k (c .before .if1 .taken)) (omega arith) },
+    )
 
 mul-a : tie.Need-mul-a
 mul-a c = omega (arith, inside c)
@@ -68,9 +69,10 @@ returns-2 c =
     let e = c .before .before .before in
     let f = found (c .before) in
     let z = started (c .before) in
-    let k : 32 + 56 * e .seek .result .place + 56 - (32 + 56 * e .seek .result .place) ≡ 56 = omega arith in
-    (record { asked = e .seek .ensures .asked; shows = rw (show-found (bytes e) (asked e) (λ n. []) _ z f, ← f .stands, k) },
-    record { block = refl; offset = rw (show-found (bytes e) (asked e) {R = ℕ} (λ n. 0) _ z f, ← f .stands) (omega arith) })
+    let k : 32 + 56 * e .seek .result .place + 56 - (32 + 56 * e .seek .result .place) ≡ 56 = omega arith in (
+      record { asked = e .seek .ensures .asked; shows = rw (show-found (bytes e) (asked e) (λ n. []) _ z f, ← f .stands, k) },
+      record { block = refl; offset = rw (show-found (bytes e) (asked e) {R = ℕ} (λ n. 0) _ z f, ← f .stands) (omega arith) },
+    )
 
 pub show-spec : {M : Type 1} → statement M
 show-spec =
