@@ -38,16 +38,24 @@ returns c =
     called (reductionOf (a .id)) (c .refused .ensures) (call-unentered (a .number) (asLimits (a .limits)) (now (a .book)) (a .id) (e .seek .ensures) (c .before .if1 .taken))
 
 read-prices-requires : tie.Need-read-prices-requires
-read-prices-requires c κs = ?
+read-prices-requires c κs = let e = c .before in passed (now (start (e .before) .args .book)) (found e .passes) .form .head
 
 reduce-user-requires : tie.Need-reduce-user-requires
-reduce-user-requires c κs = ?
+reduce-user-requires c κs =
+    let e = c .before .before .before in
+    let given = start (e .before) .pre .1 in
+    let f = found e in
+    (found-runnable (given .1) (started e) (f .passes) (λ j. e .before .before .before .slice-known .given j .fits) (given .0) (c .before .read-prices .ensures), f .known)
 
 same-length-2 : tie.Need-same-length-2
 same-length-2 c = search needs
 
 returns-2 : tie.Need-returns-2
-returns-2 c = ?
+returns-2 c =
+    let r = c .before .before in
+    let e = r .before .before .before .before in
+    let a = start (e .before) .args in
+    call-gives (a .number) (asLimits (a .limits)) (now (a .book)) (a .id) (started e) (found e) (r .reduce-user .ensures)
 
 pub reduction-spec : {M : Type 1} → statement M
 reduction-spec =
