@@ -2,7 +2,6 @@
 use mathlib.Core.Bool.{Bool, true, false, cond, _&&_}
 use mathlib.Core.Logic.{_⊎_, inl, inr}
 use mathlib.Core.List.{List, [], _∷_, _++_}
-use mathlib.Core.Option.{some}
 use mathlib.Core.Path.{_≡_, refl, sym, ap, subst, _∙_}
 use Prim.Native.Nat.{ℕ}
 use lib.Dec.{T, leb, ltb}
@@ -13,15 +12,15 @@ use Rattle.rules.specs.Book.{Book, User, find, nobody}
 use Rattle.rules.specs.Day.{call, callDue, clear, quiet, short, state}
 use Rattle.rules.specs.Levels.{Limits, shipper, shortOfCover, afternoonLevel, calledIn, exceedsMargin}
 use Rattle.rules.specs.Lists.{all}
-use Rattle.rules.specs.Questions.{refusal, decided, numberOf}
+use Rattle.rules.specs.Questions.{Question, refusal, decided, numberOf}
 use Rattle.rules.specs.Reduction.{hasEligible, target}
 use Rattle.rules.specs.Calls.{about, assignedFallsShort, calledInBeyondMargin, effect, eligibleTrade, idKnown, isShipper, only, reduced, reducedBy, reduction, Answer}
 use Rattle.laws.proofs.Refusals.{number-none, number-some, numbered, refusal-first, refusal-next}
 use Rattle.format.proofs.OneUser.{find-place}
+use Rattle.format.specs.After.{CalledAfter, stepAfter}
 use Rattle.format.specs.Book.{bookOf, usersOf}
-use Rattle.format.specs.Questions.{aboutBytes}
-use Rattle.format.specs.Steps.{stepBytes, Called, InBytes, inBytes}
-use Rattle.entry.specs.Entered.{Found}
+use Rattle.format.specs.Steps.{InBytes, inBytes}
+use Rattle.entry.specs.Entered.{Entered, Found}
 use Rattle.entry.proofs.Calls.{call-found, call-refused}
 use Rattle.call_reduction.specs.Call.{Gives, levelQuestions, onSales, onUser, reductionOf}
 use Rattle.call_reduction.specs.States.{refusedBy}
@@ -85,25 +84,30 @@ module _ (s : List ℕ) (u : User) (asked : ℕ) where
 
 -- ---- the call
 
-module _ (limits : Limits) (s : List ℕ) (id : ℕ) where
+module _ (before : ℕ) (limits : Limits) (s : List ℕ) (id : ℕ) where
   abbrev user : User
   user = find (bookOf s .users) id
 
-  pub call-unentered : (n : ℕ) → refusal (aboutBytes s ++ (idKnown (bookOf s) id ∷ [])) ≡ some n → stepBytes limits s (reduction id) ≡ record { answer = only n; bytes = s }
-  unfolding about levelQuestions
-  call-unentered n h = call-refused limits s id (levelQuestions limits (bookOf s) user ++ (eligibleTrade (bookOf s) user ∷ [])) (reduction id) refl n h
+  -- what is asked after the entry
+  rest : List Question
+  rest = levelQuestions limits (bookOf s) user ++ (eligibleTrade (bookOf s) user ∷ [])
+
+  own : about limits (bookOf s) (reduction id) ≡ idKnown (bookOf s) id ∷ rest
+  unfolding about levelQuestions rest
+  own = refl
+
+  pub call-unentered : {n place : ℕ} → Entered before s id n place → (n ≡ 0 → ⊥) → stepAfter before limits s (reduction id) ≡ record { answer = only n; bytes = s }
+  call-unentered e h = call-refused before limits s id rest (reduction id) own e h
 
   -- the user that the entry found stands at the place
-  pub call-entered : {place : ℕ} → Found s id place → stepBytes limits s (reduction id) ≡ onUser limits s (getD (usersOf s) place nobody)
-  unfolding about levelQuestions effect onUser bookOf
-  call-entered {place} f =
-      call-found limits s id (levelQuestions limits (bookOf s) user ++ (eligibleTrade (bookOf s) user ∷ [])) (reduction id) refl f
+  call-entered : {place : ℕ} → before ≡ 0 → Found s id place → stepAfter before limits s (reduction id) ≡ onUser limits s (getD (usersOf s) place nobody)
+  unfolding effect onUser bookOf rest
+  call-entered o f =
+      call-found before limits s id rest (reduction id) own o f
       ∙ ap (onUser limits s) (find-place (usersOf s) id ∙ ap (λ (i : ℕ). getD (usersOf s) i nobody) (sym (f .stands)))
 
--- by limits that are the same
-pub call-gives : (s : List ℕ) (id : ℕ) {l limits : Limits} {place : ℕ} {a : Answer} {t : List ℕ} → Found s id place → l ≡ limits → Gives (onUser l s (getD (usersOf s) place nobody)) a t
-    → Called limits s (reductionOf id) a t
-call-gives s id {l} {limits} {place} {a} {t} f e g =
-    let h : Gives (onUser limits s (getD (usersOf s) place nobody)) a t = subst (λ (x : Limits). Gives (onUser x s (getD (usersOf s) place nobody)) a t) e g in
-    let x = sym (call-entered limits s id f) in
-    record { answer = h .answer ∙ ap (λ (y : InBytes). y .answer) x; bytes = h .bytes ∙ ap (λ (y : InBytes). y .bytes) x }
+  pub call-gives : {place : ℕ} {a : Answer} {t : List ℕ} → before ≡ 0 → Found s id place → Gives (onUser limits s (getD (usersOf s) place nobody)) a t
+      → CalledAfter before limits s (reductionOf id) a t
+  call-gives o f g =
+      let x = sym (call-entered o f) in
+      record { answer = g .answer ∙ ap (λ (y : InBytes). y .answer) x; bytes = g .bytes ∙ ap (λ (y : InBytes). y .bytes) x }

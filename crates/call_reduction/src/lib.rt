@@ -10,12 +10,13 @@ ghost use mathlib.Core.Path.{_≡_};
 ghost use Prim.Native.Nat.{_<_};
 ghost use lib.ListN.{getD};
 ghost use Rattle.answers.specs.Reduction.{answerOf};
+ghost use Rattle.format.specs.After.{CalledAfter};
 ghost use Rattle.format.specs.Book.{bookOf, userCount, usersOf};
-ghost use Rattle.format.specs.Steps.{Called};
-ghost use Rattle.levels.specs.Limits.{asLimits};
+ghost use Rattle.format.specs.Questions.{bookNumber};
+ghost use Rattle.levels.specs.Limits.{asLimits, LimitsInRange};
+ghost use Rattle.questions.specs.Asked.{PartiesFound};
 ghost use Rattle.risk_user.specs.States.{stateOf};
 ghost use Rattle.rules.specs.Book.{nobody};
-ghost use Rattle.rules.specs.Levels.{today};
 ghost use Rattle.run_reduction.specs.Books.{Listed, Runnable};
 ghost use Rattle.units.specs.Prices.{asPrices};
 ghost use Rattle.call_reduction.specs.Call.{Gives, onSales, onUser, reductionOf};
@@ -165,23 +166,31 @@ fn reduce_user(
     )
 }
 
-// The reduction of the user of an id: its eligible trades are cut for its target.
-pub fn reduction(book: &mut [u8], id: u32) -> ReductionAnswer
-    ensures { λ r. ⌜ Called today (now (book .entry)) (reductionOf id) (answerOf r) (now (book .exit)) ⌝ }
+// The reduction of the user of an id, after the opening questions, whose number is given with the places of the trades' parties and the sums of the users: the user's
+// eligible trades are cut for its target.
+pub fn reduction(
+    book: &mut [u8],
+    number: u32,
+    limits: Limits,
+    sellers: &[u8; 256],
+    parties: &[u8; 256],
+    sums: &[u32; 768],
+    id: u32,
+) -> ReductionAnswer
+    requires { ⌜ (number ≡ 0 → bookNumber (now book) ≡ 0) ⌝ }
+    requires { ⌜ LimitsInRange (asLimits limits) ⌝ }
+    requires { ⌜ PartiesFound (now book) number (now sellers) (now parties) (now sums) ⌝ }
+    ensures { λ r. ⌜ CalledAfter number (asLimits limits) (now (book .entry)) (reductionOf id) (answerOf r) (now (book .exit)) ⌝ }
 {
-    let mut sellers = [0u8; 256];
-    let mut parties = [0u8; 256];
-    let mut sums = [0u32; 768];
-    let asked = questions::ask(book, &mut sellers, &mut parties, &mut sums);
-    let entry = entry::seek(book, asked.number, id);
+    let entry = entry::seek(book, number, id);
     let number = entry.number;
     let place = entry.place;
     if number != 0 {
         return ReductionAnswer::refused(number);
     }
     let day = Day {
-        limits: Limits::today(),
+        limits: limits,
         prices: header::read_prices(book),
     };
-    reduce_user(book, &sellers, &parties, &sums, place, day)
+    reduce_user(book, sellers, parties, sums, place, day)
 }

@@ -4,8 +4,10 @@ use cut_worth::Totals;
 use levels::Limits;
 use risk_user::Day;
 ghost use mathlib.Core.Path.{_≡_};
-ghost use Rattle.rules.specs.Levels.{today};
-ghost use Rattle.format.specs.Steps.{Called};
+ghost use Rattle.format.specs.After.{CalledAfter};
+ghost use Rattle.format.specs.Questions.{bookNumber};
+ghost use Rattle.levels.specs.Limits.{asLimits, LimitsInRange};
+ghost use Rattle.questions.specs.Asked.{PartiesFound};
 ghost use Rattle.cut_worth.specs.Totals.{totals};
 ghost use Rattle.answers.specs.Run.{answerOf};
 ghost use Rattle.call_run.specs.Call.{runCall};
@@ -24,22 +26,27 @@ fn accepted(t: Totals) -> RunAnswer
     }
 }
 
-// Runs the book that the bytes hold, in the bytes.
-pub fn run(book: &mut [u8]) -> RunAnswer
-    ensures { λ r. ⌜ Called today (now (book .entry)) runCall (answerOf r) (now (book .exit)) ⌝ }
+// Runs the book that the bytes hold, in the bytes, after the opening questions, whose number is given with the places of the trades' parties and the sums of the users.
+pub fn run(
+    book: &mut [u8],
+    number: u32,
+    limits: Limits,
+    sellers: &[u8; 256],
+    parties: &[u8; 256],
+    sums: &[u32; 768],
+) -> RunAnswer
+    requires { ⌜ (number ≡ 0 → bookNumber (now book) ≡ 0) ⌝ }
+    requires { ⌜ LimitsInRange (asLimits limits) ⌝ }
+    requires { ⌜ PartiesFound (now book) number (now sellers) (now parties) (now sums) ⌝ }
+    ensures { λ r. ⌜ CalledAfter number (asLimits limits) (now (book .entry)) runCall (answerOf r) (now (book .exit)) ⌝ }
 {
-    let mut sellers = [0u8; 256];
-    let mut parties = [0u8; 256];
-    let mut sums = [0u32; 768];
-    let asked = questions::ask(book, &mut sellers, &mut parties, &mut sums);
-    let number = asked.number;
     if number != 0 {
         return RunAnswer::refused(number);
     }
     let day = Day {
-        limits: Limits::today(),
+        limits: limits,
         prices: header::read_prices(book),
     };
-    let totals = run_book::run_book(book, &sellers, &parties, &sums, day);
+    let totals = run_book::run_book(book, sellers, parties, sums, day);
     accepted(totals)
 }

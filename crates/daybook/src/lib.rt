@@ -1,5 +1,6 @@
 // The public calls on a lent book in bytes. None asks anything of its caller: any bytes, any id and any amount get the document's number or its answer, and a refused
-// call leaves the book byte for byte the same. What each gives is one definition of specs/ of the crate that computes it.
+// call leaves the book byte for byte the same. Each asks the questions of the book and hands their number on, with today's figures; what it gives is one definition of specs/ of
+// the crate that computes it.
 ghost use mathlib.Core.Path.{_≡_};
 ghost use Rattle.rules.specs.Levels.{today};
 ghost use Rattle.rules.specs.Calls.{only, morningCall, afternoonCall};
@@ -23,6 +24,7 @@ use answers::ReductionAnswer;
 use answers::RunAnswer;
 use answers::WarningAnswer;
 use book::Book;
+use levels::Limits;
 use opening::Opening;
 
 // The book that bytes hold, every field of it, and 0; or a book whose every field is 0 and the number of the first of the questions 1 to 7 that is answered by no.
@@ -44,7 +46,8 @@ pub fn show<'a>(book: &'a [u8], id: u32, number: &mut u32) -> &'a [u8]
     ensures { λ r. ⌜ Shown (now (book .entry)) id (now (number .exit)) (now r) ⌝ }
     ensures { λ r. ⌜ PartOf (now (book .entry)) id (book .entry .ptr) (r .ptr) ⌝ }
 {
-    shown::show(book, id, number)
+    let opened = questions::number(book);
+    shown::show(book, opened, id, number)
 }
 
 // The same of the picked one of two books: the afternoon's where `afternoon_picked` is yes, else the morning's. Only the picked book is questioned.
@@ -58,61 +61,103 @@ pub fn show_picked<'a>(
     ensures { λ r. ⌜ Shown (picked «afternoon_picked» (now (morning .entry)) (now (afternoon .entry))) id (now (number .exit)) (now r) ⌝ }
     ensures { λ r. ⌜ PartOf (picked «afternoon_picked» (now (morning .entry)) (now (afternoon .entry))) id (pickedAt «afternoon_picked» (morning .entry .ptr) (afternoon .entry .ptr)) (r .ptr) ⌝ }
 {
-    shown::show_picked(morning, afternoon, afternoon_picked, id, number)
+    let book = shown::pick(morning, afternoon, afternoon_picked);
+    show(book, id, number)
 }
 
 // Adds a signed amount to a user's physical entry and position in an area, and answers 0; or the number of the first question that is answered by no.
 pub fn posting(book: &mut [u8], id: u32, area: u32, amount: i64) -> u32
     ensures { λ r. ⌜ Called today (now (book .entry)) (postingOf id area amount) (only r) (now (book .exit)) ⌝ }
 {
-    posting::posting(book, id, area, amount)
+    let number = questions::number(book);
+    posting::posting(book, number, id, area, amount)
 }
 
 // The morning level of a user.
 pub fn morning_level(book: &[u8], id: u32) -> LevelAnswer
     ensures { λ r. ⌜ replyOf r ≡ replyBytes today (now (book .entry)) (morningLevelOf id) ⌝ }
 {
-    level::morning_level(book, id)
+    let mut sellers = [0u8; 256];
+    let mut buyers = [0u8; 256];
+    let mut sums = [0u32; 768];
+    let asked = questions::ask(book, &mut sellers, &mut buyers, &mut sums);
+    level::morning_level(book, asked.number, Limits::today(), &sums, id)
 }
 
 // The afternoon level of a user.
 pub fn afternoon_level(book: &[u8], id: u32) -> LevelAnswer
     ensures { λ r. ⌜ replyOf r ≡ replyBytes today (now (book .entry)) (afternoonLevelOf id) ⌝ }
 {
-    level::afternoon_level(book, id)
+    let mut sellers = [0u8; 256];
+    let mut buyers = [0u8; 256];
+    let mut sums = [0u32; 768];
+    let asked = questions::ask(book, &mut sellers, &mut buyers, &mut sums);
+    level::afternoon_level(book, asked.number, Limits::today(), &sums, id)
 }
 
 // Raises a user's blocked guarantee to its morning level.
 pub fn morning_call(book: &mut [u8], id: u32) -> CallAnswer
     ensures { λ r. ⌜ Called today (now (book .entry)) (morningCall id) (answerOf r) (now (book .exit)) ⌝ }
 {
-    guarantee::morning_call(book, id)
+    let mut sellers = [0u8; 256];
+    let mut buyers = [0u8; 256];
+    let mut sums = [0u32; 768];
+    let asked = questions::ask(book, &mut sellers, &mut buyers, &mut sums);
+    guarantee::morning_call(book, asked.number, Limits::today(), &sums, id)
 }
 
 // Raises a user's blocked guarantee to its afternoon level.
 pub fn afternoon_call(book: &mut [u8], id: u32) -> CallAnswer
     ensures { λ r. ⌜ Called today (now (book .entry)) (afternoonCall id) (answerOf r) (now (book .exit)) ⌝ }
 {
-    guarantee::afternoon_call(book, id)
+    let mut sellers = [0u8; 256];
+    let mut buyers = [0u8; 256];
+    let mut sums = [0u32; 768];
+    let asked = questions::ask(book, &mut sellers, &mut buyers, &mut sums);
+    guarantee::afternoon_call(book, asked.number, Limits::today(), &sums, id)
 }
 
 // Whether a user is warned at midday.
 pub fn warning(book: &[u8], id: u32) -> WarningAnswer
     ensures { λ r. ⌜ warned.replyOf r ≡ replyBytes today (now (book .entry)) (warningOf id) ⌝ }
 {
-    warning::warning(book, id)
+    let number = questions::number(book);
+    warning::warning(book, number, Limits::today(), id)
 }
 
 // Cuts a user's bilateral sales for what its afternoon level exceeds its assigned guarantee by.
 pub fn reduction(book: &mut [u8], id: u32) -> ReductionAnswer
     ensures { λ r. ⌜ Called today (now (book .entry)) (reductionOf id) (reducing.answerOf r) (now (book .exit)) ⌝ }
 {
-    call_reduction::reduction(book, id)
+    let mut sellers = [0u8; 256];
+    let mut buyers = [0u8; 256];
+    let mut sums = [0u32; 768];
+    let asked = questions::ask(book, &mut sellers, &mut buyers, &mut sums);
+    call_reduction::reduction(
+        book,
+        asked.number,
+        Limits::today(),
+        &sellers,
+        &buyers,
+        &sums,
+        id,
+    )
 }
 
 // Reduces the user of the lowest id among those short of cover with an eligible trade, until there is none.
 pub fn run(book: &mut [u8]) -> RunAnswer
     ensures { λ r. ⌜ Called today (now (book .entry)) runCall (running.answerOf r) (now (book .exit)) ⌝ }
 {
-    call_run::run(book)
+    let mut sellers = [0u8; 256];
+    let mut buyers = [0u8; 256];
+    let mut sums = [0u32; 768];
+    let asked = questions::ask(book, &mut sellers, &mut buyers, &mut sums);
+    call_run::run(
+        book,
+        asked.number,
+        Limits::today(),
+        &sellers,
+        &buyers,
+        &sums,
+    )
 }

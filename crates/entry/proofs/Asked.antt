@@ -1,48 +1,34 @@
--- A call on a user asks the questions 1 to 8 and then its own: it is refused where the entry is, and else by its own. Assumes nothing.
-use mathlib.Core.List.{List, [], _++_, _∷_, append-assoc}
-use mathlib.Core.Option.{some}
-use mathlib.Core.Path.{_≡_, _∙_}
-use Prim.Native.Nat.{_≤_, ℕ}
-use Rattle.entry.specs.Entered.{Entered, Found, SumsFound}
-use Rattle.questions.specs.Asked.{AskedOf, Summed}
-use Rattle.questions.proofs.Asked.{sums-told}
-use Rattle.format.proofs.Formed.{book-passed, book-refused}
+-- Question 8 after the opening questions, and a call or a query on a user by its number. Assumes nothing.
+use mathlib.Core.List.{List, [], _∷_}
+use mathlib.Core.Path.{_≡_}
+use Prim.Native.Nat.{_≤_, ℕ, zero, suc}
+use Rattle.entry.specs.Entered.{Found}
 use Rattle.format.proofs.OneUser.{known-place, unknown-place}
-use Rattle.format.specs.Book.{bookOf, tradesOf, userCount, usersOf}
-use Rattle.format.specs.Questions.{aboutBytes, bookNumber}
+use Rattle.format.specs.After.{after}
+use Rattle.format.specs.Book.{bookOf, userCount, usersOf}
 use Rattle.format.specs.Steps.{placeOf}
-use Rattle.laws.proofs.Refusals.{refusal-first, refusal-next, yes-first}
+use Rattle.laws.proofs.Refusals.{number-some, refusal-first, yes-first}
 use Rattle.rules.specs.Calls.{idKnown}
-use Rattle.rules.specs.Questions.{Question, known, refusal}
+use Rattle.rules.specs.Questions.{Question, decided, known, numberOf, refusal}
 
 module _ (s : List ℕ) (id : ℕ) (rest : List Question) where
-  pub entry-refused : (n : ℕ) → refusal (aboutBytes s ++ (idKnown (bookOf s) id ∷ [])) ≡ some n → refusal (aboutBytes s ++ (idKnown (bookOf s) id ∷ rest)) ≡ some n
-  entry-refused n h =
-      rw append-assoc at (refusal-first (aboutBytes s ++ (idKnown (bookOf s) id ∷ [])) rest n h)
+  -- refused by the opening questions or by 8
+  pub entry-refused : {R : Type 0} (f : ℕ → R) (x : R) (before n : ℕ) → n ≡ after before (λ m. m) (numberOf (refusal (idKnown (bookOf s) id ∷ []))) → (n ≡ 0 → ⊥)
+      → after before f (decided (refusal (idKnown (bookOf s) id ∷ rest)) f x) ≡ f n
+  unfolding after decided
+  entry-refused f x zero n e h =
+      rw (refusal-first (idKnown (bookOf s) id ∷ []) rest n (number-some (refusal (idKnown (bookOf s) id ∷ [])) n e h))
+  entry-refused f x (suc m) n e h = rw e
 
-  pub entry-found : {place : ℕ} → Found s id place → refusal (aboutBytes s ++ (idKnown (bookOf s) id ∷ rest)) ≡ refusal rest
+  pub entry-found : {place : ℕ} → Found s id place → refusal (idKnown (bookOf s) id ∷ rest) ≡ refusal rest
   unfolding idKnown bookOf
-  entry-found f =
-      refusal-next (aboutBytes s) (idKnown (bookOf s) id ∷ rest) (book-passed s (f .passes))
-      ∙ yes-first 8 (known (usersOf s) id) rest (rw (known-place s id (rw (f .stands) at (f .known))) tt)
+  entry-found f = yes-first 8 (known (usersOf s) id) rest (rw (known-place s id (rw (f .stands) at (f .known))) tt)
 
--- an id that is in no place is refused by 8
-pub entry-unknown : (s : List ℕ) (id : ℕ) → bookNumber s ≡ 0 → userCount s ≤ placeOf (usersOf s) id → refusal (aboutBytes s ++ (idKnown (bookOf s) id ∷ [])) ≡ some 8
-unfolding idKnown bookOf refusal
-entry-unknown s id h k =
-    refusal-next (aboutBytes s) (idKnown (bookOf s) id ∷ []) (book-passed s h) ∙ rw (unknown-place s id k)
+-- an id that is in no place is refused by 8, one that is in a place is not
+pub entry-unknown : (s : List ℕ) (id : ℕ) → userCount s ≤ placeOf (usersOf s) id → 8 ≡ numberOf (refusal (idKnown (bookOf s) id ∷ []))
+unfolding idKnown bookOf refusal numberOf
+entry-unknown s id k = rw (unknown-place s id k)
 
--- bytes that fail a question of the book
-pub entry-unread : (s : List ℕ) (id n : ℕ) → n ≡ bookNumber s → (n ≡ 0 → ⊥) → refusal (aboutBytes s ++ (idKnown (bookOf s) id ∷ [])) ≡ some n
-entry-unread s id n e h = refusal-first (aboutBytes s) (idKnown (bookOf s) id ∷ []) n (book-refused s n e h)
-
--- ---- the sums
-
--- where the user is found, no question refused
-pub sums-found : {s : List ℕ} {id k read count number place : ℕ} {sellers buyers sums : List ℕ} → AskedOf s k sellers buyers
-    → Summed (usersOf s) (tradesOf s) count k read sums → Entered s id number place → SumsFound s number sums
-sums-found asked summed entered =
-    record {
-      twelve = λ e. sums-told summed (asked .number ∙ entered .found e .passes) .0;
-      low = λ e. sums-told summed (asked .number ∙ entered .found e .passes) .1;
-    }
+pub entry-known : (s : List ℕ) (id : ℕ) {place : ℕ} → Found s id place → 0 ≡ numberOf (refusal (idKnown (bookOf s) id ∷ []))
+unfolding refusal numberOf
+entry-known s id f = rw (entry-found s id [] f)

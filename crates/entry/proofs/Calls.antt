@@ -1,18 +1,17 @@
 -- A call and a query on a user, by what the entry found: refused with its number, or by the questions that are its own. Assumes nothing.
-use mathlib.Core.List.{List, [], _++_, _∷_}
-use mathlib.Core.Option.{some}
+use mathlib.Core.List.{List, _∷_}
 use mathlib.Core.Path.{_≡_, _∙_, ap, sym}
 use Prim.Native.Nat.{ℕ, _+_, _*_, _<_, _≤_}
 use native.Mathlib.Omega.{arith}
 use lib.Dec.{T}
 use lib.ListN.{drop, getD, length, take}
 use Rattle.entry.proofs.Asked.{entry-found, entry-refused}
-use Rattle.entry.specs.Entered.{Found}
+use Rattle.entry.specs.Entered.{Entered, Found}
 use Rattle.format.proofs.OneUser.{find-bytes, find-place, known-place}
 use Rattle.format.proofs.Passed.{passed}
+use Rattle.format.specs.After.{CalledAfter, after, replyAfter, stepAfter, unchanged}
 use Rattle.format.specs.Book.{bookOf, tradesOf, userAt, usersOf}
-use Rattle.format.specs.Questions.{aboutBytes}
-use Rattle.format.specs.Steps.{Called, InBytes, inBytes, replyBytes, stepBytes}
+use Rattle.format.specs.Steps.{InBytes, inBytes}
 use Rattle.laws.proofs.Users.{all-find}
 use Rattle.records.specs.User.{asUser, userOf}
 use Rattle.records.specs.declared.User as code
@@ -23,32 +22,32 @@ use Rattle.rules.specs.Queries.{Query, aboutQuery, found, onlyNumber}
 use Rattle.rules.specs.Questions.{Question, decided, known, positionsValid, refusal, userValid}
 
 -- what a call gives is its contract
-pub called : {limits : Limits} {s t : List ℕ} {a x : Answer} (c : Call) → a ≡ x → stepBytes limits s c ≡ record { answer = x; bytes = t } → Called limits s c a t
+pub called : {before : ℕ} {limits : Limits} {s t : List ℕ} {a x : Answer} (c : Call) → a ≡ x → stepAfter before limits s c ≡ record { answer = x; bytes = t } → CalledAfter before limits s c a t
 called c h e = record { answer = h ∙ sym (ap (λ (r : InBytes). r .answer) e); bytes = sym (ap (λ (r : InBytes). r .bytes) e) }
 
-module _ (limits : Limits) (s : List ℕ) (id : ℕ) (rest : List Question) where
+module _ (before : ℕ) (limits : Limits) (s : List ℕ) (id : ℕ) (rest : List Question) where
   -- ---- a call
 
   module _ (c : Call) (own : about limits (bookOf s) c ≡ idKnown (bookOf s) id ∷ rest) where
-    pub call-refused : (n : ℕ) → refusal (aboutBytes s ++ (idKnown (bookOf s) id ∷ [])) ≡ some n → stepBytes limits s c ≡ record { answer = only n; bytes = s }
-    unfolding stepBytes decided
-    call-refused n h = rw (own, entry-refused s id rest n h)
+    pub call-refused : {n place : ℕ} → Entered before s id n place → (n ≡ 0 → ⊥) → stepAfter before limits s c ≡ record { answer = only n; bytes = s }
+    unfolding stepAfter unchanged
+    call-refused {n} e h = rw own (entry-refused s id rest (unchanged s) (inBytes (effect limits (bookOf s) c)) before n (e .asked) h)
 
-    pub call-found : {place : ℕ} → Found s id place
-        → stepBytes limits s c ≡ decided (refusal rest) (λ n. record { answer = only n; bytes = s }) (inBytes (effect limits (bookOf s) c))
-    unfolding stepBytes
-    call-found f = rw (own, entry-found s id rest f)
+    pub call-found : {place : ℕ} → before ≡ 0 → Found s id place
+        → stepAfter before limits s c ≡ decided (refusal rest) (λ n. record { answer = only n; bytes = s }) (inBytes (effect limits (bookOf s) c))
+    unfolding stepAfter unchanged after
+    call-found e f = rw (e, own, entry-found s id rest f)
 
   -- ---- a query
 
   module _ (q : Query) (own : aboutQuery (bookOf s) q ≡ idKnown (bookOf s) id ∷ rest) where
-    pub query-refused : (n : ℕ) → refusal (aboutBytes s ++ (idKnown (bookOf s) id ∷ [])) ≡ some n → replyBytes limits s q ≡ onlyNumber n
-    unfolding replyBytes decided
-    query-refused n h = rw (own, entry-refused s id rest n h)
+    pub query-refused : {n place : ℕ} → Entered before s id n place → (n ≡ 0 → ⊥) → replyAfter before limits s q ≡ onlyNumber n
+    unfolding replyAfter
+    query-refused {n} e h = rw own (entry-refused s id rest onlyNumber (found limits (bookOf s) q) before n (e .asked) h)
 
-    pub query-found : {place : ℕ} → Found s id place → replyBytes limits s q ≡ decided (refusal rest) onlyNumber (found limits (bookOf s) q)
-    unfolding replyBytes
-    query-found f = rw (own, entry-found s id rest f)
+    pub query-found : {place : ℕ} → before ≡ 0 → Found s id place → replyAfter before limits s q ≡ decided (refusal rest) onlyNumber (found limits (bookOf s) q)
+    unfolding replyAfter after
+    query-found e f = rw (e, own, entry-found s id rest f)
 
 -- ---- the user that the entry found
 

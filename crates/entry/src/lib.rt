@@ -1,11 +1,10 @@
-// The common beginning of every call on a user: the questions 1 to 8, and the user's place in the book.
+// The common beginning of every call on a user: question 8 after the opening questions, and the user's place in the book.
 ghost use mathlib.Core.Path.{_≡_};
 ghost use Prim.Native.Nat.{_≤_};
-ghost use lib.ListN.{replicate};
 ghost use Rattle.format.specs.Book.{userCount, usersOf};
 ghost use Rattle.format.specs.Questions.{Formed, bookNumber};
 ghost use Rattle.format.specs.Steps.{placeOf};
-ghost use Rattle.entry.specs.Entered.{Entered, SumsFound};
+ghost use Rattle.entry.specs.Entered.{Entered};
 
 // The place of the user of an id in a book; the number of users where there is none.
 pub fn place_of(s: &[u8], id: u32) -> usize
@@ -25,16 +24,16 @@ pub fn place_of(s: &[u8], id: u32) -> usize
     n
 }
 
-// What a call on a user begins with: the number of the first of the questions 1 to 8 that is answered by no, else 0 with the user's place.
+// What a call on a user begins with: the number of the first of the opening questions and question 8 that is answered by no, else 0 with the user's place.
 pub struct Entry {
     pub number: u32,
     pub place: usize,
 }
 
-// Question 8, after the questions 1 to 7: their number where one is answered by no.
+// Question 8, after the opening questions: their number where one is answered by no.
 pub fn seek(s: &[u8], number: u32, id: u32) -> Entry
-    requires { ⌜ number ≡ bookNumber (now s) ⌝ }
-    ensures { λ r. ⌜ Entered (now (s .entry)) id (r .number) (r .place) ⌝ }
+    requires { ⌜ (number ≡ 0 → bookNumber (now s) ≡ 0) ⌝ }
+    ensures { λ r. ⌜ Entered number (now (s .entry)) id (r .number) (r .place) ⌝ }
 {
     if number != 0 {
         return Entry {
@@ -54,24 +53,4 @@ pub fn seek(s: &[u8], number: u32, id: u32) -> Entry
         number: 0,
         place: place,
     }
-}
-
-// Asks the questions 1 to 8 of any bytes and any id.
-pub fn enter(s: &[u8], id: u32) -> Entry
-    ensures { λ r. ⌜ Entered (now (s .entry)) id (r .number) (r .place) ⌝ }
-{
-    seek(s, questions::number(s), id)
-}
-
-// The same, with the twelve sums of every user where no question refuses.
-pub fn enter_summed(s: &[u8], id: u32, sums: &mut [u32; 768]) -> Entry
-    requires { ⌜ now sums ≡ replicate 768 0 ⌝ }
-    ensures { λ r. ⌜ Entered (now (s .entry)) id (r .number) (r .place) ⌝ }
-    ensures { λ r. ⌜ SumsFound (now (s .entry)) (r .number) (now (sums .exit)) ⌝ }
-{
-    let mut sellers = [0u8; 256];
-    let mut buyers = [0u8; 256];
-    let answer = questions::ask(s, &mut sellers, &mut buyers, sums);
-    let number = answer.number;
-    seek(s, number, id)
 }

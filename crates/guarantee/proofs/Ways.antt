@@ -1,26 +1,25 @@
 -- The ways out of a guarantee call: refused by the entry, by a question of its own, or answered. Assumes nothing.
 use mathlib.Core.Bool.{Bool, true, false}
-use mathlib.Core.List.{List, [], _∷_, _++_}
-use mathlib.Core.Option.{some}
+use mathlib.Core.List.{List, _∷_}
 use mathlib.Core.Path.{_≡_, refl, sym, ap, _∙_}
 use Prim.Native.Nat.{ℕ, _+_, _-_, _*_, _≤_, _<_}
 use lib.Seq.{sets}
 use borrow.Author.Tests.{eq-eqb, ne-eqb, le-leb, lt-leb}
 use Rattle.rules.specs.Book.{Book, User, find}
 use Rattle.rules.specs.Levels.{Limits, shipper, exceedsMargin}
-use Rattle.rules.specs.Questions.{refusal, decided}
+use Rattle.rules.specs.Questions.{Question, refusal, decided}
 use Rattle.rules.specs.Calls.{about, assignedSuffices, calledInBeyondMargin, effect, guaranteed, idKnown, isShipper, marginExceeded, ofLevel, only}
 use Rattle.rules.specs.Changes.{blockedTo}
 use Rattle.fields.specs.Field.{AllBytes}
 use Rattle.records.specs.User.{asUser, userBytes}
 use Rattle.format.specs.Book.{bookOf, userAt}
-use Rattle.format.specs.Questions.{aboutBytes}
-use Rattle.format.specs.Steps.{inBytes, stepBytes}
+use Rattle.format.specs.Steps.{inBytes}
 use Rattle.format.proofs.OneUser.{changed-bytes}
 use Rattle.format.proofs.Passed.{passed}
+use Rattle.format.specs.After.{stepAfter}
 use Rattle.account.specs.Account.{AccountAt}
 use Rattle.account.specs.declared.Account.{Account}
-use Rattle.entry.specs.Entered.{Found}
+use Rattle.entry.specs.Entered.{Entered, Found}
 use Rattle.entry.proofs.Calls.{call-found, call-refused, read-role, read-user}
 use Rattle.level.specs.Times.{levelOf}
 use Rattle.guarantee.specs.Times.{dueOf, callOf}
@@ -63,7 +62,7 @@ unfolding effect levelOf
 call-effects limits b id true = refl
 call-effects limits b id false = refl
 
-module _ (limits : Limits) (s : List ℕ) (id : ℕ) (afternoon : Bool) where
+module _ (before : ℕ) (limits : Limits) (s : List ℕ) (id : ℕ) (afternoon : Bool) where
   -- the user, its level, and the answer to question 11
   abbrev user : User
   user = find (bookOf s .users) id
@@ -74,14 +73,18 @@ module _ (limits : Limits) (s : List ℕ) (id : ℕ) (afternoon : Bool) where
   abbrev due : Bool
   due = dueOf afternoon limits (bookOf s) level user
 
-  pub call-unentered : (n : ℕ) → refusal (aboutBytes s ++ (idKnown (bookOf s) id ∷ [])) ≡ some n → stepBytes limits s (callOf afternoon id) ≡ record { answer = only n; bytes = s }
-  call-unentered n h = call-refused limits s id (isShipper user ∷ lastQuestions due level user) (callOf afternoon id) (call-asks limits (bookOf s) id afternoon) n h
+  -- what is asked after the entry
+  abbrev rest : List Question
+  rest = isShipper user ∷ lastQuestions due level user
 
-  module _ {place : ℕ} (f : Found s id place) where
-    pub call-of-house : (find (bookOf s .users) id .party .role ≡ 0 → ⊥) → stepBytes limits s (callOf afternoon id) ≡ record { answer = only 9; bytes = s }
+  pub call-unentered : {n place : ℕ} → Entered before s id n place → (n ≡ 0 → ⊥) → stepAfter before limits s (callOf afternoon id) ≡ record { answer = only n; bytes = s }
+  call-unentered e h = call-refused before limits s id rest (callOf afternoon id) (call-asks limits (bookOf s) id afternoon) e h
+
+  module _ {place : ℕ} (o : before ≡ 0) (f : Found s id place) where
+    pub call-of-house : (find (bookOf s .users) id .party .role ≡ 0 → ⊥) → stepAfter before limits s (callOf afternoon id) ≡ record { answer = only 9; bytes = s }
     unfolding isShipper shipper refusal decided
     call-of-house h =
-        rw (call-found limits s id (isShipper user ∷ lastQuestions due level user) (callOf afternoon id) (call-asks limits (bookOf s) id afternoon) f, ne-eqb (user .party .role) 0 h)
+        rw (call-found before limits s id rest (callOf afternoon id) (call-asks limits (bookOf s) id afternoon) o f, ne-eqb (user .party .role) 0 h)
 
     -- one user's record is changed
     effect-bytes : AllBytes s → inBytes (effect limits (bookOf s) (callOf afternoon id))
@@ -92,16 +95,16 @@ module _ (limits : Limits) (s : List ℕ) (id : ℕ) (afternoon : Bool) where
         (ap (λ (l : List ℕ). record { answer = ofLevel level (level - user .blocked); bytes = l })
         (changed-bytes s h (passed s (f .passes)) id (blockedTo level) (rw (f .stands) at (f .known))))
 
-    pub call-raised : AllBytes s → user .party .role ≡ 0 → stepBytes limits s (callOf afternoon id) ≡ raised s place user level due
+    pub call-raised : AllBytes s → user .party .role ≡ 0 → stepAfter before limits s (callOf afternoon id) ≡ raised s place user level due
     unfolding isShipper shipper refusal raised
     call-raised h k =
-        rw (call-found limits s id (isShipper user ∷ lastQuestions due level user) (callOf afternoon id) (call-asks limits (bookOf s) id afternoon) f, eq-eqb (user .party .role) 0 k)
+        rw (call-found before limits s id rest (callOf afternoon id) (call-asks limits (bookOf s) id afternoon) o f, eq-eqb (user .party .role) 0 k)
         (ap (decided (refusal (lastQuestions due level user)) (λ n. record { answer = only n; bytes = s })) (effect-bytes h))
 
     -- with the user, the level and the answer to question 11 of the account
-    pub call-ends : AllBytes s → {a : Account} {l : Limits} {n : ℕ} {d : Bool} → AccountAt s place a → l ≡ limits → a .user .role ≡ 0
-        → n ≡ levelOf afternoon l (bookOf s) (asUser (a .user)) → d ≡ dueOf afternoon l (bookOf s) n (asUser (a .user))
-        → raised s place (asUser (a .user)) n d ≡ stepBytes limits s (callOf afternoon id)
-    call-ends h {a} {l} {n} {d} held e k m w =
-        let x : raised s place (asUser (a .user)) n d ≡ raised s place user level due = cc (e, m, w, read-user (a .user) f (held .user)) in
+    pub call-ends : AllBytes s → {a : Account} {n : ℕ} {d : Bool} → AccountAt s place a → a .user .role ≡ 0
+        → n ≡ levelOf afternoon limits (bookOf s) (asUser (a .user)) → d ≡ dueOf afternoon limits (bookOf s) n (asUser (a .user))
+        → raised s place (asUser (a .user)) n d ≡ stepAfter before limits s (callOf afternoon id)
+    call-ends h {a} {n} {d} held k m w =
+        let x : raised s place (asUser (a .user)) n d ≡ raised s place user level due = cc (m, w, read-user (a .user) f (held .user)) in
         x ∙ sym (call-raised h (sym (read-role (a .user) f (held .user)) ∙ k))

@@ -6,15 +6,15 @@ use levels::Limits;
 use records::User;
 use units::Cents;
 ghost use mathlib.Core.Path.{_≡_};
-ghost use Rattle.rules.specs.Levels.{today};
 ghost use Rattle.rules.specs.Calls.{morningCall, afternoonCall};
 ghost use Rattle.records.specs.User.{asUser};
+ghost use Rattle.format.specs.After.{CalledAfter};
 ghost use Rattle.format.specs.Book.{bookOf};
-ghost use Rattle.format.specs.Questions.{Formed};
-ghost use Rattle.format.specs.Steps.{Called};
+ghost use Rattle.format.specs.Questions.{Formed, bookNumber};
 ghost use Rattle.levels.specs.Limits.{asLimits, LimitsInRange};
 ghost use Rattle.answers.specs.Call.{answerOf};
 ghost use Rattle.account.specs.Account.{Ready, AccountIn};
+ghost use Rattle.questions.specs.Asked.{SumsFound};
 ghost use Rattle.guarantee.specs.Times.{dueOf, callOf};
 ghost use Rattle.guarantee.specs.Raised.{Raisable, raised};
 
@@ -61,38 +61,64 @@ fn raise(book: &mut [u8], place: usize, user: User, level: Cents, due: bool) -> 
     }
 }
 
-// The guarantee call on the user of an id, at one time of the day.
-fn call(book: &mut [u8], id: u32, afternoon: bool) -> CallAnswer
-    ensures { λ r. ⌜ Called today (now (book .entry)) (callOf afternoon id) (answerOf r) (now (book .exit)) ⌝ }
+// The guarantee call on the user of an id, at one time of the day, after the opening questions, whose number is given with the sums of the users.
+fn call(
+    book: &mut [u8],
+    number: u32,
+    limits: Limits,
+    sums: &[u32; 768],
+    id: u32,
+    afternoon: bool,
+) -> CallAnswer
+    requires { ⌜ (number ≡ 0 → bookNumber (now book) ≡ 0) ⌝ }
+    requires { ⌜ LimitsInRange (asLimits limits) ⌝ }
+    requires { ⌜ SumsFound (now book) number (now sums) ⌝ }
+    ensures { λ r. ⌜ CalledAfter number (asLimits limits) (now (book .entry)) (callOf afternoon id) (answerOf r) (now (book .exit)) ⌝ }
 {
-    let mut sums = [0u32; 768];
-    let entry = entry::enter_summed(book, id, &mut sums);
+    let entry = entry::seek(book, number, id);
     let number = entry.number;
     let place = entry.place;
     if number != 0 {
         return CallAnswer::refused(number);
     }
-    let account = account::account_from(book, place, &sums);
+    let account = account::account_from(book, place, sums);
     let user = account.user;
     if user.role != 0 {
         return CallAnswer::refused(9);
     }
-    let limits = Limits::today();
     let level = level::level_of(account, limits, afternoon);
     let due = is_due(book, account, limits, level, afternoon);
     raise(book, place, user, level, due)
 }
 
-// The morning call on the user of an id: blocked reaches the morning level.
-pub fn morning_call(book: &mut [u8], id: u32) -> CallAnswer
-    ensures { λ r. ⌜ Called today (now (book .entry)) (morningCall id) (answerOf r) (now (book .exit)) ⌝ }
+// The morning call on the user of an id, after the opening questions, whose number is given with the sums of the users: blocked reaches the morning level.
+pub fn morning_call(
+    book: &mut [u8],
+    number: u32,
+    limits: Limits,
+    sums: &[u32; 768],
+    id: u32,
+) -> CallAnswer
+    requires { ⌜ (number ≡ 0 → bookNumber (now book) ≡ 0) ⌝ }
+    requires { ⌜ LimitsInRange (asLimits limits) ⌝ }
+    requires { ⌜ SumsFound (now book) number (now sums) ⌝ }
+    ensures { λ r. ⌜ CalledAfter number (asLimits limits) (now (book .entry)) (morningCall id) (answerOf r) (now (book .exit)) ⌝ }
 {
-    call(book, id, false)
+    call(book, number, limits, sums, id, false)
 }
 
-// The afternoon call on the user of an id: blocked reaches the afternoon level.
-pub fn afternoon_call(book: &mut [u8], id: u32) -> CallAnswer
-    ensures { λ r. ⌜ Called today (now (book .entry)) (afternoonCall id) (answerOf r) (now (book .exit)) ⌝ }
+// The afternoon call on the user of an id, after the opening questions, whose number is given with the sums of the users: blocked reaches the afternoon level.
+pub fn afternoon_call(
+    book: &mut [u8],
+    number: u32,
+    limits: Limits,
+    sums: &[u32; 768],
+    id: u32,
+) -> CallAnswer
+    requires { ⌜ (number ≡ 0 → bookNumber (now book) ≡ 0) ⌝ }
+    requires { ⌜ LimitsInRange (asLimits limits) ⌝ }
+    requires { ⌜ SumsFound (now book) number (now sums) ⌝ }
+    ensures { λ r. ⌜ CalledAfter number (asLimits limits) (now (book .entry)) (afternoonCall id) (answerOf r) (now (book .exit)) ⌝ }
 {
-    call(book, id, true)
+    call(book, number, limits, sums, id, true)
 }

@@ -1,22 +1,20 @@
 -- The ways out of a level: refused by the entry, for a clearing house, or answered. Assumes nothing.
 use mathlib.Core.Bool.{Bool, true, false}
-use mathlib.Core.List.{List, [], _∷_, _++_}
-use mathlib.Core.Option.{some}
-use mathlib.Core.Path.{_≡_, refl}
+use mathlib.Core.List.{List, [], _∷_}
+use mathlib.Core.Path.{_≡_, refl, sym, ap}
 use Prim.Native.Nat.{ℕ}
 use borrow.Author.Tests.{eq-eqb, ne-eqb}
 use Rattle.rules.specs.Book.{Book, find}
 use Rattle.rules.specs.Levels.{Limits, shipper}
-use Rattle.rules.specs.Questions.{refusal, decided}
+use Rattle.rules.specs.Questions.{Question, refusal, decided}
 use Rattle.rules.specs.Calls.{idKnown, isShipper}
 use Rattle.rules.specs.Queries.{aboutQuery, aLevel, found, onlyNumber}
 use Rattle.records.specs.User.{asUser}
 use Rattle.format.specs.Book.{bookOf}
-use Rattle.format.specs.Questions.{aboutBytes}
-use Rattle.format.specs.Steps.{replyBytes}
+use Rattle.format.specs.After.{replyAfter}
 use Rattle.account.specs.Account.{AccountAt}
 use Rattle.account.specs.declared.Account.{Account}
-use Rattle.entry.specs.Entered.{Found}
+use Rattle.entry.specs.Entered.{Entered, Found}
 use Rattle.entry.proofs.Calls.{query-refused, query-found, read-user}
 use Rattle.level.specs.Times.{levelOf, queryOf}
 
@@ -24,8 +22,8 @@ use Rattle.level.specs.Times.{levelOf, queryOf}
 
 module _ {s : List ℕ} {id place : ℕ} {a : Account} (f : Found s id place) (h : AccountAt s place a) where
   -- its level is that of the user of the id
-  pub account-level : (afternoon : Bool) {l m : Limits} → l ≡ m → levelOf afternoon l (bookOf s) (asUser (a .user)) ≡ levelOf afternoon m (bookOf s) (find (bookOf s .users) id)
-  account-level afternoon e = cc (e, read-user (a .user) f (h .user))
+  pub account-level : (afternoon : Bool) (limits : Limits) → levelOf afternoon limits (bookOf s) (asUser (a .user)) ≡ levelOf afternoon limits (bookOf s) (find (bookOf s .users) id)
+  account-level afternoon limits = ap (levelOf afternoon limits (bookOf s)) (read-user (a .user) f (h .user))
 
 -- ---- a level
 
@@ -39,17 +37,27 @@ unfolding found levelOf
 query-finds limits b id true = refl
 query-finds limits b id false = refl
 
-module _ (limits : Limits) (s : List ℕ) (id : ℕ) (afternoon : Bool) where
-  pub level-refused : (n : ℕ) → refusal (aboutBytes s ++ (idKnown (bookOf s) id ∷ [])) ≡ some n → onlyNumber n ≡ replyBytes limits s (queryOf afternoon id)
-  level-refused n h = rw (query-refused limits s id (isShipper (find (bookOf s .users) id) ∷ []) (queryOf afternoon id) (query-asks (bookOf s) id afternoon) n h)
+module _ (before : ℕ) (limits : Limits) (s : List ℕ) (id : ℕ) (afternoon : Bool) where
+  -- what is asked after the entry
+  rest : List Question
+  rest = isShipper (find (bookOf s .users) id) ∷ []
 
-  module _ {place : ℕ} (f : Found s id place) where
-    pub level-of-house : (find (bookOf s .users) id .party .role ≡ 0 → ⊥) → onlyNumber 9 ≡ replyBytes limits s (queryOf afternoon id)
-    unfolding isShipper shipper refusal decided
-    level-of-house h =
-        rw (query-found limits s id (isShipper (find (bookOf s .users) id) ∷ []) (queryOf afternoon id) (query-asks (bookOf s) id afternoon) f, ne-eqb (find (bookOf s .users) id .party .role) 0 h)
+  own : aboutQuery (bookOf s) (queryOf afternoon id) ≡ idKnown (bookOf s) id ∷ rest
+  unfolding rest
+  own = query-asks (bookOf s) id afternoon
 
-    pub level-found : find (bookOf s .users) id .party .role ≡ 0 → aLevel (levelOf afternoon limits (bookOf s) (find (bookOf s .users) id)) ≡ replyBytes limits s (queryOf afternoon id)
-    unfolding isShipper shipper refusal decided
-    level-found h =
-        rw (query-found limits s id (isShipper (find (bookOf s .users) id) ∷ []) (queryOf afternoon id) (query-asks (bookOf s) id afternoon) f, eq-eqb (find (bookOf s .users) id .party .role) 0 h, query-finds limits (bookOf s) id afternoon)
+  pub level-refused : {n place : ℕ} → Entered before s id n place → (n ≡ 0 → ⊥) → onlyNumber n ≡ replyAfter before limits s (queryOf afternoon id)
+  level-refused e h = sym (query-refused before limits s id rest (queryOf afternoon id) own e h)
+
+  module _ {place : ℕ} (o : before ≡ 0) (f : Found s id place) where
+    found-reply : replyAfter before limits s (queryOf afternoon id) ≡ decided (refusal rest) onlyNumber (found limits (bookOf s) (queryOf afternoon id))
+    found-reply = query-found before limits s id rest (queryOf afternoon id) own o f
+
+    pub level-of-house : (find (bookOf s .users) id .party .role ≡ 0 → ⊥) → onlyNumber 9 ≡ replyAfter before limits s (queryOf afternoon id)
+    unfolding rest isShipper shipper refusal decided
+    level-of-house h = rw (found-reply, ne-eqb (find (bookOf s .users) id .party .role) 0 h)
+
+    pub level-found : find (bookOf s .users) id .party .role ≡ 0
+        → aLevel (levelOf afternoon limits (bookOf s) (find (bookOf s .users) id)) ≡ replyAfter before limits s (queryOf afternoon id)
+    unfolding rest isShipper shipper refusal decided
+    level-found h = rw (found-reply, eq-eqb (find (bookOf s .users) id .party .role) 0 h, query-finds limits (bookOf s) id afternoon)

@@ -6,14 +6,15 @@ use units::Cents;
 ghost use mathlib.Core.Path.{_≡_};
 ghost use mathlib.Core.List.{List};
 ghost use Prim.Native.Nat.{ℕ};
-ghost use Rattle.rules.specs.Levels.{today};
 ghost use Rattle.rules.specs.Queries.{morningLevelOf, afternoonLevelOf};
 ghost use Rattle.records.specs.User.{asUser};
 ghost use Rattle.format.specs.Book.{bookOf};
-ghost use Rattle.format.specs.Steps.{replyBytes};
+ghost use Rattle.format.specs.After.{replyAfter};
+ghost use Rattle.format.specs.Questions.{bookNumber};
 ghost use Rattle.levels.specs.Limits.{asLimits, LimitsInRange};
 ghost use Rattle.answers.specs.Level.{replyOf};
 ghost use Rattle.account.specs.Account.{Ready, AccountIn};
+ghost use Rattle.questions.specs.Asked.{SumsFound};
 ghost use Rattle.level.specs.Times.{levelOf, queryOf};
 
 // The level of the user of an account, the afternoon's or the morning's: in every book that the account is of.
@@ -31,12 +32,21 @@ pub fn level_of(account: Account, limits: Limits, afternoon: bool) -> Cents
     levels::morning_level(limits, prices, user, dealings)
 }
 
-// The level of the user of an id, at one time of the day.
-fn level(book: &[u8], id: u32, afternoon: bool) -> LevelAnswer
-    ensures { λ r. ⌜ replyOf r ≡ replyBytes today (now (book .entry)) (queryOf afternoon id) ⌝ }
+// The level of the user of an id, at one time of the day, after the opening questions, whose number is given with the sums of the users.
+fn level(
+    book: &[u8],
+    number: u32,
+    limits: Limits,
+    sums: &[u32; 768],
+    id: u32,
+    afternoon: bool,
+) -> LevelAnswer
+    requires { ⌜ (number ≡ 0 → bookNumber (now book) ≡ 0) ⌝ }
+    requires { ⌜ LimitsInRange (asLimits limits) ⌝ }
+    requires { ⌜ SumsFound (now book) number (now sums) ⌝ }
+    ensures { λ r. ⌜ replyOf r ≡ replyAfter number (asLimits limits) (now (book .entry)) (queryOf afternoon id) ⌝ }
 {
-    let mut sums = [0u32; 768];
-    let entry = entry::enter_summed(book, id, &mut sums);
+    let entry = entry::seek(book, number, id);
     let number = entry.number;
     let place = entry.place;
     if number != 0 {
@@ -45,7 +55,7 @@ fn level(book: &[u8], id: u32, afternoon: bool) -> LevelAnswer
             level: Cents(0),
         };
     }
-    let account = account::account_from(book, place, &sums);
+    let account = account::account_from(book, place, sums);
     let user = account.user;
     if user.role != 0 {
         return LevelAnswer {
@@ -53,7 +63,6 @@ fn level(book: &[u8], id: u32, afternoon: bool) -> LevelAnswer
             level: Cents(0),
         };
     }
-    let limits = Limits::today();
     let level = level_of(account, limits, afternoon);
     LevelAnswer {
         number: 0,
@@ -61,16 +70,34 @@ fn level(book: &[u8], id: u32, afternoon: bool) -> LevelAnswer
     }
 }
 
-// The morning level of the user of an id.
-pub fn morning_level(book: &[u8], id: u32) -> LevelAnswer
-    ensures { λ r. ⌜ replyOf r ≡ replyBytes today (now (book .entry)) (morningLevelOf id) ⌝ }
+// The morning level of the user of an id, after the opening questions, whose number is given with the sums of the users.
+pub fn morning_level(
+    book: &[u8],
+    number: u32,
+    limits: Limits,
+    sums: &[u32; 768],
+    id: u32,
+) -> LevelAnswer
+    requires { ⌜ (number ≡ 0 → bookNumber (now book) ≡ 0) ⌝ }
+    requires { ⌜ LimitsInRange (asLimits limits) ⌝ }
+    requires { ⌜ SumsFound (now book) number (now sums) ⌝ }
+    ensures { λ r. ⌜ replyOf r ≡ replyAfter number (asLimits limits) (now (book .entry)) (morningLevelOf id) ⌝ }
 {
-    level(book, id, false)
+    level(book, number, limits, sums, id, false)
 }
 
-// The afternoon level of the user of an id.
-pub fn afternoon_level(book: &[u8], id: u32) -> LevelAnswer
-    ensures { λ r. ⌜ replyOf r ≡ replyBytes today (now (book .entry)) (afternoonLevelOf id) ⌝ }
+// The afternoon level of the user of an id, after the opening questions, whose number is given with the sums of the users.
+pub fn afternoon_level(
+    book: &[u8],
+    number: u32,
+    limits: Limits,
+    sums: &[u32; 768],
+    id: u32,
+) -> LevelAnswer
+    requires { ⌜ (number ≡ 0 → bookNumber (now book) ≡ 0) ⌝ }
+    requires { ⌜ LimitsInRange (asLimits limits) ⌝ }
+    requires { ⌜ SumsFound (now book) number (now sums) ⌝ }
+    ensures { λ r. ⌜ replyOf r ≡ replyAfter number (asLimits limits) (now (book .entry)) (afternoonLevelOf id) ⌝ }
 {
-    level(book, id, true)
+    level(book, number, limits, sums, id, true)
 }

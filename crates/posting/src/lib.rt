@@ -2,10 +2,11 @@
 ghost use mathlib.Core.Path.{_≡_};
 ghost use Prim.Native.Nat.{_<_};
 ghost use lib.ListN.{length, set};
-ghost use Rattle.rules.specs.Levels.{today};
+ghost use Rattle.rules.specs.Levels.{Limits};
 ghost use Rattle.rules.specs.Calls.{only};
 ghost use Rattle.records.specs.User.{asUser};
-ghost use Rattle.format.specs.Steps.{Called};
+ghost use Rattle.format.specs.Questions.{bookNumber};
+ghost use Rattle.format.specs.After.{CalledAfter};
 ghost use Rattle.posting.specs.Posting.{Ready, PostedTo, postingOf};
 use records::User;
 use units::Net;
@@ -65,11 +66,13 @@ fn post(u: User, area: usize, amount: i64) -> PostedUser
     }
 }
 
-// Adds an amount to a user's physical entry and position in an area; the number of the first question that is answered by no, and then nothing is changed.
-pub fn posting(book: &mut [u8], id: u32, area: u32, amount: i64) -> u32
-    ensures { λ r. ⌜ Called today (now (book .entry)) (postingOf id area amount) (only r) (now (book .exit)) ⌝ }
+// Adds an amount to a user's physical entry and position in an area, after the opening questions, whose number is given; the number of the first question that is answered
+// by no, and then nothing is changed. It takes no figure of the limits.
+pub fn posting(book: &mut [u8], number: u32, id: u32, area: u32, amount: i64) -> u32
+    requires { ⌜ (number ≡ 0 → bookNumber (now book) ≡ 0) ⌝ }
+    ensures { λ r. ⌜ ((limits : Limits) → CalledAfter number limits (now (book .entry)) (postingOf id area amount) (only r) (now (book .exit))) ⌝ }
 {
-    let entry = entry::enter(book, id);
+    let entry = entry::seek(book, number, id);
     let number = entry.number;
     let place = entry.place;
     if number != 0 {

@@ -9,7 +9,8 @@ use units::Net;
 ghost use mathlib.Core.Path.{_≡_};
 ghost use Rattle.rules.specs.Levels.{today};
 ghost use Rattle.format.specs.Questions.{bookNumber};
-ghost use Rattle.format.specs.Steps.{stepBytes};
+ghost use Rattle.format.specs.Steps.{Called, stepBytes};
+ghost use Rattle.answers.specs.Run.{answerOf};
 ghost use Rattle.call_run.specs.Call.{runCall};
 ghost use Rattle.levels.specs.Limits.{asLimits};
 ghost use Rattle.units.specs.Prices.{asPrices};
@@ -127,11 +128,29 @@ fn totals(answer: RunAnswer) {
     io::write_all(STDOUT_FILENO, b"\n");
 }
 
+// Runs a book in bytes, with today's figures.
+fn run(book: &mut [u8]) -> RunAnswer
+    ensures { λ r. ⌜ Called today (now (book .entry)) runCall (answerOf r) (now (book .exit)) ⌝ }
+{
+    let mut sellers = [0u8; 256];
+    let mut parties = [0u8; 256];
+    let mut sums = [0u32; 768];
+    let asked = questions::ask(book, &mut sellers, &mut parties, &mut sums);
+    call_run::run(
+        book,
+        asked.number,
+        Limits::today(),
+        &sellers,
+        &parties,
+        &sums,
+    )
+}
+
 // Runs a book in bytes and prints its day: the run, and the line of every user in the book that the run leaves; or the number of the question that refuses it.
 pub fn day(book: &mut [u8])
     ensures { λ _. ⌜ now (book .exit) ≡ stepBytes today (now (book .entry)) runCall .bytes ⌝ }
 {
-    let answer = call_run::run(book);
+    let answer = run(book);
     let question = answer.number;
     if question != 0 {
         refusal(question);

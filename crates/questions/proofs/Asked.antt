@@ -23,7 +23,7 @@ use Rattle.form.specs.Zeros.{zerosIn}
 use Rattle.positions.specs.Sums.{placesOf}
 use Rattle.positions.specs.Twelve.{Twelve, TwelveOf, Low}
 use Rattle.positions.proofs.Twelve.{twelve-of}
-use Rattle.questions.specs.Asked.{UsersAsked, TradesAsked, InBytes, RecordsAsked, FieldsPlaced, Summed, pastSix, tradeAmong, recordsNumber, fieldsNumber}
+use Rattle.questions.specs.Asked.{UsersAsked, TradesAsked, InBytes, RecordsAsked, FieldsPlaced, AskedOf, Summed, SumsFound, PartiesFound, pastSix, tradeAmong, recordsNumber, fieldsNumber}
 use Rattle.questions.proofs.Known.{all-tradeAmong, all-parties, valid-rising}
 
 -- ---- 5 to 7
@@ -154,3 +154,12 @@ form-before s e h = go (marked s) (versioned s) (sized s) e h
     go true true false e h t = rw e at t
     go true false c e h t = rw e at t
     go false b c e h t = rw e at t
+
+-- ---- what a call is handed, by a number that is 0 only where no question refuses
+
+module _ {s : List ℕ} {count k read number : ℕ} {sums : List ℕ} (told : Summed (usersOf s) (tradesOf s) count k read sums) (passes : number ≡ 0 → k ≡ 0) where
+  pub sums-found : SumsFound s number sums
+  sums-found = record { twelve = λ e. sums-told told (passes e) .0; low = λ e. sums-told told (passes e) .1 }
+
+  pub parties-found : {sellers buyers : List ℕ} → AskedOf s k sellers buyers → PartiesFound s number sellers buyers sums
+  parties-found asked = record { placed = λ e. asked .placed (passes e); summed = sums-found }

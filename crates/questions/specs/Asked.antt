@@ -84,3 +84,15 @@ pub record FieldsPlaced (s : List ℕ) (number : ℕ) (sellers buyers : List ℕ
 pub record AskedOf (s : List ℕ) (r : ℕ) (sellers buyers : List ℕ) : Type 0 where
   pub number : r ≡ bookNumber s
   pub placed : r ≡ 0 → Placed (usersOf s) (tradesOf s) sellers buyers
+
+-- ---- what a call is handed with the number of its opening questions, which is 0 only where 1 to 7 refuse nothing
+
+-- where the number is 0, the sums are what each user sold and bought
+pub record SumsFound (s : List ℕ) (number : ℕ) (sums : List ℕ) : Type 0 where
+  pub twelve : number ≡ 0 → TwelveOf (usersOf s) (tradesOf s) sums
+  pub low : number ≡ 0 → Low sums
+
+-- and the places are those of the trades' parties
+pub record PartiesFound (s : List ℕ) (number : ℕ) (sellers buyers sums : List ℕ) : Type 0 where
+  pub placed : number ≡ 0 → Placed (usersOf s) (tradesOf s) sellers buyers
+  pub summed : SumsFound s number sums

@@ -1,34 +1,34 @@
 -- Bytes that passed the questions 1 to 7 are those of a book that can be run, or reduced for a user. Assumes nothing.
 use mathlib.Core.List.{List}
-use mathlib.Core.Path.{_≡_, refl, sym, subst, _∙_}
+use mathlib.Core.Path.{_≡_, refl, sym, _∙_}
 use Prim.Native.Nat.{ℕ}
-use lib.Dec.{T}
 use Rattle.fields.specs.Field.{AllBytes}
 use Rattle.format.proofs.Passed.{passed}
 use Rattle.format.specs.Book.{bookOf, pricesAt, tradeCount, tradesOf, usersOf}
 use Rattle.format.specs.Questions.{bookNumber}
 use Rattle.held.proofs.Held.{held-accepted}
 use Rattle.levels.specs.Limits.{LimitsInRange}
-use Rattle.questions.specs.Asked.{AskedOf, Summed, pastSix}
+use Rattle.questions.proofs.Asked.{parties-found}
+use Rattle.questions.specs.Asked.{AskedOf, PartiesFound, Summed}
 use Rattle.rules.specs.Areas.{Prices}
 use Rattle.rules.specs.Levels.{Limits}
 use Rattle.run_reduction.specs.Books.{Runnable}
 
--- bytes that passed, the places of the parties of their trades, and the sums of their users
-module _ {s : List ℕ} {n : ℕ} {sellers parties : List ℕ} (o : AskedOf s n sellers parties) (yes : n ≡ 0) where
-  pub asked-passes : bookNumber s ≡ 0
-  asked-passes = sym (o .number) ∙ yes
-
-  -- they can be run
-  pub asked-runnable : {limits : Limits} {f : Prices} {read : ℕ} {sums : List ℕ} → AllBytes s → LimitsInRange limits → f ≡ pricesAt 12 s
-      → Summed (usersOf s) (tradesOf s) (tradeCount s) n read sums → Runnable limits f s sellers parties sums
-  unfolding bookOf pastSix
-  asked-runnable bytes l e w =
-      let six : T (pastSix n) = subst (λ (k : ℕ). T (pastSix k)) (sym yes) tt in
+module _ {s : List ℕ} {n : ℕ} {sellers parties sums : List ℕ} {limits : Limits} {f : Prices} where
+  -- bytes that passed, with the places of their trades' parties and the sums of their users, can be run
+  pub found-runnable : PartiesFound s n sellers parties sums → n ≡ 0 → bookNumber s ≡ 0 → AllBytes s → LimitsInRange limits → f ≡ pricesAt 12 s
+      → Runnable limits f s sellers parties sums
+  unfolding bookOf
+  found-runnable o asked passes bytes l e =
       record {
-        book = record { held = held-accepted s bytes asked-passes; sound = passed s asked-passes .sound; users-are = refl; trades-are = refl; placed = o .placed yes };
+        book = record { held = held-accepted s bytes passes; sound = passed s passes .sound; users-are = refl; trades-are = refl; placed = o .placed asked };
         limits-in = l;
         prices-are = e;
-        twelve = w .twelve six;
-        low = w .low six;
+        twelve = o .summed .twelve asked;
+        low = o .summed .low asked;
       }
+
+  -- as they are asked
+  pub asked-runnable : AskedOf s n sellers parties → n ≡ 0 → AllBytes s → LimitsInRange limits → f ≡ pricesAt 12 s → {read : ℕ}
+      → Summed (usersOf s) (tradesOf s) (tradeCount s) n read sums → Runnable limits f s sellers parties sums
+  asked-runnable o passes bytes l e w = found-runnable (parties-found w (λ z. z) o) passes (sym (o .number) ∙ passes) bytes l e

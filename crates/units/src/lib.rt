@@ -20,7 +20,7 @@ pub struct Cents(pub u64);
 pub struct Price(pub u32);
 
 impl Price {
-    // What an energy is worth at this price: the only way from energy to money. No reference price in range is above 300,000.
+    // What an energy is worth at this price: the way from energy to money. Only the cuts of a tier, which are plain numbers, multiply by the rate of an area (`cut_worth`). No reference price in range is above 300,000.
     pub fn worth(self, energy: Mwh) -> Cents
         requires { ⌜ (self .0 ≤ 300000) × (energy .0 ≤ 2 ^ 45) ⌝ }
         ensures { λ r. ⌜ r .0 ≡ energy .0 * self .0 ⌝ }

@@ -1,8 +1,7 @@
 -- The ways out of a warning, of a trade that warns, and of a flagged shipper. Assumes nothing.
 use mathlib.Core.Bool.{Bool, true, false, _&&_}
-use mathlib.Core.List.{List, [], _∷_, _++_}
-use mathlib.Core.Option.{some}
-use mathlib.Core.Path.{_≡_, refl, sym, subst, _∙_}
+use mathlib.Core.List.{List, [], _∷_}
+use mathlib.Core.Path.{_≡_, refl, sym, ap, subst, _∙_}
 use Prim.Native.Nat.{ℕ, _+_, _*_, _≤_}
 use native.Mathlib.Nat.{zero-mul}
 use native.Mathlib.Omega.{arith}
@@ -16,17 +15,17 @@ use Rattle.rules.specs.Calls.{idKnown, isShipper}
 use Rattle.rules.specs.Levels.{Limits, buys, exposure, flagged, holding, leastReferencePrice, sellerOf, shipper}
 use Rattle.rules.specs.Lists.{any}
 use Rattle.rules.specs.Queries.{aWarning, aboutQuery, found, onlyNumber, warned, warning, warns}
-use Rattle.rules.specs.Questions.{decided, refusal}
+use Rattle.rules.specs.Questions.{Question, decided, refusal}
 use Rattle.units.specs.Prices.{asPrices, InRange}
 use Rattle.units.specs.declared.Prices.{Prices}
 use Rattle.records.specs.User.{asUser}
 use Rattle.records.specs.declared.User as code
 use Rattle.format.specs.Book.{bookOf, usersOf}
-use Rattle.format.specs.Questions.{aboutBytes}
-use Rattle.format.specs.Steps.{placeOf, replyBytes}
+use Rattle.format.specs.Steps.{placeOf}
+use Rattle.format.specs.After.{replyAfter}
 use Rattle.format.proofs.OneUser.{find-place}
 use Rattle.entry.proofs.Calls.{query-found, query-refused, read-user}
-use Rattle.entry.specs.Entered.{Found}
+use Rattle.entry.specs.Entered.{Entered, Found}
 use Rattle.account.proofs.Accepted.{blocked-within, prices-within}
 use Rattle.warning.specs.Warned.{Priced, flaggedShipper, warnsBuyer}
 
@@ -97,23 +96,31 @@ module _ {s : List ℕ} {id place : ℕ} (u : code.User) (f : Found s id place) 
   read-blocked = subst (λ (v : User). v .blocked ≤ 1000000000000) (sym h) (blocked-within s (f .passes) (f .known))
 
   -- its warning is that of the user of the id
-  pub read-warned : {l m : Limits} → l ≡ m → warned l (bookOf s) (asUser u) ≡ warned m (bookOf s) (find (bookOf s .users) id)
-  read-warned e = cc (e, read-user u f h)
+  pub read-warned : (limits : Limits) → warned limits (bookOf s) (asUser u) ≡ warned limits (bookOf s) (find (bookOf s .users) id)
+  read-warned limits = ap (warned limits (bookOf s)) (read-user u f h)
 
 -- ---- a warning
 
-module _ (limits : Limits) (s : List ℕ) (id : ℕ) where
-  pub warning-refused : (n : ℕ) → refusal (aboutBytes s ++ (idKnown (bookOf s) id ∷ [])) ≡ some n → onlyNumber n ≡ replyBytes limits s (warning id)
-  unfolding aboutQuery
-  warning-refused n h = rw (query-refused limits s id (isShipper (find (bookOf s .users) id) ∷ []) (warning id) refl n h)
+module _ (before : ℕ) (limits : Limits) (s : List ℕ) (id : ℕ) where
+  -- what is asked after the entry
+  rest : List Question
+  rest = isShipper (find (bookOf s .users) id) ∷ []
 
-  module _ {place : ℕ} (f : Found s id place) where
-    pub warning-of-house : (find (bookOf s .users) id .party .role ≡ 0 → ⊥) → onlyNumber 9 ≡ replyBytes limits s (warning id)
-    unfolding aboutQuery isShipper shipper refusal decided
-    warning-of-house h =
-        rw (query-found limits s id (isShipper (find (bookOf s .users) id) ∷ []) (warning id) refl f, ne-eqb (find (bookOf s .users) id .party .role) 0 h)
+  own : aboutQuery (bookOf s) (warning id) ≡ idKnown (bookOf s) id ∷ rest
+  unfolding aboutQuery rest
+  own = refl
 
-    pub warning-found : find (bookOf s .users) id .party .role ≡ 0 → aWarning (warned limits (bookOf s) (find (bookOf s .users) id)) ≡ replyBytes limits s (warning id)
-    unfolding aboutQuery isShipper shipper refusal decided found
-    warning-found h =
-        rw (query-found limits s id (isShipper (find (bookOf s .users) id) ∷ []) (warning id) refl f, eq-eqb (find (bookOf s .users) id .party .role) 0 h)
+  pub warning-refused : {n place : ℕ} → Entered before s id n place → (n ≡ 0 → ⊥) → onlyNumber n ≡ replyAfter before limits s (warning id)
+  warning-refused e h = sym (query-refused before limits s id rest (warning id) own e h)
+
+  module _ {place : ℕ} (o : before ≡ 0) (f : Found s id place) where
+    found-reply : replyAfter before limits s (warning id) ≡ decided (refusal rest) onlyNumber (found limits (bookOf s) (warning id))
+    found-reply = query-found before limits s id rest (warning id) own o f
+
+    pub warning-of-house : (find (bookOf s .users) id .party .role ≡ 0 → ⊥) → onlyNumber 9 ≡ replyAfter before limits s (warning id)
+    unfolding rest isShipper shipper refusal decided
+    warning-of-house h = rw (found-reply, ne-eqb (find (bookOf s .users) id .party .role) 0 h)
+
+    pub warning-found : find (bookOf s .users) id .party .role ≡ 0 → aWarning (warned limits (bookOf s) (find (bookOf s .users) id)) ≡ replyAfter before limits s (warning id)
+    unfolding rest isShipper shipper refusal decided found
+    warning-found h = rw (found-reply, eq-eqb (find (bookOf s .users) id .party .role) 0 h)

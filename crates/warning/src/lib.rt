@@ -6,10 +6,10 @@ use units::Prices;
 ghost use mathlib.Core.Path.{_≡_};
 ghost use Rattle.rules.specs.Book.{find};
 ghost use Rattle.rules.specs.Lists.{any};
-ghost use Rattle.rules.specs.Levels.{today};
 ghost use Rattle.records.specs.Trade.{asTrade};
 ghost use Rattle.format.specs.Book.{bookOf};
-ghost use Rattle.format.specs.Steps.{replyBytes};
+ghost use Rattle.format.specs.Questions.{bookNumber};
+ghost use Rattle.format.specs.After.{replyAfter};
 ghost use Rattle.levels.specs.Limits.{asLimits, LimitsInRange};
 ghost use Rattle.answers.specs.Warning.{replyOf};
 ghost use Rattle.warning.specs.Warned.{Priced, flaggedShipper, warnsBuyer, warningOf};
@@ -71,11 +71,13 @@ fn any_warns(book: &[u8], prices: Prices, id: u32, limits: Limits) -> bool
     false
 }
 
-// The warning of the user of an id.
-pub fn warning(book: &[u8], id: u32) -> WarningAnswer
-    ensures { λ r. ⌜ replyOf r ≡ replyBytes today (now (book .entry)) (warningOf id) ⌝ }
+// The warning of the user of an id, after the opening questions, whose number is given.
+pub fn warning(book: &[u8], number: u32, limits: Limits, id: u32) -> WarningAnswer
+    requires { ⌜ (number ≡ 0 → bookNumber (now book) ≡ 0) ⌝ }
+    requires { ⌜ LimitsInRange (asLimits limits) ⌝ }
+    ensures { λ r. ⌜ replyOf r ≡ replyAfter number (asLimits limits) (now (book .entry)) (warningOf id) ⌝ }
 {
-    let entry = entry::enter(book, id);
+    let entry = entry::seek(book, number, id);
     let number = entry.number;
     let place = entry.place;
     if number != 0 {
@@ -91,7 +93,6 @@ pub fn warning(book: &[u8], id: u32) -> WarningAnswer
             warned: false,
         };
     }
-    let limits = Limits::today();
     let prices = header::read_prices(book);
     if levels::flagged(limits, prices, user) {
         return WarningAnswer {

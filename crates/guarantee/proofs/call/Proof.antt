@@ -1,10 +1,11 @@
 -- `call` is refused by the entry, refused for a clearing house, or ends as the questions 11 and 12 leave it. Assumes nothing.
-use mathlib.Core.Path.{ap, _∙_}
+use mathlib.Core.Path.{_≡_, ap, _∙_}
 use mathlib.Core.List.{List}
 use Prim.Native.Nat.{ℕ}
 use native.Mathlib.Omega.{arith}
 use denote.Ref.{now}
-use Rattle.rules.specs.Levels.{today}
+use Rattle.rules.specs.Levels.{Limits}
+use Rattle.levels.specs.Limits.{asLimits, LimitsInRange}
 use Rattle.format.specs.Steps.{InBytes}
 use Rattle.format.proofs.Passed.{passed}
 use Rattle.entry.specs.Entered.{Found}
@@ -16,17 +17,33 @@ use borrow.Author.Needs.{needs}
 use Rattle.guarantee.proofs.call.Statement.{statement}
 use Rattle.guarantee.proofs.call.Tie as tie
 
-abbrev bytes : tie.After-enter-summed → List ℕ
-bytes c = now (c .before .before .before .before .args .book)
+abbrev start : tie.After-seek → tie.Start
+start c = c .before .before .before
 
-abbrev asked : tie.After-enter-summed → ℕ
-asked c = c .before .before .before .before .args .id
+abbrev bytes : tie.After-seek → List ℕ
+bytes c = now (start c .args .book)
 
-found : (c : tie.Else1) → Found (bytes (c .before)) (asked (c .before)) (c .before .enter-summed .result .place)
-found c = c .before .enter-summed .ensures .0 .found (c .if1 .left)
+abbrev asked : tie.After-seek → ℕ
+asked c = start c .args .id
 
-enter-summed-requires : tie.Need-enter-summed-requires
-enter-summed-requires c κs = search needs
+abbrev opened : tie.After-seek → ℕ
+opened c = start c .args .number
+
+abbrev figures : tie.After-seek → Limits
+figures c = asLimits (start c .args .limits)
+
+found : (c : tie.Else1) → Found (bytes (c .before)) (asked (c .before)) (c .before .seek .result .place)
+found c = c .before .seek .ensures .found (c .if1 .left)
+
+started : (c : tie.Else1) → opened (c .before) ≡ 0
+started c = c .before .seek .ensures .start (c .if1 .left)
+
+-- the limits that the call is given
+ranged : (c : tie.After-seek) → LimitsInRange (figures c)
+ranged c = start c .pre .1 .0
+
+seek-requires : tie.Need-seek-requires
+seek-requires c κs = c .before .before .pre .0
 
 refused-requires : tie.Need-refused-requires
 refused-requires c κs = search needs
@@ -37,18 +54,18 @@ same-length c = search needs
 returns : tie.Need-returns
 returns c =
     let e = c .before .before in
-    let a = e .before .before .before .before .args .afternoon in
+    let a = start e .args .afternoon in
     called (callOf a (asked e)) (c .refused .ensures)
-    (call-unentered today (bytes e) (asked e) a (e .enter-summed .result .number) (e .enter-summed .ensures .0 .refused (c .before .if1 .taken)))
+    (call-unentered (opened e) (figures e) (bytes e) (asked e) a (e .seek .ensures) (c .before .if1 .taken))
 
 account-from-requires : tie.Need-account-from-requires
 account-from-requires c κs =
-    let n = c .before .before in
-    let told = n .before .enter-summed .ensures .1 in
-    (found n .passes, (found n .known, (told .twelve (n .if1 .left), told .low (n .if1 .left))))
+    let n = c .before in
+    let told = start (n .before) .pre .1 .1 in
+    (found n .passes, (found n .known, (told .twelve (started n), told .low (started n))))
 
 -- the account that is read of the user that was found
-account : (c : tie.After-account-from) → let e = c .before .before .before .before in AccountAt (bytes e) (e .enter-summed .result .place) (c .account-from .result)
+account : (c : tie.After-account-from) → let e = c .before .before .before in AccountAt (bytes e) (e .seek .result .place) (c .account-from .result)
 account c = c .account-from .ensures
 
 refused-requires-2 : tie.Need-refused-requires-2
@@ -61,28 +78,24 @@ returns-2 : tie.Need-returns-2
 returns-2 c =
     let t = c .before in
     let k = t .before .before .before in
-    let n = k .before .before .before in
+    let n = k .before .before in
     let e = n .before in
-    let a = e .before .before .before .before .args .afternoon in
+    let a = start e .args .afternoon in
     called (callOf a (asked e)) (c .refused2 .ensures)
-    (call-of-house today (bytes e) (asked e) a (found n) (λ h. t .if2 .taken (read-role (k .account-from .result .user) (found n) (account k .user) ∙ h)))
-
-today-requires : tie.Need-today-requires
-today-requires c κs = search needs
+    (call-of-house (opened e) (figures e) (bytes e) (asked e) a (started n) (found n) (λ h. t .if2 .taken (read-role (k .account-from .result .user) (found n) (account k .user) ∙ h)))
 
 level-of-requires : tie.Need-level-of-requires
-level-of-requires c κs = (account (c .before .before .before .before) .ready, c .today .ensures .1)
+level-of-requires c κs = let k = c .before .before .before in (account k .ready, ranged (k .before .before .before))
 
 is-due-requires : tie.Need-is-due-requires
 is-due-requires c κs =
-    let t = c .before .before in
-    let k = t .before .before .before .before in
-    let n = k .before .before .before in
-    (passed (bytes (n .before)) (found n .passes) .form, (account k .held, (account k .ready, t .today .ensures .1)))
+    let k = c .before .before .before .before .before in
+    let n = k .before .before in
+    (passed (bytes (n .before)) (found n .passes) .form, (account k .held, (account k .ready, ranged (n .before))))
 
 raise-requires : tie.Need-raise-requires
 raise-requires c κs =
-    let n = c .before .before .before .before .before .before .before .before .before .before .before in
+    let n = c .before .before .before .before .before .before .before .before .before in
     record { inside = found-lies (found n); few = omega (arith, found-few (found n)) }
 
 same-length-3 : tie.Need-same-length-3
@@ -94,19 +107,19 @@ returns-3 c =
     let d = r .before .before in
     let l = d .before .before in
     let t = l .before in
-    let k = t .before .before .before .before in
-    let n = k .before .before .before in
+    let k = t .before .before .before in
+    let n = k .before .before in
     let e = n .before in
     let h = account k in
-    let a = e .before .before .before .before .args .afternoon in
-    let x = call-ends today (bytes e) (asked e) a (found n) (λ j. e .before .before .before .slice-known .given j .fits) h (t .today .ensures .0) (t .before .if2 .left) (l .level-of .ensures (bytes e) (h .held)) (d .is-due .ensures) in
+    let a = start e .args .afternoon in
+    let x = call-ends (opened e) (figures e) (bytes e) (asked e) a (started n) (found n) (λ j. e .before .before .slice-known .given j .fits) h (t .if2 .left) (l .level-of .ensures (bytes e) (h .held)) (d .is-due .ensures) in
     record { answer = r .raise .ensures .0 ∙ ap (λ (y : InBytes). y .answer) x; bytes = r .raise .ensures .1 ∙ ap (λ (y : InBytes). y .bytes) x }
 
 pub call-spec : {M : Type 1} → statement M
 call-spec =
     tie.close
     (tie.spec
-    enter-summed-requires
+    seek-requires
     refused-requires
     same-length
     returns
@@ -114,7 +127,6 @@ call-spec =
     refused-requires-2
     same-length-2
     returns-2
-    today-requires
     level-of-requires
     is-due-requires
     raise-requires

@@ -15,7 +15,7 @@ use Rattle.entry.proofs.Calls.{found-bytes, found-few, found-lies}
 use Rattle.entry.specs.Entered.{Found}
 use Rattle.fields.proofs.Sets.{part-sets}
 use Rattle.format.specs.Book.{userAt, usersOf}
-use Rattle.format.specs.Steps.{Called}
+use Rattle.format.specs.After.{CalledAfter}
 use Rattle.posting.proofs.Ways.{accepted, no-area, out-of-range, ready, refused}
 use Rattle.posting.proofs.posting.Statement.{statement}
 use Rattle.posting.proofs.posting.Tie as tie
@@ -28,17 +28,20 @@ use Rattle.rules.specs.Levels.{today}
 
 -- ---- the user that the entry found
 
-abbrev start : tie.After-enter → tie.Start
+abbrev start : tie.After-seek → tie.Start
 start c = c .before .before .before
 
-abbrev bytes : tie.After-enter → List ℕ
+abbrev bytes : tie.After-seek → List ℕ
 bytes c = now (start c .args .book)
 
-found : (c : tie.Else1) → Found (bytes (c .before)) (start (c .before) .args .id) (c .before .enter .result .place)
-found c = c .before .enter .ensures .found (c .if1 .left)
+found : (c : tie.Else1) → Found (bytes (c .before)) (start (c .before) .args .id) (c .before .seek .result .place)
+found c = c .before .seek .ensures .found (c .if1 .left)
+
+started : (c : tie.Else1) → start (c .before) .args .number ≡ 0
+started c = c .before .seek .ensures .start (c .if1 .left)
 
 -- the found record lies in the book
-inside : (c : tie.Else1) → (32 + 56 * c .before .enter .result .place + 56 ≤ length (bytes (c .before))) × (c .before .enter .result .place < 64)
+inside : (c : tie.Else1) → (32 + 56 * c .before .seek .result .place + 56 ≤ length (bytes (c .before))) × (c .before .seek .result .place < 64)
 inside c = (found-lies (found c), found-few (found c))
 
 -- its record is read
@@ -48,7 +51,7 @@ read-in c = c .before .before .before .before
 user-is : (c : tie.After-read-user) → let e = read-in c .before in asUser (c .read-user .result) ≡ find (usersOf (bytes e)) (start e .args .id)
 user-is c =
     let e = read-in c .before in
-    let at = 32 + 56 * e .enter .result .place in
+    let at = 32 + 56 * e .seek .result .place in
     let k : at + 56 - at ≡ 56 = omega arith in
     c .read-user .ensures ∙ ap (λ (n : ℕ). userOf (take n (drop at (bytes e)))) k ∙ sym (found-bytes (found (read-in c)))
 
@@ -64,26 +67,26 @@ told c =
 
 -- ---- the needs
 
-enter-requires : tie.Need-enter-requires
-enter-requires c κs = search needs
+seek-requires : tie.Need-seek-requires
+seek-requires c κs = c .before .before .pre
 
 same-length : tie.Need-same-length
 same-length c = search needs
 
 returns : tie.Need-returns
-returns c =
+returns c = λ limits.
     let e = c .before in
     let a = start e .args in
-    refused (bytes e) (a .id) (a .area) (a .amount) (e .enter .result .number) (e .enter .ensures .refused (c .if1 .taken))
+    refused (a .number) limits (bytes e) (a .id) (a .area) (a .amount) (e .seek .ensures) (c .if1 .taken)
 
 same-length-2 : tie.Need-same-length-2
 same-length-2 c = search needs
 
 returns-2 : tie.Need-returns-2
-returns-2 c =
+returns-2 c = λ limits.
     let e = c .before .before in
     let a = start e .args in
-    no-area (bytes e) (a .id) (a .area) (a .amount) (found (c .before)) (c .if2 .taken)
+    no-area (a .number) limits (bytes e) (a .id) (a .area) (a .amount) (started (c .before)) (found (c .before)) (c .if2 .taken)
 
 mul-a : tie.Need-mul-a
 mul-a c = omega (arith, inside (c .before))
@@ -111,17 +114,17 @@ post-requires c κs =
     let i = c .before .before .before in
     let e = i .before .before in
     let a = start e .args in
-    rw (user-is c) (ready (bytes e) (a .id) (a .area) (a .amount) (found (i .before)) (omega (arith, i .if2 .left)))
+    rw (user-is c) (ready (a .number) today (bytes e) (a .id) (a .area) (a .amount) (started (i .before)) (found (i .before)) (omega (arith, i .if2 .left)))
 
 same-length-3 : tie.Need-same-length-3
 same-length-3 c = search needs
 
 returns-3 : tie.Need-returns-3
-returns-3 c =
+returns-3 c = λ limits.
     let p = c .before .before in
     let e = entered p .before in
     let a = start e .args in
-    out-of-range (bytes e) (a .id) (a .area) (a .amount) (found (entered p)) (omega (arith, p .before .before .before .before .if2 .left))
+    out-of-range (a .number) limits (bytes e) (a .id) (a .area) (a .amount) (started (entered p)) (found (entered p)) (omega (arith, p .before .before .before .before .if2 .left))
     (sym (told p .test) ∙ not-true (p .post .result .accepted) (c .if3 .taken))
 
 add-write-user : tie.Need-add-write-user
@@ -144,27 +147,27 @@ same-length-4 c = search needs
 
 returns-4 : tie.Need-returns-4
 unfolding userAt
-returns-4 c =
+returns-4 c = λ limits.
     let w = c .before .before in
     let n = w .before .before .before in
     let p = n .before .before in
     let e = entered p .before in
     let a = start e .args in
     let s = bytes e in
-    let at = 32 + 56 * e .enter .result .place in
+    let at = 32 + 56 * e .seek .result .place in
     let ok = not-false (p .post .result .accepted) (n .if3 .left) in
     let v = asUser (p .post .result .user) in
     let k : at + 56 - at ≡ 56 = omega arith in
     let stored : putMid at (at + 56 - at) s (w .write-user .last .0) ≡ sets s at (userBytes v) =
     rw (k, w .write-user .ensures) (part-sets s (userBytes v) at 56 (length-userBytes v) (inside (entered p) .0)) in
-    subst⁻¹ (Called today s (postingOf (a .id) (a .area) (a .amount)) (only 0)) (stored ∙ rw (told p .user ok))
-    (accepted s (a .id) (a .area) (a .amount) (found (entered p)) (λ j. e .before .before .slice-known .given j .fits) (omega (arith, p .before .before .before .before .if2 .left)) (sym (told p .test) ∙ ok))
+    subst⁻¹ (CalledAfter (a .number) limits s (postingOf (a .id) (a .area) (a .amount)) (only 0)) (stored ∙ rw (told p .user ok))
+    (accepted (a .number) limits s (a .id) (a .area) (a .amount) (started (entered p)) (found (entered p)) (λ j. e .before .before .slice-known .given j .fits) (omega (arith, p .before .before .before .before .if2 .left)) (sym (told p .test) ∙ ok))
 
 pub posting-spec : {M : Type 1} → statement M
 posting-spec =
     tie.close
     (tie.spec
-    enter-requires
+    seek-requires
     same-length
     returns
     same-length-2

@@ -1,0 +1,46 @@
+-- `daybook::reduction` reduces after the questions of the book, with today's figures. Assumes nothing.
+use mathlib.Core.Path.{_∙_, sym}
+use borrow.Author.Needs.{needs}
+use Rattle.questions.proofs.Asked.{parties-found}
+use Rattle.daybook.proofs.Today.{called-today}
+use Rattle.daybook.proofs.reduction.Statement.{statement}
+use Rattle.daybook.proofs.reduction.Tie as tie
+
+slice-aggregate-ask : tie.Need-slice-aggregate-ask
+slice-aggregate-ask c = search needs
+
+slice-aggregate-ask-2 : tie.Need-slice-aggregate-ask-2
+slice-aggregate-ask-2 c = search needs
+
+ask-requires : tie.Need-ask-requires
+ask-requires c κs = search needs
+
+today-requires : tie.Need-today-requires
+today-requires c κs = search needs
+
+reduction-requires : tie.Need-reduction-requires
+reduction-requires c κs =
+    let t = c .before .before .before in
+    let told = t .before .before .before .before .ask .ensures in
+    (λ z. sym (told .0 .number) ∙ z, (t .today .ensures .1, parties-found (told .1) (λ z. z) (told .0)))
+
+same-length : tie.Need-same-length
+same-length c = search needs
+
+returns : tie.Need-returns
+returns c =
+    let k = c .before .before in
+    let t = k .before .before .before .before in
+    called-today (t .today .ensures .0) (t .before .before .before .before .ask .ensures .0 .number) (k .reduction .ensures)
+
+pub reduction-spec : {M : Type 1} → statement M
+reduction-spec =
+    tie.close
+    (tie.spec
+    slice-aggregate-ask
+    slice-aggregate-ask-2
+    ask-requires
+    today-requires
+    reduction-requires
+    same-length
+    returns)
