@@ -41,7 +41,7 @@ form-numbered : (s : List ℕ) → T (numbered (aboutForm s))
 unfolding numbered aboutForm all
 form-numbered s = tt
 
-bytes-numbered : (s : List ℕ) → T (numbered (aboutBytes s))
+pub bytes-numbered : (s : List ℕ) → T (numbered (aboutBytes s))
 unfolding numbered aboutBytes aboutForm aboutFields all
 bytes-numbered s = tt
 

@@ -2,6 +2,7 @@
 pub mod Formed
 pub mod Passed
 pub mod Steps
+pub mod After
 -- read and written again, written and read again,
 pub mod Round
 pub mod Written

@@ -2,3 +2,4 @@
 pub mod Book
 pub mod Questions
 pub mod Steps
+pub mod After
