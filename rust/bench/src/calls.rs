@@ -128,7 +128,7 @@ fn show(subject: &Subject, options: &Options) -> Times {
     both(
         subject,
         options,
-        |book| expect(archive::show(black_box(book), id, &mut record)),
+        |book| expect(archive::show(black_box(book), None, id, &mut record)),
         |book| accept(tuned::show(black_box(book), id)),
     )
 }
@@ -139,7 +139,7 @@ fn posting(subject: &Subject, options: &Options) -> Times {
     both(
         subject,
         options,
-        |book| expect(archive::posting(book, id, 0, 1)),
+        |book| expect(archive::posting(book, None, id, 0, 1)),
         |book| accept(tuned::posting(book, id, 0, 1)),
     )
 }
@@ -150,7 +150,14 @@ fn morning_level(subject: &Subject, options: &Options) -> Times {
     both(
         subject,
         options,
-        |book| expect(archive::morning_level(black_box(book), id, &mut answer)),
+        |book| {
+            expect(archive::morning_level(
+                black_box(book),
+                None,
+                id,
+                &mut answer,
+            ))
+        },
         |book| accept(tuned::morning_level(black_box(book), id)),
     )
 }
@@ -161,7 +168,7 @@ fn warning(subject: &Subject, options: &Options) -> Times {
     both(
         subject,
         options,
-        |book| expect(archive::warning(black_box(book), id, &mut answer)),
+        |book| expect(archive::warning(black_box(book), None, id, &mut answer)),
         |book| accept(tuned::warning(black_box(book), id)),
     )
 }
@@ -172,7 +179,14 @@ fn level(subject: &Subject, options: &Options) -> Times {
     both(
         subject,
         options,
-        |book| expect(archive::afternoon_level(black_box(book), id, &mut answer)),
+        |book| {
+            expect(archive::afternoon_level(
+                black_box(book),
+                None,
+                id,
+                &mut answer,
+            ))
+        },
         |book| accept(tuned::afternoon_level(black_box(book), id)),
     )
 }
@@ -183,7 +197,7 @@ fn call(subject: &Subject, options: &Options) -> Times {
     both(
         subject,
         options,
-        |book| expect(archive::afternoon_call(book, id, &mut answer)),
+        |book| expect(archive::afternoon_call(book, None, id, &mut answer)),
         |book| accept(tuned::afternoon_call(book, id)),
     )
 }
@@ -194,7 +208,7 @@ fn reduction(subject: &Subject, options: &Options) -> Times {
     both(
         subject,
         options,
-        |book| expect(archive::reduction(book, id, &mut answer)),
+        |book| expect(archive::reduction(book, None, id, &mut answer)),
         |book| accept(tuned::reduction(book, id)),
     )
 }
@@ -215,7 +229,7 @@ fn refused_reduction(subject: &Subject, options: &Options) -> Times {
     both(
         &refused,
         options,
-        |book| assert_eq!(archive::reduction(book, id, &mut answer), 13),
+        |book| assert_eq!(archive::reduction(book, None, id, &mut answer), 13),
         |book| assert_eq!(tuned::reduction(book, id), Err(13)),
     )
 }
@@ -225,7 +239,7 @@ fn run(subject: &Subject, options: &Options) -> Times {
     both(
         subject,
         options,
-        |book| expect(archive::run(book, &mut answer)),
+        |book| expect(archive::run(book, None, &mut answer)),
         |book| accept(tuned::run(book)),
     )
 }

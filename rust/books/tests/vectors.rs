@@ -17,3 +17,8 @@ fn sha256_of_known_texts() {
 fn every_call() {
     assert_eq!(vectors::replay(answer), vectors::CALLS);
 }
+
+#[test]
+fn every_call_with_a_store() {
+    assert_eq!(vectors::replay_requests(answer), vectors::REQUESTS);
+}

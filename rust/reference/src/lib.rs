@@ -1,11 +1,13 @@
 //! Reference implementation of document 01: the day book, imbalance risk,
-//! guarantee calls and reduced trades.
+//! guarantee calls and reduced trades; and of document 02, ask 4: parameters
+//! with a start date.
 //!
 //! It is plain and slow on purpose. The modules follow the order of the
 //! document, and the comments cite its sections in quotes. Every number is
 //! computed in 128 bits, where no value of any book can wrap.
 //!
-//! Every call takes the book as bytes. A refused call returns the number of
+//! Every call takes the book as bytes, and a store as bytes or none; reading,
+//! writing and the printed day take no store. A refused call returns the number of
 //! the first question that failed, every other field 0, and leaves the book.
 
 #![forbid(unsafe_code)]
@@ -19,6 +21,7 @@ pub mod questions;
 pub mod reduction;
 pub mod run;
 pub mod show;
+pub mod store;
 pub mod transfer;
 pub mod units;
 pub mod warning;

@@ -9,7 +9,8 @@
 //! touched.
 //!
 //! Every call takes the book as bytes. A refused call returns the number of the
-//! first question that failed, and leaves the book.
+//! first question that failed, and leaves the book. The calls of document 01
+//! stand here, those with a store (document 02, ask 4) in [`requests`].
 
 #![forbid(unsafe_code)]
 
@@ -18,8 +19,10 @@ mod calls;
 mod gathered;
 mod records;
 mod reduction;
+pub mod requests;
 mod run;
 mod sales;
+mod store;
 mod transfer;
 mod units;
 
