@@ -2,7 +2,9 @@
 
 use std::hint::black_box;
 
+use books::stores::longest;
 use daybook::{archive, IMAGE_LENGTH};
+use tuned::requests;
 
 use crate::measure::{times, Times};
 use crate::options::Options;
@@ -30,6 +32,7 @@ pub fn print_table(subject: &Subject, options: &Options) {
     print_row("posting", posting(subject, options));
     print_row("morning level", morning_level(subject, options));
     print_row("afternoon level", level(subject, options));
+    print_row("the same, 32 sets", level_of_store(subject, options));
     print_row("afternoon call", call(subject, options));
     print_row("warning", warning(subject, options));
     print_row("reduction", reduction(subject, options));
@@ -188,6 +191,27 @@ fn level(subject: &Subject, options: &Options) -> Times {
             ))
         },
         |book| accept(tuned::afternoon_level(black_box(book), id)),
+    )
+}
+
+/// The afternoon level with a store of 32 sets.
+fn level_of_store(subject: &Subject, options: &Options) -> Times {
+    let id = subject.called;
+    let store = longest();
+    let store = black_box(Some(&store[..]));
+    let mut answer = [0; 1];
+    both(
+        subject,
+        options,
+        |book| {
+            expect(archive::afternoon_level(
+                black_box(book),
+                store,
+                id,
+                &mut answer,
+            ))
+        },
+        |book| accept(requests::afternoon_level(black_box(book), store, id)),
     )
 }
 

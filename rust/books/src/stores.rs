@@ -83,6 +83,18 @@ pub fn any_store(random: &mut Random, date: u32) -> Option<Vec<u8>> {
     Some(store(random, kind, date))
 }
 
+/// The longest store: 32 sets with today's figures, all begun in 2020.
+pub fn longest() -> Vec<u8> {
+    let set = |first_date: u32| ParameterSet {
+        first_date,
+        energy: 30_000,
+        margin: 1_000_000,
+        least_level: 10_000_000,
+    };
+    let days = (20_200_101..=20_200_131).chain([20_200_201]);
+    to_bytes(&days.map(set).collect::<Vec<ParameterSet>>())
+}
+
 /// A store of this kind for a book of this date.
 pub fn store(random: &mut Random, kind: StoreKind, date: u32) -> Vec<u8> {
     match kind {

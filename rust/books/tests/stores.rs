@@ -6,7 +6,7 @@
 use std::collections::BTreeMap;
 
 use books::random::Random;
-use books::stores::{any_store, store, StoreDamage, StoreKind};
+use books::stores::{any_store, longest, store, StoreDamage, StoreKind};
 use books::{answer, Call, Generator};
 use reference::store::{limits, to_bytes, Limits, ParameterSet};
 use reference::units::{Cents, Mwh};
@@ -60,6 +60,13 @@ fn the_last_set_begun_is_in_force() {
     assert_eq!(found(20_260_319), Ok(figures(3)));
     assert_eq!(found(20_991_231), Ok(figures(3)));
     assert_eq!(limits(None, DATE), Ok(Limits::TODAY));
+}
+
+#[test]
+fn the_longest_store_has_todays_figures() {
+    let store = longest();
+    assert_eq!(store.len(), 6 + 24 * 32);
+    assert_eq!(limits(Some(&store), DATE), Ok(Limits::TODAY));
 }
 
 /// A store of any kind with one byte of it changed, or cut: a number, never a
