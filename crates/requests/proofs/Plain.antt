@@ -36,7 +36,7 @@ opening-alone s = append-nil (aboutBytes s)
 -- ---- calls
 
 request-alone : (s : List ℕ) (c : Call) → request (requestOf none c) s ≡ outcome (stepBytes today s c)
-unfolding requestOf limitsOn limitsOf alone openingNumber bookNumber
+unfolding limitsOn limitsOf alone openingNumber bookNumber
 request-alone s c =
     request-opened (requestOf none c) s
     ∙ ap (λ (qs : List Question). outcome (stepAfter (numberOf (refusal qs)) today s c)) (opening-alone s)

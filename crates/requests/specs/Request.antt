@@ -22,7 +22,7 @@ pub record Request : Type 0 where
   pub call : Call
 
 -- the request of a call with a store, or none
-unfoldable pub requestOf : Option (List ℕ) → Call → Request
+abbrev pub requestOf : Option (List ℕ) → Call → Request
 requestOf store c = record { setting = record { store = store }; call = c }
 
 -- ---- on a book
