@@ -2,8 +2,9 @@
 //!
 //! This is the only module with unsafe code. A function answers 0 or a number of
 //! documents 01 and 02; after a refusal the part for the answer is 0 and the book
-//! is unchanged. A call takes a store of parameter sets, or none. An image, record or answer of another length
-//! than said gets [`WRONG_LENGTH`], and nothing is read, asked or changed.
+//! is unchanged. A call takes a store of parameter sets, or none. An image, record
+//! or answer of another length than said gets [`WRONG_LENGTH`], and nothing is
+//! read, asked or changed.
 
 #![allow(unsafe_code)]
 

@@ -1,5 +1,5 @@
-//! Document 01 in quick Rust: the yardstick that the engine's times are held
-//! against.
+//! Documents 01 and 02 in quick Rust: the yardstick that the engine's times are
+//! held against.
 //!
 //! The rules and the answers are those of the plain `reference`; what differs
 //! is the way. A book is gone through once: each trade's parties are found by
