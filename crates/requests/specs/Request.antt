@@ -17,6 +17,7 @@ use Rattle.store.specs.Store.{aboutStore, limitsOf}
 pub record Setting : Type 0 where
   pub store : Option (List ℕ)
 
+-- a call in its setting
 pub record Request : Type 0 where
   pub setting : Setting
   pub call : Call
@@ -64,6 +65,7 @@ refused s n = record { answer = only n; bytes = s }
 unfoldable pub carriedOut : Result → Outcome
 carriedOut r = record { answer = r .answer; bytes = bytesOf (r .book) }
 
+-- a request on a book in bytes: the opening questions, then those of the call by the figures of the setting
 unfoldable pub request : Request → List ℕ → Outcome
 request r s =
     let g = r .setting in

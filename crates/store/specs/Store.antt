@@ -31,6 +31,7 @@ setsFrom n s = recordsOf 24 setOf n (drop 6 s)
 unfoldable pub setCount : List ℕ → ℕ
 setCount s = field 1 5 s
 
+-- as many of them as the count says
 unfoldable pub setsOf : List ℕ → List ParameterSet
 setsOf s = setsFrom (setCount s) s
 
@@ -63,7 +64,7 @@ setValid p = realDay (p .first) && limitsValid (p .limits)
 unfoldable pub setsValid : ℕ → List ParameterSet → Bool
 setsValid last ps = firstsRise last ps && all setValid ps
 
--- (No real day is 0: of the first set nothing more is asked than of the others.)
+-- a store that question 16 lets pass. (No real day is 0: of the first set nothing more is asked than of the others.)
 unfoldable pub storeValid : List ℕ → Bool
 storeValid s = storeFormed s && setsValid 0 (setsOf s)
 
