@@ -20,7 +20,6 @@ after (suc n) refused follows = refused (suc n)
 unfoldable pub unchanged : List ℕ → ℕ → InBytes
 unchanged s n = record { answer = only n; bytes = s }
 
--- the questions of the call and its effect, where no opening question refused it
 unfoldable pub stepAfter : ℕ → Limits → List ℕ → Call → InBytes
 stepAfter number limits s c =
     after number (unchanged s) (decided (refusal (about limits (bookOf s) c)) (unchanged s) (inBytes (effect limits (bookOf s) c)))
@@ -32,7 +31,6 @@ pub record CalledAfter (number : ℕ) (limits : Limits) (s : List ℕ) (c : Call
 
 -- ---- queries
 
--- the same of a query
 unfoldable pub replyAfter : ℕ → Limits → List ℕ → Query → Reply
 replyAfter number limits s q =
     after number onlyNumber (decided (refusal (aboutQuery (bookOf s) q)) onlyNumber (found limits (bookOf s) q))

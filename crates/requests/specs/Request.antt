@@ -22,9 +22,13 @@ pub record Request : Type 0 where
   pub setting : Setting
   pub call : Call
 
+-- the setting of a call with a store, or none
+abbrev pub settingOf : Option (List ℕ) → Setting
+settingOf store = record { store = store }
+
 -- the request of a call with a store, or none
 abbrev pub requestOf : Option (List ℕ) → Call → Request
-requestOf store c = record { setting = record { store = store }; call = c }
+requestOf store c = record { setting = settingOf store; call = c }
 
 -- ---- on a book
 
