@@ -72,7 +72,14 @@ pub fn show_picked<'a>(
 }
 
 // Adds a signed amount to a user's physical entry and position in an area, and answers 0; or the number of the first question that is answered by no.
-pub fn posting(book: &mut [u8], with_store: bool, store: &[u8], id: u32, area: u32, amount: i64) -> u32
+pub fn posting(
+    book: &mut [u8],
+    with_store: bool,
+    store: &[u8],
+    id: u32,
+    area: u32,
+    amount: i64,
+) -> u32
     ensures { λ r. ⌜ Carried (requestOf (given «with_store» (now (store .entry))) (postingOf id area amount)) (now (book .entry)) (only r) (now (book .exit)) ⌝ }
 {
     let admission = admission::admit(book, with_store, store);
@@ -180,15 +187,7 @@ pub fn reduction(book: &mut [u8], with_store: bool, store: &[u8], id: u32) -> Re
         &mut sums,
     );
     let limits = admission.limits;
-    call_reduction::reduction(
-        book,
-        admission.number,
-        limits,
-        &sellers,
-        &buyers,
-        &sums,
-        id,
-    )
+    call_reduction::reduction(book, admission.number, limits, &sellers, &buyers, &sums, id)
 }
 
 // Reduces the user of the lowest id among those short of cover with an eligible trade, until there is none.
@@ -207,12 +206,5 @@ pub fn run(book: &mut [u8], with_store: bool, store: &[u8]) -> RunAnswer
         &mut sums,
     );
     let limits = admission.limits;
-    call_run::run(
-        book,
-        admission.number,
-        limits,
-        &sellers,
-        &buyers,
-        &sums,
-    )
+    call_run::run(book, admission.number, limits, &sellers, &buyers, &sums)
 }
