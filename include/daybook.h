@@ -18,7 +18,7 @@
  *    8  id in the book?
  *    9  a shipper? (not asked for a posting or a shown record)
  *   10  posting: area 0 to 2, and the new physical entry within 1,000,000 either way?
- *   11  call, reduction: level - blocked > 1,000,000, and, but for the morning call, user called in?
+ *   11  call, reduction: level - blocked > 1,000,000 (with a store, its figure), and, but for the morning call, user called in?
  *   12  call: assigned >= level?
  *   13  reduction: assigned < level?
  *   14  reduction: has the user an eligible trade?
