@@ -1,7 +1,7 @@
 /* Jozmerod for C: the public calls on a gas day's book of users and trades, held in bytes, and the return of retained shrinkage.
  *
  * Link with target/staticlib/libexports.a (`rt staticlib exports` writes it). The library allocates nothing, keeps nothing between calls and prints nothing; the functions
- * are proved in crates/exports to give, for any bytes and any arguments, what document 01 says.
+ * are proved in crates/exports to give, for any bytes and any arguments, what documents 01 and 02 say.
  *
  * A pointer is never NULL and has as many elements behind it as the length after it says; a part that a function may change overlaps no other part of the same call.
  * These two are the only things that the caller answers for. Amounts of money are cents, amounts of gas MWh; those of a return of shrinkage are kWh.
@@ -18,10 +18,12 @@
  *    8  id in the book?
  *    9  a shipper? (not asked for a posting or a shown record)
  *   10  posting: area 0 to 2, and the new physical entry within 1,000,000 either way?
- *   11  call, reduction: level - blocked > 1,000,000, and, but for the morning call, user called in?
+ *   11  call, reduction: level - blocked > 1,000,000 (with a store, its figure), and, but for the morning call, user called in?
  *   12  call: assigned >= level?
  *   13  reduction: assigned < level?
  *   14  reduction: has the user an eligible trade?
+ *   16  is the store well formed? (asked where a store is given, after 7 and before 8)
+ *   17  has the store a set in force on the book's date? (the same)
  *   27  return: every balance within 500,000,000 kWh either way?
  *   28  return: at most 64 users? (asked before 27)
  *  255  the part lent for the answer, the record or the image is not of the length that the function asks for
@@ -33,6 +35,14 @@
 
 #include <stddef.h>
 #include <stdint.h>
+
+/* The interface that this header describes; daybook_interface() tells the archive's, which must be the same. */
+#define DAYBOOK_INTERFACE 2
+
+/* A call takes a store of parameter sets, as three arguments: a flag, the bytes and their length. A flag of 0 is no store, and the call's figures are today's; any other
+   flag is a store, one of length 0 too. These stand for all three arguments. */
+#define DAYBOOK_NO_STORE 0, (const uint8_t *)"", 0
+#define DAYBOOK_STORE(store, store_len) 1, (store), (store_len)
 
 /* The number for a lent part of another length than the function asks for. */
 #define DAYBOOK_WRONG_LENGTH 255
@@ -70,6 +80,9 @@
 extern "C" {
 #endif
 
+/* The interface of the archive. */
+uint32_t daybook_interface(void);
+
 /* Asks the questions 1 to 7 of a book, and copies its fields to the image, of DAYBOOK_IMAGE_SIZE bytes. */
 uint32_t daybook_read(const uint8_t *book, size_t book_len, uint8_t *image, size_t image_len);
 
@@ -78,39 +91,49 @@ uint32_t daybook_read(const uint8_t *book, size_t book_len, uint8_t *image, size
 uint32_t daybook_write(const uint8_t *image, size_t image_len, uint8_t *out, size_t out_len);
 
 /* Copies the record of the user of an id, DAYBOOK_RECORD_SIZE bytes. */
-uint32_t daybook_show(const uint8_t *book, size_t book_len, uint32_t id, uint8_t *record, size_t record_len);
+uint32_t daybook_show(const uint8_t *book, size_t book_len, uint32_t with_store, const uint8_t *store,
+                      size_t store_len, uint32_t id, uint8_t *record, size_t record_len);
 
 /* The same of the picked one of two books: the morning's where `afternoon_picked` is 0, else the afternoon's. Only the picked book is questioned. */
-uint32_t daybook_show_picked(const uint8_t *morning, size_t morning_len, const uint8_t *afternoon, size_t afternoon_len,
+uint32_t daybook_show_picked(const uint8_t *morning, size_t morning_len, const uint8_t *afternoon,
+                             size_t afternoon_len, uint32_t with_store, const uint8_t *store, size_t store_len,
                              uint32_t afternoon_picked, uint32_t id, uint8_t *record, size_t record_len);
 
 /* Adds a signed amount of MWh to a user's physical entry and position in an area: 0 PVB, 1 TVB, 2 AVB. */
-uint32_t daybook_posting(uint8_t *book, size_t book_len, uint32_t id, uint32_t area, int64_t amount);
+uint32_t daybook_posting(uint8_t *book, size_t book_len, uint32_t with_store, const uint8_t *store, size_t store_len,
+                         uint32_t id, uint32_t area, int64_t amount);
 
 /* The morning level of a user; DAYBOOK_LEVEL_NUMBERS: the level. */
-uint32_t daybook_morning_level(const uint8_t *book, size_t book_len, uint32_t id, uint64_t *answer, size_t answer_len);
+uint32_t daybook_morning_level(const uint8_t *book, size_t book_len, uint32_t with_store, const uint8_t *store,
+                               size_t store_len, uint32_t id, uint64_t *answer, size_t answer_len);
 
 /* The afternoon level of a user; DAYBOOK_LEVEL_NUMBERS: the level. */
-uint32_t daybook_afternoon_level(const uint8_t *book, size_t book_len, uint32_t id, uint64_t *answer, size_t answer_len);
+uint32_t daybook_afternoon_level(const uint8_t *book, size_t book_len, uint32_t with_store, const uint8_t *store,
+                                 size_t store_len, uint32_t id, uint64_t *answer, size_t answer_len);
 
 /* Raises a user's blocked guarantee to the morning level; DAYBOOK_CALL_NUMBERS: the level, what was added. */
-uint32_t daybook_morning_call(uint8_t *book, size_t book_len, uint32_t id, uint64_t *answer, size_t answer_len);
+uint32_t daybook_morning_call(uint8_t *book, size_t book_len, uint32_t with_store, const uint8_t *store,
+                              size_t store_len, uint32_t id, uint64_t *answer, size_t answer_len);
 
 /* Raises a user's blocked guarantee to the afternoon level; DAYBOOK_CALL_NUMBERS: the level, what was added. */
-uint32_t daybook_afternoon_call(uint8_t *book, size_t book_len, uint32_t id, uint64_t *answer, size_t answer_len);
+uint32_t daybook_afternoon_call(uint8_t *book, size_t book_len, uint32_t with_store, const uint8_t *store,
+                                size_t store_len, uint32_t id, uint64_t *answer, size_t answer_len);
 
 /* Whether a user is warned at midday; DAYBOOK_WARNING_NUMBERS: 1 for yes, 0 for no. */
-uint32_t daybook_warning(const uint8_t *book, size_t book_len, uint32_t id, uint64_t *answer, size_t answer_len);
+uint32_t daybook_warning(const uint8_t *book, size_t book_len, uint32_t with_store, const uint8_t *store,
+                         size_t store_len, uint32_t id, uint64_t *answer, size_t answer_len);
 
 /* Cuts a user's bilateral sales for what its afternoon level exceeds its assigned guarantee by, and settles the positions; DAYBOOK_REDUCTION_NUMBERS: the MWh cut, their
    worth, the target, and what the worth falls short of the target or exceeds it by. */
-uint32_t daybook_reduction(uint8_t *book, size_t book_len, uint32_t id, uint64_t *answer, size_t answer_len);
+uint32_t daybook_reduction(uint8_t *book, size_t book_len, uint32_t with_store, const uint8_t *store,
+                           size_t store_len, uint32_t id, uint64_t *answer, size_t answer_len);
 
 /* Reduces the user of the lowest id that is short of cover and has an eligible trade, until there is none; DAYBOOK_RUN_NUMBERS: the reductions, the MWh cut, their worth.
    It reports at most as many reductions as MWh stand, before the run, in trades of kind 0 and day 0, and leaves the book byte for byte where it reports none (proved:
    crates/sequence/specs/RunLength.antt). So the most that a book can take is told from its bytes, before the run: add up the 32 bits at byte 16 of each trade whose bytes 9
    and 10 are 0. That is 25,600,000 at most, and legal books take as many. */
-uint32_t daybook_run(uint8_t *book, size_t book_len, uint64_t *answer, size_t answer_len);
+uint32_t daybook_run(uint8_t *book, size_t book_len, uint32_t with_store, const uint8_t *store, size_t store_len,
+                     uint64_t *answer, size_t answer_len);
 
 /* The return of retained shrinkage for the users' balances in kWh, which have a sign; no book is involved. DAYBOOK_RETURN_NUMBERS: H, which is half of a negative total
    rounded down, the odd kWh, what the shares leave of H for the system account; then each user's share, the whole part of H * own / sum, where own and sum are over negative

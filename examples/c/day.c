@@ -25,7 +25,7 @@ static const char *state_of(const uint8_t *book, size_t size, uint32_t id)
     uint64_t answer[DAYBOOK_CALL_NUMBERS];
 
     memcpy(copy, book, size);
-    switch (daybook_afternoon_call(copy, size, id, answer, DAYBOOK_CALL_NUMBERS)) {
+    switch (daybook_afternoon_call(copy, size, DAYBOOK_NO_STORE, id, answer, DAYBOOK_CALL_NUMBERS)) {
     case 9:
         return "clear";
     case 12:
@@ -44,7 +44,7 @@ int main(void)
     uint64_t run[DAYBOOK_RUN_NUMBERS], level[DAYBOOK_LEVEL_NUMBERS];
 
     size_t size = fread(book, 1, sizeof book, stdin);
-    uint32_t number = daybook_run(book, size, run, DAYBOOK_RUN_NUMBERS);
+    uint32_t number = daybook_run(book, size, DAYBOOK_NO_STORE, run, DAYBOOK_RUN_NUMBERS);
     if (number != 0) {
         printf("refused %" PRIu32 "\n", number);
         return 0;
@@ -54,7 +54,7 @@ int main(void)
         const uint8_t *user = book + DAYBOOK_HEADER_SIZE + DAYBOOK_USER_SIZE * place;
         uint32_t id = field(user);
         /* a refused level is 0, as a clearing house's is printed */
-        daybook_afternoon_level(book, size, id, level, DAYBOOK_LEVEL_NUMBERS);
+        daybook_afternoon_level(book, size, DAYBOOK_NO_STORE, id, level, DAYBOOK_LEVEL_NUMBERS);
         printf("%" PRIu32 " %s %" PRIu64, id, state_of(book, size, id), level[0]);
         for (size_t area = 0; area < 3; area++)
             printf(" %" PRId64, signed_field(user + 20 + 4 * area));

@@ -35,9 +35,9 @@ int main(int argc, char **argv)
     fclose(file);
 
     uint32_t id = (uint32_t)strtoul(argv[2], NULL, 10);
-    uint32_t number = daybook_morning_level(book, length, id, morning, DAYBOOK_LEVEL_NUMBERS);
+    uint32_t number = daybook_morning_level(book, length, DAYBOOK_NO_STORE, id, morning, DAYBOOK_LEVEL_NUMBERS);
     int told = print_level("morning", number, morning[0]);
-    number = daybook_afternoon_level(book, length, id, afternoon, DAYBOOK_LEVEL_NUMBERS);
+    number = daybook_afternoon_level(book, length, DAYBOOK_NO_STORE, id, afternoon, DAYBOOK_LEVEL_NUMBERS);
     told &= print_level("afternoon", number, afternoon[0]);
     return told ? 0 : 1;
 }

@@ -1,2 +1,2 @@
--- What a call and a query after the questions of a book give of its bytes.
-mod Today
+-- What showing a record after the opening questions gives of a request.
+mod Part

@@ -1,11 +1,12 @@
-// The public calls on a lent book in bytes. None asks anything of its caller: any bytes, any id and any amount get the document's number or its answer, and a refused
-// call leaves the book byte for byte the same. Each asks the questions of the book and hands their number on, with today's figures; what it gives is one definition of specs/ of
-// the crate that computes it.
+// The public calls on a lent book in bytes, each with a store of parameter sets or none. None asks anything of its caller: any bytes, any id and any amount get the documents'
+// number or their answer, and a refused call leaves the book byte for byte the same. Each asks the opening questions and hands their number on, with the figures that they give;
+// what it gives is one definition of specs/ of `requests`.
 ghost use mathlib.Core.Path.{_≡_};
-ghost use Rattle.rules.specs.Levels.{today};
 ghost use Rattle.rules.specs.Calls.{only, morningCall, afternoonCall};
 ghost use Rattle.rules.specs.Queries.{morningLevelOf, afternoonLevelOf};
-ghost use Rattle.format.specs.Steps.{Called, replyBytes};
+ghost use Rattle.store.specs.Store.{given};
+ghost use Rattle.requests.specs.Request.{enquiry, requestOf, settingOf};
+ghost use Rattle.requests.specs.Carried.{Carried, Handed};
 ghost use Rattle.posting.specs.Posting.{postingOf};
 ghost use Rattle.answers.specs.Level.{replyOf};
 ghost use Rattle.answers.specs.Call.{answerOf};
@@ -17,14 +18,13 @@ ghost use Rattle.call_reduction.specs.Call.{reductionOf};
 ghost use Rattle.call_run.specs.Call.{runCall};
 ghost use Rattle.opening.specs.Opened.{Opened};
 ghost use Rattle.transfer.specs.Written.{Written};
-ghost use Rattle.shown.specs.Shown.{PartOf, Shown, picked, pickedAt};
+ghost use Rattle.shown.specs.Shown.{picked, pickedAt};
 use answers::CallAnswer;
 use answers::LevelAnswer;
 use answers::ReductionAnswer;
 use answers::RunAnswer;
 use answers::WarningAnswer;
 use book::Book;
-use levels::Limits;
 use opening::Opening;
 
 // The book that bytes hold, every field of it, and 0; or a book whose every field is 0 and the number of the first of the questions 1 to 7 that is answered by no.
@@ -42,122 +42,169 @@ pub fn write(book: Book, out: &mut [u8]) -> u32
 }
 
 // The 56 bytes of a user's record as that part of the book, and 0; or the empty part and the number of the first question that is answered by no.
-pub fn show<'a>(book: &'a [u8], id: u32, number: &mut u32) -> &'a [u8]
-    ensures { λ r. ⌜ Shown (now (book .entry)) id (now (number .exit)) (now r) ⌝ }
-    ensures { λ r. ⌜ PartOf (now (book .entry)) id (book .entry .ptr) (r .ptr) ⌝ }
+pub fn show<'a>(
+    book: &'a [u8],
+    with_store: bool,
+    store: &[u8],
+    id: u32,
+    number: &mut u32,
+) -> &'a [u8]
+    ensures { λ r. ⌜ Handed (settingOf (given «with_store» (now (store .entry)))) (now (book .entry)) id (now (number .exit)) (now r) (book .entry .ptr) (r .ptr) ⌝ }
 {
-    let opened = questions::number(book);
-    shown::show(book, opened, id, number)
+    let admission = admission::admit(book, with_store, store);
+    shown::show(book, admission.number, id, number)
 }
 
 // The same of the picked one of two books: the afternoon's where `afternoon_picked` is yes, else the morning's. Only the picked book is questioned.
 pub fn show_picked<'a>(
     morning: &'a [u8],
     afternoon: &'a [u8],
+    with_store: bool,
+    store: &[u8],
     afternoon_picked: bool,
     id: u32,
     number: &mut u32,
 ) -> &'a [u8]
-    ensures { λ r. ⌜ Shown (picked «afternoon_picked» (now (morning .entry)) (now (afternoon .entry))) id (now (number .exit)) (now r) ⌝ }
-    ensures { λ r. ⌜ PartOf (picked «afternoon_picked» (now (morning .entry)) (now (afternoon .entry))) id (pickedAt «afternoon_picked» (morning .entry .ptr) (afternoon .entry .ptr)) (r .ptr) ⌝ }
+    ensures { λ r. ⌜ Handed (settingOf (given «with_store» (now (store .entry)))) (picked «afternoon_picked» (now (morning .entry)) (now (afternoon .entry))) id (now (number .exit)) (now r) (pickedAt «afternoon_picked» (morning .entry .ptr) (afternoon .entry .ptr)) (r .ptr) ⌝ }
 {
     let book = shown::pick(morning, afternoon, afternoon_picked);
-    show(book, id, number)
+    show(book, with_store, store, id, number)
 }
 
 // Adds a signed amount to a user's physical entry and position in an area, and answers 0; or the number of the first question that is answered by no.
-pub fn posting(book: &mut [u8], id: u32, area: u32, amount: i64) -> u32
-    ensures { λ r. ⌜ Called today (now (book .entry)) (postingOf id area amount) (only r) (now (book .exit)) ⌝ }
+pub fn posting(
+    book: &mut [u8],
+    with_store: bool,
+    store: &[u8],
+    id: u32,
+    area: u32,
+    amount: i64,
+) -> u32
+    ensures { λ r. ⌜ Carried (requestOf (given «with_store» (now (store .entry))) (postingOf id area amount)) (now (book .entry)) (only r) (now (book .exit)) ⌝ }
 {
-    let number = questions::number(book);
-    posting::posting(book, number, id, area, amount)
+    let admission = admission::admit(book, with_store, store);
+    posting::posting(book, admission.number, id, area, amount)
 }
 
 // The morning level of a user.
-pub fn morning_level(book: &[u8], id: u32) -> LevelAnswer
-    ensures { λ r. ⌜ replyOf r ≡ replyBytes today (now (book .entry)) (morningLevelOf id) ⌝ }
+pub fn morning_level(book: &[u8], with_store: bool, store: &[u8], id: u32) -> LevelAnswer
+    ensures { λ r. ⌜ replyOf r ≡ enquiry (settingOf (given «with_store» (now (store .entry)))) (now (book .entry)) (morningLevelOf id) ⌝ }
 {
     let mut sellers = [0u8; 256];
     let mut buyers = [0u8; 256];
     let mut sums = [0u32; 768];
-    let asked = questions::ask(book, &mut sellers, &mut buyers, &mut sums);
-    level::morning_level(book, asked.number, Limits::today(), &sums, id)
+    let admission = admission::admit_with_sums(
+        book,
+        with_store,
+        store,
+        &mut sellers,
+        &mut buyers,
+        &mut sums,
+    );
+    let limits = admission.limits;
+    level::morning_level(book, admission.number, limits, &sums, id)
 }
 
 // The afternoon level of a user.
-pub fn afternoon_level(book: &[u8], id: u32) -> LevelAnswer
-    ensures { λ r. ⌜ replyOf r ≡ replyBytes today (now (book .entry)) (afternoonLevelOf id) ⌝ }
+pub fn afternoon_level(book: &[u8], with_store: bool, store: &[u8], id: u32) -> LevelAnswer
+    ensures { λ r. ⌜ replyOf r ≡ enquiry (settingOf (given «with_store» (now (store .entry)))) (now (book .entry)) (afternoonLevelOf id) ⌝ }
 {
     let mut sellers = [0u8; 256];
     let mut buyers = [0u8; 256];
     let mut sums = [0u32; 768];
-    let asked = questions::ask(book, &mut sellers, &mut buyers, &mut sums);
-    level::afternoon_level(book, asked.number, Limits::today(), &sums, id)
+    let admission = admission::admit_with_sums(
+        book,
+        with_store,
+        store,
+        &mut sellers,
+        &mut buyers,
+        &mut sums,
+    );
+    let limits = admission.limits;
+    level::afternoon_level(book, admission.number, limits, &sums, id)
 }
 
 // Raises a user's blocked guarantee to its morning level.
-pub fn morning_call(book: &mut [u8], id: u32) -> CallAnswer
-    ensures { λ r. ⌜ Called today (now (book .entry)) (morningCall id) (answerOf r) (now (book .exit)) ⌝ }
+pub fn morning_call(book: &mut [u8], with_store: bool, store: &[u8], id: u32) -> CallAnswer
+    ensures { λ r. ⌜ Carried (requestOf (given «with_store» (now (store .entry))) (morningCall id)) (now (book .entry)) (answerOf r) (now (book .exit)) ⌝ }
 {
     let mut sellers = [0u8; 256];
     let mut buyers = [0u8; 256];
     let mut sums = [0u32; 768];
-    let asked = questions::ask(book, &mut sellers, &mut buyers, &mut sums);
-    guarantee::morning_call(book, asked.number, Limits::today(), &sums, id)
+    let admission = admission::admit_with_sums(
+        book,
+        with_store,
+        store,
+        &mut sellers,
+        &mut buyers,
+        &mut sums,
+    );
+    let limits = admission.limits;
+    guarantee::morning_call(book, admission.number, limits, &sums, id)
 }
 
 // Raises a user's blocked guarantee to its afternoon level.
-pub fn afternoon_call(book: &mut [u8], id: u32) -> CallAnswer
-    ensures { λ r. ⌜ Called today (now (book .entry)) (afternoonCall id) (answerOf r) (now (book .exit)) ⌝ }
+pub fn afternoon_call(book: &mut [u8], with_store: bool, store: &[u8], id: u32) -> CallAnswer
+    ensures { λ r. ⌜ Carried (requestOf (given «with_store» (now (store .entry))) (afternoonCall id)) (now (book .entry)) (answerOf r) (now (book .exit)) ⌝ }
 {
     let mut sellers = [0u8; 256];
     let mut buyers = [0u8; 256];
     let mut sums = [0u32; 768];
-    let asked = questions::ask(book, &mut sellers, &mut buyers, &mut sums);
-    guarantee::afternoon_call(book, asked.number, Limits::today(), &sums, id)
+    let admission = admission::admit_with_sums(
+        book,
+        with_store,
+        store,
+        &mut sellers,
+        &mut buyers,
+        &mut sums,
+    );
+    let limits = admission.limits;
+    guarantee::afternoon_call(book, admission.number, limits, &sums, id)
 }
 
 // Whether a user is warned at midday.
-pub fn warning(book: &[u8], id: u32) -> WarningAnswer
-    ensures { λ r. ⌜ warned.replyOf r ≡ replyBytes today (now (book .entry)) (warningOf id) ⌝ }
+pub fn warning(book: &[u8], with_store: bool, store: &[u8], id: u32) -> WarningAnswer
+    ensures { λ r. ⌜ warned.replyOf r ≡ enquiry (settingOf (given «with_store» (now (store .entry)))) (now (book .entry)) (warningOf id) ⌝ }
 {
-    let number = questions::number(book);
-    warning::warning(book, number, Limits::today(), id)
+    let admission = admission::admit(book, with_store, store);
+    let limits = admission.limits;
+    warning::warning(book, admission.number, limits, id)
 }
 
 // Cuts a user's bilateral sales for what its afternoon level exceeds its assigned guarantee by.
-pub fn reduction(book: &mut [u8], id: u32) -> ReductionAnswer
-    ensures { λ r. ⌜ Called today (now (book .entry)) (reductionOf id) (reducing.answerOf r) (now (book .exit)) ⌝ }
+pub fn reduction(book: &mut [u8], with_store: bool, store: &[u8], id: u32) -> ReductionAnswer
+    ensures { λ r. ⌜ Carried (requestOf (given «with_store» (now (store .entry))) (reductionOf id)) (now (book .entry)) (reducing.answerOf r) (now (book .exit)) ⌝ }
 {
     let mut sellers = [0u8; 256];
     let mut buyers = [0u8; 256];
     let mut sums = [0u32; 768];
-    let asked = questions::ask(book, &mut sellers, &mut buyers, &mut sums);
-    call_reduction::reduction(
+    let admission = admission::admit_with_sums(
         book,
-        asked.number,
-        Limits::today(),
-        &sellers,
-        &buyers,
-        &sums,
-        id,
-    )
+        with_store,
+        store,
+        &mut sellers,
+        &mut buyers,
+        &mut sums,
+    );
+    let limits = admission.limits;
+    call_reduction::reduction(book, admission.number, limits, &sellers, &buyers, &sums, id)
 }
 
 // Reduces the user of the lowest id among those short of cover with an eligible trade, until there is none.
-pub fn run(book: &mut [u8]) -> RunAnswer
-    ensures { λ r. ⌜ Called today (now (book .entry)) runCall (running.answerOf r) (now (book .exit)) ⌝ }
+pub fn run(book: &mut [u8], with_store: bool, store: &[u8]) -> RunAnswer
+    ensures { λ r. ⌜ Carried (requestOf (given «with_store» (now (store .entry))) runCall) (now (book .entry)) (running.answerOf r) (now (book .exit)) ⌝ }
 {
     let mut sellers = [0u8; 256];
     let mut buyers = [0u8; 256];
     let mut sums = [0u32; 768];
-    let asked = questions::ask(book, &mut sellers, &mut buyers, &mut sums);
-    call_run::run(
+    let admission = admission::admit_with_sums(
         book,
-        asked.number,
-        Limits::today(),
-        &sellers,
-        &buyers,
-        &sums,
-    )
+        with_store,
+        store,
+        &mut sellers,
+        &mut buyers,
+        &mut sums,
+    );
+    let limits = admission.limits;
+    call_run::run(book, admission.number, limits, &sellers, &buyers, &sums)
 }

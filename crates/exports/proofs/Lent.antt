@@ -5,10 +5,10 @@ use mathlib.Core.List.{List}
 use Prim.Native.Nat.{ℕ}
 use lib.ListN.{length}
 use borrow.Author.Tests.{eq-eqb, ne-eqb}
-use Rattle.rules.specs.Levels.{today}
-use Rattle.rules.specs.Calls.{Call, Answer}
+use Rattle.rules.specs.Calls.{Answer}
 use Rattle.rules.specs.Queries.{Query, Reply}
-use Rattle.format.specs.Steps.{stepBytes, replyBytes, Called}
+use Rattle.requests.specs.Carried.{Carried}
+use Rattle.requests.specs.Request.{Request, Setting, enquiry, request}
 use Rattle.exports.specs.Lent.{byLength, wrongLength, Given}
 use Rattle.exports.specs.Answers.{Replied, Answered}
 
@@ -32,19 +32,19 @@ module _ (n : ℕ) (lent : List ℕ) where
   refused asked values before e = record { number = of-other asked wrongLength e; part = of-other values before e }
 
   -- a query whose reply was stored
-  pub replied : (numbers : Reply → List ℕ) (s : List ℕ) (q : Query) (r : Reply) (result : ℕ) (after : List ℕ) → length lent ≡ n → r ≡ replyBytes today s q → result ≡ r .number → after ≡ numbers r → Replied n numbers s q lent result after
-  replied numbers s q r result after e reply number part =
+  pub replied : (numbers : Reply → List ℕ) (g : Setting) (s : List ℕ) (q : Query) (r : Reply) (result : ℕ) (after : List ℕ) → length lent ≡ n → r ≡ enquiry g s q → result ≡ r .number → after ≡ numbers r → Replied n numbers g s q lent result after
+  replied numbers g s q r result after e reply number part =
       stored _ _ lent result after e (number ∙ ap (λ (a : Reply). a .number) reply) (part ∙ ap numbers reply)
 
-  module _ (numbers : Answer → List ℕ) (s : List ℕ) (c : Call) where
+  module _ (numbers : Answer → List ℕ) (r : Request) (s : List ℕ) where
     -- a call whose answer was stored
-    pub answered : (a : Answer) (result : ℕ) (after t : List ℕ) → length lent ≡ n → Called today s c a t → result ≡ a .number → after ≡ numbers a → Answered n numbers s c lent result after t
+    pub answered : (a : Answer) (result : ℕ) (after t : List ℕ) → length lent ≡ n → Carried r s a t → result ≡ a .number → after ≡ numbers a → Answered n numbers r s lent result after t
     answered a result after t e called number part =
         record {
           answer = stored _ _ lent result after e (number ∙ ap (λ (b : Answer). b .number) (called .answer)) (part ∙ ap numbers (called .answer));
-          book = called .bytes ∙ of-length (stepBytes today s c .bytes) s e;
+          book = called .bytes ∙ of-length (request r s .bytes) s e;
         }
 
     -- a call that was not made
-    pub not-called : (length lent ≡ n → ⊥) → Answered n numbers s c lent wrongLength lent s
-    not-called e = record { answer = refused _ _ lent e; book = of-other (stepBytes today s c .bytes) s e }
+    pub not-called : (length lent ≡ n → ⊥) → Answered n numbers r s lent wrongLength lent s
+    not-called e = record { answer = refused _ _ lent e; book = of-other (request r s .bytes) s e }

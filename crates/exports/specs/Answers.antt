@@ -1,18 +1,20 @@
 -- What each kind of function leaves: its number, the lent part and the book. Assumes nothing.
 use mathlib.Core.Path.{_≡_}
 use mathlib.Core.Bool.{Bool, not}
-use mathlib.Core.List.{List, _++_}
+use mathlib.Core.List.{List}
+use mathlib.Core.Option.{Option}
 use Prim.Native.Nat.{ℕ}
 use lib.Dec.{eqb}
 use lib.IntN.{ℤ}
 use lib.ListN.{length}
-use Rattle.rules.specs.Levels.{today}
-use Rattle.rules.specs.Calls.{Call, Answer}
-use Rattle.rules.specs.Queries.{Query, Reply, shownRecord, aboutQuery}
+use Rattle.rules.specs.Calls.{Answer}
+use Rattle.rules.specs.Queries.{Query, Reply, shownRecord}
 use Rattle.rules.specs.Questions.{refusal, numberOf, decided}
-use Rattle.format.specs.Book.{userCount, tradeCount, bookOf, bytesOf}
-use Rattle.format.specs.Questions.{aboutBytes, bookNumber}
-use Rattle.format.specs.Steps.{stepBytes, replyBytes, shownPart}
+use Rattle.format.specs.Book.{userCount, tradeCount, bytesOf}
+use Rattle.format.specs.Questions.{bookNumber}
+use Rattle.store.specs.Store.{given}
+use Rattle.requests.specs.Carried.{partShown}
+use Rattle.requests.specs.Request.{Request, Setting, enquiry, request}
 use Rattle.transfer.specs.Written.{aboutWriting}
 use Rattle.image.specs.Image.{padded, readImage}
 use Rattle.from_image.specs.ImageBook.{imageBook}
@@ -21,25 +23,30 @@ use Rattle.shrinkage.specs.Days.{overDays}
 use Rattle.exports_shrinkage.specs.Numbers.{returnNumbers}
 use Rattle.exports.specs.Lent.{byLength, Given, Stored}
 
+-- a flag as a number: 0 is no, any other yes
+unfoldable pub isYes : ℕ → Bool
+isYes n = not (eqb n 0)
+
+-- the store that a flag and a part are: none where the flag is 0
+abbrev pub storeBy : ℕ → List ℕ → Option (List ℕ)
+storeBy flag part = given (isYes flag) part
+
 -- a query with n numbers: its number and the lent part
-abbrev pub Replied : (n : ℕ) → (Reply → List ℕ) → List ℕ → Query → List ℕ → ℕ → List ℕ → Type 0
-Replied n numbers s q lent result after =
-    let r = replyBytes today s q in
+abbrev pub Replied : (n : ℕ) → (Reply → List ℕ) → Setting → List ℕ → Query → List ℕ → ℕ → List ℕ → Type 0
+Replied n numbers g s q lent result after =
+    let r = enquiry g s q in
     Stored n lent (r .number) (numbers r) result after
 
 -- a call with n numbers: its number and the lent part, and every byte of the book
-pub record Answered (n : ℕ) (numbers : Answer → List ℕ) (s : List ℕ) (c : Call) (lent : List ℕ) (result : ℕ) (after : List ℕ) (t : List ℕ) : Type 0 where
-  pub answer : Stored n lent (stepBytes today s c .answer .number) (numbers (stepBytes today s c .answer)) result after
-  pub book : t ≡ byLength n lent (stepBytes today s c .bytes) s
+pub record Answered (n : ℕ) (numbers : Answer → List ℕ) (r : Request) (s : List ℕ) (lent : List ℕ) (result : ℕ) (after : List ℕ) (t : List ℕ) : Type 0 where
+  pub answer : Stored n lent (request r s .answer .number) (numbers (request r s .answer)) result after
+  pub book : t ≡ byLength n lent (request r s .bytes) s
 
 -- a shown record: the user's 56 bytes, or 56 times 0
-abbrev pub Copied : List ℕ → ℕ → List ℕ → ℕ → List ℕ → Type 0
-Copied s id lent result after =
-    Stored 56 lent (numberOf (refusal (aboutBytes s ++ aboutQuery (bookOf s) (shownRecord id)))) (padded 56 (shownPart s id)) result after
-
--- the pick as a number: 0 is no, any other yes
-unfoldable pub isYes : ℕ → Bool
-isYes n = not (eqb n 0)
+abbrev pub Copied : Setting → List ℕ → ℕ → List ℕ → ℕ → List ℕ → Type 0
+Copied g s id lent result after =
+    let number = enquiry g s (shownRecord id) .number in
+    Stored 56 lent number (padded 56 (partShown number s id)) result after
 
 -- a book read into an image
 abbrev pub ReadInto : List ℕ → List ℕ → ℕ → List ℕ → Type 0

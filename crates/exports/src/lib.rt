@@ -1,20 +1,24 @@
 // The C interface over the public calls of `daybook` and `shrinkage`; include/daybook.h declares it. A slice is a pointer and a length in C. No function asks anything of what it is lent:
-// a part for answers of another length than the function's gets the number 255, and nothing is asked or changed.
-ghost use Rattle.rules.specs.Levels.{today};
+// a part for answers of another length than the function's gets the number 255, and nothing is asked or changed. A store comes with a flag, which is 0 where there is none.
+ghost use mathlib.Core.Path.{_≡_};
 ghost use Rattle.rules.specs.Calls.{only, morningCall, afternoonCall};
 ghost use Rattle.rules.specs.Queries.{morningLevelOf, afternoonLevelOf};
-ghost use Rattle.format.specs.Steps.{Called};
+ghost use Rattle.requests.specs.Request.{requestOf, settingOf};
+ghost use Rattle.requests.specs.Carried.{Carried};
 ghost use Rattle.posting.specs.Posting.{postingOf};
 ghost use Rattle.warning.specs.Warned.{warningOf};
 ghost use Rattle.call_reduction.specs.Call.{reductionOf};
 ghost use Rattle.call_run.specs.Call.{runCall};
 ghost use Rattle.shown.specs.Shown.{picked};
 ghost use Rattle.storing.specs.Numbers.{levelNumbers, warningNumbers, callNumbers, reductionNumbers, runNumbers};
-ghost use Rattle.exports.specs.Answers.{isYes, Replied, Answered, Copied, ReadInto, WrittenFrom, ReturnedInto, SpreadInto};
+ghost use Rattle.exports.specs.Answers.{isYes, storeBy, Replied, Answered, Copied, ReadInto, WrittenFrom, ReturnedInto, SpreadInto};
 use shrinkage::Kwh;
 
 // The number for a lent part of another length than the function asks for.
 const WRONG_LENGTH: u32 = 255;
+
+// The number of this interface, raised with each change of a signature.
+const INTERFACE: u32 = 2;
 
 // The bytes of an image, and of a shown record.
 const IMAGE_SIZE: usize = 8736;
@@ -37,6 +41,14 @@ const RETURN_NUMBERS: usize = 131;
 const SHRINKAGE_DAYS: usize = 30;
 
 // ---- the functions of the interface
+
+// The number of the interface, as the header has it in DAYBOOK_INTERFACE.
+#[no_mangle]
+pub extern "C" fn daybook_interface() -> u32
+    ensures { λ r. ⌜ r ≡ 2 ⌝ }
+{
+    INTERFACE
+}
 
 // Reads a book's fields into an image of 8,736 bytes.
 #[no_mangle]
@@ -62,14 +74,20 @@ pub extern "C" fn daybook_write(image: &[u8], out: &mut [u8]) -> u32
 
 // Copies the 56 bytes of a user's record.
 #[no_mangle]
-pub extern "C" fn daybook_show(book: &[u8], id: u32, record: &mut [u8]) -> u32
-    ensures { λ r. ⌜ Copied (now (book .entry)) id (now («record» .entry)) r (now («record» .exit)) ⌝ }
+pub extern "C" fn daybook_show(
+    book: &[u8],
+    with_store: u32,
+    store: &[u8],
+    id: u32,
+    record: &mut [u8],
+) -> u32
+    ensures { λ r. ⌜ Copied (settingOf (storeBy «with_store» (now (store .entry)))) (now (book .entry)) id (now («record» .entry)) r (now («record» .exit)) ⌝ }
 {
     if record.len() != RECORD_SIZE {
         return WRONG_LENGTH;
     }
     let mut number = 0;
-    let part = daybook::show(book, id, &mut number);
+    let part = daybook::show(book, with_store != 0, store, id, &mut number);
     image::fill(record, part);
     number
 }
@@ -79,110 +97,168 @@ pub extern "C" fn daybook_show(book: &[u8], id: u32, record: &mut [u8]) -> u32
 pub extern "C" fn daybook_show_picked<'a>(
     morning: &'a [u8],
     afternoon: &'a [u8],
+    with_store: u32,
+    store: &[u8],
     afternoon_picked: u32,
     id: u32,
     record: &mut [u8],
 ) -> u32
-    ensures { λ r. ⌜ Copied (picked (isYes «afternoon_picked») (now (morning .entry)) (now (afternoon .entry))) id (now («record» .entry)) r (now («record» .exit)) ⌝ }
+    ensures { λ r. ⌜ Copied (settingOf (storeBy «with_store» (now (store .entry)))) (picked (isYes «afternoon_picked») (now (morning .entry)) (now (afternoon .entry))) id (now («record» .entry)) r (now («record» .exit)) ⌝ }
 {
     if record.len() != RECORD_SIZE {
         return WRONG_LENGTH;
     }
     let mut number = 0;
-    let part = daybook::show_picked(morning, afternoon, afternoon_picked != 0, id, &mut number);
+    let part = daybook::show_picked(
+        morning,
+        afternoon,
+        with_store != 0,
+        store,
+        afternoon_picked != 0,
+        id,
+        &mut number,
+    );
     image::fill(record, part);
     number
 }
 
 // Adds a signed amount to a user's physical entry and position in an area.
 #[no_mangle]
-pub extern "C" fn daybook_posting(book: &mut [u8], id: u32, area: u32, amount: i64) -> u32
-    ensures { λ r. ⌜ Called today (now (book .entry)) (postingOf id area amount) (only r) (now (book .exit)) ⌝ }
+pub extern "C" fn daybook_posting(
+    book: &mut [u8],
+    with_store: u32,
+    store: &[u8],
+    id: u32,
+    area: u32,
+    amount: i64,
+) -> u32
+    ensures { λ r. ⌜ Carried (requestOf (storeBy «with_store» (now (store .entry))) (postingOf id area amount)) (now (book .entry)) (only r) (now (book .exit)) ⌝ }
 {
-    daybook::posting(book, id, area, amount)
+    daybook::posting(book, with_store != 0, store, id, area, amount)
 }
 
 // The morning level of a user: 1 number.
 #[no_mangle]
-pub extern "C" fn daybook_morning_level(book: &[u8], id: u32, answer: &mut [u64]) -> u32
-    ensures { λ r. ⌜ Replied 1 levelNumbers (now (book .entry)) (morningLevelOf id) (now (answer .entry)) r (now (answer .exit)) ⌝ }
+pub extern "C" fn daybook_morning_level(
+    book: &[u8],
+    with_store: u32,
+    store: &[u8],
+    id: u32,
+    answer: &mut [u64],
+) -> u32
+    ensures { λ r. ⌜ Replied 1 levelNumbers (settingOf (storeBy «with_store» (now (store .entry)))) (now (book .entry)) (morningLevelOf id) (now (answer .entry)) r (now (answer .exit)) ⌝ }
 {
     if answer.len() != LEVEL_NUMBERS {
         return WRONG_LENGTH;
     }
-    let reply = daybook::morning_level(book, id);
+    let reply = daybook::morning_level(book, with_store != 0, store, id);
     storing::store_level(answer, reply)
 }
 
 // The afternoon level of a user: 1 number.
 #[no_mangle]
-pub extern "C" fn daybook_afternoon_level(book: &[u8], id: u32, answer: &mut [u64]) -> u32
-    ensures { λ r. ⌜ Replied 1 levelNumbers (now (book .entry)) (afternoonLevelOf id) (now (answer .entry)) r (now (answer .exit)) ⌝ }
+pub extern "C" fn daybook_afternoon_level(
+    book: &[u8],
+    with_store: u32,
+    store: &[u8],
+    id: u32,
+    answer: &mut [u64],
+) -> u32
+    ensures { λ r. ⌜ Replied 1 levelNumbers (settingOf (storeBy «with_store» (now (store .entry)))) (now (book .entry)) (afternoonLevelOf id) (now (answer .entry)) r (now (answer .exit)) ⌝ }
 {
     if answer.len() != LEVEL_NUMBERS {
         return WRONG_LENGTH;
     }
-    let reply = daybook::afternoon_level(book, id);
+    let reply = daybook::afternoon_level(book, with_store != 0, store, id);
     storing::store_level(answer, reply)
 }
 
 // Raises a user's blocked guarantee to its morning level: 2 numbers, the level and what was added.
 #[no_mangle]
-pub extern "C" fn daybook_morning_call(book: &mut [u8], id: u32, answer: &mut [u64]) -> u32
-    ensures { λ r. ⌜ Answered 2 callNumbers (now (book .entry)) (morningCall id) (now (answer .entry)) r (now (answer .exit)) (now (book .exit)) ⌝ }
+pub extern "C" fn daybook_morning_call(
+    book: &mut [u8],
+    with_store: u32,
+    store: &[u8],
+    id: u32,
+    answer: &mut [u64],
+) -> u32
+    ensures { λ r. ⌜ Answered 2 callNumbers (requestOf (storeBy «with_store» (now (store .entry))) (morningCall id)) (now (book .entry)) (now (answer .entry)) r (now (answer .exit)) (now (book .exit)) ⌝ }
 {
     if answer.len() != CALL_NUMBERS {
         return WRONG_LENGTH;
     }
-    let call = daybook::morning_call(book, id);
+    let call = daybook::morning_call(book, with_store != 0, store, id);
     storing::store_call(answer, call)
 }
 
 // Raises a user's blocked guarantee to its afternoon level: 2 numbers, the level and what was added.
 #[no_mangle]
-pub extern "C" fn daybook_afternoon_call(book: &mut [u8], id: u32, answer: &mut [u64]) -> u32
-    ensures { λ r. ⌜ Answered 2 callNumbers (now (book .entry)) (afternoonCall id) (now (answer .entry)) r (now (answer .exit)) (now (book .exit)) ⌝ }
+pub extern "C" fn daybook_afternoon_call(
+    book: &mut [u8],
+    with_store: u32,
+    store: &[u8],
+    id: u32,
+    answer: &mut [u64],
+) -> u32
+    ensures { λ r. ⌜ Answered 2 callNumbers (requestOf (storeBy «with_store» (now (store .entry))) (afternoonCall id)) (now (book .entry)) (now (answer .entry)) r (now (answer .exit)) (now (book .exit)) ⌝ }
 {
     if answer.len() != CALL_NUMBERS {
         return WRONG_LENGTH;
     }
-    let call = daybook::afternoon_call(book, id);
+    let call = daybook::afternoon_call(book, with_store != 0, store, id);
     storing::store_call(answer, call)
 }
 
 // Whether a user is warned at midday: 1 number, 1 for yes and 0 for no.
 #[no_mangle]
-pub extern "C" fn daybook_warning(book: &[u8], id: u32, answer: &mut [u64]) -> u32
-    ensures { λ r. ⌜ Replied 1 warningNumbers (now (book .entry)) (warningOf id) (now (answer .entry)) r (now (answer .exit)) ⌝ }
+pub extern "C" fn daybook_warning(
+    book: &[u8],
+    with_store: u32,
+    store: &[u8],
+    id: u32,
+    answer: &mut [u64],
+) -> u32
+    ensures { λ r. ⌜ Replied 1 warningNumbers (settingOf (storeBy «with_store» (now (store .entry)))) (now (book .entry)) (warningOf id) (now (answer .entry)) r (now (answer .exit)) ⌝ }
 {
     if answer.len() != WARNING_NUMBERS {
         return WRONG_LENGTH;
     }
-    let reply = daybook::warning(book, id);
+    let reply = daybook::warning(book, with_store != 0, store, id);
     storing::store_warning(answer, reply)
 }
 
 // Cuts a user's bilateral sales for its target: 5 numbers, the MWh cut, their worth, the target, and what the worth falls short of it or exceeds it by.
 #[no_mangle]
-pub extern "C" fn daybook_reduction(book: &mut [u8], id: u32, answer: &mut [u64]) -> u32
-    ensures { λ r. ⌜ Answered 5 reductionNumbers (now (book .entry)) (reductionOf id) (now (answer .entry)) r (now (answer .exit)) (now (book .exit)) ⌝ }
+pub extern "C" fn daybook_reduction(
+    book: &mut [u8],
+    with_store: u32,
+    store: &[u8],
+    id: u32,
+    answer: &mut [u64],
+) -> u32
+    ensures { λ r. ⌜ Answered 5 reductionNumbers (requestOf (storeBy «with_store» (now (store .entry))) (reductionOf id)) (now (book .entry)) (now (answer .entry)) r (now (answer .exit)) (now (book .exit)) ⌝ }
 {
     if answer.len() != REDUCTION_NUMBERS {
         return WRONG_LENGTH;
     }
-    let reduction = daybook::reduction(book, id);
+    let reduction = daybook::reduction(book, with_store != 0, store, id);
     storing::store_reduction(answer, reduction)
 }
 
 // Reduces users until none that is short of cover has an eligible trade: 3 numbers, the reductions, the MWh cut and their worth.
 #[no_mangle]
-pub extern "C" fn daybook_run(book: &mut [u8], answer: &mut [u64]) -> u32
-    ensures { λ r. ⌜ Answered 3 runNumbers (now (book .entry)) runCall (now (answer .entry)) r (now (answer .exit)) (now (book .exit)) ⌝ }
+pub extern "C" fn daybook_run(
+    book: &mut [u8],
+    with_store: u32,
+    store: &[u8],
+    answer: &mut [u64],
+) -> u32
+    ensures { λ r. ⌜ Answered 3 runNumbers (requestOf (storeBy «with_store» (now (store .entry))) runCall) (now (book .entry)) (now (answer .entry)) r (now (answer .exit)) (now (book .exit)) ⌝ }
 {
     if answer.len() != RUN_NUMBERS {
         return WRONG_LENGTH;
     }
-    let run = daybook::run(book);
+    let run = daybook::run(book, with_store != 0, store);
     storing::store_run(answer, run)
 }
 

@@ -52,20 +52,20 @@ fn print_bytes(part: &[u8]) {
 // The record of a user, nothing where there is none.
 fn print_record(book: &[u8], id: u32) {
     let mut refusal = 0;
-    print_bytes(daybook::show(book, id, &mut refusal));
+    print_bytes(daybook::show(book, false, b"", id, &mut refusal));
 }
 
 // A call that changes no book.
 fn ask(kind: u8, book: &[u8], id: u32) {
     if kind == 1 {
-        print_level(daybook::morning_level(book, id));
+        print_level(daybook::morning_level(book, false, b"", id));
         return;
     }
     if kind == 2 {
-        print_level(daybook::afternoon_level(book, id));
+        print_level(daybook::afternoon_level(book, false, b"", id));
         return;
     }
-    let answer = daybook::warning(book, id);
+    let answer = daybook::warning(book, false, b"", id);
     print::number(answer.number as u64);
     print::number(answer.warned as u64);
 }
@@ -73,14 +73,14 @@ fn ask(kind: u8, book: &[u8], id: u32) {
 // A call that may change the book.
 fn change(kind: u8, book: &mut [u8], id: u32, area: u32, amount: i64) {
     if kind == 4 {
-        print_call(daybook::morning_call(book, id));
+        print_call(daybook::morning_call(book, false, b"", id));
         return;
     }
     if kind == 5 {
-        print_call(daybook::afternoon_call(book, id));
+        print_call(daybook::afternoon_call(book, false, b"", id));
         return;
     }
-    print::number(daybook::posting(book, id, area, amount) as u64);
+    print::number(daybook::posting(book, false, b"", id, area, amount) as u64);
 }
 
 // A call: 0 posting, 1 morning level, 2 afternoon level, 3 warning, 4 morning call, 5 afternoon call.
@@ -193,7 +193,7 @@ fn print_book(bytes: &[u8]) {
 // The reduction at a place of the file.
 fn reduce(place: u64, id: u32, book: &mut [u8]) {
     io::print_decimal(STDOUT_FILENO, place);
-    print_answer(daybook::reduction(book, id));
+    print_answer(daybook::reduction(book, false, b"", id));
     io::write_all(STDOUT_FILENO, b"\n");
     print_book(book);
 }

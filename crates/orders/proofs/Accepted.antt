@@ -15,6 +15,9 @@ use Rattle.laws.proofs.Posting.{posting-sound}
 use Rattle.laws.proofs.Refusals.{append-yes, first-yes, number-none, numbered, refusal-next}
 use Rattle.laws.specs.Sound.{Sound}
 use Rattle.laws.proofs.Tests.{and-i, and-l, and-r}
+use Rattle.requests.proofs.Passed.{accepted-opening, passed-called, passed-carried}
+use Rattle.requests.specs.Carried.{Carried}
+use Rattle.requests.specs.Request.{limitsOn, openingNumber, requestOf}
 use Rattle.rules.specs.Book.{Book, at, find}
 use Rattle.rules.specs.Calls.{posting, Answer, about, effect, entryInRange, idKnown, only}
 use Rattle.rules.specs.Changes.{change, posted, withUsers}
@@ -58,6 +61,8 @@ both-yes m n true true h k = refl
 both-yes m n true false h k = absurd k
 both-yes m n false d h k = absurd h
 
+-- ---- by the contract of document 01
+
 module _ (limits : Limits) {s : List ℕ} {id area : ℕ} {z : ℤ} where
   module _ {a : Answer} {t : List ℕ} (k : Called limits s (posting id area z) a t) (h : a .number ≡ 0) where
     -- no question refuses it
@@ -68,9 +73,9 @@ module _ (limits : Limits) {s : List ℕ} {id area : ℕ} {z : ℤ} where
         (sym (number-is limits s id area z (refusal (aboutBytes s ++ about limits (bookOf s) (posting id area z)))) ∙ sym (ap (λ (r : Answer). r .number) (k .answer)) ∙ h)
 
     -- so each was answered by yes
-    pub accepted : Accepted s id area z
+    call-accepted : Accepted s id area z
     unfolding about idKnown entryInRange
-    accepted =
+    call-accepted =
         let e = append-yes (aboutBytes s) (about limits (bookOf s) (posting id area z)) none-refuses in
         let q8 = first-yes _ _ (e .1) in
         let q10 = first-yes _ _ (q8 .1) in
@@ -78,20 +83,42 @@ module _ (limits : Limits) {s : List ℕ} {id area : ℕ} {z : ℤ} where
         record { book = e .0; user = q8 .0; area = ltb→lt area 3 (and-l (ltb area 3) ok (q10 .0)); range = and-r (ltb area 3) ok (q10 .0) }
 
     -- the bytes that it leaves
-    pub bytes-left : t ≡ bytesOf (postedBook id area z (bookOf s))
+    call-bytes : t ≡ bytesOf (postedBook id area z (bookOf s))
     unfolding stepBytes decided inBytes effect postedBook
-    bytes-left = k .bytes ∙ rw none-refuses
+    call-bytes = k .bytes ∙ rw none-refuses
+
+  -- where every question is answered by yes, the posting is accepted
+  call-made : Accepted s id area z → Called limits s (posting id area z) (only 0) (bytesOf (postedBook id area z (bookOf s)))
+  unfolding stepBytes decided inBytes effect postedBook about idKnown entryInRange
+  call-made q =
+      let ok = within 1000000 (at (find (bookOf s .users) id .physical) area +ℤ z) in
+      let e : refusal (aboutBytes s ++ about limits (bookOf s) (posting id area z)) ≡ none
+      = refusal-next (aboutBytes s) (about limits (bookOf s) (posting id area z)) (q .book)
+      ∙ both-yes 8 10 (known (bookOf s .users) id) (ltb area 3 && ok) (q .user) (and-i (ltb area 3) ok (lt→ltb area 3 (q .area)) (q .range)) in
+      record { answer = rw e; bytes = rw e }
+
+-- ---- with a store, or none
+
+module _ (store : Option (List ℕ)) {s : List ℕ} {id area : ℕ} {z : ℤ} where
+  module _ {a : Answer} {t : List ℕ} (k : Carried (requestOf store (posting id area z)) s a t) (h : a .number ≡ 0) where
+    as-called : Called (limitsOn (requestOf store (posting id area z) .setting) (bookOf s)) s (posting id area z) a t
+    as-called = passed-called (requestOf store (posting id area z)) s (accepted-opening (requestOf store (posting id area z)) s k h) k
+
+    -- the book and the store pass their questions
+    pub opened : openingNumber (requestOf store (posting id area z) .setting) s ≡ 0
+    opened = accepted-opening (requestOf store (posting id area z)) s k h
+
+    pub accepted : Accepted s id area z
+    accepted = call-accepted (limitsOn (requestOf store (posting id area z) .setting) (bookOf s)) as-called h
+
+    -- the bytes that it leaves
+    pub bytes-left : t ≡ bytesOf (postedBook id area z (bookOf s))
+    bytes-left = call-bytes (limitsOn (requestOf store (posting id area z) .setting) (bookOf s)) as-called h
 
     -- the book that they hold
     pub book-left : bookOf t ≡ postedBook id area z (bookOf s)
     book-left = ap bookOf bytes-left ∙ bookOf-bytesOf (postedBook id area z (bookOf s)) (sound-after accepted)
 
   -- where every question is answered by yes, the posting is accepted
-  pub called : Accepted s id area z → Called limits s (posting id area z) (only 0) (bytesOf (postedBook id area z (bookOf s)))
-  unfolding stepBytes decided inBytes effect postedBook about idKnown entryInRange
-  called q =
-      let ok = within 1000000 (at (find (bookOf s .users) id .physical) area +ℤ z) in
-      let e : refusal (aboutBytes s ++ about limits (bookOf s) (posting id area z)) ≡ none
-      = refusal-next (aboutBytes s) (about limits (bookOf s) (posting id area z)) (q .book)
-      ∙ both-yes 8 10 (known (bookOf s .users) id) (ltb area 3 && ok) (q .user) (and-i (ltb area 3) ok (lt→ltb area 3 (q .area)) (q .range)) in
-      record { answer = rw e; bytes = rw e }
+  pub carried : openingNumber (requestOf store (posting id area z) .setting) s ≡ 0 → Accepted s id area z → Carried (requestOf store (posting id area z)) s (only 0) (bytesOf (postedBook id area z (bookOf s)))
+  carried e q = passed-carried (requestOf store (posting id area z)) s e (call-made (limitsOn (requestOf store (posting id area z) .setting) (bookOf s)) q)

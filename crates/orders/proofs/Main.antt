@@ -1,6 +1,7 @@
 -- Ask 12, as specs/Orders.antt states it: an accepted posting is a change of one user of the book, two such changes add up where user and area are the same, and any two can change places. Assumes nothing.
 use mathlib.Core.Bool.{true}
 use mathlib.Core.List.{List, [], _∷_, map, nil≢cons, cons≢nil, head-eq-of-cons-eq, tail-eq-of-cons-eq, List·Permᴰ, List·Permᴰ·nil, List·Permᴰ·cons, List·Permᴰ·swap, List·Permᴰ·trans, Permᴰ·symm}
+use mathlib.Core.Option.{Option}
 use mathlib.Core.Path.{_≡_, refl, sym, ap, ap₂, subst, _∙_}
 use Prim.Native.Nat.{ℕ}
 use native.Mathlib.Omega.{arith}
@@ -9,23 +10,23 @@ use lib.Dec.{T, eqb→eq, leb→le}
 use lib.IntN.{ℤ, natAbs, _+ℤ_, +ℤ-assoc}
 use Rattle.format.proofs.Passed.{passed-of}
 use Rattle.format.specs.Book.{bookOf, bytesOf}
-use Rattle.format.specs.Steps.{Called}
+use Rattle.requests.specs.Carried.{Carried}
+use Rattle.requests.specs.Request.{Request, openingNumber, requestOf}
 use Rattle.integers.proofs.Linear.{abs-parts, parts-add, posPart-of}
 use Rattle.integers.specs.Parts.{posPart, negPart}
 use Rattle.laws.proofs.Bounds.{entry-le}
 use Rattle.laws.proofs.Tests.{and-l, and-r}
 use Rattle.laws.proofs.Users.{all-find}
-use Rattle.orders.proofs.Accepted.{postedBook, Accepted, accepted, book-left, bytes-left, called}
+use Rattle.orders.proofs.Accepted.{postedBook, Accepted, accepted, book-left, bytes-left, carried, opened}
 use Rattle.orders.proofs.Changes.{change-swap, change-twice, entry-posted, find-change, posted-keeps, posted-swap, posted-twice}
 use Rattle.orders.specs.Orders.{PostedTwice, PostingsAdd, Posting, callOf, InOrder, OrderFree}
 use Rattle.rules.specs.Book.{Book, User, at, find}
-use Rattle.rules.specs.Calls.{posting, Answer, Call, only}
+use Rattle.rules.specs.Calls.{posting, Answer, only}
 use Rattle.rules.specs.Changes.{change, posted, withUsers}
-use Rattle.rules.specs.Levels.{Limits}
 use Rattle.rules.specs.Lists.{all}
 use Rattle.rules.specs.Questions.{userValid}
 use Rattle.rules.specs.Signed.{within}
-use Rattle.sequence.specs.Links.{Link, Linked, callsOf, ended, isAccepted, then}
+use Rattle.sequence.specs.Links.{Link, Linked, ended, isAccepted, requestsOf, then}
 
 -- ---- two postings on one user and area
 
@@ -37,36 +38,40 @@ book-twice id area x y b =
     (change-twice id (posted area x) (posted area y) (posted-keeps area x) (b .users)
     ∙ ap (λ (f : User → User). change id f (b .users)) (λ i u. posted-twice area x y u i))
 
-module _ (limits : Limits) {s t u : List ℕ} {id area : ℕ} {x y : ℤ} {a b : Answer} (w : PostedTwice limits s t u id area x y a b) where
+module _ (store : Option (List ℕ)) {s t u : List ℕ} {id area : ℕ} {x y : ℤ} {a b : Answer} (w : PostedTwice store s t u id area x y a b) where
   -- the new entry of the second is the old one and both amounts
   both-range : T (within 1000000 (at (find (bookOf s .users) id .physical) area +ℤ (x +ℤ y)))
   unfolding postedBook withUsers
   both-range =
-      let p = accepted limits (w .first) (w .first-accepted) in
+      let p = accepted store (w .first) (w .first-accepted) in
       let v = find (bookOf s .users) id in
       let q : T (within 1000000 (at (find (postedBook id area x (bookOf s) .users) id .physical) area +ℤ y))
-      = subst (λ (n : Book). T (within 1000000 (at (find (n .users) id .physical) area +ℤ y))) (book-left limits (w .first) (w .first-accepted)) (accepted limits (w .second) (w .second-accepted) .range) in
+      = subst (λ (n : Book). T (within 1000000 (at (find (n .users) id .physical) area +ℤ y))) (book-left store (w .first) (w .first-accepted)) (accepted store (w .second) (w .second-accepted) .range) in
       let f : find (postedBook id area x (bookOf s) .users) id ≡ posted area x v = find-change id (posted area x) (posted-keeps area x) (bookOf s .users) (p .user) in
       let r : at (find (postedBook id area x (bookOf s) .users) id .physical) area +ℤ y ≡ at (v .physical) area +ℤ (x +ℤ y)
       = ap (λ (n : User). at (n .physical) area +ℤ y) f ∙ ap (λ (z : ℤ). z +ℤ y) (entry-posted v area x (p .area)) ∙ +ℤ-assoc (at (v .physical) area) x y in
       subst (λ (z : ℤ). T (within 1000000 z)) r q
 
+  -- the store is the same, and so is the book that is given
+  same-opening : openingNumber (requestOf store (posting id area (x +ℤ y)) .setting) s ≡ 0
+  same-opening = opened store (w .first) (w .first-accepted)
+
   -- so the posting of the sum passes every question
   both-accepted : Accepted s id area (x +ℤ y)
-  both-accepted = let p = accepted limits (w .first) (w .first-accepted) in record { book = p .book; user = p .user; area = p .area; range = both-range }
+  both-accepted = let p = accepted store (w .first) (w .first-accepted) in record { book = p .book; user = p .user; area = p .area; range = both-range }
 
   -- and leaves the bytes that the second leaves
-  as-one : Called limits s (posting id area (x +ℤ y)) (only 0) u
+  as-one : Carried (requestOf store (posting id area (x +ℤ y))) s (only 0) u
   as-one =
       let e : u ≡ bytesOf (postedBook id area (x +ℤ y) (bookOf s))
-      = bytes-left limits (w .second) (w .second-accepted) ∙ ap (λ (n : Book). bytesOf (postedBook id area y n)) (book-left limits (w .first) (w .first-accepted)) ∙ ap bytesOf (book-twice id area x y (bookOf s)) in
-      subst (λ (v : List ℕ). Called limits s (posting id area (x +ℤ y)) (only 0) v) (sym e) (called limits both-accepted)
+      = bytes-left store (w .second) (w .second-accepted) ∙ ap (λ (n : Book). bytesOf (postedBook id area y n)) (book-left store (w .first) (w .first-accepted)) ∙ ap bytesOf (book-twice id area x y (bookOf s)) in
+      subst (λ (v : List ℕ). Carried (requestOf store (posting id area (x +ℤ y))) s (only 0) v) (sym e) (carried store same-opening both-accepted)
 
   -- an old and a new entry within ±1,000,000 differ by at most 2,000,000
   sum-fits : within 2000000 (x +ℤ y) ≡ true
   unfolding within
   sum-fits =
-      let p = accepted limits (w .first) (w .first-accepted) in
+      let p = accepted store (w .first) (w .first-accepted) in
       let v = find (bookOf s .users) id in
       let o = at (v .physical) area in
       let e = entry-le v area (p .area) (all-find userValid (bookOf s .users) id (passed-of s (p .book) .sound .users) (p .user)) in
@@ -75,8 +80,8 @@ module _ (limits : Limits) {s t u : List ℕ} {id area : ℕ} {x y : ℤ} {a b :
       le-leb (natAbs (x +ℤ y)) 2000000
       (omega (arith, e, n, abs-parts z, abs-parts (o +ℤ z), parts-add o z, posPart-of z (posPart z) (negPart z) refl))
 
-pub postings-add : (limits : Limits) → PostingsAdd limits
-postings-add limits = record { sum = as-one limits; fits = sum-fits limits }
+pub postings-add : (store : Option (List ℕ)) → PostingsAdd store
+postings-add store = record { sum = as-one store; fits = sum-fits store }
 
 -- ---- any order
 
@@ -112,39 +117,39 @@ no-other (List·Permᴰ·cons g d) e = absurd (cons≢nil e)
 no-other (List·Permᴰ·swap g f) e = absurd (cons≢nil e)
 no-other (List·Permᴰ·trans d f) e = no-other f (no-other d e)
 
-module _ (limits : Limits) where
+module _ (store : Option (List ℕ)) where
   -- the bytes at the end of accepted postings; where there is none, those at the start, which must then be the bytes of a book
-  all-left : {s t : List ℕ} {ls : List Link} (ps : List Posting) → Linked limits s ls t → callsOf ls ≡ map callOf ps → T (all isAccepted ls)
+  all-left : {s t : List ℕ} {ls : List Link} (ps : List Posting) → Linked store s ls t → requestsOf ls ≡ map (λ p. requestOf store (callOf p)) ps → T (all isAccepted ls)
       → (ps ≡ [] → s ≡ bytesOf (bookOf s)) → t ≡ bytesOf (allPosted ps (bookOf s))
-  unfolding allPosted callsOf callOf all isAccepted
+  unfolding allPosted requestsOf callOf all isAccepted
   all-left [] ended e t b = b refl
-  all-left [] (then g k m) e t b = absurd (cons≢nil e)
+  all-left [] (then g o k m) e t b = absurd (cons≢nil e)
   all-left (p ∷ ps) ended e t b = absurd (nil≢cons e)
-  all-left {s} (p ∷ ps) (then {l = l} {ls = ls} g k m) e t b =
-      let c : Called limits s (callOf p) (l .answer) (l .left)
-      = subst (λ (x : List ℕ). Called limits x (callOf p) (l .answer) (l .left)) g
-      (subst (λ (d : Call). Called limits (l .given) d (l .answer) (l .left)) (head-eq-of-cons-eq e) k) in
-      let h : l .answer .number ≡ 0 = eqb→eq (l .answer .number) 0 (and-l (isAccepted l) (all isAccepted ls) t) in
-      let n = book-left limits c h in
-      all-left ps m (tail-eq-of-cons-eq e) (and-r (isAccepted l) (all isAccepted ls) t) (λ z. bytes-left limits c h ∙ ap bytesOf (sym n))
+  all-left {s} (p ∷ ps) (then {l = l} {ls = ls} g o k m) e t b =
+      let c : Carried (requestOf store (callOf p)) s (l .gave .answer) (l .gave .bytes)
+      = subst (λ (x : List ℕ). Carried (requestOf store (callOf p)) x (l .gave .answer) (l .gave .bytes)) g
+      (subst (λ (r : Request). Carried r (l .given) (l .gave .answer) (l .gave .bytes)) (head-eq-of-cons-eq e) k) in
+      let h : l .gave .answer .number ≡ 0 = eqb→eq (l .gave .answer .number) 0 (and-l (isAccepted l) (all isAccepted ls) t) in
+      let n = book-left store c h in
+      all-left ps m (tail-eq-of-cons-eq e) (and-r (isAccepted l) (all isAccepted ls) t) (λ z. bytes-left store c h ∙ ap bytesOf (sym n))
       ∙ ap (λ (w : Book). bytesOf (allPosted ps w)) n
 
   -- no posting
-  none-left : {s t : List ℕ} {ls : List Link} → Linked limits s ls t → callsOf ls ≡ [] → t ≡ s
-  unfolding callsOf
+  none-left : {s t : List ℕ} {ls : List Link} → Linked store s ls t → requestsOf ls ≡ [] → t ≡ s
+  unfolding requestsOf
   none-left ended e = refl
-  none-left (then g k m) e = absurd (cons≢nil e)
+  none-left (then g o k m) e = absurd (cons≢nil e)
 
   -- the same postings in two orders, all accepted in both
-  same-end : {s t u : List ℕ} (ps qs : List Posting) {ls ms : List Link} → List·Permᴰ ps qs → InOrder limits s ps ls t → T (all isAccepted ls)
-      → InOrder limits s qs ms u → T (all isAccepted ms) → t ≡ u
-  same-end [] [] d p v q w = none-left (p .linked) (p .calls) ∙ sym (none-left (q .linked) (q .calls))
+  same-end : {s t u : List ℕ} (ps qs : List Posting) {ls ms : List Link} → List·Permᴰ ps qs → InOrder store s ps ls t → T (all isAccepted ls)
+      → InOrder store s qs ms u → T (all isAccepted ms) → t ≡ u
+  same-end [] [] d p v q w = none-left (p .linked) (p .requests) ∙ sym (none-left (q .linked) (q .requests))
   same-end [] (y ∷ qs) d p v q w = absurd (cons≢nil (no-other d refl))
   same-end (x ∷ ps) [] d p v q w = absurd (cons≢nil (no-other (Permᴰ·symm d) refl))
   same-end {s} (x ∷ ps) (y ∷ qs) d p v q w =
-      all-left (x ∷ ps) (p .linked) (p .calls) v (λ e. absurd (cons≢nil e))
+      all-left (x ∷ ps) (p .linked) (p .requests) v (λ e. absurd (cons≢nil e))
       ∙ ap bytesOf (any-order d (bookOf s))
-      ∙ sym (all-left (y ∷ qs) (q .linked) (q .calls) w (λ e. absurd (cons≢nil e)))
+      ∙ sym (all-left (y ∷ qs) (q .linked) (q .requests) w (λ e. absurd (cons≢nil e)))
 
-  pub order-free : OrderFree limits
+  pub order-free : OrderFree store
   order-free = record { same = λ {s} {t} {u} {ps} {qs} {ls} {ms} d p v q w. same-end ps qs {ls = ls} {ms = ms} d p v q w }

@@ -1,4 +1,4 @@
--- The theorem over any finite sequence of calls, and its parts: one call by the rules, one call on bytes, the trades' bytes; how long a run can be.
+-- The theorem over any finite sequence of requests with one store, and its parts: one request by the rules, one on bytes, the trades' bytes.
 pub mod Step
 pub mod TradeBytes
 pub mod Sequence

@@ -6,18 +6,22 @@ use mathlib.Core.Path.{_≡_, refl, sym, ap, subst, _∙_}
 use Prim.Native.Nat.{ℕ, zero, suc, _≤_}
 use native.Mathlib.Omega.{arith}
 use Rattle.fields.specs.Field.{AllBytes}
+use Rattle.format.proofs.Formed.{book-passed}
 use Rattle.format.proofs.Passed.{passed-of}
 use Rattle.format.proofs.Round.{bytesOf-bookOf}
 use Rattle.format.specs.Book.{bookOf, bytesOf, tradesOf}
 use Rattle.format.specs.Questions.{aboutBytes}
 use Rattle.format.specs.Steps.{InBytes, inBytes, stepBytes}
 use Rattle.laws.proofs.Main.{run-counts}
-use Rattle.laws.proofs.Refusals.{append-yes}
+use Rattle.requests.proofs.Passed.{opening-book, opening-refused, passed-called}
+use Rattle.requests.specs.Carried.{Carried}
+use Rattle.requests.specs.Request.{limitsOn, openingNumber, requestOf}
 use Rattle.rules.specs.Book.{Book, User}
 use Rattle.rules.specs.Calls.{Answer, about, cuttable, effect, nextReduced, ofRun, only, onward, run, runFor}
 use Rattle.rules.specs.Levels.{Limits}
-use Rattle.rules.specs.Questions.{decided, refusal}
+use Rattle.rules.specs.Questions.{Question, decided, refusal}
 use Rattle.sequence.specs.RunLength.{RunLength}
+use Rattle.store.specs.Store.{limitsOf}
 
 -- a run of the rules has the number 0
 run-accepted : (limits : Limits) (n : ℕ) (b : Book) → runFor limits n b .answer .number ≡ 0
@@ -41,11 +45,9 @@ module _ (limits : Limits) (s : List ℕ) where
   reductions-le (some n) = omega arith
 
   -- without a reduction it leaves the bytes
-  none-reduced : AllBytes s → (o : Option ℕ) → refusal (aboutBytes s ++ about limits (bookOf s) run) ≡ o → gives o .answer .reductions ≡ 0 → gives o .bytes ≡ s
+  none-reduced : AllBytes s → (o : Option ℕ) → refusal (aboutBytes s) ≡ none → gives o .answer .reductions ≡ 0 → gives o .bytes ≡ s
   unfolding gives decided inBytes
-  none-reduced b none e h =
-      ap bytesOf (run-counts limits .none (bookOf s) h)
-      ∙ bytesOf-bookOf s b (passed-of s (append-yes (aboutBytes s) (about limits (bookOf s) run) e .0))
+  none-reduced b none e h = ap bytesOf (run-counts limits .none (bookOf s) h) ∙ bytesOf-bookOf s b (passed-of s e)
   none-reduced b (some n) e h = refl
 
   -- refused, it reports none and leaves the bytes
@@ -54,13 +56,36 @@ module _ (limits : Limits) (s : List ℕ) where
   refused-leaves none h = absurd (h (run-accepted limits (cuttable (bookOf s .trades)) (bookOf s)))
   refused-leaves (some n) h = (refl, refl)
 
-pub run-length : (limits : Limits) → RunLength limits
-unfolding stepBytes gives
-run-length limits =
+module _ (store : Option (List ℕ)) {s t : List ℕ} {a : Answer} (k : Carried (requestOf store run) s a t) where
+  asks : List Question
+  asks = aboutBytes s ++ about (limitsOf store (bookOf s .header .date)) (bookOf s) run
+
+  -- the run after the opening questions, or a refusal by them
+  by-opening : (P : Answer → List ℕ → Type 0) → ((n : ℕ) → P (only (suc n)) s)
+      → (refusal (aboutBytes s) ≡ none → P (gives (limitsOf store (bookOf s .header .date)) s (refusal asks) .answer) (gives (limitsOf store (bookOf s .header .date)) s (refusal asks) .bytes))
+      → P a t
+  unfolding stepBytes gives limitsOn asks
+  by-opening P refused passed = go (openingNumber (requestOf store run .setting) s) refl
+    where
+      go : (n : ℕ) → openingNumber (requestOf store run .setting) s ≡ n → P a t
+      go zero e =
+          let c = passed-called (requestOf store run) s e k in
+          subst (λ (x : Answer). P x t) (sym (c .answer)) (subst (P _) (sym (c .bytes)) (passed (book-passed s (opening-book (requestOf store run .setting) s e))))
+      go (suc n) e =
+          let c = opening-refused (requestOf store run) s e k in
+          subst (λ (x : Answer). P x t) (sym (c .0)) (subst (P _) (sym (c .1)) (refused n))
+
+pub run-length : (store : Option (List ℕ)) → RunLength store
+unfolding only
+run-length store =
     record {
-      most = λ {s} {t} {a} k. subst (λ (r : Answer). r .reductions ≤ cuttable (tradesOf s)) (sym (k .answer)) (reductions-le limits s (refusal (aboutBytes s ++ about limits (bookOf s) run)));
-      none = λ {s} {t} {a} b k h. k .bytes ∙ none-reduced limits s b (refusal (aboutBytes s ++ about limits (bookOf s) run)) refl (sym (ap (λ (r : Answer). r .reductions) (k .answer)) ∙ h);
-      refused = λ {s} {t} {a} k h.
-          let l = refused-leaves limits s (refusal (aboutBytes s ++ about limits (bookOf s) run)) (λ e. h (ap (λ (r : Answer). r .number) (k .answer) ∙ e)) in
-          (ap (λ (r : Answer). r .reductions) (k .answer) ∙ l .0, k .bytes ∙ l .1);
+      most = λ {s} {t} {a} k.
+          by-opening store k (λ x y. x .reductions ≤ cuttable (tradesOf s)) (λ n. omega arith)
+          (λ q. reductions-le (limitsOf store (bookOf s .header .date)) s (refusal (asks store k)));
+      none = λ {s} {t} {a} b k.
+          by-opening store k (λ x y. x .reductions ≡ 0 → y ≡ s) (λ n h. refl)
+          (λ q. none-reduced (limitsOf store (bookOf s .header .date)) s b (refusal (asks store k)) q);
+      refused = λ {s} {t} {a} k.
+          by-opening store k (λ x y. (x .number ≡ 0 → ⊥) → (x .reductions ≡ 0) × (y ≡ s)) (λ n h. (refl, refl))
+          (λ q. refused-leaves (limitsOf store (bookOf s .header .date)) s (refusal (asks store k)));
     }

@@ -1,5 +1,6 @@
--- One call by the rules, accepted or refused: what it does to a sound book. Assumes nothing.
+-- One request by the rules, accepted or refused: what it does to a sound book. Assumes nothing.
 use mathlib.Core.Bool.{cond, false, not, true}
+use mathlib.Core.List.{List, _++_}
 use mathlib.Core.Option.{Option, none, some}
 use mathlib.Core.Path.{_≡_, _∙_, ap, refl, sym}
 use Prim.Native.Nat.{_<_, ℕ}
@@ -20,12 +21,14 @@ use Rattle.laws.proofs.Tests.{all-append, and-l, and-r}
 use Rattle.laws.proofs.Trades.{lowered-refl}
 use Rattle.laws.specs.Statements.{AllCovered}
 use Rattle.laws.specs.Trades.{Lowered, Pairwise}
+use Rattle.requests.proofs.Opened.{setting-numbered}
+use Rattle.requests.specs.Request.{Setting, aboutSetting, limitsOn, stepGiven}
 use Rattle.rules.specs.Book.{Book, at, find}
-use Rattle.rules.specs.Calls.{posting, morningCall, afternoonCall, reduction, run, Call, Result, about, assignedFallsShort, assignedSuffices, calledInBeyondMargin, cuttable, effect, eligibleTrade, entryInRange, guaranteed, idKnown, isShipper, marginExceeded, ofCuts, ofLevel, only, questions, reduced, reducedBy, step}
+use Rattle.rules.specs.Calls.{posting, morningCall, afternoonCall, reduction, run, Call, Result, about, assignedFallsShort, assignedSuffices, calledInBeyondMargin, cuttable, effect, eligibleTrade, entryInRange, guaranteed, idKnown, isShipper, marginExceeded, ofCuts, ofLevel, only, reduced, reducedBy}
 use Rattle.rules.specs.Changes.{moved, withUsers}
 use Rattle.rules.specs.Levels.{Limits, afternoonLevel, morningLevel}
 use Rattle.rules.specs.Lists.{all}
-use Rattle.rules.specs.Questions.{aboutBook, decided, refusal}
+use Rattle.rules.specs.Questions.{Question, aboutBook, decided, refusal}
 use Rattle.rules.specs.Signed.{within}
 use Rattle.sequence.specs.Totals.{amountIn, counted}
 
@@ -50,9 +53,16 @@ call-numbered limits b (afternoonCall id) = tt
 call-numbered limits b (reduction id) = tt
 call-numbered limits b run = tt
 
-questions-numbered : (limits : Limits) (b : Book) (c : Call) → T (numbered (questions limits b c))
-unfolding questions numbered
-questions-numbered limits b c = all-append (λ q. ltb 0 (q .number)) (aboutBook b) (about limits b c) (book-numbered b) (call-numbered limits b c)
+-- the questions of a request
+asks : Setting → Book → Call → List Question
+asks g b c = aboutBook b ++ (aboutSetting g b ++ about (limitsOn g b) b c)
+
+asks-numbered : (g : Setting) (b : Book) (c : Call) → T (numbered (asks g b c))
+unfolding asks numbered
+asks-numbered g b c =
+    let own = about (limitsOn g b) b c in
+    all-append (λ q. ltb 0 (q .number)) (aboutBook b) (aboutSetting g b ++ own) (book-numbered b)
+    (all-append (λ q. ltb 0 (q .number)) (aboutSetting g b) own (setting-numbered g b) (call-numbered (limitsOn g b) b c))
 
 module _ (limits : Limits) where
   pub record Stepped (b : Book) (c : Call) (r : Result) : Type 0 where
@@ -134,10 +144,13 @@ module _ (limits : Limits) where
       let r = run-law limits n b s in
       accepted-law b run _ (r .number) (r .sound) (r .moved) (r .lowered) (λ e. run-ends limits .enough n b (accept b s) (le-refl n))
 
-  pub step-law : (b : Book) (c : Call) → Sound b → Stepped b c (step limits b c)
-  unfolding step questions decided numbered
-  step-law b c s = go (refusal (questions limits b c)) refl
-    where
-      go : (o : Option ℕ) → refusal (questions limits b c) ≡ o → Stepped b c (decided o (λ n. record { answer = only n; book = b }) (effect limits b c))
-      go none e = effect-law b c s (append-yes (aboutBook b) (about limits b c) e .1)
-      go (some n) e = refused-law b c n s (ltb→lt 0 n (refusal-is (λ i. ltb 0 i) (questions limits b c) n (questions-numbered limits b c) e))
+pub step-law : (g : Setting) (b : Book) (c : Call) → Sound b → Stepped (limitsOn g b) b c (stepGiven g b c)
+unfolding stepGiven decided numbered asks
+step-law g b c s = go (refusal (asks g b c)) refl
+  where
+    go : (o : Option ℕ) → refusal (asks g b c) ≡ o
+        → Stepped (limitsOn g b) b c (decided o (λ n. record { answer = only n; book = b }) (effect (limitsOn g b) b c))
+    go none e =
+        let own = about (limitsOn g b) b c in
+        effect-law (limitsOn g b) b c s (append-yes (aboutSetting g b) own (append-yes (aboutBook b) (aboutSetting g b ++ own) e .1) .1)
+    go (some n) e = refused-law (limitsOn g b) b c n s (ltb→lt 0 n (refusal-is (λ i. ltb 0 i) (asks g b c) n (asks-numbered g b c) e))

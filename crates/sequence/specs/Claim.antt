@@ -1,6 +1,7 @@
--- Demand 3 as one claim about a whole sequence of calls, from bytes s that pass the questions 1 to 7 to bytes t. Assumes nothing.
+-- Demand 3 as one claim about a whole sequence of requests that are all given one store, or none, from bytes s that pass the questions 1 to 7 to bytes t. Assumes nothing.
 use mathlib.Core.Bool.{not}
 use mathlib.Core.List.{List, [], _∷_}
+use mathlib.Core.Option.{Option}
 use mathlib.Core.Path.{_≡_}
 use Prim.Native.Nat.{ℕ, _+_, _*_, _<_}
 use lib.Dec.{T}
@@ -13,32 +14,35 @@ use Rattle.laws.specs.Statements.{AllCovered}
 use Rattle.laws.specs.Trades.{Lowered, Pairwise, leftMwh, leftWorth}
 use Rattle.records.specs.Trade.{tradeOf}
 use Rattle.rules.specs.Book.{at, Book, bilateralForDay}
-use Rattle.rules.specs.Calls.{Call, run, Answer, step}
+use Rattle.requests.specs.Request.{Request, stepGiven}
+use Rattle.rules.specs.Calls.{run, Answer}
 use Rattle.rules.specs.Levels.{Limits}
-use Rattle.sequence.specs.Links.{Link, isAccepted, callsOf}
+use Rattle.sequence.specs.Links.{Link, isAccepted, requestsOf}
+use Rattle.store.specs.Store.{limitsOf}
 use Rattle.sequence.specs.Totals.{postedIn, reportedMwh, reportedWorth}
 
 -- ---- "Each answer, and the book after each call, are those that these rules give from the opening book and the arguments of the calls so far"
 
--- what the rules give: the answers and the books after a list of calls, from a book
+-- what the rules give: the answers and the books after a list of requests, from a book
 pub record Event : Type 0 where
   pub answer : Answer
   pub book : Book
 
-module _ (limits : Limits) where
-  unfoldable pub events : Book → List Call → List Event
-  events b [] = []
-  events b (c ∷ cs) = record { answer = step limits b c .answer; book = step limits b c .book } ∷ events (step limits b c .book) cs
+unfoldable pub events : Book → List Request → List Event
+events b [] = []
+events b (r ∷ rs) =
+    let gives = stepGiven (r .setting) b (r .call) in
+    record { answer = gives .answer; book = gives .book } ∷ events (gives .book) rs
 
-  -- the book at the end
-  unfoldable pub final : Book → List Call → Book
-  final b [] = b
-  final b (c ∷ cs) = final (step limits b c .book) cs
+-- the book at the end
+unfoldable pub final : Book → List Request → Book
+final b [] = b
+final b (r ∷ rs) = final (stepGiven (r .setting) b (r .call) .book) rs
 
--- call by call: the answer that was given, and the bytes of the book
+-- request by request: the answer that was given, and the bytes of the book
 pub data AsDefined : List Link → List Event → Type 0 where
   asNone : AsDefined [] []
-  asAlso : {l : Link} {e : Event} {ls : List Link} {es : List Event} → l .answer ≡ e .answer → l .left ≡ bytesOf (e .book) → AsDefined ls es → AsDefined (l ∷ ls) (e ∷ es)
+  asAlso : {l : Link} {e : Event} {ls : List Link} {es : List Event} → l .gave .answer ≡ e .answer → l .gave .bytes ≡ bytesOf (e .book) → AsDefined ls es → AsDefined (l ∷ ls) (e ∷ es)
 
 -- ---- "Every trade byte is as in the opening book, except standing where kind and day are 0."
 
@@ -53,17 +57,17 @@ pub record TradeBytes (s t : List ℕ) : Type 0 where
   pub terms : (i : ℕ) → i < tradeCount s → take 16 (tradeBytesAt t i) ≡ take 16 (tradeBytesAt s i)
   pub others : (i : ℕ) → i < tradeCount s → T (not (bilateralForDay (tradeOf (tradeBytesAt s i)))) → tradeBytesAt t i ≡ tradeBytesAt s i
 
--- ---- one call of the sequence
+-- ---- one request of the sequence
 
 pub record Kept (limits : Limits) (l : Link) : Type 0 where
   -- the book stays accepted
-  pub accepted : bookNumber (l .left) ≡ 0
+  pub accepted : bookNumber (l .gave .bytes) ≡ 0
   -- "no trade raised or below zero"
-  pub lowered : Pairwise Lowered (tradesOf (l .given)) (tradesOf (l .left))
-  -- a refused call leaves the bytes
-  pub refused : T (not (isAccepted l)) → l .left ≡ l .given
+  pub lowered : Pairwise Lowered (tradesOf (l .given)) (tradesOf (l .gave .bytes))
+  -- a refused request leaves the bytes
+  pub refused : T (not (isAccepted l)) → l .gave .bytes ≡ l .given
   -- "no accepted run ends while a short user has a sale to cut", judged on the book that it leaves
-  pub covered : l .call ≡ run → T (isAccepted l) → AllCovered limits (bookOf (l .left))
+  pub covered : l .asked .call ≡ run → T (isAccepted l) → AllCovered limits (bookOf (l .gave .bytes))
 
 pub data Each (limits : Limits) : List Link → Type 0 where
   eachNone : Each limits []
@@ -71,12 +75,13 @@ pub data Each (limits : Limits) : List Link → Type 0 where
 
 -- ---- the claim
 
-pub record Claim (limits : Limits) (s : List ℕ) (ls : List Link) (t : List ℕ) : Type 0 where
-  pub defined : AsDefined ls (events limits (bookOf s) (callsOf ls))
-  pub book : bookOf t ≡ final limits (bookOf s) (callsOf ls)
-  pub bytes : t ≡ bytesOf (final limits (bookOf s) (callsOf ls))
+pub record Claim (store : Option (List ℕ)) (s : List ℕ) (ls : List Link) (t : List ℕ) : Type 0 where
+  pub defined : AsDefined ls (events (bookOf s) (requestsOf ls))
+  pub book : bookOf t ≡ final (bookOf s) (requestsOf ls)
+  pub bytes : t ≡ bytesOf (final (bookOf s) (requestsOf ls))
   pub accepted : bookNumber t ≡ 0
-  pub each : Each limits ls
+  -- by the figures of that store: no request changes the date
+  pub each : Each (limitsOf store (bookOf s .header .date)) ls
   pub positions : (a : ℕ) → a < 3
       → sumℤ (λ u. at (u .position) a) (usersOf t) ≡ sumℤ (λ u. at (u .physical) a) (usersOf s) +ℤ sumℤ (postedIn a) ls
   pub mwh : leftMwh (tradesOf s) (tradesOf t) ≡ sumℤ reportedMwh ls

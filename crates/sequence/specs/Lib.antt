@@ -1,4 +1,4 @@
--- What is claimed of a sequence of calls on a book in bytes, and of the length of a run.
+-- What is claimed of a sequence of requests on a book in bytes.
 pub mod Links
 pub mod Totals
 pub mod Claim

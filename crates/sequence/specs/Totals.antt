@@ -24,11 +24,11 @@ counted run n = pos n
 
 -- "the amounts of the accepted postings in that area"
 unfoldable pub postedIn : ℕ → Link → ℤ
-postedIn a l = cond (isAccepted l) (amountIn a (l .call)) (pos 0)
+postedIn a l = cond (isAccepted l) (amountIn a (l .asked .call)) (pos 0)
 
 -- "the MWh and the worth in the answers of the accepted reductions and runs"
 unfoldable pub reportedMwh : Link → ℤ
-reportedMwh l = cond (isAccepted l) (counted (l .call) (l .answer .mwh)) (pos 0)
+reportedMwh l = cond (isAccepted l) (counted (l .asked .call) (l .gave .answer .mwh)) (pos 0)
 
 unfoldable pub reportedWorth : Link → ℤ
-reportedWorth l = cond (isAccepted l) (counted (l .call) (l .answer .worth)) (pos 0)
+reportedWorth l = cond (isAccepted l) (counted (l .asked .call) (l .gave .answer .worth)) (pos 0)

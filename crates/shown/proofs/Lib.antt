@@ -1,3 +1,2 @@
--- The ways out of a shown record, and what one shown after the questions of its book gives of the bytes.
+-- The ways out of a shown record.
 mod Ways
-pub mod Opened

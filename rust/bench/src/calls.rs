@@ -2,7 +2,9 @@
 
 use std::hint::black_box;
 
+use books::stores::longest;
 use daybook::{archive, IMAGE_LENGTH};
+use tuned::requests;
 
 use crate::measure::{times, Times};
 use crate::options::Options;
@@ -30,6 +32,7 @@ pub fn print_table(subject: &Subject, options: &Options) {
     print_row("posting", posting(subject, options));
     print_row("morning level", morning_level(subject, options));
     print_row("afternoon level", level(subject, options));
+    print_row("the same, 32 sets", level_of_store(subject, options));
     print_row("afternoon call", call(subject, options));
     print_row("warning", warning(subject, options));
     print_row("reduction", reduction(subject, options));
@@ -128,7 +131,7 @@ fn show(subject: &Subject, options: &Options) -> Times {
     both(
         subject,
         options,
-        |book| expect(archive::show(black_box(book), id, &mut record)),
+        |book| expect(archive::show(black_box(book), None, id, &mut record)),
         |book| accept(tuned::show(black_box(book), id)),
     )
 }
@@ -139,7 +142,7 @@ fn posting(subject: &Subject, options: &Options) -> Times {
     both(
         subject,
         options,
-        |book| expect(archive::posting(book, id, 0, 1)),
+        |book| expect(archive::posting(book, None, id, 0, 1)),
         |book| accept(tuned::posting(book, id, 0, 1)),
     )
 }
@@ -150,7 +153,14 @@ fn morning_level(subject: &Subject, options: &Options) -> Times {
     both(
         subject,
         options,
-        |book| expect(archive::morning_level(black_box(book), id, &mut answer)),
+        |book| {
+            expect(archive::morning_level(
+                black_box(book),
+                None,
+                id,
+                &mut answer,
+            ))
+        },
         |book| accept(tuned::morning_level(black_box(book), id)),
     )
 }
@@ -161,7 +171,7 @@ fn warning(subject: &Subject, options: &Options) -> Times {
     both(
         subject,
         options,
-        |book| expect(archive::warning(black_box(book), id, &mut answer)),
+        |book| expect(archive::warning(black_box(book), None, id, &mut answer)),
         |book| accept(tuned::warning(black_box(book), id)),
     )
 }
@@ -172,8 +182,36 @@ fn level(subject: &Subject, options: &Options) -> Times {
     both(
         subject,
         options,
-        |book| expect(archive::afternoon_level(black_box(book), id, &mut answer)),
+        |book| {
+            expect(archive::afternoon_level(
+                black_box(book),
+                None,
+                id,
+                &mut answer,
+            ))
+        },
         |book| accept(tuned::afternoon_level(black_box(book), id)),
+    )
+}
+
+/// The afternoon level with a store of 32 sets.
+fn level_of_store(subject: &Subject, options: &Options) -> Times {
+    let id = subject.called;
+    let store = longest();
+    let store = black_box(Some(&store[..]));
+    let mut answer = [0; 1];
+    both(
+        subject,
+        options,
+        |book| {
+            expect(archive::afternoon_level(
+                black_box(book),
+                store,
+                id,
+                &mut answer,
+            ))
+        },
+        |book| accept(requests::afternoon_level(black_box(book), store, id)),
     )
 }
 
@@ -183,7 +221,7 @@ fn call(subject: &Subject, options: &Options) -> Times {
     both(
         subject,
         options,
-        |book| expect(archive::afternoon_call(book, id, &mut answer)),
+        |book| expect(archive::afternoon_call(book, None, id, &mut answer)),
         |book| accept(tuned::afternoon_call(book, id)),
     )
 }
@@ -194,7 +232,7 @@ fn reduction(subject: &Subject, options: &Options) -> Times {
     both(
         subject,
         options,
-        |book| expect(archive::reduction(book, id, &mut answer)),
+        |book| expect(archive::reduction(book, None, id, &mut answer)),
         |book| accept(tuned::reduction(book, id)),
     )
 }
@@ -215,7 +253,7 @@ fn refused_reduction(subject: &Subject, options: &Options) -> Times {
     both(
         &refused,
         options,
-        |book| assert_eq!(archive::reduction(book, id, &mut answer), 13),
+        |book| assert_eq!(archive::reduction(book, None, id, &mut answer), 13),
         |book| assert_eq!(tuned::reduction(book, id), Err(13)),
     )
 }
@@ -225,7 +263,7 @@ fn run(subject: &Subject, options: &Options) -> Times {
     both(
         subject,
         options,
-        |book| expect(archive::run(book, &mut answer)),
+        |book| expect(archive::run(book, None, &mut answer)),
         |book| accept(tuned::run(book)),
     )
 }

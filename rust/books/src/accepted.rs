@@ -3,11 +3,10 @@
 use reference::book::{
     Book, Trade, User, BILATERAL, CLEARING_HOUSE, MOST_TRADES, MOST_USERS, SHIPPER, TODAY,
 };
-use reference::levels::{
-    afternoon_level_of, flag_limit, morning_level_of, short_positions, LEAST_LEVEL, MARGIN,
-};
+use reference::levels::{afternoon_level_of, flag_limit, morning_level_of, short_positions};
 use reference::reduction::{reduce, sales, tier_worth, tiers};
 use reference::run::next_reduction;
+use reference::store::Limits;
 use reference::units::{Area, Cents, Mwh, Price, Prices};
 
 use crate::random::Random;
@@ -59,7 +58,7 @@ pub fn miscounted(random: &mut Random) -> Book {
 pub fn general(random: &mut Random, users: usize, trades: usize) -> Book {
     for _ in 0..20 {
         let book = drawn(random, users, trades);
-        if ends_within(&book, MOST_REDUCTIONS) {
+        if ends_within(&Limits::TODAY, &book, MOST_REDUCTIONS) {
             return book;
         }
     }
@@ -69,18 +68,18 @@ pub fn general(random: &mut Random, users: usize, trades: usize) -> Book {
         user.charges = user.charges.min(Cents::ZERO);
         user.assigned = Cents(MONEY_LIMIT);
     }
-    if ends_within(&book, MOST_REDUCTIONS) {
+    if ends_within(&Limits::TODAY, &book, MOST_REDUCTIONS) {
         return book;
     }
     drawn(random, users, 0)
 }
 
 /// Whether the run of an accepted book takes at most `most` reductions.
-pub fn ends_within(book: &Book, most: u64) -> bool {
+pub fn ends_within(limits: &Limits, book: &Book, most: u64) -> bool {
     let mut book = book.clone();
     for _ in 0..=most {
-        match next_reduction(&book) {
-            Some(place) => reduce(&mut book, place),
+        match next_reduction(limits, &book) {
+            Some(place) => reduce(limits, &mut book, place),
             None => return true,
         };
     }
@@ -263,7 +262,10 @@ fn charges(random: &mut Random) -> i128 {
         0 => MONEY_LIMIT,
         1 => -MONEY_LIMIT,
         2 => random.between(-MONEY_LIMIT, MONEY_LIMIT),
-        3 => random.between(LEAST_LEVEL.0 - 2, LEAST_LEVEL.0 + 2),
+        3 => random.between(
+            Limits::TODAY.least_level.0 - 2,
+            Limits::TODAY.least_level.0 + 2,
+        ),
         4..=6 => random.between(-20_000_000, 20_000_000),
         _ => 0,
     }
@@ -324,9 +326,9 @@ fn parties(random: &mut Random, book: &Book) -> (u32, u32) {
 fn guarantees(random: &mut Random, book: &Book, place: usize) -> (Cents, Cents) {
     let user = &book.users[place];
     let level = if random.one_in(4) {
-        morning_level_of(book, user)
+        morning_level_of(&Limits::TODAY, book, user)
     } else {
-        afternoon_level_of(book, user)
+        afternoon_level_of(&Limits::TODAY, book, user)
     };
     let assigned = assigned(random, book, user, level.0).clamp(0, MONEY_LIMIT);
     let blocked = blocked(random, book, user, level.0, assigned).clamp(0, assigned);
@@ -350,16 +352,16 @@ fn assigned(random: &mut Random, book: &Book, user: &User, level: i128) -> i128 
         9 => 0,
         10 => MONEY_LIMIT,
         11 => level + random.between(0, 5_000_000),
-        _ => LEAST_LEVEL.0,
+        _ => Limits::TODAY.least_level.0,
     }
 }
 
 fn blocked(random: &mut Random, book: &Book, user: &User, level: i128, assigned: i128) -> i128 {
-    let flag = short_positions(book, user) - flag_limit(book);
+    let flag = short_positions(book, user) - flag_limit(&Limits::TODAY, book);
     let near = random.between(-1, 1);
     match random.below(9) {
         0 => random.between(0, assigned),
-        1 => level - MARGIN.0 + near,
+        1 => level - Limits::TODAY.margin.0 + near,
         2 | 3 => flag.0 + near,
         4 => assigned,
         5 => level,
@@ -403,7 +405,7 @@ pub fn chain(random: &mut Random) -> Book {
         user.assigned = Cents(random.pick(&[10_000_000, 12_000_000, 20_000_000]));
         user.blocked = Cents(random.pick(&[0, 8_999_999, 9_000_000, 10_000_000]));
     }
-    if ends_within(&book, MOST_REDUCTIONS) {
+    if ends_within(&Limits::TODAY, &book, MOST_REDUCTIONS) {
         book
     } else {
         small(random)
@@ -440,7 +442,7 @@ pub fn shares(random: &mut Random) -> Book {
         });
     }
     short_seller(random, &mut book);
-    if ends_within(&book, MOST_REDUCTIONS) {
+    if ends_within(&Limits::TODAY, &book, MOST_REDUCTIONS) {
         book
     } else {
         small(random)
@@ -463,7 +465,7 @@ fn short_seller(random: &mut Random, book: &mut Book) {
         book.trades[0].notified = book.trades[0].notified + Mwh(1);
     }
     set_positions(book);
-    book.users[0].charges = Cents(random.pick(&[0, LEAST_LEVEL.0, 50_000_000]));
+    book.users[0].charges = Cents(random.pick(&[0, Limits::TODAY.least_level.0, 50_000_000]));
     let user = &book.users[0];
     let (one, two) = tiers(book, user);
     let first = tier_worth(&sales(book, &one)).0;
@@ -473,7 +475,7 @@ fn short_seller(random: &mut Random, book: &mut Book) {
         1 => both + random.between(-1, 1),
         _ => random.between(1, both),
     };
-    let level = afternoon_level_of(book, user).0;
+    let level = afternoon_level_of(&Limits::TODAY, book, user).0;
     book.users[0].assigned = Cents((level - target).clamp(0, MONEY_LIMIT));
 }
 
@@ -504,7 +506,7 @@ pub fn extreme(random: &mut Random) -> Book {
     let drawn = random.between(-MONEY_LIMIT, MONEY_LIMIT);
     book.users[0].charges = Cents(random.pick(&[0, drawn, MONEY_LIMIT, -MONEY_LIMIT]));
     book.users[0].assigned = Cents(random.between(0, MONEY_LIMIT));
-    if ends_within(&book, MOST_REDUCTIONS) {
+    if ends_within(&Limits::TODAY, &book, MOST_REDUCTIONS) {
         book
     } else {
         largest(random)
@@ -527,7 +529,7 @@ pub fn midday(random: &mut Random) -> Book {
         book.trades.push(trade);
     }
     finish(random, &mut book);
-    if ends_within(&book, MOST_REDUCTIONS) {
+    if ends_within(&Limits::TODAY, &book, MOST_REDUCTIONS) {
         book
     } else {
         small(random)
@@ -557,7 +559,7 @@ pub fn long(random: &mut Random) -> Book {
     });
     set_positions(&mut book);
     let target = random.pick(&[1, tariff, 2 * tariff + 1]);
-    book.users[0].assigned = Cents(LEAST_LEVEL.0 - target);
+    book.users[0].assigned = Cents(Limits::TODAY.least_level.0 - target);
     book.users[1].assigned = Cents(MONEY_LIMIT);
     book
 }

@@ -64,6 +64,11 @@ impl Call {
         "day",
     ];
 
+    /// Whether the call can be given a store.
+    pub fn takes_store(&self) -> bool {
+        !matches!(self, Call::Read | Call::Write { .. } | Call::Day)
+    }
+
     pub fn name(&self) -> &'static str {
         let place = match self {
             Call::Posting { .. } => 0,
@@ -115,14 +120,15 @@ impl Answer {
     }
 }
 
-/// The answer of the reference; the book is changed as the call says.
-pub fn answer(book: &mut [u8], call: &Call) -> Answer {
+/// The answer of the reference to a call with this store, or none; the book is
+/// changed as the call says. Reading, writing and a printed day take no store.
+pub fn answer(book: &mut [u8], store: Option<&[u8]>, call: &Call) -> Answer {
     match call {
         Call::Posting { id, area, amount } => {
-            Answer::of_fields(reference::posting(book, *id, *area, *amount), &[])
+            Answer::of_fields(reference::posting(book, store, *id, *area, *amount), &[])
         }
         Call::Show { id } => {
-            let (number, part) = reference::show(book, *id);
+            let (number, part) = reference::show(book, store, *id);
             Answer::of_part(number, part)
         }
         Call::ShowPicked {
@@ -130,20 +136,20 @@ pub fn answer(book: &mut [u8], call: &Call) -> Answer {
             pick,
             id,
         } => {
-            let (number, part) = reference::show_picked(book, afternoon, *pick, *id);
+            let (number, part) = reference::show_picked(book, afternoon, store, *pick, *id);
             Answer::of_part(number, part)
         }
-        Call::MorningLevel { id } => level(reference::morning_level(book, *id)),
-        Call::AfternoonLevel { id } => level(reference::afternoon_level(book, *id)),
-        Call::MorningCall { id } => guarantee_call(reference::morning_call(book, *id)),
-        Call::AfternoonCall { id } => guarantee_call(reference::afternoon_call(book, *id)),
+        Call::MorningLevel { id } => level(reference::morning_level(book, store, *id)),
+        Call::AfternoonLevel { id } => level(reference::afternoon_level(book, store, *id)),
+        Call::MorningCall { id } => guarantee_call(reference::morning_call(book, store, *id)),
+        Call::AfternoonCall { id } => guarantee_call(reference::afternoon_call(book, store, *id)),
         Call::Warning { id } => {
-            let warning = reference::warning(book, *id);
+            let warning = reference::warning(book, store, *id);
             Answer::of_fields(warning.number, &[i128::from(warning.warned)])
         }
-        Call::Reduction { id } => reduction(reference::reduction(book, *id)),
+        Call::Reduction { id } => reduction(reference::reduction(book, store, *id)),
         Call::Run => {
-            let run = reference::run(book);
+            let run = reference::run(book, store);
             let fields = [i128::from(run.reductions), run.mwh, run.worth];
             Answer::of_fields(run.number, &fields)
         }

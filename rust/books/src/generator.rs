@@ -1,7 +1,7 @@
 //! The generator: books of a kind, arguments and calls for a book.
 
 use reference::book::{length, User, HEADER_LENGTH, LONGEST, MOST_USERS, USER_LENGTH};
-use reference::questions::questions_1_to_7;
+use reference::questions::{opening_questions, Opened};
 use reference::run::next_reduction;
 use reference::transfer::Image;
 
@@ -12,6 +12,7 @@ use crate::accepted::{
 use crate::calls::Call;
 use crate::damage::{counts, raw, Damage};
 use crate::random::Random;
+use crate::stores::{any_store, date_of};
 
 #[derive(Clone, Copy, Debug, PartialEq, Eq)]
 pub enum Kind {
@@ -255,9 +256,14 @@ impl Generator {
         i64::try_from(self.random.between(0, most)).unwrap_or(0)
     }
 
-    /// Any call on this book. A run of more than 3,000 reductions is not
-    /// drawn.
-    pub fn call(&mut self, book: &[u8]) -> Call {
+    /// No store, or one of any kind for this book.
+    pub fn store(&mut self, book: &[u8]) -> Option<Vec<u8>> {
+        any_store(&mut self.random, date_of(book))
+    }
+
+    /// Any call on this book, given this store. A run of more than 3,000
+    /// reductions is not drawn.
+    pub fn call(&mut self, book: &[u8], store: Option<&[u8]>) -> Call {
         let Arguments { id, pick, .. } = self.arguments(book);
         match self.random.below(16) {
             0 => Call::Show { id },
@@ -271,14 +277,14 @@ impl Generator {
             4 => Call::Warning { id },
             5 => Call::Read,
             6 => self.write(),
-            7 if is_short_run(book) => Call::Day,
-            _ => self.changing_call(book),
+            7 if is_short_run(book, None) => Call::Day,
+            _ => self.changing_call(book, store),
         }
     }
 
     /// A call that changes the book: a posting, a guarantee call, a reduction
     /// or a run.
-    pub fn changing_call(&mut self, book: &[u8]) -> Call {
+    pub fn changing_call(&mut self, book: &[u8], store: Option<&[u8]>) -> Call {
         let Arguments {
             id, area, amount, ..
         } = self.arguments(book);
@@ -286,9 +292,9 @@ impl Generator {
             0..=2 => Call::Posting { id, area, amount },
             3 => Call::MorningCall { id },
             4 => Call::AfternoonCall { id },
-            5 if is_short_run(book) => Call::Run,
+            5 if is_short_run(book, store) => Call::Run,
             6 => Call::Reduction {
-                id: reducible(book).unwrap_or(id),
+                id: reducible(book, store).unwrap_or(id),
             },
             _ => Call::Reduction { id },
         }
@@ -366,17 +372,18 @@ fn users_in_place(bytes: &[u8]) -> Vec<User> {
     records.take(count).map(User::from_bytes).collect()
 }
 
-/// The id of the user whom a run would reduce next.
-fn reducible(bytes: &[u8]) -> Option<u32> {
-    let book = questions_1_to_7(bytes).ok()?;
-    let place = next_reduction(&book)?;
+/// The id of the user whom a run with this store would reduce next.
+fn reducible(bytes: &[u8], store: Option<&[u8]>) -> Option<u32> {
+    let Opened { book, limits } = opening_questions(bytes, store).ok()?;
+    let place = next_reduction(&limits, &book)?;
     Some(book.users[place].id)
 }
 
-/// Whether the run of these bytes is refused or takes at most 3,000 reductions.
-pub fn is_short_run(bytes: &[u8]) -> bool {
-    match questions_1_to_7(bytes) {
-        Ok(book) => ends_within(&book, MOST_LONG_REDUCTIONS),
+/// Whether the run of these bytes with this store is refused or takes at most
+/// 3,000 reductions.
+pub fn is_short_run(bytes: &[u8], store: Option<&[u8]>) -> bool {
+    match opening_questions(bytes, store) {
+        Ok(Opened { book, limits }) => ends_within(&limits, &book, MOST_LONG_REDUCTIONS),
         Err(_) => true,
     }
 }

@@ -1,6 +1,6 @@
-//! Test support: a seeded generator of day books and calls that reach every
-//! branch of document 01, the answers of the reference to them, and the outside
-//! vectors.
+//! Test support: a seeded generator of day books, stores and calls that reach
+//! every branch of document 01 and of the asks of document 02, the answers of the
+//! reference and of the tuned implementation to them, and the outside vectors.
 
 #![forbid(unsafe_code)]
 
@@ -12,6 +12,8 @@ pub mod hard;
 pub mod random;
 pub mod sha256;
 pub mod shrinkage;
+pub mod stores;
+pub mod tuned;
 pub mod vectors;
 pub mod written;
 

@@ -1,5 +1,5 @@
-//! The outside vectors of `vectors/`: printed days, and calls with their
-//! answers. `vectors/README.md` has the format.
+//! The outside vectors of `vectors/` and `vectors/version-1/`: printed days, and
+//! calls with their answers. `vectors/README.md` has both formats.
 
 use std::fs;
 use std::path::PathBuf;
@@ -12,8 +12,14 @@ use crate::sha256::{hex, sha256};
 /// Lines of `calls.txt` that are calls.
 pub const CALLS: usize = 2_173;
 
-/// Books with a printed day.
-pub const DAYS: usize = 90;
+/// Lines of `version-1/calls.txt`.
+pub const REQUESTS: usize = 3_026;
+
+/// Books with a printed day, of both folders.
+pub const DAYS: usize = 124;
+
+/// What answers a call on a book with a store, or none, and changes the book.
+pub type Implementation = fn(&mut [u8], Option<&[u8]>, &Call) -> Answer;
 
 /// A book and what `day` must print for it.
 pub struct Day {
@@ -35,7 +41,11 @@ fn file(name: &str) -> Vec<u8> {
 /// Every printed day, by name.
 pub fn days() -> Vec<Day> {
     let mut days = Vec::new();
-    for entry in fs::read_dir(folder()).expect("folder of the vectors") {
+    let folders = [folder(), folder().join("version-1")];
+    let entries = folders
+        .iter()
+        .flat_map(|folder| fs::read_dir(folder).expect("a folder"));
+    for entry in entries {
         let path = entry.expect("entry of the folder").path();
         if path.extension().is_some_and(|extension| extension == "gdb") {
             days.push(Day {
@@ -49,16 +59,16 @@ pub fn days() -> Vec<Day> {
     days
 }
 
-/// Replays every call, line by line, against an implementation, and says how
-/// many there were.
-pub fn replay(implementation: fn(&mut [u8], &Call) -> Answer) -> usize {
+/// Replays every call of document 01, line by line, against an implementation,
+/// and says how many there were.
+pub fn replay(implementation: Implementation) -> usize {
     let text = String::from_utf8(file("calls.txt")).expect("text");
     let mut replayed = 0;
     let mut left = Vec::new();
     for line in text.lines().filter(|line| !line.starts_with('#')) {
         let (words, expected) = line.split_once(" -> ").expect("a call and its answer");
         let (mut book, call) = parsed(&words.split(' ').collect::<Vec<&str>>(), &left);
-        let given = implementation(&mut book, &call);
+        let given = implementation(&mut book, None, &call);
         assert_eq!(printed(&book, &call, &given), expected, "{words}");
         replayed += 1;
         left = after(book, &call);
@@ -139,4 +149,109 @@ fn after(book: Vec<u8>, call: &Call) -> Vec<u8> {
         } if *pick => afternoon.clone(),
         _ => book,
     }
+}
+
+/// Replays every call with a store, or none, of `version-1/calls.txt`, and says
+/// how many there were.
+pub fn replay_requests(implementation: Implementation) -> usize {
+    let text = String::from_utf8(file("version-1/calls.txt")).expect("text");
+    let mut replayed = 0;
+    for line in text.lines() {
+        let (words, expected) = line.split_once(" -> ").expect("a call and its answer");
+        let request = Request::parsed(words);
+        let mut book = request.book.clone();
+        let given = implementation(&mut book, request.store.as_deref(), &request.call);
+        assert_eq!(keyed(&book, &request.call, &given), expected, "{words}");
+        replayed += 1;
+    }
+    println!("requests replayed: {replayed}");
+    replayed
+}
+
+/// A line of `version-1/calls.txt`, left of the arrow.
+struct Request {
+    book: Vec<u8>,
+    store: Option<Vec<u8>>,
+    call: Call,
+}
+
+impl Request {
+    fn parsed(words: &str) -> Request {
+        let (name, words) = words.split_once(' ').expect("a call and its arguments");
+        let value = |key: &str| {
+            let mut values = words.split(' ').filter_map(|word| word.split_once('='));
+            let found = values.find(|(name, _)| *name == key);
+            found.map(|(_, value)| value)
+        };
+        let number = |key: &str| value(key).expect(key).parse::<i64>().expect(key);
+        let id = || u32::try_from(number("id")).expect("id");
+        let part = |key: &str| file(&format!("version-1/{}", value(key).expect(key)));
+        let call = match name {
+            "posting" => Call::Posting {
+                id: id(),
+                area: u32::try_from(number("area")).expect("area"),
+                amount: number("amount"),
+            },
+            "show" => Call::Show { id: id() },
+            "show_two" => Call::ShowPicked {
+                afternoon: part("afternoon"),
+                pick: number("pick") == 1,
+                id: id(),
+            },
+            "morning_level" => Call::MorningLevel { id: id() },
+            "afternoon_level" => Call::AfternoonLevel { id: id() },
+            "morning_call" => Call::MorningCall { id: id() },
+            "afternoon_call" => Call::AfternoonCall { id: id() },
+            "midday_warning" => Call::Warning { id: id() },
+            "reduction" => Call::Reduction { id: id() },
+            "run" => Call::Run,
+            call => panic!("no such call: {call}"),
+        };
+        Request {
+            book: part(if name == "show_two" {
+                "morning"
+            } else {
+                "book"
+            }),
+            store: value("store").and_then(|store| store.strip_prefix("0x").map(bytes_of)),
+            call,
+        }
+    }
+}
+
+/// The bytes that are written in hex.
+fn bytes_of(hex: &str) -> Vec<u8> {
+    let digits = hex.as_bytes().chunks(2);
+    let byte = |digits: &[u8]| {
+        let digits = str::from_utf8(digits).expect("digits");
+        u8::from_str_radix(digits, 16).expect("hex")
+    };
+    digits.map(byte).collect()
+}
+
+/// The answer and the book afterwards in the words of `version-1/calls.txt`. Of
+/// two books the picked one is told.
+fn keyed(book: &[u8], call: &Call, given: &Answer) -> String {
+    let names: &[&str] = match call {
+        Call::MorningLevel { .. } | Call::AfternoonLevel { .. } => &["level"],
+        Call::MorningCall { .. } | Call::AfternoonCall { .. } => &["level", "added"],
+        Call::Warning { .. } => &["warned"],
+        Call::Reduction { .. } => &["mwh", "worth", "target", "short", "over"],
+        Call::Run => &["reductions", "mwh", "worth"],
+        _ => &[],
+    };
+    let mut text = format!("number={}", given.number);
+    for (name, field) in names.iter().zip(&given.fields) {
+        text.push_str(&format!(" {name}={field}"));
+    }
+    let told = match call {
+        Call::ShowPicked {
+            afternoon, pick, ..
+        } if *pick => afternoon,
+        _ => book,
+    };
+    if matches!(call, Call::Show { .. } | Call::ShowPicked { .. }) {
+        text.push_str(&format!(" part={}", hex(&given.part)));
+    }
+    format!("{text} book={}", sha256(told))
 }

@@ -2,6 +2,7 @@
 
 use reference::book::{Book, Trade, User, CLEARING_HOUSE, TOMORROW};
 use reference::levels::afternoon_level_of;
+use reference::store::Limits;
 use reference::units::{Cents, Mwh, Price, Prices};
 
 use crate::accepted::set_positions;
@@ -102,7 +103,7 @@ pub fn for_tomorrow(sale: Trade) -> Trade {
 /// afternoon level.
 pub fn asked_for(target: i128, book: Book) -> Book {
     let mut book = book;
-    let level = afternoon_level_of(&book, &book.users[0]);
+    let level = afternoon_level_of(&Limits::TODAY, &book, &book.users[0]);
     book.users[0].assigned = level - Cents(target);
     book
 }

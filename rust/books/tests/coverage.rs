@@ -1,5 +1,5 @@
-//! Counts how often generated books and calls reach each number and each
-//! branch of document 01, and fails if one is never reached.
+//! Counts how often generated books and calls without a store reach each number
+//! and each branch of document 01, and fails if one is never reached.
 
 #![forbid(unsafe_code)]
 
@@ -9,11 +9,11 @@ use books::{answer, Answer, Call, Generator};
 use reference::book::{Book, User, MOST_TRADES, MOST_USERS};
 use reference::levels::{
     afternoon_level_of, flag_limit, flagged, morning_level_of, party_to_cut_trade, short_positions,
-    LEAST_LEVEL, MARGIN,
 };
 use reference::questions::questions_1_to_7;
 use reference::reduction::{cuts, reduce, sales, target, tier_worth, tiers, Sale};
 use reference::run::{next_reduction, short_of_cover};
+use reference::store::Limits;
 use reference::units::{Area, Cents, Mwh};
 use reference::warning::warned_by_seller;
 
@@ -115,9 +115,9 @@ fn every_number_and_branch_is_reached() {
         let mut bytes = generator.any_book();
         count_book(&mut counts, &bytes);
         for _ in 0..8 {
-            let call = generator.call(&bytes);
+            let call = generator.call(&bytes, None);
             let before = questions_1_to_7(&bytes).ok();
-            let answer = answer(&mut bytes, &call);
+            let answer = answer(&mut bytes, None, &call);
             counts.add(&format!("{}: {}", call.name(), answer.number));
             counts.add(&format!("number {}", answer.number));
             if let (Some(before), 0) = (before, answer.number) {
@@ -179,7 +179,7 @@ fn count_book(counts: &mut Counts, bytes: &[u8]) {
 }
 
 fn count_user(counts: &mut Counts, book: &Book, user: &User) {
-    let flagged = flagged(book, user);
+    let flagged = flagged(&Limits::TODAY, book, user);
     if !user.is_shipper() {
         counts.add("user: clearing house");
         counts.add_if(flagged, "user: flagged clearing house");
@@ -191,7 +191,7 @@ fn count_user(counts: &mut Counts, book: &Book, user: &User) {
         (false, true) => counts.add("user: called in by a cut trade alone"),
         (false, false) => {}
     }
-    let above = short_positions(book, user) - user.blocked - flag_limit(book);
+    let above = short_positions(book, user) - user.blocked - flag_limit(&Limits::TODAY, book);
     counts.add_if(
         above.0 == 0,
         "user: short positions - blocked at the limit of the flag",
@@ -204,11 +204,14 @@ fn count_user(counts: &mut Counts, book: &Book, user: &User) {
 }
 
 fn count_levels(counts: &mut Counts, book: &Book, user: &User) {
-    let level = afternoon_level_of(book, user);
+    let level = afternoon_level_of(&Limits::TODAY, book, user);
     let lacking = level - user.blocked;
-    counts.add_if(lacking == MARGIN, "user: level - blocked at the margin");
     counts.add_if(
-        lacking == MARGIN + Cents(1),
+        lacking == Limits::TODAY.margin,
+        "user: level - blocked at the margin",
+    );
+    counts.add_if(
+        lacking == Limits::TODAY.margin + Cents(1),
         "user: level - blocked one above the margin",
     );
     counts.add_if(lacking.0 < 0, "user: blocked above the level");
@@ -217,16 +220,18 @@ fn count_levels(counts: &mut Counts, book: &Book, user: &User) {
         user.assigned + Cents(1) == level,
         "user: assigned one below the level",
     );
-    counts.add(if level == LEAST_LEVEL {
+    counts.add(if level == Limits::TODAY.least_level {
         "user: afternoon level at the floor"
     } else {
         "user: afternoon level above the floor"
     });
-    counts.add(if morning_level_of(book, user) == LEAST_LEVEL {
-        "user: morning level at the floor"
-    } else {
-        "user: morning level above the floor"
-    });
+    counts.add(
+        if morning_level_of(&Limits::TODAY, book, user) == Limits::TODAY.least_level {
+            "user: morning level at the floor"
+        } else {
+            "user: morning level above the floor"
+        },
+    );
 }
 
 /// Counts the branches of an accepted call on this book.
@@ -246,13 +251,18 @@ fn count_call(counts: &mut Counts, book: &Book, call: &Call, answer: &Answer) {
 fn count_warning(counts: &mut Counts, book: &Book, id: u32) {
     let place = book.place_of(id).expect("a user of the book");
     let user = &book.users[place];
-    counts.add(match (flagged(book, user), warned_by_seller(book, user)) {
-        (true, true) => "warning: by both",
-        (true, false) => "warning: by own flag alone",
-        (false, true) => "warning: by the seller's flag alone",
-        (false, false) => "warning: none",
-    });
-    if !flagged(book, user) && !warned_by_seller(book, user) {
+    counts.add(
+        match (
+            flagged(&Limits::TODAY, book, user),
+            warned_by_seller(&Limits::TODAY, book, user),
+        ) {
+            (true, true) => "warning: by both",
+            (true, false) => "warning: by own flag alone",
+            (false, true) => "warning: by the seller's flag alone",
+            (false, false) => "warning: none",
+        },
+    );
+    if !flagged(&Limits::TODAY, book, user) && !warned_by_seller(&Limits::TODAY, book, user) {
         let clearing = buys_from_flagged_clearing_house(book, user);
         counts.add_if(
             clearing,
@@ -267,7 +277,8 @@ fn buys_from_flagged_clearing_house(book: &Book, user: &User) -> bool {
         trade.buyer == user.id
             && trade.is_bilateral_today()
             && trade.standing > Mwh::ZERO
-            && seller.is_some_and(|seller| !seller.is_shipper() && flagged(book, seller))
+            && seller
+                .is_some_and(|seller| !seller.is_shipper() && flagged(&Limits::TODAY, book, seller))
     })
 }
 
@@ -284,7 +295,7 @@ fn count_reduction(counts: &mut Counts, book: &Book, place: usize, answer: &Answ
         "reduction: tier one, and a sale where the position is 0",
     );
     let (one, two) = (sales(book, &one), sales(book, &two));
-    let asked = target(book, user);
+    let asked = target(&Limits::TODAY, book, user);
     let rest = (asked - tier_worth(&one)).or_zero();
     counts.add(
         match (one.is_empty(), two.is_empty(), rest == Cents::ZERO) {
@@ -355,8 +366,8 @@ fn count_run(counts: &mut Counts, book: &Book, answer: &Answer) {
     });
     let mut after = book.clone();
     let mut times = vec![0; book.users.len()];
-    while let Some(place) = next_reduction(&after) {
-        reduce(&mut after, place);
+    while let Some(place) = next_reduction(&Limits::TODAY, &after) {
+        reduce(&Limits::TODAY, &mut after, place);
         times[place] += 1;
     }
     assert_eq!(times.iter().sum::<i128>(), answer.fields[0]);
@@ -364,11 +375,15 @@ fn count_run(counts: &mut Counts, book: &Book, answer: &Answer) {
         times.iter().any(|times| *times > 1),
         "run: a user reduced more than once",
     );
-    let made_short =
-        |place: &usize| times[*place] > 0 && !short_of_cover(book, &book.users[*place]);
+    let made_short = |place: &usize| {
+        times[*place] > 0 && !short_of_cover(&Limits::TODAY, book, &book.users[*place])
+    };
     let any = (0..times.len()).any(|place| made_short(&place));
     counts.add_if(any, "run: a cut makes the buyer short and reduced");
-    let short = after.users.iter().any(|user| short_of_cover(&after, user));
+    let short = after
+        .users
+        .iter()
+        .any(|user| short_of_cover(&Limits::TODAY, &after, user));
     counts.add_if(short, "run: a user short of cover at the end");
 }
 

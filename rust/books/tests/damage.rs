@@ -65,6 +65,6 @@ fn the_same_seed_gives_the_same_books_and_calls() {
     for _ in 0..200 {
         let book = first.any_book();
         assert_eq!(second.any_book(), book);
-        assert_eq!(first.call(&book), second.call(&book));
+        assert_eq!(first.call(&book, None), second.call(&book, None));
     }
 }

@@ -1,4 +1,5 @@
-//! "Sequences" of document 01, on random sequences of calls.
+//! "Sequences" of document 01, on random sequences of calls that are all given
+//! one store, or none.
 
 #![forbid(unsafe_code)]
 
@@ -6,6 +7,7 @@ use books::{answer, Call, Generator, Kind};
 use reference::book::Book;
 use reference::questions::questions_1_to_7;
 use reference::run::next_reduction;
+use reference::store;
 use reference::units::{Area, Cents, Mwh};
 
 /// What the accepted calls of a sequence add up to.
@@ -44,8 +46,9 @@ fn random_sequences() {
             }
         };
         let opening = generator.book(kind);
+        let store = generator.store(&opening);
         let calls = generator.random().below(30);
-        let done = sequence(&mut generator, &opening, calls);
+        let done = sequence(&mut generator, &opening, store.as_deref(), calls);
         sums.accepted += done.accepted;
         sums.refused += done.refused;
         sums.runs += done.runs;
@@ -58,17 +61,17 @@ fn random_sequences() {
 }
 
 /// Makes the calls one after the other, and judges each step and the whole.
-fn sequence(generator: &mut Generator, opening: &[u8], calls: usize) -> Sums {
+fn sequence(generator: &mut Generator, opening: &[u8], store: Option<&[u8]>, calls: usize) -> Sums {
     let mut sums = Sums::default();
     let mut bytes = opening.to_vec();
     for _ in 0..calls {
         let call = if generator.random().one_in(4) {
-            generator.call(&bytes)
+            generator.call(&bytes, store)
         } else {
-            generator.changing_call(&bytes)
+            generator.changing_call(&bytes, store)
         };
         let before = bytes.clone();
-        step(&mut bytes, &call, &mut sums);
+        step(&mut bytes, store, &call, &mut sums);
         no_trade_raised(&fields(&before), &fields(&bytes));
     }
     positions_conserved(&fields(opening), &fields(&bytes), &sums);
@@ -77,9 +80,9 @@ fn sequence(generator: &mut Generator, opening: &[u8], calls: usize) -> Sums {
     sums
 }
 
-fn step(bytes: &mut [u8], call: &Call, sums: &mut Sums) {
+fn step(bytes: &mut [u8], store: Option<&[u8]>, call: &Call, sums: &mut Sums) {
     let before = bytes.to_vec();
-    let answer = answer(bytes, call);
+    let answer = answer(bytes, store, call);
     if answer.number != 0 {
         assert_eq!(bytes, before, "a refused call leaves the book");
         assert!(answer.fields.iter().all(|field| *field == 0), "{answer:?}");
@@ -104,7 +107,9 @@ fn step(bytes: &mut [u8], call: &Call, sums: &mut Sums) {
             sums.mwh += answer.fields[1];
             sums.worth += answer.fields[2];
             sums.runs += 1;
-            assert_eq!(next_reduction(&fields(bytes)), None, "the end of a run");
+            let after = fields(bytes);
+            let limits = store::limits(store, after.date).expect("a set in force");
+            assert_eq!(next_reduction(&limits, &after), None, "the end of a run");
         }
         _ => assert_eq!(bytes, before, "a call that only answers leaves the book"),
     }

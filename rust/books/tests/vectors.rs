@@ -24,3 +24,8 @@ fn every_return_of_shrinkage() {
     let replayed = shrinkage::replay(shrinkage_return, over_days);
     assert_eq!(replayed, shrinkage::LINES);
 }
+
+#[test]
+fn every_call_with_a_store() {
+    assert_eq!(vectors::replay_requests(answer), vectors::REQUESTS);
+}

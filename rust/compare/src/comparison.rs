@@ -5,6 +5,7 @@ use std::fmt::{self, Display, Formatter};
 use std::fs;
 use std::path::{Path, PathBuf};
 
+use books::vectors::Implementation;
 use books::{Answer, Call, Generator, Kind};
 
 use crate::counts::Counts;
@@ -50,6 +51,7 @@ pub struct Comparison {
     seed: u64,
     generator: Generator,
     book: Vec<u8>,
+    store: Option<Vec<u8>>,
     calls_left: usize,
     folder: PathBuf,
     /// The calls compared so far.
@@ -69,6 +71,7 @@ impl Comparison {
             seed,
             generator: Generator::new(seed),
             book: Vec::new(),
+            store: None,
             calls_left: 0,
             folder: folder.to_path_buf(),
             counts: Counts::default(),
@@ -82,32 +85,40 @@ impl Comparison {
         &mut self.generator
     }
 
-    /// Makes drawn calls until this many were compared: sequences of calls,
-    /// each on the book that the call before left.
+    /// Makes drawn calls until this many were compared: sequences of calls with
+    /// one store, or none, each on the book that the call before left.
     pub fn random_calls(&mut self, calls: u64) {
         while self.counts.all() < calls {
             if self.calls_left == 0 {
                 self.book = self.generator.any_book();
+                self.store = self.generator.store(&self.book);
                 self.calls_left = 1 + self.generator.random().below(LONGEST_SEQUENCE);
             }
             self.calls_left -= 1;
-            let call = self.generator.call(&self.book);
+            let store = self.store.clone();
+            let call = self.generator.call(&self.book, store.as_deref());
             let mut book = std::mem::take(&mut self.book);
-            self.call(&mut book, &call);
+            self.request(&mut book, store.as_deref(), &call);
             self.book = book;
         }
     }
 
-    /// Makes the call on copies of the book by every side and compares them.
-    /// The book becomes the reference's.
+    /// Makes the call without a store on copies of the book by every side and
+    /// compares them. The book becomes the reference's.
     pub fn call(&mut self, book: &mut [u8], call: &Call) {
+        self.request(book, None, call);
+    }
+
+    /// The same with this store, or none.
+    pub fn request(&mut self, book: &mut [u8], store: Option<&[u8]>, call: &Call) {
         let before = book.to_vec();
-        let expected = books::answer(book, call);
-        self.hold(&before, call, (&expected, book), "archive", engine::answer);
+        let given = (&before[..], store, call);
+        let expected = books::answer(book, store, call);
+        self.hold(given, (&expected, book), "archive", engine::answer);
         if typed::has(call) {
-            self.hold(&before, call, (&expected, book), "daybook", typed::answer);
+            self.hold(given, (&expected, book), "daybook", typed::answer);
         }
-        self.hold(&before, call, (&expected, book), "tuned", tuned::answer);
+        self.hold(given, (&expected, book), "tuned", tuned::answer);
         self.counts.add(call, expected.number);
     }
 
@@ -115,14 +126,13 @@ impl Comparison {
     /// the expected answer and the expected book afterwards.
     fn hold(
         &mut self,
-        before: &[u8],
-        call: &Call,
+        (before, store, call): (&[u8], Option<&[u8]>, &Call),
         (expected, after): (&Answer, &[u8]),
         side: &str,
-        implementation: fn(&mut [u8], &Call) -> Answer,
+        implementation: Implementation,
     ) {
         let mut book = before.to_vec();
-        let found = implementation(&mut book, call);
+        let found = implementation(&mut book, store, call);
         let what = if found != *expected {
             differing(side, &found, expected)
         } else if book != after {
@@ -133,10 +143,10 @@ impl Comparison {
         } else {
             return;
         };
-        self.keep(before, call, what);
+        self.keep((before, store, call), what);
     }
 
-    fn keep(&mut self, before: &[u8], call: &Call, what: String) {
+    fn keep(&mut self, (before, store, call): (&[u8], Option<&[u8]>, &Call), what: String) {
         self.differences += 1;
         if self.kept.len() == MOST_KEPT {
             return;
@@ -148,7 +158,7 @@ impl Comparison {
         let difference = Difference {
             seed: self.seed,
             place,
-            call: in_words(call, &file),
+            call: in_words(store, call, &file),
             what,
             file,
         };
@@ -164,7 +174,8 @@ impl Comparison {
     }
 
     /// Each kind of call on one user, with an id, an area and an amount, each
-    /// on its own copy of the book; then the calls without a user.
+    /// on its own copy of the book; then the calls without a user. Those that
+    /// take a store are made with one too.
     pub fn every_call(&mut self, book: &[u8], (id, area, amount): (u32, u32, i64)) {
         let afternoon = self.generator.book(Kind::Small);
         let mut calls = vec![
@@ -186,11 +197,16 @@ impl Comparison {
                 id,
             });
         }
-        if books::generator::is_short_run(book) {
+        if books::generator::is_short_run(book, None) {
             calls.extend([Call::Run, Call::Day]);
         }
         for call in calls {
             self.call(&mut book.to_vec(), &call);
+            let store = self.generator.store(book);
+            let short = call != Call::Run || books::generator::is_short_run(book, store.as_deref());
+            if call.takes_store() && short {
+                self.request(&mut book.to_vec(), store.as_deref(), &call);
+            }
         }
     }
 }
@@ -223,9 +239,15 @@ fn first_byte(found: &[u8], expected: &[u8]) -> String {
     }
 }
 
-/// The call and its arguments. An image or a second book is written beside the
-/// file of the book.
-fn in_words(call: &Call, file: &Path) -> String {
+/// The call and its arguments. A store, an image or a second book is written
+/// beside the file of the book.
+fn in_words(store: Option<&[u8]>, call: &Call, file: &Path) -> String {
+    if let Some(store) = store {
+        let beside = file.with_extension("gps");
+        fs::write(&beside, store).expect("a file for the store");
+        let words = in_words(None, call, file);
+        return format!("{words}, with the store {}", beside.display());
+    }
     let (extension, bytes, rest) = match call {
         Call::ShowPicked {
             afternoon,

@@ -4,8 +4,9 @@ use std::fmt::{self, Display, Formatter};
 
 use books::Call;
 
-/// The numbers of document 01: 0 for an accepted call, 1 to 14 for a refusal.
-pub const NUMBERS: usize = 15;
+/// The numbers: 0 for an accepted call, 1 to 14 for a refusal of document 01, 16
+/// and 17 for one of ask 4.
+pub const NUMBERS: usize = 18;
 
 /// Calls that were compared, by kind and number.
 #[derive(Clone, Debug, Default, PartialEq, Eq)]
@@ -30,7 +31,7 @@ impl Counts {
         self.counts[kind(name)][number]
     }
 
-    /// The kinds and numbers that document 01 allows and that did not occur.
+    /// The kinds and numbers that the documents allow and that did not occur.
     pub fn not_reached(&self) -> Vec<(&'static str, usize)> {
         Call::NAMES
             .into_iter()
@@ -39,7 +40,7 @@ impl Counts {
             .collect()
     }
 
-    /// The kinds and numbers that occurred although document 01 does not allow
+    /// The kinds and numbers that occurred although the documents do not allow
     /// them.
     pub fn not_allowed(&self) -> Vec<(&'static str, usize)> {
         Call::NAMES
@@ -59,11 +60,12 @@ fn kind(name: &str) -> usize {
 /// The numbers that a kind of call can get.
 pub fn possible(name: &str) -> Vec<usize> {
     let (last, more): (usize, &[usize]) = match name {
-        "posting" => (8, &[10]),
-        "show" | "show picked" => (8, &[]),
-        "morning level" | "afternoon level" | "warning" => (9, &[]),
-        "morning call" | "afternoon call" => (9, &[11, 12]),
-        "reduction" => (9, &[11, 13, 14]),
+        "posting" => (8, &[10, 16, 17]),
+        "show" | "show picked" => (8, &[16, 17]),
+        "morning level" | "afternoon level" | "warning" => (9, &[16, 17]),
+        "morning call" | "afternoon call" => (9, &[11, 12, 16, 17]),
+        "reduction" => (9, &[11, 13, 14, 16, 17]),
+        "run" => (7, &[16, 17]),
         _ => (7, &[]),
     };
     let mut numbers: Vec<usize> = (0..=last).chain(more.iter().copied()).collect();

@@ -1,18 +1,19 @@
 //! The printed day, put together of other calls.
 
+use books::vectors::Implementation;
 use books::{Answer, Call};
 use daybook::{Book, Image};
 
 /// The day that an implementation's calls print, on a copy of the book. A run
 /// that left a book which is refused has its number.
-pub fn printed(book: &[u8], implementation: fn(&mut [u8], &Call) -> Answer) -> Answer {
+pub fn printed(book: &[u8], implementation: Implementation) -> Answer {
     let mut book = book.to_vec();
-    let run = implementation(&mut book, &Call::Run);
+    let run = implementation(&mut book, None, &Call::Run);
     if run.number != 0 {
         let text = format!("refused {}\n", run.number);
         return Answer::of_part(run.number, text.as_bytes());
     }
-    let after = implementation(&mut book, &Call::Read);
+    let after = implementation(&mut book, None, &Call::Read);
     if after.number != 0 {
         return Answer::of_part(after.number, &book);
     }
@@ -31,14 +32,10 @@ pub fn printed(book: &[u8], implementation: fn(&mut [u8], &Call) -> Answer) -> A
 
 /// The state and the level of a printed day, from what the afternoon call
 /// would answer.
-fn state(
-    book: &[u8],
-    id: u32,
-    implementation: fn(&mut [u8], &Call) -> Answer,
-) -> (&'static str, i128) {
+fn state(book: &[u8], id: u32, implementation: Implementation) -> (&'static str, i128) {
     let mut book = book.to_vec();
-    let level = implementation(&mut book, &Call::AfternoonLevel { id }).fields[0];
-    let state = match implementation(&mut book, &Call::AfternoonCall { id }).number {
+    let level = implementation(&mut book, None, &Call::AfternoonLevel { id }).fields[0];
+    let state = match implementation(&mut book, None, &Call::AfternoonCall { id }).number {
         0 => "call",
         9 => "clear",
         12 => "short",

@@ -8,25 +8,34 @@ use daybook::{IMAGE_LENGTH, USER_LENGTH};
 /// there.
 const BEFORE: u8 = 0xA5;
 
-/// The engine's answer; the book is changed as the call says.
-pub fn answer(book: &mut [u8], call: &Call) -> Answer {
+/// The engine's answer to a call with this store, or none; the book is changed as
+/// the call says.
+pub fn answer(book: &mut [u8], store: Option<&[u8]>, call: &Call) -> Answer {
     match call {
         Call::Posting { id, area, amount } => {
-            Answer::of_fields(archive::posting(book, *id, *area, *amount), &[])
+            Answer::of_fields(archive::posting(book, store, *id, *area, *amount), &[])
         }
-        Call::Show { id } => record(|part| archive::show(book, *id, part)),
+        Call::Show { id } => record(|part| archive::show(book, store, *id, part)),
         Call::ShowPicked {
             afternoon,
             pick,
             id,
-        } => record(|part| archive::show_picked(book, afternoon, u32::from(*pick), *id, part)),
-        Call::MorningLevel { id } => fields::<1>(|part| archive::morning_level(book, *id, part)),
-        Call::AfternoonLevel { id } => {
-            fields::<1>(|part| archive::afternoon_level(book, *id, part))
+        } => {
+            record(|part| archive::show_picked(book, afternoon, store, u32::from(*pick), *id, part))
         }
-        Call::MorningCall { id } => fields::<2>(|part| archive::morning_call(book, *id, part)),
-        Call::AfternoonCall { id } => fields::<2>(|part| archive::afternoon_call(book, *id, part)),
-        Call::Warning { id } => fields::<1>(|part| archive::warning(book, *id, part)),
+        Call::MorningLevel { id } => {
+            fields::<1>(|part| archive::morning_level(book, store, *id, part))
+        }
+        Call::AfternoonLevel { id } => {
+            fields::<1>(|part| archive::afternoon_level(book, store, *id, part))
+        }
+        Call::MorningCall { id } => {
+            fields::<2>(|part| archive::morning_call(book, store, *id, part))
+        }
+        Call::AfternoonCall { id } => {
+            fields::<2>(|part| archive::afternoon_call(book, store, *id, part))
+        }
+        Call::Warning { id } => fields::<1>(|part| archive::warning(book, store, *id, part)),
         Call::Read => {
             let mut image = [BEFORE; IMAGE_LENGTH];
             let number = archive::read(book, &mut image);
@@ -37,8 +46,8 @@ pub fn answer(book: &mut [u8], call: &Call) -> Answer {
             let number = archive::write(&image[..], &mut part);
             Answer::of_part(number, &part)
         }
-        Call::Reduction { id } => fields::<5>(|part| archive::reduction(book, *id, part)),
-        Call::Run => fields::<3>(|part| archive::run(book, part)),
+        Call::Reduction { id } => fields::<5>(|part| archive::reduction(book, store, *id, part)),
+        Call::Run => fields::<3>(|part| archive::run(book, store, part)),
         Call::Day => crate::day::printed(book, answer),
     }
 }

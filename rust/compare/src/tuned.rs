@@ -1,41 +1,29 @@
 //! The answers of the tuned implementation.
 
 use books::{Answer, Call};
-use daybook::{IMAGE_LENGTH, USER_LENGTH};
+use daybook::IMAGE_LENGTH;
 
 /// What an image holds before the call: a refusal has to put 0 there.
 const BEFORE: u8 = 0xA5;
 
-/// The answer of the tuned implementation; the book is changed as the call says.
-pub fn answer(book: &mut [u8], call: &Call) -> Answer {
+/// The answer of the tuned implementation to a call with this store, or none; the
+/// book is changed as the call says. Without a store its functions of document 01
+/// have to give the same.
+pub fn answer(book: &mut [u8], store: Option<&[u8]>, call: &Call) -> Answer {
+    let before = book.to_vec();
+    if let Some(given) = books::tuned::answer(book, store, call) {
+        if store.is_none() {
+            let mut other = before;
+            let plain = books::tuned::plain_answer(&mut other, call);
+            assert_eq!(plain.as_ref(), Some(&given), "without a store");
+            assert_eq!(other, book, "without a store");
+        }
+        return given;
+    }
     match call {
-        Call::Posting { id, area, amount } => {
-            fields(tuned::posting(book, *id, *area, *amount).map(|()| []))
-        }
-        Call::Show { id } => record(tuned::show(book, *id)),
-        Call::ShowPicked {
-            afternoon,
-            pick,
-            id,
-        } => record(tuned::show_picked(book, afternoon, *pick, *id)),
-        Call::MorningLevel { id } => fields(tuned::morning_level(book, *id).map(|level| [level.0])),
-        Call::AfternoonLevel { id } => {
-            fields(tuned::afternoon_level(book, *id).map(|level| [level.0]))
-        }
-        Call::MorningCall { id } => guarantee_call(tuned::morning_call(book, *id)),
-        Call::AfternoonCall { id } => guarantee_call(tuned::afternoon_call(book, *id)),
-        Call::Warning { id } => fields(tuned::warning(book, *id).map(|warned| [warned.into()])),
-        Call::Read => read(book),
         Call::Write { image, length } => write(image, *length),
-        Call::Reduction { id } => fields(tuned::reduction(book, *id).map(|done| {
-            let [worth, target] = [done.worth, done.target].map(|money| money.0);
-            [done.mwh.0, worth, target, done.short.0, done.over.0]
-        })),
-        Call::Run => fields(tuned::run(book).map(|done| {
-            let reductions = i64::try_from(done.reductions).unwrap_or(i64::MAX);
-            [reductions, done.mwh.0, done.worth.0]
-        })),
         Call::Day => crate::day::printed(book, answer),
+        _ => read(book),
     }
 }
 
@@ -116,22 +104,4 @@ fn trade(trade: &daybook::Trade) -> tuned::Trade {
 
 fn number<T>(answer: &Result<T, u32>) -> u32 {
     answer.as_ref().err().copied().unwrap_or(0)
-}
-
-/// The number and the fields, each of them 0 after a refusal.
-fn fields<const COUNT: usize>(answer: Result<[i64; COUNT], u32>) -> Answer {
-    let number = number(&answer);
-    let fields = answer.unwrap_or([0; COUNT]).map(i128::from);
-    Answer::of_fields(number, &fields)
-}
-
-fn guarantee_call(answer: Result<tuned::GuaranteeCall, u32>) -> Answer {
-    fields(answer.map(|call| [call.level.0, call.added.0]))
-}
-
-fn record(answer: Result<&[u8; USER_LENGTH], u32>) -> Answer {
-    match answer {
-        Ok(user) => Answer::of_part(0, user),
-        Err(number) => Answer::of_part(number, &[]),
-    }
 }

@@ -1,7 +1,7 @@
 //! The engine's answers by the Rust types of `daybook`.
 
 use books::{Answer, Call};
-use daybook::{Book, GuaranteeCall, Image, Level, Refusal, Trade, User, IMAGE_LENGTH};
+use daybook::{Book, GuaranteeCall, Image, Level, Refusal, Request, Trade, User, IMAGE_LENGTH};
 
 /// Whether the call has a function of its own in `daybook`; a printed day is
 /// put together of others.
@@ -9,24 +9,28 @@ pub fn has(call: &Call) -> bool {
     *call != Call::Day
 }
 
-/// The answer to a call that `daybook` has; the book is changed as the call
-/// says.
-pub fn answer(book: &mut [u8], call: &Call) -> Answer {
+/// The answer to a call that `daybook` has, with this store, or none; the book is
+/// changed as the call says.
+pub fn answer(book: &mut [u8], store: Option<&[u8]>, call: &Call) -> Answer {
+    let request = match store {
+        Some(store) => Request::new().store(store),
+        None => Request::new(),
+    };
     match call {
         Call::Posting { id, area, amount } => {
-            fields(daybook::posting(book, *id, *area, *amount).map(|()| []))
+            fields(request.posting(book, *id, *area, *amount).map(|()| []))
         }
-        Call::Show { id } => record(daybook::show(book, *id)),
+        Call::Show { id } => record(request.show(book, *id)),
         Call::ShowPicked {
             afternoon,
             pick,
             id,
-        } => record(daybook::show_picked(book, afternoon, *pick, *id)),
-        Call::MorningLevel { id } => level(daybook::morning_level(book, *id)),
-        Call::AfternoonLevel { id } => level(daybook::afternoon_level(book, *id)),
-        Call::MorningCall { id } => guarantee_call(daybook::morning_call(book, *id)),
-        Call::AfternoonCall { id } => guarantee_call(daybook::afternoon_call(book, *id)),
-        Call::Warning { id } => fields(daybook::warning(book, *id).map(|warned| [warned.into()])),
+        } => record(request.show_picked(book, afternoon, *pick, *id)),
+        Call::MorningLevel { id } => level(request.morning_level(book, *id)),
+        Call::AfternoonLevel { id } => level(request.afternoon_level(book, *id)),
+        Call::MorningCall { id } => guarantee_call(request.morning_call(book, *id)),
+        Call::AfternoonCall { id } => guarantee_call(request.afternoon_call(book, *id)),
+        Call::Warning { id } => fields(request.warning(book, *id).map(|warned| [warned.into()])),
         Call::Read => match daybook::read(book) {
             Ok(fields) => Answer::of_part(0, &fields.to_image()),
             Err(refusal) => Answer::of_part(refusal.number(), &[0; IMAGE_LENGTH]),
@@ -37,13 +41,13 @@ pub fn answer(book: &mut [u8], call: &Call) -> Answer {
             Answer::of_part(number(&written), &part)
         }
         Call::Reduction { id } => {
-            let reduction = daybook::reduction(book, *id);
+            let reduction = request.reduction(book, *id);
             fields(reduction.map(|done| {
                 [done.mwh, done.worth, done.target, done.short, done.over].map(i128::from)
             }))
         }
         Call::Run => {
-            let run = daybook::run(book);
+            let run = request.run(book);
             fields(run.map(|done| [done.reductions, done.mwh, done.worth].map(i128::from)))
         }
         Call::Day => panic!("a printed day has no function of its own"),

@@ -84,9 +84,12 @@ fn every_area_and_amount() {
 /// Postings of every area and amount, also of those that take the entry to its
 /// limits and one past them.
 fn postings(comparison: &mut Comparison, book: &[u8], id: u32) {
-    let entry = reference::show(book, id).1.get(8..12).map_or(0, |bytes| {
-        i32::from_le_bytes([bytes[0], bytes[1], bytes[2], bytes[3]])
-    });
+    let entry = reference::show(book, None, id)
+        .1
+        .get(8..12)
+        .map_or(0, |bytes| {
+            i32::from_le_bytes([bytes[0], bytes[1], bytes[2], bytes[3]])
+        });
     let most = 1_000_000 - i64::from(entry);
     let least = -1_000_000 - i64::from(entry);
     for area in AREAS {
@@ -174,9 +177,9 @@ fn wrong_bytes(book: &mut [u8], length: usize) {
     let mut out = vec![0xBB; 88];
     let numbers = [
         archive::read(book, &mut part),
-        archive::show(book, 1, &mut part),
-        archive::show_picked(book, book, 0, 1, &mut part),
-        archive::show_picked(book, book, 1, 1, &mut part),
+        archive::show(book, None, 1, &mut part),
+        archive::show_picked(book, book, None, 0, 1, &mut part),
+        archive::show_picked(book, book, None, 1, 1, &mut part),
         archive::write(&part, &mut out),
     ];
     assert_eq!(numbers, [WRONG_LENGTH; 5], "length {length}");
@@ -188,19 +191,19 @@ fn wrong_answer(book: &mut [u8], length: usize) {
     let mut answer = vec![7; length];
     let part = &mut answer;
     if length != 1 {
-        assert_eq!(archive::morning_level(book, 1, part), WRONG_LENGTH);
-        assert_eq!(archive::afternoon_level(book, 1, part), WRONG_LENGTH);
-        assert_eq!(archive::warning(book, 1, part), WRONG_LENGTH);
+        assert_eq!(archive::morning_level(book, None, 1, part), WRONG_LENGTH);
+        assert_eq!(archive::afternoon_level(book, None, 1, part), WRONG_LENGTH);
+        assert_eq!(archive::warning(book, None, 1, part), WRONG_LENGTH);
     }
     if length != 2 {
-        assert_eq!(archive::morning_call(book, 1, part), WRONG_LENGTH);
-        assert_eq!(archive::afternoon_call(book, 1, part), WRONG_LENGTH);
+        assert_eq!(archive::morning_call(book, None, 1, part), WRONG_LENGTH);
+        assert_eq!(archive::afternoon_call(book, None, 1, part), WRONG_LENGTH);
     }
     if length != 5 {
-        assert_eq!(archive::reduction(book, 1, part), WRONG_LENGTH);
+        assert_eq!(archive::reduction(book, None, 1, part), WRONG_LENGTH);
     }
     if length != 3 {
-        assert_eq!(archive::run(book, part), WRONG_LENGTH);
+        assert_eq!(archive::run(book, None, part), WRONG_LENGTH);
     }
     assert_eq!(answer, vec![7; length]);
 }
@@ -211,10 +214,10 @@ fn picks_of_c() {
     let mut generator = Generator::new(seed());
     let (morning, afternoon) = (generator.book(Kind::Small), generator.book(Kind::Usual));
     let id = generator.arguments(&afternoon).id;
-    let expected = reference::show(&afternoon, id);
+    let expected = reference::show(&afternoon, None, id);
     for pick in [1, 2, 255, 256, 1 << 31, u32::MAX] {
         let mut record = [0; 56];
-        let number = archive::show_picked(&morning, &afternoon, pick, id, &mut record);
+        let number = archive::show_picked(&morning, &afternoon, None, pick, id, &mut record);
         assert_eq!(number, expected.0);
         assert!(number != 0 || record == expected.1);
     }

@@ -3,23 +3,26 @@
 
 #![forbid(unsafe_code)]
 
-use books::vectors::{days, replay, CALLS, DAYS};
-use books::{Answer, Call};
+use books::vectors::{days, replay, replay_requests, Implementation, CALLS, DAYS, REQUESTS};
+use books::Call;
 use compare::{engine, tuned, typed};
 
 #[test]
 fn every_call_of_the_archive() {
     assert_eq!(replay(engine::answer), CALLS);
+    assert_eq!(replay_requests(engine::answer), REQUESTS);
 }
 
 #[test]
 fn every_call_of_daybook() {
     assert_eq!(replay(typed::answer), CALLS);
+    assert_eq!(replay_requests(typed::answer), REQUESTS);
 }
 
 #[test]
 fn every_call_of_tuned() {
     assert_eq!(replay(tuned::answer), CALLS);
+    assert_eq!(replay_requests(tuned::answer), REQUESTS);
 }
 
 /// The printed days, put together of the engine's calls.
@@ -34,12 +37,12 @@ fn every_day_of_tuned() {
     every_day_of(tuned::answer);
 }
 
-fn every_day_of(implementation: fn(&mut [u8], &Call) -> Answer) {
+fn every_day_of(implementation: Implementation) {
     let days = days();
     assert_eq!(days.len(), DAYS);
     for day in days {
         let mut book = day.book.clone();
-        let printed = implementation(&mut book, &Call::Day).part;
+        let printed = implementation(&mut book, None, &Call::Day).part;
         assert_eq!(printed, day.printed, "{}", day.name);
         assert_eq!(book, day.book, "{}", day.name);
     }

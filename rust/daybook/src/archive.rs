@@ -1,10 +1,10 @@
 //! The C interface of the archive, each function with its parts as slices.
 //!
-//! This is the only module with unsafe code. A function answers 0 or the
-//! number 1 to 14 of document 01 (a return of shrinkage 27 or 28); after a
-//! refusal the part for the answer is 0 and the book is unchanged. An image,
-//! record or answer of another length than said gets [`WRONG_LENGTH`], and
-//! nothing is read, asked or changed.
+//! This is the only module with unsafe code. A function answers 0 or a number of
+//! documents 01 and 02; after a refusal the part for the answer is 0 and the book
+//! is unchanged. A call takes a store of parameter sets, or none. An image, record
+//! or answer of another length than said gets [`WRONG_LENGTH`], and nothing is
+//! read, asked or changed.
 
 #![allow(unsafe_code)]
 
@@ -12,11 +12,15 @@
 pub const WRONG_LENGTH: u32 = 255;
 
 unsafe extern "C" {
+    fn daybook_interface() -> u32;
     fn daybook_read(book: *const u8, book_len: usize, image: *mut u8, image_len: usize) -> u32;
     fn daybook_write(image: *const u8, image_len: usize, out: *mut u8, out_len: usize) -> u32;
     fn daybook_show(
         book: *const u8,
         book_len: usize,
+        with_store: u32,
+        store: *const u8,
+        store_len: usize,
         id: u32,
         record: *mut u8,
         record_len: usize,
@@ -26,15 +30,30 @@ unsafe extern "C" {
         morning_len: usize,
         afternoon: *const u8,
         afternoon_len: usize,
+        with_store: u32,
+        store: *const u8,
+        store_len: usize,
         afternoon_picked: u32,
         id: u32,
         record: *mut u8,
         record_len: usize,
     ) -> u32;
-    fn daybook_posting(book: *mut u8, book_len: usize, id: u32, area: u32, amount: i64) -> u32;
+    fn daybook_posting(
+        book: *mut u8,
+        book_len: usize,
+        with_store: u32,
+        store: *const u8,
+        store_len: usize,
+        id: u32,
+        area: u32,
+        amount: i64,
+    ) -> u32;
     fn daybook_morning_level(
         book: *const u8,
         book_len: usize,
+        with_store: u32,
+        store: *const u8,
+        store_len: usize,
         id: u32,
         answer: *mut u64,
         answer_len: usize,
@@ -42,6 +61,9 @@ unsafe extern "C" {
     fn daybook_afternoon_level(
         book: *const u8,
         book_len: usize,
+        with_store: u32,
+        store: *const u8,
+        store_len: usize,
         id: u32,
         answer: *mut u64,
         answer_len: usize,
@@ -49,6 +71,9 @@ unsafe extern "C" {
     fn daybook_morning_call(
         book: *mut u8,
         book_len: usize,
+        with_store: u32,
+        store: *const u8,
+        store_len: usize,
         id: u32,
         answer: *mut u64,
         answer_len: usize,
@@ -56,6 +81,9 @@ unsafe extern "C" {
     fn daybook_afternoon_call(
         book: *mut u8,
         book_len: usize,
+        with_store: u32,
+        store: *const u8,
+        store_len: usize,
         id: u32,
         answer: *mut u64,
         answer_len: usize,
@@ -63,6 +91,9 @@ unsafe extern "C" {
     fn daybook_warning(
         book: *const u8,
         book_len: usize,
+        with_store: u32,
+        store: *const u8,
+        store_len: usize,
         id: u32,
         answer: *mut u64,
         answer_len: usize,
@@ -70,11 +101,22 @@ unsafe extern "C" {
     fn daybook_reduction(
         book: *mut u8,
         book_len: usize,
+        with_store: u32,
+        store: *const u8,
+        store_len: usize,
         id: u32,
         answer: *mut u64,
         answer_len: usize,
     ) -> u32;
-    fn daybook_run(book: *mut u8, book_len: usize, answer: *mut u64, answer_len: usize) -> u32;
+    fn daybook_run(
+        book: *mut u8,
+        book_len: usize,
+        with_store: u32,
+        store: *const u8,
+        store_len: usize,
+        answer: *mut u64,
+        answer_len: usize,
+    ) -> u32;
     fn daybook_shrinkage_return(
         balances: *const i64,
         balances_len: usize,
@@ -82,6 +124,22 @@ unsafe extern "C" {
         answer_len: usize,
     ) -> u32;
     fn daybook_shrinkage_days(share: u64, answer: *mut u64, answer_len: usize) -> u32;
+}
+
+/// The interface that this module is written for: the archive's must be the same.
+pub const INTERFACE: u32 = 2;
+
+/// The archive's interface.
+pub fn interface() -> u32 {
+    // SAFETY: the function takes nothing and reads no part.
+    unsafe { daybook_interface() }
+}
+
+/// A store, or none, as the three arguments of a C function: a flag, a pointer
+/// that is never null, and the length.
+fn lent(store: Option<&[u8]>) -> (u32, *const u8, usize) {
+    let bytes = store.unwrap_or(&[]);
+    (u32::from(store.is_some()), bytes.as_ptr(), bytes.len())
 }
 
 /// Reads a book into an image of 8,736 bytes.
@@ -99,13 +157,17 @@ pub fn write(image: &[u8], part: &mut [u8]) -> u32 {
 }
 
 /// Copies a user's record into 56 bytes.
-pub fn show(book: &[u8], id: u32, record: &mut [u8]) -> u32 {
-    // SAFETY: each pointer comes with the length of its slice, both slices live through the call,
-    // and the record, lent by &mut, does not overlap the book.
+pub fn show(book: &[u8], store: Option<&[u8]>, id: u32, record: &mut [u8]) -> u32 {
+    let (with_store, store, store_len) = lent(store);
+    // SAFETY: each pointer comes with the length of its slice, the slices live through the call,
+    // and the record, lent by &mut, overlaps neither book nor store.
     unsafe {
         daybook_show(
             book.as_ptr(),
             book.len(),
+            with_store,
+            store,
+            store_len,
             id,
             record.as_mut_ptr(),
             record.len(),
@@ -118,18 +180,23 @@ pub fn show(book: &[u8], id: u32, record: &mut [u8]) -> u32 {
 pub fn show_picked(
     morning: &[u8],
     afternoon: &[u8],
+    store: Option<&[u8]>,
     afternoon_picked: u32,
     id: u32,
     record: &mut [u8],
 ) -> u32 {
+    let (with_store, store, store_len) = lent(store);
     // SAFETY: each pointer comes with the length of its slice, the slices live through the call,
-    // and the record, lent by &mut, overlaps neither book. The books are only read.
+    // and the record, lent by &mut, overlaps no other. Books and store are only read.
     unsafe {
         daybook_show_picked(
             morning.as_ptr(),
             morning.len(),
             afternoon.as_ptr(),
             afternoon.len(),
+            with_store,
+            store,
+            store_len,
             afternoon_picked,
             id,
             record.as_mut_ptr(),
@@ -139,20 +206,36 @@ pub fn show_picked(
 }
 
 /// Adds an amount to a user's physical entry and position in an area.
-pub fn posting(book: &mut [u8], id: u32, area: u32, amount: i64) -> u32 {
-    // SAFETY: the pointer comes with the length of its slice, which is lent by &mut and lives
-    // through the call.
-    unsafe { daybook_posting(book.as_mut_ptr(), book.len(), id, area, amount) }
+pub fn posting(book: &mut [u8], store: Option<&[u8]>, id: u32, area: u32, amount: i64) -> u32 {
+    let (with_store, store, store_len) = lent(store);
+    // SAFETY: each pointer comes with the length of its slice, the book is lent by &mut, and
+    // both live through the call. The store is only read.
+    unsafe {
+        daybook_posting(
+            book.as_mut_ptr(),
+            book.len(),
+            with_store,
+            store,
+            store_len,
+            id,
+            area,
+            amount,
+        )
+    }
 }
 
 /// The morning level, as the one part of the answer.
-pub fn morning_level(book: &[u8], id: u32, answer: &mut [u64]) -> u32 {
-    // SAFETY: each pointer comes with the length of its slice in elements, both slices live through
-    // the call, and the answer, lent by &mut, does not overlap the book.
+pub fn morning_level(book: &[u8], store: Option<&[u8]>, id: u32, answer: &mut [u64]) -> u32 {
+    let (with_store, store, store_len) = lent(store);
+    // SAFETY: each pointer comes with the length of its slice in elements, the slices live through
+    // the call, and the answer, lent by &mut, overlaps neither book nor store.
     unsafe {
         daybook_morning_level(
             book.as_ptr(),
             book.len(),
+            with_store,
+            store,
+            store_len,
             id,
             answer.as_mut_ptr(),
             answer.len(),
@@ -161,13 +244,17 @@ pub fn morning_level(book: &[u8], id: u32, answer: &mut [u64]) -> u32 {
 }
 
 /// The afternoon level, as the one part of the answer.
-pub fn afternoon_level(book: &[u8], id: u32, answer: &mut [u64]) -> u32 {
-    // SAFETY: each pointer comes with the length of its slice in elements, both slices live through
-    // the call, and the answer, lent by &mut, does not overlap the book.
+pub fn afternoon_level(book: &[u8], store: Option<&[u8]>, id: u32, answer: &mut [u64]) -> u32 {
+    let (with_store, store, store_len) = lent(store);
+    // SAFETY: each pointer comes with the length of its slice in elements, the slices live through
+    // the call, and the answer, lent by &mut, overlaps neither book nor store.
     unsafe {
         daybook_afternoon_level(
             book.as_ptr(),
             book.len(),
+            with_store,
+            store,
+            store_len,
             id,
             answer.as_mut_ptr(),
             answer.len(),
@@ -177,13 +264,17 @@ pub fn afternoon_level(book: &[u8], id: u32, answer: &mut [u64]) -> u32 {
 
 /// The guarantee call of the morning; the answer is the level and the amount
 /// added.
-pub fn morning_call(book: &mut [u8], id: u32, answer: &mut [u64]) -> u32 {
-    // SAFETY: each pointer comes with the length of its slice in elements, both slices live through
-    // the call, and being lent by &mut they do not overlap.
+pub fn morning_call(book: &mut [u8], store: Option<&[u8]>, id: u32, answer: &mut [u64]) -> u32 {
+    let (with_store, store, store_len) = lent(store);
+    // SAFETY: each pointer comes with the length of its slice in elements, the slices live through
+    // the call, and book and answer, lent by &mut, overlap nothing.
     unsafe {
         daybook_morning_call(
             book.as_mut_ptr(),
             book.len(),
+            with_store,
+            store,
+            store_len,
             id,
             answer.as_mut_ptr(),
             answer.len(),
@@ -193,13 +284,17 @@ pub fn morning_call(book: &mut [u8], id: u32, answer: &mut [u64]) -> u32 {
 
 /// The guarantee call of the afternoon; the answer is the level and the amount
 /// added.
-pub fn afternoon_call(book: &mut [u8], id: u32, answer: &mut [u64]) -> u32 {
-    // SAFETY: each pointer comes with the length of its slice in elements, both slices live through
-    // the call, and being lent by &mut they do not overlap.
+pub fn afternoon_call(book: &mut [u8], store: Option<&[u8]>, id: u32, answer: &mut [u64]) -> u32 {
+    let (with_store, store, store_len) = lent(store);
+    // SAFETY: each pointer comes with the length of its slice in elements, the slices live through
+    // the call, and book and answer, lent by &mut, overlap nothing.
     unsafe {
         daybook_afternoon_call(
             book.as_mut_ptr(),
             book.len(),
+            with_store,
+            store,
+            store_len,
             id,
             answer.as_mut_ptr(),
             answer.len(),
@@ -208,13 +303,17 @@ pub fn afternoon_call(book: &mut [u8], id: u32, answer: &mut [u64]) -> u32 {
 }
 
 /// The midday warning; the answer is 1 for warned, else 0.
-pub fn warning(book: &[u8], id: u32, answer: &mut [u64]) -> u32 {
-    // SAFETY: each pointer comes with the length of its slice in elements, both slices live through
-    // the call, and the answer, lent by &mut, does not overlap the book.
+pub fn warning(book: &[u8], store: Option<&[u8]>, id: u32, answer: &mut [u64]) -> u32 {
+    let (with_store, store, store_len) = lent(store);
+    // SAFETY: each pointer comes with the length of its slice in elements, the slices live through
+    // the call, and the answer, lent by &mut, overlaps neither book nor store.
     unsafe {
         daybook_warning(
             book.as_ptr(),
             book.len(),
+            with_store,
+            store,
+            store_len,
             id,
             answer.as_mut_ptr(),
             answer.len(),
@@ -223,13 +322,17 @@ pub fn warning(book: &[u8], id: u32, answer: &mut [u64]) -> u32 {
 }
 
 /// The reduction; the answer is MWh, worth, target, short and over.
-pub fn reduction(book: &mut [u8], id: u32, answer: &mut [u64]) -> u32 {
-    // SAFETY: each pointer comes with the length of its slice in elements, both slices live through
-    // the call, and being lent by &mut they do not overlap.
+pub fn reduction(book: &mut [u8], store: Option<&[u8]>, id: u32, answer: &mut [u64]) -> u32 {
+    let (with_store, store, store_len) = lent(store);
+    // SAFETY: each pointer comes with the length of its slice in elements, the slices live through
+    // the call, and book and answer, lent by &mut, overlap nothing.
     unsafe {
         daybook_reduction(
             book.as_mut_ptr(),
             book.len(),
+            with_store,
+            store,
+            store_len,
             id,
             answer.as_mut_ptr(),
             answer.len(),
@@ -238,13 +341,17 @@ pub fn reduction(book: &mut [u8], id: u32, answer: &mut [u64]) -> u32 {
 }
 
 /// The run; the answer is the number of reductions, MWh and worth.
-pub fn run(book: &mut [u8], answer: &mut [u64]) -> u32 {
-    // SAFETY: each pointer comes with the length of its slice in elements, both slices live through
-    // the call, and being lent by &mut they do not overlap.
+pub fn run(book: &mut [u8], store: Option<&[u8]>, answer: &mut [u64]) -> u32 {
+    let (with_store, store, store_len) = lent(store);
+    // SAFETY: each pointer comes with the length of its slice in elements, the slices live through
+    // the call, and book and answer, lent by &mut, overlap nothing.
     unsafe {
         daybook_run(
             book.as_mut_ptr(),
             book.len(),
+            with_store,
+            store,
+            store_len,
             answer.as_mut_ptr(),
             answer.len(),
         )

@@ -1,8 +1,9 @@
-//! The calls of document 01, in Rust types.
+//! The calls of document 01 without a store, and the types of their answers.
 
 use crate::archive;
-use crate::book::{Book, User, IMAGE_LENGTH, USER_LENGTH};
+use crate::book::{Book, User, IMAGE_LENGTH};
 use crate::refusal::Refusal;
+use crate::request::Request;
 
 /// A level in cents.
 #[derive(Clone, Copy, Debug, Default, PartialEq, Eq, PartialOrd, Ord)]
@@ -57,9 +58,7 @@ pub fn write(book: &Book, part: &mut [u8]) -> Result<(), Refusal> {
 
 /// The record of a user.
 pub fn show(book: &[u8], id: u32) -> Result<User, Refusal> {
-    let mut record = [0; USER_LENGTH];
-    answered(archive::show(book, id, &mut record))?;
-    Ok(User::from_bytes(&record))
+    Request::new().show(book, id)
 }
 
 /// The record of a user of the afternoon's book where it is picked, else of
@@ -70,85 +69,50 @@ pub fn show_picked(
     afternoon_picked: bool,
     id: u32,
 ) -> Result<User, Refusal> {
-    let mut record = [0; USER_LENGTH];
-    let pick = u32::from(afternoon_picked);
-    answered(archive::show_picked(
-        morning,
-        afternoon,
-        pick,
-        id,
-        &mut record,
-    ))?;
-    Ok(User::from_bytes(&record))
+    Request::new().show_picked(morning, afternoon, afternoon_picked, id)
 }
 
 /// Adds a signed amount of MWh to a user's physical entry and position in an
 /// area.
 pub fn posting(book: &mut [u8], id: u32, area: u32, amount: i64) -> Result<(), Refusal> {
-    answered(archive::posting(book, id, area, amount))
+    Request::new().posting(book, id, area, amount)
 }
 
 /// The morning level of a shipper.
 pub fn morning_level(book: &[u8], id: u32) -> Result<Level, Refusal> {
-    let mut answer = [0; 1];
-    answered(archive::morning_level(book, id, &mut answer))?;
-    Ok(Level(answer[0]))
+    Request::new().morning_level(book, id)
 }
 
 /// The afternoon level of a shipper.
 pub fn afternoon_level(book: &[u8], id: u32) -> Result<Level, Refusal> {
-    let mut answer = [0; 1];
-    answered(archive::afternoon_level(book, id, &mut answer))?;
-    Ok(Level(answer[0]))
+    Request::new().afternoon_level(book, id)
 }
 
 /// Raises a shipper's blocked guarantee to the morning level.
 pub fn morning_call(book: &mut [u8], id: u32) -> Result<GuaranteeCall, Refusal> {
-    let mut answer = [0; 2];
-    answered(archive::morning_call(book, id, &mut answer))?;
-    Ok(guarantee_call(answer))
+    Request::new().morning_call(book, id)
 }
 
 /// Raises a shipper's blocked guarantee to the afternoon level.
 pub fn afternoon_call(book: &mut [u8], id: u32) -> Result<GuaranteeCall, Refusal> {
-    let mut answer = [0; 2];
-    answered(archive::afternoon_call(book, id, &mut answer))?;
-    Ok(guarantee_call(answer))
+    Request::new().afternoon_call(book, id)
 }
 
 /// Whether a shipper is warned at midday.
 pub fn warning(book: &[u8], id: u32) -> Result<bool, Refusal> {
-    let mut answer = [0; 1];
-    answered(archive::warning(book, id, &mut answer))?;
-    Ok(answer[0] != 0)
+    Request::new().warning(book, id)
 }
 
 /// Cuts a shipper's bilateral sales of the day until the level is covered.
 pub fn reduction(book: &mut [u8], id: u32) -> Result<Reduction, Refusal> {
-    let mut answer = [0; 5];
-    answered(archive::reduction(book, id, &mut answer))?;
-    let [mwh, worth, target, short, over] = answer;
-    Ok(Reduction {
-        mwh,
-        worth,
-        target,
-        short,
-        over,
-    })
+    Request::new().reduction(book, id)
 }
 
 /// Reduces the lowest id that is short of cover and has an eligible trade,
 /// while there is one. It reports at most [`most_reductions`] of the book that
 /// it is lent, and leaves every byte where it reports none; both are proved.
 pub fn run(book: &mut [u8]) -> Result<Run, Refusal> {
-    let mut answer = [0; 3];
-    answered(archive::run(book, &mut answer))?;
-    let [reductions, mwh, worth] = answer;
-    Ok(Run {
-        reductions,
-        mwh,
-        worth,
-    })
+    Request::new().run(book)
 }
 
 /// The most reductions that a run of this book can report: the MWh standing in
@@ -161,19 +125,12 @@ pub fn most_reductions(book: &[u8]) -> Result<u64, Refusal> {
     Ok(cuttable.map(|trade| u64::from(trade.standing)).sum())
 }
 
-fn guarantee_call([level, added]: [u64; 2]) -> GuaranteeCall {
-    GuaranteeCall {
-        level: Level(level),
-        added,
-    }
-}
-
 /// The refusal of a number. Every part is lent with its length, so that the
-/// engine is proved to answer 0 to 14.
-fn answered(number: u32) -> Result<(), Refusal> {
+/// engine is proved to answer 0 or the number of a question.
+pub(crate) fn answered(number: u32) -> Result<(), Refusal> {
     match Refusal::from_number(number) {
         Some(refusal) => Err(refusal),
         None if number == 0 => Ok(()),
-        None => panic!("the archive answered {number}, which is no number of document 01"),
+        None => panic!("the archive answered {number}, which is the number of no question"),
     }
 }

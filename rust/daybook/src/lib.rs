@@ -1,12 +1,15 @@
-//! The calls of document 01 on a day book, answered by the proved engine.
+//! The calls of documents 01 and 02 on a day book, answered by the proved engine.
 //!
-//! A book is lent as its bytes. A call answers what document 01 says, or the
+//! A book is lent as its bytes. A call answers what the documents say, or the
 //! [`Refusal`] of the first question that failed; a refused call leaves the
 //! book byte for byte the same. No call asks anything of its caller: any bytes
 //! and any arguments get an answer.
 //!
+//! The functions take no store of parameter sets (document 02, ask 4); a
+//! [`Request`] takes one, or none.
+//!
 //! The engine is the archive `libexports.a`, made by `rt staticlib exports`
-//! from crates that are proved to meet document 01. This package turns its C
+//! from crates that are proved to meet the documents. This package turns its C
 //! interface into Rust types and computes nothing itself, but for the sum of
 //! [`most_reductions`]. The return of retained shrinkage is a module by itself,
 //! [`shrinkage`].
@@ -31,6 +34,7 @@ pub mod archive;
 mod book;
 mod calls;
 mod refusal;
+mod request;
 pub mod shrinkage;
 
 pub use book::{
@@ -42,3 +46,4 @@ pub use calls::{
     reduction, run, show, show_picked, warning, write, GuaranteeCall, Level, Reduction, Run,
 };
 pub use refusal::Refusal;
+pub use request::Request;

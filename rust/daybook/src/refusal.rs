@@ -1,9 +1,9 @@
-//! Refusals: the questions of document 01, by their numbers.
+//! Refusals: the questions of documents 01 and 02, by their numbers.
 
 use std::error::Error;
 use std::fmt::{self, Display, Formatter};
 
-/// The first question of document 01 that was answered by no.
+/// The first question that was answered by no.
 #[derive(Clone, Copy, Debug, PartialEq, Eq, PartialOrd, Ord, Hash)]
 #[repr(u32)]
 pub enum Refusal {
@@ -21,11 +21,13 @@ pub enum Refusal {
     AssignedCoversLevel = 12,
     AssignedBelowLevel = 13,
     EligibleTrade = 14,
+    StoreForm = 16,
+    SetInForce = 17,
 }
 
 impl Refusal {
     /// Every refusal, in the order of the numbers.
-    pub const ALL: [Refusal; 14] = [
+    pub const ALL: [Refusal; 16] = [
         Refusal::Mark,
         Refusal::Version,
         Refusal::CountsAndLength,
@@ -40,6 +42,8 @@ impl Refusal {
         Refusal::AssignedCoversLevel,
         Refusal::AssignedBelowLevel,
         Refusal::EligibleTrade,
+        Refusal::StoreForm,
+        Refusal::SetInForce,
     ];
 
     /// The number of the question.
@@ -47,14 +51,14 @@ impl Refusal {
         self as u32
     }
 
-    /// The refusal of this number; none for 0 and for numbers above 14.
+    /// The refusal of this number; none for 0 and for numbers of no question.
     pub fn from_number(number: u32) -> Option<Refusal> {
         Refusal::ALL
             .into_iter()
             .find(|refusal| refusal.number() == number)
     }
 
-    /// The question, in the words of document 01.
+    /// The question, in the words of the documents.
     pub fn question(self) -> &'static str {
         match self {
             Refusal::Mark => "at least 32 bytes, starting with the mark?",
@@ -75,6 +79,8 @@ impl Refusal {
             Refusal::AssignedCoversLevel => "assigned ≥ level?",
             Refusal::AssignedBelowLevel => "assigned < level?",
             Refusal::EligibleTrade => "has the user an eligible trade?",
+            Refusal::StoreForm => "is the store well formed?",
+            Refusal::SetInForce => "has the store a set in force on the book's date?",
         }
     }
 }

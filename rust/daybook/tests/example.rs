@@ -2,7 +2,7 @@
 
 #![forbid(unsafe_code)]
 
-use daybook::{Book, GuaranteeCall, Level, Prices, Refusal, Trade, User};
+use daybook::{archive, Book, GuaranteeCall, Level, Prices, Refusal, Request, Trade, User};
 
 /// The book of document 01's printed day.
 fn book() -> Book {
@@ -107,6 +107,32 @@ fn the_printed_run() {
     assert_eq!(positions, Ok([[-25_000, 0, 0], [15_000, 0, 0]]));
 }
 
+/// A store of one set from a date on, with today's figures but for the least level.
+fn store(first_date: u32, least_level: u64) -> Vec<u8> {
+    let mut bytes = b"GPS\x01\x00\x01".to_vec();
+    bytes.extend(first_date.to_le_bytes());
+    bytes.extend(30_000_u32.to_le_bytes());
+    bytes.extend(1_000_000_u64.to_le_bytes());
+    bytes.extend(least_level.to_le_bytes());
+    bytes
+}
+
+#[test]
+fn calls_with_a_store() {
+    let bytes = bytes(&book());
+    let level = |store: &[u8]| Request::new().store(store).afternoon_level(&bytes, 102);
+    assert_eq!(daybook::afternoon_level(&bytes, 102), Ok(Level(10_000_000)));
+    assert_eq!(level(&store(20_260_318, 12)), Ok(Level(12)));
+    assert_eq!(level(&store(20_260_319, 12)), Err(Refusal::SetInForce));
+    assert_eq!(level(&store(20_260_230, 12)), Err(Refusal::StoreForm));
+    assert_eq!(level(&[]), Err(Refusal::StoreForm));
+}
+
+#[test]
+fn the_archive_has_this_interface() {
+    assert_eq!(archive::interface(), archive::INTERFACE);
+}
+
 /// What cannot be written is refused with its question, and the part stays.
 #[test]
 fn refused_writes() {
@@ -137,7 +163,7 @@ fn refused_writes() {
 
 #[test]
 fn refusals_have_the_numbers_of_the_questions() {
-    for (refusal, number) in Refusal::ALL.into_iter().zip(1..) {
+    for (refusal, number) in Refusal::ALL.into_iter().zip((1..=14).chain(16..=17)) {
         assert_eq!(refusal.number(), number);
         assert_eq!(Refusal::from_number(number), Some(refusal));
     }

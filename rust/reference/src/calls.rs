@@ -1,7 +1,7 @@
 //! "Levels and calls": the two guarantee calls.
 
 use crate::levels::{above_margin, afternoon_level_of, called_in, morning_level_of};
-use crate::questions::{ask, questions_1_to_9, ACCEPTED};
+use crate::questions::{ask, questions_to_9, Opened, ACCEPTED};
 use crate::units::Cents;
 
 #[derive(Clone, Copy, Debug, Default, PartialEq, Eq)]
@@ -12,14 +12,14 @@ pub struct CallAnswer {
 }
 
 /// The guarantee call of the morning, at the morning level.
-pub fn morning_call(bytes: &mut [u8], id: u32) -> CallAnswer {
-    let called = morning_called(bytes, id);
+pub fn morning_call(bytes: &mut [u8], store: Option<&[u8]>, id: u32) -> CallAnswer {
+    let called = morning_called(bytes, store, id);
     answer(bytes, called)
 }
 
 /// The guarantee call of the afternoon, at the afternoon level.
-pub fn afternoon_call(bytes: &mut [u8], id: u32) -> CallAnswer {
-    let called = afternoon_called(bytes, id);
+pub fn afternoon_call(bytes: &mut [u8], store: Option<&[u8]>, id: u32) -> CallAnswer {
+    let called = afternoon_called(bytes, store, id);
     answer(bytes, called)
 }
 
@@ -48,11 +48,11 @@ fn answer(bytes: &mut [u8], called: Result<Called, u32>) -> CallAnswer {
 }
 
 /// Question 11 of the morning call does not ask whether the user is called in.
-fn morning_called(bytes: &[u8], id: u32) -> Result<Called, u32> {
-    let (mut book, place) = questions_1_to_9(bytes, id)?;
+fn morning_called(bytes: &[u8], store: Option<&[u8]>, id: u32) -> Result<Called, u32> {
+    let (Opened { mut book, limits }, place) = questions_to_9(bytes, store, id)?;
     let user = &book.users[place];
-    let level = morning_level_of(&book, user);
-    ask(11, above_margin(user, level))?;
+    let level = morning_level_of(&limits, &book, user);
+    ask(11, above_margin(&limits, user, level))?;
     ask(12, user.assigned >= level)?;
     let added = level - user.blocked;
     book.users[place].blocked = level;
@@ -63,11 +63,14 @@ fn morning_called(bytes: &[u8], id: u32) -> Result<Called, u32> {
     })
 }
 
-fn afternoon_called(bytes: &[u8], id: u32) -> Result<Called, u32> {
-    let (mut book, place) = questions_1_to_9(bytes, id)?;
+fn afternoon_called(bytes: &[u8], store: Option<&[u8]>, id: u32) -> Result<Called, u32> {
+    let (Opened { mut book, limits }, place) = questions_to_9(bytes, store, id)?;
     let user = &book.users[place];
-    let level = afternoon_level_of(&book, user);
-    ask(11, above_margin(user, level) && called_in(&book, user))?;
+    let level = afternoon_level_of(&limits, &book, user);
+    ask(
+        11,
+        above_margin(&limits, user, level) && called_in(&limits, &book, user),
+    )?;
     ask(12, user.assigned >= level)?;
     let added = level - user.blocked;
     book.users[place].blocked = level;

@@ -1,4 +1,4 @@
-//! "Printed day".
+//! "Printed day": it takes no store, its figures are today's.
 
 use std::fmt::Write;
 
@@ -6,6 +6,7 @@ use crate::book::{Book, User};
 use crate::levels::{above_margin, afternoon_level_of, called_in};
 use crate::questions::questions_1_to_7;
 use crate::run::{run_book, short_of_cover};
+use crate::store::Limits;
 use crate::units::Cents;
 
 /// What the program `day` prints for this input.
@@ -18,7 +19,7 @@ pub fn day(bytes: &[u8]) -> String {
 
 /// Runs the book, then prints the totals and one line per user.
 fn printed(mut book: Book) -> String {
-    let run = run_book(&mut book);
+    let run = run_book(&Limits::TODAY, &mut book);
     let mut text = format!("run {} {} {}\n", run.reductions, run.mwh, run.worth);
     for user in &book.users {
         text.push_str(&line(&book, user));
@@ -45,7 +46,7 @@ fn line(book: &Book, user: &User) -> String {
 /// "Clearing house, level printed 0."
 fn printed_level(book: &Book, user: &User) -> Cents {
     if user.is_shipper() {
-        afternoon_level_of(book, user)
+        afternoon_level_of(&Limits::TODAY, book, user)
     } else {
         Cents::ZERO
     }
@@ -54,7 +55,7 @@ fn printed_level(book: &Book, user: &User) -> Cents {
 fn state(book: &Book, user: &User) -> &'static str {
     if !user.is_shipper() {
         "clear"
-    } else if short_of_cover(book, user) {
+    } else if short_of_cover(&Limits::TODAY, book, user) {
         "short"
     } else if to_be_called(book, user) {
         "call"
@@ -65,6 +66,8 @@ fn state(book: &Book, user: &User) -> &'static str {
 
 /// "Called in, level − blocked > 1,000,000, assigned ≥ level."
 fn to_be_called(book: &Book, user: &User) -> bool {
-    let level = afternoon_level_of(book, user);
-    called_in(book, user) && above_margin(user, level) && user.assigned >= level
+    let level = afternoon_level_of(&Limits::TODAY, book, user);
+    called_in(&Limits::TODAY, book, user)
+        && above_margin(&Limits::TODAY, user, level)
+        && user.assigned >= level
 }

@@ -1,17 +1,9 @@
 //! "Levels and calls": the two levels, flagged and called in.
 
 use crate::book::{Book, User, TODAY, TOMORROW};
-use crate::questions::{questions_1_to_9, ACCEPTED};
+use crate::questions::{questions_to_9, Opened, ACCEPTED};
+use crate::store::Limits;
 use crate::units::{Area, Cents, Mwh, Price};
-
-/// "Either level is at least 10,000,000 (100,000 euros)."
-pub const LEAST_LEVEL: Cents = Cents(10_000_000);
-
-/// Flagged above 30,000 MWh at the least reference price.
-const FLAG_ENERGY: Mwh = Mwh(30_000);
-
-/// A level counts above blocked by more than this (question 11).
-pub const MARGIN: Cents = Cents(1_000_000);
 
 #[derive(Clone, Copy, Debug, Default, PartialEq, Eq)]
 pub struct LevelAnswer {
@@ -20,20 +12,28 @@ pub struct LevelAnswer {
 }
 
 /// The morning level of a shipper.
-pub fn morning_level(bytes: &[u8], id: u32) -> LevelAnswer {
-    level_answer(bytes, id, morning_level_of)
+pub fn morning_level(bytes: &[u8], store: Option<&[u8]>, id: u32) -> LevelAnswer {
+    answer(
+        questions_to_9(bytes, store, id).map(|(Opened { book, limits }, place)| {
+            morning_level_of(&limits, &book, &book.users[place])
+        }),
+    )
 }
 
 /// The afternoon level of a shipper.
-pub fn afternoon_level(bytes: &[u8], id: u32) -> LevelAnswer {
-    level_answer(bytes, id, afternoon_level_of)
+pub fn afternoon_level(bytes: &[u8], store: Option<&[u8]>, id: u32) -> LevelAnswer {
+    answer(
+        questions_to_9(bytes, store, id).map(|(Opened { book, limits }, place)| {
+            afternoon_level_of(&limits, &book, &book.users[place])
+        }),
+    )
 }
 
-fn level_answer(bytes: &[u8], id: u32, level_of: fn(&Book, &User) -> Cents) -> LevelAnswer {
-    match questions_1_to_9(bytes, id) {
-        Ok((book, place)) => LevelAnswer {
+fn answer(level: Result<Cents, u32>) -> LevelAnswer {
+    match level {
+        Ok(level) => LevelAnswer {
             number: ACCEPTED,
-            level: level_of(&book, &book.users[place]).0,
+            level: level.0,
         },
         Err(number) => LevelAnswer {
             number,
@@ -42,10 +42,11 @@ fn level_answer(bytes: &[u8], id: u32, level_of: fn(&Book, &User) -> Cents) -> L
     }
 }
 
-/// "Level = charges + sum of max(0, need) × w", in the morning.
-pub fn morning_level_of(book: &Book, user: &User) -> Cents {
+/// "Level = charges + sum of max(0, need) × w", in the morning, and "either
+/// level is at least" the least one.
+pub fn morning_level_of(limits: &Limits, book: &Book, user: &User) -> Cents {
     let needs = over_areas(book, |area| morning_need(book, user, area));
-    LEAST_LEVEL.max(user.charges + needs)
+    limits.least_level.max(user.charges + needs)
 }
 
 /// "Need = −physical + sold − bought over d and d+1."
@@ -57,9 +58,11 @@ fn morning_need(book: &Book, user: &User, area: Area) -> Mwh {
 
 /// "Level = charges + sum of max(0, need) × w + sum of max(0, −position) × w",
 /// in the afternoon.
-pub fn afternoon_level_of(book: &Book, user: &User) -> Cents {
+pub fn afternoon_level_of(limits: &Limits, book: &Book, user: &User) -> Cents {
     let needs = over_areas(book, |area| afternoon_need(book, user, area));
-    LEAST_LEVEL.max(user.charges + needs + short_positions(book, user))
+    limits
+        .least_level
+        .max(user.charges + needs + short_positions(book, user))
 }
 
 /// "Need = sold − bought for d+1, minus max(0, position) in areas 1 and 2."
@@ -83,14 +86,14 @@ fn over_areas(book: &Book, energy: impl Fn(Area) -> Mwh) -> Cents {
 }
 
 /// "Flagged: sum of max(0, −position) × w, minus blocked, exceeds 30,000 ×
-/// the least w."
-pub fn flagged(book: &Book, user: &User) -> bool {
-    short_positions(book, user) - user.blocked > flag_limit(book)
+/// the least w", by today's figures.
+pub fn flagged(limits: &Limits, book: &Book, user: &User) -> bool {
+    short_positions(book, user) - user.blocked > flag_limit(limits, book)
 }
 
-/// 30,000 × the least w.
-pub fn flag_limit(book: &Book) -> Cents {
-    FLAG_ENERGY * least_reference_price(book)
+/// 30,000, or the MWh figure of the store, × the least w.
+pub fn flag_limit(limits: &Limits, book: &Book) -> Cents {
+    limits.flag_energy * least_reference_price(book)
 }
 
 /// The least of the three reference prices of the book.
@@ -100,8 +103,8 @@ fn least_reference_price(book: &Book) -> Price {
 }
 
 /// "Called in: flagged, or party to a trade standing below notified."
-pub fn called_in(book: &Book, user: &User) -> bool {
-    flagged(book, user) || party_to_cut_trade(book, user)
+pub fn called_in(limits: &Limits, book: &Book, user: &User) -> bool {
+    flagged(limits, book, user) || party_to_cut_trade(book, user)
 }
 
 /// Seller or buyer of a trade standing below notified.
@@ -111,7 +114,7 @@ pub fn party_to_cut_trade(book: &Book, user: &User) -> bool {
     })
 }
 
-/// "Level − blocked > 1,000,000", in signed numbers.
-pub fn above_margin(user: &User, level: Cents) -> bool {
-    level - user.blocked > MARGIN
+/// "Level − blocked > 1,000,000", by today's figures, in signed numbers.
+pub fn above_margin(limits: &Limits, user: &User, level: Cents) -> bool {
+    level - user.blocked > limits.margin
 }

@@ -1,5 +1,6 @@
 //! Reference implementation of document 01: the day book, imbalance risk,
-//! guarantee calls and reduced trades.
+//! guarantee calls and reduced trades; and of document 02, ask 4: parameters
+//! with a start date.
 //!
 //! It is plain and slow on purpose. The modules follow the order of the
 //! document, and the comments cite its sections in quotes. Every number is
@@ -8,7 +9,8 @@
 //! The return of retained shrinkage ([`shrinkage`]) is an ask of document 02 and
 //! has nothing to do with a book.
 //!
-//! Every call takes the book as bytes. A refused call returns the number of
+//! Every call takes the book as bytes, and a store as bytes or none; reading,
+//! writing and the printed day take no store. A refused call returns the number of
 //! the first question that failed, every other field 0, and leaves the book.
 
 #![forbid(unsafe_code)]
@@ -23,6 +25,7 @@ pub mod reduction;
 pub mod run;
 pub mod show;
 pub mod shrinkage;
+pub mod store;
 pub mod transfer;
 pub mod units;
 pub mod warning;

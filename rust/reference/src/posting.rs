@@ -1,11 +1,11 @@
 //! "Posting".
 
-use crate::questions::{ask, physical_in_range, questions_1_to_8, ACCEPTED};
+use crate::questions::{ask, physical_in_range, questions_to_8, Opened, ACCEPTED};
 use crate::units::{Area, Mwh};
 
 /// Adds a signed amount to one user's physical entry and position in one area.
-pub fn posting(bytes: &mut [u8], id: u32, area: u32, amount: i64) -> u32 {
-    match posted(bytes, id, area, amount) {
+pub fn posting(bytes: &mut [u8], store: Option<&[u8]>, id: u32, area: u32, amount: i64) -> u32 {
+    match posted(bytes, store, id, area, amount) {
         Ok(after) => {
             bytes.copy_from_slice(&after);
             ACCEPTED
@@ -15,8 +15,14 @@ pub fn posting(bytes: &mut [u8], id: u32, area: u32, amount: i64) -> u32 {
 }
 
 /// The book after the posting.
-fn posted(bytes: &[u8], id: u32, area: u32, amount: i64) -> Result<Vec<u8>, u32> {
-    let (mut book, place) = questions_1_to_8(bytes, id)?;
+fn posted(
+    bytes: &[u8],
+    store: Option<&[u8]>,
+    id: u32,
+    area: u32,
+    amount: i64,
+) -> Result<Vec<u8>, u32> {
+    let (Opened { mut book, .. }, place) = questions_to_8(bytes, store, id)?;
     let area = Area::from_code(area).ok_or(10_u32)?.index();
     let amount = Mwh(i128::from(amount));
     let user = &mut book.users[place];

@@ -4,6 +4,7 @@ use crate::book::{
     length, Book, Header, Trade, User, CLEARING_HOUSE, HEADER_LENGTH, MARK, MOST_TRADES,
     MOST_USERS, TOMORROW, TRADE_LENGTH, USER_LENGTH,
 };
+use crate::store::{self, Limits};
 use crate::units::{Area, Cents, Mwh, Price, Prices};
 
 /// The number of an accepted call.
@@ -163,16 +164,29 @@ fn positions_as_defined(book: &Book) -> bool {
     })
 }
 
-/// Questions 1 to 8: the fields and the place of the user.
-pub fn questions_1_to_8(bytes: &[u8], id: u32) -> Result<(Book, usize), u32> {
-    let book = questions_1_to_7(bytes)?;
-    let place = book.place_of(id).ok_or(8_u32)?;
-    Ok((book, place))
+/// An accepted book, and the figures of the call.
+pub struct Opened {
+    pub book: Book,
+    pub limits: Limits,
 }
 
-/// Questions 1 to 9: the user is a shipper.
-pub fn questions_1_to_9(bytes: &[u8], id: u32) -> Result<(Book, usize), u32> {
-    let (book, place) = questions_1_to_8(bytes, id)?;
-    ask(9, book.users[place].is_shipper())?;
-    Ok((book, place))
+/// Questions 1 to 7, then 16 and 17 of the store.
+pub fn opening_questions(bytes: &[u8], store: Option<&[u8]>) -> Result<Opened, u32> {
+    let book = questions_1_to_7(bytes)?;
+    let limits = store::limits(store, book.date)?;
+    Ok(Opened { book, limits })
+}
+
+/// The opening questions and 8: the place of the user.
+pub fn questions_to_8(bytes: &[u8], store: Option<&[u8]>, id: u32) -> Result<(Opened, usize), u32> {
+    let opened = opening_questions(bytes, store)?;
+    let place = opened.book.place_of(id).ok_or(8_u32)?;
+    Ok((opened, place))
+}
+
+/// The opening questions, 8 and 9: the user is a shipper.
+pub fn questions_to_9(bytes: &[u8], store: Option<&[u8]>, id: u32) -> Result<(Opened, usize), u32> {
+    let (opened, place) = questions_to_8(bytes, store, id)?;
+    ask(9, opened.book.users[place].is_shipper())?;
+    Ok((opened, place))
 }

@@ -2,7 +2,8 @@
 
 use crate::book::{Book, Trade, User};
 use crate::levels::{above_margin, afternoon_level_of, called_in};
-use crate::questions::{ask, questions_1_to_9, ACCEPTED};
+use crate::questions::{ask, questions_to_9, Opened, ACCEPTED};
+use crate::store::Limits;
 use crate::units::{Area, Cents, Mwh, Price};
 
 #[derive(Clone, Copy, Debug, Default, PartialEq, Eq)]
@@ -17,8 +18,8 @@ pub struct ReductionAnswer {
 }
 
 /// Reduces the sales of one shipper.
-pub fn reduction(bytes: &mut [u8], id: u32) -> ReductionAnswer {
-    match reduced(bytes, id) {
+pub fn reduction(bytes: &mut [u8], store: Option<&[u8]>, id: u32) -> ReductionAnswer {
+    match reduced(bytes, store, id) {
         Ok((after, answer)) => {
             bytes.copy_from_slice(&after);
             answer
@@ -31,14 +32,17 @@ pub fn reduction(bytes: &mut [u8], id: u32) -> ReductionAnswer {
 }
 
 /// The questions of a reduction, then the book afterwards and the answer.
-fn reduced(bytes: &[u8], id: u32) -> Result<(Vec<u8>, ReductionAnswer), u32> {
-    let (mut book, place) = questions_1_to_9(bytes, id)?;
+fn reduced(bytes: &[u8], store: Option<&[u8]>, id: u32) -> Result<(Vec<u8>, ReductionAnswer), u32> {
+    let (Opened { mut book, limits }, place) = questions_to_9(bytes, store, id)?;
     let user = &book.users[place];
-    let level = afternoon_level_of(&book, user);
-    ask(11, above_margin(user, level) && called_in(&book, user))?;
+    let level = afternoon_level_of(&limits, &book, user);
+    ask(
+        11,
+        above_margin(&limits, user, level) && called_in(&limits, &book, user),
+    )?;
     ask(13, user.assigned < level)?;
     ask(14, has_eligible_trade(&book, user))?;
-    let answer = reduce(&mut book, place);
+    let answer = reduce(&limits, &mut book, place);
     Ok((book.to_bytes(), answer))
 }
 
@@ -52,8 +56,8 @@ pub fn has_eligible_trade(book: &Book, user: &User) -> bool {
 }
 
 /// "Target T = afternoon level − assigned."
-pub fn target(book: &Book, user: &User) -> Cents {
-    afternoon_level_of(book, user) - user.assigned
+pub fn target(limits: &Limits, book: &Book, user: &User) -> Cents {
+    afternoon_level_of(limits, book, user) - user.assigned
 }
 
 /// The places of the trades of tier one and of tier two, in the order of the
@@ -167,9 +171,9 @@ impl Tally {
 }
 
 /// Reduces the user at this place, whom the questions have accepted.
-pub fn reduce(book: &mut Book, place: usize) -> ReductionAnswer {
+pub fn reduce(limits: &Limits, book: &mut Book, place: usize) -> ReductionAnswer {
     let user = &book.users[place];
-    let target = target(book, user);
+    let target = target(limits, book, user);
     let (one, two) = tiers(book, user);
     // "Tier one takes T, tier two then takes max(0, T − tier one's V)."
     let worth_one = tier_worth(&sales(book, &one));

@@ -1,12 +1,12 @@
 //! "Warnings and shown records": a user's record as part of the book.
 
 use crate::book::{length, USER_LENGTH};
-use crate::questions::{questions_1_to_8, ACCEPTED};
+use crate::questions::{questions_to_8, ACCEPTED};
 
 /// The 56 bytes of a user, as that part of the book; the empty part for a
 /// refusal.
-pub fn show(bytes: &[u8], id: u32) -> (u32, &[u8]) {
-    match questions_1_to_8(bytes, id) {
+pub fn show<'a>(bytes: &'a [u8], store: Option<&[u8]>, id: u32) -> (u32, &'a [u8]) {
+    match questions_to_8(bytes, store, id) {
         Ok((_, place)) => (ACCEPTED, &bytes[length(place, 0)..][..USER_LENGTH]),
         Err(number) => (number, &[]),
     }
@@ -17,12 +17,13 @@ pub fn show(bytes: &[u8], id: u32) -> (u32, &[u8]) {
 pub fn show_picked<'a>(
     morning: &'a [u8],
     afternoon: &'a [u8],
+    store: Option<&[u8]>,
     pick: bool,
     id: u32,
 ) -> (u32, &'a [u8]) {
     if pick {
-        show(afternoon, id)
+        show(afternoon, store, id)
     } else {
-        show(morning, id)
+        show(morning, store, id)
     }
 }

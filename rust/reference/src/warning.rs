@@ -2,7 +2,8 @@
 
 use crate::book::{Book, Trade, User};
 use crate::levels::flagged;
-use crate::questions::{questions_1_to_9, ACCEPTED};
+use crate::questions::{questions_to_9, Opened, ACCEPTED};
+use crate::store::Limits;
 use crate::units::Mwh;
 
 #[derive(Clone, Copy, Debug, Default, PartialEq, Eq)]
@@ -12,11 +13,11 @@ pub struct WarningAnswer {
 }
 
 /// Whether a shipper is warned at midday.
-pub fn warning(bytes: &[u8], id: u32) -> WarningAnswer {
-    match questions_1_to_9(bytes, id) {
-        Ok((book, place)) => WarningAnswer {
+pub fn warning(bytes: &[u8], store: Option<&[u8]>, id: u32) -> WarningAnswer {
+    match questions_to_9(bytes, store, id) {
+        Ok((Opened { book, limits }, place)) => WarningAnswer {
             number: ACCEPTED,
-            warned: warned(&book, &book.users[place]),
+            warned: warned(&limits, &book, &book.users[place]),
         },
         Err(number) => WarningAnswer {
             number,
@@ -25,23 +26,23 @@ pub fn warning(bytes: &[u8], id: u32) -> WarningAnswer {
     }
 }
 
-fn warned(book: &Book, user: &User) -> bool {
-    flagged(book, user) || warned_by_seller(book, user)
+fn warned(limits: &Limits, book: &Book, user: &User) -> bool {
+    flagged(limits, book, user) || warned_by_seller(limits, book, user)
 }
 
 /// "Buyer of a kind 0, day 0 trade standing above 0 whose seller is a flagged
 /// shipper."
-pub fn warned_by_seller(book: &Book, user: &User) -> bool {
+pub fn warned_by_seller(limits: &Limits, book: &Book, user: &User) -> bool {
     book.trades.iter().any(|trade| {
         trade.buyer == user.id
             && trade.is_bilateral_today()
             && trade.standing > Mwh::ZERO
-            && seller_is_flagged_shipper(book, trade)
+            && seller_is_flagged_shipper(limits, book, trade)
     })
 }
 
-fn seller_is_flagged_shipper(book: &Book, trade: &Trade) -> bool {
+fn seller_is_flagged_shipper(limits: &Limits, book: &Book, trade: &Trade) -> bool {
     book.users
         .iter()
-        .any(|user| user.id == trade.seller && user.is_shipper() && flagged(book, user))
+        .any(|user| user.id == trade.seller && user.is_shipper() && flagged(limits, book, user))
 }

@@ -5,6 +5,7 @@
 use reference::book::{Book, Trade, User, TODAY, TOMORROW};
 use reference::levels::{afternoon_level_of, flagged, morning_level_of};
 use reference::reduction::{cuts, tier_worth, Sale};
+use reference::store::Limits;
 use reference::units::{Area, Cents, Mwh, Price, Prices};
 
 const PRICES: Prices = Prices {
@@ -66,9 +67,9 @@ fn short_by_40_000(blocked: i128) -> Book {
 #[test]
 fn flags() {
     let book = short_by_40_000(20_000_000);
-    assert!(!flagged(&book, &book.users[0]));
+    assert!(!flagged(&Limits::TODAY, &book, &book.users[0]));
     let book = short_by_40_000(19_999_999);
-    assert!(flagged(&book, &book.users[0]));
+    assert!(flagged(&Limits::TODAY, &book, &book.users[0]));
 }
 
 #[test]
@@ -80,8 +81,14 @@ fn floor() {
         },
         Vec::new(),
     );
-    assert_eq!(morning_level_of(&book, &book.users[0]), Cents(10_000_000));
-    assert_eq!(afternoon_level_of(&book, &book.users[0]), Cents(10_000_000));
+    assert_eq!(
+        morning_level_of(&Limits::TODAY, &book, &book.users[0]),
+        Cents(10_000_000)
+    );
+    assert_eq!(
+        afternoon_level_of(&Limits::TODAY, &book, &book.users[0]),
+        Cents(10_000_000)
+    );
 }
 
 #[test]
@@ -92,10 +99,10 @@ fn margin() {
         ..User::default()
     };
     let mut at = book(guarantees(9_000_000), Vec::new()).to_bytes();
-    let answer = reference::morning_call(&mut at, 101);
+    let answer = reference::morning_call(&mut at, None, 101);
     assert_eq!((answer.number, answer.level, answer.added), (11, 0, 0));
     let mut above = book(guarantees(8_999_999), Vec::new()).to_bytes();
-    let answer = reference::morning_call(&mut above, 101);
+    let answer = reference::morning_call(&mut above, None, 101);
     assert_eq!(
         (answer.number, answer.level, answer.added),
         (0, 10_000_000, 1_000_001)
@@ -110,7 +117,10 @@ fn afternoon_level_of_a_tank() {
         ..User::default()
     };
     let book = book(user, vec![trade(101, 102, 1, TOMORROW, 800)]);
-    assert_eq!(afternoon_level_of(&book, &book.users[0]), Cents(10_720_000));
+    assert_eq!(
+        afternoon_level_of(&Limits::TODAY, &book, &book.users[0]),
+        Cents(10_720_000)
+    );
 }
 
 #[test]
@@ -125,7 +135,10 @@ fn morning_level_of_the_hub() {
         trade(102, 101, 0, TOMORROW, 30),
     ];
     let book = book(user, trades);
-    assert_eq!(morning_level_of(&book, &book.users[0]), Cents(10_220_000));
+    assert_eq!(
+        morning_level_of(&Limits::TODAY, &book, &book.users[0]),
+        Cents(10_220_000)
+    );
 }
 
 fn tier(standings: [i128; 2]) -> [Sale; 2] {
@@ -167,14 +180,14 @@ fn short_by(target: i128, standings: [i128; 2]) -> Vec<u8> {
 #[test]
 fn reductions() {
     let mut bytes = short_by(7_000, [3, 4]);
-    let answer = reference::reduction(&mut bytes, 101);
+    let answer = reference::reduction(&mut bytes, None, 101);
     assert_eq!((answer.number, answer.mwh, answer.worth), (0, 4, 8_000));
     assert_eq!(
         (answer.target, answer.short, answer.over),
         (7_000, 0, 1_000)
     );
     let mut bytes = short_by(12_001, [3, 3]);
-    let answer = reference::reduction(&mut bytes, 101);
+    let answer = reference::reduction(&mut bytes, None, 101);
     assert_eq!((answer.number, answer.mwh, answer.worth), (0, 6, 12_000));
     assert_eq!((answer.target, answer.short, answer.over), (12_001, 1, 0));
 }

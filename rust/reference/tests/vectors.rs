@@ -1,4 +1,4 @@
-//! Replays every printed day of `vectors/`.
+//! Replays every printed day of `vectors/` and `vectors/version-1/`.
 
 #![forbid(unsafe_code)]
 
@@ -14,7 +14,11 @@ fn folder() -> PathBuf {
 #[test]
 fn every_printed_day() {
     let mut replayed = 0;
-    for entry in fs::read_dir(folder()).expect("folder of the test data") {
+    let folders = [folder(), folder().join("version-1")];
+    let entries = folders
+        .iter()
+        .flat_map(|folder| fs::read_dir(folder).expect("folder of the test data"));
+    for entry in entries {
         let path = entry.expect("entry of the folder").path();
         if path.extension().is_some_and(|extension| extension == "gdb") {
             let book = fs::read(&path).expect("book");
@@ -30,7 +34,7 @@ fn every_printed_day() {
         }
     }
     println!("printed days replayed: {replayed}");
-    assert_eq!(replayed, 90);
+    assert_eq!(replayed, 124);
 }
 
 /// What the program `day` prints for this input.

@@ -4,12 +4,6 @@ use crate::gathered::Gathered;
 use crate::records::User;
 use crate::units::{Cents, Mwh, Rates};
 
-/// "Either level is at least 10,000,000 (100,000 euros)."
-const LEAST_LEVEL: Cents = Cents(10_000_000);
-
-/// A level counts above blocked by more than this (question 11).
-const MARGIN: Cents = Cents(1_000_000);
-
 /// The amounts of a user that levels and flags depend on.
 #[derive(Clone, Copy, Debug)]
 pub struct Account {
@@ -47,7 +41,7 @@ impl Account {
             self.tomorrow[1] - tvb,
             self.tomorrow[2] - avb,
         ]);
-        LEAST_LEVEL.max(self.charges + needs)
+        rates.least_level.max(self.charges + needs)
     }
 
     /// "Need = sold − bought for d+1, minus max(0, position) in areas 1 and 2."
@@ -59,7 +53,9 @@ impl Account {
             self.tomorrow[1] - tvb.or_zero(),
             self.tomorrow[2] - avb.or_zero(),
         ]);
-        LEAST_LEVEL.max(self.charges + needs + self.short_positions(rates))
+        rates
+            .least_level
+            .max(self.charges + needs + self.short_positions(rates))
     }
 
     /// Sum of max(0, −position) × w.
@@ -69,7 +65,7 @@ impl Account {
     }
 
     /// "Flagged: sum of max(0, −position) × w, minus blocked, exceeds 30,000 ×
-    /// the least w."
+    /// the least w", by today's figures.
     #[inline]
     pub fn is_flagged(&self, rates: &Rates) -> bool {
         self.short_positions(rates) - self.blocked > rates.flag_limit
@@ -81,10 +77,10 @@ impl Account {
         self.below_notified || self.is_flagged(rates)
     }
 
-    /// "Level − blocked > 1,000,000."
+    /// "Level − blocked > 1,000,000", by today's figures.
     #[inline]
-    pub fn is_above_margin(&self, level: Cents) -> bool {
-        level - self.blocked > MARGIN
+    pub fn is_above_margin(&self, rates: &Rates, level: Cents) -> bool {
+        level - self.blocked > rates.margin
     }
 
     /// Target T of a shipper that is short of cover: "called in, afternoon level
@@ -93,7 +89,7 @@ impl Account {
     pub fn target(&self, rates: &Rates) -> Option<Cents> {
         let level = self.afternoon_level(rates);
         let short =
-            self.assigned < level && self.is_above_margin(level) && self.is_called_in(rates);
+            self.assigned < level && self.is_above_margin(rates, level) && self.is_called_in(rates);
         short.then(|| level - self.assigned)
     }
 }

@@ -17,11 +17,21 @@ pub struct GuaranteeCall {
 /// The questions 1 to 9: what was gathered, and the shipper's place and account.
 pub fn shipper(records: Records<'_>, id: u32) -> Result<(Gathered, usize, Account), u32> {
     let gathered = records.gather()?;
+    let (place, account) = shipper_of(records, &gathered, id)?;
+    Ok((gathered, place, account))
+}
+
+/// The questions 8 and 9.
+#[inline]
+pub fn shipper_of(
+    records: Records<'_>,
+    gathered: &Gathered,
+    id: u32,
+) -> Result<(usize, Account), u32> {
     let place = gathered.user(id)?;
     let user = User::from_bytes(&records.users[place]);
     ask(9, user.is_shipper())?;
-    let account = Account::new(&gathered, place, &user);
-    Ok((gathered, place, account))
+    Ok((place, Account::new(gathered, place, &user)))
 }
 
 /// The morning level of a shipper.
@@ -40,7 +50,7 @@ pub fn afternoon_level(bytes: &[u8], id: u32) -> Result<Cents, u32> {
 pub fn morning_call(bytes: &mut [u8], id: u32) -> Result<GuaranteeCall, u32> {
     let (gathered, place, account) = shipper(Records::of(bytes)?, id)?;
     let level = account.morning_level(&gathered.rates);
-    ask(11, account.is_above_margin(level))?;
+    ask(11, account.is_above_margin(&gathered.rates, level))?;
     blocked(bytes, place, &account, level)
 }
 
@@ -49,12 +59,15 @@ pub fn afternoon_call(bytes: &mut [u8], id: u32) -> Result<GuaranteeCall, u32> {
     let (gathered, place, account) = shipper(Records::of(bytes)?, id)?;
     let level = account.afternoon_level(&gathered.rates);
     let called_in = account.is_called_in(&gathered.rates);
-    ask(11, account.is_above_margin(level) && called_in)?;
+    ask(
+        11,
+        account.is_above_margin(&gathered.rates, level) && called_in,
+    )?;
     blocked(bytes, place, &account, level)
 }
 
 /// Question 12, then the level as the user's blocked guarantee.
-fn blocked(
+pub fn blocked(
     bytes: &mut [u8],
     place: usize,
     account: &Account,
@@ -73,8 +86,18 @@ fn blocked(
 pub fn warning(bytes: &[u8], id: u32) -> Result<bool, u32> {
     let records = Records::of(bytes)?;
     let (gathered, place, account) = shipper(records, id)?;
+    Ok(is_warned(records, &gathered, place, &account))
+}
+
+/// The warning of a shipper.
+pub fn is_warned(
+    records: Records<'_>,
+    gathered: &Gathered,
+    place: usize,
+    account: &Account,
+) -> bool {
     if account.is_flagged(&gathered.rates) {
-        return Ok(true);
+        return true;
     }
     let sellers = records
         .trades
@@ -86,21 +109,25 @@ pub fn warning(bytes: &[u8], id: u32) -> Result<bool, u32> {
             trade.is_bilateral_today() && trade.standing > 0
         })
         .fold(0_u64, |sellers, (_, parties)| sellers | 1 << parties.seller);
-    let warned = records.users.iter().enumerate().any(|(place, user)| {
+    records.users.iter().enumerate().any(|(place, user)| {
         sellers >> place & 1 == 1 && {
             let user = User::from_bytes(user);
-            user.is_shipper() && Account::new(&gathered, place, &user).is_flagged(&gathered.rates)
+            user.is_shipper() && Account::new(gathered, place, &user).is_flagged(&gathered.rates)
         }
-    });
-    Ok(warned)
+    })
 }
 
 /// Adds a signed amount to one user's physical entry and position in one area.
 pub fn posting(bytes: &mut [u8], id: u32, area: u32, amount: i64) -> Result<(), u32> {
     let records = Records::of(bytes)?;
     let place = records.gather()?.user(id)?;
-    let mut user = User::from_bytes(&records.users[place]);
-    let count = records.users.len();
+    post(bytes, place, area, amount)
+}
+
+/// Question 10, then the amount posted to the user at a place.
+pub fn post(bytes: &mut [u8], place: usize, area: u32, amount: i64) -> Result<(), u32> {
+    let (users, _) = records_mut(bytes, place + 1);
+    let mut user = User::from_bytes(&users[place]);
     let area = usize::try_from(area)
         .ok()
         .filter(|area| *area <= 2)
@@ -111,7 +138,7 @@ pub fn posting(bytes: &mut [u8], id: u32, area: u32, amount: i64) -> Result<(), 
     // The position of an accepted book is within 26,600,000.
     user.position[area] += entry - user.physical[area];
     user.physical[area] = entry;
-    records_mut(bytes, count).0[place] = user.to_bytes();
+    users[place] = user.to_bytes();
     Ok(())
 }
 

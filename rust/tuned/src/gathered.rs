@@ -5,7 +5,7 @@ use crate::records::{
     ask, Header, Trade, TradeBytes, User, UserBytes, HEADER_LENGTH, MARK, MOST_TRADES, MOST_USERS,
     TRADE_LENGTH, USER_LENGTH,
 };
-use crate::units::{Mwh, Rates};
+use crate::units::{Limits, Mwh, Rates};
 
 /// Where the sums of a day begin among those of a user: three areas, and one
 /// place that is not used.
@@ -55,12 +55,17 @@ impl Records<'_> {
         ask(1, first.starts_with(MARK))?;
         let header = Header::from_bytes(first);
         header.ask(bytes.len())?;
+        Ok(Records::at(header, rest))
+    }
+
+    /// The records of a book of the right length, of the bytes behind its header.
+    pub fn at(header: Header, rest: &[u8]) -> Records<'_> {
         let (users, trades) = rest.split_at(USER_LENGTH * usize::from(header.users));
-        Ok(Records {
+        Records {
             header,
             users: users.as_chunks().0,
             trades: trades.as_chunks().0,
-        })
+        }
     }
 
     /// The questions 5 to 7.
@@ -90,7 +95,7 @@ pub fn gather(
     trades: impl Iterator<Item = Option<Trade>>,
 ) -> Result<Gathered, u32> {
     let mut gathered = Gathered {
-        rates: Rates::new(&header.prices),
+        rates: Rates::new(&header.prices, &Limits::TODAY),
         ids: [u32::MAX; MOST_USERS],
         users: usize::from(header.users),
         nets: [[0; 2 * DAY]; MOST_USERS],

@@ -1,5 +1,5 @@
-//! Document 01 in quick Rust: the yardstick that the engine's times are held
-//! against.
+//! Documents 01 and 02 in quick Rust: the yardstick that the engine's times are
+//! held against.
 //!
 //! The rules and the answers are those of the plain `reference`; what differs
 //! is the way. A book is gone through once: each trade's parties are found by
@@ -9,7 +9,8 @@
 //! touched.
 //!
 //! Every call takes the book as bytes. A refused call returns the number of the
-//! first question that failed, and leaves the book.
+//! first question that failed, and leaves the book. The calls of document 01
+//! stand here, those with a store (document 02, ask 4) in [`requests`].
 
 #![forbid(unsafe_code)]
 
@@ -18,8 +19,10 @@ mod calls;
 mod gathered;
 mod records;
 mod reduction;
+pub mod requests;
 mod run;
 mod sales;
+mod store;
 mod transfer;
 mod units;
 

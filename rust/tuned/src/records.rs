@@ -257,7 +257,7 @@ pub fn is_entry(entry: i64) -> bool {
 
 /// A real Gregorian day of 2020 to 2099. In these years every fourth is a leap
 /// year.
-fn is_day(date: u32) -> bool {
+pub fn is_day(date: u32) -> bool {
     let (year, month, day) = (date / 10_000, date / 100 % 100, date % 100);
     let leap_day = u32::from(month == 2 && year.is_multiple_of(4));
     let place = usize::try_from(month.wrapping_sub(1)).unwrap_or(usize::MAX);

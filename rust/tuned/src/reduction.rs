@@ -1,8 +1,9 @@
 //! "Reduction": one shipper's sales, cut where they are.
 
+use crate::account::Account;
 use crate::calls::shipper;
 use crate::gathered::{records_mut, Gathered, Parties, Records};
-use crate::records::{ask, put, Trade, TradeBytes, UserBytes, MOST_TRADES};
+use crate::records::{ask, put, Header, Trade, TradeBytes, UserBytes, HEADER_LENGTH, MOST_TRADES};
 use crate::sales::{Reducer, Sale};
 use crate::units::{Cents, Mwh};
 
@@ -20,13 +21,25 @@ pub struct Reduction {
 /// Reduces the sales of one shipper.
 pub fn reduction(bytes: &mut [u8], id: u32) -> Result<Reduction, u32> {
     let records = Records::of(bytes)?;
+    let header = records.header;
     let (gathered, place, account) = shipper(records, id)?;
+    reduced(bytes, header, &gathered, (place, account))
+}
+
+/// The questions 11, 13 and 14, then the reduction of the shipper at a place.
+pub fn reduced(
+    bytes: &mut [u8],
+    header: Header,
+    gathered: &Gathered,
+    (place, account): (usize, Account),
+) -> Result<Reduction, u32> {
+    let records = Records::at(header, &bytes[HEADER_LENGTH..]);
     let rates = &gathered.rates;
     let level = account.afternoon_level(rates);
     let called_in = account.is_called_in(rates);
-    ask(11, account.is_above_margin(level) && called_in)?;
+    ask(11, account.is_above_margin(rates, level) && called_in)?;
     ask(13, account.assigned < level)?;
-    let (mut sales, standing) = own_sales(&records, &gathered, place);
+    let (mut sales, standing) = own_sales(&records, gathered, place);
     ask(14, !sales.is_empty())?;
     let target = level - account.assigned;
 

@@ -92,29 +92,50 @@ pub struct Prices {
     pub i: u32,
 }
 
-/// Flagged above 30,000 MWh at the least reference price.
-const FLAG_ENERGY: Mwh = Mwh(30_000);
+/// The three figures of document 01 that a store can replace.
+#[derive(Clone, Copy, Debug, PartialEq, Eq)]
+pub struct Limits {
+    /// Flagged above this energy at the least reference price.
+    pub flag_energy: Mwh,
+    /// A level counts above blocked by more than this (question 11).
+    pub margin: Cents,
+    /// Either level is at least this.
+    pub least_level: Cents,
+}
 
-/// What the prices of an accepted book come to for each area.
+impl Limits {
+    pub const TODAY: Limits = Limits {
+        flag_energy: Mwh(30_000),
+        margin: Cents(1_000_000),
+        least_level: Cents(10_000_000),
+    };
+}
+
+/// What the prices of an accepted book come to for each area, and the figures of
+/// the call.
 #[derive(Clone, Copy, Debug)]
 pub struct Rates {
     /// Tariff t.
     pub tariff: [Price; 3],
     /// Reference price w.
     pub reference: [Price; 3],
-    /// 30,000 × the least w.
+    /// 30,000, or the MWh figure of the store, × the least w.
     pub flag_limit: Cents,
+    pub margin: Cents,
+    pub least_level: Cents,
 }
 
 impl Rates {
-    pub fn new(prices: &Prices) -> Rates {
+    pub fn new(prices: &Prices, limits: &Limits) -> Rates {
         let [p, q, l, x, i] = [prices.p, prices.q, prices.l, prices.x, prices.i].map(i64::from);
         let reference = [Price(p), Price(q + l), Price(q + x + i)];
         let least = reference[0].min(reference[1]).min(reference[2]);
         Rates {
             tariff: [Price(p), Price(q), Price(q)],
             reference,
-            flag_limit: FLAG_ENERGY * least,
+            flag_limit: limits.flag_energy * least,
+            margin: limits.margin,
+            least_level: limits.least_level,
         }
     }
 

@@ -7,6 +7,7 @@ use books::hard::{chain, many_sellers, one_seller, widest, MOST_REDUCTIONS};
 use reference::book::Book;
 use reference::reduction::reduce;
 use reference::run::next_reduction;
+use reference::store::Limits;
 use tuned::{Cents, Mwh, Run};
 
 /// The run of a book in which each reduction cuts one MWh at 2,000 cents, and
@@ -44,9 +45,9 @@ fn run_of_a_chain() {
 fn order_of_a_chain() {
     let mut book = chain(5);
     for id in (2..=64).rev().cycle().take(3 * 63) {
-        let place = next_reduction(&book).expect("a user to be reduced");
+        let place = next_reduction(&Limits::TODAY, &book).expect("a user to be reduced");
         assert_eq!(book.users[place].id, id);
-        reduce(&mut book, place);
+        reduce(&Limits::TODAY, &mut book, place);
     }
 }
 
@@ -57,7 +58,7 @@ fn short_runs() {
     for book in [one_seller(40), many_sellers(3), chain(5), widest(3)] {
         let mut bytes = book.to_bytes();
         let mut expected = bytes.clone();
-        let run = reference::run(&mut expected);
+        let run = reference::run(&mut expected, None);
         let found = tuned::run(&mut bytes).expect("an accepted book");
         assert_eq!(found.reductions, run.reductions);
         assert_eq!(i128::from(found.mwh.0), run.mwh);

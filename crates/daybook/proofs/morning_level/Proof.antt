@@ -1,41 +1,33 @@
--- `daybook::morning_level` gives the morning level after the questions of the book, with today's figures. Assumes nothing.
-use mathlib.Core.Path.{_∙_, sym}
+-- `daybook::morning_level` gives the morning level after the opening questions, with the figures of its setting. Assumes nothing.
+use mathlib.Core.Path.{_∙_}
 use borrow.Author.Needs.{needs}
-use Rattle.questions.proofs.Asked.{sums-found}
-use Rattle.daybook.proofs.Today.{replied-today}
+use Rattle.requests.proofs.Opened.{replied}
 use Rattle.daybook.proofs.morning_level.Statement.{statement}
 use Rattle.daybook.proofs.morning_level.Tie as tie
 
-slice-aggregate-ask : tie.Need-slice-aggregate-ask
-slice-aggregate-ask c = search needs
+slice-aggregate-admit-with-sums : tie.Need-slice-aggregate-admit-with-sums
+slice-aggregate-admit-with-sums c = search needs
 
-slice-aggregate-ask-2 : tie.Need-slice-aggregate-ask-2
-slice-aggregate-ask-2 c = search needs
+slice-aggregate-admit-with-sums-2 : tie.Need-slice-aggregate-admit-with-sums-2
+slice-aggregate-admit-with-sums-2 c = search needs
 
-ask-requires : tie.Need-ask-requires
-ask-requires c κs = search needs
-
-today-requires : tie.Need-today-requires
-today-requires c κs = search needs
+admit-with-sums-requires : tie.Need-admit-with-sums-requires
+admit-with-sums-requires c κs = search needs
 
 morning-level-requires : tie.Need-morning-level-requires
 morning-level-requires c κs =
-    let t = c .before in
-    let told = t .before .before .before .ask .ensures in
-    (λ z. sym (told .0 .number) ∙ z, (t .today .ensures .1, sums-found (told .1) (λ z. z)))
+    let k = c .before .before .before .before .admit-with-sums .ensures in
+    (k .1 .1 .0, (k .1 .0, k .1 .1 .1 .summed))
 
 returns : tie.Need-returns
-returns c =
-    let t = c .before .before in
-    c .morning-level .ensures ∙ replied-today _ _ (t .today .ensures .0) (t .before .before .before .ask .ensures .0 .number)
+returns c = c .morning-level .ensures ∙ replied _ _ _ (c .before .before .before .before .before .admit-with-sums .ensures .0)
 
 pub morning-level-spec : {M : Type 1} → statement M
 morning-level-spec =
     tie.close
     (tie.spec
-    slice-aggregate-ask
-    slice-aggregate-ask-2
-    ask-requires
-    today-requires
+    slice-aggregate-admit-with-sums
+    slice-aggregate-admit-with-sums-2
+    admit-with-sums-requires
     morning-level-requires
     returns)

@@ -1,13 +1,14 @@
 -- `daybook_morning_call` makes the call of the morning where the lent part has two places, and stores its level and what was added there. Assumes nothing.
 use denote.Ref.{now}
 use Rattle.storing.specs.Numbers.{callNumbers}
+use Rattle.exports.specs.Answers.{isYes}
 use Rattle.exports.proofs.Lent.{answered, not-called}
 use borrow.Author.Needs.{needs}
 use Rattle.exports.proofs.daybook_morning_call.Statement.{statement}
 use Rattle.exports.proofs.daybook_morning_call.Tie as tie
 
 returns : tie.Need-returns
-returns c = not-called 2 (now (c .before .before .before .args .answer)) callNumbers _ _ (c .if1 .taken)
+returns c = not-called 2 (now (c .before .before .before .before .args .answer)) callNumbers _ _ (c .if1 .taken)
 
 morning-call-requires : tie.Need-morning-call-requires
 morning-call-requires c κs = search needs
@@ -22,6 +23,7 @@ same-length-2 : tie.Need-same-length-2
 same-length-2 c = search needs
 
 returns-2 : tie.Need-returns-2
+unfolding isYes
 returns-2 c =
     let storing = c .before .before in
     let made = storing .before .before .before .before in

@@ -1,13 +1,14 @@
 -- `daybook_morning_level` stores the level of the morning in a part of one place, and leaves another part as it is. Assumes nothing.
 use denote.Ref.{now}
 use Rattle.storing.specs.Numbers.{levelNumbers}
+use Rattle.exports.specs.Answers.{isYes}
 use Rattle.exports.proofs.Lent.{refused, replied}
 use borrow.Author.Needs.{needs}
 use Rattle.exports.proofs.daybook_morning_level.Statement.{statement}
 use Rattle.exports.proofs.daybook_morning_level.Tie as tie
 
 returns : tie.Need-returns
-returns c = refused 1 (now (c .before .before .before .args .answer)) _ _ _ (c .if1 .taken)
+returns c = refused 1 (now (c .before .before .before .before .args .answer)) _ _ _ (c .if1 .taken)
 
 morning-level-requires : tie.Need-morning-level-requires
 morning-level-requires c κs = search needs
@@ -19,10 +20,11 @@ same-length : tie.Need-same-length
 same-length c = search needs
 
 returns-2 : tie.Need-returns-2
+unfolding isYes
 returns-2 c =
     let storing = c .before .before in
     let asked = storing .before .before in
-    replied 1 _ levelNumbers _ _ _ _ _ (asked .before .if1 .left) (asked .morning-level .ensures) (storing .store-level .ensures .0) (storing .store-level .ensures .1)
+    replied 1 _ levelNumbers _ _ _ _ _ _ (asked .before .if1 .left) (asked .morning-level .ensures) (storing .store-level .ensures .0) (storing .store-level .ensures .1)
 
 pub daybook-morning-level-spec : {M : Type 1} → statement M
 daybook-morning-level-spec =

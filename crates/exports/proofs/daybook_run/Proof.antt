@@ -1,13 +1,14 @@
 -- `daybook_run` makes the run where the lent part has three places, and stores its numbers there. Assumes nothing.
 use denote.Ref.{now}
 use Rattle.storing.specs.Numbers.{runNumbers}
+use Rattle.exports.specs.Answers.{isYes}
 use Rattle.exports.proofs.Lent.{answered, not-called}
 use borrow.Author.Needs.{needs}
 use Rattle.exports.proofs.daybook_run.Statement.{statement}
 use Rattle.exports.proofs.daybook_run.Tie as tie
 
 returns : tie.Need-returns
-returns c = not-called 3 (now (c .before .before .before .args .answer)) runNumbers _ _ (c .if1 .taken)
+returns c = not-called 3 (now (c .before .before .before .before .args .answer)) runNumbers _ _ (c .if1 .taken)
 
 run-requires : tie.Need-run-requires
 run-requires c κs = search needs
@@ -22,6 +23,7 @@ same-length-2 : tie.Need-same-length-2
 same-length-2 c = search needs
 
 returns-2 : tie.Need-returns-2
+unfolding isYes
 returns-2 c =
     let storing = c .before .before in
     let made = storing .before .before .before .before in

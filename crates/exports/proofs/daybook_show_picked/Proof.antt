@@ -8,13 +8,13 @@ use Rattle.exports.proofs.daybook_show_picked.Statement.{statement}
 use Rattle.exports.proofs.daybook_show_picked.Tie as tie
 
 returns : tie.Need-returns
-returns c = refused 56 (now (c .before .before .before .before .args .«record»)) _ _ _ (c .if1 .taken)
+returns c = refused 56 (now (c .before .before .before .before .before .args .«record»)) _ _ _ (c .if1 .taken)
 
 show-picked-requires : tie.Need-show-picked-requires
 show-picked-requires c κs = search needs
 
 fill-requires : tie.Need-fill-requires
-fill-requires c κs = rw (c .before .show-picked .ensures .0 .shows, c .before .before .before .if1 .left) (shown-length _ _)
+fill-requires c κs = rw (c .before .show-picked .ensures .shows, c .before .before .before .if1 .left) (shown-length _ _ _)
 
 same-length : tie.Need-same-length
 same-length c = search needs
@@ -24,7 +24,7 @@ unfolding isYes
 returns-2 c =
     let filled = c .before .before in
     let shown = filled .before .before in
-    copied _ _ _ _ _ _ (shown .before .before .if1 .left) (shown .show-picked .ensures .0) (filled .fill .ensures)
+    copied _ _ _ _ _ _ _ (shown .before .before .if1 .left) (shown .show-picked .ensures) (filled .fill .ensures)
 
 pub daybook-show-picked-spec : {M : Type 1} → statement M
 daybook-show-picked-spec =

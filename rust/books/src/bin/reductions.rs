@@ -15,6 +15,7 @@ use reference::book::{Book, Trade};
 use reference::questions::questions_1_to_7;
 use reference::reduction::{sales, target, tier_worth, tiers};
 use reference::run::next_reduction;
+use reference::store::Limits;
 use std::fmt::Write;
 
 /// A reduction of the user of an id, what it shows, and the number that it
@@ -384,12 +385,12 @@ fn drawn() -> Vec<Reduction> {
         let mut found = 0;
         while found < 2 {
             let mut b = draw(&mut random);
-            if next_reduction(&b).is_none() || b.trades.len() < 100 {
+            if next_reduction(&Limits::TODAY, &b).is_none() || b.trades.len() < 100 {
                 continue;
             }
             found += 1;
             for turn in 0..most {
-                let Some(place) = next_reduction(&b) else {
+                let Some(place) = next_reduction(&Limits::TODAY, &b) else {
                     break;
                 };
                 let id = b.users[place].id;
@@ -399,7 +400,7 @@ fn drawn() -> Vec<Reduction> {
                     again("the same book, the next user of its run", 0, id)
                 });
                 let mut bytes = b.to_bytes();
-                reference::reduction(&mut bytes, id);
+                reference::reduction(&mut bytes, None, id);
                 b = questions_1_to_7(&bytes).expect("an accepted book");
             }
         }
@@ -415,7 +416,7 @@ fn tiers_of(bytes: &[u8], id: u32) -> String {
     let (one, two) = tiers(&book, user);
     format!(
         "T {}; tier one V {} ({}), tier two V {} ({})",
-        target(&book, user).0,
+        target(&Limits::TODAY, &book, user).0,
         tier_worth(&sales(&book, &one)).0,
         one.len(),
         tier_worth(&sales(&book, &two)).0,
@@ -463,7 +464,7 @@ fn main() -> std::io::Result<()> {
             bytes = own;
         }
         let before = bytes.clone();
-        let answer = reference::reduction(&mut bytes, call.id);
+        let answer = reference::reduction(&mut bytes, None, call.id);
         assert_eq!(answer.number, call.number, "{place} {}", call.shows);
         let more = match answer.number {
             0 => tiers_of(&before, call.id),

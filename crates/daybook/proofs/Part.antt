@@ -1,0 +1,52 @@
+-- A record shown after the opening questions is the part that its request hands back: by the number of both, the record or the empty part. Assumes nothing.
+use mathlib.Core.List.{List, []}
+use mathlib.Core.Option.{Option, none, some}
+use mathlib.Core.Path.{_≡_, _∙_, ap, refl, sym}
+use Prim.Native.Nat.{ℕ, _+_, suc, zero}
+use native.Mathlib.Omega.{arith}
+use lib.Dec.{ltb, ltb→lt}
+use Rattle.laws.proofs.Refusals.{numbered, refusal-is}
+use Rattle.rules.specs.Calls.{idKnown}
+use Rattle.rules.specs.Levels.{Limits}
+use Rattle.rules.specs.Lists.{all}
+use Rattle.rules.specs.Queries.{Reply, aRecord, aboutQuery, found, onlyNumber, shownRecord}
+use Rattle.rules.specs.Questions.{decided, numberOf, refusal}
+use Rattle.format.specs.After.{after, replyAfter}
+use Rattle.format.specs.Book.{bookOf}
+use Rattle.requests.proofs.Opened.{replied}
+use Rattle.requests.specs.Carried.{Admitted, Handed, partAt, partShown}
+use Rattle.requests.specs.Request.{Setting}
+use Rattle.shown.specs.Shown.{PartAfter, ShownAfter, showing}
+
+module _ (g : Setting) (s : List ℕ) (id opened : ℕ) where
+  -- by the number of the opening questions and question 8
+  by-number : {R : Type 0} {number : ℕ} (f : ℕ → R) (x : R) → number ≡ after opened (λ n. n) (numberOf (refusal (aboutQuery (bookOf s) (shownRecord id)))) → showing opened s id f x ≡ after number f x
+  unfolding showing after decided numberOf numbered aboutQuery idKnown all
+  by-number f x e = go opened (refusal (aboutQuery (bookOf s) (shownRecord id))) refl ∙ ap (λ (n : ℕ). after n f x) (sym e)
+    where
+      go : (n : ℕ) (o : Option ℕ) → refusal (aboutQuery (bookOf s) (shownRecord id)) ≡ o
+          → after n f (decided o f x) ≡ after (after n (λ m. m) (numberOf o)) f x
+      go (suc n) o h = refl
+      go zero none h = refl
+      go zero (some zero) h = absurd (let l = ltb→lt 0 0 (refusal-is (λ i. ltb 0 i) (aboutQuery (bookOf s) (shownRecord id)) 0 tt h) in omega arith)
+      go zero (some (suc n)) h = refl
+
+  -- the number of the request
+  asked-number : (limits : Limits) → after opened (λ n. n) (numberOf (refusal (aboutQuery (bookOf s) (shownRecord id)))) ≡ replyAfter opened limits s (shownRecord id) .number
+  unfolding replyAfter after decided numberOf onlyNumber found aRecord
+  asked-number limits = go opened (refusal (aboutQuery (bookOf s) (shownRecord id)))
+    where
+      go : (n : ℕ) (o : Option ℕ) → after n (λ m. m) (numberOf o) ≡ after n onlyNumber (decided o onlyNumber (found limits (bookOf s) (shownRecord id))) .number
+      go (suc n) o = refl
+      go zero none = refl
+      go zero (some n) = refl
+
+  pub handed : {limits : Limits} {number : ℕ} {part : List ℕ} {book place : ℕ × ℕ} → Admitted g s opened limits → ShownAfter opened s id number part → PartAfter opened s id book place → Handed g s id number part book place
+  unfolding partShown partAt
+  handed {limits} {book = book} d shown at =
+      record {
+        asked = shown .asked ∙ asked-number limits ∙ ap (λ (r : Reply). r .number) (replied g s (shownRecord id) d);
+        shows = shown .shows ∙ by-number (λ n. []) _ (shown .asked);
+        block = at .block;
+        offset = at .offset ∙ ap (λ (n : ℕ). book .1 + n) (by-number (λ n. 0) _ (shown .asked));
+      }

@@ -1,0 +1,95 @@
+-- A request is the call after its opening questions, by their number and the figures that the setting gives. Assumes nothing.
+use mathlib.Core.List.{List}
+use mathlib.Core.Option.{Option, none, some}
+use mathlib.Core.Path.{_≡_, _∙_, ap, refl, sym}
+use Prim.Native.Nat.{ℕ, suc, zero}
+use lib.Dec.{T, ltb}
+use Rattle.laws.proofs.Refusals.{numbered}
+use Rattle.laws.proofs.Tests.{all-append}
+use Rattle.rules.specs.Book.{Book}
+use Rattle.rules.specs.Calls.{Answer, Call, Result, about, effect}
+use Rattle.rules.specs.Levels.{Limits}
+use Rattle.rules.specs.Lists.{all}
+use Rattle.rules.specs.Queries.{Query, aboutQuery, found, onlyNumber}
+use Rattle.rules.specs.Questions.{decided, numberOf, refusal}
+use Rattle.format.proofs.After.{asked-after, number-after}
+use Rattle.format.proofs.Formed.{bytes-numbered}
+use Rattle.format.specs.After.{CalledAfter, after, replyAfter, stepAfter, unchanged}
+use Rattle.format.specs.Book.{bookOf}
+use Rattle.format.specs.Questions.{aboutBytes, bookNumber}
+use Rattle.format.specs.Steps.{InBytes, inBytes}
+use Rattle.store.specs.Store.{aboutStore, storeNumber}
+use Rattle.requests.specs.Carried.{Admitted, Carried}
+use Rattle.requests.specs.Request.{Outcome, Request, Setting, aboutSetting, carriedOut, enquiry, limitsOn, opening, openingNumber, refused, request}
+
+-- ---- numbers
+
+-- no question of a setting has the number 0
+pub setting-numbered : (g : Setting) (b : Book) → T (numbered (aboutSetting g b))
+unfolding aboutSetting numbered aboutStore all
+setting-numbered g b = go (g .store)
+  where
+    go : (store : Option (List ℕ)) → T (numbered (aboutStore store (b .header .date)))
+    go none = tt
+    go (some s) = tt
+
+pub opening-numbered : (g : Setting) (s : List ℕ) → T (numbered (opening g s))
+unfolding opening numbered
+opening-numbered g s = all-append (λ q. ltb 0 (q .number)) (aboutBytes s) (aboutSetting g (bookOf s)) (bytes-numbered s) (setting-numbered g (bookOf s))
+
+-- the number of the book's questions, or where it is 0 that of the store's
+pub opening-number : (g : Setting) (s : List ℕ) → openingNumber g s ≡ after (bookNumber s) (λ n. n) (storeNumber (g .store) (bookOf s .header .date))
+unfolding openingNumber opening bookNumber storeNumber aboutSetting
+opening-number g s = number-after (aboutBytes s) (aboutSetting g (bookOf s)) (bytes-numbered s)
+
+-- ---- calls
+
+-- what a call gives, as an outcome
+unfoldable pub outcome : InBytes → Outcome
+outcome x = record { answer = x .answer; bytes = x .bytes }
+
+-- both refuse with the bytes as they were, and both write the book that the rules give
+same-outcome : (o : Option ℕ) (n : ℕ) (s : List ℕ) (r : Result) → after n (refused s) (decided o (refused s) (carriedOut r)) ≡ outcome (after n (unchanged s) (decided o (unchanged s) (inBytes r)))
+unfolding after decided refused unchanged carriedOut inBytes outcome
+same-outcome none zero s r = refl
+same-outcome (some m) zero s r = refl
+same-outcome none (suc n) s r = refl
+same-outcome (some m) (suc n) s r = refl
+
+pub request-opened : (r : Request) (s : List ℕ) → request r s ≡ outcome (stepAfter (openingNumber (r .setting) s) (limitsOn (r .setting) (bookOf s)) s (r .call))
+unfolding request stepAfter openingNumber
+request-opened r s =
+    let limits = limitsOn (r .setting) (bookOf s) in
+    asked-after (refused s) (carriedOut (effect limits (bookOf s) (r .call))) (opening (r .setting) s) (about limits (bookOf s) (r .call)) (opening-numbered (r .setting) s)
+    ∙ same-outcome (refusal (about limits (bookOf s) (r .call))) (numberOf (refusal (opening (r .setting) s))) s (effect limits (bookOf s) (r .call))
+
+-- a refused call gives the same whatever the figures
+step-same : (n : ℕ) {l m : Limits} (s : List ℕ) (c : Call) → (n ≡ 0 → l ≡ m) → stepAfter n l s c ≡ stepAfter n m s c
+unfolding stepAfter after
+step-same zero s c h = ap (λ (k : Limits). stepAfter 0 k s c) (h refl)
+step-same (suc n) s c h = refl
+
+-- a public call, from what asked its opening questions and the contract of the inner call
+pub carried : {r : Request} {s t : List ℕ} {a : Answer} {number : ℕ} {limits : Limits} → Admitted (r .setting) s number limits → CalledAfter number limits s (r .call) a t → Carried r s a t
+unfolding outcome
+carried {r} {s} {number = number} {limits = limits} d k =
+    let e : request r s ≡ outcome (stepAfter number limits s (r .call))
+    = request-opened r s
+    ∙ ap (λ (n : ℕ). outcome (stepAfter n (limitsOn (r .setting) (bookOf s)) s (r .call))) (sym (d .asked))
+    ∙ ap outcome (sym (step-same number s (r .call) (d .taken))) in
+    record { answer = k .answer ∙ ap (λ (x : Outcome). x .answer) (sym e); bytes = k .bytes ∙ ap (λ (x : Outcome). x .bytes) (sym e) }
+
+-- ---- queries
+
+reply-same : (n : ℕ) {l m : Limits} (s : List ℕ) (q : Query) → (n ≡ 0 → l ≡ m) → replyAfter n l s q ≡ replyAfter n m s q
+unfolding replyAfter after
+reply-same zero s q h = ap (λ (k : Limits). replyAfter 0 k s q) (h refl)
+reply-same (suc n) s q h = refl
+
+pub replied : (g : Setting) (s : List ℕ) (q : Query) {number : ℕ} {limits : Limits} → Admitted g s number limits → replyAfter number limits s q ≡ enquiry g s q
+unfolding enquiry replyAfter openingNumber
+replied g s q {number} {limits} d =
+    let b = bookOf s in
+    reply-same number s q (d .taken)
+    ∙ ap (λ (n : ℕ). replyAfter n (limitsOn g b) s q) (d .asked)
+    ∙ sym (asked-after onlyNumber (found (limitsOn g b) b q) (opening g s) (aboutQuery b q) (opening-numbered g s))

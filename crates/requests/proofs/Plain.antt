@@ -1,0 +1,84 @@
+-- A request without a store is the call of document 01: its opening questions are those of the book alone, and its figures are today's. Assumes nothing.
+use mathlib.Core.List.{List, [], _++_, append-nil}
+use mathlib.Core.Option.{Option, none, some}
+use mathlib.Core.Path.{_≡_, _∙_, ap, refl, sym}
+use Prim.Native.Nat.{ℕ, suc, zero}
+use native.Mathlib.Omega.{arith}
+use lib.Dec.{T, ltb, ltb→lt}
+use lib.ListN.{drop, take}
+use Rattle.laws.proofs.Refusals.{numbered, refusal-is}
+use Rattle.laws.proofs.Tests.{all-append}
+use Rattle.rules.specs.Calls.{Answer, Call, idKnown}
+use Rattle.rules.specs.Levels.{today}
+use Rattle.rules.specs.Lists.{all}
+use Rattle.rules.specs.Queries.{Query, Reply, aRecord, aboutQuery, found, onlyNumber, shownRecord}
+use Rattle.rules.specs.Questions.{Question, decided, numberOf, refusal}
+use Rattle.format.proofs.After.{step-opened}
+use Rattle.format.proofs.Formed.{bytes-numbered}
+use Rattle.format.specs.After.{after, stepAfter}
+use Rattle.format.specs.Book.{bookOf, userAt, userSize, versionOf}
+use Rattle.format.specs.Questions.{aboutBytes, bookNumber}
+use Rattle.format.specs.Steps.{Called, placeOf, replyBytes, shownPart, stepBytes}
+use Rattle.store.specs.Store.{aboutStore, limitsOf}
+use Rattle.requests.proofs.Opened.{outcome, request-opened}
+use Rattle.requests.specs.Carried.{Carried, partShown}
+use Rattle.requests.specs.Request.{Outcome, Setting, aboutSetting, enquiry, limitsOn, opening, openingNumber, request, requestOf}
+
+-- the setting of a call of document 01
+unfoldable pub alone : Setting
+alone = record { store = none }
+
+-- nothing is asked but the questions of the book
+opening-alone : (s : List ℕ) → opening alone s ≡ aboutBytes s
+unfolding opening aboutSetting aboutStore alone
+opening-alone s = append-nil (aboutBytes s)
+
+-- ---- calls
+
+request-alone : (s : List ℕ) (c : Call) → request (requestOf none c) s ≡ outcome (stepBytes today s c)
+unfolding limitsOn limitsOf alone openingNumber bookNumber
+request-alone s c =
+    request-opened (requestOf none c) s
+    ∙ ap (λ (qs : List Question). outcome (stepAfter (numberOf (refusal qs)) today s c)) (opening-alone s)
+    ∙ ap outcome (sym (step-opened today s c))
+
+-- the contract of a call without a store is that of the call of document 01,
+pub plain-called : {s t : List ℕ} {c : Call} {a : Answer} → Carried (requestOf none c) s a t → Called today s c a t
+unfolding outcome
+plain-called {s} {c = c} k =
+    let e = request-alone s c in
+    record { answer = k .answer ∙ ap (λ (x : Outcome). x .answer) e; bytes = k .bytes ∙ ap (λ (x : Outcome). x .bytes) e }
+
+-- and the other way round
+pub plain-carried : {s t : List ℕ} {c : Call} {a : Answer} → Called today s c a t → Carried (requestOf none c) s a t
+unfolding outcome
+plain-carried {s} {c = c} k =
+    let e = sym (request-alone s c) in
+    record { answer = k .answer ∙ ap (λ (x : Outcome). x .answer) e; bytes = k .bytes ∙ ap (λ (x : Outcome). x .bytes) e }
+
+-- ---- queries
+
+pub plain-reply : (s : List ℕ) (q : Query) → enquiry alone s q ≡ replyBytes today s q
+unfolding enquiry replyBytes limitsOn limitsOf alone
+plain-reply s q =
+    ap (λ (qs : List Question). decided (refusal (qs ++ aboutQuery (bookOf s) q)) onlyNumber (found today (bookOf s) q)) (opening-alone s)
+
+-- a shown record: the part of document 01
+pub plain-part : (s : List ℕ) (id : ℕ) → partShown (enquiry alone s (shownRecord id) .number) s id ≡ shownPart s id
+unfolding partShown shownPart replyBytes numbered aboutQuery idKnown all decided onlyNumber found aRecord after
+plain-part s id = ap (λ (r : Reply). partShown (r .number) s id) (plain-reply s (shownRecord id)) ∙ go (refusal asks) refl
+  where
+    asks : List Question
+    asks = aboutBytes s ++ aboutQuery (bookOf s) (shownRecord id)
+
+    shown-numbered : T (numbered asks)
+    shown-numbered = all-append (λ q. ltb 0 (q .number)) (aboutBytes s) (aboutQuery (bookOf s) (shownRecord id)) (bytes-numbered s) tt
+
+    record-part : List ℕ
+    record-part = take (userSize (versionOf s)) (drop (userAt s (placeOf (bookOf s .users) id)) s)
+
+    go : (o : Option ℕ) → refusal asks ≡ o
+        → after (decided o onlyNumber (found today (bookOf s) (shownRecord id)) .number) (λ n. []) record-part ≡ decided o (λ n. []) record-part
+    go none e = refl
+    go (some zero) e = absurd (let l = ltb→lt 0 0 (refusal-is (λ i. ltb 0 i) asks 0 shown-numbered e) in omega arith)
+    go (some (suc n)) e = refl

@@ -1,0 +1,39 @@
+-- The contracts of the public calls and queries, and of what asks the opening questions for them. Assumes nothing.
+use mathlib.Core.List.{List, []}
+use mathlib.Core.Path.{_≡_}
+use Prim.Native.Nat.{ℕ, _+_}
+use lib.ListN.{take, drop}
+use Rattle.rules.specs.Calls.{Answer}
+use Rattle.rules.specs.Levels.{Limits}
+use Rattle.rules.specs.Queries.{shownRecord}
+use Rattle.format.specs.After.{after}
+use Rattle.format.specs.Book.{bookOf, userAt, userSize, versionOf}
+use Rattle.format.specs.Steps.{placeOf}
+use Rattle.requests.specs.Request.{Request, Setting, enquiry, limitsOn, openingNumber, request}
+
+-- a call: bytes before, answer, bytes after
+pub record Carried (r : Request) (s : List ℕ) (a : Answer) (t : List ℕ) : Type 0 where
+  pub answer : a ≡ request r s .answer
+  pub bytes : t ≡ request r s .bytes
+
+-- the opening questions of a call, asked: their number, and the figures of the call where it is 0
+pub record Admitted (g : Setting) (s : List ℕ) (number : ℕ) (limits : Limits) : Type 0 where
+  pub asked : number ≡ openingNumber g s
+  pub taken : number ≡ 0 → limits ≡ limitsOn g (bookOf s)
+
+-- ---- a shown record
+
+-- by the number of the request: "A user's 56 bytes are handed back as that part of the book", "an empty part where a part is due"
+unfoldable pub partShown : ℕ → List ℕ → ℕ → List ℕ
+partShown number s id = after number (λ n. []) (take (userSize (versionOf s)) (drop (userAt s (placeOf (bookOf s .users) id)) s))
+
+-- where the part begins in the book: at the user's record; an empty part at the book's own beginning
+unfoldable pub partAt : ℕ → List ℕ → ℕ → ℕ
+partAt number s id = after number (λ n. 0) (userAt s (placeOf (bookOf s .users) id))
+
+-- the number, the part, and that it is that part of the book: it points into the block of the book, at the record's offset
+pub record Handed (g : Setting) (s : List ℕ) (id number : ℕ) (part : List ℕ) (book place : ℕ × ℕ) : Type 0 where
+  pub asked : number ≡ enquiry g s (shownRecord id) .number
+  pub shows : part ≡ partShown number s id
+  pub block : place .0 ≡ book .0
+  pub offset : place .1 ≡ book .1 + partAt number s id

@@ -1,0 +1,91 @@
+-- `sets_valid`: the sets that are left have the whole answer, until one fails a test or none is left. Assumes nothing.
+use Prim.Native.Nat.{_-_}
+use mathlib.Core.Path.{sym, _∙_}
+use native.Mathlib.Omega.{arith}
+use lib.ListN.{length-take, length-drop}
+use borrow.Author.Needs.{needs}
+use borrow.Author.Tests.{not-true, not-false}
+use Rattle.store.specs.Asked.{asSet}
+use Rattle.store.proofs.Sets.{SetsLeft, sets-start, sets-date-no, sets-no, sets-turn, sets-end}
+use Rattle.store.proofs.sets_valid.Statement.{statement}
+use Rattle.store.proofs.sets_valid.Tie as tie
+
+abbrev Inv-loop : tie.InvT-loop
+Inv-loop s n last₀ i₀ a₀ last i a = SetsLeft s n last i a
+
+abbrev μ-loop : tie.MeasureT-loop
+μ-loop s n last₀ i₀ a₀ last i a = n - i
+
+loop-holds : tie.Need-loop-holds Inv-loop μ-loop
+loop-holds c = sets-start
+
+add-read-set : tie.Need-add-read-set Inv-loop μ-loop
+add-read-set c = search needs
+
+sub-read-set : tie.Need-sub-read-set Inv-loop μ-loop
+sub-read-set c = search needs
+
+part-read-set-start : tie.Need-part-read-set-start Inv-loop μ-loop
+part-read-set-start c = search needs
+
+part-read-set-end : tie.Need-part-read-set-end Inv-loop μ-loop
+part-read-set-end c = search needs
+
+read-set-requires : tie.Need-read-set-requires Inv-loop μ-loop
+read-set-requires c κs = simp (length-take, length-drop) (omega arith)
+
+returns : tie.Need-returns Inv-loop μ-loop
+unfolding asSet
+returns c =
+    let read = c .before .before in
+    sets-date-no (read .before .before .before .loop .inv) (omega arith) (read .read-set .ensures) (c .if1 .taken)
+
+set-valid-requires : tie.Need-set-valid-requires Inv-loop μ-loop
+set-valid-requires c κs = search needs
+
+returns-2 : tie.Need-returns-2 Inv-loop μ-loop
+returns-2 c =
+    let asked = c .before .set-valid in
+    let read = c .before .before .before .before in
+    sets-no (read .before .before .before .loop .inv) (omega arith) (read .read-set .ensures) (sym (asked .ensures) ∙ not-true (asked .result) (c .if2 .taken))
+
+add-a : tie.Need-add-a Inv-loop μ-loop
+add-a c = search needs
+
+add-i : tie.Need-add-i Inv-loop μ-loop
+add-i c = search needs
+
+loop-less : tie.Need-loop-less Inv-loop μ-loop
+loop-less c = search needs
+
+loop-again : tie.Need-loop-again Inv-loop μ-loop
+unfolding asSet
+loop-again c =
+    let asked = c .before .set-valid in
+    let read = c .before .before .before .before in
+    sets-turn (read .before .before .before .loop .inv) (omega arith) (read .read-set .ensures) (c .before .before .if1 .left)
+    (sym (asked .ensures) ∙ not-false (asked .result) (c .if2 .left))
+
+returns-3 : tie.Need-returns-3 Inv-loop μ-loop
+returns-3 c = sets-end (c .before .loop .inv) (omega arith)
+
+pub sets-valid-spec : {M : Type 1} → statement M
+sets-valid-spec =
+    tie.close
+    (tie.spec
+    Inv-loop
+    μ-loop
+    loop-holds
+    add-read-set
+    sub-read-set
+    part-read-set-start
+    part-read-set-end
+    read-set-requires
+    returns
+    set-valid-requires
+    returns-2
+    add-a
+    add-i
+    loop-less
+    loop-again
+    returns-3)

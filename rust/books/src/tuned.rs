@@ -1,0 +1,96 @@
+//! The answers of the tuned implementation to the calls that take a store.
+
+use tuned::requests;
+
+use crate::calls::{Answer, Call};
+
+/// The answer to a call with this store, or none; the book is changed as the
+/// call says. None for a call that takes no store.
+pub fn answer(book: &mut [u8], store: Option<&[u8]>, call: &Call) -> Option<Answer> {
+    let answer = match call {
+        Call::Posting { id, area, amount } => {
+            fields(requests::posting(book, store, *id, *area, *amount).map(|()| []))
+        }
+        Call::Show { id } => record(requests::show(book, store, *id)),
+        Call::ShowPicked {
+            afternoon,
+            pick,
+            id,
+        } => record(requests::show_picked(book, afternoon, store, *pick, *id)),
+        Call::MorningLevel { id } => {
+            fields(requests::morning_level(book, store, *id).map(|level| [level.0]))
+        }
+        Call::AfternoonLevel { id } => {
+            fields(requests::afternoon_level(book, store, *id).map(|level| [level.0]))
+        }
+        Call::MorningCall { id } => guarantee_call(requests::morning_call(book, store, *id)),
+        Call::AfternoonCall { id } => guarantee_call(requests::afternoon_call(book, store, *id)),
+        Call::Warning { id } => {
+            fields(requests::warning(book, store, *id).map(|warned| [warned.into()]))
+        }
+        Call::Reduction { id } => reduction(requests::reduction(book, store, *id)),
+        Call::Run => run(requests::run(book, store)),
+        Call::Read | Call::Write { .. } | Call::Day => return None,
+    };
+    Some(answer)
+}
+
+/// The same by the functions of document 01, which take no store.
+pub fn plain_answer(book: &mut [u8], call: &Call) -> Option<Answer> {
+    let answer = match call {
+        Call::Posting { id, area, amount } => {
+            fields(tuned::posting(book, *id, *area, *amount).map(|()| []))
+        }
+        Call::Show { id } => record(tuned::show(book, *id)),
+        Call::ShowPicked {
+            afternoon,
+            pick,
+            id,
+        } => record(tuned::show_picked(book, afternoon, *pick, *id)),
+        Call::MorningLevel { id } => fields(tuned::morning_level(book, *id).map(|level| [level.0])),
+        Call::AfternoonLevel { id } => {
+            fields(tuned::afternoon_level(book, *id).map(|level| [level.0]))
+        }
+        Call::MorningCall { id } => guarantee_call(tuned::morning_call(book, *id)),
+        Call::AfternoonCall { id } => guarantee_call(tuned::afternoon_call(book, *id)),
+        Call::Warning { id } => fields(tuned::warning(book, *id).map(|warned| [warned.into()])),
+        Call::Reduction { id } => reduction(tuned::reduction(book, *id)),
+        Call::Run => run(tuned::run(book)),
+        Call::Read | Call::Write { .. } | Call::Day => return None,
+    };
+    Some(answer)
+}
+
+/// The number and the fields, each of them 0 after a refusal.
+fn fields<const COUNT: usize>(answer: Result<[i64; COUNT], u32>) -> Answer {
+    match answer {
+        Ok(fields) => Answer::of_fields(0, &fields.map(i128::from)),
+        Err(number) => Answer::of_fields(number, &[0; COUNT]),
+    }
+}
+
+fn guarantee_call(answer: Result<tuned::GuaranteeCall, u32>) -> Answer {
+    fields(answer.map(|call| [call.level.0, call.added.0]))
+}
+
+fn reduction(answer: Result<tuned::Reduction, u32>) -> Answer {
+    fields(answer.map(|done| {
+        let [worth, target] = [done.worth, done.target].map(|money| money.0);
+        [done.mwh.0, worth, target, done.short.0, done.over.0]
+    }))
+}
+
+fn run(answer: Result<tuned::Run, u32>) -> Answer {
+    fields(answer.map(|done| {
+        let reductions = i64::try_from(done.reductions).unwrap_or(i64::MAX);
+        [reductions, done.mwh.0, done.worth.0]
+    }))
+}
+
+/// The record as the part; the empty part after a refusal.
+fn record<const LENGTH: usize>(answer: Result<&[u8; LENGTH], u32>) -> Answer {
+    match answer {
+        Ok(user) => Answer::of_part(0, user),
+        Err(number) => Answer::of_part(number, &[]),
+    }
+}

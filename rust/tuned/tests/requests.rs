@@ -1,0 +1,59 @@
+//! The tuned implementation held against the outside vectors and, on drawn books,
+//! stores and calls, against the reference.
+
+#![forbid(unsafe_code)]
+
+use books::vectors::{replay, replay_requests, REQUESTS};
+use books::{answer, Answer, Call, Generator};
+
+/// The tuned implementation, or the reference where a call takes no store.
+fn requested(book: &mut [u8], store: Option<&[u8]>, call: &Call) -> Answer {
+    books::tuned::answer(book, store, call).unwrap_or_else(|| answer(book, store, call))
+}
+
+/// The same by the functions without a store.
+fn plain(book: &mut [u8], _: Option<&[u8]>, call: &Call) -> Answer {
+    books::tuned::plain_answer(book, call).unwrap_or_else(|| answer(book, None, call))
+}
+
+#[test]
+fn every_call_with_a_store() {
+    assert_eq!(replay_requests(requested), REQUESTS);
+}
+
+#[test]
+fn every_call_of_document_01() {
+    assert_eq!(replay(requested), books::vectors::CALLS);
+    assert_eq!(replay(plain), books::vectors::CALLS);
+}
+
+#[test]
+fn drawn_requests() {
+    let mut generator = Generator::new(8);
+    let mut compared = 0;
+    for _ in 0..6_000 {
+        let mut bytes = generator.any_book();
+        let store = generator.store(&bytes);
+        let store = store.as_deref();
+        for _ in 0..6 {
+            let call = generator.call(&bytes, store);
+            let before = bytes.clone();
+            let expected = answer(&mut bytes, store, &call);
+            let mut sides = vec![requested as fn(&mut [u8], Option<&[u8]>, &Call) -> Answer];
+            if store.is_none() {
+                sides.push(plain);
+            }
+            for side in sides {
+                let mut book = before.clone();
+                assert_eq!(
+                    side(&mut book, store, &call),
+                    expected,
+                    "{call:?} {store:02x?}"
+                );
+                assert_eq!(book, bytes, "{call:?} {store:02x?}");
+                compared += 1;
+            }
+        }
+    }
+    println!("requests compared: {compared}");
+}
