@@ -1,8 +1,8 @@
 // The opening questions of a call with its setting: those of its book, 1 to 7, and after them those of its store, 16 and 17. They give a number and the figures of the call.
-use levels::Limits;
+use units::Limits;
 ghost use mathlib.Core.Path.{_≡_};
 ghost use lib.ListN.{length, replicate};
-ghost use Rattle.levels.specs.Limits.{asLimits, LimitsInRange};
+ghost use Rattle.units.specs.Limits.{asLimits, LimitsInRange};
 ghost use Rattle.format.specs.Questions.{bookNumber};
 ghost use Rattle.questions.specs.Asked.{PartiesFound};
 ghost use Rattle.store.specs.Store.{given};
