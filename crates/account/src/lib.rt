@@ -2,8 +2,8 @@
 // user is called in. Nothing but that is read.
 use dealings::Amounts;
 use dealings::Dealings;
-use levels::Limits;
 use records::User;
+use units::Limits;
 use units::Mwh;
 use units::Prices;
 ghost use mathlib.Core.Path.{_≡_};
@@ -13,6 +13,7 @@ ghost use lib.ListN.{length, drop, getD};
 ghost use Rattle.rules.specs.Book as model;
 ghost use Rattle.rules.specs.Book.{nobody};
 ghost use Rattle.rules.specs.Levels.{calledIn};
+ghost use Rattle.units.specs.Limits.{asLimits, LimitsInRange};
 ghost use Rattle.fields.specs.Layout.{recordsOf};
 ghost use Rattle.records.specs.User.{asUser};
 ghost use Rattle.records.specs.Trade.{tradeOf};
@@ -20,7 +21,6 @@ ghost use Rattle.format.specs.Book.{userCount, usersOf, tradesOf, bookOf};
 ghost use Rattle.format.specs.Questions.{Formed, bookNumber};
 ghost use Rattle.dealings.specs.Dealt.{Dealt};
 ghost use Rattle.dealings.specs.Parties.{isCut, cutBefore};
-ghost use Rattle.levels.specs.Limits.{asLimits, LimitsInRange};
 ghost use Rattle.positions.specs.Twelve.{TwelveOf, Low};
 ghost use Rattle.account.specs.Account.{Ready, AccountIn, AccountAt, AmountsFrom};
 

@@ -1,10 +1,10 @@
 // A reduction on a lent book in bytes: its questions, and the cuts of the user's own sales for what its afternoon level exceeds its assigned guarantee by. The sales are cut on
 // arrays, as in a run, and what they lose is taken off in the bytes.
 use answers::ReductionAnswer;
-use levels::Limits;
 use risk_user::Day;
 use risk_user::State;
 use units::Cents;
+use units::Limits;
 use units::Prices;
 ghost use mathlib.Core.Path.{_≡_};
 ghost use Prim.Native.Nat.{_<_};
@@ -13,12 +13,12 @@ ghost use Rattle.answers.specs.Reduction.{answerOf};
 ghost use Rattle.format.specs.After.{CalledAfter};
 ghost use Rattle.format.specs.Book.{bookOf, userCount, usersOf};
 ghost use Rattle.format.specs.Questions.{bookNumber};
-ghost use Rattle.levels.specs.Limits.{asLimits, LimitsInRange};
 ghost use Rattle.questions.specs.Asked.{PartiesFound};
 ghost use Rattle.risk_user.specs.States.{stateOf};
 ghost use Rattle.rules.specs.Book.{nobody};
 ghost use Rattle.run_reduction.specs.Books.{Listed, Runnable};
 ghost use Rattle.units.specs.Prices.{asPrices};
+ghost use Rattle.units.specs.Limits.{asLimits, LimitsInRange};
 ghost use Rattle.call_reduction.specs.Call.{Gives, onSales, onUser, reductionOf};
 ghost use Rattle.call_reduction.specs.States.{refusedBy};
 ghost use Rattle.call_reduction.specs.Books.{UserOf, allSales};

@@ -1,12 +1,12 @@
 // The run of a lent book in bytes: while some user that is short of cover has an eligible trade, the one of the lowest id is reduced.
 use answers::RunAnswer;
 use cut_worth::Totals;
-use levels::Limits;
 use risk_user::Day;
+use units::Limits;
 ghost use mathlib.Core.Path.{_≡_};
 ghost use Rattle.format.specs.After.{CalledAfter};
 ghost use Rattle.format.specs.Questions.{bookNumber};
-ghost use Rattle.levels.specs.Limits.{asLimits, LimitsInRange};
+ghost use Rattle.units.specs.Limits.{asLimits, LimitsInRange};
 ghost use Rattle.questions.specs.Asked.{PartiesFound};
 ghost use Rattle.cut_worth.specs.Totals.{totals};
 ghost use Rattle.answers.specs.Run.{answerOf};

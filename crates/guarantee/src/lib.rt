@@ -2,16 +2,16 @@
 // of the time.
 use account::Account;
 use answers::CallAnswer;
-use levels::Limits;
 use records::User;
 use units::Cents;
+use units::Limits;
 ghost use mathlib.Core.Path.{_≡_};
 ghost use Rattle.rules.specs.Calls.{morningCall, afternoonCall};
+ghost use Rattle.units.specs.Limits.{asLimits, LimitsInRange};
 ghost use Rattle.records.specs.User.{asUser};
 ghost use Rattle.format.specs.After.{CalledAfter};
 ghost use Rattle.format.specs.Book.{bookOf};
 ghost use Rattle.format.specs.Questions.{Formed, bookNumber};
-ghost use Rattle.levels.specs.Limits.{asLimits, LimitsInRange};
 ghost use Rattle.answers.specs.Call.{answerOf};
 ghost use Rattle.account.specs.Account.{Ready, AccountIn};
 ghost use Rattle.questions.specs.Asked.{SumsFound};

@@ -1,17 +1,17 @@
 // The morning or the afternoon level of a user, on a lent book in bytes. Both times of the day go one way, with the level of the time.
 use account::Account;
 use answers::LevelAnswer;
-use levels::Limits;
 use units::Cents;
+use units::Limits;
 ghost use mathlib.Core.Path.{_≡_};
 ghost use mathlib.Core.List.{List};
 ghost use Prim.Native.Nat.{ℕ};
 ghost use Rattle.rules.specs.Queries.{morningLevelOf, afternoonLevelOf};
+ghost use Rattle.units.specs.Limits.{asLimits, LimitsInRange};
 ghost use Rattle.records.specs.User.{asUser};
 ghost use Rattle.format.specs.Book.{bookOf};
 ghost use Rattle.format.specs.After.{replyAfter};
 ghost use Rattle.format.specs.Questions.{bookNumber};
-ghost use Rattle.levels.specs.Limits.{asLimits, LimitsInRange};
 ghost use Rattle.answers.specs.Level.{replyOf};
 ghost use Rattle.account.specs.Account.{Ready, AccountIn};
 ghost use Rattle.questions.specs.Asked.{SumsFound};

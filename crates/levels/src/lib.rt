@@ -4,41 +4,20 @@ use records::User;
 use units::Area;
 use units::Balance;
 use units::Cents;
-use units::Mwh;
+use units::Limits;
 use units::Price;
 use units::Prices;
 ghost use mathlib.Core.Path.{_≡_};
 ghost use Prim.Native.Nat.{_*_, _≤_, _^_, min};
 ghost use lib.IntN.{pos, _+ℤ_};
 ghost use Rattle.rules.specs.Book.{Book};
-ghost use Rattle.rules.specs.Levels.{today, holding, exposure, morningSum, afternoonSum, leastReferencePrice, floored, flagged, exceedsMargin};
+ghost use Rattle.rules.specs.Levels.{holding, exposure, morningSum, afternoonSum, leastReferencePrice, floored, flagged, exceedsMargin};
 ghost use Rattle.units.specs.Amounts.{balance};
 ghost use Rattle.units.specs.Prices.{asPrices, InRange};
+ghost use Rattle.units.specs.Limits.{asLimits, LimitsInRange};
 ghost use Rattle.records.specs.User.{asUser};
 ghost use Rattle.dealings.specs.Dealt.{AllWithin};
 ghost use Rattle.holdings.specs.Holdings.{held};
-ghost use Rattle.levels.specs.Limits.{asLimits, LimitsInRange};
-
-// The three figures that the rules take as given: MWh of a flag, cents of a call, cents of the least level.
-pub struct Limits {
-    pub flag_mwh: Mwh,
-    pub margin: Cents,
-    pub floor: Cents,
-}
-
-impl Limits {
-    // The figures of today: 30,000 MWh, 10,000 euros, 100,000 euros.
-    pub fn today() -> Limits
-        ensures { λ r. ⌜ asLimits r ≡ today ⌝ }
-        ensures { λ r. ⌜ LimitsInRange (asLimits r) ⌝ }
-    {
-        Limits {
-            flag_mwh: Mwh(30000),
-            margin: Cents(1000000),
-            floor: Cents(10000000),
-        }
-    }
-}
 
 // The sum over the areas of what short positions are worth, in any book.
 pub fn exposure(prices: Prices, user: User) -> Cents

@@ -5,11 +5,11 @@ use mathlib.Core.Path.{_≡_}
 use Prim.Native.Nat.{ℕ}
 use Rattle.format.specs.Book.{bookOf, tradesOf, userCount, usersOf}
 use Rattle.format.specs.Questions.{bookNumber}
-use Rattle.levels.specs.Limits.{LimitsInRange}
 use Rattle.positions.specs.Twelve.{Low, TwelveOf}
 use Rattle.risk_user.specs.Account.{PositionsOf}
 use Rattle.rules.specs.Areas.{Prices}
 use Rattle.rules.specs.Levels.{Limits}
+use Rattle.units.specs.Limits.{LimitsInRange}
 use Rattle.run_targets.specs.Asking.{CutFlags}
 
 -- an accepted book of n users, limits and the book's prices, the sums and the positions of its users, and which of them are party to a trade standing below notified

@@ -1,10 +1,10 @@
 // What the programs print on standard output: numbers, signed energies, and the day of a book.
 use answers::RunAnswer;
-use levels::Limits;
 use libc::STDOUT_FILENO;
 use printed::Line;
 use risk_user::Day;
 use risk_user::State;
+use units::Limits;
 use units::Net;
 ghost use mathlib.Core.Path.{_≡_};
 ghost use Rattle.rules.specs.Levels.{today};
@@ -12,8 +12,8 @@ ghost use Rattle.format.specs.Questions.{bookNumber};
 ghost use Rattle.format.specs.Steps.{Called, stepBytes};
 ghost use Rattle.answers.specs.Run.{answerOf};
 ghost use Rattle.call_run.specs.Call.{runCall};
-ghost use Rattle.levels.specs.Limits.{asLimits};
 ghost use Rattle.units.specs.Prices.{asPrices};
+ghost use Rattle.units.specs.Limits.{asLimits};
 ghost use Rattle.print.specs.Lines.{LinesAsked};
 
 // A space and a number.

@@ -7,7 +7,6 @@ use lib.ListN.{getD}
 use Rattle.dealings.specs.Parties.{cutBefore}
 use Rattle.format.specs.Book.{bookOf, tradesOf, userCount, usersOf}
 use Rattle.format.specs.Questions.{bookNumber}
-use Rattle.levels.specs.Limits.{LimitsInRange}
 use Rattle.positions.specs.Twelve.{Low, TwelveOf}
 use Rattle.records.specs.User.{asAmounts}
 use Rattle.risk_user.specs.Account.{PositionsOf}
@@ -16,6 +15,7 @@ use Rattle.rules.specs.Areas.{Prices}
 use Rattle.rules.specs.Book.{Book, nobody}
 use Rattle.rules.specs.Levels.{Limits}
 use Rattle.rules.specs.Day as day
+use Rattle.units.specs.Limits.{LimitsInRange}
 use Rattle.printed.specs.declared.Line.{Line}
 
 -- by its fields

@@ -10,8 +10,8 @@ ghost use mathlib.Core.Path.{_≡_};
 ghost use Rattle.rules.specs.Levels.{shipper};
 ghost use Rattle.records.specs.User.{asUser};
 ghost use Rattle.format.specs.Book.{bookOf};
-ghost use Rattle.levels.specs.Limits.{asLimits};
 ghost use Rattle.units.specs.Prices.{asPrices};
+ghost use Rattle.units.specs.Limits.{asLimits};
 ghost use Rattle.printed.specs.Lines.{LineAsked, asLine, lineIn};
 
 // The level that is printed of a user whose afternoon level is given: that level, and 0 of a clearing house.

@@ -9,13 +9,13 @@ use lib.IntN.{ℤ, pos}
 use lib.ListN.{length, getD}
 use Rattle.format.specs.Book.{userCount, usersOf}
 use Rattle.format.specs.Questions.{Formed}
-use Rattle.levels.specs.Limits.{LimitsInRange}
 use Rattle.rules.specs.Areas.{Prices}
 use Rattle.rules.specs.Book.{at, User, nobody}
 use Rattle.rules.specs.Levels.{Limits, Holding, exceedsMargin}
 use Rattle.sales.specs.Cover.{levelFrom, flaggedFrom, shortFrom}
 use Rattle.units.specs.Amounts.{net}
 use Rattle.units.specs.Prices.{InRange}
+use Rattle.units.specs.Limits.{LimitsInRange}
 
 -- ---- what can be asked
 

@@ -1,9 +1,9 @@
 // One user's account: the level, the flag, called in, the target and the state of the user at a place. The money is read from the bytes of a book; positions, and what was
 // sold and bought for d+1, from arrays with three positions and twelve sums for each place, so that a run asks it of the book that it has come to as well.
-use levels::Limits;
 use units::Area;
 use units::Balance;
 use units::Cents;
+use units::Limits;
 use units::Mwh;
 use units::Net;
 use units::Prices;
@@ -14,13 +14,13 @@ ghost use Prim.Native.Nat.{_*_, _≤_, _<_, _^_};
 ghost use lib.ListN.{getD};
 ghost use Rattle.format.specs.Book.{usersOf};
 ghost use Rattle.integers.specs.Parts.{posPart, negPart};
-ghost use Rattle.levels.specs.Limits.{asLimits};
 ghost use Rattle.positions.specs.Twelve.{Low};
 ghost use Rattle.rules.specs.Areas.{referencePrice};
 ghost use Rattle.rules.specs.Book.{nobody};
 ghost use Rattle.rules.specs.Levels.{afternoonNeed, exceedsMargin, exposure, stock};
 ghost use Rattle.units.specs.Amounts.{balance, net};
 ghost use Rattle.units.specs.Prices.{InRange, asPrices};
+ghost use Rattle.units.specs.Limits.{asLimits};
 ghost use Rattle.risk_user.specs.Account.{DayOf, UserIn, flaggedAt, heldAt, levelAt, positionIn, targetAt, targetOf};
 ghost use Rattle.risk_user.specs.States.{stateBy, stateOf};
 

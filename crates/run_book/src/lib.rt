@@ -5,8 +5,8 @@ ghost use mathlib.Core.Path.{_≡_};
 ghost use Prim.Native.Nat.{_≤_};
 ghost use lib.ListN.{length, take};
 ghost use Rattle.format.specs.Book.{bookOf};
-ghost use Rattle.levels.specs.Limits.{asLimits};
 ghost use Rattle.units.specs.Prices.{asPrices};
+ghost use Rattle.units.specs.Limits.{asLimits};
 ghost use Rattle.run_book.specs.Books.{LeftOf, LostOf, RanIn};
 ghost use Rattle.run_reduction.specs.Books.{Listed, Runnable};
 

@@ -7,11 +7,11 @@ use Rattle.format.proofs.Passed.{passed}
 use Rattle.format.specs.Book.{bookOf, pricesAt, tradeCount, tradesOf, usersOf}
 use Rattle.format.specs.Questions.{bookNumber}
 use Rattle.held.proofs.Held.{held-accepted}
-use Rattle.levels.specs.Limits.{LimitsInRange}
 use Rattle.questions.proofs.Asked.{parties-found}
 use Rattle.questions.specs.Asked.{AskedOf, PartiesFound, Summed}
 use Rattle.rules.specs.Areas.{Prices}
 use Rattle.rules.specs.Levels.{Limits}
+use Rattle.units.specs.Limits.{LimitsInRange}
 use Rattle.run_reduction.specs.Books.{Runnable}
 
 module _ {s : List ℕ} {n : ℕ} {sellers parties sums : List ℕ} {limits : Limits} {f : Prices} where

@@ -20,7 +20,6 @@ use Rattle.integers.proofs.Linear.{by-order}
 use Rattle.integers.specs.Parts.{negPart, posPart}
 use Rattle.laws.proofs.Bounds.{prices-le, tariffs-pos}
 use Rattle.laws.specs.Sound.{Sound}
-use Rattle.levels.specs.Limits.{LimitsInRange}
 use Rattle.laws.proofs.Tests.{and-l, and-r}
 use Rattle.rules.specs.Areas.{Prices}
 use Rattle.rules.specs.Book.{at, Book, Header, Trade, User, nobody}
@@ -43,6 +42,7 @@ use Rattle.sales.specs.Reduced.{ownCuts, ownSales}
 use Rattle.sales.specs.Sales.{less, shortAt}
 use Rattle.units.proofs.Amounts.{parts-net}
 use Rattle.units.specs.Prices.{InRange}
+use Rattle.units.specs.Limits.{LimitsInRange}
 
 -- every field 0: what is read past the end of a list of trades
 abbrev nothing : Trade

@@ -4,11 +4,11 @@ use mathlib.Core.Path.{_≡_}
 use Prim.Native.Nat.{ℕ}
 use Rattle.cut_lists.specs.Sales.{BookIn, SalesOf, SalesRoom, StandingOf}
 use Rattle.format.specs.Book.{bookOf, tradeCount, tradesOf, userCount, usersOf}
-use Rattle.levels.specs.Limits.{LimitsInRange}
 use Rattle.positions.specs.Twelve.{Low, TwelveOf}
 use Rattle.rules.specs.Areas.{Prices}
 use Rattle.rules.specs.Book.{Book}
 use Rattle.rules.specs.Levels.{Limits}
+use Rattle.units.specs.Limits.{LimitsInRange}
 
 -- the bytes of an accepted book, limits and prices, and the twelve sums of each user
 pub record Runnable (limits : Limits) (f : Prices) (s sellers parties sums : List ℕ) : Type 0 where

@@ -10,13 +10,13 @@ use Rattle.format.specs.Questions.{Formed}
 use Rattle.integers.specs.Parts.{negPart}
 use Rattle.laws.specs.Sound.{Sound}
 use Rattle.laws.specs.Trades.{Lowered, Pairwise}
-use Rattle.levels.specs.Limits.{LimitsInRange}
 use Rattle.positions.specs.Twelve.{Low, TwelveOf}
 use Rattle.risk_user.specs.Account.{PositionsOf, positionIn}
 use Rattle.rules.specs.Areas.{Prices}
 use Rattle.rules.specs.Book.{Book}
 use Rattle.rules.specs.Levels.{Limits}
 use Rattle.rules.specs.Reduction.{withTrades}
+use Rattle.units.specs.Limits.{LimitsInRange}
 use Rattle.run_state.specs.Going.{SalesIn, StandingIn}
 
 -- ---- numbers

@@ -8,7 +8,6 @@ ghost use lib.ListN.{getD, length, replicate, set};
 ghost use Rattle.columns.specs.Columns.{Trading, idAt, tradeIn, tradesIn, usersIn};
 ghost use Rattle.dealings.specs.Parties.{cutBefore};
 ghost use Rattle.format.specs.Book.{bookOf, usersOf};
-ghost use Rattle.levels.specs.Limits.{asLimits};
 ghost use Rattle.rules.specs.Lists.{any};
 ghost use Rattle.places.specs.Ids.{Placed};
 ghost use Rattle.run_state.specs.Asked.{LookedAgain};
@@ -17,6 +16,7 @@ ghost use Rattle.risk_user.specs.Account.{flaggedAt, targetAt, DayOf, UserIn};
 ghost use Rattle.run_state.specs.Going.{OwedOf};
 ghost use Rattle.sales.specs.Parts.{part};
 ghost use Rattle.units.specs.Prices.{asPrices};
+ghost use Rattle.units.specs.Limits.{asLimits};
 ghost use Rattle.run_targets.specs.Asking.{BuyersIn, CutFlags, Opening, owedIf};
 
 // ---- before the first reduction

@@ -8,12 +8,12 @@ ghost use mathlib.Core.Path.{_≡_};
 ghost use Prim.Native.Nat.{_+_, _≤_, _<_};
 ghost use lib.ListN.{getD, length};
 ghost use Rattle.format.specs.Book.{bookOf, userCount};
-ghost use Rattle.levels.specs.Limits.{asLimits};
 ghost use Rattle.rules.specs.Book.{Book};
 ghost use Rattle.run_state.specs.Going.{Going};
 ghost use Rattle.run_state.specs.Running.{NextFrom};
 ghost use Rattle.sales.specs.Parts.{part};
 ghost use Rattle.units.specs.Prices.{asPrices};
+ghost use Rattle.units.specs.Limits.{asLimits};
 ghost use Rattle.run_turns.specs.Turns.{CutIn, NoneCut, Ongoing, Ran, Turned};
 ghost use Rattle.run_reduction.specs.Reductions.{RunOf};
 

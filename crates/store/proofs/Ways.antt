@@ -12,7 +12,7 @@ use Rattle.rules.specs.Levels.{Limits, today}
 use Rattle.rules.specs.Lists.{all}
 use Rattle.rules.specs.Questions.{refusal, numberOf, isNone}
 use Rattle.laws.proofs.Tests.{and-l, and-r, by-test}
-use Rattle.levels.specs.Limits.{LimitsInRange}
+use Rattle.units.specs.Limits.{LimitsInRange}
 use Rattle.store.specs.Store.{ParameterSet, setsFrom, setCount, setsOf, storeFormed, firstsRise, limitsValid, setValid, setsValid, storeValid, orElse, begun, inForce, aboutStore, storeNumber, figuresOf, limitsOf}
 use Rattle.store.specs.Asked.{ByForce, ByStore}
 

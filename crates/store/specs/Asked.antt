@@ -6,7 +6,7 @@ use mathlib.Core.Path.{_≡_}
 use Prim.Native.Nat.{ℕ}
 use Rattle.rules.specs.Levels.{Limits}
 use Rattle.rules.specs.Questions.{isNone}
-use Rattle.levels.specs.Limits.{asLimits, LimitsInRange}
+use Rattle.units.specs.Limits.{asLimits, LimitsInRange}
 use Rattle.store.specs.Store as model
 use Rattle.store.specs.Store.{figuresOf, storeNumber, limitsOf}
 use Rattle.store.specs.declared.ParameterSet.{ParameterSet}

@@ -1,13 +1,13 @@
 // The store of parameter sets, in any bytes: is it well formed, which of its sets is in force on a book's date, and the figures that a call takes from it.
-use levels::Limits;
 use units::Cents;
+use units::Limits;
 use units::Mwh;
 ghost use mathlib.Core.Path.{_≡_};
 ghost use mathlib.Core.Option.{some};
 ghost use Prim.Native.Nat.{_+_, _*_, _≤_};
 ghost use lib.ListN.{length};
 ghost use Rattle.rules.specs.Levels.{today};
-ghost use Rattle.levels.specs.Limits.{asLimits};
+ghost use Rattle.units.specs.Limits.{asLimits};
 ghost use Rattle.store.specs.Store.{setOf, setsFrom, storeFormed, setValid, setsValid, inForce, given};
 ghost use Rattle.store.specs.Asked.{asSet, ByForce, ByStore};
 
@@ -46,11 +46,11 @@ fn read_set(c: &[u8]) -> ParameterSet
     ensures { λ r. ⌜ asSet r ≡ setOf (now (c .entry)) ⌝ }
 {
     let first = fields::get_u32(c, 0);
-    let energy = fields::get_u32(c, 4);
+    let energy = fields::get_u32(c, 4) as u64;
     let limits = Limits {
-        flag_mwh: Mwh(energy as u64),
         margin: Cents(fields::get_u64(c, 8)),
         floor: Cents(fields::get_u64(c, 16)),
+        flag_mwh: Mwh(energy),
     };
     ParameterSet {
         first: first,

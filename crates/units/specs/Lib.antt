@@ -1,3 +1,4 @@
--- What the signed amounts and the prices of the code stand for.
+-- What the signed amounts, the prices and the limits of the code stand for.
 pub mod Amounts
 pub mod Prices
+pub mod Limits

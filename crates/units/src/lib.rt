@@ -1,4 +1,4 @@
-// Energy, money and prices, each with its own type; signed amounts of energy and money; the prices of a day and the areas that they hold in.
+// Energy, money and prices, each with its own type; signed amounts of energy and money; the prices of a day and the areas that they hold in; the limits of the rules.
 // A signed amount is kept as an unsigned number, the amount + an offset, and every contract speaks of the integer itself.
 ghost use mathlib.Core.Path.{_≡_};
 ghost use mathlib.Core.Bool.{true, cond};
@@ -6,9 +6,11 @@ ghost use Prim.Native.Nat.{_+_, _*_, _≤_, _<_, _^_};
 ghost use lib.IntN.{pos, _+ℤ_, _-ℤ_};
 ghost use Rattle.integers.specs.Parts.{posPart, negPart};
 ghost use Rattle.rules.specs.Areas.{tariff, referencePrice};
+ghost use Rattle.rules.specs.Levels.{today};
 ghost use Rattle.rules.specs.Signed.{signedOf, bitsOf, within};
 ghost use Rattle.units.specs.Amounts.{net, balance};
 ghost use Rattle.units.specs.Prices.{asPrices, InRange};
+ghost use Rattle.units.specs.Limits.{asLimits, LimitsInRange};
 
 // An energy, in MWh.
 pub struct Mwh(pub u64);
@@ -300,6 +302,27 @@ impl Area {
             Area::PVB => Price(prices.p),
             Area::TVB => Price(prices.q + prices.l),
             _ => Price(prices.q + prices.x + prices.i),
+        }
+    }
+}
+
+// The three figures that the rules take as given: cents of a call, cents of the least level, MWh of a flag. The two that a store has in 64 bits each stand first: they are moved together.
+pub struct Limits {
+    pub margin: Cents,
+    pub floor: Cents,
+    pub flag_mwh: Mwh,
+}
+
+impl Limits {
+    // The figures of today: 30,000 MWh, 10,000 euros, 100,000 euros.
+    pub fn today() -> Limits
+        ensures { λ r. ⌜ asLimits r ≡ today ⌝ }
+        ensures { λ r. ⌜ LimitsInRange (asLimits r) ⌝ }
+    {
+        Limits {
+            margin: Cents(1000000),
+            floor: Cents(10000000),
+            flag_mwh: Mwh(30000),
         }
     }
 }

@@ -1,16 +1,16 @@
 // The midday warning of a user: is it flagged, or buyer of a bilateral trade of the day that stands, whose seller is a flagged shipper?
 use answers::WarningAnswer;
-use levels::Limits;
 use records::Trade;
+use units::Limits;
 use units::Prices;
 ghost use mathlib.Core.Path.{_≡_};
 ghost use Rattle.rules.specs.Book.{find};
 ghost use Rattle.rules.specs.Lists.{any};
+ghost use Rattle.units.specs.Limits.{asLimits, LimitsInRange};
 ghost use Rattle.records.specs.Trade.{asTrade};
 ghost use Rattle.format.specs.Book.{bookOf};
 ghost use Rattle.format.specs.Questions.{bookNumber};
 ghost use Rattle.format.specs.After.{replyAfter};
-ghost use Rattle.levels.specs.Limits.{asLimits, LimitsInRange};
 ghost use Rattle.answers.specs.Warning.{replyOf};
 ghost use Rattle.warning.specs.Warned.{Priced, flaggedShipper, warnsBuyer, warningOf};
 

@@ -4,11 +4,11 @@ use mathlib.Core.Path.{_≡_, sym, ap, _∙_}
 use native.Mathlib.Omega.{arith}
 use denote.Ref.{now}
 use Rattle.rules.specs.Levels.{calledIn, flagged}
+use Rattle.units.specs.Limits.{asLimits}
 use Rattle.records.specs.User.{asUser}
 use Rattle.format.specs.Book.{bookOf, tradeCount, userCount}
 use Rattle.dealings.specs.Parties.{cutBefore}
 use Rattle.dealings.proofs.Ruled.{called-in-is}
-use Rattle.levels.specs.Limits.{asLimits}
 use Rattle.account.proofs.Accepted.{trades-from}
 use borrow.Author.Needs.{needs}
 use Rattle.account.proofs.called_in.Statement.{statement}

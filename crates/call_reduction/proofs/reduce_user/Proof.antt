@@ -6,10 +6,10 @@ use denote.Ref.{now}
 use lib.ListN.{getD}
 use Rattle.cut_lists.proofs.Lists.{accepted-placed, accepted-trading}
 use Rattle.format.specs.Book.{bookOf, tradeCount, userCount, usersOf}
-use Rattle.levels.specs.Limits.{asLimits}
 use Rattle.rules.specs.Book.{nobody}
 use Rattle.rules.specs.Levels.{afternoonLevel, calledIn}
 use Rattle.rules.specs.Questions.{numberOf, refusal}
+use Rattle.units.specs.Limits.{asLimits}
 use Rattle.run_reduction.proofs.Start.{run-counted}
 use Rattle.run_reduction.proofs.Steps.{accepted-day}
 use Rattle.call_reduction.specs.Call.{levelQuestions}

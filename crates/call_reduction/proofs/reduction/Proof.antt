@@ -5,7 +5,7 @@ use denote.Ref.{now}
 use Rattle.entry.proofs.Calls.{called}
 use Rattle.entry.specs.Entered.{Found}
 use Rattle.format.proofs.Passed.{passed}
-use Rattle.levels.specs.Limits.{asLimits}
+use Rattle.units.specs.Limits.{asLimits}
 use Rattle.run_reduction.proofs.Asked.{found-runnable}
 use Rattle.call_reduction.specs.Call.{reductionOf}
 use Rattle.call_reduction.proofs.Ways.{call-gives, call-unentered}

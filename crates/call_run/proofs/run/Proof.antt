@@ -4,7 +4,7 @@ use borrow.Author.Needs.{needs}
 use denote.Ref.{now}
 use Rattle.format.proofs.Passed.{passed}
 use Rattle.format.specs.Questions.{bookNumber}
-use Rattle.levels.specs.Limits.{asLimits}
+use Rattle.units.specs.Limits.{asLimits}
 use Rattle.run_reduction.proofs.Asked.{found-runnable}
 use Rattle.call_run.proofs.Ways.{run-called, run-refused}
 use Rattle.call_run.proofs.run.Statement.{statement}

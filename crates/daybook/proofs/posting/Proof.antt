@@ -2,7 +2,7 @@
 use mir.Syntax.{w64}
 use mir.ValLaws.{toZ-ofZ}
 use borrow.Author.Needs.{needs}
-use Rattle.levels.specs.Limits.{asLimits}
+use Rattle.units.specs.Limits.{asLimits}
 use Rattle.requests.proofs.Opened.{carried}
 use Rattle.daybook.proofs.posting.Statement.{statement}
 use Rattle.daybook.proofs.posting.Tie as tie

@@ -5,7 +5,7 @@ use Prim.Native.Nat.{ℕ}
 use native.Mathlib.Omega.{arith}
 use denote.Ref.{now}
 use Rattle.rules.specs.Levels.{Limits}
-use Rattle.levels.specs.Limits.{asLimits, LimitsInRange}
+use Rattle.units.specs.Limits.{asLimits, LimitsInRange}
 use Rattle.format.specs.Steps.{InBytes}
 use Rattle.format.proofs.Passed.{passed}
 use Rattle.entry.specs.Entered.{Found}

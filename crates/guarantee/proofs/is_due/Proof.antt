@@ -4,7 +4,7 @@ use denote.Ref.{now}
 use borrow.Author.Tests.{not-true, not-false}
 use Rattle.records.specs.User.{asUser}
 use Rattle.format.specs.Book.{bookOf}
-use Rattle.levels.specs.Limits.{asLimits}
+use Rattle.units.specs.Limits.{asLimits}
 use Rattle.guarantee.specs.Times.{dueOf}
 use Rattle.guarantee.proofs.Ways.{due-within}
 use borrow.Author.Needs.{needs}

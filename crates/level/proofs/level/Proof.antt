@@ -3,8 +3,8 @@ use mathlib.Core.Path.{_≡_, sym, ap, _∙_}
 use mathlib.Core.List.{List}
 use Prim.Native.Nat.{ℕ}
 use denote.Ref.{now}
-use Rattle.levels.specs.Limits.{asLimits}
 use Rattle.rules.specs.Queries.{aLevel, onlyNumber}
+use Rattle.units.specs.Limits.{asLimits}
 use Rattle.entry.specs.Entered.{Found}
 use Rattle.entry.proofs.Calls.{read-role}
 use Rattle.level.proofs.Ways.{account-level, level-refused, level-of-house, level-found}

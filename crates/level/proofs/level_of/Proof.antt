@@ -1,7 +1,7 @@
 -- `level_of` computes the level of the time, which is that of the rules in a book with these prices and dealings. Assumes nothing.
 use mathlib.Core.Path.{_∙_}
 use Rattle.format.specs.Book.{bookOf}
-use Rattle.levels.specs.Limits.{asLimits}
+use Rattle.units.specs.Limits.{asLimits}
 use Rattle.levels.proofs.Sums.{afternoon-level-held, morning-level-held}
 use Rattle.level.specs.Times.{levelOf}
 use borrow.Author.Needs.{needs}

@@ -8,8 +8,8 @@ use Rattle.rules.specs.Areas.{areas}
 use Rattle.rules.specs.Levels.{afternoonSum, exposure, floored}
 use Rattle.units.specs.Amounts.{balance}
 use Rattle.units.specs.Prices.{asPrices}
+use Rattle.units.specs.Limits.{asLimits}
 use Rattle.holdings.specs.Holdings.{held}
-use Rattle.levels.specs.Limits.{asLimits}
 use Rattle.levels.proofs.Floors.{add-worths}
 use Rattle.levels.proofs.Sums.{exposure-held}
 use borrow.Author.Needs.{needs}

@@ -1,7 +1,7 @@
 -- `floored`: charges and worth as a difference, which the floor bounds from below. Assumes nothing.
 use native.Mathlib.Omega.{arith}
 use Rattle.units.specs.Amounts.{balance}
-use Rattle.levels.specs.Limits.{asLimits}
+use Rattle.units.specs.Limits.{asLimits}
 use Rattle.levels.proofs.Floors.{floored-of}
 use borrow.Author.Needs.{needs}
 use Rattle.levels.proofs.floored.Statement.{statement}

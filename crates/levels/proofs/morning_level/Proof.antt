@@ -7,7 +7,7 @@ use Rattle.integers.specs.Sums.{sum}
 use Rattle.rules.specs.Areas.{areas}
 use Rattle.rules.specs.Levels.{morningSum, floored}
 use Rattle.units.specs.Amounts.{balance}
-use Rattle.levels.specs.Limits.{asLimits}
+use Rattle.units.specs.Limits.{asLimits}
 use borrow.Author.Needs.{needs}
 use Rattle.levels.proofs.morning_level.Statement.{statement}
 use Rattle.levels.proofs.morning_level.Tie as tie

@@ -3,7 +3,7 @@ use mathlib.Core.Path.{_∙_}
 use borrow.Author.Needs.{needs}
 use denote.Ref.{now}
 use Rattle.format.specs.Book.{bookOf}
-use Rattle.levels.specs.Limits.{asLimits}
+use Rattle.units.specs.Limits.{asLimits}
 use Rattle.printed.specs.Lines.{asLine}
 use Rattle.printed.proofs.Places.{line-day, line-in, line-level, line-of, line-state, line-user}
 use Rattle.printed.proofs.line_at.Statement.{statement}

@@ -1,8 +1,8 @@
 -- `level_at`: the needs of the three areas and the short positions are the sums of the definition. Assumes nothing.
 use Rattle.format.specs.Book.{usersOf}
-use Rattle.levels.specs.Limits.{asLimits}
 use Rattle.risk_user.proofs.Targets.{level-sum}
 use Rattle.units.specs.Prices.{asPrices}
+use Rattle.units.specs.Limits.{asLimits}
 use borrow.Author.Needs.{needs}
 use denote.Ref.{now}
 use native.Mathlib.Omega.{arith}

@@ -4,9 +4,9 @@ use borrow.Author.Needs.{needs}
 use borrow.Author.Tests.{not-true, not-false}
 use denote.Ref.{now}
 use Rattle.format.specs.Book.{usersOf}
-use Rattle.levels.specs.Limits.{asLimits}
 use Rattle.rules.specs.Book.{User, nobody}
 use Rattle.rules.specs.Levels.{Limits}
+use Rattle.units.specs.Limits.{asLimits}
 use Rattle.risk_user.proofs.States.{state-call, state-clear, state-short, state-uncalled, state-within}
 use Rattle.risk_user.proofs.state_of.Statement.{statement}
 use Rattle.risk_user.proofs.state_of.Tie as tie

@@ -1,8 +1,8 @@
 -- `target_at`: a clearing house has none, and a shipper that of its level. Assumes nothing.
 use Rattle.format.specs.Book.{usersOf}
-use Rattle.levels.specs.Limits.{asLimits}
 use Rattle.risk_user.proofs.Targets.{target-house, target-shipper}
 use Rattle.units.specs.Prices.{asPrices}
+use Rattle.units.specs.Limits.{asLimits}
 use borrow.Author.Needs.{needs}
 use denote.Ref.{now}
 use Rattle.risk_user.proofs.target_at.Statement.{statement}

@@ -3,8 +3,8 @@ use lib.ListN.{getD}
 use borrow.Author.Needs.{needs}
 use denote.Ref.{now}
 use Rattle.format.specs.Book.{usersOf}
-use Rattle.levels.specs.Limits.{asLimits}
 use Rattle.rules.specs.Book.{nobody}
+use Rattle.units.specs.Limits.{asLimits}
 use Rattle.risk_user.proofs.Targets.{target-covered, target-short, target-within}
 use Rattle.risk_user.proofs.target_of.Statement.{statement}
 use Rattle.risk_user.proofs.target_of.Tie as tie

@@ -7,12 +7,12 @@ use denote.Ref.{now}
 use lib.ListN.{drop, length, length-drop, length-take, take}
 use Rattle.rules.specs.Book.{Trade}
 use Rattle.rules.specs.Lists.{any}
+use Rattle.units.specs.Limits.{asLimits}
 use Rattle.fields.specs.Layout.{recordsOf}
 use Rattle.records.specs.Trade.{tradeOf}
 use Rattle.format.specs.Book.{bookOf, tradeCount, userCount}
 use Rattle.format.specs.Questions.{Formed}
 use Rattle.format.proofs.Passed.{passed}
-use Rattle.levels.specs.Limits.{asLimits}
 use Rattle.account.proofs.Accepted.{trades-from}
 use Rattle.account.proofs.Walks.{Searching, searching-start, searching-found, searching-turn, searching-end}
 use Rattle.warning.specs.Warned.{warnsBuyer}

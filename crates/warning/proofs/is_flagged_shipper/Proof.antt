@@ -6,9 +6,9 @@ use native.Mathlib.Omega.{arith}
 use denote.Ref.{now}
 use Rattle.rules.specs.Book.{find}
 use Rattle.rules.specs.Levels.{flagged}
+use Rattle.units.specs.Limits.{asLimits}
 use Rattle.format.specs.Book.{bookOf, userCount}
 use Rattle.format.proofs.Passed.{length-usersOf, passed}
-use Rattle.levels.specs.Limits.{asLimits}
 use Rattle.entry.specs.Entered.{Found}
 use Rattle.entry.proofs.Calls.{read-role, read-user}
 use Rattle.warning.proofs.Ways.{prices-range, read-blocked, shipper-unknown, shipper-no, shipper-yes}

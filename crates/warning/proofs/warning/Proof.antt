@@ -5,10 +5,10 @@ use Prim.Native.Nat.{ℕ}
 use denote.Ref.{now}
 use Rattle.rules.specs.Levels.{Limits, flagged}
 use Rattle.rules.specs.Queries.{aWarning, onlyNumber}
+use Rattle.units.specs.Limits.{asLimits}
 use Rattle.records.specs.User.{asUser}
 use Rattle.format.specs.Book.{bookOf}
 use Rattle.format.proofs.Passed.{passed}
-use Rattle.levels.specs.Limits.{asLimits}
 use Rattle.entry.specs.Entered.{Found}
 use Rattle.entry.proofs.Calls.{read-role}
 use Rattle.warning.specs.Warned.{Priced}

@@ -4,7 +4,7 @@ use denote.Ref.{now}
 use borrow.Author.Tests.{not-true, not-false}
 use Rattle.records.specs.Trade.{asTrade}
 use Rattle.format.specs.Book.{bookOf}
-use Rattle.levels.specs.Limits.{asLimits}
+use Rattle.units.specs.Limits.{asLimits}
 use Rattle.warning.proofs.Ways.{other-buyer, other-kind, nothing-stands, by-seller}
 use borrow.Author.Needs.{needs}
 use Rattle.warning.proofs.warns_buyer.Statement.{statement}

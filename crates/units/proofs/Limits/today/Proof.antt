@@ -1,8 +1,8 @@
 -- `Limits::today`: the three figures are those of the rules. Assumes nothing.
 use borrow.Author.Needs.{needs}
 use Rattle.rules.specs.Levels.{today}
-use Rattle.levels.proofs.Limits.today.Statement.{statement}
-use Rattle.levels.proofs.Limits.today.Tie as tie
+use Rattle.units.proofs.Limits.today.Statement.{statement}
+use Rattle.units.proofs.Limits.today.Tie as tie
 
 returns : tie.Need-returns
 unfolding today

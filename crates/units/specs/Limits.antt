@@ -1,7 +1,7 @@
 -- The limits of the rules that the code's limits are, and their range. Assumes nothing.
 use Prim.Native.Nat.{_≤_}
 use Rattle.rules.specs.Levels as rules
-use Rattle.levels.specs.declared.Limits.{Limits}
+use Rattle.units.specs.declared.Limits.{Limits}
 
 -- the same three numbers
 abbrev pub asLimits : Limits → rules.Limits
