@@ -7,7 +7,7 @@ use native.Mathlib.Omega.{arith}
 use lib.Dec.{leb, ltb}
 use lib.ListN.{length, getD}
 use lib.Seq.{sets}
-use Rattle.columns.specs.Columns.{idAt, tradesIn, usersIn}
+use Rattle.cut_lists.specs.Columns.{idAt, tradesIn, usersIn}
 use Rattle.cut_apply.proofs.Own.{cuttable-part, own-lowered}
 use Rattle.cut_apply.specs.Cutting.{CuttablePart, loweredAt}
 use Rattle.cut_lists.proofs.Own.{own-inside, own-origins}
@@ -15,34 +15,34 @@ use Rattle.cut_lists.specs.Sales.{SalesOf, SalesRoom, StandingOf}
 use Rattle.cut_tiers.specs.Tiers.{cutsOf}
 use Rattle.cut_worth.specs.Tallies.{asTally}
 use Rattle.cut_worth.specs.declared.Tally.{Tally}
-use Rattle.dealings.specs.Parties.{cutBefore}
-use Rattle.format.proofs.Passed.{length-usersOf}
-use Rattle.format.specs.Book.{bookOf, tradeCount, tradesAt, tradesOf, userAt, userCount, usersOf}
-use Rattle.format.specs.Steps.{inBytes}
-use Rattle.held.specs.Held.{HeldAs}
+use Rattle.risk_holdings.specs.Parties.{cutBefore}
+use Rattle.book_format.proofs.Passed.{length-usersOf}
+use Rattle.book_format.specs.Book.{bookOf, tradeCount, tradesAt, tradesOf, userAt, userCount, usersOf}
+use Rattle.book_format.specs.Steps.{inBytes}
+use Rattle.book_format.specs.Held.{HeldAs}
 use Rattle.risk_user.proofs.Rules.{called-own, level-own, state-own}
-use Rattle.risk_user.specs.Account.{PositionsOf, flaggedAt, levelAt, targetOf}
+use Rattle.risk_user.specs.UserAt.{PositionsOf, flaggedAt, levelAt, targetOf}
 use Rattle.risk_user.specs.States.{stateBy}
 use Rattle.rules.specs.Areas.{Prices}
 use Rattle.rules.specs.Book.{Book, Trade, User, nobody}
 use Rattle.rules.specs.Calls.{Answer, ofCuts, only, reducedBy}
 use Rattle.rules.specs.Day.{State, call, clear, quiet, short}
 use Rattle.rules.specs.Levels.{Limits, afternoonLevel, calledIn, exceedsMargin, shipper}
-use Rattle.rules.specs.Lists.{any}
+use Rattle.base.specs.Lists.{any}
 use Rattle.rules.specs.Questions.{numberOf, refusal}
 use Rattle.rules.specs.Reduction.{cutAll, hasEligible, nothing, tallyAll, target, withTrades}
 use Rattle.run_reduction.proofs.Start.{first-reached, run-stays}
 use Rattle.run_reduction.proofs.Steps.{cut-within, cuts-own, cuts-part, cuts-room, own-codes, own-standing, prices-same}
 use Rattle.run_reduction.specs.Books.{Listed, Runnable}
 use Rattle.run_reduction.specs.Reductions.{Reached, RunOf, shortIn}
-use Rattle.sales.proofs.Cover.{has-eligible-sales}
-use Rattle.sales.proofs.Cuts.{cuts-sales}
-use Rattle.sales.proofs.FirstCuts.{own-cuts-length}
-use Rattle.sales.proofs.Own.{own-eligible, own-sales}
-use Rattle.sales.proofs.Reduced.{sales-reduced}
-use Rattle.sales.specs.Parts.{part}
-use Rattle.sales.specs.Reduced.{ownCuts, ownSales}
-use Rattle.sales.specs.Sales.{ownSale}
+use Rattle.laws_sales.proofs.Cover.{has-eligible-sales}
+use Rattle.laws_sales.proofs.Cuts.{cuts-sales}
+use Rattle.laws_sales.proofs.FirstCuts.{own-cuts-length}
+use Rattle.laws_sales.proofs.Own.{own-eligible, own-sales}
+use Rattle.laws_sales.proofs.Reduced.{sales-reduced}
+use Rattle.laws_sales.specs.Parts.{part}
+use Rattle.laws_sales.specs.Reduced.{ownCuts, ownSales}
+use Rattle.laws_sales.specs.Sales.{ownSale}
 use Rattle.call_reduction.specs.Books.{UserOf, allSales}
 use Rattle.call_reduction.specs.Call.{Gives, levelQuestions, onSales}
 use Rattle.call_reduction.specs.States.{refusedBy}

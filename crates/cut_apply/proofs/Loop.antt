@@ -7,16 +7,16 @@ use lib.ListN.{getD, length, length-replicate, replicate, take}
 use lib.Seq.{length-take-le}
 use Rattle.cut_lists.specs.Sales.{BookIn}
 use Rattle.cut_records.specs.Places.{LoweredIn, PlacesIn}
-use Rattle.format.specs.Book.{bookOf, tradeCount, tradesAt, tradesOf, userAt, userCount}
-use Rattle.held.proofs.Held.{held-itself, held-tradeCount, held-trades, held-userCount}
-use Rattle.held.specs.Held.{HeldAs, tradesReplaced}
+use Rattle.book_format.specs.Book.{bookOf, tradeCount, tradesAt, tradesOf, userAt, userCount}
+use Rattle.book_format.proofs.Held.{held-itself, held-tradeCount, held-trades, held-userCount}
+use Rattle.book_format.specs.Held.{HeldAs, tradesReplaced}
 use Rattle.rules.specs.Book.{Book, Trade}
 use Rattle.rules.specs.Changes.{withUsers}
 use Rattle.rules.specs.Reduction.{settle, withTrades}
-use Rattle.sales.proofs.Settled.{settle-parties}
-use Rattle.sales.proofs.Standing.{same-length}
-use Rattle.sales.proofs.Parts.{part-here, part-length}
-use Rattle.sales.specs.Parts.{part}
+use Rattle.laws_sales.proofs.Settled.{settle-parties}
+use Rattle.laws_sales.proofs.Standing.{same-length}
+use Rattle.laws_sales.proofs.Parts.{part-here, part-length}
+use Rattle.laws_sales.specs.Parts.{part}
 use Rattle.cut_apply.proofs.Cutting.{loweredTo}
 use Rattle.cut_apply.proofs.Losing.{losing-le}
 use Rattle.cut_apply.proofs.Turns.{MovedSo, moved-end, moved-more, moved-start, sale-here, sale-room}

@@ -9,16 +9,16 @@ use lib.Seq.{sets}
 use Rattle.fields.proofs.Field.{field-lt, field-part, length-toBytes}
 use Rattle.fields.specs.Field.{field, setField, toBytes}
 use Rattle.fields.specs.Layout.{size}
-use Rattle.format.proofs.Passed.{length-usersOf}
-use Rattle.format.specs.Book.{bookOf, usersOf}
-use Rattle.held.proofs.Held.{held-bytes, held-user, held-user-fits, held-user-part}
-use Rattle.held.proofs.Positions.{position-bytes}
-use Rattle.held.proofs.Parts.{pack-set}
-use Rattle.held.specs.Held.{HeldAs}
-use Rattle.integers.proofs.Linear.{negPart-neg, negPart-of, negPart-pos, parts-add, posPart-neg, posPart-of, posPart-pos}
-use Rattle.integers.specs.Parts.{negPart, posPart}
-use Rattle.records.proofs.Users.{user-of-bytes}
-use Rattle.records.specs.User.{FitsAmounts, FitsSigned, FitsUser, amountValues, amountWidths, userBytes, userValues, userWidths}
+use Rattle.book_format.proofs.Passed.{length-usersOf}
+use Rattle.book_format.specs.Book.{bookOf, usersOf}
+use Rattle.book_format.proofs.Held.{held-bytes, held-user, held-user-fits, held-user-part}
+use Rattle.book_format.proofs.Positions.{position-bytes}
+use Rattle.book_format.proofs.Parts.{pack-set}
+use Rattle.book_format.specs.Held.{HeldAs}
+use Rattle.base.proofs.Linear.{negPart-neg, negPart-of, negPart-pos, parts-add, posPart-neg, posPart-of, posPart-pos}
+use Rattle.base.specs.Parts.{negPart, posPart}
+use Rattle.book_records.proofs.Users.{user-of-bytes}
+use Rattle.book_records.specs.User.{FitsAmounts, FitsSigned, FitsUser, amountValues, amountWidths, userBytes, userValues, userWidths}
 use Rattle.rules.specs.Book.{PerArea, User, at, nobody}
 use Rattle.rules.specs.Changes.{add, moved, withUsers}
 use Rattle.rules.specs.Signed.{bitsOf, signedOf}

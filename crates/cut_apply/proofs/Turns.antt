@@ -9,33 +9,33 @@ use lib.Dec.{T, ltb}
 use lib.ListN.{drop, getD, length, length-set, set, take}
 use lib.Seq.{length-take-le, take-all, take-suc-set}
 use borrow.Author.Tests.{eq-eqb, eqb-true, ltb-false, ltb-true}
-use Rattle.columns.proofs.Trades.{party-inside, party-is, trade-at}
-use Rattle.columns.specs.Columns.{PlacedOn, idAt, tradeIn, tradesIn, usersIn}
+use Rattle.base.proofs.Tests.{by-case}
+use Rattle.cut_lists.proofs.Trades.{party-inside, party-is, trade-at}
+use Rattle.cut_lists.specs.Columns.{PlacedOn, idAt, tradeIn, tradesIn, usersIn}
 use Rattle.cut_lists.proofs.Lists.{accepted-placed, accepted-trading}
 use Rattle.cut_lists.specs.Sales.{BookIn}
-use Rattle.format.proofs.Passed.{length-tradesOf, length-usersOf}
-use Rattle.format.specs.Book.{bookOf, tradeCount, tradesAt, tradesOf, userAt, userCount, usersOf}
-use Rattle.held.proofs.Held.{held-itself, held-trade, held-tradeCount, held-userCount, held-users}
-use Rattle.held.specs.Held.{HeldAs, noTrade}
-use Rattle.integers.specs.Parts.{negPart, posPart}
+use Rattle.book_format.proofs.Passed.{length-tradesOf, length-usersOf}
+use Rattle.book_format.specs.Book.{bookOf, tradeCount, tradesAt, tradesOf, userAt, userCount, usersOf}
+use Rattle.book_format.proofs.Held.{held-itself, held-trade, held-tradeCount, held-userCount, held-users}
+use Rattle.book_format.specs.Held.{HeldAs, noTrade}
+use Rattle.base.specs.Parts.{negPart, posPart}
 use Rattle.laws.proofs.Bounds.{position-bound, standing-le}
 use Rattle.laws.proofs.Positions.{buyer-known, seller-known}
 use Rattle.laws.proofs.Settle.{area-lt, retraded-sound}
 use Rattle.laws.specs.Sound.{Sound}
 use Rattle.laws.proofs.Trades.{framed}
-use Rattle.arrays.proofs.Fronts.{all-at}
-use Rattle.records.specs.Trade.{tradeOf}
+use Rattle.base.proofs.Fronts.{all-at}
+use Rattle.book_records.specs.Trade.{tradeOf}
 use Rattle.rules.specs.Book.{Book, Party, Terms, Trade, User, nobody}
 use Rattle.rules.specs.Changes.{withUsers}
 use Rattle.rules.specs.Questions.{known, positionsValid, tradeValid, userValid}
 use Rattle.rules.specs.Reduction.{cutBy, settle, settleOne, withTrades}
-use Rattle.sales.proofs.Again.{retraded-again}
-use Rattle.sales.proofs.Kept.{by-case}
-use Rattle.sales.proofs.Settled.{party-at, settle-none, settle-one-at, settle-one-none, settle-parties}
-use Rattle.sales.proofs.Standing.{same-length}
-use Rattle.sales.proofs.Stores.{set-front}
-use Rattle.sales.specs.Groups.{written}
-use Rattle.sales.specs.Sales.{settledAt}
+use Rattle.laws_sales.proofs.Again.{retraded-again}
+use Rattle.laws_sales.proofs.Settled.{party-at, settle-none, settle-one-at, settle-one-none, settle-parties}
+use Rattle.laws_sales.proofs.Standing.{same-length}
+use Rattle.base.proofs.Stores.{set-front}
+use Rattle.laws_sales.specs.Groups.{written}
+use Rattle.laws_sales.specs.Sales.{settledAt}
 use Rattle.cut_apply.proofs.Cutting.{lowered-long, lowered-more, lowered-next, lowered-none, lowered-snoc, lowered-to, lowered-valid, loweredTo, next-stands}
 use Rattle.cut_apply.proofs.Losing.{losing-first, losing-none}
 use Rattle.cut_apply.specs.Cutting.{Cuttable, MovedBy, SaleCut, SaleIn, losing, loweredAt}

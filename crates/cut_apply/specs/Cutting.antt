@@ -5,16 +5,16 @@ use mathlib.Core.Path.{_≡_}
 use Prim.Native.Nat.{ℕ, _+_, _≤_, _<_, min}
 use lib.Dec.{T, ltb}
 use lib.ListN.{getD, length, set}
-use Rattle.columns.specs.Columns.{tradeIn}
+use Rattle.cut_lists.specs.Columns.{tradeIn}
 use Rattle.cut_lists.specs.Sales.{BookIn}
-use Rattle.format.specs.Book.{bookOf, tradeCount, userCount, usersOf}
-use Rattle.held.specs.Held.{HeldAs, noTrade}
+use Rattle.book_format.specs.Book.{bookOf, tradeCount, userCount, usersOf}
+use Rattle.book_format.specs.Held.{HeldAs, noTrade}
 use Rattle.rules.specs.Book.{Book, Trade, bilateralForDay}
 use Rattle.rules.specs.Changes.{withUsers}
 use Rattle.rules.specs.Reduction.{withTrades}
-use Rattle.sales.specs.Groups.{written}
-use Rattle.sales.specs.Parts.{part}
-use Rattle.sales.specs.Sales.{less, settledAt}
+use Rattle.laws_sales.specs.Groups.{written}
+use Rattle.laws_sales.specs.Parts.{part}
+use Rattle.laws_sales.specs.Sales.{less, settledAt}
 use Rattle.cut_apply.specs.Positions.{PartiesIn}
 
 -- trades, of which those at places stand lower by their cuts

@@ -4,14 +4,14 @@ ghost use Prim.Native.Nat.{_+_, _*_, _≤_, _<_, _^_};
 ghost use lib.IntN.{pos, negℤ, _+ℤ_};
 ghost use lib.ListN.{length};
 ghost use Rattle.cut_lists.specs.Sales.{BookIn};
-ghost use Rattle.format.specs.Book.{bookOf, tradeCount, usersOf};
-ghost use Rattle.held.specs.Held.{HeldAs};
-ghost use Rattle.integers.specs.Parts.{posPart, negPart};
+ghost use Rattle.book_format.specs.Book.{bookOf, tradeCount, usersOf};
+ghost use Rattle.book_format.specs.Held.{HeldAs};
+ghost use Rattle.base.specs.Parts.{posPart, negPart};
 ghost use Rattle.rules.specs.Changes.{withUsers};
 ghost use Rattle.rules.specs.Reduction.{withTrades};
 ghost use Rattle.rules.specs.Signed.{bitsOf, signedOf};
-ghost use Rattle.sales.specs.Parts.{part};
-ghost use Rattle.sales.specs.Sales.{settledAt};
+ghost use Rattle.laws_sales.specs.Parts.{part};
+ghost use Rattle.laws_sales.specs.Sales.{settledAt};
 ghost use Rattle.cut_apply.specs.Positions.{PositionIn, PartiesIn, movedAt, positionOf};
 ghost use Rattle.cut_apply.specs.Cutting.{Cutting, CuttablePart, MovedBy, SaleCut, SaleIn, losing, loweredAt};
 
@@ -87,7 +87,7 @@ fn count_losing(cuts: &[u64; 256], from: usize, to: usize) -> usize
     let mut lost = 0;
     let mut k = from;
     while k < to {
-        lost = columns::place_after(lost, 0 < cuts[k]);
+        lost = cut_lists::place_after(lost, 0 < cuts[k]);
         k += 1;
     }
     lost
@@ -110,8 +110,8 @@ fn cut_sale(
     ensures { λ r. ⌜ SaleCut (now (book .entry)) n seller buyer place cut lost (now (places .entry)) (now (amounts .entry)) (now (book .exit)) (now (places .exit)) (now (amounts .exit)) r ⌝ }
 {
     if 0 < cut {
-        let t = columns::trade_in(book, n, place);
-        let area = columns::index(t.area);
+        let t = cut_lists::trade_in(book, n, place);
+        let area = cut_lists::index(t.area);
         move_parties(book, seller, buyer, area, cut as u32);
         places[lost] = place as u8;
         amounts[lost] = cut;
@@ -139,9 +139,9 @@ fn move_all(
     let mut lost = 0;
     let mut k = from;
     while k < to {
-        let place = columns::index(origins[k]);
-        let seller = columns::index(sellers[place]);
-        let buyer = columns::index(parties[place]);
+        let place = cut_lists::index(origins[k]);
+        let seller = cut_lists::index(sellers[place]);
+        let buyer = cut_lists::index(parties[place]);
         let cut = cuts[k];
         lost = cut_sale(book, n, seller, buyer, place, cut, lost, places, amounts);
         k += 1;

@@ -7,13 +7,13 @@ use native.Mathlib.Omega.{arith}
 use lib.ListN.{length, getD, set, List·getD-eq-default}
 use Rattle.cut_shares.proofs.Lifted.{together-length, together-at, Worthless}
 use Rattle.cut_shares.specs.Cuts.{Untouched, added}
-use Rattle.sales.proofs.Parts.{part-length, part-at, part-here}
+use Rattle.laws_sales.proofs.Parts.{part-length, part-at, part-here}
 use Rattle.cut_worth.proofs.Rates.{areas-inside, rate-here}
 use Rattle.cut_worth.proofs.Storing.{Storing, storing-more, storing-end}
 use Rattle.cut_worth.specs.Rates.{rateIn, ratesIn, Sales}
-use Rattle.integers.proofs.Linear.{by-order}
+use Rattle.base.proofs.Linear.{by-order}
 use Rattle.rules.specs.Reduction.{together}
-use Rattle.sales.specs.Parts.{part}
+use Rattle.laws_sales.specs.Parts.{part}
 
 module _ {rates areas cuts : List ℕ} {from to : ℕ} (inside : to ≤ 256) (u : Untouched rates areas cuts from to) where
   -- as many as there are places

@@ -7,7 +7,7 @@ use native.Mathlib.Omega.{arith}
 use lib.ListN.{length, drop, getD, set, length-map, drop-of-length-le, List·getD-map}
 use lib.Seq.{drop-cons, sets}
 use Rattle.cut_tiers.specs.Tiers.{Takeable}
-use Rattle.sales.proofs.Parts.{part-length, part-here}
+use Rattle.laws_sales.proofs.Parts.{part-length, part-here}
 use Rattle.cut_worth.proofs.Rates.{areas-many, sales-many}
 use Rattle.cut_worth.proofs.Storing.{Storing, storing-start, storing-more, storing-end}
 use Rattle.cut_worth.specs.Rates.{Sales}
@@ -17,10 +17,10 @@ use Rattle.rules.specs.Areas.{Prices}
 use Rattle.rules.specs.Book as model
 use Rattle.rules.specs.Reduction as reduction
 use Rattle.rules.specs.Reduction.{nothing, tallied, tallyAll}
-use Rattle.sales.proofs.Cuts.{tally-zero}
-use Rattle.sales.proofs.Numbers.{less-at, less-length}
-use Rattle.sales.specs.Parts.{part}
-use Rattle.sales.specs.Sales.{less}
+use Rattle.laws_sales.proofs.Cuts.{tally-zero}
+use Rattle.laws_sales.proofs.Numbers.{less-at, less-length}
+use Rattle.laws_sales.specs.Parts.{part}
+use Rattle.laws_sales.specs.Sales.{less}
 
 -- no cut changes no tally
 pub tally-same : (f : Prices) (t : model.Trade) (y : reduction.Tally) {c : ℕ} → c ≡ 0 → y ≡ tallied f c t y

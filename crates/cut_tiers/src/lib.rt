@@ -12,7 +12,7 @@ ghost use lib.Seq.{sets};
 ghost use Rattle.rules.specs.Areas.{tariff};
 ghost use Rattle.rules.specs.Book as model;
 ghost use Rattle.rules.specs.Reduction.{tallied};
-ghost use Rattle.sales.specs.Parts.{part};
+ghost use Rattle.laws_sales.specs.Parts.{part};
 ghost use Rattle.units.specs.Prices.{asPrices, InRange};
 ghost use Rattle.cut_worth.specs.Rates.{Sales};
 ghost use Rattle.cut_worth.specs.Tallies.{asTally};

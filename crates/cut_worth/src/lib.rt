@@ -11,7 +11,7 @@ ghost use Rattle.rules.specs.Reduction.{nothing, tallied};
 ghost use Rattle.cut_worth.specs.Rates.{lotsIn, Sales, Rates};
 ghost use Rattle.cut_worth.specs.Tallies.{asTally};
 ghost use Rattle.cut_worth.specs.Totals.{totals, Within};
-ghost use Rattle.sales.specs.Parts.{part};
+ghost use Rattle.laws_sales.specs.Parts.{part};
 use units::Cents;
 use units::Mwh;
 use units::Price;

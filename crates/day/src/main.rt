@@ -3,5 +3,5 @@
 fn main() {
     let mut book = [0u8; 8737];
     let n = io::read_full(libc::STDIN_FILENO, &mut book);
-    print::day(&mut book[..n]);
+    day_print::day(&mut book[..n]);
 }

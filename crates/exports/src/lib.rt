@@ -5,12 +5,12 @@ ghost use Rattle.rules.specs.Calls.{only, morningCall, afternoonCall};
 ghost use Rattle.rules.specs.Queries.{morningLevelOf, afternoonLevelOf};
 ghost use Rattle.requests.specs.Request.{requestOf, settingOf};
 ghost use Rattle.requests.specs.Carried.{Carried};
-ghost use Rattle.posting.specs.Posting.{postingOf};
-ghost use Rattle.warning.specs.Warned.{warningOf};
+ghost use Rattle.call_posting.specs.Posting.{postingOf};
+ghost use Rattle.call_warning.specs.Warned.{warningOf};
 ghost use Rattle.call_reduction.specs.Call.{reductionOf};
 ghost use Rattle.call_run.specs.Call.{runCall};
-ghost use Rattle.shown.specs.Shown.{picked};
-ghost use Rattle.storing.specs.Numbers.{levelNumbers, warningNumbers, callNumbers, reductionNumbers, runNumbers};
+ghost use Rattle.call_show.specs.Shown.{picked};
+ghost use Rattle.exports_answers.specs.Numbers.{levelNumbers, warningNumbers, callNumbers, reductionNumbers, runNumbers};
 ghost use Rattle.exports.specs.Answers.{isYes, storeBy, Replied, Answered, Copied, ReadInto, WrittenFrom, ReturnedInto, SpreadInto};
 use shrinkage::Kwh;
 
@@ -58,7 +58,7 @@ pub extern "C" fn daybook_read(book: &[u8], image: &mut [u8]) -> u32
     if image.len() != IMAGE_SIZE {
         return WRONG_LENGTH;
     }
-    image::read(book, image)
+    book_image::read(book, image)
 }
 
 // Writes the book whose fields an image of 8,736 bytes has.
@@ -69,7 +69,7 @@ pub extern "C" fn daybook_write(image: &[u8], out: &mut [u8]) -> u32
     if image.len() != IMAGE_SIZE {
         return WRONG_LENGTH;
     }
-    from_image::write(image, out)
+    book_image::write(image, out)
 }
 
 // Copies the 56 bytes of a user's record.
@@ -88,7 +88,7 @@ pub extern "C" fn daybook_show(
     }
     let mut number = 0;
     let part = daybook::show(book, with_store != 0, store, id, &mut number);
-    image::fill(record, part);
+    book_image::fill(record, part);
     number
 }
 
@@ -118,7 +118,7 @@ pub extern "C" fn daybook_show_picked<'a>(
         id,
         &mut number,
     );
-    image::fill(record, part);
+    book_image::fill(record, part);
     number
 }
 
@@ -152,7 +152,7 @@ pub extern "C" fn daybook_morning_level(
         return WRONG_LENGTH;
     }
     let reply = daybook::morning_level(book, with_store != 0, store, id);
-    storing::store_level(answer, reply)
+    exports_answers::store_level(answer, reply)
 }
 
 // The afternoon level of a user: 1 number.
@@ -170,7 +170,7 @@ pub extern "C" fn daybook_afternoon_level(
         return WRONG_LENGTH;
     }
     let reply = daybook::afternoon_level(book, with_store != 0, store, id);
-    storing::store_level(answer, reply)
+    exports_answers::store_level(answer, reply)
 }
 
 // Raises a user's blocked guarantee to its morning level: 2 numbers, the level and what was added.
@@ -188,7 +188,7 @@ pub extern "C" fn daybook_morning_call(
         return WRONG_LENGTH;
     }
     let call = daybook::morning_call(book, with_store != 0, store, id);
-    storing::store_call(answer, call)
+    exports_answers::store_call(answer, call)
 }
 
 // Raises a user's blocked guarantee to its afternoon level: 2 numbers, the level and what was added.
@@ -206,7 +206,7 @@ pub extern "C" fn daybook_afternoon_call(
         return WRONG_LENGTH;
     }
     let call = daybook::afternoon_call(book, with_store != 0, store, id);
-    storing::store_call(answer, call)
+    exports_answers::store_call(answer, call)
 }
 
 // Whether a user is warned at midday: 1 number, 1 for yes and 0 for no.
@@ -224,7 +224,7 @@ pub extern "C" fn daybook_warning(
         return WRONG_LENGTH;
     }
     let reply = daybook::warning(book, with_store != 0, store, id);
-    storing::store_warning(answer, reply)
+    exports_answers::store_warning(answer, reply)
 }
 
 // Cuts a user's bilateral sales for its target: 5 numbers, the MWh cut, their worth, the target, and what the worth falls short of it or exceeds it by.
@@ -242,7 +242,7 @@ pub extern "C" fn daybook_reduction(
         return WRONG_LENGTH;
     }
     let reduction = daybook::reduction(book, with_store != 0, store, id);
-    storing::store_reduction(answer, reduction)
+    exports_answers::store_reduction(answer, reduction)
 }
 
 // Reduces users until none that is short of cover has an eligible trade: 3 numbers, the reductions, the MWh cut and their worth.
@@ -259,7 +259,7 @@ pub extern "C" fn daybook_run(
         return WRONG_LENGTH;
     }
     let run = daybook::run(book, with_store != 0, store);
-    storing::store_run(answer, run)
+    exports_answers::store_run(answer, run)
 }
 
 // ---- the return of shrinkage, without a book

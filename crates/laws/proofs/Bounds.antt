@@ -9,16 +9,16 @@ use lib.Dec.{T, eqb, leb, leb→le, eqb→eq}
 use lib.IntN.{natAbs, ℤ, _-ℤ_, pos, _+ℤ_, negℤ}
 use lib.ListN.{length}
 use borrow.Author.Needs.{needs}
-use Rattle.integers.proofs.Linear.{abs-parts, negPart-of, posPart-of, negPart-pos, parts-sub, posPart-pos, negPart-neg, parts-add, posPart-neg}
-use Rattle.integers.specs.Parts.{negPart, posPart}
-use Rattle.integers.specs.Sums.{sum}
+use Rattle.base.proofs.Linear.{abs-parts, negPart-of, posPart-of, negPart-pos, parts-sub, posPart-pos, negPart-neg, parts-add, posPart-neg}
+use Rattle.base.specs.Parts.{negPart, posPart}
+use Rattle.base.specs.Sums.{sum}
 use Rattle.laws.proofs.Positions.{parts-defined, position-is}
 use Rattle.laws.specs.Sound.{Sound}
-use Rattle.laws.proofs.Tests.{and-l, and-r, by-test}
+use Rattle.base.proofs.Tests.{and-l, and-r, by-test}
 use Rattle.rules.specs.Areas.{referencePrice, areas}
 use Rattle.rules.specs.Book.{Book, Trade, User, Terms, dealt, at, bought, definedPosition, sold}
 use Rattle.rules.specs.Levels.{afternoonNeed, exposure, holding, stock, Limits, afternoonLevel, afternoonSum, floored, morningLevel, morningNeed, morningSum}
-use Rattle.rules.specs.Lists.{all}
+use Rattle.base.specs.Lists.{all}
 use Rattle.rules.specs.Questions.{amountsValid, countsValid, tradeValid, entriesValid, userValid, headerValid, positionsValid, pricesValid, tariffValid, tollValid}
 use Rattle.rules.specs.Signed.{within}
 

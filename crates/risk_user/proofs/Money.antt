@@ -6,12 +6,12 @@ use native.Mathlib.Omega.{arith}
 use lib.ListN.{take, drop, getD}
 use Rattle.fields.proofs.Field.{field-part}
 use Rattle.fields.specs.Field.{field}
-use Rattle.format.specs.Book.{userCount, usersOf}
-use Rattle.held.proofs.Parts.{record-at}
-use Rattle.records.specs.User.{userOf}
+use Rattle.book_format.specs.Book.{userCount, usersOf}
+use Rattle.book_format.proofs.Parts.{record-at}
+use Rattle.book_records.specs.User.{userOf}
 use Rattle.rules.specs.Book.{User, nobody}
 use Rattle.rules.specs.Signed.{signedOf}
-use Rattle.risk_user.specs.Account.{UserIn}
+use Rattle.risk_user.specs.UserAt.{UserIn}
 
 module _ {s : List ℕ} {place : ℕ} (p : UserIn s place) where
   abbrev bytes : List ℕ

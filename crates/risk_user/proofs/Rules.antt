@@ -6,14 +6,14 @@ use Prim.Native.Nat.{ℕ, _+_, _*_, _<_}
 use native.Mathlib.Omega.{arith}
 use lib.Dec.{leb, ltb}
 use lib.ListN.{length, getD}
-use Rattle.dealings.specs.Parties.{cutBefore, isCut}
-use Rattle.positions.specs.Twelve.{TwelveOf}
+use Rattle.risk_holdings.specs.Parties.{cutBefore, isCut}
+use Rattle.book_sums.specs.Twelve.{TwelveOf}
 use Rattle.rules.specs.Book.{Book, User, nobody}
 use Rattle.rules.specs.Day.{call, callDue, clear, quiet, short, state}
 use Rattle.rules.specs.Levels.{Limits, afternoonLevel, buys, calledIn, exceedsMargin, exposure, flagged, holding, partyTo, sells, shipper, shortOfCover}
-use Rattle.sales.proofs.Cover.{flagged-next, level-next}
-use Rattle.sales.specs.Cover.{AllNext, flaggedFrom, levelFrom}
-use Rattle.risk_user.specs.Account.{PositionsOf, flaggedAt, heldAt, levelAt}
+use Rattle.laws_sales.proofs.Cover.{flagged-next, level-next}
+use Rattle.laws_sales.specs.Cover.{AllNext, flaggedFrom, levelFrom}
+use Rattle.risk_user.specs.UserAt.{PositionsOf, flaggedAt, heldAt, levelAt}
 use Rattle.risk_user.specs.States.{stateBy}
 
 module _ (b : Book) {sums ps : List ℕ} (w : TwelveOf (b .users) (b .trades) sums) (p : PositionsOf (b .users) ps) (i : ℕ) (k : i < length (b .users)) where

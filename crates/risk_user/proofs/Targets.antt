@@ -8,14 +8,14 @@ use lib.Dec.{T, eqb, ltb}
 use lib.IntN.{ℤ, pos, _+ℤ_, +ℤ-assoc}
 use lib.ListN.{getD}
 use borrow.Author.Tests.{eq-eqb, ne-eqb, lt-ltb, le-ltb}
-use Rattle.holdings.proofs.Needs.{afternoon-need-of}
-use Rattle.integers.specs.Parts.{posPart}
-use Rattle.integers.specs.Sums.{sum}
+use Rattle.risk_holdings.proofs.Needs.{afternoon-need-of}
+use Rattle.base.specs.Parts.{posPart}
+use Rattle.base.specs.Sums.{sum}
 use Rattle.rules.specs.Areas.{Prices, areas, referencePrice}
 use Rattle.rules.specs.Book.{User, nobody}
 use Rattle.rules.specs.Levels.{Limits, afternoonNeed, afternoonSum, exceedsMargin, exposure, floored, shipper, stock}
-use Rattle.risk_user.specs.Account.{heldAt, levelAt, positionIn, targetAt, targetOf}
-use Rattle.sales.specs.Cover.{flaggedFrom, levelFrom, shortFrom}
+use Rattle.risk_user.specs.UserAt.{heldAt, levelAt, positionIn, targetAt, targetOf}
+use Rattle.laws_sales.specs.Cover.{flaggedFrom, levelFrom, shortFrom}
 use Rattle.units.specs.Amounts.{balance}
 use Rattle.units.specs.declared.Balance.{Balance}
 

@@ -1,71 +1,35 @@
--- What is read of the user at a place: the money of its record, what it sold and bought for d+1 from twelve sums for each place, and the position from three for each place. The
--- level, the flag and the target of these. Assumes nothing.
-use mathlib.Core.Bool.{Bool, true, cond, _&&_}
-use mathlib.Core.List.{List, []}
+-- What the account of a user holds, and the range in which the user's risk is told. Assumes nothing.
 use mathlib.Core.Path.{_≡_}
-use Prim.Native.Nat.{ℕ, _+_, _*_, _-_, _≤_, _<_}
-use lib.Dec.{ltb}
-use lib.IntN.{ℤ, pos}
-use lib.ListN.{length, getD}
-use Rattle.format.specs.Book.{userCount, usersOf}
-use Rattle.format.specs.Questions.{Formed}
-use Rattle.rules.specs.Areas.{Prices}
-use Rattle.rules.specs.Book.{at, User, nobody}
-use Rattle.rules.specs.Levels.{Limits, Holding, exceedsMargin}
-use Rattle.sales.specs.Cover.{levelFrom, flaggedFrom, shortFrom}
-use Rattle.units.specs.Amounts.{net}
-use Rattle.units.specs.Prices.{InRange}
-use Rattle.units.specs.Limits.{LimitsInRange}
+use mathlib.Core.List.{List}
+use Prim.Native.Nat.{ℕ, _+_, _≤_, _^_}
+use lib.ListN.{getD}
+use Rattle.rules.specs.Book.{nobody}
+use Rattle.units.specs.Prices.{asPrices, InRange}
+use Rattle.book_records.specs.User.{asUser}
+use Rattle.book_format.specs.Book.{usersOf, bookOf}
+use Rattle.risk_holdings.specs.declared.Amounts.{Amounts}
+use Rattle.risk_holdings.specs.Dealt.{Dealt, AllWithin}
+use Rattle.risk_user.specs.declared.Account.{Account}
 
--- ---- what can be asked
+-- the prices, the user's blocked guarantee and its dealings are in the range in which its risk is told
+pub record Ready (a : Account) : Type 0 where
+  pub prices : InRange (asPrices (a .prices))
+  pub blocked : a .user .blocked .0 ≤ 1000000000000
+  pub dealings : AllWithin (2 ^ 40) (a .dealings)
 
--- bytes hold a book with a user at a place
-pub record UserIn (s : List ℕ) (place : ℕ) : Type 0 where
-  pub form : Formed s
-  pub inside : place < userCount s
+-- the prices are those of the book that the bytes hold, and the dealings those of the user in its trades
+pub record AccountIn (s : List ℕ) (a : Account) : Type 0 where
+  pub prices : bookOf s .header .prices ≡ asPrices (a .prices)
+  pub dealings : Dealt 256 (a .user .id) (bookOf s .trades) (a .dealings)
 
--- limits and prices in range, and users whose blocked guarantee is
-pub record DayOf (limits : Limits) (f : Prices) (s : List ℕ) : Type 0 where
-  pub limits-in : LimitsInRange limits
-  pub prices-in : InRange f
-  pub blocked-most : (i : ℕ) → getD (usersOf s) i nobody .blocked ≤ 1000000000000
+-- the account of the user at a place
+pub record AccountAt (s : List ℕ) (place : ℕ) (a : Account) : Type 0 where
+  pub user : asUser (a .user) ≡ getD (usersOf s) place nobody
+  pub held : AccountIn s a
+  pub ready : Ready a
 
--- the position that a number stands for: the number less 2^31
-abbrev pub positionIn : List ℕ → ℕ → ℕ → ℤ
-positionIn ps i area = net (record { 0 = getD ps (3 * i + area) 0 })
-
--- three positions for each place
-pub record PositionsOf (us : List User) (ps : List ℕ) : Type 0 where
-  pub each : (i area : ℕ) → i < length us → area < 3 → positionIn ps i area ≡ at (getD us i nobody .position) area
-
--- ---- what is read
-
--- what the user at a place holds in an area, as the afternoon reads it; the physical entry and what was sold and bought for d are left out
-unfoldable pub heldAt : List ℕ → List ℕ → ℕ → ℕ → Holding
-heldAt sums ps i area =
-    record {
-      physical = pos 0;
-      position = positionIn ps i area;
-      sold = 0;
-      bought = 0;
-      soldNext = getD sums (12 * i + 3 + area) 0;
-      boughtNext = getD sums (12 * i + 9 + area) 0;
-    }
-
--- T where a shipper of this level, being called in, is short of cover; else 0
-unfoldable pub targetOf : Limits → User → ℕ → ℕ
-targetOf limits u level = cond (exceedsMargin limits level u && ltb (u .party .assigned) level) (level - u .party .assigned) 0
-
-module _ (limits : Limits) (f : Prices) (us : List User) where
-  -- flagged, with the blocked guarantee of the users
-  unfoldable pub flaggedAt : List ℕ → ℕ → Bool
-  flaggedAt ps i = flaggedFrom limits f (getD us i nobody) (heldAt [] ps i)
-
-  module _ (sums ps : List ℕ) (i : ℕ) where
-    -- the afternoon level, with the money of the users
-    unfoldable pub levelAt : ℕ
-    levelAt = levelFrom limits f (getD us i nobody) (heldAt sums ps i)
-
-    -- T where the user, being called in, is short of cover; else 0
-    unfoldable pub targetAt : ℕ
-    targetAt = cond (shortFrom limits f (getD us i nobody) (heldAt sums ps i) true) (levelAt - getD us i nobody .party .assigned) 0
+-- the energies are three sums, from a place on
+pub record AmountsFrom (sums : List ℕ) (k : ℕ) (v : Amounts) : Type 0 where
+  pub pvb : v .pvb .0 ≡ getD sums k 0
+  pub tvb : v .tvb .0 ≡ getD sums (k + 1) 0
+  pub avb : v .avb .0 ≡ getD sums (k + 2) 0

@@ -1,3 +1,5 @@
--- What is read of the user at a place, and its state.
+-- The account of a user.
 pub mod Account
+-- What is read of the user at a place, and its state.
+pub mod UserAt
 pub mod States

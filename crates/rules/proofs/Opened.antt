@@ -1,11 +1,11 @@
 -- `unfolding opened` opens every rule at once, for a figure that is computed. Assumes nothing.
 use Prim.Native.Nat.{ℕ}
-use Rattle.integers.specs.Parts.{posPart, negPart}
-use Rattle.integers.specs.Sums.{sum, sumℤ}
+use Rattle.base.specs.Parts.{posPart, negPart}
+use Rattle.base.specs.Sums.{sum, sumℤ}
 use Rattle.rules.specs.Areas.{areas, tariff, referencePrice}
 use Rattle.rules.specs.Signed.{signedOf, bitsOf, within}
 use Rattle.rules.specs.Calendar.{leapYear, daysInMonth, yearOf, monthOf, dayOf, realDay}
-use Rattle.rules.specs.Lists.{all, any}
+use Rattle.base.specs.Lists.{all, any}
 use Rattle.rules.specs.Book.{at, bilateralForDay, dealt, sold, bought, definedPosition, nobody, find}
 use Rattle.rules.specs.Questions.{refusal, numberOf, decided, versionValid, countsValid, tariffValid, tollValid, pricesValid, headerValid, idsRise, entriesValid, guaranteesValid, userValid, usersValid, known, partiesValid, codesValid, amountsValid, tradeValid, eqbℤ, positionValid, positionsValid, aboutBook, isNone, accepted}
 use Rattle.rules.specs.Changes.{change, withUsers, add, posted, blockedTo, moved}

@@ -3,10 +3,10 @@ use mathlib.Core.Bool.{Bool, cond, _&&_, _||_}
 use Prim.Native.Nat.{ℕ, _+_, _*_, max, min}
 use lib.Dec.{ltb, leb, eqb}
 use lib.IntN.{ℤ, pos, negℤ, _+ℤ_, _-ℤ_}
-use Rattle.integers.specs.Parts.{posPart, negPart}
-use Rattle.integers.specs.Sums.{sum}
+use Rattle.base.specs.Parts.{posPart, negPart}
+use Rattle.base.specs.Sums.{sum}
 use Rattle.rules.specs.Areas.{Prices, areas, referencePrice}
-use Rattle.rules.specs.Lists.{any}
+use Rattle.base.specs.Lists.{any}
 use Rattle.rules.specs.Book.{at, User, Trade, Book, sold, bought, find}
 
 -- The three figures that the rules take as given: MWh of a flag, cents of a call, cents of the least level.

@@ -5,12 +5,12 @@ use mathlib.Core.Path.{_≡_, refl}
 use Prim.Native.Nat.{ℕ}
 use native.Mathlib.Omega.{arith}
 use lib.ListN.{length, take}
-use Rattle.columns.specs.Columns.{tradesIn, usersIn}
-use Rattle.format.specs.Book.{bookOf, tradeCount, tradesAt, tradesOf, userAt, userCount, usersOf}
+use Rattle.cut_lists.specs.Columns.{tradesIn, usersIn}
+use Rattle.book_format.specs.Book.{bookOf, tradeCount, tradesAt, tradesOf, userAt, userCount, usersOf}
 use Rattle.rules.specs.Areas.{Prices}
 use Rattle.rules.specs.Levels.{Limits}
 use Rattle.run_state.proofs.Grouped.{going-first}
-use Rattle.risk_user.specs.Account.{PositionsOf}
+use Rattle.risk_user.specs.UserAt.{PositionsOf}
 use Rattle.run_state.specs.Going.{Going, OwedOf}
 use Rattle.run_targets.specs.Asking.{CutFlags, Opening}
 use Rattle.run_reduction.specs.Books.{Listed, Runnable}

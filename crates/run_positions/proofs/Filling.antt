@@ -10,17 +10,17 @@ use lib.Seq.{getD-set-same, getD-set-other}
 use borrow.Author.Tests.{lt-ltb, le-ltb}
 use Rattle.fields.proofs.Field.{field-part}
 use Rattle.fields.specs.Field.{field}
-use Rattle.format.proofs.Passed.{length-usersOf}
-use Rattle.format.specs.Book.{userCount, usersOf}
-use Rattle.held.proofs.Positions.{position-bytes}
-use Rattle.held.proofs.Parts.{record-at}
-use Rattle.integers.proofs.Linear.{by-order}
-use Rattle.integers.specs.Parts.{negPart}
-use Rattle.records.specs.User.{userOf}
+use Rattle.book_format.proofs.Passed.{length-usersOf}
+use Rattle.book_format.specs.Book.{userCount, usersOf}
+use Rattle.book_format.proofs.Positions.{position-bytes}
+use Rattle.book_format.proofs.Parts.{record-at}
+use Rattle.base.proofs.Linear.{by-order}
+use Rattle.base.specs.Parts.{negPart}
+use Rattle.book_records.specs.User.{userOf}
 use Rattle.rules.specs.Book.{at, User, nobody}
 use Rattle.rules.specs.Signed.{signedOf}
 use Rattle.run_positions.specs.Moving.{ShortIn}
-use Rattle.risk_user.specs.Account.{PositionsOf, positionIn}
+use Rattle.risk_user.specs.UserAt.{PositionsOf, positionIn}
 use Rattle.units.proofs.Amounts.{negPart-net}
 use Rattle.units.specs.Amounts.{net}
 

@@ -4,12 +4,12 @@ ghost use mathlib.Core.Path.{_≡_};
 ghost use Prim.Native.Nat.{_+_, _*_, _-_, _≤_, _<_, _^_};
 ghost use lib.Dec.{ltb};
 ghost use lib.ListN.{getD, length};
-ghost use Rattle.format.specs.Book.{userCount, usersOf};
-ghost use Rattle.format.specs.Questions.{Formed};
-ghost use Rattle.integers.specs.Parts.{negPart};
+ghost use Rattle.book_format.specs.Book.{userCount, usersOf};
+ghost use Rattle.book_format.specs.Questions.{Formed};
+ghost use Rattle.base.specs.Parts.{negPart};
 ghost use Rattle.rules.specs.Book.{at, nobody};
 ghost use Rattle.run_state.specs.Asked.{movedOne};
-ghost use Rattle.risk_user.specs.Account.{PositionsOf};
+ghost use Rattle.risk_user.specs.UserAt.{PositionsOf};
 ghost use Rattle.units.specs.Amounts.{net};
 ghost use Rattle.run_positions.specs.Moving.{ShortIn};
 

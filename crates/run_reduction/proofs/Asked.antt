@@ -3,12 +3,12 @@ use mathlib.Core.List.{List}
 use mathlib.Core.Path.{_≡_, refl, sym, _∙_}
 use Prim.Native.Nat.{ℕ}
 use Rattle.fields.specs.Field.{AllBytes}
-use Rattle.format.proofs.Passed.{passed}
-use Rattle.format.specs.Book.{bookOf, pricesAt, tradeCount, tradesOf, usersOf}
-use Rattle.format.specs.Questions.{bookNumber}
-use Rattle.held.proofs.Held.{held-accepted}
-use Rattle.questions.proofs.Asked.{parties-found}
-use Rattle.questions.specs.Asked.{AskedOf, PartiesFound, Summed}
+use Rattle.book_format.proofs.Passed.{passed}
+use Rattle.book_format.specs.Book.{bookOf, pricesAt, tradeCount, tradesOf, usersOf}
+use Rattle.book_format.specs.Questions.{bookNumber}
+use Rattle.book_format.proofs.Held.{held-accepted}
+use Rattle.book_questions.proofs.Asked.{parties-found}
+use Rattle.book_questions.specs.Asked.{AskedOf, PartiesFound, Summed}
 use Rattle.rules.specs.Areas.{Prices}
 use Rattle.rules.specs.Levels.{Limits}
 use Rattle.units.specs.Limits.{LimitsInRange}

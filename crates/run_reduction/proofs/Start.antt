@@ -4,14 +4,14 @@ use mathlib.Core.Path.{_≡_, _∙_}
 use Prim.Native.Nat.{ℕ}
 use lib.ListN.{length, take}
 use Rattle.cut_lists.specs.Sales.{BookIn}
-use Rattle.format.specs.Book.{bookOf, tradeCount, userCount, usersOf}
+use Rattle.book_format.specs.Book.{bookOf, tradeCount, userCount, usersOf}
 use Rattle.laws.proofs.Trades.{lowered-refl}
 use Rattle.rules.specs.Areas.{Prices}
 use Rattle.rules.specs.Book.{Book}
 use Rattle.rules.specs.Levels.{Limits}
 use Rattle.run_state.proofs.Stays.{with-same}
 use Rattle.run_state.proofs.Grouped.{sales-listed, standing-listed}
-use Rattle.risk_user.specs.Account.{PositionsOf}
+use Rattle.risk_user.specs.UserAt.{PositionsOf}
 use Rattle.run_state.specs.Going.{SalesIn, StandingIn}
 use Rattle.run_reduction.specs.Reductions.{Reached, RunOf}
 use Rattle.run_reduction.specs.Books.{Listed, Runnable}

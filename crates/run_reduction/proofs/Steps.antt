@@ -8,19 +8,19 @@ use native.Mathlib.Omega.{arith}
 use lib.Dec.{T, leb→le, ltb}
 use lib.ListN.{length, getD, length-map, List·getD-eq-default}
 use lib.Seq.{length-sets, sets}
-use Rattle.arrays.proofs.Fronts.{all-at}
+use Rattle.base.proofs.Fronts.{all-at}
 use Rattle.cut_tiers.proofs.After.{cuts-of-sales}
 use Rattle.cut_tiers.specs.Tiers.{cutsOf}
 use Rattle.cut_worth.specs.Rates.{Sales}
 use Rattle.fields.proofs.Sets.{getD-apart}
-use Rattle.format.proofs.Passed.{length-usersOf}
-use Rattle.format.specs.Book.{bookOf, userCount, usersOf}
-use Rattle.format.specs.Steps.{placeOf}
-use Rattle.integers.proofs.Linear.{by-order}
-use Rattle.integers.specs.Parts.{negPart, posPart}
+use Rattle.book_format.proofs.Passed.{length-usersOf}
+use Rattle.book_format.specs.Book.{bookOf, userCount, usersOf}
+use Rattle.book_format.specs.Steps.{placeOf}
+use Rattle.base.proofs.Linear.{by-order}
+use Rattle.base.specs.Parts.{negPart, posPart}
 use Rattle.laws.proofs.Bounds.{prices-le, tariffs-pos}
 use Rattle.laws.specs.Sound.{Sound}
-use Rattle.laws.proofs.Tests.{and-l, and-r}
+use Rattle.base.proofs.Tests.{and-l, and-r}
 use Rattle.rules.specs.Areas.{Prices}
 use Rattle.rules.specs.Book.{at, Book, Header, Trade, User, nobody}
 use Rattle.rules.specs.Levels.{Limits}
@@ -28,18 +28,18 @@ use Rattle.rules.specs.Questions.{guaranteesValid, userValid}
 use Rattle.run_state.proofs.Own.{own-areas, own-buyers}
 use Rattle.run_state.proofs.Reduced.{place-inside}
 use Rattle.run_state.proofs.Stays.{Stays, stays, users-many}
-use Rattle.risk_user.specs.Account.{positionIn, DayOf}
+use Rattle.risk_user.specs.UserAt.{positionIn, DayOf}
 use Rattle.run_reduction.specs.Reductions.{Reached, Reducible, RunOf, shortIn}
-use Rattle.sales.proofs.FirstCuts.{first-bound, first-none, own-cut-le, own-cuts-length}
-use Rattle.sales.proofs.Listed.{starts-rise}
-use Rattle.sales.proofs.Numbers.{less-length, read-at}
-use Rattle.sales.proofs.Own.{own-sales}
-use Rattle.sales.proofs.Parts.{Around, around-sets, part-here, part-length, part-most, part-stored}
-use Rattle.sales.proofs.Valid.{Sale, sale-at}
-use Rattle.sales.specs.Groups.{starts}
-use Rattle.sales.specs.Parts.{part}
-use Rattle.sales.specs.Reduced.{ownCuts, ownSales}
-use Rattle.sales.specs.Sales.{less, shortAt}
+use Rattle.laws_sales.proofs.FirstCuts.{first-bound, first-none, own-cut-le, own-cuts-length}
+use Rattle.laws_sales.proofs.Listed.{starts-rise}
+use Rattle.laws_sales.proofs.Numbers.{less-length, read-at}
+use Rattle.laws_sales.proofs.Own.{own-sales}
+use Rattle.laws_sales.proofs.Parts.{Around, around-sets, part-here, part-length, part-most, part-stored}
+use Rattle.laws_sales.proofs.Valid.{Sale, sale-at}
+use Rattle.laws_sales.specs.Groups.{starts}
+use Rattle.laws_sales.specs.Parts.{part}
+use Rattle.laws_sales.specs.Reduced.{ownCuts, ownSales}
+use Rattle.laws_sales.specs.Sales.{less, shortAt}
 use Rattle.units.proofs.Amounts.{parts-net}
 use Rattle.units.specs.Prices.{InRange}
 use Rattle.units.specs.Limits.{LimitsInRange}

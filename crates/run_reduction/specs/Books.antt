@@ -3,8 +3,8 @@ use mathlib.Core.List.{List}
 use mathlib.Core.Path.{_≡_}
 use Prim.Native.Nat.{ℕ}
 use Rattle.cut_lists.specs.Sales.{BookIn, SalesOf, SalesRoom, StandingOf}
-use Rattle.format.specs.Book.{bookOf, tradeCount, tradesOf, userCount, usersOf}
-use Rattle.positions.specs.Twelve.{Low, TwelveOf}
+use Rattle.book_format.specs.Book.{bookOf, tradeCount, tradesOf, userCount, usersOf}
+use Rattle.book_sums.specs.Twelve.{Low, TwelveOf}
 use Rattle.rules.specs.Areas.{Prices}
 use Rattle.rules.specs.Book.{Book}
 use Rattle.rules.specs.Levels.{Limits}

@@ -14,8 +14,8 @@ ghost use Rattle.rules.specs.Book.{Trade};
 ghost use Rattle.rules.specs.Reduction.{nothing, tallied, tallyAll};
 ghost use Rattle.run_positions.specs.Moving.{Movable};
 ghost use Rattle.run_state.specs.Asked.{movedAll, movedOne};
-ghost use Rattle.sales.specs.Parts.{part};
-ghost use Rattle.sales.specs.Sales.{less};
+ghost use Rattle.laws_sales.specs.Parts.{part};
+ghost use Rattle.laws_sales.specs.Sales.{less};
 ghost use Rattle.units.specs.Prices.{asPrices, InRange};
 ghost use Rattle.run_reduction.specs.Reductions.{Reducible, shortIn};
 

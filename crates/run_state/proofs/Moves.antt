@@ -10,26 +10,26 @@ use lib.IntN.{ℤ, pos, negℤ, _+ℤ_, +ℤ-idr}
 use lib.ListN.{length, take, getD, set, length-map, length-set}
 use lib.Seq.{getD-set-same, getD-set-other, set-out, take-all}
 use borrow.Author.Tests.{eqb-true, eqb-false}
-use Rattle.format.specs.Steps.{placeOf}
-use Rattle.integers.proofs.Linear.{by-order, negPart-neg, negPart-pos, parts-add, posPart-neg, posPart-pos}
-use Rattle.integers.specs.Parts.{negPart}
+use Rattle.base.proofs.Tests.{by-case}
+use Rattle.book_format.specs.Steps.{placeOf}
+use Rattle.base.proofs.Linear.{by-order, negPart-neg, negPart-pos, parts-add, posPart-neg, posPart-pos}
+use Rattle.base.specs.Parts.{negPart}
 use Rattle.laws.proofs.Areas.{at-add}
 use Rattle.laws.specs.Sound.{Sound}
 use Rattle.rules.specs.Book.{at, Book, Trade, User, nobody}
 use Rattle.rules.specs.Calls.{reducedBy}
 use Rattle.rules.specs.Changes.{moved}
-use Rattle.sales.proofs.Stores.{set-each}
+use Rattle.base.proofs.Stores.{set-each}
 use Rattle.run_state.proofs.Reduced.{place-id, place-inside}
 use Rattle.run_state.specs.Asked.{movedOne, movedAll}
-use Rattle.risk_user.specs.Account.{positionIn, PositionsOf}
-use Rattle.sales.proofs.FirstCuts.{first-all, first-bound, first-length, first-next, first-none, own-cut-le, own-cuts-length}
-use Rattle.sales.proofs.Kept.{by-case}
-use Rattle.sales.proofs.Numbers.{read-at}
-use Rattle.sales.proofs.Own.{own-sales}
-use Rattle.sales.proofs.Reduced.{sales-reduced}
-use Rattle.sales.proofs.Valid.{sale-at}
-use Rattle.sales.specs.Reduced.{ownSales, ownCuts, settledFirst}
-use Rattle.sales.specs.Sales.{ownSale, settledAt}
+use Rattle.risk_user.specs.UserAt.{positionIn, PositionsOf}
+use Rattle.laws_sales.proofs.FirstCuts.{first-all, first-bound, first-length, first-next, first-none, own-cut-le, own-cuts-length}
+use Rattle.laws_sales.proofs.Numbers.{read-at}
+use Rattle.laws_sales.proofs.Own.{own-sales}
+use Rattle.laws_sales.proofs.Reduced.{sales-reduced}
+use Rattle.laws_sales.proofs.Valid.{sale-at}
+use Rattle.laws_sales.specs.Reduced.{ownSales, ownCuts, settledFirst}
+use Rattle.laws_sales.specs.Sales.{ownSale, settledAt}
 use Rattle.units.proofs.Amounts.{net-eq, parts-net}
 use Rattle.units.specs.Amounts.{net}
 

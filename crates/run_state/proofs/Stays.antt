@@ -17,12 +17,12 @@ use Rattle.rules.specs.Book.{Book, Header, Party, User, nobody, sold, bought}
 use Rattle.rules.specs.Levels.{Limits, Holding, exposure, holding, leastReferencePrice, shipper, exceedsMargin}
 use Rattle.rules.specs.Reduction.{withTrades}
 use Rattle.run_state.specs.Asked.{memberAt}
-use Rattle.positions.specs.Twelve.{TwelveOf}
-use Rattle.risk_user.specs.Account.{PositionsOf, flaggedAt, heldAt, levelAt, targetAt}
+use Rattle.book_sums.specs.Twelve.{TwelveOf}
+use Rattle.risk_user.specs.UserAt.{PositionsOf, flaggedAt, heldAt, levelAt, targetAt}
 use Rattle.run_state.specs.Going.{owedCalled}
-use Rattle.sales.proofs.Cover.{sold-next, bought-next, exposure-next, level-next, short-next, target-from}
-use Rattle.sales.proofs.Settled.{settle-none}
-use Rattle.sales.specs.Cover.{AllNext, levelFrom, flaggedFrom, shortFrom}
+use Rattle.laws_sales.proofs.Cover.{sold-next, bought-next, exposure-next, level-next, short-next, target-from}
+use Rattle.laws_sales.proofs.Settled.{settle-none}
+use Rattle.laws_sales.specs.Cover.{AllNext, levelFrom, flaggedFrom, shortFrom}
 
 -- ---- of a user, levels and cover read the money
 

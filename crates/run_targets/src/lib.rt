@@ -5,16 +5,16 @@ ghost use mathlib.Core.Path.{_≡_};
 ghost use Prim.Native.Nat.{_+_, _*_, _≤_, _<_, min};
 ghost use lib.Dec.{eqb, ltb};
 ghost use lib.ListN.{getD, length, replicate, set};
-ghost use Rattle.columns.specs.Columns.{Trading, idAt, tradeIn, tradesIn, usersIn};
-ghost use Rattle.dealings.specs.Parties.{cutBefore};
-ghost use Rattle.format.specs.Book.{bookOf, usersOf};
-ghost use Rattle.rules.specs.Lists.{any};
-ghost use Rattle.places.specs.Ids.{Placed};
+ghost use Rattle.cut_lists.specs.Columns.{Trading, idAt, tradeIn, tradesIn, usersIn};
+ghost use Rattle.risk_holdings.specs.Parties.{cutBefore};
+ghost use Rattle.book_format.specs.Book.{bookOf, usersOf};
+ghost use Rattle.base.specs.Lists.{any};
+ghost use Rattle.book_parties.specs.Ids.{Placed};
 ghost use Rattle.run_state.specs.Asked.{LookedAgain};
-ghost use Rattle.positions.specs.Twelve.{Low};
-ghost use Rattle.risk_user.specs.Account.{flaggedAt, targetAt, DayOf, UserIn};
+ghost use Rattle.book_sums.specs.Twelve.{Low};
+ghost use Rattle.risk_user.specs.UserAt.{flaggedAt, targetAt, DayOf, UserIn};
 ghost use Rattle.run_state.specs.Going.{OwedOf};
-ghost use Rattle.sales.specs.Parts.{part};
+ghost use Rattle.laws_sales.specs.Parts.{part};
 ghost use Rattle.units.specs.Prices.{asPrices};
 ghost use Rattle.units.specs.Limits.{asLimits};
 ghost use Rattle.run_targets.specs.Asking.{BuyersIn, CutFlags, Opening, owedIf};
@@ -58,7 +58,7 @@ pub fn fill_cut(
 {
     let mut i = 0;
     while i < m {
-        let t = columns::trade_in(book, n, i);
+        let t = cut_lists::trade_in(book, n, i);
         let below = t.standing < t.notified;
         let seller = index(sellers[i]);
         cut[seller] = cut[seller] | below;
@@ -77,7 +77,7 @@ fn is_cut(book: &[u8], n: usize, i: usize, seller: u8, buyer: u8, place: usize) 
     if !party {
         return false;
     }
-    let t = columns::trade_in(book, n, i);
+    let t = cut_lists::trade_in(book, n, i);
     t.standing < t.notified
 }
 

@@ -11,12 +11,12 @@ use Rattle.fields.proofs.Records.{every-part-at, getD-recordsOf}
 use Rattle.fields.proofs.Sets.{length-part}
 use Rattle.fields.specs.Field.{AllBytes, toBytes}
 use Rattle.fields.specs.Layout.{pack, recordsOf, size}
-use Rattle.format.proofs.Passed.{Passed, length-tradesOf, length-usersOf}
-use Rattle.format.proofs.Round.{header-back}
-use Rattle.format.specs.Book.{bookOf, headerValues, headerWidths, tradeCount, tradesAt, tradesOf, userAt, userCount, usersOf}
+use Rattle.book_format.proofs.Passed.{Passed, length-tradesOf, length-usersOf}
+use Rattle.book_format.proofs.Round.{header-back}
+use Rattle.book_format.specs.Book.{bookOf, headerValues, headerWidths, tradeCount, tradesAt, tradesOf, userAt, userCount, usersOf}
 use Rattle.laws.specs.Trades.{ended, then, Framed, Pairwise}
-use Rattle.records.proofs.Trades.{trade-bytes-of}
-use Rattle.records.specs.Trade.{tradeBytes, tradeOf, tradeValues, tradeWidths, tradeZeros}
+use Rattle.book_records.proofs.Trades.{trade-bytes-of}
+use Rattle.book_records.specs.Trade.{tradeBytes, tradeOf, tradeValues, tradeWidths, tradeZeros}
 use Rattle.rules.specs.Book.{Book, Terms, Trade, at}
 use Rattle.sequence.specs.Claim.{TradeBytes, tradeBytesAt}
 

@@ -3,7 +3,7 @@
 ghost use mathlib.Core.Path.{_≡_};
 ghost use Prim.Native.Nat.{_*_, _≤_, _<_, _^_};
 ghost use lib.ListN.{length};
-ghost use Rattle.integers.specs.Parts.{posPart, negPart};
+ghost use Rattle.base.specs.Parts.{posPart, negPart};
 ghost use Rattle.shrinkage.specs.Return.{returned, nothing};
 ghost use Rattle.shrinkage.specs.Days.{onDay, overDays};
 ghost use Rattle.shrinkage.specs.Answer.{kwhOf, asReturned, SumsOf, Divisible, SharesOf};

@@ -11,7 +11,7 @@ use lib.Dec.{leb, ltb}
 use lib.ListN.{length, take, drop, drop-of-length-le}
 use lib.Seq.{drop-cons, drop-drop}
 use borrow.Author.Tests.{le-ltb, lt-ltb, le-leb, lt-leb}
-use Rattle.rules.specs.Lists.{all}
+use Rattle.base.specs.Lists.{all}
 use Rattle.fields.proofs.Records.{length-recordsOf, getD-recordsOf}
 use Rattle.store.specs.Store.{ParameterSet, setOf, setsFrom, firstsRise, setValid, setsValid, orElse, begun, inForce}
 

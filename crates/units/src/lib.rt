@@ -4,7 +4,7 @@ ghost use mathlib.Core.Path.{_≡_};
 ghost use mathlib.Core.Bool.{true, cond};
 ghost use Prim.Native.Nat.{_+_, _*_, _≤_, _<_, _^_};
 ghost use lib.IntN.{pos, _+ℤ_, _-ℤ_};
-ghost use Rattle.integers.specs.Parts.{posPart, negPart};
+ghost use Rattle.base.specs.Parts.{posPart, negPart};
 ghost use Rattle.rules.specs.Areas.{tariff, referencePrice};
 ghost use Rattle.rules.specs.Levels.{today};
 ghost use Rattle.rules.specs.Signed.{signedOf, bitsOf, within};

@@ -4,7 +4,7 @@ use native.Mathlib.Omega.{arith}
 use borrow.Author.Needs.{needs}
 use borrow.Author.Tests.{not-false, not-true}
 use denote.Ref.{now}
-use Rattle.format.specs.Book.{userCount}
+use Rattle.book_format.specs.Book.{userCount}
 use Rattle.run_reduction.proofs.Filled.{no-cuts}
 use Rattle.run_reduction.proofs.Start.{run-counted}
 use Rattle.run_reduction.proofs.Steps.{part-few, part-rises, reducible, run-prices, sales-in}

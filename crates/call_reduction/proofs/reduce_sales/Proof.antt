@@ -2,7 +2,7 @@
 use mathlib.Core.Path.{_≡_, refl}
 use borrow.Author.Needs.{needs}
 use denote.Ref.{now}
-use Rattle.format.specs.Book.{tradeCount, userCount}
+use Rattle.book_format.specs.Book.{tradeCount, userCount}
 use Rattle.run_reduction.proofs.Start.{run-counted}
 use Rattle.call_reduction.proofs.Cuts.{all-listed}
 use Rattle.call_reduction.proofs.reduce_sales.Statement.{statement}

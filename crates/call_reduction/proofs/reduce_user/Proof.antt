@@ -5,7 +5,7 @@ use borrow.Author.Needs.{needs}
 use denote.Ref.{now}
 use lib.ListN.{getD}
 use Rattle.cut_lists.proofs.Lists.{accepted-placed, accepted-trading}
-use Rattle.format.specs.Book.{bookOf, tradeCount, userCount, usersOf}
+use Rattle.book_format.specs.Book.{bookOf, tradeCount, userCount, usersOf}
 use Rattle.rules.specs.Book.{nobody}
 use Rattle.rules.specs.Levels.{afternoonLevel, calledIn}
 use Rattle.rules.specs.Questions.{numberOf, refusal}

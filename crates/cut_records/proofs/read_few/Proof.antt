@@ -4,9 +4,9 @@ use Prim.Native.Nat.{_-_}
 use native.Mathlib.Omega.{arith}
 use borrow.Author.Needs.{needs}
 use lib.ListN.{length}
-use Rattle.arrays.proofs.Rewriting.{Rewritten, rewritten-start}
-use Rattle.format.specs.Book.{tradesOf}
-use Rattle.records.specs.Trade.{asTrade}
+use Rattle.base.proofs.Rewriting.{Rewritten, rewritten-start}
+use Rattle.book_format.specs.Book.{tradesOf}
+use Rattle.book_records.specs.Trade.{asTrade}
 use Rattle.cut_records.specs.Places.{atPlaces}
 use Rattle.cut_records.proofs.Places.{place-low, place-of}
 use Rattle.cut_records.proofs.Read.{read-turn, read-end}

@@ -1,6 +1,6 @@
 -- `daybook_morning_call` makes the call of the morning where the lent part has two places, and stores its level and what was added there. Assumes nothing.
 use denote.Ref.{now}
-use Rattle.storing.specs.Numbers.{callNumbers}
+use Rattle.exports_answers.specs.Numbers.{callNumbers}
 use Rattle.exports.specs.Answers.{isYes}
 use Rattle.exports.proofs.Lent.{answered, not-called}
 use borrow.Author.Needs.{needs}

@@ -4,7 +4,7 @@ use native.Mathlib.Omega.{arith}
 use mathlib.Core.Path.{sym}
 use lib.ListN.{length-map, List·getD-map}
 use Rattle.shrinkage.specs.Answer.{kwhOf}
-use Rattle.storing.proofs.Stores.{Stored, stored-none, stored-more, stored-all}
+use Rattle.exports_answers.proofs.Stores.{Stored, stored-none, stored-more, stored-all}
 use Rattle.exports_shrinkage.proofs.store_days.Statement.{statement}
 use Rattle.exports_shrinkage.proofs.store_days.Tie as tie
 

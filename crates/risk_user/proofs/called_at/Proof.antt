@@ -3,10 +3,10 @@ use mathlib.Core.Bool.{Bool, true, false, _||_}
 use mathlib.Core.Path.{_≡_, refl, sym, _∙_}
 use borrow.Author.Needs.{needs}
 use denote.Ref.{now}
-use Rattle.format.specs.Book.{usersOf}
+use Rattle.book_format.specs.Book.{usersOf}
 use Rattle.units.specs.Prices.{asPrices}
 use Rattle.units.specs.Limits.{asLimits}
-use Rattle.risk_user.specs.Account.{flaggedAt}
+use Rattle.risk_user.specs.UserAt.{flaggedAt}
 use Rattle.risk_user.proofs.called_at.Statement.{statement}
 use Rattle.risk_user.proofs.called_at.Tie as tie
 

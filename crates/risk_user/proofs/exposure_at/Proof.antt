@@ -1,8 +1,8 @@
 -- `exposure_at`: the sum over the three areas. Assumes nothing.
-use Rattle.integers.specs.Sums.{sum}
+use Rattle.base.specs.Sums.{sum}
 use Rattle.rules.specs.Areas.{areas}
 use Rattle.rules.specs.Levels.{exposure}
-use Rattle.risk_user.specs.Account.{heldAt}
+use Rattle.risk_user.specs.UserAt.{heldAt}
 use borrow.Author.Needs.{needs}
 use native.Mathlib.Omega.{arith}
 use Rattle.risk_user.proofs.exposure_at.Statement.{statement}

@@ -1,7 +1,7 @@
 -- `flagged_at`: the test of the definition. Assumes nothing.
 use Prim.Native.Nat.{ℕ, _+_, _*_}
-use Rattle.risk_user.specs.Account.{flaggedAt}
-use Rattle.sales.specs.Cover.{flaggedFrom}
+use Rattle.risk_user.specs.UserAt.{flaggedAt}
+use Rattle.laws_sales.specs.Cover.{flaggedFrom}
 use borrow.Author.Needs.{needs}
 use lib.Dec.{ltb}
 use mathlib.Core.Path.{ap, ap₂, _∙_}

@@ -1,5 +1,5 @@
 -- `level_at`: the needs of the three areas and the short positions are the sums of the definition. Assumes nothing.
-use Rattle.format.specs.Book.{usersOf}
+use Rattle.book_format.specs.Book.{usersOf}
 use Rattle.risk_user.proofs.Targets.{level-sum}
 use Rattle.units.specs.Prices.{asPrices}
 use Rattle.units.specs.Limits.{asLimits}

@@ -1,6 +1,6 @@
 -- `short_worth`: how short the position is, at the reference price. Assumes nothing.
 use Prim.Native.Nat.{ℕ, _*_}
-use Rattle.integers.specs.Parts.{negPart}
+use Rattle.base.specs.Parts.{negPart}
 use Rattle.rules.specs.Areas.{referencePrice}
 use Rattle.units.specs.Prices.{asPrices}
 use borrow.Author.Needs.{needs}

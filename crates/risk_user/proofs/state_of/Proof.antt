@@ -3,7 +3,7 @@ use lib.ListN.{getD}
 use borrow.Author.Needs.{needs}
 use borrow.Author.Tests.{not-true, not-false}
 use denote.Ref.{now}
-use Rattle.format.specs.Book.{usersOf}
+use Rattle.book_format.specs.Book.{usersOf}
 use Rattle.rules.specs.Book.{User, nobody}
 use Rattle.rules.specs.Levels.{Limits}
 use Rattle.units.specs.Limits.{asLimits}

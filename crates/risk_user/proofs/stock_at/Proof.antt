@@ -1,5 +1,5 @@
 -- `stock_at`: nothing in PVB, else how long the position is. Assumes nothing.
-use Rattle.integers.specs.Parts.{posPart}
+use Rattle.base.specs.Parts.{posPart}
 use Rattle.risk_user.proofs.Targets.{stock-none, stock-some}
 use borrow.Author.Needs.{needs}
 use mathlib.Core.Path.{ap, _∙_}

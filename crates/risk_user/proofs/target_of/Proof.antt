@@ -2,7 +2,7 @@
 use lib.ListN.{getD}
 use borrow.Author.Needs.{needs}
 use denote.Ref.{now}
-use Rattle.format.specs.Book.{usersOf}
+use Rattle.book_format.specs.Book.{usersOf}
 use Rattle.rules.specs.Book.{nobody}
 use Rattle.units.specs.Limits.{asLimits}
 use Rattle.risk_user.proofs.Targets.{target-covered, target-short, target-within}

@@ -4,7 +4,7 @@ use mathlib.Core.Path.{_≡_, refl}
 use borrow.Author.Needs.{needs}
 use denote.Ref.{now}
 use Rattle.cut_lists.proofs.Lists.{accepted-placed, accepted-trading}
-use Rattle.format.specs.Book.{tradeCount, userCount}
+use Rattle.book_format.specs.Book.{tradeCount, userCount}
 use Rattle.run_reduction.proofs.Steps.{run-day}
 use Rattle.run_book.proofs.Ending.{lost-cuttable, ran-in, ran-left}
 use Rattle.run_book.proofs.Start.{run-going, run-opening}

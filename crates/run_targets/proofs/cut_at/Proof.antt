@@ -4,9 +4,9 @@ use Prim.Native.Nat.{_-_}
 use borrow.Author.Needs.{needs}
 use lib.ListN.{drop}
 use denote.Ref.{now}
-use Rattle.columns.specs.Columns.{idAt, tradesIn, usersIn}
-use Rattle.dealings.specs.Parties.{cutBefore, isCut}
-use Rattle.rules.specs.Lists.{any}
+use Rattle.cut_lists.specs.Columns.{idAt, tradesIn, usersIn}
+use Rattle.risk_holdings.specs.Parties.{cutBefore, isCut}
+use Rattle.base.specs.Lists.{any}
 use Rattle.run_targets.proofs.Cut.{one-found, one-more, one-none}
 use Rattle.run_targets.proofs.cut_at.Statement.{statement}
 use Rattle.run_targets.proofs.cut_at.Tie as tie

@@ -3,8 +3,8 @@ use mathlib.Core.Path.{ap}
 use lib.Dec.{ltb}
 use borrow.Author.Needs.{needs}
 use denote.Ref.{now}
-use Rattle.columns.specs.Columns.{tradeIn}
-use Rattle.records.specs.Trade.{asTrade}
+use Rattle.cut_lists.specs.Columns.{tradeIn}
+use Rattle.book_records.specs.Trade.{asTrade}
 use Rattle.rules.specs.Book.{Trade}
 use Rattle.run_targets.proofs.Cut.{no-party, one-party}
 use Rattle.run_targets.proofs.is_cut.Statement.{statement}
