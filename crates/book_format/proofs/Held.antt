@@ -4,6 +4,7 @@ use mathlib.Core.Path.{_≡_, refl, sym, ap, ap₂, subst, _∙_}
 use Prim.Native.Nat.{ℕ, _+_, _*_, _<_, _≤_}
 use native.Mathlib.Nat.{zero-add}
 use native.Mathlib.Omega.{arith}
+use lib.Dec.{T}
 use lib.ListN.{length, take, drop, getD, set, length-append, length-set}
 use lib.Seq.{sets}
 use Rattle.fields.proofs.Field.{all-bytes-part, field-part}
@@ -18,17 +19,32 @@ use Rattle.book_format.specs.Book.{bookOf, bytesOf, headerValues, header
 use Rattle.book_format.specs.Questions.{Formed, bookNumber}
 use Rattle.book_format.proofs.Fits.{userOf-fits}
 use Rattle.book_format.proofs.Parts.{record-at, records-before, records-part, records-set}
-use Rattle.book_format.specs.Held.{HeldAs, tradesReplaced}
+use Rattle.book_format.specs.Held.{Accepted, HeldAs, tradesReplaced}
 use Rattle.book_records.proofs.Trades.{length-tradeBytes}
 use Rattle.book_records.proofs.Users.{length-userBytes}
 use Rattle.book_records.specs.Trade.{tradeBytes, tradeOf}
 use Rattle.book_records.specs.User.{FitsUser, userBytes, userOf}
 use Rattle.rules.specs.Book.{Book, Header, Trade, User}
 use Rattle.rules.specs.Changes.{withUsers}
+use Rattle.rules.specs.Questions.{idsRise, tradeValid}
+use Rattle.base.specs.Lists.{all}
 
 -- accepted bytes hold their book
 pub held-accepted : (s : List ℕ) → AllBytes s → bookNumber s ≡ 0 → HeldAs (bookOf s) s
 held-accepted s b h = record { book = refl; bytes = sym (bytesOf-bookOf s b (passed s h)); form = passed s h .form }
+
+pub accepted-of : (s : List ℕ) → AllBytes s → bookNumber s ≡ 0 → Accepted s
+accepted-of s b h = record { held = held-accepted s b h; sound = passed s h .sound }
+
+module _ {s : List ℕ} (a : Accepted s) where
+  -- its ids rise, and each trade is valid
+  pub accepted-ids : T (idsRise 0 (usersOf s))
+  unfolding bookOf
+  accepted-ids = a .sound .ids
+
+  pub accepted-trades : T (all (tradeValid (usersOf s)) (tradesOf s))
+  unfolding bookOf
+  accepted-trades = a .sound .trades
 
 -- a book that is held is held as what is read
 pub held-itself : {b : Book} {s : List ℕ} → HeldAs b s → HeldAs (bookOf s) s
@@ -185,8 +201,9 @@ module _ {b : Book} {s : List ℕ} (h : HeldAs b s) where
         (user-bytes i 0 (32 + 56 * i) u u (userBytes u) k (omega arith) (omega (arith, length-userBytes u)) whole) user-users user-trades
 
     -- a part of one user's bytes is set
-    pub held-user-part : (j a : ℕ) (d : User) (vs : List ℕ) → a ≡ 32 + 56 * i + j → j + length vs ≤ 56 → userBytes u ≡ sets (userBytes (getD (b .users) i d)) j vs
+    pub held-user-part : (j a : ℕ) (d : User) (vs : List ℕ) → a ≡ userAt s i + j → j + length vs ≤ 56 → userBytes u ≡ sets (userBytes (getD (b .users) i d)) j vs
         → HeldAs (withUsers b (set (b .users) i u)) (sets s a vs)
+    unfolding userAt
     held-user-part j a d vs at l e =
         subst (HeldAs (withUsers b (set (b .users) i u))) (held-user-set .bytes ∙ sym (user-bytes i j a u d vs k at l e)) held-user-set
 

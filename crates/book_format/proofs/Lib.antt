@@ -13,3 +13,5 @@ pub mod Parts
 pub mod Positions
 pub mod Fits
 pub mod Held
+-- Laws of a user and of a trade by their places.
+pub mod Places

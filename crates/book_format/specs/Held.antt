@@ -4,6 +4,7 @@ use mathlib.Core.Path.{_≡_}
 use Prim.Native.Nat.{ℕ}
 use Rattle.book_format.specs.Book.{bookOf, bytesOf}
 use Rattle.book_format.specs.Questions.{Formed}
+use Rattle.laws.specs.Sound.{Sound}
 use Rattle.rules.specs.Book.{Book, Trade}
 
 -- bytes hold a book: they are read as it, it is written as they are, and every field stands where it should
@@ -12,10 +13,11 @@ pub record HeldAs (b : Book) (s : List ℕ) : Type 0 where
   pub bytes : s ≡ bytesOf b
   pub form : Formed s
 
+-- bytes hold a book that passes every question
+pub record Accepted (s : List ℕ) : Type 0 where
+  pub held : HeldAs (bookOf s) s
+  pub sound : Sound (bookOf s)
+
 -- the book with other trades and the users as they are
 unfoldable pub tradesReplaced : Book → List Trade → Book
 tradesReplaced b ts = record { header = b .header; users = b .users; trades = ts }
-
--- every field 0
-abbrev pub noTrade : Trade
-noTrade = record { terms = record { seller = 0; buyer = 0; area = 0; kind = 0; day = 0; notified = 0 }; standing = 0 }

@@ -3,5 +3,6 @@ pub mod Book
 pub mod Questions
 pub mod Steps
 pub mod After
--- A book held in bytes.
+-- A book held in bytes, an accepted one, and its records by their places.
 pub mod Held
+pub mod Places

@@ -1,5 +1,4 @@
--- Stores one after the other, and parts filled one after the other.
-pub mod Storing
+-- Parts filled one after the other.
 pub mod Copied
 -- Records whose zero bytes are 0; parts copied whole, and the loop that makes a field 0 in each record.
 pub mod Zeroed

@@ -6,8 +6,10 @@ use Prim.Native.Nat.{ℕ, suc, _-_, _<_, _≤_}
 use lib.Dec.{eqb}
 use lib.ListN.{length, take, drop, getD, replicate}
 use Rattle.base.specs.Lists.{any}
-use Rattle.rules.specs.Book.{User, Trade}
+use Rattle.rules.specs.Book.{User, Terms, Trade, nobody}
 use Rattle.fields.specs.Layout.{recordsOf}
+use Rattle.book_format.specs.Book.{tradesOf, usersOf}
+use Rattle.book_format.specs.Held.{Accepted}
 use Rattle.book_records.specs.User.{userOf}
 use Rattle.book_records.specs.Trade.{tradeOf}
 
@@ -22,6 +24,10 @@ tradesFrom at m s = recordsOf 20 tradeOf m (drop at s)
 -- the ids of users
 unfoldable pub idsOf : List User → List ℕ
 idsOf us = map (λ u. u .party .id) us
+
+-- the id of the user at a place
+abbrev pub idAt : List User → ℕ → ℕ
+idAt us place = getD us place nobody .party .id
 
 -- the first place of an id; the number of ids where there is none
 unfoldable pub placeIn : List ℕ → ℕ → ℕ
@@ -43,7 +49,16 @@ pub record Padded (ids : List ℕ) (n : ℕ) : Type 0 where
   pub rising : Rising (take n ids)
   pub rest : drop n ids ≡ replicate (64 - n) 4294967295
 
--- the places of the sellers and of the buyers of trades among users, a place for each trade
+-- the places among users of those that stand on one side of trades, a place for each trade
+abbrev pub PlacedOn : (Terms → ℕ) → List User → List Trade → List ℕ → Type 0
+PlacedOn side us ts ps = take (length ts) ps ≡ map (λ t. placeIn (idsOf us) (side (t .terms))) ts
+
+-- the places of the sellers and of the buyers
 pub record Placed (us : List User) (ts : List Trade) (sellers buyers : List ℕ) : Type 0 where
-  pub of-sellers : take (length ts) sellers ≡ map (λ t. placeIn (idsOf us) (t .terms .seller)) ts
-  pub of-buyers : take (length ts) buyers ≡ map (λ t. placeIn (idsOf us) (t .terms .buyer)) ts
+  pub of-sellers : PlacedOn (λ r. r .seller) us ts sellers
+  pub of-buyers : PlacedOn (λ r. r .buyer) us ts buyers
+
+-- bytes hold an accepted book; the places of the sellers and the buyers of its trades
+pub record BookIn (s sellers buyers : List ℕ) : Type 0 where
+  pub accepted : Accepted s
+  pub placed : Placed (usersOf s) (tradesOf s) sellers buyers

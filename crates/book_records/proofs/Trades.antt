@@ -1,4 +1,4 @@
--- Laws of a trade's 20 bytes: how many, bytes, read and written, written and read; the blank trade. Assumes nothing.
+-- Laws of a trade's 20 bytes: how many, bytes, read and written, written and read. Assumes nothing.
 use Prim.Native.Nat.{ℕ}
 use mathlib.Core.Path.{_≡_, refl, ap, _∙_}
 use mathlib.Core.List.{List}
@@ -8,7 +8,7 @@ use Rattle.rules.specs.Book.{Trade}
 use Rattle.fields.specs.Field.{fromBytes, toBytes, field, AllBytes}
 use Rattle.fields.specs.Layout.{fieldsAt, pack, size, FitAll}
 use Rattle.fields.proofs.Pack.{length-pack, all-bytes-pack, pack-fields, fields-pack}
-use Rattle.book_records.specs.Trade.{tradeOf, tradeZeros, tradeWidths, tradeValues, tradeBytes, asTrade, blankTrade, FitsTrade}
+use Rattle.book_records.specs.Trade.{tradeOf, tradeZeros, tradeWidths, tradeValues, tradeBytes, FitsTrade}
 
 -- ---- the bytes
 
@@ -67,10 +67,3 @@ trade-of-bytes t f =
     tradeOf-fields (tradeBytes t)
     ∙ ap tradeFrom (fields-pack tradeWidths (tradeValues t) (fit-tradeValues t f))
     ∙ tradeFrom-values t
-
--- ---- the blank trade
-
--- the blank trade, as the rules have it
-pub asTrade-blank : asTrade blankTrade ≡ record { terms = record { seller = 0; buyer = 0; area = 0; kind = 0; day = 0; notified = 0 }; standing = 0 }
-unfolding asTrade blankTrade
-asTrade-blank = refl

@@ -9,7 +9,7 @@ use lib.Seq.{drop-cons, sets}
 use Rattle.cut_tiers.specs.Tiers.{Takeable}
 use Rattle.laws_sales.proofs.Parts.{part-length, part-here}
 use Rattle.cut_worth.proofs.Rates.{areas-many, sales-many}
-use Rattle.cut_worth.proofs.Storing.{Storing, storing-start, storing-more, storing-end}
+use Rattle.base.proofs.Storing.{Storing, storing-start, storing-more, storing-end}
 use Rattle.cut_worth.specs.Rates.{Sales}
 use Rattle.cut_worth.specs.Tallies.{asTally}
 use Rattle.cut_worth.specs.declared.Tally.{Tally}
@@ -64,7 +64,7 @@ module _ (f : Prices) {standing areas cuts : List ℕ} {from to : ℕ} (s : Sale
   module _ {now : List ℕ} {y : Tally} {i : ℕ} (p : TakenOff f standing areas cuts from to now y i) where
     -- what stands at a place is what stood, and its cut fits
     pub taken-fits : i < to → getD cuts i 0 ≤ getD now i 0
-    taken-fits h = omega (arith, p .off .after i (omega arith), t .within i (p .starts) h)
+    taken-fits h = omega (arith, p .off .after i 0 (omega arith), t .within i (p .starts) h)
 
     pub taken-cut : i < to → getD cuts i 0 ≤ 100000
     taken-cut h = omega (arith, t .within i (p .starts) h, s .standing-most i (p .starts) h)
@@ -94,13 +94,13 @@ module _ (f : Prices) {standing areas cuts : List ℕ} {from to : ℕ} (s : Sale
       ends = omega arith;
       off =
           rw e
-          (storing-more (p .off) (getD now i 0 - getD cuts i 0) (p .starts) (omega (arith, less-length (part from to cuts) (part from to standing), sales-many s))
+          (storing-more (p .off) (getD now i 0 - getD cuts i 0) 0 (p .starts) (omega (arith, less-length (part from to cuts) (part from to standing), sales-many s))
           (omega (
             arith,
             less-at (part from to cuts) (part from to standing) (i - from),
             part-here cuts from to i 0 (p .starts) h,
             part-here standing from to i 0 (p .starts) h,
-            p .off .after i (omega arith),
+            p .off .after i 0 (omega arith),
           )));
       left = λ ss k. further next h g ss k;
       mwh-most = omega (arith, p .mwh-most, p .starts);

@@ -17,7 +17,7 @@ use Rattle.book_format.specs.Book.{bookOf, headerValues, headerWidths, tradeCou
 use Rattle.laws.specs.Trades.{ended, then, Framed, Pairwise}
 use Rattle.book_records.proofs.Trades.{trade-bytes-of}
 use Rattle.book_records.specs.Trade.{tradeBytes, tradeOf, tradeValues, tradeWidths, tradeZeros}
-use Rattle.rules.specs.Book.{Book, Terms, Trade, at}
+use Rattle.rules.specs.Book.{Book, Terms, Trade, at, noTrade}
 use Rattle.sequence.specs.Claim.{TradeBytes, tradeBytesAt}
 
 -- all but the last field of a trade's bytes are those of its terms
@@ -39,9 +39,6 @@ pairs-length ended = refl
 pairs-length (then p ps) = ap suc (pairs-length ps)
 
 -- ---- books in bytes
-
-noTrade : Trade
-noTrade = record { terms = record { seller = 0; buyer = 0; area = 0; kind = 0; day = 0; notified = 0 }; standing = 0 }
 
 trades-at : (s : List ℕ) → tradesAt s ≡ 32 + 56 * userCount s
 unfolding tradesAt userAt
