@@ -8,10 +8,9 @@ use lib.ListN.{getD, length, length-map, take}
 use lib.Seq.{ext-getD, getD-take}
 use Rattle.cut_lists.proofs.Own.{count-is, count-room, sales-stay}
 use Rattle.cut_lists.specs.Sales.{SalesOf, StandingOf}
-use Rattle.book_format.specs.Held.{noTrade}
 use Rattle.laws.specs.Sound.{Sound}
 use Rattle.laws.specs.Trades.{Framed, Pairwise}
-use Rattle.rules.specs.Book.{Book, Trade}
+use Rattle.rules.specs.Book.{Book, Trade, noTrade}
 use Rattle.rules.specs.Reduction.{cutAll}
 use Rattle.laws_sales.proofs.Apart.{origin-bilateral, origins-apart}
 use Rattle.laws_sales.proofs.Groups.{grouped-parties, places-kept}

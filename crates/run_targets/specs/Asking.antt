@@ -4,7 +4,7 @@ use mathlib.Core.List.{List}
 use mathlib.Core.Path.{_≡_}
 use Prim.Native.Nat.{ℕ, _≤_, _<_}
 use lib.ListN.{length, getD}
-use Rattle.cut_lists.specs.Columns.{idAt}
+use Rattle.book_parties.specs.Ids.{idAt}
 use Rattle.risk_holdings.specs.Parties.{cutBefore}
 use Rattle.book_format.specs.Book.{bookOf, tradesOf, userCount, usersOf}
 use Rattle.book_format.specs.Questions.{Formed}
