@@ -1,19 +1,19 @@
 -- A call and a query on a user, by what the entry found: refused with its number, or by the questions that are its own. Assumes nothing.
 use mathlib.Core.List.{List, _∷_}
 use mathlib.Core.Path.{_≡_, _∙_, ap, sym}
-use Prim.Native.Nat.{ℕ, _+_, _*_, _<_, _≤_}
-use native.Mathlib.Omega.{arith}
+use Prim.Native.Nat.{ℕ}
 use lib.Dec.{T}
-use lib.ListN.{drop, getD, length, take}
+use lib.ListN.{getD}
 use Rattle.call_entry.proofs.Asked.{entry-found, entry-refused}
 use Rattle.call_entry.specs.Entered.{Entered, Found}
-use Rattle.book_format.proofs.OneUser.{find-bytes, find-place, known-place}
+use Rattle.book_format.proofs.OneUser.{find-place, known-place}
 use Rattle.book_format.proofs.Passed.{passed}
 use Rattle.book_format.specs.After.{CalledAfter, after, replyAfter, stepAfter, unchanged}
-use Rattle.book_format.specs.Book.{bookOf, tradesOf, userAt, usersOf}
+use Rattle.book_format.specs.Book.{bookOf, tradesOf, usersOf}
+use Rattle.book_format.specs.Places.{UserIn}
 use Rattle.book_format.specs.Steps.{InBytes, inBytes}
 use Rattle.laws.proofs.Users.{all-find}
-use Rattle.book_records.specs.User.{asUser, userOf}
+use Rattle.book_records.specs.User.{asUser}
 use Rattle.book_records.specs.declared.User as code
 use Rattle.rules.specs.Book.{User, find, nobody}
 use Rattle.rules.specs.Calls.{Answer, Call, about, effect, idKnown, only}
@@ -52,11 +52,9 @@ module _ (before : ℕ) (limits : Limits) (s : List ℕ) (id : ℕ) (rest : List
 -- ---- the user that the entry found
 
 module _ {s : List ℕ} {id place : ℕ} (f : Found s id place) where
-  -- its record in the bytes
-  pub found-bytes : find (usersOf s) id ≡ userOf (take 56 (drop (32 + 56 * place) s))
-  unfolding userAt
-  found-bytes =
-      find-bytes s id (rw (f .stands) at (f .known)) ∙ ap (λ (i : ℕ). userOf (take 56 (drop (32 + 56 * i) s))) (sym (f .stands))
+  -- it stands at its place
+  pub found-user : UserIn s place
+  found-user = record { form = passed s (f .passes) .form; inside = f .known }
 
   pub found-known : T (known (usersOf s) id)
   found-known = rw (known-place s id (rw (f .stands) at (f .known))) tt
@@ -68,13 +66,6 @@ module _ {s : List ℕ} {id place : ℕ} (f : Found s id place) where
   pub found-positions : T (positionsValid (tradesOf s) (find (usersOf s) id))
   unfolding bookOf
   found-positions = all-find (positionsValid (tradesOf s)) (usersOf s) id (passed s (f .passes) .sound .positions) found-known
-
-  -- it lies in the book
-  pub found-lies : 32 + 56 * place + 56 ≤ length s
-  found-lies = omega (arith, f .known, passed s (f .passes) .form .whole)
-
-  pub found-few : place < 64
-  found-few = omega (arith, f .known, passed s (f .passes) .form .users)
 
 -- ---- a struct that is the user at the place
 

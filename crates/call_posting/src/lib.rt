@@ -81,13 +81,12 @@ pub fn posting(book: &mut [u8], number: u32, id: u32, area: u32, amount: i64) ->
     if 2 < area {
         return 10;
     }
-    let a = 32 + 56 * place;
-    let user = book_records::read_user(&book[a..a + 56]);
+    let user = book_format::user_at(book, place);
     let posted = post(user, area as usize, amount);
     if !posted.accepted {
         return 10;
     }
     let user = posted.user;
-    book_records::write_user(&mut book[a..a + 56], user);
+    book_format::put_user(book, place, user);
     0
 }

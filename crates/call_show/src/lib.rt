@@ -16,7 +16,7 @@ pub fn show<'a>(book: &'a [u8], opened: u32, id: u32, number: &mut u32) -> &'a [
     if entry.number != 0 {
         return &book[..0];
     }
-    let a = 32 + 56 * place;
+    let a = book_format::user_offset(book, place);
     &book[a..a + 56]
 }
 

@@ -5,9 +5,8 @@ use mathlib.Core.Path.{_≡_}
 use Prim.Native.Nat.{ℕ, _<_}
 use native.Mathlib.Omega.{arith}
 use lib.ListN.{getD}
-use Rattle.cut_lists.specs.Columns.{tradesIn, usersIn}
 use Rattle.book_format.proofs.Passed.{length-usersOf}
-use Rattle.book_format.specs.Book.{tradeCount, tradesAt, tradesOf, userAt, userCount, usersOf}
+use Rattle.book_format.specs.Book.{tradesOf, userCount, usersOf}
 use Rattle.book_format.specs.Questions.{bookNumber}
 use Rattle.day_lines.specs.Lines.{LineAsked}
 use Rattle.risk_user.specs.UserAt.{PositionsOf}
@@ -17,10 +16,9 @@ use Rattle.run_reduction.specs.Books.{Runnable}
 use Rattle.run_targets.specs.Asking.{CutFlags}
 use Rattle.day_print.specs.Lines.{LinesAsked}
 
-pub lines-asked : {limits : Limits} {f : Prices} {s sellers parties sums : List ℕ} → Runnable limits f s sellers parties sums → bookNumber s ≡ 0 → {n m : ℕ} → n ≡ userCount s → m ≡ tradeCount s
-    → {ps : List ℕ} {flags : List Bool} → PositionsOf (usersOf s) ps → CutFlags (usersIn n s) (tradesIn n m s) flags → LinesAsked limits f s n sums ps flags
-unfolding usersOf tradesOf tradesAt userAt
-lines-asked r passes e k p c =
+pub lines-asked : {limits : Limits} {f : Prices} {s sellers parties sums : List ℕ} → Runnable limits f s sellers parties sums → bookNumber s ≡ 0 → {n : ℕ} → n ≡ userCount s
+    → {ps : List ℕ} {flags : List Bool} → PositionsOf (usersOf s) ps → CutFlags (usersOf s) (tradesOf s) flags → LinesAsked limits f s n sums ps flags
+lines-asked r passes e p c =
     record {
       passes = passes;
       users-are = e;
@@ -29,7 +27,7 @@ lines-asked r passes e k p c =
       twelve = r .twelve;
       low = r .low;
       positions = p;
-      cut = rw (e, k) at c;
+      cut = c;
     }
 
 pub line-asked : {limits : Limits} {f : Prices} {s : List ℕ} {n : ℕ} {sums ps : List ℕ} {flags : List Bool} → LinesAsked limits f s n sums ps flags → (i : ℕ) → i < n

@@ -10,10 +10,10 @@ use Rattle.cut_apply.specs.Cutting.{CuttablePart, loweredAt}
 use Rattle.cut_lists.proofs.Own.{sales-stay}
 use Rattle.cut_lists.specs.Sales.{SalesOf, StandingOf}
 use Rattle.cut_worth.specs.declared.Totals.{Totals}
-use Rattle.book_format.specs.Held.{HeldAs, noTrade}
+use Rattle.book_format.specs.Held.{HeldAs}
 use Rattle.laws.specs.Sound.{Sound}
 use Rattle.laws.specs.Trades.{Lowered, Pairwise, ended, then}
-use Rattle.rules.specs.Book.{Book, Trade}
+use Rattle.rules.specs.Book.{Book, Trade, noTrade}
 use Rattle.rules.specs.Levels.{Limits}
 use Rattle.rules.specs.Reduction.{withTrades}
 use Rattle.run_state.proofs.Grouped.{standing-all}

@@ -1,14 +1,13 @@
 -- `show` gives the empty part and the number of the entry, or the 56 bytes where the found user stands. Assumes nothing.
 use mathlib.Core.Path.{_≡_, sym, refl}
 use mathlib.Core.List.{List, []}
-use Prim.Native.Nat.{ℕ, _+_, _-_, _*_, _<_, _≤_}
+use Prim.Native.Nat.{ℕ, _+_, _-_}
 use native.Mathlib.Omega.{arith}
 use denote.Ref.{now}
-use lib.ListN.{length}
 use Rattle.rules.specs.Queries.{aboutQuery}
-use Rattle.book_format.specs.Book.{userAt, bookOf}
+use Rattle.book_format.specs.Book.{bookOf}
 use Rattle.call_entry.specs.Entered.{Found}
-use Rattle.call_entry.proofs.Calls.{found-few, found-lies}
+use Rattle.call_entry.proofs.Calls.{found-user}
 use borrow.Author.Needs.{needs}
 use Rattle.call_show.proofs.Ways.{show-found, show-refused}
 use Rattle.call_show.proofs.show.Statement.{statement}
@@ -22,10 +21,6 @@ asked c = c .before .before .args .id
 
 found : (c : tie.Else1) → Found (bytes (c .before .before)) (asked (c .before .before)) (c .before .before .seek .result .place)
 found c = c .before .before .seek .ensures .found (c .if1 .left)
-
--- the found record lies in the book
-inside : (c : tie.Else1) → (32 + 56 * c .before .before .seek .result .place + 56 ≤ length (bytes (c .before .before))) × (c .before .before .seek .result .place < 64)
-inside c = (found-lies (found c), found-few (found c))
 
 started : (c : tie.Else1) → c .before .before .before .before .args .opened ≡ 0
 started c = c .before .before .seek .ensures .start (c .if1 .left)
@@ -45,33 +40,21 @@ returns c =
       record { block = refl; offset = rw (show-refused (bytes e) (asked e) {R = ℕ} (λ n. 0) _ k (c .before .if1 .taken)) (omega arith) },
     )
 
-mul-a : tie.Need-mul-a
-mul-a c = omega (arith, inside c)
-
-add-a : tie.Need-add-a
-add-a c = omega (arith, inside c)
-
-add-result : tie.Need-add-result
-add-result c = omega (arith, inside c)
-
-sub-result : tie.Need-sub-result
-sub-result c = search needs
-
-part-result-start : tie.Need-part-result-start
-part-result-start c = search needs
-
-part-result-end : tie.Need-part-result-end
-part-result-end c = omega (arith, inside c)
+user-offset-requires : tie.Need-user-offset-requires
+user-offset-requires c κs = found-user (found c)
 
 returns-2 : tie.Need-returns-2
-unfolding aboutQuery userAt bookOf
+unfolding aboutQuery bookOf
 returns-2 c =
-    let e = c .before .before .before in
-    let f = found (c .before) in
-    let z = started (c .before) in
-    let k : 32 + 56 * e .seek .result .place + 56 - (32 + 56 * e .seek .result .place) ≡ 56 = omega arith in (
-      record { asked = e .seek .ensures .asked; shows = rw (show-found (bytes e) (asked e) (λ n. []) _ z f, ← f .stands, k) },
-      record { block = refl; offset = rw (show-found (bytes e) (asked e) {R = ℕ} (λ n. 0) _ z f, ← f .stands) (omega arith) },
+    let u = c .before in
+    let e = u .before .before .before in
+    let f = found (u .before) in
+    let z = started (u .before) in
+    let a = u .user-offset .result in
+    let k : a + 56 - a ≡ 56 = omega arith in
+    let o = u .user-offset .ensures .0 in (
+      record { asked = e .seek .ensures .asked; shows = rw (show-found (bytes e) (asked e) (λ n. []) _ z f, ← f .stands, k, o) },
+      record { block = refl; offset = rw (show-found (bytes e) (asked e) {R = ℕ} (λ n. 0) _ z f, ← f .stands) (omega (arith, o)) },
     )
 
 pub show-spec : {M : Type 1} → statement M
@@ -81,10 +64,9 @@ show-spec =
     seek-requires
     slice-aggregate-result
     returns
-    mul-a
-    add-a
-    add-result
-    sub-result
-    part-result-start
-    part-result-end
+    user-offset-requires
+    (λ c. search needs)
+    (λ c. search needs)
+    (λ c. search needs)
+    (λ c. search needs)
     returns-2)

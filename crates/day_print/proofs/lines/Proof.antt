@@ -3,11 +3,9 @@ use mathlib.Core.Path.{_≡_, refl, _∙_}
 use native.Mathlib.Omega.{arith}
 use borrow.Author.Needs.{needs}
 use denote.Ref.{now}
-use Rattle.cut_lists.proofs.Lists.{accepted-placed, accepted-trading}
 use Rattle.book_format.proofs.Passed.{passed}
 use Rattle.book_format.specs.Book.{tradeCount, userCount}
 use Rattle.run_reduction.proofs.Asked.{asked-runnable}
-use Rattle.run_reduction.proofs.Start.{run-counted}
 use Rattle.day_print.proofs.Told.{lines-asked}
 use Rattle.day_print.proofs.lines.Statement.{statement}
 use Rattle.day_print.proofs.lines.Tie as tie
@@ -55,14 +53,13 @@ fill-cut-requires : tie.Need-fill-cut-requires
 fill-cut-requires c κs =
     let o = c .before .before .before .before .before .before .before .before .before .before .before .ask .ensures in
     let r = asked-runnable (o .0) (o .0 .number ∙ c .before .before .before .before .before .before .before .before .before .before .before .before .before .before .before .before .pre) (λ j. c .before .before .before .before .before .before .before .before .before .before .before .before .before .before .before .shared-slice-known .given j .fits) (c .before .before .before .before .before .before .before .before .today .ensures .1) (c .before .before .before .before .before .before .before .read-prices .ensures) (o .1) in
-    let b = run-counted r (users-are (c .before .before .before .before .before .before)) (trades-are (c .before .before .before .before .before)) in
-    ((accepted-trading b, accepted-placed b), refl)
+    ((r .book, users-are (c .before .before .before .before .before .before), trades-are (c .before .before .before .before .before)), refl)
 
 lines-of-requires : tie.Need-lines-of-requires
 lines-of-requires c κs =
     let o = c .before .before .before .before .before .before .before .before .before .before .before .before .before .before .before .ask .ensures in
     let r = asked-runnable (o .0) (o .0 .number ∙ c .before .before .before .before .before .before .before .before .before .before .before .before .before .before .before .before .before .before .before .before .pre) (λ j. c .before .before .before .before .before .before .before .before .before .before .before .before .before .before .before .before .before .before .before .shared-slice-known .given j .fits) (c .before .before .before .before .before .before .before .before .before .before .before .before .today .ensures .1) (c .before .before .before .before .before .before .before .before .before .before .before .read-prices .ensures) (o .1) in
-    lines-asked r (c .before .before .before .before .before .before .before .before .before .before .before .before .before .before .before .before .before .before .before .before .pre) (users-are (c .before .before .before .before .before .before .before .before .before .before)) (trades-are (c .before .before .before .before .before .before .before .before .before)) (c .before .before .before .before .before .before .before .fill-positions .ensures .0) (c .before .before .before .fill-cut .ensures)
+    lines-asked r (c .before .before .before .before .before .before .before .before .before .before .before .before .before .before .before .before .before .before .before .before .pre) (users-are (c .before .before .before .before .before .before .before .before .before .before)) (c .before .before .before .before .before .before .before .fill-positions .ensures .0) (c .before .before .before .fill-cut .ensures)
 
 returns : tie.Need-returns
 returns c = search needs
