@@ -37,6 +37,10 @@ pub or-none : (a b : Bool) → T (not (a || b)) → T (not a) × T (not b)
 or-none true b h = absurd h
 or-none false b h = (tt, h)
 
+pub and-false : (a : Bool) → (a && false) ≡ false
+and-false true = refl
+and-false false = refl
+
 -- a value by a test: what holds of each of the two in its case holds of it
 pub by-test {ℓ} : {A : Type 0} (P : A → Type ℓ) (c : Bool) {x y : A} → (T c → P x) → (T (not c) → P y) → P (cond c x y)
 by-test P true f g = f tt

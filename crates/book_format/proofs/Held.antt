@@ -103,18 +103,11 @@ module _ {b : Book} {s : List ℕ} (h : HeldAs b s) where
   held-bytes = subst AllBytes (sym (h .bytes)) (all-bytes-bytesOf b)
 
   -- the user at a place stands in its 56 bytes
-  pub held-user : (i : ℕ) (d : User) → i < length (b .users) → userOf (take 56 (drop (32 + 56 * i) s)) ≡ getD (b .users) i d
+  held-user : (i : ℕ) (d : User) → i < length (b .users) → userOf (take 56 (drop (32 + 56 * i) s)) ≡ getD (b .users) i d
   unfolding usersOf
   held-user i d k = record-at 56 userOf (userCount s) i 32 s d (omega (arith, held-userCount)) ∙ ap (λ (us : List User). getD us i d) held-users
 
-  -- and the trade at a place in its 20
-  pub held-trade : (i : ℕ) (d : Trade) → i < length (b .trades) → tradeOf (take 20 (drop (32 + 56 * length (b .users) + 20 * i) s)) ≡ getD (b .trades) i d
-  unfolding tradesOf tradesAt userAt
-  held-trade i d k =
-      rw held-userCount
-      (record-at 20 tradeOf (tradeCount s) i (32 + 56 * userCount s) s d (omega (arith, held-tradeCount)) ∙ ap (λ (ts : List Trade). getD ts i d) held-trades)
-
-  -- both fit their bytes
+  -- and fits them
   pub held-user-fits : (i : ℕ) (d : User) → i < length (b .users) → FitsUser (getD (b .users) i d)
   held-user-fits i d k = subst FitsUser (held-user i d k) (userOf-fits _ (all-bytes-part (32 + 56 * i) 56 s held-bytes))
 

@@ -6,10 +6,10 @@ use Prim.Native.Nat.{_*_, _+_, _<_, _≤_, suc, ℕ}
 use native.Mathlib.Nat.{le-of-eq}
 use native.Mathlib.Omega.{arith}
 use lib.Dec.{T, eqb, eqb→eq, leb·suc-suc, ltb}
-use lib.ListN.{drop, getD, length, length-set, set, take}
-use lib.Seq.{drop-drop, sets}
+use lib.ListN.{getD, length, length-set, set}
+use lib.Seq.{sets}
 use borrow.Author.Tests.{le-ltb, lt-ltb}
-use Rattle.fields.proofs.Records.{bytesOfRecords-set, getD-recordsOf, length-bytesOfRecords}
+use Rattle.fields.proofs.Records.{bytesOfRecords-set, length-bytesOfRecords}
 use Rattle.fields.proofs.Sets.{sets-left, sets-right}
 use Rattle.fields.specs.Field.{AllBytes}
 use Rattle.fields.specs.Layout.{bytesOfRecords, pack}
@@ -22,7 +22,7 @@ use Rattle.base.proofs.Tests.{and-r}
 use Rattle.laws.proofs.Users.{change-absent}
 use Rattle.book_records.proofs.Users.{length-userBytes}
 use Rattle.book_records.specs.Trade.{tradeBytes}
-use Rattle.book_records.specs.User.{userBytes, userOf}
+use Rattle.book_records.specs.User.{userBytes}
 use Rattle.rules.specs.Book.{User, find, nobody}
 use Rattle.rules.specs.Changes.{change, withUsers}
 use Rattle.base.specs.Lists.{any}
@@ -70,15 +70,6 @@ module _ (s : List ℕ) (id : ℕ) where
 
   pub unknown-place : userCount s ≤ placeOf (usersOf s) id → known (usersOf s) id ≡ false
   unknown-place h = sym (place-known (usersOf s) id) ∙ rw (length-usersOf s) (le-ltb (placeOf (usersOf s) id) (userCount s) h)
-
-  -- the user's record in the bytes
-  pub find-bytes : placeOf (usersOf s) id < userCount s → find (usersOf s) id ≡ userOf (take 56 (drop (userAt s (placeOf (usersOf s) id)) s))
-  unfolding usersOf userAt
-  find-bytes h =
-      let i = placeOf (usersOf s) id in
-      find-place (usersOf s) id
-      ∙ getD-recordsOf 56 userOf (userCount s) i (drop 32 s) nobody h
-      ∙ ap (λ (l : List ℕ). userOf (take 56 l)) (drop-drop (56 * i) 32 s)
 
 pub changed-bytes : (s : List ℕ) → AllBytes s → Passed s → (id : ℕ) (f : User → User) → placeOf (usersOf s) id < userCount s
     → bytesOf (withUsers (bookOf s) (change id f (usersOf s))) ≡ sets s (userAt s (placeOf (usersOf s) id)) (userBytes (f (find (usersOf s) id)))

@@ -3,18 +3,14 @@ use Prim.Native.Nat.{ℕ, zero, suc, _+_, _*_, _<_, _≤_}
 use mathlib.Core.Path.{_≡_, refl, sym, ap, _∙_}
 use mathlib.Core.List.{List, [], _∷_, _++_}
 use native.Mathlib.Omega.{arith}
-use native.Mathlib.Nat.{add-comm, add-assoc, mul-zero, mul-suc, mul-le-mul-left, zero-add, not-suc-le-zero, le-of-suc-le-suc}
+use native.Mathlib.Nat.{add-assoc, mul-zero, mul-le-mul-left, zero-add, not-suc-le-zero, le-of-suc-le-suc}
 use lib.ListN.{length, getD, take, drop, set, length-drop}
 use lib.Seq.{sets, drop-drop}
 use Rattle.fields.proofs.Field.{length-toBytes}
-use Rattle.fields.proofs.Records.{getD-recordsOf, length-bytesOfRecords, recordsOf-sets}
+use Rattle.fields.proofs.Records.{getD-recordsOf, length-bytesOfRecords, mul-suc-front, recordsOf-sets}
 use Rattle.fields.proofs.Sets.{sets-left, sets-right, sets-whole, take-sets, drop-sets-add}
 use Rattle.fields.specs.Field.{toBytes, setField}
 use Rattle.fields.specs.Layout.{pack, size, recordsOf, bytesOfRecords}
-
--- one record more, the first
-mul-suc-front : (len n : ℕ) → len * suc n ≡ len + len * n
-mul-suc-front len n = mul-suc len n ∙ add-comm (len * n) len
 
 -- one value of a record replaced is its field set
 pub pack-set : (ws vs : List ℕ) (k v : ℕ) → k < length ws → length vs ≡ length ws → pack ws (set vs k v) ≡ setField (getD ws k 0) (size (take k ws)) v (pack ws vs)

@@ -1,7 +1,7 @@
 // A book in bytes: what the bytes are, which questions they are asked, what a call does with them, and what they hold after a part of one record is set in place. The definitions
 // are in specs/, what follows from them (both round trips, one record changed) in proofs/. The code is one record's: where it stands, read, and written, by its place.
 ghost use mathlib.Core.Path.{_≡_};
-ghost use Prim.Native.Nat.{_+_, _≤_, _<_};
+ghost use Prim.Native.Nat.{_+_, _*_, _≤_, _<_};
 ghost use lib.ListN.{length, getD, set};
 ghost use lib.Seq.{sets};
 ghost use Rattle.rules.specs.Book.{nobody, noTrade};
@@ -60,12 +60,20 @@ pub fn trades_offset(s: &[u8], n: usize) -> usize
     32 + 56 * n
 }
 
+// Where the 20 bytes of the trade at a place begin, of those that begin at `at`.
+fn trade_offset(s: &[u8], at: usize, place: usize) -> usize
+    requires { ⌜ TradeIn (now s) at place ⌝ }
+    ensures { λ r. ⌜ (r ≡ at + 20 * place) × (r + 20 ≤ length (now (s .entry))) ⌝ }
+{
+    at + 20 * place
+}
+
 // The trade at a place, of those that begin at `at`.
 pub fn trade_at(s: &[u8], at: usize, place: usize) -> Trade
     requires { ⌜ TradeIn (now s) at place ⌝ }
     ensures { λ r. ⌜ asTrade r ≡ getD (tradesOf (now (s .entry))) place noTrade ⌝ }
 {
-    let a = at + 20 * place;
+    let a = trade_offset(s, at, place);
     book_records::read_trade(&s[a..a + 20])
 }
 
@@ -75,6 +83,6 @@ pub fn put_trade(s: &mut [u8], at: usize, place: usize, t: Trade)
     requires { ⌜ TradeIn (now s) at place ⌝ }
     ensures { λ _. ⌜ HeldAs (tradesReplaced (bookOf (now (s .entry))) (set (tradesOf (now (s .entry))) place (asTrade t))) (now (s .exit)) ⌝ }
 {
-    let a = at + 20 * place;
+    let a = trade_offset(s, at, place);
     book_records::write_trade(&mut s[a..a + 20], t);
 }

@@ -23,7 +23,7 @@ use Rattle.book_form.specs.Zeros.{zerosIn}
 use Rattle.book_sums.specs.Sums.{placesOf}
 use Rattle.book_sums.specs.Twelve.{Twelve, TwelveOf, Low}
 use Rattle.book_sums.proofs.Twelve.{twelve-of}
-use Rattle.book_questions.specs.Asked.{UsersAsked, TradesAsked, InBytes, RecordsAsked, FieldsPlaced, AskedOf, Summed, SumsFound, PartiesFound, pastSix, tradeAmong, recordsNumber, fieldsNumber}
+use Rattle.book_questions.specs.Asked.{UsersAsked, TradesAsked, RecordsIn, RecordsAsked, FieldsPlaced, AskedOf, Summed, SumsFound, PartiesFound, pastSix, tradeAmong, recordsNumber, fieldsNumber}
 use Rattle.book_questions.proofs.Known.{all-tradeAmong, all-parties, valid-rising}
 
 -- ---- 5 to 7
@@ -106,7 +106,7 @@ module _ {us : List User} {ts : List Trade} {n : ℕ} {valid : Bool} {ids seller
 -- ---- 4 to 7 of bytes
 
 -- users and trades of bytes of the right form stand in them
-pub formed-bytes : {s : List ℕ} {n m : ℕ} → Formed s → n ≡ field 1 5 s → m ≡ field 2 6 s → InBytes 32 n (32 + 56 * n) m s
+pub formed-bytes : {s : List ℕ} {n m : ℕ} → Formed s → n ≡ field 1 5 s → m ≡ field 2 6 s → RecordsIn 32 n (32 + 56 * n) m s
 unfolding userCount tradeCount
 formed-bytes form e f =
     record {

@@ -1,4 +1,5 @@
 -- Laws of the loops that ask users and trades one by one: those left have the whole answer, and a list has what each one passed gave. Assumes nothing.
+use Rattle.base.proofs.Tests.{and-false}
 use Prim.Native.Nat.{ℕ, _+_, _-_, _<_, _≤_}
 use mathlib.Core.Path.{_≡_, refl, sym, ap, ap₂, _∙_}
 use mathlib.Core.Bool.{Bool, true, false, _&&_}
@@ -24,10 +25,6 @@ validFrom last us = idsRise last us && all userValid us
 pub record UsersLeft (us : List User) (last i : ℕ) : Type 0 where
   pub within : i ≤ length us
   pub answer : usersValid us ≡ validFrom last (drop i us)
-
-and-false : (b : Bool) → (b && false) ≡ false
-and-false true = refl
-and-false false = refl
 
 -- the next user, by the two tests of it
 valid-next : (last : ℕ) {zs : List User} {u : User} {rest : List User} {a b : Bool} → zs ≡ u ∷ rest → ltb last (u .party .id) ≡ a → userValid u ≡ b

@@ -47,7 +47,7 @@ pub record Summed (us : List User) (ts : List Trade) (count number read : ℕ) (
 -- ---- 5 to 7
 
 -- n users and m trades, at most 64 and 256, stand in bytes from two offsets
-pub record InBytes (users-at n trades-at m : ℕ) (s : List ℕ) : Type 0 where
+pub record RecordsIn (users-at n trades-at m : ℕ) (s : List ℕ) : Type 0 where
   pub few : n ≤ 64
   pub many : m ≤ 256
   pub users : users-at + 56 * n ≤ length s

@@ -7,7 +7,7 @@ ghost use lib.ListN.{length, take, replicate};
 ghost use Rattle.book_format.specs.Book.{usersOf, tradesOf, tradeCount};
 ghost use Rattle.book_format.specs.Questions.{Formed, bookNumber};
 ghost use Rattle.book_parties.specs.Ids.{usersFrom, tradesFrom, Padded};
-ghost use Rattle.book_questions.specs.Asked.{UsersAsked, TradesAsked, InBytes, RecordsAsked, FieldsPlaced, AskedOf, Summed};
+ghost use Rattle.book_questions.specs.Asked.{UsersAsked, TradesAsked, RecordsIn, RecordsAsked, FieldsPlaced, AskedOf, Summed};
 
 // What was asked: the number of the first question that is answered by no, 0 where there is none, and how many trades were read.
 pub struct Answer {
@@ -95,7 +95,7 @@ pub fn ask_records(
     buyers: &mut [u8],
     sums: &mut [u32; 768],
 ) -> Answer
-    requires { ⌜ InBytes «users_at» n «trades_at» m (now s) ⌝ }
+    requires { ⌜ RecordsIn «users_at» n «trades_at» m (now s) ⌝ }
     requires { ⌜ (length (now sellers) ≡ 256) × (length (now buyers) ≡ 256) × (now sums ≡ replicate 768 0) ⌝ }
     ensures { λ r. ⌜ RecordsAsked «user_zeros» «trade_zeros» (usersFrom «users_at» n (now (s .entry))) (tradesFrom «trades_at» m (now (s .entry))) (r .number) (now (sellers .exit)) (now (buyers .exit)) ⌝ }
     ensures { λ r. ⌜ Summed (usersFrom «users_at» n (now (s .entry))) (tradesFrom «trades_at» m (now (s .entry))) m (r .number) (r .read) (now (sums .exit)) ⌝ }
@@ -184,7 +184,7 @@ pub fn records_number(
     sellers: &mut [u8],
     buyers: &mut [u8],
 ) -> u32
-    requires { ⌜ InBytes «users_at» n «trades_at» m (now s) ⌝ }
+    requires { ⌜ RecordsIn «users_at» n «trades_at» m (now s) ⌝ }
     requires { ⌜ (length (now sellers) ≡ 256) × (length (now buyers) ≡ 256) ⌝ }
     ensures { λ r. ⌜ RecordsAsked «user_zeros» «trade_zeros» (usersFrom «users_at» n (now (s .entry))) (tradesFrom «trades_at» m (now (s .entry))) r (now (sellers .exit)) (now (buyers .exit)) ⌝ }
 {

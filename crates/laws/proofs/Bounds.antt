@@ -19,7 +19,7 @@ use Rattle.rules.specs.Areas.{referencePrice, areas}
 use Rattle.rules.specs.Book.{Book, Trade, User, Terms, dealt, at, bought, definedPosition, sold}
 use Rattle.rules.specs.Levels.{afternoonNeed, exposure, holding, stock, Limits, afternoonLevel, afternoonSum, floored, morningLevel, morningNeed, morningSum}
 use Rattle.base.specs.Lists.{all}
-use Rattle.rules.specs.Questions.{amountsValid, countsValid, tradeValid, entriesValid, userValid, headerValid, positionsValid, pricesValid, tariffValid, tollValid}
+use Rattle.rules.specs.Questions.{amountsValid, countsValid, guaranteesValid, tradeValid, entriesValid, userValid, headerValid, positionsValid, pricesValid, tariffValid, tollValid}
 use Rattle.rules.specs.Signed.{within}
 
 -- ---- trades: at most 256 of at most 100,000 MWh
@@ -117,6 +117,14 @@ charges-le u h = within-le 1000000000000 (u .party .charges) (search (and-l, and
 -- one side of a difference
 below-parts : (z : ℤ) (a b : ℕ) → posPart z + b ≡ negPart z + a → (posPart z ≤ a) × (negPart z ≤ b)
 below-parts z a b e = (omega (arith, posPart-of z a b (omega arith)), omega (arith, negPart-of z a b (omega arith)))
+
+-- and the blocked guarantee
+pub blocked-le : (u : User) → T (userValid u) → u .blocked ≤ 1000000000000
+unfolding userValid guaranteesValid
+blocked-le u t =
+    let a = leb→le (u .blocked) (u .party .assigned) (search (and-l, and-r)) in
+    let b = leb→le (u .party .assigned) 1000000000000 (search (and-l, and-r)) in
+    omega arith
 
 pub prices-le : (b : Book) → Sound b
     → (b .header .prices .p ≤ 100000) × (b .header .prices .q ≤ 100000) × (b .header .prices .l ≤ 100000) × (b .header .prices .x ≤ 100000) × (b .header .prices .i ≤ 100000)

@@ -232,7 +232,7 @@ repositioned-same : (ts : List Trade) (u : User) → repositioned ts u .party �
 unfolding repositioned
 repositioned-same ts u = refl
 
-pairs-length : {ts ns : List Trade} → Pairwise Framed ts ns → length ns ≡ length ts
+pub pairs-length : {ts ns : List Trade} → Pairwise Framed ts ns → length ns ≡ length ts
 pairs-length ended = refl
 pairs-length (then p ps) = ap suc (pairs-length ps)
 

@@ -1,4 +1,5 @@
 -- The bytes of trades that differ in what stands only. Assumes nothing.
+use Rattle.laws.proofs.Settle.{pairs-length}
 use mathlib.Core.List.{List}
 use mathlib.Core.Path.{_≡_, _∙_, ap, refl, sym}
 use Prim.Native.Nat.{_*_, _+_, _<_, _≤_, suc, zero, ℕ}
@@ -33,10 +34,6 @@ pairs-at : {ts ns : List Trade} → Pairwise Framed ts ns → (i : ℕ) (d : Tra
 pairs-at ended i d h = absurd (not-suc-le-zero h)
 pairs-at (then p ps) zero d h = p
 pairs-at (then p ps) (suc i) d h = pairs-at ps i d (le-of-suc-le-suc h)
-
-pub pairs-length : {ts ns : List Trade} → Pairwise Framed ts ns → length ns ≡ length ts
-pairs-length ended = refl
-pairs-length (then p ps) = ap suc (pairs-length ps)
 
 -- ---- books in bytes
 

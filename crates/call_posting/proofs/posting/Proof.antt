@@ -81,7 +81,7 @@ user-at-requires c κs = found-user (found (c .before .before))
 
 post-requires : tie.Need-post-requires
 post-requires c κs =
-    let i = c .before .before .before in
+    let i = c .before .before in
     let e = i .before .before in
     let a = start e .args in
     rw (user-is c) (ready (a .number) today (bytes e) (a .id) (a .area) (a .amount) (started (i .before)) (found (i .before)) (omega (arith, i .if2 .left)))
@@ -94,11 +94,11 @@ returns-3 c = λ limits.
     let p = c .before .before in
     let e = entered p .before in
     let a = start e .args in
-    out-of-range (a .number) limits (bytes e) (a .id) (a .area) (a .amount) (started (entered p)) (found (entered p)) (omega (arith, p .before .before .before .before .if2 .left))
+    out-of-range (a .number) limits (bytes e) (a .id) (a .area) (a .amount) (started (entered p)) (found (entered p)) (omega (arith, p .before .before .before .if2 .left))
     (sym (told p .test) ∙ not-true (p .post .result .accepted) (c .if3 .taken))
 
 put-user-requires : tie.Need-put-user-requires
-put-user-requires c κs = found-user (found (entered (c .before .before .before)))
+put-user-requires c κs = found-user (found (entered (c .before .before .before .before)))
 
 same-length-4 : tie.Need-same-length-4
 same-length-4 c = search needs
@@ -113,7 +113,7 @@ returns-4 c = λ limits.
     let s = bytes e in
     let ok = not-false (p .post .result .accepted) (n .if3 .left) in
     subst⁻¹ (CalledAfter (a .number) limits s (postingOf (a .id) (a .area) (a .amount)) (only 0)) (w .put-user .ensures ∙ rw (told p .user ok))
-    (accepted (a .number) limits s (a .id) (a .area) (a .amount) (started (entered p)) (found (entered p)) (λ j. e .before .before .slice-known .given j .fits) (omega (arith, p .before .before .before .before .if2 .left)) (sym (told p .test) ∙ ok))
+    (accepted (a .number) limits s (a .id) (a .area) (a .amount) (started (entered p)) (found (entered p)) (λ j. e .before .before .slice-known .given j .fits) (omega (arith, p .before .before .before .if2 .left)) (sym (told p .test) ∙ ok))
 
 pub posting-spec : {M : Type 1} → statement M
 posting-spec =
