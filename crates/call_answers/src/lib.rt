@@ -57,16 +57,6 @@ pub struct ReductionAnswer {
     pub over: Cents,
 }
 
-// What an amount exceeds another by, 0 where it does not.
-pub fn excess(amount: Cents, other: Cents) -> Cents
-    ensures { λ r. ⌜ r .0 ≡ amount .0 - other .0 ⌝ }
-{
-    if amount.0 < other.0 {
-        return Cents(0);
-    }
-    Cents(amount.0 - other.0)
-}
-
 impl ReductionAnswer {
     // A number alone.
     pub fn refused(number: u32) -> ReductionAnswer
@@ -93,8 +83,8 @@ impl ReductionAnswer {
             mwh: mwh,
             worth: worth,
             target: asked,
-            short: excess(asked, worth),
-            over: excess(worth, asked),
+            short: Cents(units::excess(asked.0, worth.0)),
+            over: Cents(units::excess(worth.0, asked.0)),
         }
     }
 }

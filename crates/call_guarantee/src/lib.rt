@@ -2,36 +2,34 @@
 // of the time.
 use book_records::User;
 use call_answers::CallAnswer;
-use risk_user::Account;
 use units::Cents;
 use units::Limits;
 ghost use mathlib.Core.Path.{_≡_};
+ghost use Prim.Native.Nat.{_≤_};
 ghost use Rattle.rules.specs.Calls.{morningCall, afternoonCall};
 ghost use Rattle.units.specs.Limits.{asLimits, LimitsInRange};
 ghost use Rattle.book_records.specs.User.{asUser};
 ghost use Rattle.book_format.specs.After.{CalledAfter};
 ghost use Rattle.book_format.specs.Book.{bookOf};
-ghost use Rattle.book_format.specs.Questions.{Formed, bookNumber};
+ghost use Rattle.book_format.specs.Questions.{bookNumber};
 ghost use Rattle.call_answers.specs.Call.{answerOf};
-ghost use Rattle.risk_user.specs.Account.{Ready, AccountIn};
 ghost use Rattle.book_questions.specs.Asked.{SumsFound};
 ghost use Rattle.call_guarantee.specs.Times.{dueOf, callOf};
 ghost use Rattle.call_guarantee.specs.Raised.{Raisable, raised};
 
-// Question 11 of the user of an account: does the level exceed blocked by more than the margin, and in the afternoon, is the user called in?
-fn is_due(book: &[u8], account: Account, limits: Limits, level: Cents, afternoon: bool) -> bool
-    requires { ⌜ Formed (now book) ⌝ }
-    requires { ⌜ AccountIn (now book) account ⌝ }
-    requires { ⌜ Ready account ⌝ }
-    requires { ⌜ LimitsInRange (asLimits limits) ⌝ }
-    ensures { λ r. ⌜ r ≡ dueOf afternoon (asLimits limits) (bookOf (now (book .entry))) (level .0) (asUser (account .user)) ⌝ }
+// Question 11 of a user of an accepted book: does the level exceed blocked by more than the margin, and in the afternoon, is the user called in?
+fn is_due(book: &[u8], user: User, limits: Limits, level: Cents, afternoon: bool) -> bool
+    requires { ⌜ (bookNumber (now book) ≡ 0) × (user .blocked .0 ≤ 1000000000000) × LimitsInRange (asLimits limits) ⌝ }
+    ensures { λ r. ⌜ r ≡ dueOf afternoon (asLimits limits) (bookOf (now (book .entry))) (level .0) (asUser user) ⌝ }
 {
-    let user = account.user;
-    if !risk_levels::exceeds_margin(limits, level, user) {
+    let blocked = user.blocked;
+    if !risk_levels::exceeds_margin(limits, level, blocked) {
         return false;
     }
     if afternoon {
-        return risk_user::called_in(book, account, limits);
+        let prices = book_form::read_prices(book);
+        let cut = risk_user::cut_before(book, user.id);
+        return risk_levels::called_in(limits, prices, blocked, user.position, cut);
     }
     true
 }
@@ -81,13 +79,12 @@ fn call(
     if number != 0 {
         return CallAnswer::refused(number);
     }
-    let account = risk_user::account_from(book, place, sums);
-    let user = account.user;
+    let user = risk_user::user_at(book, place);
     if user.role != 0 {
         return CallAnswer::refused(9);
     }
-    let level = call_level::level_of(account, limits, afternoon);
-    let due = is_due(book, account, limits, level, afternoon);
+    let level = call_level::level_of(book, sums, place, user, limits, afternoon);
+    let due = is_due(book, user, limits, level, afternoon);
     raise(book, place, user, level, due)
 }
 

@@ -29,7 +29,7 @@ fn is_flagged_shipper(book: &[u8], prices: Prices, id: u32, limits: Limits) -> b
     if seller.role != 0 {
         return false;
     }
-    risk_levels::flagged(limits, prices, seller)
+    risk_levels::flagged(limits, prices, seller.blocked, seller.position)
 }
 
 // Is the user of an id the buyer of the trade, and does the trade warn its buyer?
@@ -94,7 +94,7 @@ pub fn warning(book: &[u8], number: u32, limits: Limits, id: u32) -> WarningAnsw
         };
     }
     let prices = book_form::read_prices(book);
-    if risk_levels::flagged(limits, prices, user) {
+    if risk_levels::flagged(limits, prices, user.blocked, user.position) {
         return WarningAnswer {
             number: 0,
             warned: true,

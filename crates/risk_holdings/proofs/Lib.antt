@@ -1,6 +1,4 @@
--- Laws of dealings, and of a search through the first trades.
-pub mod Energies
-pub mod Bounds
+-- A search through the first trades, and who is called in.
 pub mod Search
 pub mod Ruled
 -- Laws of needs.

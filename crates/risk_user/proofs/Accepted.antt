@@ -1,6 +1,6 @@
 -- What an accepted book in bytes tells of the user at a place: where its record stands, and the range of its blocked guarantee and of the prices. Assumes nothing.
 use mathlib.Core.List.{List}
-use mathlib.Core.Path.{_≡_, _∙_, ap}
+use mathlib.Core.Path.{_≡_, _∙_, ap, sym, subst}
 use Prim.Native.Nat.{ℕ, _+_, _*_, _<_, _≤_}
 use native.Mathlib.Omega.{arith}
 use lib.Dec.{T, leb→le}
@@ -14,7 +14,8 @@ use Rattle.units.specs.Prices.{InRange}
 use Rattle.fields.proofs.Records.{getD-recordsOf}
 use Rattle.fields.specs.Layout.{recordsOf}
 use Rattle.book_records.specs.Trade.{tradeOf}
-use Rattle.book_records.specs.User.{userOf}
+use Rattle.book_records.specs.User.{asUser, userOf}
+use Rattle.book_records.specs.declared.User as code
 use Rattle.base.proofs.Fronts.{all-at}
 use Rattle.book_format.proofs.Passed.{length-usersOf, passed}
 use Rattle.book_format.specs.Book.{bookOf, tradeCount, tradesAt, tradesOf, userAt, userCount, usersOf}
@@ -51,3 +52,8 @@ module _ (s : List ℕ) (h : bookNumber s ≡ 0) where
   unfolding bookOf
   blocked-within {place} k =
       blocked-le (getD (usersOf s) place nobody) (all-at userValid (usersOf s) (passed s h .sound .users) place nobody (rw (length-usersOf s) k))
+
+  -- of the record that is read
+  pub record-blocked : {place : ℕ} → place < userCount s → (u : code.User) → asUser u ≡ getD (usersOf s) place nobody → u .blocked .0 ≤ 1000000000000
+  unfolding asUser
+  record-blocked k u e = subst (λ (v : User). v .blocked ≤ 1000000000000) (sym e) (blocked-within k)

@@ -2,7 +2,7 @@
 // A signed amount is kept as an unsigned number, the amount + an offset, and every contract speaks of the integer itself.
 ghost use mathlib.Core.Path.{_≡_};
 ghost use mathlib.Core.Bool.{true, cond};
-ghost use Prim.Native.Nat.{_+_, _*_, _≤_, _<_, _^_};
+ghost use Prim.Native.Nat.{_+_, _-_, _*_, _≤_, _<_, _^_};
 ghost use lib.IntN.{pos, _+ℤ_, _-ℤ_};
 ghost use Rattle.base.specs.Parts.{posPart, negPart};
 ghost use Rattle.rules.specs.Areas.{tariff, referencePrice};
@@ -17,6 +17,16 @@ pub struct Mwh(pub u64);
 
 // A sum of money, in cents.
 pub struct Cents(pub u64);
+
+// What an amount is above another, and 0 where it is not: max(0, a − b).
+pub fn excess(a: u64, b: u64) -> u64
+    ensures { λ r. ⌜ r ≡ a - b ⌝ }
+{
+    if a < b {
+        return 0;
+    }
+    a - b
+}
 
 // Cents for each MWh.
 pub struct Price(pub u32);
@@ -71,11 +81,7 @@ impl Net {
         ensures { λ r. ⌜ r .0 < 2 ^ 31 ⌝ }
     {
         let x = self.0;
-        if x < Net::OFFSET {
-            Mwh(0)
-        } else {
-            Mwh((x - Net::OFFSET) as u64)
-        }
+        Mwh(excess(x as u64, Net::OFFSET as u64))
     }
 
     // How short it is: what it is below 0.
@@ -84,11 +90,7 @@ impl Net {
         ensures { λ r. ⌜ r .0 ≤ 2 ^ 31 ⌝ }
     {
         let x = self.0;
-        if x < Net::OFFSET {
-            Mwh((Net::OFFSET - x) as u64)
-        } else {
-            Mwh(0)
-        }
+        Mwh(excess(Net::OFFSET as u64, x as u64))
     }
 
     // Is it within the range of a physical entry, a million MWh either way?
@@ -168,11 +170,7 @@ impl Balance {
         ensures { λ r. ⌜ r .0 < 2 ^ 63 ⌝ }
     {
         let x = self.0;
-        if x < Balance::OFFSET {
-            Cents(0)
-        } else {
-            Cents(x - Balance::OFFSET)
-        }
+        Cents(excess(x, Balance::OFFSET))
     }
 
     // What is to the user's credit: what it is below 0.
@@ -181,11 +179,7 @@ impl Balance {
         ensures { λ r. ⌜ r .0 ≤ 2 ^ 63 ⌝ }
     {
         let x = self.0;
-        if x < Balance::OFFSET {
-            Cents(Balance::OFFSET - x)
-        } else {
-            Cents(0)
-        }
+        Cents(excess(Balance::OFFSET, x))
     }
 
     // Is it within the range of charges, 10^12 cents either way?
