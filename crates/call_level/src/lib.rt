@@ -28,7 +28,9 @@ pub fn level_of(
     ensures { λ r. ⌜ r .0 ≡ levelOf afternoon (asLimits limits) (bookOf (now (book .entry))) (asUser user) ⌝ }
 {
     let prices = book_form::read_prices(book);
-    let holdings = risk_user::holdings_at(sums, place, user.physical, user.position);
+    let physical = user.physical;
+    let position = user.position;
+    let holdings = risk_user::holdings_at(sums, place, physical, position);
     let charges = user.charges;
     if afternoon {
         return risk_levels::afternoon_level(limits, prices, charges, holdings);

@@ -29,7 +29,8 @@ fn is_flagged_shipper(book: &[u8], prices: Prices, id: u32, limits: Limits) -> b
     if seller.role != 0 {
         return false;
     }
-    risk_levels::flagged(limits, prices, seller.blocked, seller.position)
+    let position = seller.position;
+    risk_levels::flagged(limits, prices, seller.blocked, position)
 }
 
 // Is the user of an id the buyer of the trade, and does the trade warn its buyer?
@@ -94,7 +95,8 @@ pub fn warning(book: &[u8], number: u32, limits: Limits, id: u32) -> WarningAnsw
         };
     }
     let prices = book_form::read_prices(book);
-    if risk_levels::flagged(limits, prices, user.blocked, user.position) {
+    let position = user.position;
+    if risk_levels::flagged(limits, prices, user.blocked, position) {
         return WarningAnswer {
             number: 0,
             warned: true,

@@ -1,5 +1,4 @@
--- A search through the first trades, and who is called in.
+-- A search through the first trades.
 pub mod Search
-pub mod Ruled
 -- Laws of needs.
 pub mod Needs

@@ -58,7 +58,12 @@ pub fn morning_level(limits: Limits, prices: Prices, charges: Balance, holdings:
 }
 
 // The afternoon level of a user with these charges and holdings.
-pub fn afternoon_level(limits: Limits, prices: Prices, charges: Balance, holdings: Holdings) -> Cents
+pub fn afternoon_level(
+    limits: Limits,
+    prices: Prices,
+    charges: Balance,
+    holdings: Holdings,
+) -> Cents
     requires { ⌜ LimitsInRange (asLimits limits) × InRange (asPrices prices) × HoldingsWithin (2 ^ 40) holdings ⌝ }
     ensures { λ r. ⌜ r .0 ≡ floored (asLimits limits) (afternoonSum (asPrices prices) (heldIn holdings) (balance charges)) ⌝ }
 {
@@ -105,7 +110,13 @@ pub fn flagged(limits: Limits, prices: Prices, blocked: Cents, positions: [Net; 
 }
 
 // Is a user called in: flagged, or party to a trade standing below notified (`cut`)?
-pub fn called_in(limits: Limits, prices: Prices, blocked: Cents, positions: [Net; 3], cut: bool) -> bool
+pub fn called_in(
+    limits: Limits,
+    prices: Prices,
+    blocked: Cents,
+    positions: [Net; 3],
+    cut: bool,
+) -> bool
     requires { ⌜ LimitsInRange (asLimits limits) × InRange (asPrices prices) × (blocked .0 ≤ 1000000000000) ⌝ }
     ensures { λ r. ⌜ ((u : User) → blocked .0 ≡ u .blocked → r ≡ flaggedFrom (asLimits limits) (asPrices prices) u (positioned positions) || cut) ⌝ }
 {

@@ -1,6 +1,7 @@
 -- The holdings that are read of a user: those of arrays, and those of the rules. Assumes nothing.
+use mathlib.Core.Bool.{Bool, _||_}
 use mathlib.Core.List.{List, []}
-use mathlib.Core.Path.{_≡_, refl, sym, ap, _∙_}
+use mathlib.Core.Path.{_≡_, refl, sym, ap, ap₂, _∙_}
 use Prim.Native.Nat.{ℕ, zero, suc, _+_, _*_, _<_}
 use native.Mathlib.Omega.{arith}
 use lib.IntN.{ℤ}
@@ -8,7 +9,7 @@ use lib.ListN.{getD, length}
 use Rattle.base.specs.Sums.{sum}
 use Rattle.rules.specs.Areas.{Prices, areas}
 use Rattle.rules.specs.Book.{at, Book, PerArea, User, nobody, sold, bought}
-use Rattle.rules.specs.Levels.{Limits, Holding, afternoonLevel, exposure, flagged, flaggedFrom, floored, holding, levelFrom, morningLevel, morningSum}
+use Rattle.rules.specs.Levels.{Limits, Holding, afternoonLevel, buys, calledIn, exposure, flagged, flaggedFrom, floored, holding, levelFrom, morningLevel, morningSum, partyTo, sells}
 use Rattle.laws_sales.proofs.Cover.{level-next}
 use Rattle.laws_sales.specs.Cover.{AllNext}
 use Rattle.units.specs.declared.Net.{Net}
@@ -17,6 +18,7 @@ use Rattle.book_records.specs.declared.User as code
 use Rattle.book_sums.specs.Twelve.{TwelveOf}
 use Rattle.risk_holdings.specs.declared.Holdings.{Holdings}
 use Rattle.risk_holdings.specs.Holdings.{asHolding, heldIn, positioned}
+use Rattle.risk_holdings.specs.Parties.{cutBefore, isCut}
 use Rattle.risk_user.specs.UserAt.{HeldWith, heldAt, heldBy, positionIn, positionsIn}
 
 -- ---- by the sums
@@ -29,7 +31,7 @@ at-sum sums m n e = ap (λ (k : ℕ). getD sums k 0) e
 pub held-by : (sums : List ℕ) (i area : ℕ) {physical position : ℤ} {sold bought soldNext boughtNext : ℕ}
     → sold ≡ getD sums (12 * i + area) 0 → soldNext ≡ getD sums (12 * i + area + 3) 0 → bought ≡ getD sums (12 * i + area + 6) 0 → boughtNext ≡ getD sums (12 * i + area + 9) 0
     → record { physical = physical; position = position; sold = sold; bought = bought; soldNext = soldNext; boughtNext = boughtNext } ≡ heldBy sums i area physical position
-held-by sums i area a b c d = 
+held-by sums i area a b c d =
     cc (
       a,
       b ∙ at-sum sums (12 * i + area + 3) (12 * i + 3 + area) (omega arith),
@@ -86,6 +88,11 @@ module _ (limits : Limits) (b : Book) (u : code.User) {f : Prices} (priced : f �
   unfolding flagged exposure sum areas positioned holding asUser
   flagged-record = ap (λ (g : Prices). flaggedFrom limits g (asUser u) (holding b (asUser u))) priced
 
+  -- and whether it is called in
+  pub called-record : {r cut : Bool} → r ≡ (flaggedFrom limits f (asUser u) (positioned (u .position)) || cut) → cut ≡ cutBefore (u .id) (b .trades) → r ≡ calledIn limits b (asUser u)
+  unfolding calledIn partyTo sells buys isCut cutBefore asUser
+  called-record e c = e ∙ ap₂ (λ (x y : Bool). x || y) flagged-record c
+
   module _ {sums : List ℕ} (w : TwelveOf (b .users) (b .trades) sums) {i : ℕ} (k : i < length (b .users)) (is : asUser u ≡ getD (b .users) i nobody)
       {h : Holdings} (p : HeldWith sums i (asAmounts (u .physical)) (asAmounts (u .position)) h) where
     -- what it holds
@@ -109,8 +116,10 @@ module _ (limits : Limits) (b : Book) (u : code.User) {f : Prices} (priced : f �
     unfolding afternoonLevel
     afternoon-record =
         ap (λ (g : Prices). levelFrom limits g (asUser u) (heldIn h)) priced
-        ∙ level-next (record { each = λ area l. record {
-          position = ap (λ (x : Holding). x .position) (held-record area l);
-          sold = ap (λ (x : Holding). x .soldNext) (held-record area l);
-          bought = ap (λ (x : Holding). x .boughtNext) (held-record area l);
-        } }) limits (b .header .prices) (asUser u)
+        ∙ level-next (record {
+          each = λ area l. record {
+            position = ap (λ (x : Holding). x .position) (held-record area l);
+            sold = ap (λ (x : Holding). x .soldNext) (held-record area l);
+            bought = ap (λ (x : Holding). x .boughtNext) (held-record area l);
+          };
+        }) limits (b .header .prices) (asUser u)

@@ -144,7 +144,13 @@ fn sum_at(sums: &[u32; 768], k: usize) -> Mwh
 }
 
 // What the user at a place holds in an area, with its physical entries and its positions.
-fn holding_at(sums: &[u32; 768], place: usize, area: usize, physical: [Net; 3], position: [Net; 3]) -> Holding
+fn holding_at(
+    sums: &[u32; 768],
+    place: usize,
+    area: usize,
+    physical: [Net; 3],
+    position: [Net; 3],
+) -> Holding
     requires { ⌜ Low (now sums) × (place < 64) × (area < 3) ⌝ }
     ensures { λ r. ⌜ asHolding r ≡ heldBy (now (sums .entry)) place area (at (asAmounts physical) area) (at (asAmounts position) area) ⌝ }
     ensures { λ r. ⌜ HoldingWithin (2 ^ 40) r ⌝ }
@@ -165,7 +171,12 @@ fn holding_at(sums: &[u32; 768], place: usize, area: usize, physical: [Net; 3], 
 }
 
 // What the user at a place holds, with its physical entries and its positions.
-pub fn holdings_at(sums: &[u32; 768], place: usize, physical: [Net; 3], position: [Net; 3]) -> Holdings
+pub fn holdings_at(
+    sums: &[u32; 768],
+    place: usize,
+    physical: [Net; 3],
+    position: [Net; 3],
+) -> Holdings
     requires { ⌜ Low (now sums) × (place < 64) ⌝ }
     ensures { λ r. ⌜ HeldWith (now (sums .entry)) place (asAmounts physical) (asAmounts position) r ⌝ }
 {

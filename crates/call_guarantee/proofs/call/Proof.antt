@@ -91,11 +91,11 @@ is-due-requires c κs =
     let k = c .before .before .before .before .before in
     let n = k .before .before in
     let f = found n in
-    (f .passes, (record-blocked (bytes (n .before)) (f .passes) (f .known) (k .user-at .result) (k .user-at .ensures), ranged (n .before)))
+    (f .passes, record-blocked (bytes (n .before)) (f .passes) (f .known) (k .user-at .result) (k .user-at .ensures), ranged (n .before))
 
 raise-requires : tie.Need-raise-requires
 raise-requires c κs =
-    let n = c .before .before .before .before .before .before .before .before in
+    let n = c .before .before .before .before .before .before .before .before .before in
     record { inside = found-lies (found n); few = omega (arith, found-few (found n)) }
 
 same-length-3 : tie.Need-same-length-3
@@ -106,7 +106,7 @@ returns-3 c =
     let r = c .before .before in
     let d = r .before .before in
     let l = d .before .before in
-    let t = l .before in
+    let t = l .before .before in
     let k = t .before .before in
     let n = k .before .before in
     let e = n .before in

@@ -20,7 +20,7 @@ returns c =
     let s = sn .before in
     let a = s .before .args in (
       held-by (now (a .sums)) (a .place) (a .area) (s .sum-at .ensures .0) (sn .sum-at2 .ensures .0) (b .sum-at3 .ensures .0) (bn .sum-at4 .ensures .0)
-      ∙ ap₂ (λ (x y : ℤ). heldBy (now (a .sums)) (a .place) (a .area) x y) (sym (at-asAmounts (a .t4) (a .area) (s .before .pre .2))) (sym (at-asAmounts (a .t5) (a .area) (s .before .pre .2))),
+          ∙ ap₂ (λ (x y : ℤ). heldBy (now (a .sums)) (a .place) (a .area) x y) (sym (at-asAmounts (a .t4) (a .area) (s .before .pre .2))) (sym (at-asAmounts (a .t5) (a .area) (s .before .pre .2))),
       record {
         sold = omega (arith, s .sum-at .ensures .1);
         bought = omega (arith, b .sum-at3 .ensures .1);
