@@ -61,7 +61,7 @@ fn raise(book: &mut [u8], place: usize, user: User, level: Cents, due: bool) -> 
 }
 
 // The guarantee call on the user of an id, at one time of the day, after the opening questions, whose number is given with the sums of the users.
-fn call(
+pub fn call(
     book: &mut [u8],
     number: u32,
     limits: Limits,
@@ -87,36 +87,4 @@ fn call(
     let level = call_level::level_of(book, sums, place, user, limits, afternoon);
     let due = is_due(book, user, limits, level, afternoon);
     raise(book, place, user, level, due)
-}
-
-// The morning call on the user of an id, after the opening questions, whose number is given with the sums of the users: blocked reaches the morning level.
-pub fn morning_call(
-    book: &mut [u8],
-    number: u32,
-    limits: Limits,
-    sums: &[u32; 768],
-    id: u32,
-) -> CallAnswer
-    requires { ⌜ (number ≡ 0 → bookNumber (now book) ≡ 0) ⌝ }
-    requires { ⌜ LimitsInRange (asLimits limits) ⌝ }
-    requires { ⌜ SumsFound (now book) number (now sums) ⌝ }
-    ensures { λ r. ⌜ CalledAfter number (asLimits limits) (now (book .entry)) (morningCall id) (answerOf r) (now (book .exit)) ⌝ }
-{
-    call(book, number, limits, sums, id, false)
-}
-
-// The afternoon call on the user of an id, after the opening questions, whose number is given with the sums of the users: blocked reaches the afternoon level.
-pub fn afternoon_call(
-    book: &mut [u8],
-    number: u32,
-    limits: Limits,
-    sums: &[u32; 768],
-    id: u32,
-) -> CallAnswer
-    requires { ⌜ (number ≡ 0 → bookNumber (now book) ≡ 0) ⌝ }
-    requires { ⌜ LimitsInRange (asLimits limits) ⌝ }
-    requires { ⌜ SumsFound (now book) number (now sums) ⌝ }
-    ensures { λ r. ⌜ CalledAfter number (asLimits limits) (now (book .entry)) (afternoonCall id) (answerOf r) (now (book .exit)) ⌝ }
-{
-    call(book, number, limits, sums, id, true)
 }

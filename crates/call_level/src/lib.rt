@@ -39,7 +39,7 @@ pub fn level_of(
 }
 
 // The level of the user of an id, at one time of the day, after the opening questions, whose number is given with the sums of the users.
-fn level(
+pub fn level(
     book: &[u8],
     number: u32,
     limits: Limits,
@@ -73,36 +73,4 @@ fn level(
         number: 0,
         level: level,
     }
-}
-
-// The morning level of the user of an id, after the opening questions, whose number is given with the sums of the users.
-pub fn morning_level(
-    book: &[u8],
-    number: u32,
-    limits: Limits,
-    sums: &[u32; 768],
-    id: u32,
-) -> LevelAnswer
-    requires { ⌜ (number ≡ 0 → bookNumber (now book) ≡ 0) ⌝ }
-    requires { ⌜ LimitsInRange (asLimits limits) ⌝ }
-    requires { ⌜ SumsFound (now book) number (now sums) ⌝ }
-    ensures { λ r. ⌜ replyOf r ≡ replyAfter number (asLimits limits) (now (book .entry)) (morningLevelOf id) ⌝ }
-{
-    level(book, number, limits, sums, id, false)
-}
-
-// The afternoon level of the user of an id, after the opening questions, whose number is given with the sums of the users.
-pub fn afternoon_level(
-    book: &[u8],
-    number: u32,
-    limits: Limits,
-    sums: &[u32; 768],
-    id: u32,
-) -> LevelAnswer
-    requires { ⌜ (number ≡ 0 → bookNumber (now book) ≡ 0) ⌝ }
-    requires { ⌜ LimitsInRange (asLimits limits) ⌝ }
-    requires { ⌜ SumsFound (now book) number (now sums) ⌝ }
-    ensures { λ r. ⌜ replyOf r ≡ replyAfter number (asLimits limits) (now (book .entry)) (afternoonLevelOf id) ⌝ }
-{
-    level(book, number, limits, sums, id, true)
 }

@@ -300,11 +300,11 @@ impl Area {
     }
 }
 
-// The three figures that the rules take as given: MWh of a flag, cents of a call, cents of the least level.
+// The three figures that the rules take as given: cents of a call, cents of the least level, MWh of a flag. The two that a store has in 64 bits each stand first: they are moved together.
 pub struct Limits {
-    pub flag_mwh: Mwh,
     pub margin: Cents,
     pub floor: Cents,
+    pub flag_mwh: Mwh,
 }
 
 impl Limits {
@@ -314,9 +314,9 @@ impl Limits {
         ensures { λ r. ⌜ LimitsInRange (asLimits r) ⌝ }
     {
         Limits {
-            flag_mwh: Mwh(30000),
             margin: Cents(1000000),
             floor: Cents(10000000),
+            flag_mwh: Mwh(30000),
         }
     }
 }

@@ -1,17 +1,17 @@
--- `daybook_afternoon_call` makes the call of the afternoon where the lent part has two places, and stores its level and what was added there. Assumes nothing.
+-- `call` makes the call of a time of the day where the lent part has two places, and stores its level and what was added there. Assumes nothing.
 use denote.Ref.{now}
 use Rattle.exports_answers.specs.Numbers.{callNumbers}
 use Rattle.exports.specs.Answers.{isYes}
 use Rattle.exports.proofs.Lent.{answered, not-called}
 use borrow.Author.Needs.{needs}
-use Rattle.exports.proofs.daybook_afternoon_call.Statement.{statement}
-use Rattle.exports.proofs.daybook_afternoon_call.Tie as tie
+use Rattle.exports.proofs.call.Statement.{statement}
+use Rattle.exports.proofs.call.Tie as tie
 
 returns : tie.Need-returns
 returns c = not-called 2 (now (c .before .before .before .before .args .answer)) callNumbers _ _ (c .if1 .taken)
 
-afternoon-call-requires : tie.Need-afternoon-call-requires
-afternoon-call-requires c κs = search needs
+call-requires : tie.Need-call-requires
+call-requires c κs = search needs
 
 store-call-requires : tie.Need-store-call-requires
 store-call-requires c κs = search needs
@@ -27,14 +27,14 @@ unfolding isYes
 returns-2 c =
     let storing = c .before .before in
     let made = storing .before .before .before .before in
-    answered 2 _ callNumbers _ _ _ _ _ _ (made .before .before .if1 .left) (made .afternoon-call .ensures) (storing .store-call .ensures .0) (storing .store-call .ensures .1)
+    answered 2 _ callNumbers _ _ _ _ _ _ (made .before .before .if1 .left) (made .call .ensures) (storing .store-call .ensures .0) (storing .store-call .ensures .1)
 
-pub daybook-afternoon-call-spec : {M : Type 1} → statement M
-daybook-afternoon-call-spec =
+pub call-spec : {M : Type 1} → statement M
+call-spec =
     tie.close
     (tie.spec
     returns
-    afternoon-call-requires
+    call-requires
     store-call-requires
     same-length
     same-length-2

@@ -1,8 +1,8 @@
--- `daybook::afternoon_call` makes the afternoon call after the opening questions, with the figures of its setting. Assumes nothing.
+-- `daybook::call` makes the call of a time of the day after the opening questions, with the figures of its setting. Assumes nothing.
 use borrow.Author.Needs.{needs}
 use Rattle.requests.proofs.Opened.{carried}
-use Rattle.daybook.proofs.afternoon_call.Statement.{statement}
-use Rattle.daybook.proofs.afternoon_call.Tie as tie
+use Rattle.daybook.proofs.call.Statement.{statement}
+use Rattle.daybook.proofs.call.Tie as tie
 
 slice-aggregate-admit-with-sums : tie.Need-slice-aggregate-admit-with-sums
 slice-aggregate-admit-with-sums c = search needs
@@ -13,8 +13,8 @@ slice-aggregate-admit-with-sums-2 c = search needs
 admit-with-sums-requires : tie.Need-admit-with-sums-requires
 admit-with-sums-requires c κs = search needs
 
-afternoon-call-requires : tie.Need-afternoon-call-requires
-afternoon-call-requires c κs =
+call-requires : tie.Need-call-requires
+call-requires c κs =
     let k = c .before .before .before .before .before .admit-with-sums .ensures in
     (k .1 .1 .0, (k .1 .0, k .1 .1 .1 .summed))
 
@@ -24,15 +24,15 @@ same-length c = search needs
 returns : tie.Need-returns
 returns c =
     let k = c .before .before in
-    carried (k .before .before .before .before .before .before .admit-with-sums .ensures .0) (k .afternoon-call .ensures)
+    carried (k .before .before .before .before .before .before .admit-with-sums .ensures .0) (k .call .ensures)
 
-pub afternoon-call-spec : {M : Type 1} → statement M
-afternoon-call-spec =
+pub call-spec : {M : Type 1} → statement M
+call-spec =
     tie.close
     (tie.spec
     slice-aggregate-admit-with-sums
     slice-aggregate-admit-with-sums-2
     admit-with-sums-requires
-    afternoon-call-requires
+    call-requires
     same-length
     returns)
