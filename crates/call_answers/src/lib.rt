@@ -46,8 +46,8 @@ impl CallAnswer {
 
 // ---- a reduction
 
-// The MWh cut and their worth, the target, and what the worth falls short of it or exceeds it by, and 0; or 0 in every field and the number of the first question
-// that is answered by no.
+// The MWh cut and their worth, the target, and what the worth falls short of it or exceeds it by, and 0; or 0 in every field and the number
+// of the first question that is answered by no.
 pub struct ReductionAnswer {
     pub number: u32,
     pub mwh: Mwh,
@@ -91,7 +91,8 @@ impl ReductionAnswer {
 
 // ---- a run
 
-// The number of reductions, the MWh cut and their worth, and 0; or the number of the first question that is answered by no, with every other field 0.
+// The number of reductions, the MWh cut and their worth, and 0; or the number of the first question that is answered by no, with every
+// other field 0.
 pub struct RunAnswer {
     pub number: u32,
     pub reductions: u64,

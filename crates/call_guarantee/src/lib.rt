@@ -1,12 +1,11 @@
-// The guarantee calls on a lent book in bytes: a user's blocked guarantee is raised to its morning or its afternoon level. Both times of the day go one way, with the level
-// of the time.
+// The guarantee calls on a lent book in bytes: a user's blocked guarantee is raised to its morning or its afternoon level. Both times of
+// the day go one way, with the level of the time.
 use book_records::User;
 use call_answers::CallAnswer;
 use units::Cents;
 use units::Limits;
 ghost use mathlib.Core.Path.{_≡_};
 ghost use Prim.Native.Nat.{_≤_};
-ghost use Rattle.rules.specs.Calls.{morningCall, afternoonCall};
 ghost use Rattle.units.specs.Limits.{asLimits, LimitsInRange};
 ghost use Rattle.book_records.specs.User.{asUser};
 ghost use Rattle.book_format.specs.After.{CalledAfter};
@@ -17,7 +16,8 @@ ghost use Rattle.book_questions.specs.Asked.{SumsFound};
 ghost use Rattle.call_guarantee.specs.Times.{dueOf, callOf};
 ghost use Rattle.call_guarantee.specs.Raised.{Raisable, raised};
 
-// Question 11 of a user of an accepted book: does the level exceed blocked by more than the margin, and in the afternoon, is the user called in?
+// Question 11 of a user of an accepted book: does the level exceed blocked by more than the margin, and in the afternoon, is the user
+// called in?
 fn is_due(book: &[u8], user: User, limits: Limits, level: Cents, afternoon: bool) -> bool
     requires { ⌜ (bookNumber (now book) ≡ 0) × (user .blocked .0 ≤ 1000000000000) × LimitsInRange (asLimits limits) ⌝ }
     ensures { λ r. ⌜ r ≡ dueOf afternoon (asLimits limits) (bookOf (now (book .entry))) (level .0) (asUser user) ⌝ }
@@ -35,7 +35,8 @@ fn is_due(book: &[u8], user: User, limits: Limits, level: Cents, afternoon: bool
     true
 }
 
-// The end of a call on the user at a place, with its level and the answer to question 11: asks question 12, and raises the user's record in the book.
+// The end of a call on the user at a place, with its level and the answer to question 11: asks question 12, and raises the user's record in
+// the book.
 fn raise(book: &mut [u8], place: usize, user: User, level: Cents, due: bool) -> CallAnswer
     requires { ⌜ Raisable (now book) place ⌝ }
     ensures { λ r. ⌜ answerOf r ≡ raised (now (book .entry)) place (asUser user) (level .0) due .answer ⌝ }
@@ -60,7 +61,8 @@ fn raise(book: &mut [u8], place: usize, user: User, level: Cents, due: bool) -> 
     }
 }
 
-// The guarantee call on the user of an id, at one time of the day, after the opening questions, whose number is given with the sums of the users.
+// The guarantee call on the user of an id, at one time of the day, after the opening questions, whose number is given with the sums of the
+// users.
 pub fn call(
     book: &mut [u8],
     number: u32,

@@ -4,7 +4,6 @@ use call_answers::LevelAnswer;
 use units::Cents;
 use units::Limits;
 ghost use mathlib.Core.Path.{_≡_};
-ghost use Rattle.rules.specs.Queries.{morningLevelOf, afternoonLevelOf};
 ghost use Rattle.units.specs.Limits.{asLimits, LimitsInRange};
 ghost use Rattle.book_records.specs.User.{asUser};
 ghost use Rattle.book_format.specs.Book.{bookOf};

@@ -1,5 +1,6 @@
-// What is read of one user: its record, its money, its holdings and positions; and its level, called in, target and state, asked of these. The money is read from the bytes of a
-// book; positions, and what was sold and bought, from arrays with three positions and twelve sums for each place, so that a run asks it of the book that it has come to as well.
+// What is read of one user: its record, its money, its holdings and positions; and its level, called in, target and state, asked of these.
+// The money is read from the bytes of a book; positions, and what was sold and bought, from arrays with three positions and twelve sums for
+// each place, so that a run asks it of the book that it has come to as well.
 ghost use mathlib.Core.Path.{_≡_};
 ghost use Prim.Native.Nat.{_+_, _*_, _≤_, _<_, _^_};
 ghost use lib.ListN.{length, drop, getD};

@@ -1,5 +1,6 @@
-// Energy, money and prices, each with its own type; signed amounts of energy and money; the prices of a day and the areas that they hold in; the limits of the rules.
-// A signed amount is kept as an unsigned number, the amount + an offset, and every contract speaks of the integer itself.
+// Energy, money and prices, each with its own type; signed amounts of energy and money; the prices of a day and the areas that they hold
+// in; the limits of the rules. A signed amount is kept as an unsigned number, the amount + an offset, and every contract speaks of the
+// integer itself.
 ghost use mathlib.Core.Path.{_≡_};
 ghost use mathlib.Core.Bool.{true, cond};
 ghost use Prim.Native.Nat.{_+_, _-_, _*_, _≤_, _<_, _^_};
@@ -32,7 +33,8 @@ pub fn excess(a: u64, b: u64) -> u64
 pub struct Price(pub u32);
 
 impl Price {
-    // What an energy is worth at this price: the way from energy to money. Only the cuts of a tier, which are plain numbers, multiply by the rate of an area (`cut_worth`). No reference price in range is above 300,000.
+    // What an energy is worth at this price: the way from energy to money. Only the cuts of a tier, which are plain numbers, multiply by
+    // the rate of an area (`cut_worth`). No reference price in range is above 300,000.
     pub fn worth(self, energy: Mwh) -> Cents
         requires { ⌜ (self .0 ≤ 300000) × (energy .0 ≤ 2 ^ 45) ⌝ }
         ensures { λ r. ⌜ r .0 ≡ energy .0 * self .0 ⌝ }
@@ -251,7 +253,8 @@ impl Posted {
     }
 }
 
-// The prices of a day, in cents per MWh: the tariffs P of PVB and Q of TVB and AVB, and the tolls L for liquefaction, X for PVB exit and I for injection.
+// The prices of a day, in cents per MWh: the tariffs P of PVB and Q of TVB and AVB, and the tolls L for liquefaction, X for PVB exit and I
+// for injection.
 pub struct Prices {
     pub p: u32,
     pub q: u32,
@@ -300,7 +303,8 @@ impl Area {
     }
 }
 
-// The three figures that the rules take as given: cents of a call, cents of the least level, MWh of a flag. The two that a store has in 64 bits each stand first: they are moved together.
+// The three figures that the rules take as given: cents of a call, cents of the least level, MWh of a flag. The two that a store has in 64
+// bits each stand first: they are moved together.
 pub struct Limits {
     pub margin: Cents,
     pub floor: Cents,
