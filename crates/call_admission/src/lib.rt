@@ -11,8 +11,8 @@ ghost use Rattle.requests.specs.Carried.{Admitted};
 
 // What the opening questions give: the number of the first that is answered by no, 0 where there is none, and the figures that the call takes then.
 pub struct Admission {
-    pub number: u32,
     pub limits: Limits,
+    pub number: u32,
 }
 
 // The questions of the store, after those of the book: the book's number where one of those is answered by no.
@@ -24,16 +24,16 @@ fn by_store(book: &[u8], asked: u32, with_store: bool, store: &[u8]) -> Admissio
 {
     if asked != 0 {
         return Admission {
-            number: asked,
             limits: Limits::today(),
+            number: asked,
         };
     }
     let date = fields::get_u32(book, 8);
     let figures = store::figures_on(date, with_store, store);
     let limits = figures.limits;
     Admission {
-        number: figures.number,
         limits: limits,
+        number: figures.number,
     }
 }
 

@@ -46,8 +46,8 @@ impl CallAnswer {
 
 // ---- a reduction
 
-// The MWh cut and their worth, the target, and what the worth falls short of it or exceeds it by, and 0; or 0 in every field and the number of the first question
-// that is answered by no.
+// The MWh cut and their worth, the target, and what the worth falls short of it or exceeds it by, and 0; or 0 in every field and the number
+// of the first question that is answered by no.
 pub struct ReductionAnswer {
     pub number: u32,
     pub mwh: Mwh,
@@ -55,16 +55,6 @@ pub struct ReductionAnswer {
     pub target: Cents,
     pub short: Cents,
     pub over: Cents,
-}
-
-// What an amount exceeds another by, 0 where it does not.
-pub fn excess(amount: Cents, other: Cents) -> Cents
-    ensures { λ r. ⌜ r .0 ≡ amount .0 - other .0 ⌝ }
-{
-    if amount.0 < other.0 {
-        return Cents(0);
-    }
-    Cents(amount.0 - other.0)
 }
 
 impl ReductionAnswer {
@@ -93,15 +83,16 @@ impl ReductionAnswer {
             mwh: mwh,
             worth: worth,
             target: asked,
-            short: excess(asked, worth),
-            over: excess(worth, asked),
+            short: Cents(units::excess(asked.0, worth.0)),
+            over: Cents(units::excess(worth.0, asked.0)),
         }
     }
 }
 
 // ---- a run
 
-// The number of reductions, the MWh cut and their worth, and 0; or the number of the first question that is answered by no, with every other field 0.
+// The number of reductions, the MWh cut and their worth, and 0; or the number of the first question that is answered by no, with every
+// other field 0.
 pub struct RunAnswer {
     pub number: u32,
     pub reductions: u64,

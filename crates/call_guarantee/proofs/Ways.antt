@@ -3,22 +3,22 @@ use mathlib.Core.Bool.{Bool, true, false}
 use mathlib.Core.List.{List, _∷_}
 use mathlib.Core.Path.{_≡_, refl, sym, ap, _∙_}
 use Prim.Native.Nat.{ℕ, _+_, _-_, _*_, _≤_, _<_}
+use lib.ListN.{getD}
 use lib.Seq.{sets}
 use borrow.Author.Tests.{eq-eqb, ne-eqb, le-leb, lt-leb}
-use Rattle.rules.specs.Book.{Book, User, find}
+use Rattle.rules.specs.Book.{Book, User, find, nobody}
 use Rattle.rules.specs.Levels.{Limits, shipper, exceedsMargin}
 use Rattle.rules.specs.Questions.{Question, refusal, decided}
 use Rattle.rules.specs.Calls.{about, assignedSuffices, calledInBeyondMargin, effect, guaranteed, idKnown, isShipper, marginExceeded, ofLevel, only}
 use Rattle.rules.specs.Changes.{blockedTo}
 use Rattle.fields.specs.Field.{AllBytes}
 use Rattle.book_records.specs.User.{asUser, userBytes}
-use Rattle.book_format.specs.Book.{bookOf, userAt}
+use Rattle.book_records.specs.declared.User as code
+use Rattle.book_format.specs.Book.{bookOf, userAt, usersOf}
 use Rattle.book_format.specs.Steps.{inBytes}
 use Rattle.book_format.proofs.OneUser.{changed-bytes}
 use Rattle.book_format.proofs.Passed.{passed}
 use Rattle.book_format.specs.After.{stepAfter}
-use Rattle.risk_user.specs.Account.{AccountAt}
-use Rattle.risk_user.specs.declared.Account.{Account}
 use Rattle.call_entry.specs.Entered.{Entered, Found}
 use Rattle.call_entry.proofs.Calls.{call-found, call-refused, read-role, read-user}
 use Rattle.call_level.specs.Times.{levelOf}
@@ -45,7 +45,7 @@ module _ (s : List ℕ) (place : ℕ) (u : User) (level : ℕ) {due : Bool} wher
   raised-short e h = rw (e, lt-leb level (u .party .assigned) h)
 
   pub raised-full : due ≡ true → level ≤ u .party .assigned
-      → raised s place u level due ≡ record { answer = ofLevel level (level - u .blocked); bytes = sets s (32 + 56 * place) (userBytes (blockedTo level u)) }
+      → raised s place u level due ≡ record { answer = ofLevel level (level - u .blocked); bytes = sets s (userAt s place) (userBytes (blockedTo level u)) }
   unfolding raised lastQuestions assignedSuffices refusal decided
   raised-full e h = rw (e, le-leb level (u .party .assigned) h)
 
@@ -88,8 +88,8 @@ module _ (before : ℕ) (limits : Limits) (s : List ℕ) (id : ℕ) (afternoon :
 
     -- one user's record is changed
     effect-bytes : AllBytes s → inBytes (effect limits (bookOf s) (callOf afternoon id))
-        ≡ record { answer = ofLevel level (level - user .blocked); bytes = sets s (32 + 56 * place) (userBytes (blockedTo level user)) }
-    unfolding inBytes guaranteed userAt bookOf
+        ≡ record { answer = ofLevel level (level - user .blocked); bytes = sets s (userAt s place) (userBytes (blockedTo level user)) }
+    unfolding inBytes guaranteed bookOf
     effect-bytes h =
         rw (call-effects limits (bookOf s) id afternoon, f .stands)
         (ap (λ (l : List ℕ). record { answer = ofLevel level (level - user .blocked); bytes = l })
@@ -101,10 +101,10 @@ module _ (before : ℕ) (limits : Limits) (s : List ℕ) (id : ℕ) (afternoon :
         rw (call-found before limits s id rest (callOf afternoon id) (call-asks limits (bookOf s) id afternoon) o f, eq-eqb (user .party .role) 0 k)
         (ap (decided (refusal (lastQuestions due level user)) (λ n. record { answer = only n; bytes = s })) (effect-bytes h))
 
-    -- with the user, the level and the answer to question 11 of the account
-    pub call-ends : AllBytes s → {a : Account} {n : ℕ} {d : Bool} → AccountAt s place a → a .user .role ≡ 0
-        → n ≡ levelOf afternoon limits (bookOf s) (asUser (a .user)) → d ≡ dueOf afternoon limits (bookOf s) n (asUser (a .user))
-        → raised s place (asUser (a .user)) n d ≡ stepAfter before limits s (callOf afternoon id)
-    call-ends h {a} {n} {d} held k m w =
-        let x : raised s place (asUser (a .user)) n d ≡ raised s place user level due = cc (m, w, read-user (a .user) f (held .user)) in
-        x ∙ sym (call-raised h (sym (read-role (a .user) f (held .user)) ∙ k))
+    -- with the record that was read of the user, its level and its answer to question 11
+    pub call-ends : AllBytes s → (u : code.User) {n : ℕ} {d : Bool} → asUser u ≡ getD (usersOf s) place nobody → u .role ≡ 0
+        → n ≡ levelOf afternoon limits (bookOf s) (asUser u) → d ≡ dueOf afternoon limits (bookOf s) n (asUser u)
+        → raised s place (asUser u) n d ≡ stepAfter before limits s (callOf afternoon id)
+    call-ends h u {n} {d} is k m w =
+        let x : raised s place (asUser u) n d ≡ raised s place user level due = cc (m, w, read-user u f is) in
+        x ∙ sym (call-raised h (sym (read-role u f is) ∙ k))

@@ -1,44 +1,45 @@
-// The guarantee calls on a lent book in bytes: a user's blocked guarantee is raised to its morning or its afternoon level. Both times of the day go one way, with the level
-// of the time.
+// The guarantee calls on a lent book in bytes: a user's blocked guarantee is raised to its morning or its afternoon level. Both times of
+// the day go one way, with the level of the time.
 use book_records::User;
 use call_answers::CallAnswer;
-use risk_user::Account;
 use units::Cents;
 use units::Limits;
 ghost use mathlib.Core.Path.{_≡_};
-ghost use Rattle.rules.specs.Calls.{morningCall, afternoonCall};
+ghost use Prim.Native.Nat.{_≤_};
 ghost use Rattle.units.specs.Limits.{asLimits, LimitsInRange};
 ghost use Rattle.book_records.specs.User.{asUser};
 ghost use Rattle.book_format.specs.After.{CalledAfter};
 ghost use Rattle.book_format.specs.Book.{bookOf};
-ghost use Rattle.book_format.specs.Questions.{Formed, bookNumber};
+ghost use Rattle.book_format.specs.Places.{UserIn};
+ghost use Rattle.book_format.specs.Questions.{bookNumber};
 ghost use Rattle.call_answers.specs.Call.{answerOf};
-ghost use Rattle.risk_user.specs.Account.{Ready, AccountIn};
 ghost use Rattle.book_questions.specs.Asked.{SumsFound};
 ghost use Rattle.call_guarantee.specs.Times.{dueOf, callOf};
-ghost use Rattle.call_guarantee.specs.Raised.{Raisable, raised};
+ghost use Rattle.call_guarantee.specs.Raised.{raised};
 
-// Question 11 of the user of an account: does the level exceed blocked by more than the margin, and in the afternoon, is the user called in?
-fn is_due(book: &[u8], account: Account, limits: Limits, level: Cents, afternoon: bool) -> bool
-    requires { ⌜ Formed (now book) ⌝ }
-    requires { ⌜ AccountIn (now book) account ⌝ }
-    requires { ⌜ Ready account ⌝ }
-    requires { ⌜ LimitsInRange (asLimits limits) ⌝ }
-    ensures { λ r. ⌜ r ≡ dueOf afternoon (asLimits limits) (bookOf (now (book .entry))) (level .0) (asUser (account .user)) ⌝ }
+// Question 11 of a user of an accepted book: does the level exceed blocked by more than the margin, and in the afternoon, is the user
+// called in?
+fn is_due(book: &[u8], user: User, limits: Limits, level: Cents, afternoon: bool) -> bool
+    requires { ⌜ (bookNumber (now book) ≡ 0) × (user .blocked .0 ≤ 1000000000000) × LimitsInRange (asLimits limits) ⌝ }
+    ensures { λ r. ⌜ r ≡ dueOf afternoon (asLimits limits) (bookOf (now (book .entry))) (level .0) (asUser user) ⌝ }
 {
-    let user = account.user;
-    if !risk_levels::exceeds_margin(limits, level, user) {
+    let blocked = user.blocked;
+    if !risk_levels::exceeds_margin(limits, level, blocked) {
         return false;
     }
     if afternoon {
-        return risk_user::called_in(book, account, limits);
+        let prices = book_form::read_prices(book);
+        let position = user.position;
+        let cut = risk_user::cut_before(book, user.id);
+        return risk_levels::called_in(limits, prices, blocked, position, cut);
     }
     true
 }
 
-// The end of a call on the user at a place, with its level and the answer to question 11: asks question 12, and raises the user's record in the book.
+// The end of a call on the user at a place, with its level and the answer to question 11: asks question 12, and raises the user's record in
+// the book.
 fn raise(book: &mut [u8], place: usize, user: User, level: Cents, due: bool) -> CallAnswer
-    requires { ⌜ Raisable (now book) place ⌝ }
+    requires { ⌜ UserIn (now book) place ⌝ }
     ensures { λ r. ⌜ answerOf r ≡ raised (now (book .entry)) place (asUser user) (level .0) due .answer ⌝ }
     ensures { λ _. ⌜ now (book .exit) ≡ raised (now (book .entry)) place (asUser user) (level .0) due .bytes ⌝ }
 {
@@ -52,8 +53,7 @@ fn raise(book: &mut [u8], place: usize, user: User, level: Cents, due: bool) -> 
     let blocking = lent_user::blocked_user(user, level);
     let guaranteed = blocking.user;
     let added = blocking.added;
-    let a = 32 + 56 * place;
-    book_records::write_user(&mut book[a..a + 56], guaranteed);
+    book_format::put_user(book, place, guaranteed);
     CallAnswer {
         number: 0,
         level: level,
@@ -61,8 +61,9 @@ fn raise(book: &mut [u8], place: usize, user: User, level: Cents, due: bool) -> 
     }
 }
 
-// The guarantee call on the user of an id, at one time of the day, after the opening questions, whose number is given with the sums of the users.
-fn call(
+// The guarantee call on the user of an id, at one time of the day, after the opening questions, whose number is given with the sums of the
+// users.
+pub fn call(
     book: &mut [u8],
     number: u32,
     limits: Limits,
@@ -81,44 +82,11 @@ fn call(
     if number != 0 {
         return CallAnswer::refused(number);
     }
-    let account = risk_user::account_from(book, place, sums);
-    let user = account.user;
+    let user = book_format::user_at(book, place);
     if user.role != 0 {
         return CallAnswer::refused(9);
     }
-    let level = call_level::level_of(account, limits, afternoon);
-    let due = is_due(book, account, limits, level, afternoon);
+    let level = call_level::level_of(book, sums, place, user, limits, afternoon);
+    let due = is_due(book, user, limits, level, afternoon);
     raise(book, place, user, level, due)
-}
-
-// The morning call on the user of an id, after the opening questions, whose number is given with the sums of the users: blocked reaches the morning level.
-pub fn morning_call(
-    book: &mut [u8],
-    number: u32,
-    limits: Limits,
-    sums: &[u32; 768],
-    id: u32,
-) -> CallAnswer
-    requires { ⌜ (number ≡ 0 → bookNumber (now book) ≡ 0) ⌝ }
-    requires { ⌜ LimitsInRange (asLimits limits) ⌝ }
-    requires { ⌜ SumsFound (now book) number (now sums) ⌝ }
-    ensures { λ r. ⌜ CalledAfter number (asLimits limits) (now (book .entry)) (morningCall id) (answerOf r) (now (book .exit)) ⌝ }
-{
-    call(book, number, limits, sums, id, false)
-}
-
-// The afternoon call on the user of an id, after the opening questions, whose number is given with the sums of the users: blocked reaches the afternoon level.
-pub fn afternoon_call(
-    book: &mut [u8],
-    number: u32,
-    limits: Limits,
-    sums: &[u32; 768],
-    id: u32,
-) -> CallAnswer
-    requires { ⌜ (number ≡ 0 → bookNumber (now book) ≡ 0) ⌝ }
-    requires { ⌜ LimitsInRange (asLimits limits) ⌝ }
-    requires { ⌜ SumsFound (now book) number (now sums) ⌝ }
-    ensures { λ r. ⌜ CalledAfter number (asLimits limits) (now (book .entry)) (afternoonCall id) (answerOf r) (now (book .exit)) ⌝ }
-{
-    call(book, number, limits, sums, id, true)
 }

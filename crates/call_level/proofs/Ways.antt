@@ -1,7 +1,7 @@
 -- The ways out of a level: refused by the entry, for a clearing house, or answered. Assumes nothing.
 use mathlib.Core.Bool.{Bool, true, false}
 use mathlib.Core.List.{List, [], _∷_}
-use mathlib.Core.Path.{_≡_, refl, sym, ap}
+use mathlib.Core.Path.{_≡_, refl, sym}
 use Prim.Native.Nat.{ℕ}
 use borrow.Author.Tests.{eq-eqb, ne-eqb}
 use Rattle.rules.specs.Book.{Book, find}
@@ -9,23 +9,11 @@ use Rattle.rules.specs.Levels.{Limits, shipper}
 use Rattle.rules.specs.Questions.{Question, refusal, decided}
 use Rattle.rules.specs.Calls.{idKnown, isShipper}
 use Rattle.rules.specs.Queries.{aboutQuery, aLevel, found, onlyNumber}
-use Rattle.book_records.specs.User.{asUser}
 use Rattle.book_format.specs.Book.{bookOf}
 use Rattle.book_format.specs.After.{replyAfter}
-use Rattle.risk_user.specs.Account.{AccountAt}
-use Rattle.risk_user.specs.declared.Account.{Account}
 use Rattle.call_entry.specs.Entered.{Entered, Found}
-use Rattle.call_entry.proofs.Calls.{query-refused, query-found, read-user}
+use Rattle.call_entry.proofs.Calls.{query-refused, query-found}
 use Rattle.call_level.specs.Times.{levelOf, queryOf}
-
--- ---- the account of the user that the entry found
-
-module _ {s : List ℕ} {id place : ℕ} {a : Account} (f : Found s id place) (h : AccountAt s place a) where
-  -- its level is that of the user of the id
-  pub account-level : (afternoon : Bool) (limits : Limits) → levelOf afternoon limits (bookOf s) (asUser (a .user)) ≡ levelOf afternoon limits (bookOf s) (find (bookOf s .users) id)
-  account-level afternoon limits = ap (levelOf afternoon limits (bookOf s)) (read-user (a .user) f (h .user))
-
--- ---- a level
 
 query-asks : (b : Book) (id : ℕ) (afternoon : Bool) → aboutQuery b (queryOf afternoon id) ≡ idKnown b id ∷ (isShipper (find (b .users) id) ∷ [])
 unfolding aboutQuery

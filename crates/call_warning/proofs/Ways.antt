@@ -26,7 +26,7 @@ use Rattle.book_format.specs.After.{replyAfter}
 use Rattle.book_format.proofs.OneUser.{find-place}
 use Rattle.call_entry.proofs.Calls.{query-found, query-refused, read-user}
 use Rattle.call_entry.specs.Entered.{Entered, Found}
-use Rattle.risk_user.proofs.Accepted.{blocked-within, prices-within}
+use Rattle.risk_user.proofs.Accepted.{prices-within, record-blocked}
 use Rattle.call_warning.specs.Warned.{Priced, flaggedShipper, warnsBuyer}
 
 -- ---- a flagged shipper
@@ -92,8 +92,7 @@ prices-range {s} p = subst InRange (p .same) (prices-within s (p .passes))
 
 module _ {s : List ℕ} {id place : ℕ} (u : code.User) (f : Found s id place) (h : asUser u ≡ getD (usersOf s) place nobody) where
   pub read-blocked : u .blocked .0 ≤ 1000000000000
-  unfolding asUser
-  read-blocked = subst (λ (v : User). v .blocked ≤ 1000000000000) (sym h) (blocked-within s (f .passes) (f .known))
+  read-blocked = record-blocked s (f .passes) (f .known) u h
 
   -- its warning is that of the user of the id
   pub read-warned : (limits : Limits) → warned limits (bookOf s) (asUser u) ≡ warned limits (bookOf s) (find (bookOf s .users) id)

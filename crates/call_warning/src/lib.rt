@@ -25,11 +25,12 @@ fn is_flagged_shipper(book: &[u8], prices: Prices, id: u32, limits: Limits) -> b
     if n <= place {
         return false;
     }
-    let seller = risk_user::user_at(book, place);
+    let seller = book_format::user_at(book, place);
     if seller.role != 0 {
         return false;
     }
-    risk_levels::flagged(limits, prices, seller)
+    let position = seller.position;
+    risk_levels::flagged(limits, prices, seller.blocked, position)
 }
 
 // Is the user of an id the buyer of the trade, and does the trade warn its buyer?
@@ -86,7 +87,7 @@ pub fn warning(book: &[u8], number: u32, limits: Limits, id: u32) -> WarningAnsw
             warned: false,
         };
     }
-    let user = risk_user::user_at(book, place);
+    let user = book_format::user_at(book, place);
     if user.role != 0 {
         return WarningAnswer {
             number: 9,
@@ -94,7 +95,8 @@ pub fn warning(book: &[u8], number: u32, limits: Limits, id: u32) -> WarningAnsw
         };
     }
     let prices = book_form::read_prices(book);
-    if risk_levels::flagged(limits, prices, user) {
+    let position = user.position;
+    if risk_levels::flagged(limits, prices, user.blocked, position) {
         return WarningAnswer {
             number: 0,
             warned: true,

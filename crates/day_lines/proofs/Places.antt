@@ -15,7 +15,8 @@ use Rattle.book_format.specs.Book.{bookOf, usersOf}
 use Rattle.book_format.proofs.Passed.{length-usersOf, passed}
 use Rattle.run_reduction.proofs.Steps.{accepted-day}
 use Rattle.risk_user.proofs.Rules.{called-own, level-own, state-own}
-use Rattle.risk_user.specs.UserAt.{DayOf, UserIn, flaggedAt, levelAt}
+use Rattle.book_format.specs.Places.{UserIn}
+use Rattle.risk_user.specs.UserAt.{DayOf, flaggedAt, levelAt}
 use Rattle.risk_user.specs.States.{stateBy}
 use Rattle.day_lines.specs.Lines.{LineAsked, lineIn}
 

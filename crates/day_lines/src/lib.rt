@@ -44,7 +44,7 @@ pub fn line_at(
     requires { ⌜ LineAsked (asLimits (day .limits)) (asPrices (day .prices)) (now book) (now sums) (now positions) place cut ⌝ }
     ensures { λ r. ⌜ asLine r ≡ lineIn (asLimits (day .limits)) (bookOf (now (book .entry))) place ⌝ }
 {
-    let user = risk_user::user_at(book, place);
+    let user = book_format::user_at(book, place);
     let position = user.position;
     let level = risk_user::level_at(book, sums, positions, place, day);
     let called = risk_user::called_at(book, positions, place, cut, day);

@@ -8,6 +8,8 @@ ghost use Rattle.store.specs.Store.{given};
 ghost use Rattle.requests.specs.Request.{enquiry, requestOf, settingOf};
 ghost use Rattle.requests.specs.Carried.{Carried, Handed};
 ghost use Rattle.call_posting.specs.Posting.{postingOf};
+ghost use Rattle.call_level.specs.Times.{queryOf};
+ghost use Rattle.call_guarantee.specs.Times.{callOf};
 ghost use Rattle.call_answers.specs.Level.{replyOf};
 ghost use Rattle.call_answers.specs.Call.{answerOf};
 ghost use Rattle.call_answers.specs.Warning as warned;
@@ -86,9 +88,9 @@ pub fn posting(
     call_posting::posting(book, admission.number, id, area, amount)
 }
 
-// The morning level of a user.
-pub fn morning_level(book: &[u8], with_store: bool, store: &[u8], id: u32) -> LevelAnswer
-    ensures { λ r. ⌜ replyOf r ≡ enquiry (settingOf (given «with_store» (now (store .entry)))) (now (book .entry)) (morningLevelOf id) ⌝ }
+// The level of a user at one time of the day.
+pub fn level(book: &[u8], with_store: bool, store: &[u8], id: u32, afternoon: bool) -> LevelAnswer
+    ensures { λ r. ⌜ replyOf r ≡ enquiry (settingOf (given «with_store» (now (store .entry)))) (now (book .entry)) (queryOf afternoon id) ⌝ }
 {
     let mut sellers = [0u8; 256];
     let mut buyers = [0u8; 256];
@@ -102,13 +104,27 @@ pub fn morning_level(book: &[u8], with_store: bool, store: &[u8], id: u32) -> Le
         &mut sums,
     );
     let limits = admission.limits;
-    call_level::morning_level(book, admission.number, limits, &sums, id)
+    call_level::level(book, admission.number, limits, &sums, id, afternoon)
+}
+
+// The morning level of a user.
+pub fn morning_level(book: &[u8], with_store: bool, store: &[u8], id: u32) -> LevelAnswer
+    ensures { λ r. ⌜ replyOf r ≡ enquiry (settingOf (given «with_store» (now (store .entry)))) (now (book .entry)) (morningLevelOf id) ⌝ }
+{
+    level(book, with_store, store, id, false)
 }
 
 // The afternoon level of a user.
 pub fn afternoon_level(book: &[u8], with_store: bool, store: &[u8], id: u32) -> LevelAnswer
     ensures { λ r. ⌜ replyOf r ≡ enquiry (settingOf (given «with_store» (now (store .entry)))) (now (book .entry)) (afternoonLevelOf id) ⌝ }
 {
+    level(book, with_store, store, id, true)
+}
+
+// Raises a user's blocked guarantee to its level at one time of the day.
+pub fn call(book: &mut [u8], with_store: bool, store: &[u8], id: u32, afternoon: bool) -> CallAnswer
+    ensures { λ r. ⌜ Carried (requestOf (given «with_store» (now (store .entry))) (callOf afternoon id)) (now (book .entry)) (answerOf r) (now (book .exit)) ⌝ }
+{
     let mut sellers = [0u8; 256];
     let mut buyers = [0u8; 256];
     let mut sums = [0u32; 768];
@@ -121,45 +137,21 @@ pub fn afternoon_level(book: &[u8], with_store: bool, store: &[u8], id: u32) -> 
         &mut sums,
     );
     let limits = admission.limits;
-    call_level::afternoon_level(book, admission.number, limits, &sums, id)
+    call_guarantee::call(book, admission.number, limits, &sums, id, afternoon)
 }
 
 // Raises a user's blocked guarantee to its morning level.
 pub fn morning_call(book: &mut [u8], with_store: bool, store: &[u8], id: u32) -> CallAnswer
     ensures { λ r. ⌜ Carried (requestOf (given «with_store» (now (store .entry))) (morningCall id)) (now (book .entry)) (answerOf r) (now (book .exit)) ⌝ }
 {
-    let mut sellers = [0u8; 256];
-    let mut buyers = [0u8; 256];
-    let mut sums = [0u32; 768];
-    let admission = call_admission::admit_with_sums(
-        book,
-        with_store,
-        store,
-        &mut sellers,
-        &mut buyers,
-        &mut sums,
-    );
-    let limits = admission.limits;
-    call_guarantee::morning_call(book, admission.number, limits, &sums, id)
+    call(book, with_store, store, id, false)
 }
 
 // Raises a user's blocked guarantee to its afternoon level.
 pub fn afternoon_call(book: &mut [u8], with_store: bool, store: &[u8], id: u32) -> CallAnswer
     ensures { λ r. ⌜ Carried (requestOf (given «with_store» (now (store .entry))) (afternoonCall id)) (now (book .entry)) (answerOf r) (now (book .exit)) ⌝ }
 {
-    let mut sellers = [0u8; 256];
-    let mut buyers = [0u8; 256];
-    let mut sums = [0u32; 768];
-    let admission = call_admission::admit_with_sums(
-        book,
-        with_store,
-        store,
-        &mut sellers,
-        &mut buyers,
-        &mut sums,
-    );
-    let limits = admission.limits;
-    call_guarantee::afternoon_call(book, admission.number, limits, &sums, id)
+    call(book, with_store, store, id, true)
 }
 
 // Whether a user is warned at midday.

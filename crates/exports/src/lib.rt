@@ -6,6 +6,8 @@ ghost use Rattle.rules.specs.Queries.{morningLevelOf, afternoonLevelOf};
 ghost use Rattle.requests.specs.Request.{requestOf, settingOf};
 ghost use Rattle.requests.specs.Carried.{Carried};
 ghost use Rattle.call_posting.specs.Posting.{postingOf};
+ghost use Rattle.call_level.specs.Times.{queryOf};
+ghost use Rattle.call_guarantee.specs.Times.{callOf};
 ghost use Rattle.call_warning.specs.Warned.{warningOf};
 ghost use Rattle.call_reduction.specs.Call.{reductionOf};
 ghost use Rattle.call_run.specs.Call.{runCall};
@@ -137,6 +139,24 @@ pub extern "C" fn daybook_posting(
     daybook::posting(book, with_store != 0, store, id, area, amount)
 }
 
+// The level of a user at one time of the day: 1 number.
+fn level(
+    book: &[u8],
+    with_store: u32,
+    store: &[u8],
+    id: u32,
+    afternoon: bool,
+    answer: &mut [u64],
+) -> u32
+    ensures { λ r. ⌜ Replied 1 levelNumbers (settingOf (storeBy «with_store» (now (store .entry)))) (now (book .entry)) (queryOf afternoon id) (now (answer .entry)) r (now (answer .exit)) ⌝ }
+{
+    if answer.len() != LEVEL_NUMBERS {
+        return WRONG_LENGTH;
+    }
+    let reply = daybook::level(book, with_store != 0, store, id, afternoon);
+    exports_answers::store_level(answer, reply)
+}
+
 // The morning level of a user: 1 number.
 #[no_mangle]
 pub extern "C" fn daybook_morning_level(
@@ -148,11 +168,7 @@ pub extern "C" fn daybook_morning_level(
 ) -> u32
     ensures { λ r. ⌜ Replied 1 levelNumbers (settingOf (storeBy «with_store» (now (store .entry)))) (now (book .entry)) (morningLevelOf id) (now (answer .entry)) r (now (answer .exit)) ⌝ }
 {
-    if answer.len() != LEVEL_NUMBERS {
-        return WRONG_LENGTH;
-    }
-    let reply = daybook::morning_level(book, with_store != 0, store, id);
-    exports_answers::store_level(answer, reply)
+    level(book, with_store, store, id, false, answer)
 }
 
 // The afternoon level of a user: 1 number.
@@ -166,11 +182,25 @@ pub extern "C" fn daybook_afternoon_level(
 ) -> u32
     ensures { λ r. ⌜ Replied 1 levelNumbers (settingOf (storeBy «with_store» (now (store .entry)))) (now (book .entry)) (afternoonLevelOf id) (now (answer .entry)) r (now (answer .exit)) ⌝ }
 {
-    if answer.len() != LEVEL_NUMBERS {
+    level(book, with_store, store, id, true, answer)
+}
+
+// Raises a user's blocked guarantee to its level at one time of the day: 2 numbers, the level and what was added.
+fn call(
+    book: &mut [u8],
+    with_store: u32,
+    store: &[u8],
+    id: u32,
+    afternoon: bool,
+    answer: &mut [u64],
+) -> u32
+    ensures { λ r. ⌜ Answered 2 callNumbers (requestOf (storeBy «with_store» (now (store .entry))) (callOf afternoon id)) (now (book .entry)) (now (answer .entry)) r (now (answer .exit)) (now (book .exit)) ⌝ }
+{
+    if answer.len() != CALL_NUMBERS {
         return WRONG_LENGTH;
     }
-    let reply = daybook::afternoon_level(book, with_store != 0, store, id);
-    exports_answers::store_level(answer, reply)
+    let call = daybook::call(book, with_store != 0, store, id, afternoon);
+    exports_answers::store_call(answer, call)
 }
 
 // Raises a user's blocked guarantee to its morning level: 2 numbers, the level and what was added.
@@ -184,11 +214,7 @@ pub extern "C" fn daybook_morning_call(
 ) -> u32
     ensures { λ r. ⌜ Answered 2 callNumbers (requestOf (storeBy «with_store» (now (store .entry))) (morningCall id)) (now (book .entry)) (now (answer .entry)) r (now (answer .exit)) (now (book .exit)) ⌝ }
 {
-    if answer.len() != CALL_NUMBERS {
-        return WRONG_LENGTH;
-    }
-    let call = daybook::morning_call(book, with_store != 0, store, id);
-    exports_answers::store_call(answer, call)
+    call(book, with_store, store, id, false, answer)
 }
 
 // Raises a user's blocked guarantee to its afternoon level: 2 numbers, the level and what was added.
@@ -202,11 +228,7 @@ pub extern "C" fn daybook_afternoon_call(
 ) -> u32
     ensures { λ r. ⌜ Answered 2 callNumbers (requestOf (storeBy «with_store» (now (store .entry))) (afternoonCall id)) (now (book .entry)) (now (answer .entry)) r (now (answer .exit)) (now (book .exit)) ⌝ }
 {
-    if answer.len() != CALL_NUMBERS {
-        return WRONG_LENGTH;
-    }
-    let call = daybook::afternoon_call(book, with_store != 0, store, id);
-    exports_answers::store_call(answer, call)
+    call(book, with_store, store, id, true, answer)
 }
 
 // Whether a user is warned at midday: 1 number, 1 for yes and 0 for no.

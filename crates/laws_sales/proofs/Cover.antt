@@ -16,14 +16,14 @@ use Rattle.base.proofs.Tests.{and-l, and-r, or-l, all-by, sum-by, by-case, fail
 use Rattle.laws.specs.Trades.{Framed, Pairwise, ended, then}
 use Rattle.rules.specs.Areas.{Prices, areas, referencePrice}
 use Rattle.rules.specs.Book.{Party, Terms, Book, User, Trade, bilateralForDay, dealt, sold, bought}
-use Rattle.rules.specs.Levels.{Limits, Holding, holding, sells, buys, partyTo, floored, stock, afternoonNeed, afternoonSum, exposure, leastReferencePrice, afternoonLevel, flagged, calledIn, shortOfCover}
+use Rattle.rules.specs.Levels.{Limits, Holding, holding, sells, buys, partyTo, floored, stock, afternoonNeed, afternoonSum, exposure, leastReferencePrice, levelFrom, flaggedFrom, afternoonLevel, flagged, calledIn, shortOfCover}
 use Rattle.base.specs.Lists.{all, any}
 use Rattle.rules.specs.Questions.{tradeValid, amountsValid}
 use Rattle.rules.specs.Reduction.{hasEligible, target, cutBy, cutAll}
 use Rattle.laws_sales.proofs.Cuts.{cut-yes, cut-no}
 use Rattle.laws_sales.proofs.Kept.{kept-yes, kept-no, any-kept}
 use Rattle.laws_sales.proofs.Own.{own-eligible}
-use Rattle.laws_sales.specs.Cover.{SameNext, AllNext, levelFrom, flaggedFrom, shortFrom}
+use Rattle.laws_sales.specs.Cover.{SameNext, AllNext, shortFrom}
 use Rattle.laws_sales.specs.Kept.{kept, spread}
 use Rattle.laws_sales.specs.Own.{EligibleBy}
 use Rattle.laws_sales.specs.Sales.{ownSale, salesOf, isParty, someCut}
@@ -229,11 +229,9 @@ module _ {g h : ℕ → Holding} (same : AllNext g h) where
 
   module _ (limits : Limits) (f : Prices) (u : User) where
     pub level-next : levelFrom limits f u g ≡ levelFrom limits f u h
-    unfolding levelFrom
     level-next = ap (floored limits) (afternoon-next f (u .party .charges))
 
     pub flagged-next : flaggedFrom limits f u g ≡ flaggedFrom limits f u h
-    unfolding flaggedFrom
     flagged-next = ap (λ (n : ℕ). ltb (limits .flagMwh * leastReferencePrice f + u .blocked) n) (exposure-next f)
 
     pub short-next : (cut : Bool) → shortFrom limits f u g cut ≡ shortFrom limits f u h cut
@@ -242,9 +240,9 @@ module _ {g h : ℕ → Holding} (same : AllNext g h) where
 
 module _ (limits : Limits) (b : Book) (u : User) where
   pub target-from : target limits b u ≡ levelFrom limits (b .header .prices) u (holding b u) - u .party .assigned
-  unfolding target afternoonLevel levelFrom
+  unfolding target afternoonLevel
   target-from = refl
 
   pub short-from : shortOfCover limits b u ≡ shortFrom limits (b .header .prices) u (holding b u) (cutBefore (u .party .id) (b .trades))
-  unfolding shortOfCover shortFrom afternoonLevel levelFrom calledIn flagged flaggedFrom partyTo sells buys cutBefore isCut
+  unfolding shortOfCover shortFrom afternoonLevel calledIn flagged partyTo sells buys cutBefore isCut
   short-from = refl

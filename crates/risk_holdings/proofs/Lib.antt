@@ -1,7 +1,4 @@
--- Laws of dealings, and of a search through the first trades.
-pub mod Energies
-pub mod Bounds
+-- A search through the first trades.
 pub mod Search
-pub mod Ruled
 -- Laws of needs.
 pub mod Needs

@@ -1,27 +1,16 @@
--- What a user holds in an area: from its record and its dealings, and as the code's struct. Assumes nothing.
-use Prim.Native.Nat.{ℕ, _≤_}
+-- The holdings of the rules that the code's structs are. Assumes nothing.
+use Prim.Native.Nat.{ℕ, zero, suc, _≤_}
+use mathlib.Core.List.{List}
+use lib.IntN.{pos}
 use Rattle.rules.specs.Book.{at}
 use Rattle.rules.specs.Levels as rules
 use Rattle.units.specs.Amounts.{net}
-use Rattle.book_records.specs.declared.User.{User}
+use Rattle.units.specs.declared.Net.{Net}
 use Rattle.book_records.specs.User.{asAmounts}
-use Rattle.risk_holdings.specs.declared.Dealings.{Dealings}
-use Rattle.risk_holdings.specs.Energies.{amountOf}
 use Rattle.risk_holdings.specs.declared.Holding.{Holding}
+use Rattle.risk_holdings.specs.declared.Holdings.{Holdings}
 
--- the holding of a user with its dealings, in an area
-unfoldable pub held : User → Dealings → ℕ → rules.Holding
-held u d area =
-    record {
-      physical = at (asAmounts (u .physical)) area;
-      position = at (asAmounts (u .position)) area;
-      sold = amountOf (d .sold) area;
-      bought = amountOf (d .bought) area;
-      soldNext = amountOf (d .«sold_next») area;
-      boughtNext = amountOf (d .«bought_next») area;
-    }
-
--- the holding of the rules that a struct is
+-- in an area
 unfoldable pub asHolding : Holding → rules.Holding
 asHolding h =
     record {
@@ -39,3 +28,20 @@ pub record HoldingWithin (most : ℕ) (h : Holding) : Type 0 where
   pub bought : h .bought .0 ≤ most
   pub sold-next : h .«sold_next» .0 ≤ most
   pub bought-next : h .«bought_next» .0 ≤ most
+
+-- in each area: 0 PVB, 1 TVB, any other AVB
+unfoldable pub heldIn : Holdings → ℕ → rules.Holding
+heldIn h zero = asHolding (h .pvb)
+heldIn h (suc zero) = asHolding (h .tvb)
+heldIn h (suc (suc area)) = asHolding (h .avb)
+
+-- nothing sold or bought in any area is above `most`
+pub record HoldingsWithin (most : ℕ) (h : Holdings) : Type 0 where
+  pub pvb : HoldingWithin most (h .pvb)
+  pub tvb : HoldingWithin most (h .tvb)
+  pub avb : HoldingWithin most (h .avb)
+
+-- positions alone, with no physical entry and nothing sold or bought: all that exposure reads
+unfoldable pub positioned : List Net → ℕ → rules.Holding
+positioned v area =
+    record { physical = pos 0; position = at (asAmounts v) area; sold = 0; bought = 0; soldNext = 0; boughtNext = 0 }

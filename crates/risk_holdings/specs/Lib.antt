@@ -1,6 +1,4 @@
--- What a user dealt in the trades of a book: energies per area, and tests of a user's trades.
-pub mod Energies
-pub mod Dealt
+-- Tests of a user's trades.
 pub mod Parties
 -- The holdings of the rules that the code's structs are.
 pub mod Holdings

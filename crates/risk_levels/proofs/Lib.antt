@@ -1,3 +1,2 @@
 -- Laws of levels.
 mod Floors
-pub mod Sums

@@ -1,33 +1,32 @@
-// The levels of a user, from its record, its dealings, the prices and the limits: what its needs in the areas are worth together, and whether it is flagged.
-use book_records::User;
-use risk_holdings::Dealings;
+// The levels of a user, from its charges, its holdings, the prices and the limits; whether it is flagged, called in, and above the margin.
+use risk_holdings::Holdings;
 use units::Area;
 use units::Balance;
 use units::Cents;
 use units::Limits;
+use units::Net;
 use units::Price;
 use units::Prices;
+ghost use mathlib.Core.Bool.{_||_};
 ghost use mathlib.Core.Path.{_≡_};
 ghost use Prim.Native.Nat.{_*_, _≤_, _^_, min};
 ghost use lib.IntN.{pos, _+ℤ_};
-ghost use Rattle.rules.specs.Book.{Book};
-ghost use Rattle.rules.specs.Levels.{holding, exposure, morningSum, afternoonSum, leastReferencePrice, floored, flagged, exceedsMargin};
+ghost use Rattle.rules.specs.Book.{User};
+ghost use Rattle.rules.specs.Levels.{exposure, morningSum, afternoonSum, leastReferencePrice, floored, flaggedFrom, exceedsMargin};
 ghost use Rattle.units.specs.Amounts.{balance};
 ghost use Rattle.units.specs.Prices.{asPrices, InRange};
 ghost use Rattle.units.specs.Limits.{asLimits, LimitsInRange};
-ghost use Rattle.book_records.specs.User.{asUser};
-ghost use Rattle.risk_holdings.specs.Dealt.{AllWithin};
-ghost use Rattle.risk_holdings.specs.Holdings.{held};
+ghost use Rattle.risk_holdings.specs.Holdings.{heldIn, HoldingsWithin, positioned};
 
-// The sum over the areas of what short positions are worth, in any book.
-pub fn exposure(prices: Prices, user: User) -> Cents
+// The sum over the areas of what short positions are worth.
+pub fn exposure(prices: Prices, positions: [Net; 3]) -> Cents
     requires { ⌜ InRange (asPrices prices) ⌝ }
-    ensures { λ r. ⌜ ((b : Book) → r .0 ≡ exposure (asPrices prices) (holding b (asUser user))) ⌝ }
+    ensures { λ r. ⌜ r .0 ≡ exposure (asPrices prices) (positioned positions) ⌝ }
     ensures { λ r. ⌜ r .0 ≤ 900000 * 2 ^ 42 ⌝ }
 {
-    let pvb = risk_holdings::short_worth(prices, user, Area::PVB);
-    let tvb = risk_holdings::short_worth(prices, user, Area::TVB);
-    let avb = risk_holdings::short_worth(prices, user, Area::AVB);
+    let pvb = risk_holdings::short_worth(prices, Area::PVB, positions[0]);
+    let tvb = risk_holdings::short_worth(prices, Area::TVB, positions[1]);
+    let avb = risk_holdings::short_worth(prices, Area::AVB, positions[2]);
     Cents(pvb.0 + tvb.0 + avb.0)
 }
 
@@ -47,32 +46,31 @@ pub fn floored(limits: Limits, charges: Balance, worth: Cents) -> Cents
     Cents(due - credit.0)
 }
 
-// The morning level of a user with its dealings.
-pub fn morning_level(limits: Limits, prices: Prices, user: User, dealings: Dealings) -> Cents
-    requires { ⌜ LimitsInRange (asLimits limits) ⌝ }
-    requires { ⌜ InRange (asPrices prices) ⌝ }
-    requires { ⌜ AllWithin (2 ^ 40) dealings ⌝ }
-    ensures { λ r. ⌜ r .0 ≡ floored (asLimits limits) (morningSum (asPrices prices) (held user dealings) (balance (user .charges))) ⌝ }
+// The morning level of a user with these charges and holdings.
+pub fn morning_level(limits: Limits, prices: Prices, charges: Balance, holdings: Holdings) -> Cents
+    requires { ⌜ LimitsInRange (asLimits limits) × InRange (asPrices prices) × HoldingsWithin (2 ^ 40) holdings ⌝ }
+    ensures { λ r. ⌜ r .0 ≡ floored (asLimits limits) (morningSum (asPrices prices) (heldIn holdings) (balance charges)) ⌝ }
 {
-    let charges = user.charges;
-    let pvb = risk_holdings::morning_worth(prices, user, dealings, Area::PVB);
-    let tvb = risk_holdings::morning_worth(prices, user, dealings, Area::TVB);
-    let avb = risk_holdings::morning_worth(prices, user, dealings, Area::AVB);
+    let pvb = risk_holdings::morning_worth(prices, Area::PVB, holdings.pvb);
+    let tvb = risk_holdings::morning_worth(prices, Area::TVB, holdings.tvb);
+    let avb = risk_holdings::morning_worth(prices, Area::AVB, holdings.avb);
     floored(limits, charges, Cents(pvb.0 + tvb.0 + avb.0))
 }
 
-// The afternoon level of a user with its dealings.
-pub fn afternoon_level(limits: Limits, prices: Prices, user: User, dealings: Dealings) -> Cents
-    requires { ⌜ LimitsInRange (asLimits limits) ⌝ }
-    requires { ⌜ InRange (asPrices prices) ⌝ }
-    requires { ⌜ AllWithin (2 ^ 40) dealings ⌝ }
-    ensures { λ r. ⌜ r .0 ≡ floored (asLimits limits) (afternoonSum (asPrices prices) (held user dealings) (balance (user .charges))) ⌝ }
+// The afternoon level of a user with these charges and holdings.
+pub fn afternoon_level(
+    limits: Limits,
+    prices: Prices,
+    charges: Balance,
+    holdings: Holdings,
+) -> Cents
+    requires { ⌜ LimitsInRange (asLimits limits) × InRange (asPrices prices) × HoldingsWithin (2 ^ 40) holdings ⌝ }
+    ensures { λ r. ⌜ r .0 ≡ floored (asLimits limits) (afternoonSum (asPrices prices) (heldIn holdings) (balance charges)) ⌝ }
 {
-    let charges = user.charges;
-    let pvb = risk_holdings::afternoon_worth(prices, user, dealings, Area::PVB);
-    let tvb = risk_holdings::afternoon_worth(prices, user, dealings, Area::TVB);
-    let avb = risk_holdings::afternoon_worth(prices, user, dealings, Area::AVB);
-    let short = exposure(prices, user);
+    let pvb = risk_holdings::afternoon_worth(prices, Area::PVB, holdings.pvb);
+    let tvb = risk_holdings::afternoon_worth(prices, Area::TVB, holdings.tvb);
+    let avb = risk_holdings::afternoon_worth(prices, Area::AVB, holdings.avb);
+    let short = exposure(prices, holdings.positions());
     floored(limits, charges, Cents(pvb.0 + tvb.0 + avb.0 + short.0))
 }
 
@@ -100,27 +98,39 @@ pub fn least_reference_price(prices: Prices) -> Price
     lower(pvb, lower(tvb, avb))
 }
 
-// Do the user's short positions, less the blocked guarantee, exceed the flag at the least reference price? In any book of these prices.
-pub fn flagged(limits: Limits, prices: Prices, user: User) -> bool
-    requires { ⌜ LimitsInRange (asLimits limits) ⌝ }
-    requires { ⌜ InRange (asPrices prices) ⌝ }
-    requires { ⌜ user .blocked .0 ≤ 1000000000000 ⌝ }
-    ensures { λ r. ⌜ ((b : Book) → b .header .prices ≡ asPrices prices → r ≡ flagged (asLimits limits) b (asUser user)) ⌝ }
+// Do short positions, less the blocked guarantee, exceed the flag at the least reference price? For every user with this blocked guarantee.
+pub fn flagged(limits: Limits, prices: Prices, blocked: Cents, positions: [Net; 3]) -> bool
+    requires { ⌜ LimitsInRange (asLimits limits) × InRange (asPrices prices) × (blocked .0 ≤ 1000000000000) ⌝ }
+    ensures { λ r. ⌜ ((u : User) → blocked .0 ≡ u .blocked → r ≡ flaggedFrom (asLimits limits) (asPrices prices) u (positioned positions)) ⌝ }
 {
     let energy = limits.flag_mwh;
     let allowed = least_reference_price(prices).worth(energy);
-    let blocked = user.blocked;
-    let short = exposure(prices, user);
+    let short = exposure(prices, positions);
     allowed.0 + blocked.0 < short.0
 }
 
-// Does a level exceed the user's blocked guarantee by more than the margin?
-pub fn exceeds_margin(limits: Limits, level: Cents, user: User) -> bool
-    requires { ⌜ LimitsInRange (asLimits limits) ⌝ }
-    requires { ⌜ user .blocked .0 ≤ 1000000000000 ⌝ }
-    ensures { λ r. ⌜ r ≡ exceedsMargin (asLimits limits) (level .0) (asUser user) ⌝ }
+// Is a user called in: flagged, or party to a trade standing below notified (`cut`)?
+pub fn called_in(
+    limits: Limits,
+    prices: Prices,
+    blocked: Cents,
+    positions: [Net; 3],
+    cut: bool,
+) -> bool
+    requires { ⌜ LimitsInRange (asLimits limits) × InRange (asPrices prices) × (blocked .0 ≤ 1000000000000) ⌝ }
+    ensures { λ r. ⌜ ((u : User) → blocked .0 ≡ u .blocked → r ≡ flaggedFrom (asLimits limits) (asPrices prices) u (positioned positions) || cut) ⌝ }
+{
+    if cut {
+        return true;
+    }
+    flagged(limits, prices, blocked, positions)
+}
+
+// Does a level exceed the blocked guarantee by more than the margin? For every user with this blocked guarantee.
+pub fn exceeds_margin(limits: Limits, level: Cents, blocked: Cents) -> bool
+    requires { ⌜ LimitsInRange (asLimits limits) × (blocked .0 ≤ 1000000000000) ⌝ }
+    ensures { λ r. ⌜ ((u : User) → blocked .0 ≡ u .blocked → r ≡ exceedsMargin (asLimits limits) (level .0) u) ⌝ }
 {
     let margin = limits.margin;
-    let blocked = user.blocked;
     margin.0 + blocked.0 < level.0
 }

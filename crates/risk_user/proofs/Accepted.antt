@@ -1,44 +1,31 @@
--- What an accepted book in bytes tells of the user at a place: where its record stands, and the range of its blocked guarantee and of the prices. Assumes nothing.
+-- What an accepted book in bytes tells: where its trades stand, the range of the prices, and of the blocked guarantee of the user at a place. Assumes nothing.
 use mathlib.Core.List.{List}
-use mathlib.Core.Path.{_≡_, _∙_, ap}
+use mathlib.Core.Path.{_≡_, sym, subst}
 use Prim.Native.Nat.{ℕ, _+_, _*_, _<_, _≤_}
-use native.Mathlib.Omega.{arith}
-use lib.Dec.{T, leb→le}
-use lib.ListN.{drop, getD, take}
-use lib.Seq.{drop-drop}
+use lib.ListN.{drop, getD}
 use Rattle.rules.specs.Book.{User, nobody}
-use Rattle.rules.specs.Questions.{guaranteesValid, userValid}
-use Rattle.laws.proofs.Bounds.{prices-le, tariffs-pos}
-use Rattle.base.proofs.Tests.{and-l, and-r}
+use Rattle.rules.specs.Questions.{userValid}
+use Rattle.laws.proofs.Bounds.{blocked-le, prices-le, tariffs-pos}
 use Rattle.units.specs.Prices.{InRange}
-use Rattle.fields.proofs.Records.{getD-recordsOf}
 use Rattle.fields.specs.Layout.{recordsOf}
 use Rattle.book_records.specs.Trade.{tradeOf}
-use Rattle.book_records.specs.User.{userOf}
+use Rattle.book_records.specs.User.{asUser}
+use Rattle.book_records.specs.declared.User as code
 use Rattle.base.proofs.Fronts.{all-at}
 use Rattle.book_format.proofs.Passed.{length-usersOf, passed}
 use Rattle.book_format.specs.Book.{bookOf, tradeCount, tradesAt, tradesOf, userAt, userCount, usersOf}
 use Rattle.book_format.specs.Questions.{bookNumber}
 
 module _ (s : List ℕ) where
-  -- the user at a place is read from its own bytes
-  pub user-bytes : {place : ℕ} → place < userCount s → getD (usersOf s) place nobody ≡ userOf (take 56 (drop (32 + 56 * place) s))
-  unfolding usersOf
-  user-bytes {place} h =
-      getD-recordsOf 56 userOf (userCount s) place (drop 32 s) nobody h ∙ ap (λ (l : List ℕ). userOf (take 56 l)) (drop-drop (56 * place) 32 s)
-
   -- the trades stand behind the users
   pub trades-from : {n m : ℕ} → n ≡ userCount s → m ≡ tradeCount s → recordsOf 20 tradeOf m (drop (32 + 56 * n) s) ≡ bookOf s .trades
   unfolding bookOf tradesOf tradesAt userAt
   trades-from e k = rw (e, k)
 
--- a valid user's blocked guarantee
-blocked-le : (u : User) → T (userValid u) → u .blocked ≤ 1000000000000
-unfolding userValid guaranteesValid
-blocked-le u t =
-    let a = leb→le (u .blocked) (u .party .assigned) (search (and-l, and-r)) in
-    let b = leb→le (u .party .assigned) 1000000000000 (search (and-l, and-r)) in
-    omega arith
+  -- from where they begin
+  pub trades-there : {at m : ℕ} → at ≡ tradesAt s → m ≡ tradeCount s → recordsOf 20 tradeOf m (drop at s) ≡ bookOf s .trades
+  unfolding bookOf tradesOf
+  trades-there e k = rw (e, k)
 
 module _ (s : List ℕ) (h : bookNumber s ≡ 0) where
   pub prices-within : InRange (bookOf s .header .prices)
@@ -51,3 +38,8 @@ module _ (s : List ℕ) (h : bookNumber s ≡ 0) where
   unfolding bookOf
   blocked-within {place} k =
       blocked-le (getD (usersOf s) place nobody) (all-at userValid (usersOf s) (passed s h .sound .users) place nobody (rw (length-usersOf s) k))
+
+  -- of the record that is read
+  pub record-blocked : {place : ℕ} → place < userCount s → (u : code.User) → asUser u ≡ getD (usersOf s) place nobody → u .blocked .0 ≤ 1000000000000
+  unfolding asUser
+  record-blocked k u e = subst (λ (v : User). v .blocked ≤ 1000000000000) (sym e) (blocked-within k)

@@ -1,5 +1,3 @@
--- The account of a user.
-pub mod Account
 -- What is read of the user at a place, and its state.
 pub mod UserAt
 pub mod States

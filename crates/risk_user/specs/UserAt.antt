@@ -1,28 +1,35 @@
--- What is read of the user at a place: the money of its record, what it sold and bought for d+1 from twelve sums for each place, and the position from three for each place. The
+-- What is read of the user at a place: the money of its record, what it sold and bought from twelve sums for each place, and the position from three for each place. The
 -- level, the flag and the target of these. Assumes nothing.
-use mathlib.Core.Bool.{Bool, true, cond, _&&_}
+use mathlib.Core.Bool.{Bool, true, cond}
 use mathlib.Core.List.{List, []}
 use mathlib.Core.Path.{_≡_}
-use Prim.Native.Nat.{ℕ, _+_, _*_, _-_, _≤_, _<_}
-use lib.Dec.{ltb}
+use Prim.Native.Nat.{ℕ, _+_, _*_, _-_, _≤_, _<_, _^_}
 use lib.IntN.{ℤ, pos}
 use lib.ListN.{length, getD}
-use Rattle.book_format.specs.Book.{userCount, usersOf}
-use Rattle.book_format.specs.Questions.{Formed}
+use Rattle.book_format.specs.Book.{tradesOf, userCount, usersOf}
+use Rattle.book_format.specs.Questions.{bookNumber}
+use Rattle.book_records.specs.User.{asUser}
+use Rattle.book_records.specs.declared.User as code
+use Rattle.book_sums.specs.Twelve.{TwelveOf, Low}
 use Rattle.rules.specs.Areas.{Prices}
-use Rattle.rules.specs.Book.{at, User, nobody}
-use Rattle.rules.specs.Levels.{Limits, Holding, exceedsMargin}
-use Rattle.laws_sales.specs.Cover.{levelFrom, flaggedFrom, shortFrom}
+use Rattle.rules.specs.Book.{at, PerArea, User, nobody}
+use Rattle.rules.specs.Levels.{Limits, Holding, levelFrom, flaggedFrom, uncovered}
+use Rattle.laws_sales.specs.Cover.{shortFrom}
 use Rattle.units.specs.Amounts.{net}
 use Rattle.units.specs.Prices.{InRange}
 use Rattle.units.specs.Limits.{LimitsInRange}
+use Rattle.risk_holdings.specs.declared.Holdings.{Holdings}
+use Rattle.risk_holdings.specs.Holdings.{heldIn, HoldingsWithin}
 
 -- ---- what can be asked
 
--- bytes hold a book with a user at a place
-pub record UserIn (s : List ℕ) (place : ℕ) : Type 0 where
-  pub form : Formed s
+-- an accepted book with the sums of its users, and the record of the user at a place
+pub record UserRead (s sums : List ℕ) (place : ℕ) (u : code.User) : Type 0 where
+  pub passes : bookNumber s ≡ 0
   pub inside : place < userCount s
+  pub twelve : TwelveOf (usersOf s) (tradesOf s) sums
+  pub low : Low sums
+  pub user : asUser u ≡ getD (usersOf s) place nobody
 
 -- limits and prices in range, and users whose blocked guarantee is
 pub record DayOf (limits : Limits) (f : Prices) (s : List ℕ) : Type 0 where
@@ -40,21 +47,34 @@ pub record PositionsOf (us : List User) (ps : List ℕ) : Type 0 where
 
 -- ---- what is read
 
--- what the user at a place holds in an area, as the afternoon reads it; the physical entry and what was sold and bought for d are left out
-unfoldable pub heldAt : List ℕ → List ℕ → ℕ → ℕ → Holding
-heldAt sums ps i area =
+-- the positions of the user at a place
+abbrev pub positionsIn : List ℕ → ℕ → PerArea
+positionsIn ps i = record { pvb = positionIn ps i 0; tvb = positionIn ps i 1; avb = positionIn ps i 2 }
+
+-- what the user at a place holds in an area, with its physical entry and position there
+abbrev pub heldBy : List ℕ → ℕ → ℕ → ℤ → ℤ → Holding
+heldBy sums i area physical position =
     record {
-      physical = pos 0;
-      position = positionIn ps i area;
-      sold = 0;
-      bought = 0;
+      physical = physical;
+      position = position;
+      sold = getD sums (12 * i + area) 0;
+      bought = getD sums (12 * i + 6 + area) 0;
       soldNext = getD sums (12 * i + 3 + area) 0;
       boughtNext = getD sums (12 * i + 9 + area) 0;
     }
 
+-- what it holds in each area, none of it high
+pub record HeldWith (sums : List ℕ) (i : ℕ) (physical position : PerArea) (h : Holdings) : Type 0 where
+  pub each : (area : ℕ) → area < 3 → heldIn h area ≡ heldBy sums i area (at physical area) (at position area)
+  pub low : HoldingsWithin (2 ^ 40) h
+
+-- the same with the positions of arrays; the afternoon reads no physical entry
+unfoldable pub heldAt : List ℕ → List ℕ → ℕ → ℕ → Holding
+heldAt sums ps i area = heldBy sums i area (pos 0) (positionIn ps i area)
+
 -- T where a shipper of this level, being called in, is short of cover; else 0
 unfoldable pub targetOf : Limits → User → ℕ → ℕ
-targetOf limits u level = cond (exceedsMargin limits level u && ltb (u .party .assigned) level) (level - u .party .assigned) 0
+targetOf limits u level = cond (uncovered limits u level) (level - u .party .assigned) 0
 
 module _ (limits : Limits) (f : Prices) (us : List User) where
   -- flagged, with the blocked guarantee of the users

@@ -20,7 +20,7 @@ use Rattle.laws.proofs.Trades.{framed}
 use Rattle.rules.specs.Areas.{Prices}
 use Rattle.rules.specs.Book.{Book, Header, Party, Trade, User, nobody}
 use Rattle.rules.specs.Calls.{Answer, ofCuts, reducedBy}
-use Rattle.rules.specs.Levels.{Limits, holding, shortOfCover}
+use Rattle.rules.specs.Levels.{Limits, holding, levelFrom, shortOfCover}
 use Rattle.base.specs.Lists.{all, any}
 use Rattle.rules.specs.Questions.{idsRise, known, tradeValid}
 use Rattle.rules.specs.Reduction.{Tally, hasEligible, nothing, tallied, tallyAll, target}
@@ -33,7 +33,7 @@ use Rattle.laws_sales.proofs.Reduced.{cover-left, sales-reduced, user-left}
 use Rattle.laws_sales.proofs.Settled.{party-at, same-place}
 use Rattle.laws_sales.proofs.Standing.{same-length}
 use Rattle.laws_sales.proofs.Valid.{sales-own, sales-valid}
-use Rattle.laws_sales.specs.Cover.{AllNext, due, levelFrom, shortFrom}
+use Rattle.laws_sales.specs.Cover.{AllNext, due, shortFrom}
 use Rattle.laws_sales.specs.Groups.{standings}
 use Rattle.laws_sales.specs.Reduced.{ownSales, ownCuts, SalesReduced}
 use Rattle.laws_sales.specs.Sales.{isParty, someCut}

@@ -12,7 +12,7 @@ use Rattle.book_format.proofs.Passed.{length-usersOf}
 use Rattle.book_format.specs.Book.{bookOf, usersOf}
 use Rattle.rules.specs.Areas.{Prices}
 use Rattle.rules.specs.Book.{Book, User}
-use Rattle.rules.specs.Levels.{Limits, Holding, holding, shipper, exceedsMargin}
+use Rattle.rules.specs.Levels.{Limits, Holding, holding, shipper, exceedsMargin, levelFrom, flaggedFrom}
 use Rattle.base.specs.Lists.{any}
 use Rattle.rules.specs.Reduction.{hasEligible, target}
 use Rattle.laws_sales.proofs.Listed.{starts-rise}
@@ -24,7 +24,7 @@ use Rattle.risk_user.specs.UserAt.{flaggedAt, targetAt}
 use Rattle.run_state.specs.Going.{OwedOf, owed, owedCalled}
 use Rattle.run_targets.specs.Asking.{Opening, owedIf}
 use Rattle.laws_sales.proofs.Cover.{has-eligible-sales, short-from}
-use Rattle.laws_sales.specs.Cover.{due, flaggedFrom, levelFrom, shortFrom}
+use Rattle.laws_sales.specs.Cover.{due, shortFrom}
 use Rattle.laws_sales.specs.Groups.{starts}
 use Rattle.laws_sales.specs.Parts.{part}
 

@@ -96,16 +96,16 @@ in-force-drop : (date i : ℕ) (ps : List ParameterSet) {p : ParameterSet} → i
 unfolding inForce orElse
 in-force-drop date zero ps e = e
 in-force-drop date (suc i) [] e = e
-in-force-drop date (suc i) (q ∷ ps) e = ap (λ (o : Option ParameterSet). orElse o (begun date q)) (in-force-drop date i ps e)
+in-force-drop date (suc i) (q ∷ ps) {p = p} e = ap (λ (o : Option ParameterSet). orElse o (begun date q)) (in-force-drop date i ps e)
 
 -- the last of the sets so far, where none behind it is in force
 force-next : (date : ℕ) {zs : List ParameterSet} {p : ParameterSet} {rest : List ParameterSet} {b : Bool} → zs ≡ p ∷ rest → inForce date rest ≡ none → leb (p .first) date ≡ b
     → inForce date zs ≡ cond b (some p) none
 unfolding inForce orElse begun
-force-next date {p = p} e h k =
+force-next date {p = p} {rest = rest} {b = b} e h k =
     ap (inForce date) e
     ∙ ap (λ (o : Option ParameterSet). orElse o (begun date p)) h
-    ∙ ap (λ (b : Bool). cond {A = Option ParameterSet} b (some p) none) k
+    ∙ ap (λ (t : Bool). cond {A = Option ParameterSet} t (some p) none) k
 
 module _ {s : List ℕ} {n date : ℕ} where
   -- behind the last

@@ -46,11 +46,11 @@ fn read_set(c: &[u8]) -> ParameterSet
     ensures { λ r. ⌜ asSet r ≡ setOf (now (c .entry)) ⌝ }
 {
     let first = fields::get_u32(c, 0);
-    let energy = fields::get_u32(c, 4);
+    let energy = fields::get_u32(c, 4) as u64;
     let limits = Limits {
-        flag_mwh: Mwh(energy as u64),
         margin: Cents(fields::get_u64(c, 8)),
         floor: Cents(fields::get_u64(c, 16)),
+        flag_mwh: Mwh(energy),
     };
     ParameterSet {
         first: first,

@@ -7,11 +7,10 @@ use denote.Ref.{now}
 use Rattle.rules.specs.Levels.{Limits}
 use Rattle.units.specs.Limits.{asLimits, LimitsInRange}
 use Rattle.book_format.specs.Steps.{InBytes}
-use Rattle.book_format.proofs.Passed.{passed}
 use Rattle.call_entry.specs.Entered.{Found}
 use Rattle.call_guarantee.specs.Times.{callOf}
-use Rattle.call_entry.proofs.Calls.{called, found-few, found-lies, read-role}
-use Rattle.risk_user.specs.Account.{AccountAt}
+use Rattle.call_entry.proofs.Calls.{called, found-user, read-role}
+use Rattle.risk_user.proofs.Accepted.{record-blocked}
 use Rattle.call_guarantee.proofs.Ways.{call-unentered, call-of-house, call-ends}
 use borrow.Author.Needs.{needs}
 use Rattle.call_guarantee.proofs.call.Statement.{statement}
@@ -58,15 +57,8 @@ returns c =
     called (callOf a (asked e)) (c .refused .ensures)
     (call-unentered (opened e) (figures e) (bytes e) (asked e) a (e .seek .ensures) (c .before .if1 .taken))
 
-account-from-requires : tie.Need-account-from-requires
-account-from-requires c κs =
-    let n = c .before in
-    let told = start (n .before) .pre .1 .1 in
-    (found n .passes, (found n .known, (told .twelve (started n), told .low (started n))))
-
--- the account that is read of the user that was found
-account : (c : tie.After-account-from) → let e = c .before .before .before in AccountAt (bytes e) (e .seek .result .place) (c .account-from .result)
-account c = c .account-from .ensures
+user-at-requires : tie.Need-user-at-requires
+user-at-requires c κs = found-user (found (c .before))
 
 refused-requires-2 : tie.Need-refused-requires-2
 refused-requires-2 c κs = search needs
@@ -77,26 +69,33 @@ same-length-2 c = search needs
 returns-2 : tie.Need-returns-2
 returns-2 c =
     let t = c .before in
-    let k = t .before .before .before in
+    let k = t .before .before in
     let n = k .before .before in
     let e = n .before in
     let a = start e .args .afternoon in
     called (callOf a (asked e)) (c .refused2 .ensures)
-    (call-of-house (opened e) (figures e) (bytes e) (asked e) a (started n) (found n) (λ h. t .if2 .taken (read-role (k .account-from .result .user) (found n) (account k .user) ∙ h)))
+    (call-of-house (opened e) (figures e) (bytes e) (asked e) a (started n) (found n) (λ h. t .if2 .taken (read-role (k .user-at .result) (found n) (k .user-at .ensures) ∙ h)))
 
+-- what was read of the user that was found
 level-of-requires : tie.Need-level-of-requires
-level-of-requires c κs = let k = c .before .before .before in (account k .ready, ranged (k .before .before .before))
+level-of-requires c κs =
+    let k = c .before .before .before in
+    let n = k .before .before in
+    let f = found n in
+    let told = start (n .before) .pre .1 .1 in
+    (record { passes = f .passes; inside = f .known; twelve = told .twelve (started n); low = told .low (started n); user = k .user-at .ensures }, ranged (n .before))
 
 is-due-requires : tie.Need-is-due-requires
 is-due-requires c κs =
     let k = c .before .before .before .before .before in
     let n = k .before .before in
-    (passed (bytes (n .before)) (found n .passes) .form, (account k .held, (account k .ready, ranged (n .before))))
+    let f = found n in
+    (f .passes, record-blocked (bytes (n .before)) (f .passes) (f .known) (k .user-at .result) (k .user-at .ensures), ranged (n .before))
 
 raise-requires : tie.Need-raise-requires
 raise-requires c κs =
     let n = c .before .before .before .before .before .before .before .before .before in
-    record { inside = found-lies (found n); few = omega (arith, found-few (found n)) }
+    found-user (found n)
 
 same-length-3 : tie.Need-same-length-3
 same-length-3 c = search needs
@@ -106,13 +105,12 @@ returns-3 c =
     let r = c .before .before in
     let d = r .before .before in
     let l = d .before .before in
-    let t = l .before in
-    let k = t .before .before .before in
+    let t = l .before .before in
+    let k = t .before .before in
     let n = k .before .before in
     let e = n .before in
-    let h = account k in
     let a = start e .args .afternoon in
-    let x = call-ends (opened e) (figures e) (bytes e) (asked e) a (started n) (found n) (λ j. e .before .before .slice-known .given j .fits) h (t .if2 .left) (l .level-of .ensures (bytes e) (h .held)) (d .is-due .ensures) in
+    let x = call-ends (opened e) (figures e) (bytes e) (asked e) a (started n) (found n) (λ j. e .before .before .slice-known .given j .fits) (k .user-at .result) (k .user-at .ensures) (t .if2 .left) (l .level-of .ensures) (d .is-due .ensures) in
     record { answer = r .raise .ensures .0 ∙ ap (λ (y : InBytes). y .answer) x; bytes = r .raise .ensures .1 ∙ ap (λ (y : InBytes). y .bytes) x }
 
 pub call-spec : {M : Type 1} → statement M
@@ -123,7 +121,7 @@ call-spec =
     refused-requires
     same-length
     returns
-    account-from-requires
+    user-at-requires
     refused-requires-2
     same-length-2
     returns-2

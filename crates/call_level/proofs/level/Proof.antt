@@ -6,8 +6,10 @@ use denote.Ref.{now}
 use Rattle.rules.specs.Queries.{aLevel, onlyNumber}
 use Rattle.units.specs.Limits.{asLimits}
 use Rattle.call_entry.specs.Entered.{Found}
-use Rattle.call_entry.proofs.Calls.{read-role}
-use Rattle.call_level.proofs.Ways.{account-level, level-refused, level-of-house, level-found}
+use Rattle.call_entry.proofs.Calls.{found-user, read-role, read-user}
+use Rattle.book_format.specs.Book.{bookOf}
+use Rattle.call_level.specs.Times.{levelOf}
+use Rattle.call_level.proofs.Ways.{level-refused, level-of-house, level-found}
 use Rattle.call_level.proofs.level.Statement.{statement}
 use Rattle.call_level.proofs.level.Tie as tie
 
@@ -33,39 +35,38 @@ returns c =
     let a = e .before .before .args in
     level-refused (a .number) (asLimits (a .limits)) (bytes e) (asked e) (a .afternoon) (e .seek .ensures) (c .if1 .taken)
 
-account-from-requires : tie.Need-account-from-requires
-account-from-requires c κs =
-    let told = c .before .before .before .pre .1 .1 in
-    let f = found c in
-    (f .passes, (f .known, (told .twelve (started c), told .low (started c))))
+user-at-requires : tie.Need-user-at-requires
+user-at-requires c κs = found-user (found c)
 
 returns-2 : tie.Need-returns-2
 unfolding onlyNumber
 returns-2 c =
-    let k = c .before .before .before in
-    let e = k .before .before in
+    let u = c .before .before in
+    let e = u .before .before in
     let a = e .before .before .args in
-    let f = found (k .before) in
-    level-of-house (a .number) (asLimits (a .limits)) (bytes e) (asked e) (a .afternoon) (started (k .before)) f
-    (λ h. c .if2 .taken (read-role (k .account-from .result .user) f (k .account-from .ensures .user) ∙ h))
+    let f = found (u .before) in
+    level-of-house (a .number) (asLimits (a .limits)) (bytes e) (asked e) (a .afternoon) (started (u .before)) f
+    (λ h. c .if2 .taken (read-role (u .user-at .result) f (u .user-at .ensures) ∙ h))
 
 level-of-requires : tie.Need-level-of-requires
 level-of-requires c κs =
-    let k = c .before .before .before in
-    (k .account-from .ensures .ready, k .before .before .before .before .pre .1 .0)
+    let u = c .before .before in
+    let f = found (u .before) in
+    let s = u .before .before .before .before in
+    let told = s .pre .1 .1 in
+    (record { passes = f .passes; inside = f .known; twelve = told .twelve (started (u .before)); low = told .low (started (u .before)); user = u .user-at .ensures }, s .pre .1 .0)
 
 returns-3 : tie.Need-returns-3
 unfolding aLevel
 returns-3 c =
     let n = c .before in
-    let k = n .before .before .before in
-    let e = k .before .before in
+    let u = n .before .before in
+    let e = u .before .before in
     let a = e .before .before .args in
-    let f = found (k .before) in
-    let h = k .account-from .ensures in
-    ap aLevel (c .level-of .ensures (bytes e) (h .held) ∙ account-level f h (a .afternoon) (asLimits (a .limits)))
-    ∙ level-found (a .number) (asLimits (a .limits)) (bytes e) (asked e) (a .afternoon) (started (k .before)) f (sym (read-role (k .account-from .result .user) f (h .user)) ∙ n .if2 .left)
+    let f = found (u .before) in
+    ap aLevel (c .level-of .ensures ∙ ap (levelOf (a .afternoon) (asLimits (a .limits)) (bookOf (bytes e))) (read-user (u .user-at .result) f (u .user-at .ensures)))
+    ∙ level-found (a .number) (asLimits (a .limits)) (bytes e) (asked e) (a .afternoon) (started (u .before)) f (sym (read-role (u .user-at .result) f (u .user-at .ensures)) ∙ n .if2 .left)
 
 pub level-spec : {M : Type 1} → statement M
 level-spec =
-    tie.close (tie.spec seek-requires returns account-from-requires returns-2 level-of-requires returns-3)
+    tie.close (tie.spec seek-requires returns user-at-requires returns-2 level-of-requires returns-3)

@@ -1,5 +1,5 @@
 -- `is_flagged_shipper`: who is in no place is not flagged; else the user at the place is asked. Assumes nothing.
-use mathlib.Core.Path.{sym, ap, _∙_}
+use mathlib.Core.Path.{refl, sym, ap, _∙_}
 use mathlib.Core.List.{List}
 use Prim.Native.Nat.{ℕ}
 use native.Mathlib.Omega.{arith}
@@ -9,8 +9,10 @@ use Rattle.rules.specs.Levels.{flagged}
 use Rattle.units.specs.Limits.{asLimits}
 use Rattle.book_format.specs.Book.{bookOf, userCount}
 use Rattle.book_format.proofs.Passed.{length-usersOf, passed}
+use Rattle.book_records.specs.User.{asUser}
+use Rattle.risk_user.proofs.Held.{flagged-record}
 use Rattle.call_entry.specs.Entered.{Found}
-use Rattle.call_entry.proofs.Calls.{read-role, read-user}
+use Rattle.call_entry.proofs.Calls.{found-user, read-role, read-user}
 use Rattle.call_warning.proofs.Ways.{prices-range, read-blocked, shipper-unknown, shipper-no, shipper-yes}
 use borrow.Author.Needs.{needs}
 use Rattle.call_warning.proofs.is_flagged_shipper.Statement.{statement}
@@ -43,7 +45,7 @@ found c =
     record { passes = p .before .before .pre .0 .passes; stands = p .place-of .ensures .0; known = omega (arith, c .if1 .left, c .before .get-u8 .ensures) }
 
 user-at-requires : tie.Need-user-at-requires
-user-at-requires c κs = let f = found c in (passed (bytes (c .before .before)) (f .passes) .form, f .known)
+user-at-requires c κs = found-user (found c)
 
 returns-2 : tie.Need-returns-2
 returns-2 c =
@@ -55,13 +57,14 @@ returns-2 c =
 
 flagged-requires : tie.Need-flagged-requires
 flagged-requires c κs =
-    let u = c .before .before in
+    let u = c .before .before .before in
     let o = u .before .before .before .before .before in
-    (o .pre .1, (prices-range (o .pre .0), read-blocked (u .user-at .result) (found (u .before)) (u .user-at .ensures)))
+    (o .pre .1, prices-range (o .pre .0), read-blocked (u .user-at .result) (found (u .before)) (u .user-at .ensures))
 
 returns-3 : tie.Need-returns-3
+unfolding asUser
 returns-3 c =
-    let e = c .before in
+    let e = c .before .before in
     let u = e .before .before in
     let p = u .before .before .before in
     let o = p .before .before in
@@ -69,7 +72,9 @@ returns-3 c =
     let b = bookOf (bytes p) in
     let l = asLimits (a .limits) in
     let f = found (u .before) in
-    c .flagged .ensures b (o .pre .0 .same)
+    let v = u .user-at .result in
+    c .flagged .ensures (asUser v) refl
+    ∙ flagged-record l b v (sym (o .pre .0 .same))
     ∙ ap (flagged l b) (read-user (u .user-at .result) f (u .user-at .ensures))
     ∙ shipper-yes l b (find (b .users) (a .id)) (sym (read-role (u .user-at .result) f (u .user-at .ensures)) ∙ e .if2 .left)
 

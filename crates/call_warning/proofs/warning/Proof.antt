@@ -1,5 +1,5 @@
 -- `warning` is refused by the entry, refused for a clearing house, or answered by the flag and then by the trades. Assumes nothing.
-use mathlib.Core.Path.{_≡_, sym, ap, _∙_}
+use mathlib.Core.Path.{_≡_, refl, sym, ap, _∙_}
 use mathlib.Core.List.{List}
 use Prim.Native.Nat.{ℕ}
 use denote.Ref.{now}
@@ -9,8 +9,9 @@ use Rattle.units.specs.Limits.{asLimits}
 use Rattle.book_records.specs.User.{asUser}
 use Rattle.book_format.specs.Book.{bookOf}
 use Rattle.book_format.proofs.Passed.{passed}
+use Rattle.risk_user.proofs.Held.{flagged-record}
 use Rattle.call_entry.specs.Entered.{Found}
-use Rattle.call_entry.proofs.Calls.{read-role}
+use Rattle.call_entry.proofs.Calls.{found-user, read-role}
 use Rattle.call_warning.specs.Warned.{Priced}
 use Rattle.call_warning.proofs.Ways.{prices-range, read-blocked, read-warned, warned-flagged, warned-buyer, warning-refused, warning-of-house, warning-found}
 use Rattle.call_warning.proofs.warning.Statement.{statement}
@@ -44,7 +45,7 @@ returns c =
     warning-refused (opened e) (figures e) (bytes e) (asked e) (e .seek .ensures) (c .if1 .taken)
 
 user-at-requires : tie.Need-user-at-requires
-user-at-requires c κs = let f = found c in (passed (bytes (c .before)) (f .passes) .form, f .known)
+user-at-requires c κs = found-user (found c)
 
 returns-2 : tie.Need-returns-2
 unfolding onlyNumber
@@ -67,19 +68,26 @@ priced c = let n = user (c .before) .before in record { passes = found n .passes
 
 flagged-requires : tie.Need-flagged-requires
 flagged-requires c κs =
-    let u = user (c .before) in
-    (u .before .before .before .before .pre .1, (prices-range (priced c), read-blocked (u .user-at .result) (found (u .before)) (u .user-at .ensures)))
+    let p = c .before in
+    let u = user (p .before) in
+    (u .before .before .before .before .pre .1, prices-range (priced p), read-blocked (u .user-at .result) (found (u .before)) (u .user-at .ensures))
 
 -- whether the user that is read is flagged in the book of the bytes
-flag-is : (c : tie.After-flagged) → let u = user (c .before .before) in let e = u .before .before in
+flag-is : (c : tie.After-flagged) → let u = user (c .before .before .before) in let e = u .before .before in
     c .flagged .result ≡ flagged (figures e) (bookOf (bytes e)) (asUser (u .user-at .result))
-flag-is c = let u = user (c .before .before) in c .flagged .ensures (bookOf (bytes (u .before .before))) (priced (c .before) .same)
+unfolding asUser
+flag-is c =
+    let p = c .before .before in
+    let u = user (p .before) in
+    let e = u .before .before in
+    let v = u .user-at .result in
+    c .flagged .ensures (asUser v) refl ∙ flagged-record (figures e) (bookOf (bytes e)) v (sym (priced p .same))
 
 returns-3 : tie.Need-returns-3
 unfolding aWarning
 returns-3 c =
     let g = c .before in
-    let n = g .before .before in
+    let n = g .before .before .before in
     let u = user n in
     let e = u .before .before in
     let f = found (u .before) in
@@ -90,7 +98,7 @@ returns-3 c =
 
 any-warns-requires : tie.Need-any-warns-requires
 any-warns-requires c κs =
-    let p = c .before .before in
+    let p = c .before .before .before in
     (priced p, user (p .before) .before .before .before .before .pre .1)
 
 returns-4 : tie.Need-returns-4
@@ -98,7 +106,7 @@ unfolding aWarning asUser
 returns-4 c =
     let l = c .before in
     let g = l .before in
-    let n = g .before .before in
+    let n = g .before .before .before in
     let u = user n in
     let e = u .before .before in
     let f = found (u .before) in

@@ -10,7 +10,7 @@ use Rattle.day_lines.proofs.line_at.Statement.{statement}
 use Rattle.day_lines.proofs.line_at.Tie as tie
 
 user-at-requires : tie.Need-user-at-requires
-user-at-requires c κs = let u = line-user (c .before .pre) in (u .form, u .inside)
+user-at-requires c κs = line-user (c .before .pre)
 
 level-at-requires : tie.Need-level-at-requires
 level-at-requires c κs = let p = c .before .before .before .pre in (line-day p, line-user p, p .low)

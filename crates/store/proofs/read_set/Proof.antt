@@ -11,8 +11,8 @@ get-u32-requires c κs = search needs
 get-u32-requires-2 : tie.Need-get-u32-requires-2
 get-u32-requires-2 c κs = search needs
 
-cast-t5 : tie.Need-cast-t5
-cast-t5 c = search needs
+cast-energy : tie.Need-cast-energy
+cast-energy c = search needs
 
 get-u64-requires : tie.Need-get-u64-requires
 get-u64-requires c κs = search needs
@@ -32,7 +32,7 @@ read-set-spec =
     (tie.spec
     get-u32-requires
     get-u32-requires-2
-    cast-t5
+    cast-energy
     get-u64-requires
     get-u64-requires-2
     returns)

@@ -6,19 +6,11 @@ use borrow.Author.Needs.{needs}
 use Rattle.risk_holdings.proofs.Holding.afternoon_need.Statement.{statement}
 use Rattle.risk_holdings.proofs.Holding.afternoon_need.Tie as tie
 
-stock-requires : tie.Need-stock-requires
-stock-requires c κs = search needs
-
-add-covered : tie.Need-add-covered
-add-covered c = search needs
-
 returns : tie.Need-returns
 unfolding asHolding
-returns c = omega (arith, afternoon-need-of (c .before .before .before .before .args .area) (asHolding (c .before .before .before .before .args .self)))
-
-returns-2 : tie.Need-returns-2
-unfolding asHolding
-returns-2 c = omega (arith, afternoon-need-of (c .before .before .before .before .args .area) (asHolding (c .before .before .before .before .args .self)))
+returns c =
+    let a = c .before .before .before .before .args in
+    omega (arith, afternoon-need-of (a .area) (asHolding (a .self)), c .excess .ensures)
 
 pub afternoon-need-spec : {M : Type 1} → statement M
-afternoon-need-spec = tie.close (tie.spec stock-requires add-covered returns returns-2)
+afternoon-need-spec = tie.close (tie.spec (λ c κs. search needs) (λ c. search needs) (λ c κs. search needs) returns)
