@@ -66,8 +66,8 @@ fn post(u: User, area: usize, amount: i64) -> PostedUser
     }
 }
 
-// Adds an amount to a user's physical entry and position in an area, after the opening questions, whose number is given; the number of the first question that is answered
-// by no, and then nothing is changed. It takes no figure of the limits.
+// Adds an amount to a user's physical entry and position in an area, after the opening questions, whose number is given; the number of the
+// first question that is answered by no, and then nothing is changed. It takes no figure of the limits.
 pub fn posting(book: &mut [u8], number: u32, id: u32, area: u32, amount: i64) -> u32
     requires { ⌜ (number ≡ 0 → bookNumber (now book) ≡ 0) ⌝ }
     ensures { λ r. ⌜ ((limits : Limits) → CalledAfter number limits (now (book .entry)) (postingOf id area amount) (only r) (now (book .exit))) ⌝ }
