@@ -7,7 +7,7 @@ use native.Mathlib.Omega.{arith}
 use lib.Dec.{leb, ltb}
 use lib.ListN.{length, getD}
 use lib.Seq.{sets}
-use Rattle.columns.specs.Columns.{idAt, tradesIn, usersIn}
+use Rattle.book_parties.specs.Ids.{idAt}
 use Rattle.cut_apply.proofs.Own.{cuttable-part, own-lowered}
 use Rattle.cut_apply.specs.Cutting.{CuttablePart, loweredAt}
 use Rattle.cut_lists.proofs.Own.{own-inside, own-origins}
@@ -15,34 +15,34 @@ use Rattle.cut_lists.specs.Sales.{SalesOf, SalesRoom, StandingOf}
 use Rattle.cut_tiers.specs.Tiers.{cutsOf}
 use Rattle.cut_worth.specs.Tallies.{asTally}
 use Rattle.cut_worth.specs.declared.Tally.{Tally}
-use Rattle.dealings.specs.Parties.{cutBefore}
-use Rattle.format.proofs.Passed.{length-usersOf}
-use Rattle.format.specs.Book.{bookOf, tradeCount, tradesAt, tradesOf, userAt, userCount, usersOf}
-use Rattle.format.specs.Steps.{inBytes}
-use Rattle.held.specs.Held.{HeldAs}
+use Rattle.risk_holdings.specs.Parties.{cutBefore}
+use Rattle.book_format.proofs.Passed.{length-usersOf}
+use Rattle.book_format.specs.Book.{bookOf, tradesOf, userCount, usersOf}
+use Rattle.book_format.specs.Steps.{inBytes}
+use Rattle.book_format.specs.Held.{HeldAs}
 use Rattle.risk_user.proofs.Rules.{called-own, level-own, state-own}
-use Rattle.risk_user.specs.Account.{PositionsOf, flaggedAt, levelAt, targetOf}
+use Rattle.risk_user.specs.UserAt.{PositionsOf, flaggedAt, levelAt, targetOf}
 use Rattle.risk_user.specs.States.{stateBy}
 use Rattle.rules.specs.Areas.{Prices}
 use Rattle.rules.specs.Book.{Book, Trade, User, nobody}
 use Rattle.rules.specs.Calls.{Answer, ofCuts, only, reducedBy}
 use Rattle.rules.specs.Day.{State, call, clear, quiet, short}
 use Rattle.rules.specs.Levels.{Limits, afternoonLevel, calledIn, exceedsMargin, shipper}
-use Rattle.rules.specs.Lists.{any}
+use Rattle.base.specs.Lists.{any}
 use Rattle.rules.specs.Questions.{numberOf, refusal}
 use Rattle.rules.specs.Reduction.{cutAll, hasEligible, nothing, tallyAll, target, withTrades}
 use Rattle.run_reduction.proofs.Start.{first-reached, run-stays}
 use Rattle.run_reduction.proofs.Steps.{cut-within, cuts-own, cuts-part, cuts-room, own-codes, own-standing, prices-same}
 use Rattle.run_reduction.specs.Books.{Listed, Runnable}
 use Rattle.run_reduction.specs.Reductions.{Reached, RunOf, shortIn}
-use Rattle.sales.proofs.Cover.{has-eligible-sales}
-use Rattle.sales.proofs.Cuts.{cuts-sales}
-use Rattle.sales.proofs.FirstCuts.{own-cuts-length}
-use Rattle.sales.proofs.Own.{own-eligible, own-sales}
-use Rattle.sales.proofs.Reduced.{sales-reduced}
-use Rattle.sales.specs.Parts.{part}
-use Rattle.sales.specs.Reduced.{ownCuts, ownSales}
-use Rattle.sales.specs.Sales.{ownSale}
+use Rattle.laws_sales.proofs.Cover.{has-eligible-sales}
+use Rattle.laws_sales.proofs.Cuts.{cuts-sales}
+use Rattle.laws_sales.proofs.FirstCuts.{own-cuts-length}
+use Rattle.laws_sales.proofs.Own.{own-eligible, own-sales}
+use Rattle.laws_sales.proofs.Reduced.{sales-reduced}
+use Rattle.laws_sales.specs.Parts.{part}
+use Rattle.laws_sales.specs.Reduced.{ownCuts, ownSales}
+use Rattle.laws_sales.specs.Sales.{ownSale}
 use Rattle.call_reduction.specs.Books.{UserOf, allSales}
 use Rattle.call_reduction.specs.Call.{Gives, levelQuestions, onSales}
 use Rattle.call_reduction.specs.States.{refusedBy}
@@ -78,12 +78,11 @@ module _ {limits : Limits} {f : Prices} {s sellers parties sums : List ℕ} (r :
   asked-level e = e ∙ ap (λ (g : Prices). levelAt limits g (usersOf s) sums ps place) (r .prices-are) ∙ level-own (bookOf s) (r .twelve) p place member limits
 
   -- and whether it is called in
-  pub asked-called : {n m : ℕ} → n ≡ userCount s → m ≡ tradeCount s → {called cut : Bool} → called ≡ (flaggedAt limits f (usersOf s) ps place || cut)
-      → cut ≡ cutBefore (idAt (usersIn n s) place) (tradesIn n m s) → called ≡ calledIn limits (bookOf s) (getD (usersOf s) place nobody)
-  unfolding bookOf usersOf tradesOf tradesAt userAt
-  asked-called {n} {m} a b {called} {cut} e c =
-      let c′ : cut ≡ cutBefore (idAt (usersOf s) place) (tradesOf s) = rw (a, b) at c in
-      called-own (bookOf s) (r .twelve) p place member limits (e ∙ ap (λ (g : Prices). flaggedAt limits g (usersOf s) ps place || cut) (r .prices-are)) c′
+  pub asked-called : {called cut : Bool} → called ≡ (flaggedAt limits f (usersOf s) ps place || cut)
+      → cut ≡ cutBefore (idAt (usersOf s) place) (tradesOf s) → called ≡ calledIn limits (bookOf s) (getD (usersOf s) place nobody)
+  unfolding bookOf
+  asked-called {called} {cut} e c =
+      called-own (bookOf s) (r .twelve) p place member limits (e ∙ ap (λ (g : Prices). flaggedAt limits g (usersOf s) ps place || cut) (r .prices-are)) c
 
   module _ {level : ℕ} {called : Bool} (le : level ≡ afternoonLevel limits (bookOf s) (getD (usersOf s) place nobody)) (ce : called ≡ calledIn limits (bookOf s) (getD (usersOf s) place nobody))
       {number : ℕ} {state : State} (ne : number ≡ refusedBy state) (se : state ≡ stateBy limits (getD (usersOf s) place nobody) level called) where
@@ -149,7 +148,7 @@ module _ {f : Prices} {s : List ℕ} {place : ℕ} {sellers parties ps : List �
       unfolding bookOf
       own-cuttable =
           let w = own-inside (l .sales) place inside-users in
-          cuttable-part (p .book .book .sound) (l .sales) (l .standing) cs from to (w .0) (w .1)
+          cuttable-part (p .book .book .accepted .sound) (l .sales) (l .standing) cs from to (w .0) (w .1)
           (omega (arith, w .1, l .sales .few, cuts-room user-run (p .inside) user-reached asked cs cs₀ _ filled room (cuts-own user-run (p .inside) user-reached asked)))
           (cut-within user-run (p .inside) user-reached asked cs lost)
 
@@ -176,4 +175,4 @@ module _ {f : Prices} {s : List ℕ} {place : ℕ} {sellers parties ps : List �
           ∙ ap₂ (λ (x : Prices) (xs : List ℕ). tallyAll x xs sales nothing) (prices-same user-run (p .inside) user-reached) lost in
           let end : HeldAs (reducedBy (bookOf s) u asked .book) t = subst (λ (x : Book). HeldAs x t) lowered-is held in
           rw (sales-some s u asked (eligible-is e ∙ h))
-          (record { answer = g ∙ ap (ofCuts asked) tally-is ∙ sym (sales-reduced (bookOf s) u asked (p .book .book .sound) .answer); bytes = end .bytes })
+          (record { answer = g ∙ ap (ofCuts asked) tally-is ∙ sym (sales-reduced (bookOf s) u asked (p .book .book .accepted .sound) .answer); bytes = end .bytes })

@@ -7,21 +7,21 @@ use Prim.Native.Nat.{ℕ}
 use lib.Dec.{T, leb, ltb}
 use lib.ListN.{getD}
 use borrow.Author.Tests.{lt-ltb, le-ltb, le-leb}
-use Rattle.integers.proofs.Linear.{by-order}
+use Rattle.base.proofs.Linear.{by-order}
 use Rattle.rules.specs.Book.{Book, User, find, nobody}
 use Rattle.rules.specs.Day.{call, callDue, clear, quiet, short, state}
 use Rattle.rules.specs.Levels.{Limits, shipper, shortOfCover, afternoonLevel, calledIn, exceedsMargin}
-use Rattle.rules.specs.Lists.{all}
+use Rattle.base.specs.Lists.{all}
 use Rattle.rules.specs.Questions.{Question, refusal, decided, numberOf}
 use Rattle.rules.specs.Reduction.{hasEligible, target}
 use Rattle.rules.specs.Calls.{about, assignedFallsShort, calledInBeyondMargin, effect, eligibleTrade, idKnown, isShipper, only, reduced, reducedBy, reduction, Answer}
 use Rattle.laws.proofs.Refusals.{number-none, number-some, numbered, refusal-first, refusal-next}
-use Rattle.format.proofs.OneUser.{find-place}
-use Rattle.format.specs.After.{CalledAfter, stepAfter}
-use Rattle.format.specs.Book.{bookOf, usersOf}
-use Rattle.format.specs.Steps.{InBytes, inBytes}
-use Rattle.entry.specs.Entered.{Entered, Found}
-use Rattle.entry.proofs.Calls.{call-found, call-refused}
+use Rattle.book_format.proofs.OneUser.{find-place}
+use Rattle.book_format.specs.After.{CalledAfter, stepAfter}
+use Rattle.book_format.specs.Book.{bookOf, usersOf}
+use Rattle.book_format.specs.Steps.{InBytes, inBytes}
+use Rattle.call_entry.specs.Entered.{Entered, Found}
+use Rattle.call_entry.proofs.Calls.{call-found, call-refused}
 use Rattle.call_reduction.specs.Call.{Gives, levelQuestions, onSales, onUser, reductionOf}
 use Rattle.call_reduction.specs.States.{refusedBy}
 

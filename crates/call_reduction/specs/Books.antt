@@ -3,13 +3,13 @@ use mathlib.Core.List.{List}
 use mathlib.Core.Path.{_≡_}
 use Prim.Native.Nat.{ℕ, _<_}
 use lib.ListN.{length}
-use Rattle.format.specs.Book.{userCount, usersOf}
-use Rattle.risk_user.specs.Account.{PositionsOf}
+use Rattle.book_format.specs.Book.{userCount, usersOf}
+use Rattle.risk_user.specs.UserAt.{PositionsOf}
 use Rattle.rules.specs.Areas.{Prices}
 use Rattle.rules.specs.Book.{Book}
 use Rattle.rules.specs.Levels.{Limits}
 use Rattle.run_reduction.specs.Books.{Runnable}
-use Rattle.sales.specs.Groups.{starts}
+use Rattle.laws_sales.specs.Groups.{starts}
 
 -- an accepted book, a user's place in it, and the positions of its users; the limits and sums that the user's questions were asked by are of no use to the cuts
 pub record UserOf (f : Prices) (s : List ℕ) (place : ℕ) (sellers parties ps : List ℕ) : Type 0 where

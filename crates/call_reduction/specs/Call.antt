@@ -6,8 +6,8 @@ use Rattle.rules.specs.Book.{Book, User}
 use Rattle.rules.specs.Questions.{Question, decided, refusal}
 use Rattle.rules.specs.Levels.{Limits, afternoonLevel}
 use Rattle.rules.specs.Calls.{Answer, Call, reduction, isShipper, calledInBeyondMargin, assignedFallsShort, eligibleTrade, only, reduced, reducedBy}
-use Rattle.format.specs.Book.{bookOf}
-use Rattle.format.specs.Steps.{InBytes, inBytes}
+use Rattle.book_format.specs.Book.{bookOf}
+use Rattle.book_format.specs.Steps.{InBytes, inBytes}
 
 -- the call that the function `reduction` is
 abbrev pub reductionOf : ℕ → Call

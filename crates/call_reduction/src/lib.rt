@@ -1,6 +1,6 @@
-// A reduction on a lent book in bytes: its questions, and the cuts of the user's own sales for what its afternoon level exceeds its assigned guarantee by. The sales are cut on
-// arrays, as in a run, and what they lose is taken off in the bytes.
-use answers::ReductionAnswer;
+// A reduction on a lent book in bytes: its questions, and the cuts of the user's own sales for what its afternoon level exceeds its
+// assigned guarantee by. The sales are cut on arrays, as in a run, and what they lose is taken off in the bytes.
+use call_answers::ReductionAnswer;
 use risk_user::Day;
 use risk_user::State;
 use units::Cents;
@@ -9,11 +9,11 @@ use units::Prices;
 ghost use mathlib.Core.Path.{_≡_};
 ghost use Prim.Native.Nat.{_<_};
 ghost use lib.ListN.{getD};
-ghost use Rattle.answers.specs.Reduction.{answerOf};
-ghost use Rattle.format.specs.After.{CalledAfter};
-ghost use Rattle.format.specs.Book.{bookOf, userCount, usersOf};
-ghost use Rattle.format.specs.Questions.{bookNumber};
-ghost use Rattle.questions.specs.Asked.{PartiesFound};
+ghost use Rattle.call_answers.specs.Reduction.{answerOf};
+ghost use Rattle.book_format.specs.After.{CalledAfter};
+ghost use Rattle.book_format.specs.Book.{bookOf, userCount, usersOf};
+ghost use Rattle.book_format.specs.Questions.{bookNumber};
+ghost use Rattle.book_questions.specs.Asked.{PartiesFound};
 ghost use Rattle.risk_user.specs.States.{stateOf};
 ghost use Rattle.rules.specs.Book.{nobody};
 ghost use Rattle.run_reduction.specs.Books.{Listed, Runnable};
@@ -166,8 +166,8 @@ fn reduce_user(
     )
 }
 
-// The reduction of the user of an id, after the opening questions, whose number is given with the places of the trades' parties and the sums of the users: the user's
-// eligible trades are cut for its target.
+// The reduction of the user of an id, after the opening questions, whose number is given with the places of the trades' parties and the
+// sums of the users: the user's eligible trades are cut for its target.
 pub fn reduction(
     book: &mut [u8],
     number: u32,
@@ -182,7 +182,7 @@ pub fn reduction(
     requires { ⌜ PartiesFound (now book) number (now sellers) (now parties) (now sums) ⌝ }
     ensures { λ r. ⌜ CalledAfter number (asLimits limits) (now (book .entry)) (reductionOf id) (answerOf r) (now (book .exit)) ⌝ }
 {
-    let entry = entry::seek(book, number, id);
+    let entry = call_entry::seek(book, number, id);
     let number = entry.number;
     let place = entry.place;
     if number != 0 {
@@ -190,7 +190,7 @@ pub fn reduction(
     }
     let day = Day {
         limits: limits,
-        prices: header::read_prices(book),
+        prices: book_form::read_prices(book),
     };
     reduce_user(book, sellers, parties, sums, place, day)
 }

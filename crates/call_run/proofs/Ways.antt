@@ -4,9 +4,9 @@ use mathlib.Core.Path.{_≡_, refl, sym, ap, _∙_}
 use Prim.Native.Nat.{ℕ, zero, suc}
 use Rattle.cut_worth.specs.Totals.{totals}
 use Rattle.cut_worth.specs.declared.Totals.{Totals}
-use Rattle.format.specs.After.{CalledAfter, after, stepAfter, unchanged}
-use Rattle.format.specs.Book.{bookOf}
-use Rattle.format.specs.Steps.{InBytes, inBytes}
+use Rattle.book_format.specs.After.{CalledAfter, after, stepAfter, unchanged}
+use Rattle.book_format.specs.Book.{bookOf}
+use Rattle.book_format.specs.Steps.{InBytes, inBytes}
 use Rattle.rules.specs.Calls.{Answer, about, effect, only}
 use Rattle.rules.specs.Levels.{Limits}
 use Rattle.rules.specs.Questions.{decided, refusal}

@@ -1,15 +1,15 @@
 // The run of a lent book in bytes: while some user that is short of cover has an eligible trade, the one of the lowest id is reduced.
-use answers::RunAnswer;
+use call_answers::RunAnswer;
 use cut_worth::Totals;
 use risk_user::Day;
 use units::Limits;
 ghost use mathlib.Core.Path.{_≡_};
-ghost use Rattle.format.specs.After.{CalledAfter};
-ghost use Rattle.format.specs.Questions.{bookNumber};
+ghost use Rattle.book_format.specs.After.{CalledAfter};
+ghost use Rattle.book_format.specs.Questions.{bookNumber};
 ghost use Rattle.units.specs.Limits.{asLimits, LimitsInRange};
-ghost use Rattle.questions.specs.Asked.{PartiesFound};
+ghost use Rattle.book_questions.specs.Asked.{PartiesFound};
 ghost use Rattle.cut_worth.specs.Totals.{totals};
-ghost use Rattle.answers.specs.Run.{answerOf};
+ghost use Rattle.call_answers.specs.Run.{answerOf};
 ghost use Rattle.call_run.specs.Call.{runCall};
 
 // The answer of an accepted run: its totals.
@@ -26,7 +26,8 @@ fn accepted(t: Totals) -> RunAnswer
     }
 }
 
-// Runs the book that the bytes hold, in the bytes, after the opening questions, whose number is given with the places of the trades' parties and the sums of the users.
+// Runs the book that the bytes hold, in the bytes, after the opening questions, whose number is given with the places of the trades'
+// parties and the sums of the users.
 pub fn run(
     book: &mut [u8],
     number: u32,
@@ -45,7 +46,7 @@ pub fn run(
     }
     let day = Day {
         limits: limits,
-        prices: header::read_prices(book),
+        prices: book_form::read_prices(book),
     };
     let totals = run_book::run_book(book, sellers, parties, sums, day);
     accepted(totals)

@@ -5,18 +5,18 @@ use Prim.Native.Nat.{ℕ, suc, _+_, _*_, _-_, _≤_, _<_}
 use native.Mathlib.Omega.{arith}
 use lib.ListN.{getD, length, length-replicate, replicate, take}
 use lib.Seq.{length-take-le}
-use Rattle.cut_lists.specs.Sales.{BookIn}
+use Rattle.book_parties.specs.Ids.{BookIn}
 use Rattle.cut_records.specs.Places.{LoweredIn, PlacesIn}
-use Rattle.format.specs.Book.{bookOf, tradeCount, tradesAt, tradesOf, userAt, userCount}
-use Rattle.held.proofs.Held.{held-itself, held-tradeCount, held-trades, held-userCount}
-use Rattle.held.specs.Held.{HeldAs, tradesReplaced}
+use Rattle.book_format.specs.Book.{bookOf, tradeCount, tradesAt, tradesOf, userAt, userCount}
+use Rattle.book_format.proofs.Held.{held-itself, held-tradeCount, held-trades, held-userCount}
+use Rattle.book_format.specs.Held.{HeldAs, tradesReplaced}
 use Rattle.rules.specs.Book.{Book, Trade}
 use Rattle.rules.specs.Changes.{withUsers}
 use Rattle.rules.specs.Reduction.{settle, withTrades}
-use Rattle.sales.proofs.Settled.{settle-parties}
-use Rattle.sales.proofs.Standing.{same-length}
-use Rattle.sales.proofs.Parts.{part-here, part-length}
-use Rattle.sales.specs.Parts.{part}
+use Rattle.laws_sales.proofs.Settled.{settle-parties}
+use Rattle.laws_sales.proofs.Standing.{same-length}
+use Rattle.laws_sales.proofs.Parts.{part-here, part-length}
+use Rattle.laws_sales.specs.Parts.{part}
 use Rattle.cut_apply.proofs.Cutting.{loweredTo}
 use Rattle.cut_apply.proofs.Losing.{losing-le}
 use Rattle.cut_apply.proofs.Turns.{MovedSo, moved-end, moved-more, moved-start, sale-here, sale-room}
@@ -25,8 +25,8 @@ use Rattle.cut_apply.specs.Cutting.{Cutting, CuttablePart, MovedBy, Sale
 -- ---- the lists that are lent
 
 -- fronts of two arrays with room for those that lose something
-pub lent-room : (room : ℕ) {s sellers parties origins cuts : List ℕ} {n from to lost : ℕ} → Cutting s n sellers parties origins cuts from to lost → lost ≤ room
-    → Cutting s n sellers parties origins cuts from to (length (take lost (replicate {A = ℕ} room 0))) × (length (take lost (replicate {A = ℕ} room 0)) ≡ length (take lost (replicate {A = ℕ} room 0)))
+pub lent-room : (room : ℕ) {s sellers parties origins cuts : List ℕ} {from to lost : ℕ} → Cutting s sellers parties origins cuts from to lost → lost ≤ room
+    → Cutting s sellers parties origins cuts from to (length (take lost (replicate {A = ℕ} room 0))) × (length (take lost (replicate {A = ℕ} room 0)) ≡ length (take lost (replicate {A = ℕ} room 0)))
 lent-room room {lost = lost} p h =
     let e = length-take-le lost (replicate {A = ℕ} room 0) (omega (arith, length-replicate {A = ℕ} room 0)) in
     (record { book = p .book; cuttable = p .cuttable; count = e ∙ p .count }, refl)
@@ -39,7 +39,7 @@ pub record MovedTo (b : Book) (origins cuts : List ℕ) (from to : ℕ) (places 
   pub inside : k ≤ to
   pub so : MovedSo b (part from to origins) (part from to cuts) places amounts s lost (k - from)
 
-module _ {n : ℕ} {s₀ sellers parties : List ℕ} (a : BookIn n (tradeCount s₀) s₀ sellers parties) {origins cuts : List ℕ} {from to : ℕ} (p : CuttablePart (bookOf s₀ .trades) origins cuts from to) where
+module _ {s₀ sellers parties : List ℕ} (a : BookIn s₀ sellers parties) {origins cuts : List ℕ} {from to : ℕ} (p : CuttablePart (bookOf s₀ .trades) origins cuts from to) where
   pub loop-start : {places amounts : List ℕ} → length places ≡ losing (part from to cuts) → length amounts ≡ losing (part from to cuts) → MovedTo (bookOf s₀) origins cuts from to places amounts s₀ 0 from
   loop-start {places} {amounts} e f =
       let none : 0 ≡ from - from = omega arith in
@@ -64,11 +64,11 @@ module _ {n : ℕ} {s₀ sellers parties : List ℕ} (a : BookIn n (tradeCount s
     inside-part : k - from < length (part from to origins)
     inside-part = omega (arith, long, q .begun)
 
-    pub loop-sale : SaleIn s n seller buyer place cut
-    loop-sale =
-        subst (λ (x : ℕ). SaleIn s n seller buyer x cut) (sym place-is)
-        (subst (λ (x : ℕ). SaleIn s n seller buyer (getD (part from to origins) (k - from) 0) x) (sym cut-is)
-        (sale-here a (p .cuttable) (k - from) inside-part (sells ∙ ap (λ (x : ℕ). getD sellers x 0) place-is) (buys ∙ ap (λ (x : ℕ). getD parties x 0) place-is) (q .so)))
+    pub loop-sale : {begin : ℕ} → begin ≡ tradesAt s₀ → SaleIn s begin seller buyer place cut
+    loop-sale {begin} starts =
+        subst (λ (x : ℕ). SaleIn s begin seller buyer x cut) (sym place-is)
+        (subst (λ (x : ℕ). SaleIn s begin seller buyer (getD (part from to origins) (k - from) 0) x) (sym cut-is)
+        (sale-here a (p .cuttable) (k - from) inside-part (sells ∙ ap (λ (x : ℕ). getD sellers x 0) place-is) (buys ∙ ap (λ (x : ℕ). getD parties x 0) place-is) (q .so) starts))
 
     -- where it loses something, there is room to note it
     pub loop-room : (length places ≤ 256) × (0 < cut → (lost < length places) × (lost < length amounts))
@@ -80,13 +80,13 @@ module _ {n : ℕ} {s₀ sellers parties : List ℕ} (a : BookIn n (tradeCount s
           λ l. (omega (arith, room l, q .so .places-room), omega (arith, room l, q .so .amounts-room)),
         )
 
-    pub loop-more : {places' amounts' s' : List ℕ} {lost' : ℕ} → SaleCut s n seller buyer place cut lost places amounts s' places' amounts' lost'
+    pub loop-more : {places' amounts' s' : List ℕ} {lost' : ℕ} → SaleCut s seller buyer place cut lost places amounts s' places' amounts' lost'
         → MovedTo (bookOf s₀) origins cuts from to places' amounts' s' lost' (k + 1)
     loop-more {places'} {amounts'} {s'} {lost'} g =
         let next : suc (k - from) ≡ k + 1 - from = omega (arith, q .begun) in
-        let here : SaleCut s n seller buyer (getD (part from to origins) (k - from) 0) (getD (part from to cuts) (k - from) 0) lost places amounts s' places' amounts' lost' =
-        subst (λ (x : ℕ). SaleCut s n seller buyer (getD (part from to origins) (k - from) 0) x lost places amounts s' places' amounts' lost') cut-is
-        (subst (λ (x : ℕ). SaleCut s n seller buyer x cut lost places amounts s' places' amounts' lost') place-is g) in
+        let here : SaleCut s seller buyer (getD (part from to origins) (k - from) 0) (getD (part from to cuts) (k - from) 0) lost places amounts s' places' amounts' lost' =
+        subst (λ (x : ℕ). SaleCut s seller buyer (getD (part from to origins) (k - from) 0) x lost places amounts s' places' amounts' lost') cut-is
+        (subst (λ (x : ℕ). SaleCut s seller buyer x cut lost places amounts s' places' amounts' lost') place-is g) in
         record {
           begun = omega (arith, q .begun);
           inside = omega arith;
@@ -109,11 +109,11 @@ module _ {n : ℕ} {s₀ sellers parties : List ℕ} (a : BookIn n (tradeCount s
     -- as many users, and as many bytes
     users-stay : userCount s ≡ userCount s₀
     unfolding withUsers
-    users-stay = sym (held-userCount h) ∙ users-long ts ∙ held-userCount (a .held)
+    users-stay = sym (held-userCount h) ∙ users-long ts ∙ held-userCount (a .accepted .held)
 
     bytes-stay : length s ≡ length s₀
     unfolding withUsers
-    bytes-stay = omega (arith, h .form .whole, a .held .form .whole, users-stay, held-tradeCount h, held-tradeCount (a .held))
+    bytes-stay = omega (arith, h .form .whole, a .accepted .held .form .whole, users-stay, held-tradeCount h, held-tradeCount (a .accepted .held))
 
   pub loop-bytes : {places amounts s : List ℕ} {lost k : ℕ} → MovedTo (bookOf s₀) origins cuts from to places amounts s lost k → length s ≡ length s₀
   loop-bytes {k = k} q = bytes-stay (loweredTo (part from to origins) (part from to cuts) (bookOf s₀ .trades) (k - from)) (q .so .held)
@@ -122,12 +122,12 @@ module _ {n : ℕ} {s₀ sellers parties : List ℕ} (a : BookIn n (tradeCount s
 
   module _ {places amounts s : List ℕ} (q : MovedBy (bookOf s₀) (part from to origins) (part from to cuts) places amounts s) where
     -- the noted ones can be lowered
-    pub noted-places : PlacesIn 256 s (32 + 56 * n) places
+    pub noted-places : {begin : ℕ} → begin ≡ tradesAt s₀ → PlacesIn 256 s begin places
     unfolding tradesAt userAt withUsers
-    noted-places =
+    noted-places starts =
         record {
           held = held-itself (q .held);
-          begin = omega (arith, a .users-are, users-stay (loweredAt (part from to origins) (part from to cuts) (bookOf s₀ .trades)) (q .held));
+          begin = omega (arith, starts, users-stay (loweredAt (part from to origins) (part from to cuts) (bookOf s₀ .trades)) (q .held));
           inside = λ i l. omega (arith, q .inside i l, held-tradeCount (q .held));
           few = omega (arith, q .count, losing-le (part from to cuts), p .cuttable .same, long, p .few);
         }

@@ -8,9 +8,9 @@ use lib.Dec.{ltb}
 use lib.ListN.{drop, drop-of-length-le, getD, length}
 use lib.Seq.{drop-cons}
 use borrow.Author.Tests.{ltb-false, ltb-true}
-use Rattle.sales.proofs.Kept.{by-case}
-use Rattle.sales.proofs.Parts.{part-first, part-none}
-use Rattle.sales.specs.Parts.{part}
+use Rattle.base.proofs.Tests.{by-case}
+use Rattle.laws_sales.proofs.Parts.{part-first, part-none}
+use Rattle.laws_sales.specs.Parts.{part}
 use Rattle.cut_apply.specs.Cutting.{losing}
 
 -- one more where a cut is not 0

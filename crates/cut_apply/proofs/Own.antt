@@ -8,24 +8,23 @@ use lib.ListN.{getD, length, length-map, take}
 use lib.Seq.{ext-getD, getD-take}
 use Rattle.cut_lists.proofs.Own.{count-is, count-room, sales-stay}
 use Rattle.cut_lists.specs.Sales.{SalesOf, StandingOf}
-use Rattle.held.specs.Held.{noTrade}
 use Rattle.laws.specs.Sound.{Sound}
 use Rattle.laws.specs.Trades.{Framed, Pairwise}
-use Rattle.rules.specs.Book.{Book, Trade}
+use Rattle.rules.specs.Book.{Book, Trade, noTrade}
 use Rattle.rules.specs.Reduction.{cutAll}
-use Rattle.sales.proofs.Apart.{origin-bilateral, origins-apart}
-use Rattle.sales.proofs.Groups.{grouped-parties, places-kept}
-use Rattle.sales.proofs.Listed.{places-many}
-use Rattle.sales.proofs.Numbers.{less-at, less-length, read-at}
-use Rattle.sales.proofs.Origins.{origin-inside, origins-length, origins-read}
-use Rattle.sales.proofs.Own.{own-among, own-sales}
-use Rattle.sales.proofs.Parts.{part-at, part-length}
-use Rattle.sales.proofs.Whole.{whole}
-use Rattle.sales.proofs.Written.{cut-written}
-use Rattle.sales.specs.Groups.{grouped, places, standings, written}
-use Rattle.sales.specs.Kept.{spread}
-use Rattle.sales.specs.Parts.{part}
-use Rattle.sales.specs.Sales.{less, ownSale, salesOf}
+use Rattle.laws_sales.proofs.Apart.{origin-bilateral, origins-apart}
+use Rattle.laws_sales.proofs.Groups.{grouped-parties, places-kept}
+use Rattle.laws_sales.proofs.Listed.{places-many}
+use Rattle.laws_sales.proofs.Numbers.{less-at, less-length, read-at}
+use Rattle.laws_sales.proofs.Origins.{origin-inside, origins-length, origins-read}
+use Rattle.laws_sales.proofs.Own.{own-among, own-sales}
+use Rattle.laws_sales.proofs.Parts.{part-at, part-length}
+use Rattle.laws_sales.proofs.Whole.{whole}
+use Rattle.laws_sales.proofs.Written.{cut-written}
+use Rattle.laws_sales.specs.Groups.{grouped, places, standings, written}
+use Rattle.laws_sales.specs.Kept.{spread}
+use Rattle.laws_sales.specs.Parts.{part}
+use Rattle.laws_sales.specs.Sales.{less, ownSale, salesOf}
 use Rattle.cut_apply.specs.Cutting.{CuttablePart, loweredAt}
 
 -- ---- the cuts of one user's sales

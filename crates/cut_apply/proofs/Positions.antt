@@ -4,21 +4,22 @@ use mathlib.Core.Path.{_≡_, refl, sym, ap, ap₂, subst⁻¹, _∙_}
 use Prim.Native.Nat.{ℕ, zero, suc, _+_, _*_, _≤_, _<_, _^_}
 use native.Mathlib.Omega.{arith}
 use lib.IntN.{ℤ, pos, negℤ, _+ℤ_}
-use lib.ListN.{length, take, drop, getD}
+use lib.ListN.{length, getD}
 use lib.Seq.{sets}
-use Rattle.fields.proofs.Field.{field-lt, field-part, length-toBytes}
+use Rattle.fields.proofs.Field.{field-lt, length-toBytes}
 use Rattle.fields.specs.Field.{field, setField, toBytes}
 use Rattle.fields.specs.Layout.{size}
-use Rattle.format.proofs.Passed.{length-usersOf}
-use Rattle.format.specs.Book.{bookOf, usersOf}
-use Rattle.held.proofs.Held.{held-bytes, held-user, held-user-fits, held-user-part}
-use Rattle.held.proofs.Positions.{position-bytes}
-use Rattle.held.proofs.Parts.{pack-set}
-use Rattle.held.specs.Held.{HeldAs}
-use Rattle.integers.proofs.Linear.{negPart-neg, negPart-of, negPart-pos, parts-add, posPart-neg, posPart-of, posPart-pos}
-use Rattle.integers.specs.Parts.{negPart, posPart}
-use Rattle.records.proofs.Users.{user-of-bytes}
-use Rattle.records.specs.User.{FitsAmounts, FitsSigned, FitsUser, amountValues, amountWidths, userBytes, userValues, userWidths}
+use Rattle.book_format.proofs.Passed.{length-usersOf}
+use Rattle.book_format.specs.Book.{bookOf, usersOf}
+use Rattle.book_format.proofs.Held.{held-bytes, held-user-fits, held-user-part}
+use Rattle.book_format.proofs.Places.{position-read}
+use Rattle.book_format.proofs.Parts.{pack-set}
+use Rattle.book_format.specs.Held.{HeldAs}
+use Rattle.book_format.specs.Places.{UserIn, positionAt}
+use Rattle.base.proofs.Linear.{negPart-neg, negPart-of, negPart-pos, parts-add, posPart-neg, posPart-of, posPart-pos}
+use Rattle.base.specs.Parts.{negPart, posPart}
+use Rattle.book_records.proofs.Users.{user-of-bytes}
+use Rattle.book_records.specs.User.{FitsAmounts, FitsSigned, FitsUser, amountValues, amountWidths, userBytes, userValues, userWidths}
 use Rattle.rules.specs.Book.{PerArea, User, at, nobody}
 use Rattle.rules.specs.Changes.{add, moved, withUsers}
 use Rattle.rules.specs.Signed.{bitsOf, signedOf}
@@ -70,36 +71,33 @@ module _ (s : List ℕ) {place area : ℕ} (p : PositionIn s place area) where
   among-users : place < length (usersOf s)
   among-users = omega (arith, length-usersOf s, p .user-inside)
 
+  -- the user stands at its place
+  pub user-there : UserIn s place
+  user-there = record { form = p .held .form; inside = p .user-inside }
+
   -- the four bytes of the position stand for it
-  position-read : signedOf 32 (field 4 (32 + 56 * place + 20 + 4 * area) s) ≡ positionOf (usersOf s) place area
-  unfolding bookOf
-  position-read =
-      let n : 32 + 56 * place + 20 + 4 * area ≡ 32 + 56 * place + (20 + 4 * area) = omega arith in
-      let c = take 56 (drop (32 + 56 * place) s) in
-      rw n
-      (ap (signedOf 32) (sym (field-part 4 (20 + 4 * area) (32 + 56 * place) 56 s (omega (arith, p .area-inside))))
-      ∙ sym (position-bytes c area (p .area-inside))
-      ∙ ap (λ (u : User). at (u .position) area) (held-user (p .held) place nobody among-users))
+  reads : signedOf 32 (field 4 (positionAt s place area) s) ≡ positionOf (usersOf s) place area
+  reads = position-read user-there (p .area-inside)
 
   -- with them set, the user is moved
   position-set : (z : ℤ) → FitsSigned 32 (positionOf (usersOf s) place area +ℤ z)
-      → HeldAs (withUsers (bookOf s) (movedAt place area z (usersOf s))) (setField 4 (32 + 56 * place + 20 + 4 * area) (bitsOf 32 (positionOf (usersOf s) place area +ℤ z)) s)
-  unfolding bookOf setField
+      → HeldAs (withUsers (bookOf s) (movedAt place area z (usersOf s))) (setField 4 (positionAt s place area) (bitsOf 32 (positionOf (usersOf s) place area +ℤ z)) s)
+  unfolding bookOf setField positionAt
   position-set z f =
       let u = getD (usersOf s) place nobody in
       let v = toBytes 4 (bitsOf 32 (at (u .position) area +ℤ z)) in
       held-user-part (p .held) place (moved area z u) among-users (user-of-bytes (moved area z u) (fits-moved u z area (held-user-fits (p .held) place nobody among-users) f)) (20 + 4 * area)
-      (32 + 56 * place + 20 + 4 * area) nobody v (omega arith) (omega (arith, length-toBytes 4 (bitsOf 32 (at (u .position) area +ℤ z)), p .area-inside)) (bytes-moved u z area (p .area-inside))
+      (positionAt s place area) nobody v refl (omega (arith, length-toBytes 4 (bitsOf 32 (at (u .position) area +ℤ z)), p .area-inside)) (bytes-moved u z area (p .area-inside))
 
   -- what is read stands for the position
-  pub position-is : {a bits : ℕ} → a ≡ 32 + 56 * place + 20 + 4 * area → bits ≡ field 4 a s → signedOf 32 bits ≡ positionOf (usersOf s) place area
-  position-is stands read = ap (signedOf 32) (read ∙ ap (λ (i : ℕ). field 4 i s) stands) ∙ position-read
+  pub position-is : {a bits : ℕ} → a ≡ positionAt s place area → bits ≡ field 4 a s → signedOf 32 bits ≡ positionOf (usersOf s) place area
+  position-is stands read = ap (signedOf 32) (read ∙ ap (λ (i : ℕ). field 4 i s) stands) ∙ reads
 
   -- the bits after a move are put there
-  pub position-moved : (z : ℤ) {a bits r : ℕ} {t : List ℕ} → a ≡ 32 + 56 * place + 20 + 4 * area → bits ≡ field 4 a s → r ≡ bitsOf 32 (signedOf 32 bits +ℤ z) → t ≡ setField 4 a r s
+  pub position-moved : (z : ℤ) {a bits r : ℕ} {t : List ℕ} → a ≡ positionAt s place area → bits ≡ field 4 a s → r ≡ bitsOf 32 (signedOf 32 bits +ℤ z) → t ≡ setField 4 a r s
       → FitsSigned 32 (positionOf (usersOf s) place area +ℤ z) → HeldAs (withUsers (bookOf s) (movedAt place area z (usersOf s))) t
   position-moved z {a} {bits} {r} stands read put e fits =
-      let same : setField 4 a r s ≡ setField 4 (32 + 56 * place + 20 + 4 * area) (bitsOf 32 (positionOf (usersOf s) place area +ℤ z)) s =
+      let same : setField 4 a r s ≡ setField 4 (positionAt s place area) (bitsOf 32 (positionOf (usersOf s) place area +ℤ z)) s =
       ap₂ (λ (i v : ℕ). setField 4 i v s) stands (put ∙ ap (λ (x : ℤ). bitsOf 32 (x +ℤ z)) (position-is stands read)) in
       subst⁻¹ (HeldAs (withUsers (bookOf s) (movedAt place area z (usersOf s)))) (e ∙ same) (position-set z fits)
 
@@ -107,15 +105,15 @@ module _ (s : List ℕ) {place area : ℕ} (p : PositionIn s place area) where
   pub fits-raised : (n : ℕ) → posPart (positionOf (usersOf s) place area) + n < 2 ^ 31 → FitsSigned 32 (positionOf (usersOf s) place area +ℤ pos n)
   fits-raised n h =
       let l = add-le (positionOf (usersOf s) place area) (pos n) in
-      let low = negPart-signedOf-le 32 (field 4 (32 + 56 * place + 20 + 4 * area) s) in
-      record { above = omega (arith, l .0, posPart-pos n); below = omega (arith, l .1, negPart-pos n, low, ap negPart position-read) }
+      let low = negPart-signedOf-le 32 (field 4 (positionAt s place area) s) in
+      record { above = omega (arith, l .0, posPart-pos n); below = omega (arith, l .1, negPart-pos n, low, ap negPart reads) }
 
   pub fits-lowered : (n : ℕ) → negPart (positionOf (usersOf s) place area) + n ≤ 2 ^ 31 → FitsSigned 32 (positionOf (usersOf s) place area +ℤ negℤ (pos n))
   fits-lowered n h =
       let l = add-le (positionOf (usersOf s) place area) (negℤ (pos n)) in
-      let u = field 4 (32 + 56 * place + 20 + 4 * area) s in
-      let low = posPart-signedOf-lt 32 u (field-lt 4 (32 + 56 * place + 20 + 4 * area) s (held-bytes (p .held))) in
+      let u = field 4 (positionAt s place area) s in
+      let low = posPart-signedOf-lt 32 u (field-lt 4 (positionAt s place area) s (held-bytes (p .held))) in
       record {
-        above = omega (arith, l .0, posPart-neg (pos n), negPart-pos n, low, ap posPart position-read);
+        above = omega (arith, l .0, posPart-neg (pos n), negPart-pos n, low, ap posPart reads);
         below = omega (arith, l .1, negPart-neg (pos n), posPart-pos n);
       }

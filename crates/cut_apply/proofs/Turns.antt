@@ -9,33 +9,30 @@ use lib.Dec.{T, ltb}
 use lib.ListN.{drop, getD, length, length-set, set, take}
 use lib.Seq.{length-take-le, take-all, take-suc-set}
 use borrow.Author.Tests.{eq-eqb, eqb-true, ltb-false, ltb-true}
-use Rattle.columns.proofs.Trades.{party-inside, party-is, trade-at}
-use Rattle.columns.specs.Columns.{PlacedOn, idAt, tradeIn, tradesIn, usersIn}
-use Rattle.cut_lists.proofs.Lists.{accepted-placed, accepted-trading}
-use Rattle.cut_lists.specs.Sales.{BookIn}
-use Rattle.format.proofs.Passed.{length-tradesOf, length-usersOf}
-use Rattle.format.specs.Book.{bookOf, tradeCount, tradesAt, tradesOf, userAt, userCount, usersOf}
-use Rattle.held.proofs.Held.{held-itself, held-trade, held-tradeCount, held-userCount, held-users}
-use Rattle.held.specs.Held.{HeldAs, noTrade}
-use Rattle.integers.specs.Parts.{negPart, posPart}
+use Rattle.base.proofs.Tests.{by-case}
+use Rattle.cut_lists.proofs.Trades.{party-inside, party-is}
+use Rattle.book_parties.specs.Ids.{BookIn, PlacedOn, idAt}
+use Rattle.book_format.proofs.Passed.{length-tradesOf, length-usersOf}
+use Rattle.book_format.specs.Book.{bookOf, tradeCount, tradesAt, tradesOf, userAt, userCount, usersOf}
+use Rattle.book_format.proofs.Held.{held-itself, held-tradeCount, held-trades, held-userCount, held-users}
+use Rattle.book_format.specs.Held.{HeldAs}
+use Rattle.base.specs.Parts.{negPart, posPart}
 use Rattle.laws.proofs.Bounds.{position-bound, standing-le}
 use Rattle.laws.proofs.Positions.{buyer-known, seller-known}
 use Rattle.laws.proofs.Settle.{area-lt, retraded-sound}
 use Rattle.laws.specs.Sound.{Sound}
 use Rattle.laws.proofs.Trades.{framed}
-use Rattle.arrays.proofs.Fronts.{all-at}
-use Rattle.records.specs.Trade.{tradeOf}
-use Rattle.rules.specs.Book.{Book, Party, Terms, Trade, User, nobody}
+use Rattle.base.proofs.Fronts.{all-at}
+use Rattle.rules.specs.Book.{Book, Party, Terms, Trade, User, noTrade, nobody}
 use Rattle.rules.specs.Changes.{withUsers}
 use Rattle.rules.specs.Questions.{known, positionsValid, tradeValid, userValid}
 use Rattle.rules.specs.Reduction.{cutBy, settle, settleOne, withTrades}
-use Rattle.sales.proofs.Again.{retraded-again}
-use Rattle.sales.proofs.Kept.{by-case}
-use Rattle.sales.proofs.Settled.{party-at, settle-none, settle-one-at, settle-one-none, settle-parties}
-use Rattle.sales.proofs.Standing.{same-length}
-use Rattle.sales.proofs.Stores.{set-front}
-use Rattle.sales.specs.Groups.{written}
-use Rattle.sales.specs.Sales.{settledAt}
+use Rattle.laws_sales.proofs.Again.{retraded-again}
+use Rattle.laws_sales.proofs.Settled.{party-at, settle-none, settle-one-at, settle-one-none, settle-parties}
+use Rattle.laws_sales.proofs.Standing.{same-length}
+use Rattle.base.proofs.Stores.{set-front}
+use Rattle.laws_sales.specs.Groups.{written}
+use Rattle.laws_sales.specs.Sales.{settledAt}
 use Rattle.cut_apply.proofs.Cutting.{lowered-long, lowered-more, lowered-next, lowered-none, lowered-snoc, lowered-to, lowered-valid, loweredTo, next-stands}
 use Rattle.cut_apply.proofs.Losing.{losing-first, losing-none}
 use Rattle.cut_apply.specs.Cutting.{Cuttable, MovedBy, SaleCut, SaleIn, losing, loweredAt}
@@ -61,13 +58,13 @@ pub record MovedSo (b : Book) (is cs places amounts s : List ℕ) (lost j : ℕ)
   pub places-room : length places ≡ losing cs
   pub amounts-room : length amounts ≡ losing cs
 
-module _ {n : ℕ} {s₀ sellers parties : List ℕ} (a : BookIn n (tradeCount s₀) s₀ sellers parties) {is cs : List ℕ} (p : Cuttable (bookOf s₀ .trades) is cs) where
+module _ {s₀ sellers parties : List ℕ} (a : BookIn s₀ sellers parties) {is cs : List ℕ} (p : Cuttable (bookOf s₀ .trades) is cs) where
   -- none is passed yet
   pub moved-start : {places amounts : List ℕ} → length places ≡ losing cs → length amounts ≡ losing cs → MovedSo (bookOf s₀) is cs places amounts s₀ 0 0
   unfolding withUsers withTrades loweredAt written
   moved-start e f =
       record {
-        held = subst (λ (us : List User). HeldAs (withUsers (bookOf s₀) us) s₀) (sym (settle-none (bookOf s₀ .trades) (bookOf s₀ .users))) (a .held);
+        held = subst (λ (us : List User). HeldAs (withUsers (bookOf s₀) us) s₀) (sym (settle-none (bookOf s₀ .trades) (bookOf s₀ .users))) (a .accepted .held);
         same = refl;
         inside = λ k h. absurd (not-suc-le-zero h);
         count = omega arith;
@@ -87,20 +84,11 @@ module _ {n : ℕ} {s₀ sellers parties : List ℕ} (a : BookIn n (tradeCount s
   sound-at : (j : ℕ) → j ≤ length is → Sound (withTrades (bookOf s₀) (loweredTo is cs (bookOf s₀ .trades) j))
   sound-at j h =
       let l = lowered-to p j h in
-      retraded-sound (bookOf s₀) (loweredTo is cs (bookOf s₀ .trades) j) (a .sound) (framed l) (lowered-valid (bookOf s₀ .users) l (a .sound .trades))
+      retraded-sound (bookOf s₀) (loweredTo is cs (bookOf s₀ .trades) j) (a .accepted .sound) (framed l) (lowered-valid (bookOf s₀ .users) l (a .accepted .sound .trades))
 
-  users-are : n ≡ length (bookOf s₀ .users)
+  users-are : userCount s₀ ≡ length (bookOf s₀ .users)
   unfolding bookOf
-  users-are = a .users-are ∙ sym (length-usersOf s₀)
-
-  -- what the places are read of
-  users-same : usersIn n s₀ ≡ bookOf s₀ .users
-  unfolding bookOf usersOf
-  users-same = ap (λ (k : ℕ). usersIn k s₀) (a .users-are)
-
-  trades-same : tradesIn n (tradeCount s₀) s₀ ≡ bookOf s₀ .trades
-  unfolding bookOf tradesOf tradesAt userAt
-  trades-same = ap (λ (k : ℕ). tradesIn k (tradeCount s₀) s₀) (a .users-are)
+  users-are = sym (length-usersOf s₀)
 
   module _ (j : ℕ) (h : j < length is) where
     abbrev so-far : List Trade
@@ -116,7 +104,7 @@ module _ {n : ℕ} {s₀ sellers parties : List ℕ} (a : BookIn n (tradeCount s
     cut = getD cs j 0
 
     sale-valid : T (tradeValid (bookOf s₀ .users) sale)
-    sale-valid = all-at (tradeValid (bookOf s₀ .users)) (bookOf s₀ .trades) (a .sound .trades) place noTrade (p .inside j h)
+    sale-valid = all-at (tradeValid (bookOf s₀ .users)) (bookOf s₀ .trades) (a .accepted .sound .trades) place noTrade (p .inside j h)
 
     -- the next sale alone is settled in the positions so far
     users-next : withTrades (bookOf s₀) (loweredTo is cs (bookOf s₀ .trades) (suc j)) .users ≡ settleOne sale (cutBy cut sale) (withTrades (bookOf s₀) so-far .users)
@@ -125,7 +113,7 @@ module _ {n : ℕ} {s₀ sellers parties : List ℕ} (a : BookIn n (tradeCount s
         let b = bookOf s₀ in
         let l = lowered-to p j (omega arith) in
         let us = withTrades b so-far .users in
-        ap (λ (c : Book). c .users) (sym (retraded-again b so-far (loweredTo is cs (b .trades) (suc j)) (a .sound) (framed l) (lowered-valid (b .users) l (a .sound .trades)) (framed (lowered-next p j h))))
+        ap (λ (c : Book). c .users) (sym (retraded-again b so-far (loweredTo is cs (b .trades) (suc j)) (a .accepted .sound) (framed l) (lowered-valid (b .users) l (a .accepted .sound .trades)) (framed (lowered-next p j h))))
         ∙ ap (λ (ns : List Trade). settle so-far ns us) (lowered-more p j h)
         ∙ settle-set so-far place (cutBy cut sale) us (omega (arith, lowered-long l, p .inside j h))
         ∙ ap (λ (t : Trade). settleOne t (cutBy cut sale) us) (next-stands p j h)
@@ -136,49 +124,46 @@ module _ {n : ℕ} {s₀ sellers parties : List ℕ} (a : BookIn n (tradeCount s
 
     -- a party of the sale stands at its place
     module _ (side : Terms → ℕ) (side-known : (us : List User) (t : Trade) → T (tradeValid us t) → T (known us (side (t .terms)))) (ps : List ℕ)
-        (placed : PlacedOn side (usersIn n s₀) (tradesIn n (tradeCount s₀) s₀) ps) {party : ℕ} (e : party ≡ getD ps place 0) where
-      party-low : party < n
-      party-low = party-inside side side-known n (tradeCount s₀) s₀ ps (accepted-trading a) placed place-low e
+        (placed : PlacedOn side (usersOf s₀) (tradesOf s₀) ps) {party : ℕ} (e : party ≡ getD ps place 0) where
+      party-low : party < userCount s₀
+      party-low = party-inside side side-known s₀ ps (a .accepted) placed place-low e
 
       party-id : getD (withTrades (bookOf s₀) so-far .users) party nobody .party .id ≡ side (sale .terms)
+      unfolding bookOf
       party-id =
-          let here = party-is side side-known n (tradeCount s₀) s₀ ps (accepted-trading a) placed place-low e party party-low in
+          let here = party-is side side-known s₀ ps (a .accepted) placed place-low e party party-low in
           ap (λ (q : Party). q .id) (party-at (bookOf s₀ .users) (withTrades (bookOf s₀) so-far .users) (parties-at j) party nobody)
-          ∙ ap (λ (us : List User). idAt us party) (sym users-same)
-          ∙ sym (eqb-true (side (tradeIn n s₀ place .terms)) (idAt (usersIn n s₀) party) (sym here ∙ eq-eqb party party refl))
-          ∙ ap (λ (t : Trade). side (t .terms)) (sym (trade-at n (tradeCount s₀) s₀ place noTrade place-low) ∙ ap (λ (ts : List Trade). getD ts place noTrade) trades-same)
+          ∙ sym (eqb-true (side (sale .terms)) (idAt (usersOf s₀) party) (sym here ∙ eq-eqb party party refl))
 
     module _ {seller buyer : ℕ} (sells : seller ≡ getD sellers place 0) (buys : buyer ≡ getD parties place 0) where
-      seller-low : seller < n
-      seller-low = party-low (λ r. r .seller) seller-known sellers (accepted-placed a .of-sellers) sells
+      seller-low : seller < userCount s₀
+      seller-low = party-low (λ r. r .seller) seller-known sellers (a .placed .of-sellers) sells
 
-      buyer-low : buyer < n
-      buyer-low = party-low (λ r. r .buyer) buyer-known parties (accepted-placed a .of-buyers) buys
+      buyer-low : buyer < userCount s₀
+      buyer-low = party-low (λ r. r .buyer) buyer-known parties (a .placed .of-buyers) buys
 
       -- at the places of its parties
       users-settled : settledAt seller buyer (sale .terms .area) cut (withTrades (bookOf s₀) so-far .users) ≡ withTrades (bookOf s₀) (loweredTo is cs (bookOf s₀ .trades) (suc j)) .users
       users-settled =
           let many = users-many j in
           sym (users-next ∙ settle-one-at cut sale (withTrades (bookOf s₀) so-far .users) 0 seller buyer (sound-at j (omega arith) .ids) (omega (arith, seller-low, users-are)) (omega (arith, buyer-low, users-are))
-          (party-id (λ r. r .seller) seller-known sellers (accepted-placed a .of-sellers) sells) (party-id (λ r. r .buyer) buyer-known parties (accepted-placed a .of-buyers) buys) (p .most j h))
+          (party-id (λ r. r .seller) seller-known sellers (a .placed .of-sellers) sells) (party-id (λ r. r .buyer) buyer-known parties (a .placed .of-buyers) buys) (p .most j h))
 
       module _ {places amounts s : List ℕ} {lost : ℕ} (q : MovedSo (bookOf s₀) is cs places amounts s lost j) where
         users-here : usersOf s ≡ withTrades (bookOf s₀) so-far .users
         unfolding withUsers
         users-here = held-users (q .held)
 
-        count-here : n ≡ userCount s
+        count-here : userCount s₀ ≡ userCount s
         unfolding withUsers
         count-here = users-are ∙ sym (users-many j) ∙ held-userCount (q .held)
 
-        trade-here : tradeIn n s place ≡ sale
+        trade-here : getD (tradesOf s) place noTrade ≡ sale
         unfolding withUsers
-        trade-here =
-            ap (λ (k : ℕ). tradeOf (take 20 (drop (32 + 56 * k + 20 * place) s))) (users-are ∙ sym (users-many j))
-            ∙ held-trade (q .held) place noTrade (p .inside j h)
+        trade-here = ap (λ (ts : List Trade). getD ts place noTrade) (held-trades (q .held))
 
         -- positions are in range
-        position-here : (i area : ℕ) → i < n → area < 3 → (posPart (positionOf (usersOf s) i area) < 100000000) × (negPart (positionOf (usersOf s) i area) < 100000000)
+        position-here : (i area : ℕ) → i < userCount s₀ → area < 3 → (posPart (positionOf (usersOf s) i area) < 100000000) × (negPart (positionOf (usersOf s) i area) < 100000000)
         position-here i area k l =
             let b = withTrades (bookOf s₀) so-far in
             let sound = sound-at j (omega arith) in
@@ -188,15 +173,14 @@ module _ {n : ℕ} {s₀ sellers parties : List ℕ} (a : BookIn n (tradeCount s
             rw users-here (omega (arith, e .0), omega (arith, e .1))
 
         -- the sale can be cut
-        pub sale-here : SaleIn s n seller buyer place cut
-        unfolding withUsers
-        sale-here =
-            let area-is : sale .terms .area ≡ tradeIn n s place .terms .area = ap (λ (t : Trade). t .terms .area) (sym trade-here) in
+        pub sale-here : {begin : ℕ} → begin ≡ tradesAt s₀ → SaleIn s begin seller buyer place cut
+        unfolding withUsers tradesAt userAt
+        sale-here starts =
+            let area-is : sale .terms .area ≡ getD (tradesOf s) place noTrade .terms .area = ap (λ (t : Trade). t .terms .area) (sym trade-here) in
             let area = area-lt (bookOf s₀ .users) sale sale-valid in
             record {
               held = held-itself (q .held);
-              users-are = count-here;
-              inside = omega (arith, p .inside j h, held-tradeCount (q .held));
+              trade = record { form = q .held .form; begin = omega (arith, starts, count-here); inside = omega (arith, p .inside j h, held-tradeCount (q .held)) };
               parties = subst (λ (x : ℕ). PartiesIn s seller buyer x cut) area-is
                   (record {
                     sold = record { held = held-itself (q .held); user-inside = omega (arith, seller-low, count-here); area-inside = area };
@@ -212,7 +196,7 @@ module _ {n : ℕ} {s₀ sellers parties : List ℕ} (a : BookIn n (tradeCount s
         sale-room l = omega (arith, q .count, losing-first cs j (omega (arith, p .same)))
 
         -- it is cut, and noted where it loses something
-        module _ {places' amounts' s' : List ℕ} {lost' : ℕ} (g : SaleCut s n seller buyer place cut lost places amounts s' places' amounts' lost') where
+        module _ {places' amounts' s' : List ℕ} {lost' : ℕ} (g : SaleCut s seller buyer place cut lost places amounts s' places' amounts' lost') where
           held-more : HeldAs (withUsers (bookOf s₀) (withTrades (bookOf s₀) (loweredTo is cs (bookOf s₀ .trades) (suc j)) .users)) s'
           unfolding withUsers
           held-more =

@@ -5,16 +5,16 @@ use mathlib.Core.Path.{_≡_}
 use Prim.Native.Nat.{ℕ, _+_, _≤_, _<_, min}
 use lib.Dec.{T, ltb}
 use lib.ListN.{getD, length, set}
-use Rattle.columns.specs.Columns.{tradeIn}
-use Rattle.cut_lists.specs.Sales.{BookIn}
-use Rattle.format.specs.Book.{bookOf, tradeCount, userCount, usersOf}
-use Rattle.held.specs.Held.{HeldAs, noTrade}
-use Rattle.rules.specs.Book.{Book, Trade, bilateralForDay}
+use Rattle.book_format.specs.Book.{bookOf, tradesOf, usersOf}
+use Rattle.book_format.specs.Held.{HeldAs}
+use Rattle.book_format.specs.Places.{TradeIn}
+use Rattle.book_parties.specs.Ids.{BookIn}
+use Rattle.rules.specs.Book.{Book, Trade, bilateralForDay, noTrade}
 use Rattle.rules.specs.Changes.{withUsers}
 use Rattle.rules.specs.Reduction.{withTrades}
-use Rattle.sales.specs.Groups.{written}
-use Rattle.sales.specs.Parts.{part}
-use Rattle.sales.specs.Sales.{less, settledAt}
+use Rattle.laws_sales.specs.Groups.{written}
+use Rattle.laws_sales.specs.Parts.{part}
+use Rattle.laws_sales.specs.Sales.{less, settledAt}
 use Rattle.cut_apply.specs.Positions.{PartiesIn}
 
 -- trades, of which those at places stand lower by their cuts
@@ -43,23 +43,22 @@ losing [] = 0
 losing (c ∷ cs) = min 1 c + losing cs
 
 -- an accepted book with the places of the parties of its trades, cuts of its sales from a place up to another, and how many are not 0
-pub record Cutting (s : List ℕ) (n : ℕ) (sellers parties origins cuts : List ℕ) (from to lost : ℕ) : Type 0 where
-  pub book : BookIn n (tradeCount s) s sellers parties
+pub record Cutting (s sellers parties origins cuts : List ℕ) (from to lost : ℕ) : Type 0 where
+  pub book : BookIn s sellers parties
   pub cuttable : CuttablePart (bookOf s .trades) origins cuts from to
   pub count : lost ≡ losing (part from to cuts)
 
 -- ---- one sale
 
--- a sale between two users of a book, and its cut
-pub record SaleIn (s : List ℕ) (n seller buyer place cut : ℕ) : Type 0 where
+-- a sale between two users of a book, whose trades begin at an offset, and its cut
+pub record SaleIn (s : List ℕ) (at seller buyer place cut : ℕ) : Type 0 where
   pub held : HeldAs (bookOf s) s
-  pub users-are : n ≡ userCount s
-  pub inside : place < tradeCount s
-  pub parties : PartiesIn s seller buyer (tradeIn n s place .terms .area) cut
+  pub trade : TradeIn s at place
+  pub parties : PartiesIn s seller buyer (getD (tradesOf s) place noTrade .terms .area) cut
 
 -- the positions of its parties are settled; where it loses something its place and its cut are the next of two lists
-pub record SaleCut (s : List ℕ) (n seller buyer place cut lost : ℕ) (places amounts s' places' amounts' : List ℕ) (r : ℕ) : Type 0 where
-  pub users : HeldAs (withUsers (bookOf s) (settledAt seller buyer (tradeIn n s place .terms .area) cut (usersOf s))) s'
+pub record SaleCut (s : List ℕ) (seller buyer place cut lost : ℕ) (places amounts s' places' amounts' : List ℕ) (r : ℕ) : Type 0 where
+  pub users : HeldAs (withUsers (bookOf s) (settledAt seller buyer (getD (tradesOf s) place noTrade .terms .area) cut (usersOf s))) s'
   pub count : r ≡ cond (ltb 0 cut) (lost + 1) lost
   pub places-are : places' ≡ cond (ltb 0 cut) (set places lost place) places
   pub amounts-are : amounts' ≡ cond (ltb 0 cut) (set amounts lost cut) amounts

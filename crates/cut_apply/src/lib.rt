@@ -1,31 +1,25 @@
-// Sales that lose something, in the bytes of a book: the positions of the seller and the buyer of each move, and the trades are lowered as records, in one list, and written back.
+// Sales that lose something, in the bytes of a book: the positions of the seller and the buyer of each move, and the trades are lowered as
+// records, in one list, and written back.
 ghost use mathlib.Core.Path.{_≡_};
 ghost use Prim.Native.Nat.{_+_, _*_, _≤_, _<_, _^_};
 ghost use lib.IntN.{pos, negℤ, _+ℤ_};
 ghost use lib.ListN.{length};
-ghost use Rattle.cut_lists.specs.Sales.{BookIn};
-ghost use Rattle.format.specs.Book.{bookOf, tradeCount, usersOf};
-ghost use Rattle.held.specs.Held.{HeldAs};
-ghost use Rattle.integers.specs.Parts.{posPart, negPart};
+ghost use Rattle.book_format.specs.Book.{bookOf, tradesAt, userCount, usersOf};
+ghost use Rattle.book_parties.specs.Ids.{BookIn};
+ghost use Rattle.book_format.specs.Held.{HeldAs};
+ghost use Rattle.base.specs.Parts.{posPart, negPart};
 ghost use Rattle.rules.specs.Changes.{withUsers};
 ghost use Rattle.rules.specs.Reduction.{withTrades};
 ghost use Rattle.rules.specs.Signed.{bitsOf, signedOf};
-ghost use Rattle.sales.specs.Parts.{part};
-ghost use Rattle.sales.specs.Sales.{settledAt};
+ghost use Rattle.laws_sales.specs.Parts.{part};
+ghost use Rattle.laws_sales.specs.Sales.{settledAt};
 ghost use Rattle.cut_apply.specs.Positions.{PositionIn, PartiesIn, movedAt, positionOf};
 ghost use Rattle.cut_apply.specs.Cutting.{Cutting, CuttablePart, MovedBy, SaleCut, SaleIn, losing, loweredAt};
 
 // ---- positions
 
-// Where the position of the user at a place stands, of an area.
-fn position_at(place: usize, area: usize) -> usize
-    requires { ⌜ (place < 64) × (area < 3) ⌝ }
-    ensures { λ r. ⌜ r ≡ 32 + 56 * place + 20 + 4 * area ⌝ }
-{
-    32 + 56 * place + 20 + 4 * area
-}
-
-// The bits of a position in two's complement after it rises by an energy. The sum is taken of the bits as they stand: with a sign in between, four stores of a byte do not become one.
+// The bits of a position in two's complement after it rises by an energy. The sum is taken of the bits as they stand: with a sign in
+// between, four stores of a byte do not become one.
 fn raised(bits: u32, energy: u32) -> u32
     requires { ⌜ posPart (signedOf 32 bits) + energy < 2 ^ 31 ⌝ }
     ensures { λ r. ⌜ r ≡ bitsOf 32 (signedOf 32 bits +ℤ pos energy) ⌝ }
@@ -53,7 +47,7 @@ fn raise(book: &mut [u8], place: usize, area: usize, energy: u32)
     requires { ⌜ PositionIn (now book) place area × (posPart (positionOf (usersOf (now book)) place area) + energy < 2 ^ 31) ⌝ }
     ensures { λ _. ⌜ HeldAs (withUsers (bookOf (now (book .entry))) (movedAt place area (pos energy) (usersOf (now (book .entry))))) (now (book .exit)) ⌝ }
 {
-    let at = position_at(place, area);
+    let at = book_format::position_offset(book, place, area);
     let bits = fields::get_u32(book, at);
     fields::put_u32(book, at, raised(bits, energy));
 }
@@ -63,7 +57,7 @@ fn lower(book: &mut [u8], place: usize, area: usize, energy: u32)
     requires { ⌜ PositionIn (now book) place area × (negPart (positionOf (usersOf (now book)) place area) + energy ≤ 2 ^ 31) ⌝ }
     ensures { λ _. ⌜ HeldAs (withUsers (bookOf (now (book .entry))) (movedAt place area (negℤ (pos energy)) (usersOf (now (book .entry))))) (now (book .exit)) ⌝ }
 {
-    let at = position_at(place, area);
+    let at = book_format::position_offset(book, place, area);
     let bits = fields::get_u32(book, at);
     fields::put_u32(book, at, lowered(bits, energy));
 }
@@ -87,16 +81,17 @@ fn count_losing(cuts: &[u64; 256], from: usize, to: usize) -> usize
     let mut lost = 0;
     let mut k = from;
     while k < to {
-        lost = columns::place_after(lost, 0 < cuts[k]);
+        lost = cut_lists::place_after(lost, 0 < cuts[k]);
         k += 1;
     }
     lost
 }
 
-// Moves the positions of the parties of a sale by its cut, and notes its place and the cut as the next of those that lose something; gives the number of these. A cut of 0 is passed by.
+// Moves the positions of the parties of a sale by its cut, and notes its place and the cut as the next of those that lose something; gives
+// the number of these. A cut of 0 is passed by.
 fn cut_sale(
     book: &mut [u8],
-    n: usize,
+    at: usize,
     seller: usize,
     buyer: usize,
     place: usize,
@@ -105,13 +100,13 @@ fn cut_sale(
     places: &mut [u8],
     amounts: &mut [u64],
 ) -> usize
-    requires { ⌜ SaleIn (now book) n seller buyer place cut ⌝ }
+    requires { ⌜ SaleIn (now book) at seller buyer place cut ⌝ }
     requires { ⌜ (length (now places) ≤ 256) × (0 < cut → (lost < length (now places)) × (lost < length (now amounts))) ⌝ }
-    ensures { λ r. ⌜ SaleCut (now (book .entry)) n seller buyer place cut lost (now (places .entry)) (now (amounts .entry)) (now (book .exit)) (now (places .exit)) (now (amounts .exit)) r ⌝ }
+    ensures { λ r. ⌜ SaleCut (now (book .entry)) seller buyer place cut lost (now (places .entry)) (now (amounts .entry)) (now (book .exit)) (now (places .exit)) (now (amounts .exit)) r ⌝ }
 {
     if 0 < cut {
-        let t = columns::trade_in(book, n, place);
-        let area = columns::index(t.area);
+        let t = book_format::trade_at(book, at, place);
+        let area = cut_lists::index(t.area);
         move_parties(book, seller, buyer, area, cut as u32);
         places[lost] = place as u8;
         amounts[lost] = cut;
@@ -120,10 +115,11 @@ fn cut_sale(
     lost
 }
 
-// Moves the positions of the parties of the sales, from a place up to another, by their cuts, and notes those that lose something, for which there is room.
+// Moves the positions of the parties of the sales, from a place up to another, by their cuts, and notes those that lose something, for
+// which there is room.
 fn move_all(
     book: &mut [u8],
-    n: usize,
+    at: usize,
     sellers: &[u8; 256],
     parties: &[u8; 256],
     origins: &[u8; 256],
@@ -133,22 +129,24 @@ fn move_all(
     places: &mut [u8],
     amounts: &mut [u64],
 )
-    requires { ⌜ Cutting (now book) n (now sellers) (now parties) (now origins) (now cuts) from to (length (now places)) × (length (now amounts) ≡ length (now places)) ⌝ }
+    requires { ⌜ Cutting (now book) (now sellers) (now parties) (now origins) (now cuts) from to (length (now places)) × (length (now amounts) ≡ length (now places)) ⌝ }
+    requires { ⌜ at ≡ tradesAt (now book) ⌝ }
     ensures { λ _. ⌜ MovedBy (bookOf (now (book .entry))) (part from to (now (origins .entry))) (part from to (now (cuts .entry))) (now (places .exit)) (now (amounts .exit)) (now (book .exit)) ⌝ }
 {
     let mut lost = 0;
     let mut k = from;
     while k < to {
-        let place = columns::index(origins[k]);
-        let seller = columns::index(sellers[place]);
-        let buyer = columns::index(parties[place]);
+        let place = cut_lists::index(origins[k]);
+        let seller = cut_lists::index(sellers[place]);
+        let buyer = cut_lists::index(parties[place]);
         let cut = cuts[k];
-        lost = cut_sale(book, n, seller, buyer, place, cut, lost, places, amounts);
+        lost = cut_sale(book, at, seller, buyer, place, cut, lost, places, amounts);
         k += 1;
     }
 }
 
-// Cuts the sales from a place up to another: what stands of each falls by its cut, and the positions of its parties move by it. Those that lose something are noted, as many as there is room for, and lowered as records.
+// Cuts the sales from a place up to another: what stands of each falls by its cut, and the positions of its parties move by it. Those that
+// lose something are noted, as many as there is room for, and lowered as records.
 fn apply_noting(
     book: &mut [u8],
     n: usize,
@@ -161,12 +159,14 @@ fn apply_noting(
     places: &mut [u8],
     amounts: &mut [u64],
 )
-    requires { ⌜ Cutting (now book) n (now sellers) (now parties) (now origins) (now cuts) from to (length (now places)) × (length (now amounts) ≡ length (now places)) ⌝ }
+    requires { ⌜ Cutting (now book) (now sellers) (now parties) (now origins) (now cuts) from to (length (now places)) × (length (now amounts) ≡ length (now places)) ⌝ }
+    requires { ⌜ n ≡ userCount (now book) ⌝ }
     ensures { λ _. ⌜ HeldAs (withTrades (bookOf (now (book .entry))) (loweredAt (part from to (now (origins .entry))) (part from to (now (cuts .entry))) (bookOf (now (book .entry)) .trades))) (now (book .exit)) ⌝ }
 {
+    let at = book_format::trades_offset(book, n);
     move_all(
         book,
-        n,
+        at,
         sellers,
         parties,
         origins,
@@ -176,7 +176,7 @@ fn apply_noting(
         places,
         amounts,
     );
-    cut_records::lower_sales(book, 32 + 56 * n, places, amounts);
+    cut_records::lower_sales(book, at, places, amounts);
 }
 
 // The same with room for 32.
@@ -191,7 +191,8 @@ fn apply_few(
     to: usize,
     lost: usize,
 )
-    requires { ⌜ Cutting (now book) n (now sellers) (now parties) (now origins) (now cuts) from to lost × (lost ≤ 32) ⌝ }
+    requires { ⌜ Cutting (now book) (now sellers) (now parties) (now origins) (now cuts) from to lost × (lost ≤ 32) ⌝ }
+    requires { ⌜ n ≡ userCount (now book) ⌝ }
     ensures { λ _. ⌜ HeldAs (withTrades (bookOf (now (book .entry))) (loweredAt (part from to (now (origins .entry))) (part from to (now (cuts .entry))) (bookOf (now (book .entry)) .trades))) (now (book .exit)) ⌝ }
 {
     let mut places = [0u8; 32];
@@ -222,7 +223,8 @@ fn apply_many(
     to: usize,
     lost: usize,
 )
-    requires { ⌜ Cutting (now book) n (now sellers) (now parties) (now origins) (now cuts) from to lost × (lost ≤ 256) ⌝ }
+    requires { ⌜ Cutting (now book) (now sellers) (now parties) (now origins) (now cuts) from to lost × (lost ≤ 256) ⌝ }
+    requires { ⌜ n ≡ userCount (now book) ⌝ }
     ensures { λ _. ⌜ HeldAs (withTrades (bookOf (now (book .entry))) (loweredAt (part from to (now (origins .entry))) (part from to (now (cuts .entry))) (bookOf (now (book .entry)) .trades))) (now (book .exit)) ⌝ }
 {
     let mut places = [0u8; 256];
@@ -252,7 +254,8 @@ pub fn apply(
     from: usize,
     to: usize,
 )
-    requires { ⌜ BookIn n (tradeCount (now book)) (now book) (now sellers) (now parties) × CuttablePart (bookOf (now book) .trades) (now origins) (now cuts) from to ⌝ }
+    requires { ⌜ BookIn (now book) (now sellers) (now parties) × CuttablePart (bookOf (now book) .trades) (now origins) (now cuts) from to ⌝ }
+    requires { ⌜ n ≡ userCount (now book) ⌝ }
     ensures { λ _. ⌜ HeldAs (withTrades (bookOf (now (book .entry))) (loweredAt (part from to (now (origins .entry))) (part from to (now (cuts .entry))) (bookOf (now (book .entry)) .trades))) (now (book .exit)) ⌝ }
 {
     let lost = count_losing(cuts, from, to);

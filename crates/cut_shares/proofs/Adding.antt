@@ -7,13 +7,13 @@ use native.Mathlib.Omega.{arith}
 use lib.ListN.{length, getD, set, List·getD-eq-default}
 use Rattle.cut_shares.proofs.Lifted.{together-length, together-at, Worthless}
 use Rattle.cut_shares.specs.Cuts.{Untouched, added}
-use Rattle.sales.proofs.Parts.{part-length, part-at, part-here}
+use Rattle.laws_sales.proofs.Parts.{part-length, part-at, part-here}
 use Rattle.cut_worth.proofs.Rates.{areas-inside, rate-here}
-use Rattle.cut_worth.proofs.Storing.{Storing, storing-more, storing-end}
+use Rattle.base.proofs.Storing.{Storing, storing-more, storing-end}
 use Rattle.cut_worth.specs.Rates.{rateIn, ratesIn, Sales}
-use Rattle.integers.proofs.Linear.{by-order}
+use Rattle.base.proofs.Linear.{by-order}
 use Rattle.rules.specs.Reduction.{together}
-use Rattle.sales.specs.Parts.{part}
+use Rattle.laws_sales.specs.Parts.{part}
 
 module _ {rates areas cuts : List ℕ} {from to : ℕ} (inside : to ≤ 256) (u : Untouched rates areas cuts from to) where
   -- as many as there are places
@@ -34,7 +34,7 @@ module _ {rates areas cuts : List ℕ} {from to : ℕ} (inside : to ≤ 256) (u 
     pub adding-more : {now now′ : List ℕ} {i : ℕ} (x : ℕ) → from ≤ i → i < to → x ≡ getD xs (i - from) 0 → now′ ≡ set now i (getD now i 0 + x)
         → Storing (together (part from to cuts) xs) from cuts now i → Storing (together (part from to cuts) xs) from cuts now′ (i + 1)
     adding-more {now} {now′} {i} x h k e f s =
-        rw f (storing-more s (getD now i 0 + x) h (omega (arith, sums-length)) (omega (arith, sum-at i h k, s .after i (omega arith))))
+        rw f (storing-more s (getD now i 0 + x) 0 h (omega (arith, sums-length)) (omega (arith, sum-at i h k, s .after i 0 (omega arith))))
 
     -- after the last
     pub adding-end : {now : List ℕ} {i : ℕ} → i ≡ to → Storing (together (part from to cuts) xs) from cuts now i → now ≡ added from to cuts xs

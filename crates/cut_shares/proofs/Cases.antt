@@ -10,16 +10,16 @@ use lib.Seq.{sets}
 use Rattle.cut_shares.proofs.Adding.{cuts-length, cuts-worthless, sums-length}
 use Rattle.cut_shares.proofs.Lifted.{together-none, Worthless, lifted-cuts, lifted-turns}
 use Rattle.cut_shares.specs.Cuts.{Untouched, added, sharesIn, WholeParts}
-use Rattle.sales.proofs.Parts.{part-length, stored-part, stored-over}
+use Rattle.laws_sales.proofs.Parts.{part-length, stored-part, stored-over}
 use Rattle.cut_worth.proofs.Rates.{areas-inside, amounts-length, rates-length}
 use Rattle.cut_worth.specs.Rates.{amountsIn, ratesIn, lotsIn, Sales}
 use Rattle.laws.proofs.Shares.{tier-length}
 use Rattle.rules.specs.Reduction.{together}
 use Rattle.rules.specs.Shares.{Share, shareOf, tierWorth, byTurns, tierCuts}
-use Rattle.sales.specs.Parts.{part}
+use Rattle.laws_sales.specs.Parts.{part}
 use Rattle.cut_shares.proofs.Cuts.{cuts-none, cuts-whole, cuts-part}
-use Rattle.sales.proofs.Lots.{lots-length}
-use Rattle.sales.specs.Lots.{lotsOf}
+use Rattle.laws_sales.proofs.Lots.{lots-length}
+use Rattle.laws_sales.specs.Lots.{lotsOf}
 
 -- the rates of shares are those of the lots
 share-rates : (asked worth : ℕ) (ns ts : List ℕ) → length ts ≡ length ns → map (λ s. s .tariff) (map (shareOf asked worth) (lotsOf ns ts)) ≡ ts

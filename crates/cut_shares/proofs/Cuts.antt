@@ -9,8 +9,8 @@ use lib.ListN.{length, getD}
 use borrow.Author.Tests.{le-leb, lt-leb}
 use Rattle.rules.specs.Shares.{tierWorth, Share, shareOf, byTurns, inProportion, tierCuts}
 use Rattle.laws.proofs.Shares.{within-at, tier-within, tier-length}
-use Rattle.sales.specs.Lots.{lotsOf}
-use Rattle.sales.proofs.Lots.{lots-length, lots-standing}
+use Rattle.laws_sales.specs.Lots.{lotsOf}
+use Rattle.laws_sales.proofs.Lots.{lots-length, lots-standing}
 
 -- no cut of any trade, whatever the trades are
 none-same : {A B : Type 0} (xs : List A) (ys : List B) → length xs ≡ length ys → map {B = ℕ} (λ x. 0) xs ≡ map (λ y. 0) ys

@@ -10,7 +10,7 @@ use lib.Seq.{sets}
 use Rattle.cut_worth.specs.Rates.{rateIn, ratesIn, lotsIn}
 use Rattle.rules.specs.Reduction.{together}
 use Rattle.rules.specs.Shares.{Share, shareOf}
-use Rattle.sales.specs.Parts.{part}
+use Rattle.laws_sales.specs.Parts.{part}
 use Rattle.cut_shares.specs.Turns.{sharesOf, Sharing, Earliest}
 
 -- an array of cuts in which no sale of the tier, of a part of the sales, has a cut yet

@@ -9,17 +9,17 @@ use lib.Seq.{sets, length-sets}
 use Rattle.cut_shares.proofs.Lifted.{together-length, together-at}
 use Rattle.cut_tiers.proofs.Weights.{standing-same}
 use Rattle.cut_tiers.specs.Tiers.{cutsOf, NoCuts, Takeable}
-use Rattle.sales.proofs.Parts.{part-here, part-stored}
+use Rattle.laws_sales.proofs.Parts.{part-here, part-stored}
 use Rattle.cut_worth.proofs.Rates.{areas-many, sales-many}
 use Rattle.cut_worth.specs.Rates.{Sales}
 use Rattle.rules.specs.Areas.{Prices, tariff}
 use Rattle.rules.specs.Book.{Trade}
 use Rattle.rules.specs.Shares.{tierWorth, tierCuts}
-use Rattle.sales.proofs.Numbers.{sale-cuts-lots, standing-in-at, standing-in-length}
-use Rattle.sales.specs.Parts.{part}
-use Rattle.sales.specs.Sales.{saleCuts, standingIn}
+use Rattle.laws_sales.proofs.Numbers.{sale-cuts-lots, standing-in-at, standing-in-length}
+use Rattle.laws_sales.specs.Parts.{part}
+use Rattle.laws_sales.specs.Sales.{saleCuts, standingIn}
 use Rattle.cut_shares.proofs.Cuts.{cut-le-standing, cuts-length}
-use Rattle.sales.specs.Lots.{lotsOf}
+use Rattle.laws_sales.specs.Lots.{lotsOf}
 
 -- the cuts are the same by tests that are the same in three areas
 pub cuts-of-same : (f : Prices) (short other : ℕ → Bool) (asked : ℕ) (standing areas : List ℕ) → ((a : ℕ) → a < 3 → short a ≡ other a) → ((i : ℕ) → getD areas i 0 < 3)

@@ -7,9 +7,9 @@ use native.Mathlib.Omega.{arith}
 use lib.ListN.{length, drop, getD, set, length-map, drop-of-length-le, List·getD-map}
 use lib.Seq.{drop-cons, sets}
 use Rattle.cut_tiers.specs.Tiers.{Takeable}
-use Rattle.sales.proofs.Parts.{part-length, part-here}
+use Rattle.laws_sales.proofs.Parts.{part-length, part-here}
 use Rattle.cut_worth.proofs.Rates.{areas-many, sales-many}
-use Rattle.cut_worth.proofs.Storing.{Storing, storing-start, storing-more, storing-end}
+use Rattle.base.proofs.Storing.{Storing, storing-start, storing-more, storing-end}
 use Rattle.cut_worth.specs.Rates.{Sales}
 use Rattle.cut_worth.specs.Tallies.{asTally}
 use Rattle.cut_worth.specs.declared.Tally.{Tally}
@@ -17,10 +17,10 @@ use Rattle.rules.specs.Areas.{Prices}
 use Rattle.rules.specs.Book as model
 use Rattle.rules.specs.Reduction as reduction
 use Rattle.rules.specs.Reduction.{nothing, tallied, tallyAll}
-use Rattle.sales.proofs.Cuts.{tally-zero}
-use Rattle.sales.proofs.Numbers.{less-at, less-length}
-use Rattle.sales.specs.Parts.{part}
-use Rattle.sales.specs.Sales.{less}
+use Rattle.laws_sales.proofs.Cuts.{tally-zero}
+use Rattle.laws_sales.proofs.Numbers.{less-at, less-length}
+use Rattle.laws_sales.specs.Parts.{part}
+use Rattle.laws_sales.specs.Sales.{less}
 
 -- no cut changes no tally
 pub tally-same : (f : Prices) (t : model.Trade) (y : reduction.Tally) {c : ℕ} → c ≡ 0 → y ≡ tallied f c t y
@@ -64,7 +64,7 @@ module _ (f : Prices) {standing areas cuts : List ℕ} {from to : ℕ} (s : Sale
   module _ {now : List ℕ} {y : Tally} {i : ℕ} (p : TakenOff f standing areas cuts from to now y i) where
     -- what stands at a place is what stood, and its cut fits
     pub taken-fits : i < to → getD cuts i 0 ≤ getD now i 0
-    taken-fits h = omega (arith, p .off .after i (omega arith), t .within i (p .starts) h)
+    taken-fits h = omega (arith, p .off .after i 0 (omega arith), t .within i (p .starts) h)
 
     pub taken-cut : i < to → getD cuts i 0 ≤ 100000
     taken-cut h = omega (arith, t .within i (p .starts) h, s .standing-most i (p .starts) h)
@@ -94,13 +94,13 @@ module _ (f : Prices) {standing areas cuts : List ℕ} {from to : ℕ} (s : Sale
       ends = omega arith;
       off =
           rw e
-          (storing-more (p .off) (getD now i 0 - getD cuts i 0) (p .starts) (omega (arith, less-length (part from to cuts) (part from to standing), sales-many s))
+          (storing-more (p .off) (getD now i 0 - getD cuts i 0) 0 (p .starts) (omega (arith, less-length (part from to cuts) (part from to standing), sales-many s))
           (omega (
             arith,
             less-at (part from to cuts) (part from to standing) (i - from),
             part-here cuts from to i 0 (p .starts) h,
             part-here standing from to i 0 (p .starts) h,
-            p .off .after i (omega arith),
+            p .off .after i 0 (omega arith),
           )));
       left = λ ss k. further next h g ss k;
       mwh-most = omega (arith, p .mwh-most, p .starts);

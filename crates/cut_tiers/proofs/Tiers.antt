@@ -13,19 +13,19 @@ use Rattle.cut_shares.proofs.Ones.{counts-out}
 use Rattle.cut_shares.specs.Cuts.{Untouched, added}
 use Rattle.cut_tiers.proofs.Weights.{rate-for, worth-for, cuts-for}
 use Rattle.cut_tiers.specs.Tiers.{ratesFor, cutsOf, NoCuts}
-use Rattle.sales.proofs.Parts.{part-length, part-at, part-here, part-most, part-stored, stored-over}
+use Rattle.laws_sales.proofs.Parts.{part-length, part-at, part-here, part-most, part-stored, stored-over}
 use Rattle.cut_worth.proofs.Rates.{areas-inside, amounts-length, rates-length, amount-at}
 use Rattle.cut_worth.specs.Rates.{rateIn, amountsIn, ratesIn, lotsIn, Sales}
-use Rattle.integers.proofs.Linear.{by-order}
+use Rattle.base.proofs.Linear.{by-order}
 use Rattle.rules.specs.Areas.{Prices, tariff}
 use Rattle.rules.specs.Reduction.{together}
 use Rattle.rules.specs.Shares.{tierWorth, tierCuts}
-use Rattle.sales.specs.Parts.{part}
-use Rattle.sales.specs.Sales.{standingIn}
+use Rattle.laws_sales.specs.Parts.{part}
+use Rattle.laws_sales.specs.Sales.{standingIn}
 use Rattle.cut_shares.proofs.Cuts.{asked-nothing, cuts-length, cut-le-standing}
 use Rattle.units.specs.Prices.{InRange}
-use Rattle.sales.proofs.Ranges.{cond-le}
-use Rattle.sales.specs.Lots.{lotsOf}
+use Rattle.laws_sales.proofs.Ranges.{cond-le}
+use Rattle.laws_sales.specs.Lots.{lotsOf}
 
 -- cuts added to none
 together-first : (zs ds : List ℕ) → length ds ≡ length zs → ((k : ℕ) → getD zs k 0 ≡ 0) → together zs ds ≡ ds

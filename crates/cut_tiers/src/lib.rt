@@ -1,4 +1,5 @@
-// The cuts of a reduction on arrays: what stands of a seller's own sales and the areas of the sales, from..to. The cuts of both tiers are filled in; one is taken off, and tallied.
+// The cuts of a reduction on arrays: what stands of a seller's own sales and the areas of the sales, from..to. The cuts of both tiers are
+// filled in; one is taken off, and tallied.
 use cut_worth::Tally;
 use units::Area;
 use units::Cents;
@@ -12,7 +13,7 @@ ghost use lib.Seq.{sets};
 ghost use Rattle.rules.specs.Areas.{tariff};
 ghost use Rattle.rules.specs.Book as model;
 ghost use Rattle.rules.specs.Reduction.{tallied};
-ghost use Rattle.sales.specs.Parts.{part};
+ghost use Rattle.laws_sales.specs.Parts.{part};
 ghost use Rattle.units.specs.Prices.{asPrices, InRange};
 ghost use Rattle.cut_worth.specs.Rates.{Sales};
 ghost use Rattle.cut_worth.specs.Tallies.{asTally};
@@ -43,8 +44,8 @@ fn rates_of(pvb: bool, tvb: bool, avb: bool, prices: Prices) -> [u64; 3]
     [p, t, a]
 }
 
-// Fills in what each sale loses where the seller is reduced for an amount; `short` says in which areas its position is negative. Tier one takes the amount, tier
-// two what tier one's worth leaves of it. `rests` is room for remainders; what it holds at the end is of no use.
+// Fills in what each sale loses where the seller is reduced for an amount; `short` says in which areas its position is negative. Tier one
+// takes the amount, tier two what tier one's worth leaves of it. `rests` is room for remainders; what it holds at the end is of no use.
 pub fn fill_cuts(
     standing: &[u64; 256],
     areas: &[u8; 256],

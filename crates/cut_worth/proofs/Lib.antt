@@ -1,3 +1,2 @@
--- Laws of a loop that stores a part of a list, and of a part of the sales as a tier.
-pub mod Storing
+-- Laws of a part of the sales as a tier.
 pub mod Rates

@@ -7,16 +7,16 @@ use native.Mathlib.Nat.{mul-zero}
 use native.Mathlib.Omega.{arith}
 use lib.Dec.{ltb, nltb→le}
 use lib.ListN.{length, getD, length-map, List·getD-eq-default}
-use Rattle.sales.proofs.Parts.{part-length, part-here, part-none, part-first}
+use Rattle.laws_sales.proofs.Parts.{part-length, part-here, part-none, part-first}
 use Rattle.cut_worth.specs.Rates.{rateIn, rated, amountsIn, ratesIn, lotsIn, Sales, Rates}
-use Rattle.integers.proofs.Linear.{by-order}
-use Rattle.laws.proofs.Tests.{by-test}
+use Rattle.base.proofs.Linear.{by-order}
+use Rattle.base.proofs.Tests.{by-test}
 use Rattle.rules.specs.Shares.{tierWorth}
-use Rattle.sales.proofs.Numbers.{read-at, standing-in-at, standing-in-length}
-use Rattle.sales.specs.Parts.{part}
-use Rattle.sales.specs.Sales.{standingIn}
-use Rattle.sales.proofs.Lots.{one-worth-le}
-use Rattle.sales.specs.Lots.{lotsOf}
+use Rattle.laws_sales.proofs.Numbers.{read-at, standing-in-at, standing-in-length}
+use Rattle.laws_sales.specs.Parts.{part}
+use Rattle.laws_sales.specs.Sales.{standingIn}
+use Rattle.laws_sales.proofs.Lots.{one-worth-le}
+use Rattle.laws_sales.specs.Lots.{lotsOf}
 
 -- what is outside the tier has no worth at its rate
 weighted : (n rate : ℕ) → cond (ltb 0 rate) n 0 * rate ≡ n * rate

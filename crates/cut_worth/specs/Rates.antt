@@ -6,8 +6,8 @@ use Prim.Native.Nat.{ℕ, _≤_, _<_}
 use lib.Dec.{ltb}
 use lib.ListN.{length, getD}
 use Rattle.rules.specs.Shares.{Lot}
-use Rattle.sales.specs.Sales.{standingIn}
-use Rattle.sales.specs.Lots.{lotsOf}
+use Rattle.laws_sales.specs.Sales.{standingIn}
+use Rattle.laws_sales.specs.Lots.{lotsOf}
 
 -- the rate of an area
 abbrev pub rateIn : List ℕ → ℕ → ℕ

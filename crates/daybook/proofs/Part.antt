@@ -8,15 +8,15 @@ use lib.Dec.{ltb, ltb→lt}
 use Rattle.laws.proofs.Refusals.{numbered, refusal-is}
 use Rattle.rules.specs.Calls.{idKnown}
 use Rattle.rules.specs.Levels.{Limits}
-use Rattle.rules.specs.Lists.{all}
+use Rattle.base.specs.Lists.{all}
 use Rattle.rules.specs.Queries.{Reply, aRecord, aboutQuery, found, onlyNumber, shownRecord}
 use Rattle.rules.specs.Questions.{decided, numberOf, refusal}
-use Rattle.format.specs.After.{after, replyAfter}
-use Rattle.format.specs.Book.{bookOf}
+use Rattle.book_format.specs.After.{after, replyAfter}
+use Rattle.book_format.specs.Book.{bookOf}
 use Rattle.requests.proofs.Opened.{replied}
 use Rattle.requests.specs.Carried.{Admitted, Handed, partAt, partShown}
 use Rattle.requests.specs.Request.{Setting}
-use Rattle.shown.specs.Shown.{PartAfter, ShownAfter, showing}
+use Rattle.call_show.specs.Shown.{PartAfter, ShownAfter, showing}
 
 module _ (g : Setting) (s : List ℕ) (id opened : ℕ) where
   -- by the number of the opening questions and question 8

@@ -1,47 +1,52 @@
-// The public calls on a lent book in bytes, each with a store of parameter sets or none. None asks anything of its caller: any bytes, any id and any amount get the documents'
-// number or their answer, and a refused call leaves the book byte for byte the same. Each asks the opening questions and hands their number on, with the figures that they give;
-// what it gives is one definition of specs/ of `requests`.
+// The public calls on a lent book in bytes, each with a store of parameter sets or none. None asks anything of its caller: any bytes, any
+// id and any amount get the documents' number or their answer, and a refused call leaves the book byte for byte the same. Each asks the
+// opening questions and hands their number on, with the figures that they give; what it gives is one definition of specs/ of `requests`.
 ghost use mathlib.Core.Path.{_≡_};
 ghost use Rattle.rules.specs.Calls.{only, morningCall, afternoonCall};
 ghost use Rattle.rules.specs.Queries.{morningLevelOf, afternoonLevelOf};
 ghost use Rattle.store.specs.Store.{given};
 ghost use Rattle.requests.specs.Request.{enquiry, requestOf, settingOf};
 ghost use Rattle.requests.specs.Carried.{Carried, Handed};
-ghost use Rattle.posting.specs.Posting.{postingOf};
-ghost use Rattle.answers.specs.Level.{replyOf};
-ghost use Rattle.answers.specs.Call.{answerOf};
-ghost use Rattle.answers.specs.Warning as warned;
-ghost use Rattle.answers.specs.Reduction as reducing;
-ghost use Rattle.answers.specs.Run as running;
-ghost use Rattle.warning.specs.Warned.{warningOf};
+ghost use Rattle.call_posting.specs.Posting.{postingOf};
+ghost use Rattle.call_level.specs.Times.{queryOf};
+ghost use Rattle.call_guarantee.specs.Times.{callOf};
+ghost use Rattle.call_answers.specs.Level.{replyOf};
+ghost use Rattle.call_answers.specs.Call.{answerOf};
+ghost use Rattle.call_answers.specs.Warning as warned;
+ghost use Rattle.call_answers.specs.Reduction as reducing;
+ghost use Rattle.call_answers.specs.Run as running;
+ghost use Rattle.call_warning.specs.Warned.{warningOf};
 ghost use Rattle.call_reduction.specs.Call.{reductionOf};
 ghost use Rattle.call_run.specs.Call.{runCall};
-ghost use Rattle.opening.specs.Opened.{Opened};
-ghost use Rattle.transfer.specs.Written.{Written};
-ghost use Rattle.shown.specs.Shown.{picked, pickedAt};
-use answers::CallAnswer;
-use answers::LevelAnswer;
-use answers::ReductionAnswer;
-use answers::RunAnswer;
-use answers::WarningAnswer;
-use book::Book;
-use opening::Opening;
+ghost use Rattle.book_value.specs.Opened.{Opened};
+ghost use Rattle.book_value.specs.Written.{Written};
+ghost use Rattle.call_show.specs.Shown.{picked, pickedAt};
+use book_value::Book;
+use book_value::Opening;
+use call_answers::CallAnswer;
+use call_answers::LevelAnswer;
+use call_answers::ReductionAnswer;
+use call_answers::RunAnswer;
+use call_answers::WarningAnswer;
 
-// The book that bytes hold, every field of it, and 0; or a book whose every field is 0 and the number of the first of the questions 1 to 7 that is answered by no.
+// The book that bytes hold, every field of it, and 0; or a book whose every field is 0 and the number of the first of the questions 1 to 7
+// that is answered by no.
 pub fn read(bytes: &[u8]) -> Opening
     ensures { λ r. ⌜ Opened (now (bytes .entry)) (r .number) (r .book) ⌝ }
 {
-    opening::open(bytes)
+    book_value::open(bytes)
 }
 
-// Writes a book, up to its counts, to a part of exactly its length, and answers 0; or leaves the part and answers the first question that the bytes would fail.
+// Writes a book, up to its counts, to a part of exactly its length, and answers 0; or leaves the part and answers the first question that
+// the bytes would fail.
 pub fn write(book: Book, out: &mut [u8]) -> u32
     ensures { λ r. ⌜ Written book (now (out .entry)) r (now (out .exit)) ⌝ }
 {
-    transfer::write(book, out)
+    book_value::write(book, out)
 }
 
-// The 56 bytes of a user's record as that part of the book, and 0; or the empty part and the number of the first question that is answered by no.
+// The 56 bytes of a user's record as that part of the book, and 0; or the empty part and the number of the first question that is answered
+// by no.
 pub fn show<'a>(
     book: &'a [u8],
     with_store: bool,
@@ -51,11 +56,12 @@ pub fn show<'a>(
 ) -> &'a [u8]
     ensures { λ r. ⌜ Handed (settingOf (given «with_store» (now (store .entry)))) (now (book .entry)) id (now (number .exit)) (now r) (book .entry .ptr) (r .ptr) ⌝ }
 {
-    let admission = admission::admit(book, with_store, store);
-    shown::show(book, admission.number, id, number)
+    let admission = call_admission::admit(book, with_store, store);
+    call_show::show(book, admission.number, id, number)
 }
 
-// The same of the picked one of two books: the afternoon's where `afternoon_picked` is yes, else the morning's. Only the picked book is questioned.
+// The same of the picked one of two books: the afternoon's where `afternoon_picked` is yes, else the morning's. Only the picked book is
+// questioned.
 pub fn show_picked<'a>(
     morning: &'a [u8],
     afternoon: &'a [u8],
@@ -67,11 +73,12 @@ pub fn show_picked<'a>(
 ) -> &'a [u8]
     ensures { λ r. ⌜ Handed (settingOf (given «with_store» (now (store .entry)))) (picked «afternoon_picked» (now (morning .entry)) (now (afternoon .entry))) id (now (number .exit)) (now r) (pickedAt «afternoon_picked» (morning .entry .ptr) (afternoon .entry .ptr)) (r .ptr) ⌝ }
 {
-    let book = shown::pick(morning, afternoon, afternoon_picked);
+    let book = call_show::pick(morning, afternoon, afternoon_picked);
     show(book, with_store, store, id, number)
 }
 
-// Adds a signed amount to a user's physical entry and position in an area, and answers 0; or the number of the first question that is answered by no.
+// Adds a signed amount to a user's physical entry and position in an area, and answers 0; or the number of the first question that is
+// answered by no.
 pub fn posting(
     book: &mut [u8],
     with_store: bool,
@@ -82,37 +89,51 @@ pub fn posting(
 ) -> u32
     ensures { λ r. ⌜ Carried (requestOf (given «with_store» (now (store .entry))) (postingOf id area amount)) (now (book .entry)) (only r) (now (book .exit)) ⌝ }
 {
-    let admission = admission::admit(book, with_store, store);
-    posting::posting(book, admission.number, id, area, amount)
+    let admission = call_admission::admit(book, with_store, store);
+    call_posting::posting(book, admission.number, id, area, amount)
+}
+
+// The level of a user at one time of the day.
+pub fn level(book: &[u8], with_store: bool, store: &[u8], id: u32, afternoon: bool) -> LevelAnswer
+    ensures { λ r. ⌜ replyOf r ≡ enquiry (settingOf (given «with_store» (now (store .entry)))) (now (book .entry)) (queryOf afternoon id) ⌝ }
+{
+    let mut sellers = [0u8; 256];
+    let mut buyers = [0u8; 256];
+    let mut sums = [0u32; 768];
+    let admission = call_admission::admit_with_sums(
+        book,
+        with_store,
+        store,
+        &mut sellers,
+        &mut buyers,
+        &mut sums,
+    );
+    let limits = admission.limits;
+    call_level::level(book, admission.number, limits, &sums, id, afternoon)
 }
 
 // The morning level of a user.
 pub fn morning_level(book: &[u8], with_store: bool, store: &[u8], id: u32) -> LevelAnswer
     ensures { λ r. ⌜ replyOf r ≡ enquiry (settingOf (given «with_store» (now (store .entry)))) (now (book .entry)) (morningLevelOf id) ⌝ }
 {
-    let mut sellers = [0u8; 256];
-    let mut buyers = [0u8; 256];
-    let mut sums = [0u32; 768];
-    let admission = admission::admit_with_sums(
-        book,
-        with_store,
-        store,
-        &mut sellers,
-        &mut buyers,
-        &mut sums,
-    );
-    let limits = admission.limits;
-    level::morning_level(book, admission.number, limits, &sums, id)
+    level(book, with_store, store, id, false)
 }
 
 // The afternoon level of a user.
 pub fn afternoon_level(book: &[u8], with_store: bool, store: &[u8], id: u32) -> LevelAnswer
     ensures { λ r. ⌜ replyOf r ≡ enquiry (settingOf (given «with_store» (now (store .entry)))) (now (book .entry)) (afternoonLevelOf id) ⌝ }
 {
+    level(book, with_store, store, id, true)
+}
+
+// Raises a user's blocked guarantee to its level at one time of the day.
+pub fn call(book: &mut [u8], with_store: bool, store: &[u8], id: u32, afternoon: bool) -> CallAnswer
+    ensures { λ r. ⌜ Carried (requestOf (given «with_store» (now (store .entry))) (callOf afternoon id)) (now (book .entry)) (answerOf r) (now (book .exit)) ⌝ }
+{
     let mut sellers = [0u8; 256];
     let mut buyers = [0u8; 256];
     let mut sums = [0u32; 768];
-    let admission = admission::admit_with_sums(
+    let admission = call_admission::admit_with_sums(
         book,
         with_store,
         store,
@@ -121,54 +142,30 @@ pub fn afternoon_level(book: &[u8], with_store: bool, store: &[u8], id: u32) -> 
         &mut sums,
     );
     let limits = admission.limits;
-    level::afternoon_level(book, admission.number, limits, &sums, id)
+    call_guarantee::call(book, admission.number, limits, &sums, id, afternoon)
 }
 
 // Raises a user's blocked guarantee to its morning level.
 pub fn morning_call(book: &mut [u8], with_store: bool, store: &[u8], id: u32) -> CallAnswer
     ensures { λ r. ⌜ Carried (requestOf (given «with_store» (now (store .entry))) (morningCall id)) (now (book .entry)) (answerOf r) (now (book .exit)) ⌝ }
 {
-    let mut sellers = [0u8; 256];
-    let mut buyers = [0u8; 256];
-    let mut sums = [0u32; 768];
-    let admission = admission::admit_with_sums(
-        book,
-        with_store,
-        store,
-        &mut sellers,
-        &mut buyers,
-        &mut sums,
-    );
-    let limits = admission.limits;
-    guarantee::morning_call(book, admission.number, limits, &sums, id)
+    call(book, with_store, store, id, false)
 }
 
 // Raises a user's blocked guarantee to its afternoon level.
 pub fn afternoon_call(book: &mut [u8], with_store: bool, store: &[u8], id: u32) -> CallAnswer
     ensures { λ r. ⌜ Carried (requestOf (given «with_store» (now (store .entry))) (afternoonCall id)) (now (book .entry)) (answerOf r) (now (book .exit)) ⌝ }
 {
-    let mut sellers = [0u8; 256];
-    let mut buyers = [0u8; 256];
-    let mut sums = [0u32; 768];
-    let admission = admission::admit_with_sums(
-        book,
-        with_store,
-        store,
-        &mut sellers,
-        &mut buyers,
-        &mut sums,
-    );
-    let limits = admission.limits;
-    guarantee::afternoon_call(book, admission.number, limits, &sums, id)
+    call(book, with_store, store, id, true)
 }
 
 // Whether a user is warned at midday.
 pub fn warning(book: &[u8], with_store: bool, store: &[u8], id: u32) -> WarningAnswer
     ensures { λ r. ⌜ warned.replyOf r ≡ enquiry (settingOf (given «with_store» (now (store .entry)))) (now (book .entry)) (warningOf id) ⌝ }
 {
-    let admission = admission::admit(book, with_store, store);
+    let admission = call_admission::admit(book, with_store, store);
     let limits = admission.limits;
-    warning::warning(book, admission.number, limits, id)
+    call_warning::warning(book, admission.number, limits, id)
 }
 
 // Cuts a user's bilateral sales for what its afternoon level exceeds its assigned guarantee by.
@@ -178,7 +175,7 @@ pub fn reduction(book: &mut [u8], with_store: bool, store: &[u8], id: u32) -> Re
     let mut sellers = [0u8; 256];
     let mut buyers = [0u8; 256];
     let mut sums = [0u32; 768];
-    let admission = admission::admit_with_sums(
+    let admission = call_admission::admit_with_sums(
         book,
         with_store,
         store,
@@ -197,7 +194,7 @@ pub fn run(book: &mut [u8], with_store: bool, store: &[u8]) -> RunAnswer
     let mut sellers = [0u8; 256];
     let mut buyers = [0u8; 256];
     let mut sums = [0u32; 768];
-    let admission = admission::admit_with_sums(
+    let admission = call_admission::admit_with_sums(
         book,
         with_store,
         store,

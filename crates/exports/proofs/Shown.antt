@@ -4,12 +4,12 @@ use mathlib.Core.List.{List, []}
 use Prim.Native.Nat.{ℕ, _≤_, suc, zero}
 use native.Mathlib.Omega.{arith}
 use lib.ListN.{length, take, drop, length-take}
-use Rattle.format.specs.After.{after}
-use Rattle.format.specs.Book.{userAt, bookOf}
-use Rattle.format.specs.Steps.{placeOf}
+use Rattle.book_format.specs.After.{after}
+use Rattle.book_format.specs.Book.{userAt, bookOf}
+use Rattle.book_format.specs.Steps.{placeOf}
 use Rattle.requests.specs.Carried.{Handed, partShown}
 use Rattle.requests.specs.Request.{Setting}
-use Rattle.image.specs.Image.{padded}
+use Rattle.book_image.specs.Image.{padded}
 use Rattle.exports.specs.Answers.{Copied}
 use Rattle.exports.proofs.Lent.{stored}
 

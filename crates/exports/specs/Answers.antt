@@ -10,14 +10,14 @@ use lib.ListN.{length}
 use Rattle.rules.specs.Calls.{Answer}
 use Rattle.rules.specs.Queries.{Query, Reply, shownRecord}
 use Rattle.rules.specs.Questions.{refusal, numberOf, decided}
-use Rattle.format.specs.Book.{userCount, tradeCount, bytesOf}
-use Rattle.format.specs.Questions.{bookNumber}
+use Rattle.book_format.specs.Book.{userCount, tradeCount, bytesOf}
+use Rattle.book_format.specs.Questions.{bookNumber}
 use Rattle.store.specs.Store.{given}
 use Rattle.requests.specs.Carried.{partShown}
 use Rattle.requests.specs.Request.{Request, Setting, enquiry, request}
-use Rattle.transfer.specs.Written.{aboutWriting}
-use Rattle.image.specs.Image.{padded, readImage}
-use Rattle.from_image.specs.ImageBook.{imageBook}
+use Rattle.book_value.specs.Written.{aboutWriting}
+use Rattle.book_image.specs.Image.{padded, readImage}
+use Rattle.book_image.specs.ImageBook.{imageBook}
 use Rattle.shrinkage.specs.Return.{returned}
 use Rattle.shrinkage.specs.Days.{overDays}
 use Rattle.exports_shrinkage.specs.Numbers.{returnNumbers}

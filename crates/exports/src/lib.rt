@@ -1,16 +1,19 @@
-// The C interface over the public calls of `daybook` and `shrinkage`; include/daybook.h declares it. A slice is a pointer and a length in C. No function asks anything of what it is lent:
-// a part for answers of another length than the function's gets the number 255, and nothing is asked or changed. A store comes with a flag, which is 0 where there is none.
+// The C interface over the public calls of `daybook` and `shrinkage`; include/daybook.h declares it. A slice is a pointer and a length in
+// C. No function asks anything of what it is lent: a part for answers of another length than the function's gets the number 255, and
+// nothing is asked or changed. A store comes with a flag, which is 0 where there is none.
 ghost use mathlib.Core.Path.{_≡_};
 ghost use Rattle.rules.specs.Calls.{only, morningCall, afternoonCall};
 ghost use Rattle.rules.specs.Queries.{morningLevelOf, afternoonLevelOf};
 ghost use Rattle.requests.specs.Request.{requestOf, settingOf};
 ghost use Rattle.requests.specs.Carried.{Carried};
-ghost use Rattle.posting.specs.Posting.{postingOf};
-ghost use Rattle.warning.specs.Warned.{warningOf};
+ghost use Rattle.call_posting.specs.Posting.{postingOf};
+ghost use Rattle.call_level.specs.Times.{queryOf};
+ghost use Rattle.call_guarantee.specs.Times.{callOf};
+ghost use Rattle.call_warning.specs.Warned.{warningOf};
 ghost use Rattle.call_reduction.specs.Call.{reductionOf};
 ghost use Rattle.call_run.specs.Call.{runCall};
-ghost use Rattle.shown.specs.Shown.{picked};
-ghost use Rattle.storing.specs.Numbers.{levelNumbers, warningNumbers, callNumbers, reductionNumbers, runNumbers};
+ghost use Rattle.call_show.specs.Shown.{picked};
+ghost use Rattle.exports_answers.specs.Numbers.{levelNumbers, warningNumbers, callNumbers, reductionNumbers, runNumbers};
 ghost use Rattle.exports.specs.Answers.{isYes, storeBy, Replied, Answered, Copied, ReadInto, WrittenFrom, ReturnedInto, SpreadInto};
 use shrinkage::Kwh;
 
@@ -58,7 +61,7 @@ pub extern "C" fn daybook_read(book: &[u8], image: &mut [u8]) -> u32
     if image.len() != IMAGE_SIZE {
         return WRONG_LENGTH;
     }
-    image::read(book, image)
+    book_image::read(book, image)
 }
 
 // Writes the book whose fields an image of 8,736 bytes has.
@@ -69,7 +72,7 @@ pub extern "C" fn daybook_write(image: &[u8], out: &mut [u8]) -> u32
     if image.len() != IMAGE_SIZE {
         return WRONG_LENGTH;
     }
-    from_image::write(image, out)
+    book_image::write(image, out)
 }
 
 // Copies the 56 bytes of a user's record.
@@ -88,7 +91,7 @@ pub extern "C" fn daybook_show(
     }
     let mut number = 0;
     let part = daybook::show(book, with_store != 0, store, id, &mut number);
-    image::fill(record, part);
+    book_image::fill(record, part);
     number
 }
 
@@ -118,7 +121,7 @@ pub extern "C" fn daybook_show_picked<'a>(
         id,
         &mut number,
     );
-    image::fill(record, part);
+    book_image::fill(record, part);
     number
 }
 
@@ -137,6 +140,24 @@ pub extern "C" fn daybook_posting(
     daybook::posting(book, with_store != 0, store, id, area, amount)
 }
 
+// The level of a user at one time of the day: 1 number.
+fn level(
+    book: &[u8],
+    with_store: u32,
+    store: &[u8],
+    id: u32,
+    afternoon: bool,
+    answer: &mut [u64],
+) -> u32
+    ensures { λ r. ⌜ Replied 1 levelNumbers (settingOf (storeBy «with_store» (now (store .entry)))) (now (book .entry)) (queryOf afternoon id) (now (answer .entry)) r (now (answer .exit)) ⌝ }
+{
+    if answer.len() != LEVEL_NUMBERS {
+        return WRONG_LENGTH;
+    }
+    let reply = daybook::level(book, with_store != 0, store, id, afternoon);
+    exports_answers::store_level(answer, reply)
+}
+
 // The morning level of a user: 1 number.
 #[no_mangle]
 pub extern "C" fn daybook_morning_level(
@@ -148,11 +169,7 @@ pub extern "C" fn daybook_morning_level(
 ) -> u32
     ensures { λ r. ⌜ Replied 1 levelNumbers (settingOf (storeBy «with_store» (now (store .entry)))) (now (book .entry)) (morningLevelOf id) (now (answer .entry)) r (now (answer .exit)) ⌝ }
 {
-    if answer.len() != LEVEL_NUMBERS {
-        return WRONG_LENGTH;
-    }
-    let reply = daybook::morning_level(book, with_store != 0, store, id);
-    storing::store_level(answer, reply)
+    level(book, with_store, store, id, false, answer)
 }
 
 // The afternoon level of a user: 1 number.
@@ -166,11 +183,25 @@ pub extern "C" fn daybook_afternoon_level(
 ) -> u32
     ensures { λ r. ⌜ Replied 1 levelNumbers (settingOf (storeBy «with_store» (now (store .entry)))) (now (book .entry)) (afternoonLevelOf id) (now (answer .entry)) r (now (answer .exit)) ⌝ }
 {
-    if answer.len() != LEVEL_NUMBERS {
+    level(book, with_store, store, id, true, answer)
+}
+
+// Raises a user's blocked guarantee to its level at one time of the day: 2 numbers, the level and what was added.
+fn call(
+    book: &mut [u8],
+    with_store: u32,
+    store: &[u8],
+    id: u32,
+    afternoon: bool,
+    answer: &mut [u64],
+) -> u32
+    ensures { λ r. ⌜ Answered 2 callNumbers (requestOf (storeBy «with_store» (now (store .entry))) (callOf afternoon id)) (now (book .entry)) (now (answer .entry)) r (now (answer .exit)) (now (book .exit)) ⌝ }
+{
+    if answer.len() != CALL_NUMBERS {
         return WRONG_LENGTH;
     }
-    let reply = daybook::afternoon_level(book, with_store != 0, store, id);
-    storing::store_level(answer, reply)
+    let call = daybook::call(book, with_store != 0, store, id, afternoon);
+    exports_answers::store_call(answer, call)
 }
 
 // Raises a user's blocked guarantee to its morning level: 2 numbers, the level and what was added.
@@ -184,11 +215,7 @@ pub extern "C" fn daybook_morning_call(
 ) -> u32
     ensures { λ r. ⌜ Answered 2 callNumbers (requestOf (storeBy «with_store» (now (store .entry))) (morningCall id)) (now (book .entry)) (now (answer .entry)) r (now (answer .exit)) (now (book .exit)) ⌝ }
 {
-    if answer.len() != CALL_NUMBERS {
-        return WRONG_LENGTH;
-    }
-    let call = daybook::morning_call(book, with_store != 0, store, id);
-    storing::store_call(answer, call)
+    call(book, with_store, store, id, false, answer)
 }
 
 // Raises a user's blocked guarantee to its afternoon level: 2 numbers, the level and what was added.
@@ -202,11 +229,7 @@ pub extern "C" fn daybook_afternoon_call(
 ) -> u32
     ensures { λ r. ⌜ Answered 2 callNumbers (requestOf (storeBy «with_store» (now (store .entry))) (afternoonCall id)) (now (book .entry)) (now (answer .entry)) r (now (answer .exit)) (now (book .exit)) ⌝ }
 {
-    if answer.len() != CALL_NUMBERS {
-        return WRONG_LENGTH;
-    }
-    let call = daybook::afternoon_call(book, with_store != 0, store, id);
-    storing::store_call(answer, call)
+    call(book, with_store, store, id, true, answer)
 }
 
 // Whether a user is warned at midday: 1 number, 1 for yes and 0 for no.
@@ -224,10 +247,11 @@ pub extern "C" fn daybook_warning(
         return WRONG_LENGTH;
     }
     let reply = daybook::warning(book, with_store != 0, store, id);
-    storing::store_warning(answer, reply)
+    exports_answers::store_warning(answer, reply)
 }
 
-// Cuts a user's bilateral sales for its target: 5 numbers, the MWh cut, their worth, the target, and what the worth falls short of it or exceeds it by.
+// Cuts a user's bilateral sales for its target: 5 numbers, the MWh cut, their worth, the target, and what the worth falls short of it or
+// exceeds it by.
 #[no_mangle]
 pub extern "C" fn daybook_reduction(
     book: &mut [u8],
@@ -242,7 +266,7 @@ pub extern "C" fn daybook_reduction(
         return WRONG_LENGTH;
     }
     let reduction = daybook::reduction(book, with_store != 0, store, id);
-    storing::store_reduction(answer, reduction)
+    exports_answers::store_reduction(answer, reduction)
 }
 
 // Reduces users until none that is short of cover has an eligible trade: 3 numbers, the reductions, the MWh cut and their worth.
@@ -259,7 +283,7 @@ pub extern "C" fn daybook_run(
         return WRONG_LENGTH;
     }
     let run = daybook::run(book, with_store != 0, store);
-    storing::store_run(answer, run)
+    exports_answers::store_run(answer, run)
 }
 
 // ---- the return of shrinkage, without a book

@@ -31,7 +31,7 @@ pub fn store_return(answer: &mut [u64], r: ShrinkageReturn) -> u32
     let shares = r.shares;
     let remainders = r.remainders;
     let numbers = table(r.half, r.odd, r.rest, shares, remainders);
-    storing::store(answer, &numbers);
+    exports_answers::store(answer, &numbers);
     r.number
 }
 

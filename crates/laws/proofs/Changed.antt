@@ -5,7 +5,7 @@ use Prim.Native.Nat.{ℕ}
 use lib.Dec.{T, eqb}
 use lib.ListN.{length-map}
 use Rattle.laws.specs.Sound.{Sound}
-use Rattle.laws.proofs.Tests.{by-test}
+use Rattle.base.proofs.Tests.{by-test}
 use Rattle.laws.proofs.Users.{trades-map, change-all, idsRise-map}
 use Rattle.rules.specs.Book.{User, Book, find}
 use Rattle.rules.specs.Changes.{change, withUsers}

@@ -8,15 +8,15 @@ use native.Mathlib.Nat.{add-mul, not-suc-le-zero, le-of-suc-le-suc, mul-pos}
 use native.Mathlib.Omega.{arith}
 use lib.Dec.{T, leb, ltb, eqb, le→leb, leb→le, ltb→lt}
 use lib.ListN.{length, length-map}
-use Rattle.integers.proofs.Linear.{by-order}
-use Rattle.integers.proofs.Sums.{sum-add, sum-ext, sum-map}
-use Rattle.integers.specs.Sums.{sum}
+use Rattle.base.proofs.Linear.{by-order}
+use Rattle.base.proofs.Sums.{sum-add, sum-ext, sum-map}
+use Rattle.base.specs.Sums.{sum}
 use Rattle.laws.proofs.Shares.{eachWithin, worthAt, within-length, worth-pos, tier-worth, tier-within, tier-length, tier-worth-le, tier-reaches, tier-near, tier-none}
-use Rattle.laws.proofs.Tests.{and-l, and-r, and-i, or-l, or-r, by-test, eqb-of}
+use Rattle.base.proofs.Tests.{and-l, and-r, and-i, or-l, or-r, by-test, eqb-of}
 use Rattle.laws.specs.Trades.{cutWithin, cutsWithin, eligibleWorth, standingIf, tariffOf}
 use Rattle.rules.specs.Areas.{Prices, tariff}
 use Rattle.rules.specs.Book.{Header, User, Trade, Book, bilateralForDay, at}
-use Rattle.rules.specs.Lists.{all, any}
+use Rattle.base.specs.Lists.{all, any}
 use Rattle.rules.specs.Questions.{tariffValid, pricesValid, headerValid}
 use Rattle.rules.specs.Reduction.{eligible, hasEligible, shortIn, lot, tierOne, tierTwo, together, cuts, Tally, nothing, tallied, tallyAll}
 use Rattle.rules.specs.Shares.{tierWorth, tierCuts}

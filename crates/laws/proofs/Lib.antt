@@ -1,5 +1,4 @@
--- What follows from the rules. Tests and questions:
-pub mod Tests
+-- What follows from the rules. Questions:
 pub mod Refusals
 pub mod Sound
 -- users, positions, trades, and what a call did to a book

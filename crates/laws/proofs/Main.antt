@@ -5,8 +5,8 @@ use Prim.Native.Nat.{max, ℕ}
 use native.Mathlib.Omega.{arith}
 use lib.Dec.{leb→le, le→leb, ltb, ltb→lt}
 use lib.IntN.{_+ℤ_, natAbs}
-use Rattle.integers.proofs.Linear.{abs-parts, posPart-of}
-use Rattle.integers.specs.Parts.{negPart, posPart}
+use Rattle.base.proofs.Linear.{abs-parts, posPart-of}
+use Rattle.base.specs.Parts.{negPart, posPart}
 use Rattle.laws.proofs.Bounds.{afternoon-level-le, morning-level-le, position-bound, tariffs-pos}
 use Rattle.laws.proofs.Cuts.{cuts-bilateral, cuts-pos, cuts-within, tally-mwh, tally-near, tally-reaches}
 use Rattle.laws.proofs.Guarantee.{guarantee-sound}
@@ -18,13 +18,39 @@ use Rattle.laws.proofs.Run.{Done, has-target, next-none, reduced-law, r
 use Rattle.laws.proofs.Settle.{retraded-anew}
 use Rattle.laws.proofs.Sound.{accept, sound}
 use Rattle.laws.specs.Sound.{Sound}
-use Rattle.laws.proofs.Tests.{and-l, and-r}
+use Rattle.base.proofs.Tests.{and-l, and-r}
 use Rattle.laws.proofs.Trades.{framed, lowered-refl}
 use Rattle.laws.proofs.Users.{all-find}
 use Rattle.laws.specs.Statements.{Conserved, StaysAccepted, CutsEligible, SomethingCut, TargetMet, SettledAnew, AllCovered, RunEnds, RunCounts, Bounded}
 use Rattle.laws.specs.Trades.{Lowered, Pairwise}
 use Rattle.rules.specs.Book.{Book, at, find}
-use Rattle.rules.specs.Calls.{posting, morningCall, afternoonCall, reduction, run, Call, about, assignedFallsShort, assignedSuffices, calledInBeyondMargin, cuttable, effect, eligibleTrade, entryInRange, guaranteed, idKnown, isShipper, marginExceeded, ofCuts, only, questions, reduced, reducedBy, runFor, step}
+use Rattle.rules.specs.Calls.{
+  posting,
+  morningCall,
+  afternoonCall,
+  reduction,
+  run,
+  Call,
+  about,
+  assignedFallsShort,
+  assignedSuffices,
+  calledInBeyondMargin,
+  cuttable,
+  effect,
+  eligibleTrade,
+  entryInRange,
+  guaranteed,
+  idKnown,
+  isShipper,
+  marginExceeded,
+  ofCuts,
+  only,
+  questions,
+  reduced,
+  reducedBy,
+  runFor,
+  step,
+}
 use Rattle.rules.specs.Changes.{withUsers}
 use Rattle.rules.specs.Levels.{Limits, afternoonLevel, morningLevel}
 use Rattle.rules.specs.Questions.{aboutBook, decided, positionsValid, refusal, userValid}

@@ -8,21 +8,21 @@ use native.Mathlib.Omega.{arith}
 use lib.Dec.{T, eqb, ltb→lt}
 use lib.IntN.{ℤ, pos, negℤ, _+ℤ_, +ℤ-idr}
 use lib.ListN.{length, length-map}
-use Rattle.integers.proofs.Linear.{parts-add, eq-parts, posPart-neg, negPart-neg, posPart-pos, negPart-pos}
-use Rattle.integers.specs.Parts.{posPart, negPart}
-use Rattle.integers.specs.Sums.{sum, sumℤ}
+use Rattle.base.proofs.Linear.{parts-add, eq-parts, posPart-neg, negPart-neg, posPart-pos, negPart-pos}
+use Rattle.base.specs.Parts.{posPart, negPart}
+use Rattle.base.specs.Sums.{sum, sumℤ}
 use Rattle.laws.proofs.Areas.{at-add}
 use Rattle.laws.proofs.Moved.{Moved}
 use Rattle.laws.proofs.Positions.{parts-defined, position-is, eqbℤ-refl}
 use Rattle.laws.specs.Sound.{Sound}
-use Rattle.laws.proofs.Tests.{and-l, and-r, and-i, by-test, map-by, eqb-comm}
+use Rattle.base.proofs.Tests.{and-l, and-r, and-i, by-test, map-by, eqb-comm}
 use Rattle.laws.proofs.Trades.{parts-lost}
 use Rattle.laws.proofs.Users.{map-sum, trades-map, idsRise-map}
 use Rattle.laws.specs.Books.{anew, repositioned}
 use Rattle.laws.specs.Trades.{Framed, Pairwise, ended, then, leftMwh, leftWorth}
 use Rattle.rules.specs.Book.{at, User, Trade, Book, sold, bought, definedPosition, dealt, bilateralForDay}
 use Rattle.rules.specs.Changes.{change, moved}
-use Rattle.rules.specs.Lists.{all}
+use Rattle.base.specs.Lists.{all}
 use Rattle.rules.specs.Questions.{countsValid, userValid, tradeValid, positionsValid, codesValid, guaranteesValid, positionValid, versionValid}
 use Rattle.rules.specs.Reduction.{lost, settleOne, settle, withTrades}
 
@@ -232,7 +232,7 @@ repositioned-same : (ts : List Trade) (u : User) → repositioned ts u .party �
 unfolding repositioned
 repositioned-same ts u = refl
 
-pairs-length : {ts ns : List Trade} → Pairwise Framed ts ns → length ns ≡ length ts
+pub pairs-length : {ts ns : List Trade} → Pairwise Framed ts ns → length ns ≡ length ts
 pairs-length ended = refl
 pairs-length (then p ps) = ap suc (pairs-length ps)
 

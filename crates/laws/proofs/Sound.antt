@@ -5,9 +5,9 @@ use Prim.Native.Nat.{ℕ}
 use lib.Dec.{T}
 use Rattle.laws.proofs.Refusals.{first-yes, yes-first}
 use Rattle.laws.specs.Sound.{Sound}
-use Rattle.laws.proofs.Tests.{and-l, and-r, and-i}
+use Rattle.base.proofs.Tests.{and-l, and-r, and-i}
 use Rattle.rules.specs.Book.{Book}
-use Rattle.rules.specs.Lists.{all}
+use Rattle.base.specs.Lists.{all}
 use Rattle.rules.specs.Questions.{refusal, aboutBook, isNone, accepted, countsValid, idsRise, userValid, tradeValid, positionsValid, headerValid, usersValid, versionValid}
 
 pub sound-of : (b : Book) → refusal (aboutBook b) ≡ none → Sound b

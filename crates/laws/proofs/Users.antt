@@ -7,11 +7,11 @@ use native.Mathlib.Nat.{le-of-eq}
 use native.Mathlib.Omega.{arith}
 use lib.Dec.{T, eqb, ltb, eqb→eq, ltb→lt}
 use lib.IntN.{ℤ, _+ℤ_, +ℤ-assoc, +ℤ-comm}
-use Rattle.integers.specs.Sums.{sumℤ}
-use Rattle.laws.proofs.Tests.{and-l, and-r, and-i, by-test, all-by}
+use Rattle.base.specs.Sums.{sumℤ}
+use Rattle.base.proofs.Tests.{and-l, and-r, and-i, by-test, all-by}
 use Rattle.rules.specs.Book.{User, Trade, find}
 use Rattle.rules.specs.Changes.{change}
-use Rattle.rules.specs.Lists.{all, any}
+use Rattle.base.specs.Lists.{all, any}
 use Rattle.rules.specs.Questions.{known, idsRise, tradeValid, partiesValid}
 
 -- ---- a change that keeps every id

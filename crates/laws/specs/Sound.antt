@@ -1,7 +1,7 @@
 -- What a book that passes the questions 2 to 7 is, as a record of facts: one for each question, two for question 5. Assumes nothing.
 use lib.Dec.{T}
 use Rattle.rules.specs.Book.{Book}
-use Rattle.rules.specs.Lists.{all}
+use Rattle.base.specs.Lists.{all}
 use Rattle.rules.specs.Questions.{countsValid, headerValid, idsRise, positionsValid, tradeValid, userValid, versionValid}
 
 -- an accepted book

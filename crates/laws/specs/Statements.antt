@@ -4,7 +4,7 @@ use mathlib.Core.List.{List·Memᴰ}
 use mathlib.Core.Path.{_≡_}
 use Prim.Native.Nat.{_+_, _<_, _^_, _≤_, max, min, ℕ}
 use lib.Dec.{T}
-use Rattle.integers.specs.Sums.{sumℤ}
+use Rattle.base.specs.Sums.{sumℤ}
 use Rattle.laws.specs.Books.{anew}
 use Rattle.laws.specs.Trades.{cutsWithin, Lowered, Pairwise, eligibleWorth}
 use Rattle.rules.specs.Book.{Book, User, at, find}

@@ -6,15 +6,15 @@ use mathlib.Core.Path.{_≡_, refl, sym, ap, _∙_}
 use Prim.Native.Nat.{ℕ, _<_}
 use lib.Dec.{T, ltb, ltb→lt, lt→ltb}
 use lib.IntN.{ℤ, _+ℤ_}
-use Rattle.format.proofs.Passed.{passed-of}
-use Rattle.format.proofs.Written.{bookOf-bytesOf}
-use Rattle.format.specs.Book.{bookOf, bytesOf}
-use Rattle.format.specs.Questions.{aboutBytes, aboutFields, aboutForm}
-use Rattle.format.specs.Steps.{Called, inBytes, stepBytes}
+use Rattle.book_format.proofs.Passed.{passed-of}
+use Rattle.book_format.proofs.Written.{bookOf-bytesOf}
+use Rattle.book_format.specs.Book.{bookOf, bytesOf}
+use Rattle.book_format.specs.Questions.{aboutBytes, aboutFields, aboutForm}
+use Rattle.book_format.specs.Steps.{Called, inBytes, stepBytes}
 use Rattle.laws.proofs.Posting.{posting-sound}
 use Rattle.laws.proofs.Refusals.{append-yes, first-yes, number-none, numbered, refusal-next}
 use Rattle.laws.specs.Sound.{Sound}
-use Rattle.laws.proofs.Tests.{and-i, and-l, and-r}
+use Rattle.base.proofs.Tests.{and-i, and-l, and-r}
 use Rattle.requests.proofs.Passed.{accepted-opening, passed-called, passed-carried}
 use Rattle.requests.specs.Carried.{Carried}
 use Rattle.requests.specs.Request.{limitsOn, openingNumber, requestOf}
@@ -22,7 +22,7 @@ use Rattle.rules.specs.Book.{Book, at, find}
 use Rattle.rules.specs.Calls.{posting, Answer, about, effect, entryInRange, idKnown, only}
 use Rattle.rules.specs.Changes.{change, posted, withUsers}
 use Rattle.rules.specs.Levels.{Limits}
-use Rattle.rules.specs.Lists.{all}
+use Rattle.base.specs.Lists.{all}
 use Rattle.rules.specs.Questions.{decided, known, numberOf, refusal}
 use Rattle.rules.specs.Signed.{within}
 

@@ -9,7 +9,7 @@ use Rattle.laws.proofs.Areas.{at-add}
 use Rattle.laws.proofs.Changed.{keeps-party}
 use Rattle.rules.specs.Book.{PerArea, Party, User, at, find}
 use Rattle.rules.specs.Changes.{add, change, posted}
-use Rattle.rules.specs.Lists.{any}
+use Rattle.base.specs.Lists.{any}
 use Rattle.rules.specs.Questions.{known}
 
 -- ---- amounts added one after the other

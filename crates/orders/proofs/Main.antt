@@ -8,14 +8,14 @@ use native.Mathlib.Omega.{arith}
 use borrow.Author.Tests.{le-leb}
 use lib.Dec.{T, eqb→eq, leb→le}
 use lib.IntN.{ℤ, natAbs, _+ℤ_, +ℤ-assoc}
-use Rattle.format.proofs.Passed.{passed-of}
-use Rattle.format.specs.Book.{bookOf, bytesOf}
+use Rattle.book_format.proofs.Passed.{passed-of}
+use Rattle.book_format.specs.Book.{bookOf, bytesOf}
 use Rattle.requests.specs.Carried.{Carried}
 use Rattle.requests.specs.Request.{Request, openingNumber, requestOf}
-use Rattle.integers.proofs.Linear.{abs-parts, parts-add, posPart-of}
-use Rattle.integers.specs.Parts.{posPart, negPart}
+use Rattle.base.proofs.Linear.{abs-parts, parts-add, posPart-of}
+use Rattle.base.specs.Parts.{posPart, negPart}
 use Rattle.laws.proofs.Bounds.{entry-le}
-use Rattle.laws.proofs.Tests.{and-l, and-r}
+use Rattle.base.proofs.Tests.{and-l, and-r}
 use Rattle.laws.proofs.Users.{all-find}
 use Rattle.orders.proofs.Accepted.{postedBook, Accepted, accepted, book-left, bytes-left, carried, opened}
 use Rattle.orders.proofs.Changes.{change-swap, change-twice, entry-posted, find-change, posted-keeps, posted-swap, posted-twice}
@@ -23,7 +23,7 @@ use Rattle.orders.specs.Orders.{PostedTwice, PostingsAdd, Posting, callO
 use Rattle.rules.specs.Book.{Book, User, at, find}
 use Rattle.rules.specs.Calls.{posting, Answer, only}
 use Rattle.rules.specs.Changes.{change, posted, withUsers}
-use Rattle.rules.specs.Lists.{all}
+use Rattle.base.specs.Lists.{all}
 use Rattle.rules.specs.Questions.{userValid}
 use Rattle.rules.specs.Signed.{within}
 use Rattle.sequence.specs.Links.{Link, Linked, ended, isAccepted, requestsOf, then}

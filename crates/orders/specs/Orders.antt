@@ -9,7 +9,7 @@ use lib.IntN.{ℤ, _+ℤ_}
 use Rattle.requests.specs.Carried.{Carried}
 use Rattle.requests.specs.Request.{requestOf}
 use Rattle.rules.specs.Calls.{Call, posting, Answer, only}
-use Rattle.rules.specs.Lists.{all}
+use Rattle.base.specs.Lists.{all}
 use Rattle.rules.specs.Signed.{within}
 use Rattle.sequence.specs.Links.{Link, Linked, requestsOf, isAccepted}
 

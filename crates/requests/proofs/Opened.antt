@@ -5,19 +5,19 @@ use mathlib.Core.Path.{_≡_, _∙_, ap, refl, sym}
 use Prim.Native.Nat.{ℕ, suc, zero}
 use lib.Dec.{T, ltb}
 use Rattle.laws.proofs.Refusals.{numbered}
-use Rattle.laws.proofs.Tests.{all-append}
+use Rattle.base.proofs.Tests.{all-append}
 use Rattle.rules.specs.Book.{Book}
 use Rattle.rules.specs.Calls.{Answer, Call, Result, about, effect}
 use Rattle.rules.specs.Levels.{Limits}
-use Rattle.rules.specs.Lists.{all}
+use Rattle.base.specs.Lists.{all}
 use Rattle.rules.specs.Queries.{Query, aboutQuery, found, onlyNumber}
 use Rattle.rules.specs.Questions.{decided, numberOf, refusal}
-use Rattle.format.proofs.After.{asked-after, number-after}
-use Rattle.format.proofs.Formed.{bytes-numbered}
-use Rattle.format.specs.After.{CalledAfter, after, replyAfter, stepAfter, unchanged}
-use Rattle.format.specs.Book.{bookOf}
-use Rattle.format.specs.Questions.{aboutBytes, bookNumber}
-use Rattle.format.specs.Steps.{InBytes, inBytes}
+use Rattle.book_format.proofs.After.{asked-after, number-after}
+use Rattle.book_format.proofs.Formed.{bytes-numbered}
+use Rattle.book_format.specs.After.{CalledAfter, after, replyAfter, stepAfter, unchanged}
+use Rattle.book_format.specs.Book.{bookOf}
+use Rattle.book_format.specs.Questions.{aboutBytes, bookNumber}
+use Rattle.book_format.specs.Steps.{InBytes, inBytes}
 use Rattle.store.specs.Store.{aboutStore, storeNumber}
 use Rattle.requests.specs.Carried.{Admitted, Carried}
 use Rattle.requests.specs.Request.{Outcome, Request, Setting, aboutSetting, carriedOut, enquiry, limitsOn, opening, openingNumber, refused, request}

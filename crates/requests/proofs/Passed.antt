@@ -4,11 +4,11 @@ use mathlib.Core.Path.{_≡_, _∙_, ap, refl, sym}
 use Prim.Native.Nat.{ℕ, suc, zero}
 use native.Mathlib.Omega.{arith}
 use Rattle.rules.specs.Calls.{Answer, only}
-use Rattle.format.proofs.After.{step-opened}
-use Rattle.format.specs.After.{after, stepAfter, unchanged}
-use Rattle.format.specs.Book.{bookOf}
-use Rattle.format.specs.Questions.{bookNumber}
-use Rattle.format.specs.Steps.{Called, stepBytes}
+use Rattle.book_format.proofs.After.{step-opened}
+use Rattle.book_format.specs.After.{after, stepAfter, unchanged}
+use Rattle.book_format.specs.Book.{bookOf}
+use Rattle.book_format.specs.Questions.{bookNumber}
+use Rattle.book_format.specs.Steps.{Called, stepBytes}
 use Rattle.store.specs.Store.{storeNumber}
 use Rattle.requests.proofs.Opened.{opening-number, outcome, request-opened}
 use Rattle.requests.specs.Carried.{Carried}

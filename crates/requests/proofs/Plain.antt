@@ -7,18 +7,18 @@ use native.Mathlib.Omega.{arith}
 use lib.Dec.{T, ltb, ltb→lt}
 use lib.ListN.{drop, take}
 use Rattle.laws.proofs.Refusals.{numbered, refusal-is}
-use Rattle.laws.proofs.Tests.{all-append}
+use Rattle.base.proofs.Tests.{all-append}
 use Rattle.rules.specs.Calls.{Answer, Call, idKnown}
 use Rattle.rules.specs.Levels.{today}
-use Rattle.rules.specs.Lists.{all}
+use Rattle.base.specs.Lists.{all}
 use Rattle.rules.specs.Queries.{Query, Reply, aRecord, aboutQuery, found, onlyNumber, shownRecord}
 use Rattle.rules.specs.Questions.{Question, decided, numberOf, refusal}
-use Rattle.format.proofs.After.{step-opened}
-use Rattle.format.proofs.Formed.{bytes-numbered}
-use Rattle.format.specs.After.{after, stepAfter}
-use Rattle.format.specs.Book.{bookOf, userAt, userSize, versionOf}
-use Rattle.format.specs.Questions.{aboutBytes, bookNumber}
-use Rattle.format.specs.Steps.{Called, placeOf, replyBytes, shownPart, stepBytes}
+use Rattle.book_format.proofs.After.{step-opened}
+use Rattle.book_format.proofs.Formed.{bytes-numbered}
+use Rattle.book_format.specs.After.{after, stepAfter}
+use Rattle.book_format.specs.Book.{bookOf, userAt, userSize, versionOf}
+use Rattle.book_format.specs.Questions.{aboutBytes, bookNumber}
+use Rattle.book_format.specs.Steps.{Called, placeOf, replyBytes, shownPart, stepBytes}
 use Rattle.store.specs.Store.{aboutStore, limitsOf}
 use Rattle.requests.proofs.Opened.{outcome, request-opened}
 use Rattle.requests.specs.Carried.{Carried, partShown}

@@ -6,9 +6,9 @@ use lib.ListN.{take, drop}
 use Rattle.rules.specs.Calls.{Answer}
 use Rattle.rules.specs.Levels.{Limits}
 use Rattle.rules.specs.Queries.{shownRecord}
-use Rattle.format.specs.After.{after}
-use Rattle.format.specs.Book.{bookOf, userAt, userSize, versionOf}
-use Rattle.format.specs.Steps.{placeOf}
+use Rattle.book_format.specs.After.{after}
+use Rattle.book_format.specs.Book.{bookOf, userAt, userSize, versionOf}
+use Rattle.book_format.specs.Steps.{placeOf}
 use Rattle.requests.specs.Request.{Request, Setting, enquiry, limitsOn, openingNumber, request}
 
 -- a call: bytes before, answer, bytes after

@@ -7,8 +7,8 @@ use Rattle.rules.specs.Calls.{Answer, Call, Result, about, effect, only}
 use Rattle.rules.specs.Levels.{Limits}
 use Rattle.rules.specs.Queries.{Query, Reply, aboutQuery, found, onlyNumber}
 use Rattle.rules.specs.Questions.{Question, aboutBook, decided, numberOf, refusal}
-use Rattle.format.specs.Book.{bookOf, bytesOf}
-use Rattle.format.specs.Questions.{aboutBytes}
+use Rattle.book_format.specs.Book.{bookOf, bytesOf}
+use Rattle.book_format.specs.Questions.{aboutBytes}
 use Rattle.store.specs.Store.{aboutStore, limitsOf}
 
 -- ---- what is asked for

@@ -6,14 +6,14 @@ use Prim.Native.Nat.{ℕ, _+_, _*_, _<_}
 use native.Mathlib.Omega.{arith}
 use lib.Dec.{leb, ltb}
 use lib.ListN.{length, getD}
-use Rattle.dealings.specs.Parties.{cutBefore, isCut}
-use Rattle.positions.specs.Twelve.{TwelveOf}
+use Rattle.risk_holdings.specs.Parties.{cutBefore, isCut}
+use Rattle.book_sums.specs.Twelve.{TwelveOf}
 use Rattle.rules.specs.Book.{Book, User, nobody}
 use Rattle.rules.specs.Day.{call, callDue, clear, quiet, short, state}
 use Rattle.rules.specs.Levels.{Limits, afternoonLevel, buys, calledIn, exceedsMargin, exposure, flagged, holding, partyTo, sells, shipper, shortOfCover}
-use Rattle.sales.proofs.Cover.{flagged-next, level-next}
-use Rattle.sales.specs.Cover.{AllNext, flaggedFrom, levelFrom}
-use Rattle.risk_user.specs.Account.{PositionsOf, flaggedAt, heldAt, levelAt}
+use Rattle.laws_sales.proofs.Cover.{flagged-next, level-next}
+use Rattle.laws_sales.specs.Cover.{AllNext}
+use Rattle.risk_user.specs.UserAt.{PositionsOf, flaggedAt, heldAt, levelAt}
 use Rattle.risk_user.specs.States.{stateBy}
 
 module _ (b : Book) {sums ps : List ℕ} (w : TwelveOf (b .users) (b .trades) sums) (p : PositionsOf (b .users) ps) (i : ℕ) (k : i < length (b .users)) where
@@ -34,13 +34,13 @@ module _ (b : Book) {sums ps : List ℕ} (w : TwelveOf (b .users) (b .trades) su
 
   module _ (limits : Limits) where
     pub level-own : levelAt limits (b .header .prices) (b .users) sums ps i ≡ afternoonLevel limits b (getD (b .users) i nobody)
-    unfolding levelAt levelFrom afternoonLevel
+    unfolding levelAt afternoonLevel
     level-own = level-next held-own limits (b .header .prices) (getD (b .users) i nobody)
 
     -- flagged, or party to a trade standing below notified
     pub called-own : {r cut : Bool} → r ≡ (flaggedAt limits (b .header .prices) (b .users) ps i || cut) → cut ≡ cutBefore (getD (b .users) i nobody .party .id) (b .trades)
         → r ≡ calledIn limits b (getD (b .users) i nobody)
-    unfolding flaggedAt flaggedFrom heldAt exposure calledIn flagged cutBefore isCut partyTo sells buys
+    unfolding flaggedAt heldAt exposure calledIn flagged cutBefore isCut partyTo sells buys
     called-own {r} {cut} e c = e ∙ ap₂ (λ (x y : Bool). x || y) (flagged-next held-own limits (b .header .prices) (getD (b .users) i nobody)) c
 
 module _ (limits : Limits) (b : Book) (u : User) {level : ℕ} (e : level ≡ afternoonLevel limits b u) where

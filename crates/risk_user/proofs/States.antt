@@ -5,11 +5,11 @@ use Prim.Native.Nat.{ℕ, _-_, _<_, _≤_}
 use native.Mathlib.Omega.{arith}
 use lib.Dec.{leb, ltb}
 use borrow.Author.Tests.{eq-eqb, ne-eqb, lt-ltb, le-ltb, le-leb}
-use Rattle.integers.proofs.Linear.{by-order}
+use Rattle.base.proofs.Linear.{by-order}
 use Rattle.rules.specs.Book.{User}
 use Rattle.rules.specs.Day.{clear, short, call, quiet}
 use Rattle.rules.specs.Levels.{Limits, exceedsMargin, shipper}
-use Rattle.risk_user.specs.Account.{targetOf}
+use Rattle.risk_user.specs.UserAt.{targetOf}
 use Rattle.risk_user.specs.States.{stateBy}
 
 module _ (limits : Limits) (u : User) (level : ℕ) where

@@ -1,3 +1,3 @@
 -- What is read of the user at a place, and its state.
-pub mod Account
+pub mod UserAt
 pub mod States

@@ -1,10 +1,10 @@
 -- The state of the rules that each state of the code is, and the state of a user by its level and by whether it is called in. Assumes nothing.
 use mathlib.Core.Bool.{Bool, cond, _&&_}
 use Prim.Native.Nat.{ℕ}
-use lib.Dec.{leb, ltb}
+use lib.Dec.{leb}
 use Rattle.rules.specs.Book.{User}
 use Rattle.rules.specs.Day as day
-use Rattle.rules.specs.Levels.{Limits, exceedsMargin, shipper}
+use Rattle.rules.specs.Levels.{Limits, exceedsMargin, shipper, uncovered}
 use Rattle.risk_user.specs.declared.State.{State}
 use Rattle.risk_user.specs.declared.State.the-variants.{Clear, Short, Call, Quiet}
 
@@ -19,6 +19,6 @@ stateOf Quiet = day.quiet
 unfoldable pub stateBy : Limits → User → ℕ → Bool → day.State
 stateBy limits u level called =
     cond (shipper u)
-    (cond (called && (exceedsMargin limits level u && ltb (u .party .assigned) level)) day.short
+    (cond (called && uncovered limits u level) day.short
     (cond (called && (exceedsMargin limits level u && leb level (u .party .assigned))) day.call day.quiet))
     day.clear

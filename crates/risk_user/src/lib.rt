@@ -1,43 +1,85 @@
-// One user's account: the level, the flag, called in, the target and the state of the user at a place. The money is read from the bytes of a book; positions, and what was
-// sold and bought for d+1, from arrays with three positions and twelve sums for each place, so that a run asks it of the book that it has come to as well.
-use units::Area;
+// What is read of one user: its record, its money, its holdings and positions; and its level, called in, target and state, asked of these.
+// The money is read from the bytes of a book; positions, and what was sold and bought, from arrays with three positions and twelve sums for
+// each place, so that a run asks it of the book that it has come to as well.
+ghost use mathlib.Core.Path.{_≡_};
+ghost use Prim.Native.Nat.{_+_, _*_, _≤_, _<_, _^_};
+ghost use lib.ListN.{length, drop, getD};
+ghost use Rattle.rules.specs.Book.{at, nobody};
+ghost use Rattle.rules.specs.Levels.{exceedsMargin};
+ghost use Rattle.units.specs.Limits.{asLimits};
+ghost use Rattle.fields.specs.Layout.{recordsOf};
+ghost use Rattle.book_records.specs.User.{asAmounts};
+ghost use Rattle.book_records.specs.Trade.{tradeOf};
+ghost use Rattle.book_format.specs.Book.{usersOf, bookOf};
+ghost use Rattle.book_format.specs.Places.{UserIn};
+ghost use Rattle.book_format.specs.Questions.{Formed};
+ghost use Rattle.risk_holdings.specs.Parties.{isCut, cutBefore};
+ghost use Rattle.risk_holdings.specs.Holdings.{asHolding, HoldingWithin};
+ghost use Rattle.book_sums.specs.Twelve.{Low};
+ghost use mathlib.Core.Bool.{_||_};
+ghost use Rattle.units.specs.Amounts.{balance};
+ghost use Rattle.units.specs.Prices.{asPrices};
+ghost use Rattle.risk_user.specs.UserAt.{DayOf, HeldWith, flaggedAt, heldBy, levelAt, positionsIn, targetAt, targetOf};
+ghost use Rattle.risk_user.specs.States.{stateBy, stateOf};
+use risk_holdings::Holding;
+use risk_holdings::Holdings;
 use units::Balance;
 use units::Cents;
 use units::Limits;
 use units::Mwh;
 use units::Net;
 use units::Prices;
-ghost use mathlib.Core.Bool.{_||_};
-ghost use mathlib.Core.List.{[]};
-ghost use mathlib.Core.Path.{_≡_};
-ghost use Prim.Native.Nat.{_*_, _≤_, _<_, _^_};
-ghost use lib.ListN.{getD};
-ghost use Rattle.format.specs.Book.{usersOf};
-ghost use Rattle.integers.specs.Parts.{posPart, negPart};
-ghost use Rattle.positions.specs.Twelve.{Low};
-ghost use Rattle.rules.specs.Areas.{referencePrice};
-ghost use Rattle.rules.specs.Book.{nobody};
-ghost use Rattle.rules.specs.Levels.{afternoonNeed, exceedsMargin, exposure, stock};
-ghost use Rattle.units.specs.Amounts.{balance, net};
-ghost use Rattle.units.specs.Prices.{InRange, asPrices};
-ghost use Rattle.units.specs.Limits.{asLimits};
-ghost use Rattle.risk_user.specs.Account.{DayOf, UserIn, flaggedAt, heldAt, levelAt, positionIn, targetAt, targetOf};
-ghost use Rattle.risk_user.specs.States.{stateBy, stateOf};
 
-// The limits and the prices of a day.
-pub struct Day {
-    pub limits: Limits,
-    pub prices: Prices,
+// ---- trades standing below notified
+
+// Is the user of an id party to the trade of 20 bytes, and stands less than was notified?
+fn is_cut(c: &[u8], id: u32) -> bool
+    requires { ⌜ length (now c) ≡ 20 ⌝ }
+    ensures { λ r. ⌜ r ≡ isCut id (tradeOf (now (c .entry))) ⌝ }
+{
+    let sells = fields::get_u32(c, 0) == id;
+    let buys = fields::get_u32(c, 4) == id;
+    let notified = fields::get_u32(c, 12);
+    let standing = fields::get_u32(c, 16);
+    (sells | buys) & (standing < notified)
 }
 
-// ---- the money of the user at a place, in the bytes
+// Is the user of an id party to one of the m trades from `at` that stands below notified?
+fn cut_in(s: &[u8], at: usize, m: usize, id: u32) -> bool
+    requires { ⌜ (m ≤ 256) × (at + 20 * m ≤ length (now s)) ⌝ }
+    ensures { λ r. ⌜ r ≡ cutBefore id (recordsOf 20 tradeOf m (drop at (now (s .entry)))) ⌝ }
+{
+    let mut i = 0;
+    let mut a = at;
+    while i < m {
+        if is_cut(&s[a..a + 20], id) {
+            return true;
+        }
+        a += 20;
+        i += 1;
+    }
+    false
+}
+
+// Is the user of an id party to a trade of a book that stands below notified?
+pub fn cut_before(s: &[u8], id: u32) -> bool
+    requires { ⌜ Formed (now s) ⌝ }
+    ensures { λ r. ⌜ r ≡ cutBefore id (bookOf (now (s .entry)) .trades) ⌝ }
+{
+    let n = fields::get_u8(s, 5) as usize;
+    let m = fields::get_u16(s, 6) as usize;
+    let at = book_format::trades_offset(s, n);
+    cut_in(s, at, m, id)
+}
+
+// ---- its record
 
 // The role: 0 is a shipper's.
 pub fn role_at(book: &[u8], place: usize) -> u8
     requires { ⌜ UserIn (now book) place ⌝ }
     ensures { λ r. ⌜ r ≡ getD (usersOf (now (book .entry))) place nobody .party .role ⌝ }
 {
-    fields::get_u8(book, 32 + 56 * place + 4)
+    fields::get_u8(book, book_format::user_offset(book, place) + 4)
 }
 
 // The charges.
@@ -45,7 +87,7 @@ fn charges_at(book: &[u8], place: usize) -> Balance
     requires { ⌜ UserIn (now book) place ⌝ }
     ensures { λ r. ⌜ balance r ≡ getD (usersOf (now (book .entry))) place nobody .party .charges ⌝ }
 {
-    Balance::of_bits(fields::get_u64(book, 32 + 56 * place + 32))
+    Balance::of_bits(fields::get_u64(book, book_format::user_offset(book, place) + 32))
 }
 
 // The assigned guarantee.
@@ -53,7 +95,7 @@ fn assigned_at(book: &[u8], place: usize) -> Cents
     requires { ⌜ UserIn (now book) place ⌝ }
     ensures { λ r. ⌜ r .0 ≡ getD (usersOf (now (book .entry))) place nobody .party .assigned ⌝ }
 {
-    Cents(fields::get_u64(book, 32 + 56 * place + 40))
+    Cents(fields::get_u64(book, book_format::user_offset(book, place) + 40))
 }
 
 // The blocked guarantee.
@@ -61,101 +103,92 @@ fn blocked_at(book: &[u8], place: usize) -> Cents
     requires { ⌜ UserIn (now book) place ⌝ }
     ensures { λ r. ⌜ r .0 ≡ getD (usersOf (now (book .entry))) place nobody .blocked ⌝ }
 {
-    Cents(fields::get_u64(book, 32 + 56 * place + 48))
+    Cents(fields::get_u64(book, book_format::user_offset(book, place) + 48))
 }
 
-// ---- energies of the user at a place in an area
+// ---- what it holds
 
-// The position.
-fn position_at(positions: &[u32; 192], place: usize, area: u8) -> Net
-    requires { ⌜ (place < 64) × (area < 3) ⌝ }
-    ensures { λ r. ⌜ net r ≡ positionIn (now (positions .entry)) place area ⌝ }
+// The positions of the user at a place, for each area.
+fn positions_at(positions: &[u32; 192], place: usize) -> [Net; 3]
+    requires { ⌜ place < 64 ⌝ }
+    ensures { λ r. ⌜ asAmounts r ≡ positionsIn (now (positions .entry)) place ⌝ }
 {
-    let k = 3 * place + area as usize;
-    Net(positions[k])
+    let k = 3 * place;
+    let pvb = Net(positions[k]);
+    let tvb = Net(positions[k + 1]);
+    let avb = Net(positions[k + 2]);
+    [pvb, tvb, avb]
 }
 
-// A number of 32 bits in 64.
-fn wide(x: u32) -> u64
-    ensures { λ r. ⌜ r ≡ x ⌝ }
+// A number of 32 bits as an energy.
+fn energy(x: u32) -> Mwh
+    ensures { λ r. ⌜ r .0 ≡ x ⌝ }
 {
-    x as u64
+    Mwh(x as u64)
 }
 
 // One of the twelve sums.
-fn sum_at(sums: &[u32; 768], k: usize) -> u64
+fn sum_at(sums: &[u32; 768], k: usize) -> Mwh
     requires { ⌜ Low (now sums) × (k < 768) ⌝ }
-    ensures { λ r. ⌜ (r ≡ getD (now (sums .entry)) k 0) × (r ≤ 25600000) ⌝ }
+    ensures { λ r. ⌜ (r .0 ≡ getD (now (sums .entry)) k 0) × (r .0 ≤ 25600000) ⌝ }
 {
-    wide(sums[k])
+    energy(sums[k])
 }
 
-// What a long position takes off the afternoon's need: nothing in PVB.
-fn stock_at(positions: &[u32; 192], place: usize, area: u8) -> Mwh
-    requires { ⌜ (place < 64) × (area < 3) ⌝ }
-    ensures { λ r. ⌜ r .0 ≡ stock area (heldAt [] (now (positions .entry)) place area) ⌝ }
-    ensures { λ r. ⌜ r .0 < 2 ^ 31 ⌝ }
-{
-    if area == Area::PVB {
-        return Mwh(0);
-    }
-    position_at(positions, place, area).long()
-}
-
-// The afternoon's need, for d+1, and never below 0.
-fn need_at(sums: &[u32; 768], positions: &[u32; 192], place: usize, area: u8) -> Mwh
-    requires { ⌜ Low (now sums) × (place < 64) × (area < 3) ⌝ }
-    ensures { λ r. ⌜ r .0 ≡ posPart (afternoonNeed area (heldAt (now (sums .entry)) (now (positions .entry)) place area)) ⌝ }
-    ensures { λ r. ⌜ r .0 ≤ 2 ^ 42 ⌝ }
-{
-    let k = 12 * place + area as usize;
-    let sold = sum_at(sums, k + 3);
-    let covered = sum_at(sums, k + 9) + stock_at(positions, place, area).0;
-    if sold < covered {
-        return Mwh(0);
-    }
-    Mwh(sold - covered)
-}
-
-// ---- what they are worth
-
-// What the afternoon's need is worth in an area.
-fn need_worth(
+// What the user at a place holds in an area, with its physical entries and its positions.
+fn holding_at(
     sums: &[u32; 768],
-    positions: &[u32; 192],
     place: usize,
-    area: u8,
-    prices: Prices,
-) -> Cents
-    requires { ⌜ Low (now sums) × InRange (asPrices prices) × (place < 64) × (area < 3) ⌝ }
-    ensures { λ r. ⌜ r .0 ≡ posPart (afternoonNeed area (heldAt (now (sums .entry)) (now (positions .entry)) place area)) * referencePrice (asPrices prices) area ⌝ }
-    ensures { λ r. ⌜ r .0 ≤ 300000 * 2 ^ 42 ⌝ }
+    area: usize,
+    physical: [Net; 3],
+    position: [Net; 3],
+) -> Holding
+    requires { ⌜ Low (now sums) × (place < 64) × (area < 3) ⌝ }
+    ensures { λ r. ⌜ asHolding r ≡ heldBy (now (sums .entry)) place area (at (asAmounts physical) area) (at (asAmounts position) area) ⌝ }
+    ensures { λ r. ⌜ HoldingWithin (2 ^ 40) r ⌝ }
 {
-    holdings::worth_in(prices, area, need_at(sums, positions, place, area))
+    let k = 12 * place + area;
+    let sold = sum_at(sums, k);
+    let sold_next = sum_at(sums, k + 3);
+    let bought = sum_at(sums, k + 6);
+    let bought_next = sum_at(sums, k + 9);
+    Holding {
+        physical: physical[area],
+        position: position[area],
+        sold: sold,
+        bought: bought,
+        sold_next: sold_next,
+        bought_next: bought_next,
+    }
 }
 
-// What a short position is worth in an area.
-fn short_worth(positions: &[u32; 192], place: usize, area: u8, prices: Prices) -> Cents
-    requires { ⌜ InRange (asPrices prices) × (place < 64) × (area < 3) ⌝ }
-    ensures { λ r. ⌜ r .0 ≡ negPart (positionIn (now (positions .entry)) place area) * referencePrice (asPrices prices) area ⌝ }
-    ensures { λ r. ⌜ r .0 ≤ 300000 * 2 ^ 42 ⌝ }
+// What the user at a place holds, with its physical entries and its positions.
+pub fn holdings_at(
+    sums: &[u32; 768],
+    place: usize,
+    physical: [Net; 3],
+    position: [Net; 3],
+) -> Holdings
+    requires { ⌜ Low (now sums) × (place < 64) ⌝ }
+    ensures { λ r. ⌜ HeldWith (now (sums .entry)) place (asAmounts physical) (asAmounts position) r ⌝ }
 {
-    holdings::worth_in(prices, area, position_at(positions, place, area).short())
+    let pvb = holding_at(sums, place, 0, physical, position);
+    let tvb = holding_at(sums, place, 1, physical, position);
+    let avb = holding_at(sums, place, 2, physical, position);
+    Holdings {
+        pvb: pvb,
+        tvb: tvb,
+        avb: avb,
+    }
 }
 
-// The sum over the areas of what short positions are worth.
-fn exposure_at(positions: &[u32; 192], place: usize, prices: Prices) -> Cents
-    requires { ⌜ InRange (asPrices prices) × (place < 64) ⌝ }
-    ensures { λ r. ⌜ r .0 ≡ exposure (asPrices prices) (heldAt [] (now (positions .entry)) place) ⌝ }
-    ensures { λ r. ⌜ r .0 ≤ 900000 * 2 ^ 42 ⌝ }
-{
-    let pvb = short_worth(positions, place, Area::PVB, prices);
-    let tvb = short_worth(positions, place, Area::TVB, prices);
-    let avb = short_worth(positions, place, Area::AVB, prices);
-    Cents(pvb.0 + tvb.0 + avb.0)
-}
+// ---- level, called in and target
 
-// ---- level, flag and target
+// The limits and the prices of a day.
+pub struct Day {
+    pub limits: Limits,
+    pub prices: Prices,
+}
 
 // The afternoon level of the user at a place.
 pub fn level_at(
@@ -168,27 +201,11 @@ pub fn level_at(
     requires { ⌜ DayOf (asLimits (day .limits)) (asPrices (day .prices)) (now book) × UserIn (now book) place × Low (now sums) ⌝ }
     ensures { λ r. ⌜ r .0 ≡ levelAt (asLimits (day .limits)) (asPrices (day .prices)) (usersOf (now (book .entry))) (now (sums .entry)) (now (positions .entry)) place ⌝ }
 {
-    let limits = day.limits;
-    let prices = day.prices;
     let charges = charges_at(book, place);
-    let pvb = need_worth(sums, positions, place, Area::PVB, prices);
-    let tvb = need_worth(sums, positions, place, Area::TVB, prices);
-    let avb = need_worth(sums, positions, place, Area::AVB, prices);
-    let short = exposure_at(positions, place, prices);
-    levels::floored(limits, charges, Cents(pvb.0 + tvb.0 + avb.0 + short.0))
-}
-
-// Is the user at a place flagged?
-pub fn flagged_at(book: &[u8], positions: &[u32; 192], place: usize, day: Day) -> bool
-    requires { ⌜ DayOf (asLimits (day .limits)) (asPrices (day .prices)) (now book) × UserIn (now book) place ⌝ }
-    ensures { λ r. ⌜ r ≡ flaggedAt (asLimits (day .limits)) (asPrices (day .prices)) (usersOf (now (book .entry))) (now (positions .entry)) place ⌝ }
-{
-    let prices = day.prices;
-    let energy = day.limits.flag_mwh;
-    let allowed = levels::least_reference_price(prices).worth(energy);
-    let blocked = blocked_at(book, place);
-    let short = exposure_at(positions, place, prices);
-    allowed.0 + blocked.0 < short.0
+    let position = positions_at(positions, place);
+    let physical = [Net::ZERO; 3];
+    let holdings = holdings_at(sums, place, physical, position);
+    risk_levels::afternoon_level(day.limits, day.prices, charges, holdings)
 }
 
 // Is the user at a place called in: flagged, or party to a trade standing below notified (`cut`)?
@@ -196,10 +213,9 @@ pub fn called_at(book: &[u8], positions: &[u32; 192], place: usize, cut: bool, d
     requires { ⌜ DayOf (asLimits (day .limits)) (asPrices (day .prices)) (now book) × UserIn (now book) place ⌝ }
     ensures { λ r. ⌜ r ≡ flaggedAt (asLimits (day .limits)) (asPrices (day .prices)) (usersOf (now (book .entry))) (now (positions .entry)) place || cut ⌝ }
 {
-    if cut {
-        return true;
-    }
-    flagged_at(book, positions, place, day)
+    let blocked = blocked_at(book, place);
+    let position = positions_at(positions, place);
+    risk_levels::called_in(day.limits, day.prices, blocked, position, cut)
 }
 
 // Does a level of the user at a place exceed its blocked guarantee by more than the margin?
@@ -207,9 +223,8 @@ fn exceeds_margin(book: &[u8], place: usize, level: Cents, day: Day) -> bool
     requires { ⌜ DayOf (asLimits (day .limits)) (asPrices (day .prices)) (now book) × UserIn (now book) place ⌝ }
     ensures { λ r. ⌜ r ≡ exceedsMargin (asLimits (day .limits)) (level .0) (getD (usersOf (now (book .entry))) place nobody) ⌝ }
 {
-    let margin = day.limits.margin;
     let blocked = blocked_at(book, place);
-    margin.0 + blocked.0 < level.0
+    risk_levels::exceeds_margin(day.limits, level, blocked)
 }
 
 // T where the shipper at a place, of this level and called in, is short of cover; else 0.
@@ -217,12 +232,9 @@ pub fn target_of(book: &[u8], place: usize, level: Cents, day: Day) -> u64
     requires { ⌜ DayOf (asLimits (day .limits)) (asPrices (day .prices)) (now book) × UserIn (now book) place ⌝ }
     ensures { λ r. ⌜ r ≡ targetOf (asLimits (day .limits)) (getD (usersOf (now (book .entry))) place nobody) (level .0) ⌝ }
 {
-    let assigned = assigned_at(book, place);
-    if level.0 <= assigned.0 {
-        return 0;
-    }
     if exceeds_margin(book, place, level, day) {
-        return level.0 - assigned.0;
+        let assigned = assigned_at(book, place);
+        return units::excess(level.0, assigned.0);
     }
     0
 }

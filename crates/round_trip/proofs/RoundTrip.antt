@@ -7,25 +7,25 @@ use Prim.Native.Nat.{ℕ, _*_, _+_}
 use native.Mathlib.Omega.{arith}
 use lib.Dec.{eqb, eqb→eq, leb, le→leb}
 use lib.ListN.{length, replicate}
-use Rattle.book.specs.Book.{asBook}
-use Rattle.book.specs.declared.Book.{Book}
+use Rattle.book_value.specs.Book.{asBook}
+use Rattle.book_value.specs.declared.Book.{Book}
 use Rattle.exports.specs.Answers.{ReadInto, WrittenFrom}
 use Rattle.exports.specs.Lent.{byLength}
 use Rattle.fields.specs.Field.{AllBytes}
-use Rattle.format.proofs.Formed.{book-passed}
-use Rattle.format.proofs.Passed.{Passed, passed}
-use Rattle.format.proofs.Round.{bytesOf-bookOf}
-use Rattle.format.specs.Book.{bookOf, bytesOf, tradeCount, userCount, versionOf}
-use Rattle.format.specs.Questions.{aboutBytes, aboutFields, aboutForm, bookNumber}
-use Rattle.from_image.proofs.RoundTrip.{image-book, image-length, same-counts}
-use Rattle.from_image.specs.ImageBook.{imageBook}
-use Rattle.image.specs.Image.{imageOf, readImage}
+use Rattle.book_format.proofs.Formed.{book-passed}
+use Rattle.book_format.proofs.Passed.{Passed, passed}
+use Rattle.book_format.proofs.Round.{bytesOf-bookOf}
+use Rattle.book_format.specs.Book.{bookOf, bytesOf, tradeCount, userCount, versionOf}
+use Rattle.book_format.specs.Questions.{aboutBytes, aboutFields, aboutForm, bookNumber}
+use Rattle.book_image.proofs.RoundTrip.{image-book, image-length, same-counts}
+use Rattle.book_image.specs.ImageBook.{imageBook}
+use Rattle.book_image.specs.Image.{imageOf, readImage}
 use Rattle.laws.proofs.Refusals.{append-yes, yes-first}
-use Rattle.laws.proofs.Tests.{and-i, eqb-of}
-use Rattle.opening.specs.Opened.{Opened}
+use Rattle.base.proofs.Tests.{and-i, eqb-of}
+use Rattle.book_value.specs.Opened.{Opened}
 use Rattle.rules.specs.Book as model
 use Rattle.rules.specs.Questions.{decided, numberOf, refusal}
-use Rattle.transfer.specs.Written.{Written, aboutWriting, countsInRange}
+use Rattle.book_value.specs.Written.{Written, aboutWriting, countsInRange}
 use Rattle.round_trip.specs.RoundTrip.{ImageReadAndWritten, ReadAndWritten}
 
 -- ---- accepted bytes and a part of their length

@@ -4,9 +4,9 @@ use mathlib.Core.List.{List}
 use Prim.Native.Nat.{ℕ}
 use lib.ListN.{length}
 use Rattle.fields.specs.Field.{AllBytes}
-use Rattle.book.specs.declared.Book.{Book}
-use Rattle.opening.specs.Opened.{Opened}
-use Rattle.transfer.specs.Written.{Written}
+use Rattle.book_value.specs.declared.Book.{Book}
+use Rattle.book_value.specs.Opened.{Opened}
+use Rattle.book_value.specs.Written.{Written}
 use Rattle.exports.specs.Answers.{ReadInto, WrittenFrom}
 
 -- bytes s that were read with the number 0 into the fields b, and written from these to a part of their length: the write is accepted, and the part holds the bytes

@@ -4,7 +4,7 @@ use mathlib.Core.List.{List, [], _∷_}
 use Prim.Native.Nat.{ℕ, zero, suc}
 use lib.Dec.{eqb}
 use lib.IntN.{ℤ, pos, _+ℤ_, _-ℤ_}
-use Rattle.integers.specs.Sums.{sum}
+use Rattle.base.specs.Sums.{sum}
 use Rattle.rules.specs.Areas.{Prices}
 
 -- ---- fields; what no call changes stands together

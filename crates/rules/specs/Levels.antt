@@ -3,10 +3,10 @@ use mathlib.Core.Bool.{Bool, cond, _&&_, _||_}
 use Prim.Native.Nat.{ℕ, _+_, _*_, max, min}
 use lib.Dec.{ltb, leb, eqb}
 use lib.IntN.{ℤ, pos, negℤ, _+ℤ_, _-ℤ_}
-use Rattle.integers.specs.Parts.{posPart, negPart}
-use Rattle.integers.specs.Sums.{sum}
+use Rattle.base.specs.Parts.{posPart, negPart}
+use Rattle.base.specs.Sums.{sum}
 use Rattle.rules.specs.Areas.{Prices, areas, referencePrice}
-use Rattle.rules.specs.Lists.{any}
+use Rattle.base.specs.Lists.{any}
 use Rattle.rules.specs.Book.{at, User, Trade, Book, sold, bought, find}
 
 -- The three figures that the rules take as given: MWh of a flag, cents of a call, cents of the least level.
@@ -102,13 +102,20 @@ module _ (limits : Limits) where
   unfoldable pub morningLevel : Book → User → ℕ
   morningLevel b u = floored (morningSum (b .header .prices) (holding b u) (u .party .charges))
 
-  unfoldable pub afternoonLevel : Book → User → ℕ
-  afternoonLevel b u = floored (afternoonSum (b .header .prices) (holding b u) (u .party .charges))
+  module _ (f : Prices) (u : User) (h : ℕ → Holding) where
+    -- the afternoon level of a user with these holdings
+    abbrev pub levelFrom : ℕ
+    levelFrom = floored (afternoonSum f h (u .party .charges))
 
-  -- Flagged: "sum of max(0, −position) × w, minus blocked, exceeds 30,000 × the least w"
+    -- Flagged: "sum of max(0, −position) × w, minus blocked, exceeds 30,000 × the least w"
+    abbrev pub flaggedFrom : Bool
+    flaggedFrom = ltb (limits .flagMwh * leastReferencePrice f + u .blocked) (exposure f h)
+
+  unfoldable pub afternoonLevel : Book → User → ℕ
+  afternoonLevel b u = levelFrom (b .header .prices) u (holding b u)
+
   unfoldable pub flagged : Book → User → Bool
-  flagged b u =
-      ltb (limits .flagMwh * leastReferencePrice (b .header .prices) + u .blocked) (exposure (b .header .prices) (holding b u))
+  flagged b u = flaggedFrom (b .header .prices) u (holding b u)
 
   -- Called in: "flagged, or party to a trade standing below notified"
   unfoldable pub calledIn : Book → User → Bool
@@ -118,8 +125,10 @@ module _ (limits : Limits) where
   unfoldable pub exceedsMargin : ℕ → User → Bool
   exceedsMargin level u = ltb (limits .margin + u .blocked) level
 
-  -- Short of cover: "shipper, called in, afternoon level − blocked > 1,000,000, assigned < level"
+  -- "afternoon level − blocked > 1,000,000, assigned < level"
+  abbrev pub uncovered : User → ℕ → Bool
+  uncovered u level = exceedsMargin level u && ltb (u .party .assigned) level
+
+  -- Short of cover: "shipper, called in", and a level that the guarantees do not cover
   unfoldable pub shortOfCover : Book → User → Bool
-  shortOfCover b u =
-      let level = afternoonLevel b u in
-      (shipper u && calledIn b u) && (exceedsMargin level u && ltb (u .party .assigned) level)
+  shortOfCover b u = (shipper u && calledIn b u) && uncovered u (afternoonLevel b u)

@@ -10,7 +10,7 @@ use lib.ListN.{length}
 use Rattle.rules.specs.Areas.{Prices}
 use Rattle.rules.specs.Signed.{within}
 use Rattle.rules.specs.Calendar.{realDay}
-use Rattle.rules.specs.Lists.{all, any}
+use Rattle.base.specs.Lists.{all, any}
 use Rattle.rules.specs.Book.{Header, PerArea, at, User, Trade, Book, bilateralForDay, definedPosition}
 
 -- ---- asking

@@ -10,17 +10,17 @@ use Rattle.cut_apply.specs.Cutting.{CuttablePart, loweredAt}
 use Rattle.cut_lists.proofs.Own.{sales-stay}
 use Rattle.cut_lists.specs.Sales.{SalesOf, StandingOf}
 use Rattle.cut_worth.specs.declared.Totals.{Totals}
-use Rattle.held.specs.Held.{HeldAs, noTrade}
+use Rattle.book_format.specs.Held.{HeldAs}
 use Rattle.laws.specs.Sound.{Sound}
 use Rattle.laws.specs.Trades.{Lowered, Pairwise, ended, then}
-use Rattle.rules.specs.Book.{Book, Trade}
+use Rattle.rules.specs.Book.{Book, Trade, noTrade}
 use Rattle.rules.specs.Levels.{Limits}
 use Rattle.rules.specs.Reduction.{withTrades}
 use Rattle.run_state.proofs.Grouped.{standing-all}
 use Rattle.run_state.proofs.Stays.{Stays, parties-stay, stays}
 use Rattle.run_state.specs.Running.{wholeRun}
 use Rattle.run_turns.specs.Turns.{Ran}
-use Rattle.sales.specs.Parts.{part}
+use Rattle.laws_sales.specs.Parts.{part}
 use Rattle.run_book.specs.Books.{LeftOf, LostOf, RanIn}
 use Rattle.run_reduction.specs.Books.{Listed}
 

@@ -6,7 +6,7 @@ use native.Mathlib.Numerals.{add-one}
 use native.Mathlib.Omega.{arith}
 use lib.ListN.{length, take, getD, set, length-set}
 use lib.Seq.{getD-set-other, take-suc, take-suc-set}
-use Rattle.sales.proofs.Stores.{set-front}
+use Rattle.base.proofs.Stores.{set-front}
 use Rattle.run_book.specs.Books.{LeftOf, LostOf}
 
 -- ---- copied

@@ -5,12 +5,11 @@ use mathlib.Core.Path.{_≡_, refl}
 use Prim.Native.Nat.{ℕ}
 use native.Mathlib.Omega.{arith}
 use lib.ListN.{length, take}
-use Rattle.columns.specs.Columns.{tradesIn, usersIn}
-use Rattle.format.specs.Book.{bookOf, tradeCount, tradesAt, tradesOf, userAt, userCount, usersOf}
+use Rattle.book_format.specs.Book.{bookOf, tradesOf, userCount, usersOf}
 use Rattle.rules.specs.Areas.{Prices}
 use Rattle.rules.specs.Levels.{Limits}
 use Rattle.run_state.proofs.Grouped.{going-first}
-use Rattle.risk_user.specs.Account.{PositionsOf}
+use Rattle.risk_user.specs.UserAt.{PositionsOf}
 use Rattle.run_state.specs.Going.{Going, OwedOf}
 use Rattle.run_targets.specs.Asking.{CutFlags, Opening}
 use Rattle.run_reduction.specs.Books.{Listed, Runnable}
@@ -19,14 +18,14 @@ use Rattle.run_reduction.proofs.Start.{listed-standing}
 module _ {limits : Limits} {f : Prices} {s sellers parties sums : List ℕ} (r : Runnable limits f s sellers parties sums)
     {ss origins ns areaCodes bs : List ℕ} {count : ℕ} (l : Listed (bookOf s) ss origins ns areaCodes bs count) where
   -- what the first targets are asked from
-  pub run-opening : {n m : ℕ} → n ≡ userCount s → m ≡ tradeCount s → {ps : List ℕ} {flags : List Bool} → PositionsOf (usersOf s) ps → CutFlags (usersIn n s) (tradesIn n m s) flags
+  pub run-opening : {n : ℕ} → n ≡ userCount s → {ps : List ℕ} {flags : List Bool} → PositionsOf (usersOf s) ps → CutFlags (usersOf s) (tradesOf s) flags
       → Opening f n s sums ps ss ns flags
-  unfolding bookOf usersOf tradesOf tradesAt userAt
-  run-opening {n} {m} e k {ps} {flags} p c =
+  unfolding bookOf
+  run-opening e p c =
       let q = l .sales in
       record {
-        form = r .book .held .form;
-        sound = r .book .sound;
+        form = r .book .accepted .held .form;
+        sound = r .book .accepted .sound;
         users-are = e;
         prices-are = r .prices-are;
         twelve = r .twelve;
@@ -35,7 +34,7 @@ module _ {limits : Limits} {f : Prices} {s sellers parties sums : List ℕ} (r :
         few = omega (arith, q .all, q .few);
         standing-room = l .room .standing-room;
         standing = listed-standing l refl;
-        cut = rw (e, k) at c;
+        cut = c;
       }
 
   -- the run starts at its opening book
@@ -43,4 +42,4 @@ module _ {limits : Limits} {f : Prices} {s sellers parties sums : List ℕ} (r :
       → OwedOf limits (bookOf s) ts es → length ts ≡ 64 → length es ≡ 64 → Going limits (bookOf s) (bookOf s) ms ps ts es
   unfolding bookOf
   run-going e long p ps-room w ts-room es-room =
-      going-first (r .book .sound) (listed-standing l e) p w (record { standing = long; positions = ps-room; targets = ts-room; eligible = es-room })
+      going-first (r .book .accepted .sound) (listed-standing l e) p w (record { standing = long; positions = ps-room; targets = ts-room; eligible = es-room })

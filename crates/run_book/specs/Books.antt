@@ -5,7 +5,7 @@ use Prim.Native.Nat.{ℕ, _+_, _≤_, _<_}
 use lib.ListN.{length, getD}
 use Rattle.cut_worth.specs.Totals.{totals}
 use Rattle.cut_worth.specs.declared.Totals.{Totals}
-use Rattle.held.specs.Held.{HeldAs}
+use Rattle.book_format.specs.Held.{HeldAs}
 use Rattle.rules.specs.Book.{Book}
 use Rattle.rules.specs.Levels.{Limits}
 use Rattle.run_state.specs.Running.{wholeRun}

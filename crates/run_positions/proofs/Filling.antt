@@ -5,37 +5,18 @@ use mathlib.Core.Path.{_≡_, sym, ap, subst, _∙_}
 use Prim.Native.Nat.{ℕ, zero, suc, _+_, _*_, _≤_, _<_, _^_}
 use native.Mathlib.Omega.{arith}
 use lib.Dec.{ltb}
-use lib.ListN.{length, take, drop, getD, set, length-set}
+use lib.ListN.{length, getD, set, length-set}
 use lib.Seq.{getD-set-same, getD-set-other}
 use borrow.Author.Tests.{lt-ltb, le-ltb}
-use Rattle.fields.proofs.Field.{field-part}
-use Rattle.fields.specs.Field.{field}
-use Rattle.format.proofs.Passed.{length-usersOf}
-use Rattle.format.specs.Book.{userCount, usersOf}
-use Rattle.held.proofs.Positions.{position-bytes}
-use Rattle.held.proofs.Parts.{record-at}
-use Rattle.integers.proofs.Linear.{by-order}
-use Rattle.integers.specs.Parts.{negPart}
-use Rattle.records.specs.User.{userOf}
+use Rattle.book_format.proofs.Passed.{length-usersOf}
+use Rattle.book_format.specs.Book.{userCount, usersOf}
+use Rattle.base.proofs.Linear.{by-order}
+use Rattle.base.specs.Parts.{negPart}
 use Rattle.rules.specs.Book.{at, User, nobody}
-use Rattle.rules.specs.Signed.{signedOf}
 use Rattle.run_positions.specs.Moving.{ShortIn}
-use Rattle.risk_user.specs.Account.{PositionsOf, positionIn}
+use Rattle.risk_user.specs.UserAt.{PositionsOf, positionIn}
 use Rattle.units.proofs.Amounts.{negPart-net}
 use Rattle.units.specs.Amounts.{net}
-
--- ---- bytes
-
-pub position-is : (s : List ℕ) (place area : ℕ) → place < userCount s → area < 3
-    → signedOf 32 (field 4 (32 + 56 * place + 20 + 4 * area) s) ≡ at (getD (usersOf s) place nobody .position) area
-unfolding usersOf
-position-is s place area h k =
-    let n : 32 + 56 * place + 20 + 4 * area ≡ 32 + 56 * place + (20 + 4 * area) = omega arith in
-    let c = take 56 (drop (32 + 56 * place) s) in
-    ap (λ (m : ℕ). signedOf 32 (field 4 m s)) n
-    ∙ ap (signedOf 32) (sym (field-part 4 (20 + 4 * area) (32 + 56 * place) 56 s (omega (arith, k))))
-    ∙ sym (position-bytes c area k)
-    ∙ ap (λ (u : User). at (u .position) area) (record-at 56 userOf (userCount s) place 32 s nobody h)
 
 -- ---- user by user
 

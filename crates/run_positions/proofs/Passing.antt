@@ -5,13 +5,13 @@ use Prim.Native.Nat.{ℕ, _+_, _*_, _-_, _≤_, _<_, _^_}
 use native.Mathlib.Omega.{arith}
 use lib.ListN.{length, getD, set}
 use lib.Seq.{set-getD, set-out}
-use Rattle.integers.proofs.Linear.{by-order}
+use Rattle.base.proofs.Linear.{by-order}
 use Rattle.run_positions.specs.Moving.{Movable}
 use Rattle.run_state.proofs.Moves.{one-length}
 use Rattle.run_state.specs.Asked.{movedAll, movedOne}
-use Rattle.sales.proofs.Stores.{set-each}
-use Rattle.sales.proofs.Parts.{part-first, part-none}
-use Rattle.sales.specs.Parts.{part}
+use Rattle.base.proofs.Stores.{set-each}
+use Rattle.laws_sales.proofs.Parts.{part-first, part-none}
+use Rattle.laws_sales.specs.Parts.{part}
 
 -- ---- one move
 

@@ -1,15 +1,17 @@
-// The positions of a run's users in an array, three for each place: filled in from the bytes of the opening book, and moved by the cut of a sale.
+// The positions of a run's users in an array, three for each place: filled in from the bytes of the opening book, and moved by the cut of a
+// sale.
 use units::Net;
 ghost use mathlib.Core.Path.{_≡_};
 ghost use Prim.Native.Nat.{_+_, _*_, _-_, _≤_, _<_, _^_};
 ghost use lib.Dec.{ltb};
 ghost use lib.ListN.{getD, length};
-ghost use Rattle.format.specs.Book.{userCount, usersOf};
-ghost use Rattle.format.specs.Questions.{Formed};
-ghost use Rattle.integers.specs.Parts.{negPart};
+ghost use Rattle.book_format.specs.Book.{userCount, usersOf};
+ghost use Rattle.book_format.specs.Places.{UserIn};
+ghost use Rattle.book_format.specs.Questions.{Formed};
+ghost use Rattle.base.specs.Parts.{negPart};
 ghost use Rattle.rules.specs.Book.{at, nobody};
 ghost use Rattle.run_state.specs.Asked.{movedOne};
-ghost use Rattle.risk_user.specs.Account.{PositionsOf};
+ghost use Rattle.risk_user.specs.UserAt.{PositionsOf};
 ghost use Rattle.units.specs.Amounts.{net};
 ghost use Rattle.run_positions.specs.Moving.{ShortIn};
 
@@ -17,10 +19,11 @@ ghost use Rattle.run_positions.specs.Moving.{ShortIn};
 
 // The position of the user at a place in an area, kept as the position + 2^31.
 fn position_in(book: &[u8], place: usize, area: usize) -> u32
-    requires { ⌜ Formed (now book) × (place < userCount (now book)) × (area < 3) ⌝ }
+    requires { ⌜ UserIn (now book) place × (area < 3) ⌝ }
     ensures { λ r. ⌜ net (record { 0 = r }) ≡ at (getD (usersOf (now (book .entry))) place nobody .position) area ⌝ }
 {
-    Net::of_bits(fields::get_u32(book, 32 + 56 * place + 20 + 4 * area)).0
+    let at = book_format::position_offset(book, place, area);
+    Net::of_bits(fields::get_u32(book, at)).0
 }
 
 // Fills in the three positions of each of n users.

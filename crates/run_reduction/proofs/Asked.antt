@@ -1,14 +1,13 @@
 -- Bytes that passed the questions 1 to 7 are those of a book that can be run, or reduced for a user. Assumes nothing.
 use mathlib.Core.List.{List}
-use mathlib.Core.Path.{_≡_, refl, sym, _∙_}
+use mathlib.Core.Path.{_≡_, sym, _∙_}
 use Prim.Native.Nat.{ℕ}
 use Rattle.fields.specs.Field.{AllBytes}
-use Rattle.format.proofs.Passed.{passed}
-use Rattle.format.specs.Book.{bookOf, pricesAt, tradeCount, tradesOf, usersOf}
-use Rattle.format.specs.Questions.{bookNumber}
-use Rattle.held.proofs.Held.{held-accepted}
-use Rattle.questions.proofs.Asked.{parties-found}
-use Rattle.questions.specs.Asked.{AskedOf, PartiesFound, Summed}
+use Rattle.book_format.specs.Book.{bookOf, pricesAt, tradeCount, tradesOf, usersOf}
+use Rattle.book_format.specs.Questions.{bookNumber}
+use Rattle.book_format.proofs.Held.{accepted-of}
+use Rattle.book_questions.proofs.Asked.{parties-found}
+use Rattle.book_questions.specs.Asked.{AskedOf, PartiesFound, Summed}
 use Rattle.rules.specs.Areas.{Prices}
 use Rattle.rules.specs.Levels.{Limits}
 use Rattle.units.specs.Limits.{LimitsInRange}
@@ -21,7 +20,7 @@ module _ {s : List ℕ} {n : ℕ} {sellers parties sums : List ℕ} {limits : Li
   unfolding bookOf
   found-runnable o asked passes bytes l e =
       record {
-        book = record { held = held-accepted s bytes passes; sound = passed s passes .sound; users-are = refl; trades-are = refl; placed = o .placed asked };
+        book = record { accepted = accepted-of s bytes passes; placed = o .placed asked };
         limits-in = l;
         prices-are = e;
         twelve = o .summed .twelve asked;

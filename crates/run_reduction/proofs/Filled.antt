@@ -10,8 +10,8 @@ use Rattle.cut_tiers.proofs.After.{cuts-of-same}
 use Rattle.cut_worth.specs.Rates.{Sales}
 use Rattle.rules.specs.Areas.{Prices}
 use Rattle.run_positions.specs.Moving.{Movable, ShortIn}
-use Rattle.sales.proofs.Parts.{part-most}
-use Rattle.sales.specs.Parts.{part}
+use Rattle.laws_sales.proofs.Parts.{part-most}
+use Rattle.laws_sales.specs.Parts.{part}
 use Rattle.run_reduction.specs.Reductions.{Reducible, shortIn}
 
 module _ {place from to : ℕ} {ns areas bs ps : List ℕ} (s : Sales ns areas from to) (r : Reducible place from to areas bs ps) where

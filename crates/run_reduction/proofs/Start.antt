@@ -3,15 +3,14 @@ use mathlib.Core.List.{List}
 use mathlib.Core.Path.{_≡_, _∙_}
 use Prim.Native.Nat.{ℕ}
 use lib.ListN.{length, take}
-use Rattle.cut_lists.specs.Sales.{BookIn}
-use Rattle.format.specs.Book.{bookOf, tradeCount, userCount, usersOf}
+use Rattle.book_format.specs.Book.{bookOf, usersOf}
 use Rattle.laws.proofs.Trades.{lowered-refl}
 use Rattle.rules.specs.Areas.{Prices}
 use Rattle.rules.specs.Book.{Book}
 use Rattle.rules.specs.Levels.{Limits}
 use Rattle.run_state.proofs.Stays.{with-same}
 use Rattle.run_state.proofs.Grouped.{sales-listed, standing-listed}
-use Rattle.risk_user.specs.Account.{PositionsOf}
+use Rattle.risk_user.specs.UserAt.{PositionsOf}
 use Rattle.run_state.specs.Going.{SalesIn, StandingIn}
 use Rattle.run_reduction.specs.Reductions.{Reached, RunOf}
 use Rattle.run_reduction.specs.Books.{Listed, Runnable}
@@ -31,17 +30,13 @@ module _ {b : Book} {ss origins ns areaCodes bs : List ℕ} {count : ℕ} (l : L
 -- ---- an accepted book
 
 module _ {limits : Limits} {f : Prices} {s sellers parties sums : List ℕ} (r : Runnable limits f s sellers parties sums) where
-  -- by the numbers of users and trades that were read
-  pub run-counted : {n m : ℕ} → n ≡ userCount s → m ≡ tradeCount s → BookIn n m s sellers parties
-  run-counted e k = rw (e, k) (r .book)
-
   module _ {ss origins ns areaCodes bs : List ℕ} {count : ℕ} (l : Listed (bookOf s) ss origins ns areaCodes bs count) where
     -- what stays
     pub run-stays : RunOf limits f s sums ss areaCodes bs
     run-stays =
         record {
-          form = r .book .held .form;
-          sound = r .book .sound;
+          form = r .book .accepted .held .form;
+          sound = r .book .accepted .sound;
           limits-in = r .limits-in;
           prices-are = r .prices-are;
           twelve = r .twelve;
@@ -54,7 +49,7 @@ module _ {limits : Limits} {f : Prices} {s sellers parties sums : List ℕ} (r :
     unfolding bookOf
     first-reached e long p room =
         record {
-          sound = r .book .sound;
+          sound = r .book .accepted .sound;
           lowered = lowered-refl (bookOf s .trades);
           same = with-same (bookOf s);
           standing = listed-standing l e;

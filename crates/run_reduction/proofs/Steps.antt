@@ -8,54 +8,43 @@ use native.Mathlib.Omega.{arith}
 use lib.Dec.{T, leb→le, ltb}
 use lib.ListN.{length, getD, length-map, List·getD-eq-default}
 use lib.Seq.{length-sets, sets}
-use Rattle.arrays.proofs.Fronts.{all-at}
+use Rattle.base.proofs.Fronts.{all-at}
 use Rattle.cut_tiers.proofs.After.{cuts-of-sales}
 use Rattle.cut_tiers.specs.Tiers.{cutsOf}
 use Rattle.cut_worth.specs.Rates.{Sales}
 use Rattle.fields.proofs.Sets.{getD-apart}
-use Rattle.format.proofs.Passed.{length-usersOf}
-use Rattle.format.specs.Book.{bookOf, userCount, usersOf}
-use Rattle.format.specs.Steps.{placeOf}
-use Rattle.integers.proofs.Linear.{by-order}
-use Rattle.integers.specs.Parts.{negPart, posPart}
-use Rattle.laws.proofs.Bounds.{prices-le, tariffs-pos}
+use Rattle.book_format.proofs.Passed.{length-usersOf}
+use Rattle.book_format.specs.Book.{bookOf, userCount, usersOf}
+use Rattle.book_format.specs.Steps.{placeOf}
+use Rattle.base.proofs.Linear.{by-order}
+use Rattle.base.specs.Parts.{negPart, posPart}
+use Rattle.laws.proofs.Bounds.{blocked-le, prices-le, tariffs-pos}
 use Rattle.laws.specs.Sound.{Sound}
-use Rattle.laws.proofs.Tests.{and-l, and-r}
+use Rattle.base.proofs.Tests.{and-l, and-r}
 use Rattle.rules.specs.Areas.{Prices}
-use Rattle.rules.specs.Book.{at, Book, Header, Trade, User, nobody}
+use Rattle.rules.specs.Book.{at, Book, Header, Trade, User, noTrade, nobody}
 use Rattle.rules.specs.Levels.{Limits}
 use Rattle.rules.specs.Questions.{guaranteesValid, userValid}
 use Rattle.run_state.proofs.Own.{own-areas, own-buyers}
 use Rattle.run_state.proofs.Reduced.{place-inside}
 use Rattle.run_state.proofs.Stays.{Stays, stays, users-many}
-use Rattle.risk_user.specs.Account.{positionIn, DayOf}
+use Rattle.risk_user.specs.UserAt.{positionIn, DayOf}
 use Rattle.run_reduction.specs.Reductions.{Reached, Reducible, RunOf, shortIn}
-use Rattle.sales.proofs.FirstCuts.{first-bound, first-none, own-cut-le, own-cuts-length}
-use Rattle.sales.proofs.Listed.{starts-rise}
-use Rattle.sales.proofs.Numbers.{less-length, read-at}
-use Rattle.sales.proofs.Own.{own-sales}
-use Rattle.sales.proofs.Parts.{Around, around-sets, part-here, part-length, part-most, part-stored}
-use Rattle.sales.proofs.Valid.{Sale, sale-at}
-use Rattle.sales.specs.Groups.{starts}
-use Rattle.sales.specs.Parts.{part}
-use Rattle.sales.specs.Reduced.{ownCuts, ownSales}
-use Rattle.sales.specs.Sales.{less, shortAt}
+use Rattle.laws_sales.proofs.FirstCuts.{first-bound, first-none, own-cut-le, own-cuts-length}
+use Rattle.laws_sales.proofs.Listed.{starts-rise}
+use Rattle.laws_sales.proofs.Numbers.{less-length, read-at}
+use Rattle.laws_sales.proofs.Own.{own-sales}
+use Rattle.laws_sales.proofs.Parts.{Around, around-sets, part-here, part-length, part-most, part-stored}
+use Rattle.laws_sales.proofs.Valid.{Sale, sale-at}
+use Rattle.laws_sales.specs.Groups.{starts}
+use Rattle.laws_sales.specs.Parts.{part}
+use Rattle.laws_sales.specs.Reduced.{ownCuts, ownSales}
+use Rattle.laws_sales.specs.Sales.{less, shortAt}
 use Rattle.units.proofs.Amounts.{parts-net}
 use Rattle.units.specs.Prices.{InRange}
 use Rattle.units.specs.Limits.{LimitsInRange}
 
--- every field 0: what is read past the end of a list of trades
-abbrev nothing : Trade
-nothing = record { terms = record { seller = 0; buyer = 0; area = 0; kind = 0; day = 0; notified = 0 }; standing = 0 }
-
 -- ---- an accepted book
-
-blocked-le : (u : User) → T (userValid u) → u .blocked ≤ 1000000000000
-unfolding userValid guaranteesValid
-blocked-le u t =
-    let a = leb→le (u .blocked) (u .party .assigned) (search (and-l, and-r)) in
-    let b = leb→le (u .party .assigned) 1000000000000 (search (and-l, and-r)) in
-    omega arith
 
 prices-in : (b : Book) → Sound b → InRange (b .header .prices)
 prices-in b s =
@@ -142,13 +131,13 @@ module _ {limits : Limits} {f : Prices} {s sums ss areaCodes bs : List ℕ} (q :
       sales-many = sym (length-map sales (λ t. t .standing)) ∙ ap length (sym own-standing) ∙ part-length ns from to (omega (arith, part-few, h .standing-room))
 
       -- what is known of the sale at a place
-      sale-here : (k : ℕ) → from ≤ k → k < to → Sale (b .users) (user .party .id) (getD sales (k - from) nothing)
-      sale-here k l m = sale-at (b .users) (b .trades) (user .party .id) (k - from) nothing (h .sound .trades) (omega (arith, sales-many))
+      sale-here : (k : ℕ) → from ≤ k → k < to → Sale (b .users) (user .party .id) (getD sales (k - from) noTrade)
+      sale-here k l m = sale-at (b .users) (b .trades) (user .party .id) (k - from) noTrade (h .sound .trades) (omega (arith, sales-many))
 
       -- what is read off it, from an array
-      read-here : (g : Trade → ℕ) (xs : List ℕ) → part from to xs ≡ map g sales → (k : ℕ) → from ≤ k → k < to → getD xs k 0 ≡ g (getD sales (k - from) nothing)
+      read-here : (g : Trade → ℕ) (xs : List ℕ) → part from to xs ≡ map g sales → (k : ℕ) → from ≤ k → k < to → getD xs k 0 ≡ g (getD sales (k - from) noTrade)
       read-here g xs e k l m =
-          sym (part-here xs from to k 0 l m) ∙ ap (λ (ys : List ℕ). getD ys (k - from) 0) e ∙ read-at g sales (k - from) nothing 0 (omega (arith, sales-many))
+          sym (part-here xs from to k 0 l m) ∙ ap (λ (ys : List ℕ). getD ys (k - from) 0) e ∙ read-at g sales (k - from) noTrade 0 (omega (arith, sales-many))
 
       standing-most : (k : ℕ) → from ≤ k → k < to → getD ns k 0 ≤ 100000
       standing-most k l m = omega (arith, read-here (λ t. t .standing) ns own-standing k l m, sale-here k l m .standing)
@@ -166,7 +155,7 @@ module _ {limits : Limits} {f : Prices} {s sums ss areaCodes bs : List ℕ} (q :
           omega (
             arith,
             read-here (λ t. placeOf (b .users) (t .terms .buyer)) bs own-places k l m,
-            place-inside (b .users) (getD sales (k - from) nothing .terms .buyer) (sale-here k l m .buyer),
+            place-inside (b .users) (getD sales (k - from) noTrade .terms .buyer) (sale-here k l m .buyer),
           )
 
       -- the positions that the cuts move have room for them

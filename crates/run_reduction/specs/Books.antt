@@ -2,9 +2,10 @@
 use mathlib.Core.List.{List}
 use mathlib.Core.Path.{_≡_}
 use Prim.Native.Nat.{ℕ}
-use Rattle.cut_lists.specs.Sales.{BookIn, SalesOf, SalesRoom, StandingOf}
-use Rattle.format.specs.Book.{bookOf, tradeCount, tradesOf, userCount, usersOf}
-use Rattle.positions.specs.Twelve.{Low, TwelveOf}
+use Rattle.cut_lists.specs.Sales.{SalesOf, SalesRoom, StandingOf}
+use Rattle.book_format.specs.Book.{bookOf, tradesOf, usersOf}
+use Rattle.book_parties.specs.Ids.{BookIn}
+use Rattle.book_sums.specs.Twelve.{Low, TwelveOf}
 use Rattle.rules.specs.Areas.{Prices}
 use Rattle.rules.specs.Book.{Book}
 use Rattle.rules.specs.Levels.{Limits}
@@ -12,7 +13,7 @@ use Rattle.units.specs.Limits.{LimitsInRange}
 
 -- the bytes of an accepted book, limits and prices, and the twelve sums of each user
 pub record Runnable (limits : Limits) (f : Prices) (s sellers parties sums : List ℕ) : Type 0 where
-  pub book : BookIn (userCount s) (tradeCount s) s sellers parties
+  pub book : BookIn s sellers parties
   pub limits-in : LimitsInRange limits
   pub prices-are : f ≡ bookOf s .header .prices
   pub twelve : TwelveOf (usersOf s) (tradesOf s) sums

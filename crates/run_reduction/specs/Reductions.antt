@@ -5,13 +5,13 @@ use mathlib.Core.Path.{_≡_}
 use Prim.Native.Nat.{ℕ, _+_, _*_, _≤_, _<_, _^_}
 use lib.Dec.{ltb}
 use lib.ListN.{length, getD}
-use Rattle.format.specs.Book.{bookOf, tradesOf, usersOf}
-use Rattle.format.specs.Questions.{Formed}
-use Rattle.integers.specs.Parts.{negPart}
+use Rattle.book_format.specs.Book.{bookOf, tradesOf, usersOf}
+use Rattle.book_format.specs.Questions.{Formed}
+use Rattle.base.specs.Parts.{negPart}
 use Rattle.laws.specs.Sound.{Sound}
 use Rattle.laws.specs.Trades.{Lowered, Pairwise}
-use Rattle.positions.specs.Twelve.{Low, TwelveOf}
-use Rattle.risk_user.specs.Account.{PositionsOf, positionIn}
+use Rattle.book_sums.specs.Twelve.{Low, TwelveOf}
+use Rattle.risk_user.specs.UserAt.{PositionsOf, positionIn}
 use Rattle.rules.specs.Areas.{Prices}
 use Rattle.rules.specs.Book.{Book}
 use Rattle.rules.specs.Levels.{Limits}

@@ -5,22 +5,22 @@ use mathlib.Core.Path.{_≡_, sym, ap, ap₂, _∙_}
 use Prim.Native.Nat.{ℕ, suc, _≤_, _<_}
 use native.Mathlib.Omega.{arith}
 use lib.ListN.{length, take, getD}
-use Rattle.format.specs.Steps.{placeOf}
+use Rattle.book_format.specs.Steps.{placeOf}
 use Rattle.laws.specs.Sound.{Sound}
 use Rattle.laws.proofs.Trades.{lowered-refl}
 use Rattle.rules.specs.Book.{Book, Terms}
 use Rattle.rules.specs.Levels.{Limits}
 use Rattle.run_state.proofs.Stays.{Stays, parties-stay, users-many, with-same}
 use Rattle.run_state.specs.Asked.{memberAt}
-use Rattle.risk_user.specs.Account.{PositionsOf}
+use Rattle.risk_user.specs.UserAt.{PositionsOf}
 use Rattle.run_state.specs.Going.{Going, OwedOf, Rooms, SalesIn, StandingIn}
-use Rattle.sales.proofs.Groups.{start-same}
-use Rattle.sales.proofs.Listed.{all-grouped, part-grouped, terms-many}
-use Rattle.sales.proofs.Own.{own-sales}
-use Rattle.sales.proofs.Standing.{starts-stay}
-use Rattle.sales.specs.Groups.{areasOf, grouped, standings, starts, termsOf}
-use Rattle.sales.specs.Parts.{part}
-use Rattle.sales.specs.Sales.{ownSale, salesOf}
+use Rattle.laws_sales.proofs.Groups.{start-same}
+use Rattle.laws_sales.proofs.Listed.{all-grouped, part-grouped, terms-many}
+use Rattle.laws_sales.proofs.Own.{own-sales}
+use Rattle.laws_sales.proofs.Standing.{starts-stay}
+use Rattle.laws_sales.specs.Groups.{areasOf, grouped, standings, starts, termsOf}
+use Rattle.laws_sales.specs.Parts.{part}
+use Rattle.laws_sales.specs.Sales.{ownSale, salesOf}
 
 -- ---- the lists of a book
 

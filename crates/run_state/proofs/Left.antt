@@ -8,11 +8,11 @@ use native.Mathlib.Omega.{arith}
 use lib.Dec.{ltb}
 use lib.ListN.{length, getD}
 use borrow.Author.Tests.{lt-ltb, le-ltb}
-use Rattle.integers.proofs.Linear.{by-order}
+use Rattle.base.proofs.Linear.{by-order}
 use Rattle.laws.proofs.Fuel.{cuttable-most, reduced-less, reducedBy-mwh, reducedBy-worth, run-answer, run-goes-on, run-stops}
 use Rattle.laws.proofs.Run.{has-target}
 use Rattle.laws.specs.Sound.{Sound}
-use Rattle.laws.proofs.Tests.{and-l}
+use Rattle.base.proofs.Tests.{and-l, by-case, holds}
 use Rattle.rules.specs.Book.{Book, User}
 use Rattle.rules.specs.Calls.{Answer, Result, cuttable, nextReduced, ofCuts, ofRun, only, onward, reduced}
 use Rattle.rules.specs.Levels.{Limits, shortOfCover}
@@ -20,9 +20,8 @@ use Rattle.rules.specs.Reduction.{Tally, hasEligible, target}
 use Rattle.run_state.specs.Asked.{memberAt}
 use Rattle.run_state.specs.Going.{OwedOf, owed}
 use Rattle.run_state.specs.Running.{NextFrom, wholeRun}
-use Rattle.sales.proofs.Kept.{by-case, holds}
-use Rattle.sales.proofs.Next.{next-ready, next-over}
-use Rattle.sales.specs.Cover.{due, Dues}
+use Rattle.laws_sales.proofs.Next.{next-ready, next-over}
+use Rattle.laws_sales.specs.Cover.{due, Dues}
 
 -- ---- who is next
 

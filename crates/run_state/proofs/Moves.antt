@@ -10,32 +10,28 @@ use lib.IntN.{ℤ, pos, negℤ, _+ℤ_, +ℤ-idr}
 use lib.ListN.{length, take, getD, set, length-map, length-set}
 use lib.Seq.{getD-set-same, getD-set-other, set-out, take-all}
 use borrow.Author.Tests.{eqb-true, eqb-false}
-use Rattle.format.specs.Steps.{placeOf}
-use Rattle.integers.proofs.Linear.{by-order, negPart-neg, negPart-pos, parts-add, posPart-neg, posPart-pos}
-use Rattle.integers.specs.Parts.{negPart}
+use Rattle.base.proofs.Tests.{by-case}
+use Rattle.book_format.specs.Steps.{placeOf}
+use Rattle.base.proofs.Linear.{by-order, negPart-neg, negPart-pos, parts-add, posPart-neg, posPart-pos}
+use Rattle.base.specs.Parts.{negPart}
 use Rattle.laws.proofs.Areas.{at-add}
 use Rattle.laws.specs.Sound.{Sound}
-use Rattle.rules.specs.Book.{at, Book, Trade, User, nobody}
+use Rattle.rules.specs.Book.{at, Book, Trade, User, nobody, noTrade}
 use Rattle.rules.specs.Calls.{reducedBy}
 use Rattle.rules.specs.Changes.{moved}
-use Rattle.sales.proofs.Stores.{set-each}
+use Rattle.base.proofs.Stores.{set-each}
 use Rattle.run_state.proofs.Reduced.{place-id, place-inside}
 use Rattle.run_state.specs.Asked.{movedOne, movedAll}
-use Rattle.risk_user.specs.Account.{positionIn, PositionsOf}
-use Rattle.sales.proofs.FirstCuts.{first-all, first-bound, first-length, first-next, first-none, own-cut-le, own-cuts-length}
-use Rattle.sales.proofs.Kept.{by-case}
-use Rattle.sales.proofs.Numbers.{read-at}
-use Rattle.sales.proofs.Own.{own-sales}
-use Rattle.sales.proofs.Reduced.{sales-reduced}
-use Rattle.sales.proofs.Valid.{sale-at}
-use Rattle.sales.specs.Reduced.{ownSales, ownCuts, settledFirst}
-use Rattle.sales.specs.Sales.{ownSale, settledAt}
+use Rattle.risk_user.specs.UserAt.{positionIn, PositionsOf}
+use Rattle.laws_sales.proofs.FirstCuts.{first-all, first-bound, first-length, first-next, first-none, own-cut-le, own-cuts-length}
+use Rattle.laws_sales.proofs.Numbers.{read-at}
+use Rattle.laws_sales.proofs.Own.{own-sales}
+use Rattle.laws_sales.proofs.Reduced.{sales-reduced}
+use Rattle.laws_sales.proofs.Valid.{sale-at}
+use Rattle.laws_sales.specs.Reduced.{ownSales, ownCuts, settledFirst}
+use Rattle.laws_sales.specs.Sales.{ownSale, settledAt}
 use Rattle.units.proofs.Amounts.{net-eq, parts-net}
 use Rattle.units.specs.Amounts.{net}
-
--- every field 0: what is read past the end of a list of trades
-abbrev nothing : Trade
-nothing = record { terms = record { seller = 0; buyer = 0; area = 0; kind = 0; day = 0; notified = 0 }; standing = 0 }
 
 -- ---- one position
 
@@ -152,27 +148,27 @@ module _ (b : Book) (s : Sound b) (place : ℕ) (k : place < length (b .users)) 
       let before = moved-first n (omega arith) in
       let qs = movedAll place (take n buyers) (take n codes) (take n cuts) ps in
       let us = settledFirst ownSale b seller asked n in
-      let t = getD sales n nothing in
-      let sale = sale-at (b .users) (b .trades) (seller .party .id) n nothing (s .trades) (omega arith) in
+      let t = getD sales n noTrade in
+      let sale = sale-at (b .users) (b .trades) (seller .party .id) n noTrade (s .trades) (omega arith) in
       let buyer = placeOf (b .users) (t .terms .buyer) in
       let inside = place-inside (b .users) (t .terms .buyer) (sale .buyer) in
       let area = t .terms .area in
       let c = getD cuts n 0 in
       let many = first-length own-sales b seller asked n in
-      let stands = read-at (λ x. x .standing) sales n nothing 0 (omega arith) in
+      let stands = read-at (λ x. x .standing) sales n noTrade 0 (omega arith) in
       let bound = first-bound own-sales b seller asked s n buyer area inside (sale .area) in
       let x = getD qs (3 * buyer + area) 0 in
       let here = before .each buyer area (omega (arith, many)) (sale .area) in
       let small : c ≤ x = omega (arith, own-cut-le own-sales b seller asked n, stands, sale .standing, bound .1, parts-net (record { 0 = x }), ap negPart here) in
-      let eb : getD buyers n 0 ≡ buyer = read-at (λ x. placeOf (b .users) (x .terms .buyer)) sales n nothing 0 (omega arith) in
-      let ea : getD codes n 0 ≡ area = read-at (λ x. x .terms .area) sales n nothing 0 (omega arith) in
+      let eb : getD buyers n 0 ≡ buyer = read-at (λ x. placeOf (b .users) (x .terms .buyer)) sales n noTrade 0 (omega arith) in
+      let ea : getD codes n 0 ≡ area = read-at (λ x. x .terms .area) sales n noTrade 0 (omega arith) in
       let next : movedAll place (take (suc n) buyers) (take (suc n) codes) (take (suc n) cuts) ps ≡ movedOne place buyer area c qs
       = moved-next place buyers codes cuts ps n (omega (arith, length-map sales (λ x. placeOf (b .users) (x .terms .buyer)))) (omega (arith, length-map sales (λ x. x .terms .area))) (omega (arith, own-cuts-length own-sales b seller asked))
       ∙ ap₂ (λ (i j : ℕ). movedOne place i j c qs) eb ea in
       let long = moved-length place (take n buyers) (take n codes) (take n cuts) ps in
       subst (λ (rs : List ℕ). PositionsOf (settledFirst ownSale b seller asked (suc n)) rs) (sym next)
       (subst (λ (vs : List User). PositionsOf vs (movedOne place buyer area c qs))
-      (sym (first-next own-sales b seller asked s n place buyer nothing (omega arith) k inside (sym (sale .seller)) (place-id (b .users) (t .terms .buyer) (sale .buyer))))
+      (sym (first-next own-sales b seller asked s n place buyer noTrade (omega arith) k inside (sym (sale .seller)) (place-id (b .users) (t .terms .buyer) (sale .buyer))))
       (one-moved us qs place buyer area c (omega (arith, many)) (omega (arith, many)) (sale .area) (omega (arith, many, long)) small before))
 
   -- after all

@@ -4,18 +4,18 @@ use mathlib.Core.Path.{_≡_, refl, sym, ap, fun-ext, _∙_}
 use Prim.Native.Nat.{ℕ, suc, _<_}
 use native.Mathlib.Omega.{arith}
 use lib.ListN.{length}
-use Rattle.format.specs.Steps.{placeOf}
+use Rattle.book_format.specs.Steps.{placeOf}
 use Rattle.laws.specs.Books.{repositioned}
 use Rattle.rules.specs.Book.{Book, Party, Terms, Trade, User}
 use Rattle.run_state.proofs.Stays.{Stays, party-stays, users-many}
 use Rattle.run_state.specs.Asked.{memberAt}
 use Rattle.run_state.specs.Going.{SalesIn}
-use Rattle.sales.proofs.Own.{own-sales}
-use Rattle.sales.proofs.Standing.{terms-stay}
-use Rattle.sales.specs.Groups.{starts}
-use Rattle.sales.specs.Parts.{part}
-use Rattle.sales.specs.Reduced.{ownSales}
-use Rattle.sales.specs.Sales.{salesOf}
+use Rattle.laws_sales.proofs.Own.{own-sales}
+use Rattle.laws_sales.proofs.Standing.{terms-stay}
+use Rattle.laws_sales.specs.Groups.{starts}
+use Rattle.laws_sales.specs.Parts.{part}
+use Rattle.laws_sales.specs.Reduced.{ownSales}
+use Rattle.laws_sales.specs.Sales.{salesOf}
 
 place-moved : (us : List User) (ts : List Trade) (id : ℕ) → placeOf (map (repositioned ts) us) id ≡ placeOf us id
 unfolding placeOf repositioned

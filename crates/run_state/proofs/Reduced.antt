@@ -8,36 +8,35 @@ use native.Mathlib.Omega.{arith}
 use lib.Dec.{T, eqb, ltb, eqb→eq, ltb→lt}
 use lib.ListN.{length, getD}
 use borrow.Author.Tests.{eq-eqb, ltb-false}
-use Rattle.dealings.specs.Parties.{cutBefore}
-use Rattle.format.proofs.OneUser.{place-known}
-use Rattle.format.specs.Steps.{placeOf}
+use Rattle.risk_holdings.specs.Parties.{cutBefore}
+use Rattle.book_format.proofs.OneUser.{place-known}
+use Rattle.book_format.specs.Steps.{placeOf}
 use Rattle.laws.proofs.Fuel.{reducedBy-mwh}
 use Rattle.laws.proofs.Positions.{buyer-known}
 use Rattle.laws.proofs.Run.{has-target, reducedBy-less}
 use Rattle.laws.specs.Sound.{Sound}
-use Rattle.laws.proofs.Tests.{and-l, and-r, all-by}
+use Rattle.base.proofs.Tests.{and-l, and-r, all-by, by-case, holds}
 use Rattle.laws.proofs.Trades.{framed}
 use Rattle.rules.specs.Areas.{Prices}
 use Rattle.rules.specs.Book.{Book, Header, Party, Trade, User, nobody}
 use Rattle.rules.specs.Calls.{Answer, ofCuts, reducedBy}
-use Rattle.rules.specs.Levels.{Limits, holding, shortOfCover}
-use Rattle.rules.specs.Lists.{all, any}
+use Rattle.rules.specs.Levels.{Limits, holding, levelFrom, shortOfCover}
+use Rattle.base.specs.Lists.{all, any}
 use Rattle.rules.specs.Questions.{idsRise, known, tradeValid}
 use Rattle.rules.specs.Reduction.{Tally, hasEligible, nothing, tallied, tallyAll, target}
 use Rattle.run_state.specs.Asked.{memberAt, touched}
 use Rattle.run_state.specs.Going.{owed, owedCalled}
-use Rattle.sales.proofs.Cover.{has-eligible-sales, level-next, next-holding, short-from, some-cut-buyer, some-cut-seller, target-from}
-use Rattle.sales.proofs.FirstCuts.{own-cuts-length}
-use Rattle.sales.proofs.Kept.{by-case, holds}
-use Rattle.sales.proofs.Own.{own-sales}
-use Rattle.sales.proofs.Reduced.{cover-left, sales-reduced, user-left}
-use Rattle.sales.proofs.Settled.{party-at, same-place}
-use Rattle.sales.proofs.Standing.{same-length}
-use Rattle.sales.proofs.Valid.{sales-own, sales-valid}
-use Rattle.sales.specs.Cover.{AllNext, due, levelFrom, shortFrom}
-use Rattle.sales.specs.Groups.{standings}
-use Rattle.sales.specs.Reduced.{ownSales, ownCuts, SalesReduced}
-use Rattle.sales.specs.Sales.{isParty, someCut}
+use Rattle.laws_sales.proofs.Cover.{has-eligible-sales, level-next, next-holding, short-from, some-cut-buyer, some-cut-seller, target-from}
+use Rattle.laws_sales.proofs.FirstCuts.{own-cuts-length}
+use Rattle.laws_sales.proofs.Own.{own-sales}
+use Rattle.laws_sales.proofs.Reduced.{cover-left, sales-reduced, user-left}
+use Rattle.laws_sales.proofs.Settled.{party-at, same-place}
+use Rattle.laws_sales.proofs.Standing.{same-length}
+use Rattle.laws_sales.proofs.Valid.{sales-own, sales-valid}
+use Rattle.laws_sales.specs.Cover.{AllNext, due, shortFrom}
+use Rattle.laws_sales.specs.Groups.{standings}
+use Rattle.laws_sales.specs.Reduced.{ownSales, ownCuts, SalesReduced}
+use Rattle.laws_sales.specs.Sales.{isParty, someCut}
 
 -- ---- the user of a known id stands at its place
 

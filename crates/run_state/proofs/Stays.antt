@@ -14,25 +14,24 @@ use Rattle.laws.specs.Books.{anew, repositioned}
 use Rattle.laws.specs.Trades.{Framed, Lowered, Pairwise}
 use Rattle.rules.specs.Areas.{Prices}
 use Rattle.rules.specs.Book.{Book, Header, Party, User, nobody, sold, bought}
-use Rattle.rules.specs.Levels.{Limits, Holding, exposure, holding, leastReferencePrice, shipper, exceedsMargin}
+use Rattle.rules.specs.Levels.{Limits, Holding, exposure, holding, leastReferencePrice, levelFrom, flaggedFrom, shipper, exceedsMargin}
 use Rattle.rules.specs.Reduction.{withTrades}
 use Rattle.run_state.specs.Asked.{memberAt}
-use Rattle.positions.specs.Twelve.{TwelveOf}
-use Rattle.risk_user.specs.Account.{PositionsOf, flaggedAt, heldAt, levelAt, targetAt}
+use Rattle.book_sums.specs.Twelve.{TwelveOf}
+use Rattle.risk_user.specs.UserAt.{PositionsOf, flaggedAt, heldAt, levelAt, targetAt}
 use Rattle.run_state.specs.Going.{owedCalled}
-use Rattle.sales.proofs.Cover.{sold-next, bought-next, exposure-next, level-next, short-next, target-from}
-use Rattle.sales.proofs.Settled.{settle-none}
-use Rattle.sales.specs.Cover.{AllNext, levelFrom, flaggedFrom, shortFrom}
+use Rattle.laws_sales.proofs.Cover.{sold-next, bought-next, exposure-next, level-next, short-next, target-from}
+use Rattle.laws_sales.proofs.Settled.{settle-none}
+use Rattle.laws_sales.specs.Cover.{AllNext, shortFrom}
 
 -- ---- of a user, levels and cover read the money
 
 module _ (limits : Limits) (f : Prices) (h : ℕ → Holding) (u v : User) (p : u .party ≡ v .party) where
   level-money : levelFrom limits f u h - u .party .assigned ≡ levelFrom limits f v h - v .party .assigned
-  unfolding levelFrom
   level-money = rw p
 
   short-money : u .blocked ≡ v .blocked → shortFrom limits f u h true ≡ shortFrom limits f v h true
-  unfolding shortFrom flaggedFrom levelFrom shipper exceedsMargin
+  unfolding shortFrom shipper exceedsMargin
   short-money g = rw (p, g)
 
 -- a run's book has the opening book's header, users but for their positions, and trades but for what stands
@@ -110,7 +109,7 @@ module _ {o b : Book} (t : Stays o b) where
 
       -- flagged
       pub flagged-is : flaggedAt limits (o .header .prices) (o .users) ps i ≡ flaggedFrom limits (b .header .prices) (memberAt b i) (holding b (memberAt b i))
-      unfolding flaggedAt flaggedFrom
+      unfolding flaggedAt
       flagged-is =
           let f = o .header .prices in
           let least = limits .flagMwh * leastReferencePrice f in

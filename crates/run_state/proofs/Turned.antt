@@ -7,10 +7,10 @@ use Prim.Native.Nat.{ℕ, suc, _≤_, _<_}
 use native.Mathlib.Omega.{arith}
 use lib.Dec.{T, ltb}
 use lib.ListN.{length, getD, set, length-set}
-use Rattle.format.specs.Steps.{placeOf}
-use Rattle.integers.proofs.Linear.{by-order}
+use Rattle.book_format.specs.Steps.{placeOf}
+use Rattle.base.proofs.Linear.{by-order}
 use Rattle.laws.specs.Sound.{Sound}
-use Rattle.laws.proofs.Tests.{all-by}
+use Rattle.base.proofs.Tests.{all-by}
 use Rattle.laws.proofs.Trades.{framed, lowered-trans}
 use Rattle.laws.proofs.Users.{tradeValid-map}
 use Rattle.laws.specs.Books.{repositioned}
@@ -18,27 +18,27 @@ use Rattle.laws.specs.Trades.{Lowered, Pairwise}
 use Rattle.rules.specs.Book.{Book, Party, Trade, User, nobody}
 use Rattle.rules.specs.Calls.{reduced, reducedBy}
 use Rattle.rules.specs.Levels.{Limits}
-use Rattle.rules.specs.Lists.{all, any}
+use Rattle.base.specs.Lists.{all, any}
 use Rattle.rules.specs.Questions.{tradeValid}
 use Rattle.rules.specs.Reduction.{hasEligible, target, withTrades}
 use Rattle.run_state.proofs.Moves.{all-moved, moved-length}
 use Rattle.run_state.proofs.Own.{own-areas, own-buyers}
-use Rattle.sales.proofs.Stores.{here-or-apart, set-each}
+use Rattle.base.proofs.Stores.{here-or-apart, set-each}
 use Rattle.run_state.proofs.Reduced.{apart, asked-other, asked-own, eligible-left, eligible-own, law, member-stays, members-stay}
 use Rattle.run_state.proofs.Stays.{Stays, stays, target-is, users-many}
 use Rattle.run_state.specs.Asked.{memberAt, LookedAgain, movedAll, touched}
-use Rattle.risk_user.specs.Account.{PositionsOf, targetAt}
-use Rattle.positions.specs.Twelve.{TwelveOf}
+use Rattle.risk_user.specs.UserAt.{PositionsOf, targetAt}
+use Rattle.book_sums.specs.Twelve.{TwelveOf}
 use Rattle.run_state.specs.Going.{Going, OwedOf, SalesIn, StandingIn, owed, owedCalled}
-use Rattle.sales.proofs.Again.{retraded-again}
-use Rattle.sales.proofs.Listed.{starts-rise}
-use Rattle.sales.proofs.Numbers.{standing-cut}
-use Rattle.sales.proofs.Parts.{Around, part-before, part-behind}
-use Rattle.sales.specs.Cover.{due}
-use Rattle.sales.specs.Groups.{standings, starts}
-use Rattle.sales.specs.Parts.{part}
-use Rattle.sales.specs.Reduced.{ownSales, ownCuts}
-use Rattle.sales.specs.Sales.{less}
+use Rattle.laws_sales.proofs.Again.{retraded-again}
+use Rattle.laws_sales.proofs.Listed.{starts-rise}
+use Rattle.laws_sales.proofs.Numbers.{standing-cut}
+use Rattle.laws_sales.proofs.Parts.{Around, part-before, part-behind}
+use Rattle.laws_sales.specs.Cover.{due}
+use Rattle.laws_sales.specs.Groups.{standings, starts}
+use Rattle.laws_sales.specs.Parts.{part}
+use Rattle.laws_sales.specs.Reduced.{ownSales, ownCuts}
+use Rattle.laws_sales.specs.Sales.{less}
 
 -- a user with something owed is due, and owes its target
 pub owed-due : (limits : Limits) (b : Book) (u : User) {n : ℕ} → n ≡ owed limits b u → 0 < n → (due limits b u ≡ true) × (n ≡ target limits b u)

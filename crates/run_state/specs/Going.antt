@@ -4,18 +4,18 @@ use mathlib.Core.List.{List, map}
 use mathlib.Core.Path.{_≡_}
 use Prim.Native.Nat.{ℕ, suc, _≤_, _<_}
 use lib.ListN.{length, getD}
-use Rattle.format.specs.Steps.{placeOf}
+use Rattle.book_format.specs.Steps.{placeOf}
 use Rattle.laws.specs.Sound.{Sound}
 use Rattle.laws.specs.Trades.{Lowered, Pairwise}
 use Rattle.rules.specs.Book.{Book, User}
 use Rattle.rules.specs.Levels.{Limits, holding}
 use Rattle.rules.specs.Reduction.{hasEligible, target, withTrades}
 use Rattle.run_state.specs.Asked.{memberAt}
-use Rattle.risk_user.specs.Account.{PositionsOf}
-use Rattle.sales.specs.Cover.{due, shortFrom}
-use Rattle.sales.specs.Groups.{starts, standings}
-use Rattle.sales.specs.Parts.{part}
-use Rattle.sales.specs.Reduced.{ownSales}
+use Rattle.risk_user.specs.UserAt.{PositionsOf}
+use Rattle.laws_sales.specs.Cover.{due, shortFrom}
+use Rattle.laws_sales.specs.Groups.{starts, standings}
+use Rattle.laws_sales.specs.Parts.{part}
+use Rattle.laws_sales.specs.Reduced.{ownSales}
 
 -- the own sales of all users, one user's after the other's: where each user's start, their areas and the places of their buyers
 pub record SalesIn (b : Book) (ss areaCodes bs : List ℕ) : Type 0 where

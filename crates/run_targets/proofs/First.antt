@@ -7,26 +7,26 @@ use native.Mathlib.Numerals.{add-one}
 use native.Mathlib.Omega.{arith}
 use lib.Dec.{T, ltb}
 use lib.ListN.{length, getD, set, length-set}
-use Rattle.dealings.specs.Parties.{cutBefore}
-use Rattle.format.proofs.Passed.{length-usersOf}
-use Rattle.format.specs.Book.{bookOf, usersOf}
+use Rattle.risk_holdings.specs.Parties.{cutBefore}
+use Rattle.book_format.proofs.Passed.{length-usersOf}
+use Rattle.book_format.specs.Book.{bookOf, usersOf}
 use Rattle.rules.specs.Areas.{Prices}
 use Rattle.rules.specs.Book.{Book, User}
-use Rattle.rules.specs.Levels.{Limits, Holding, holding, shipper, exceedsMargin}
-use Rattle.rules.specs.Lists.{any}
+use Rattle.rules.specs.Levels.{Limits, Holding, holding, shipper, exceedsMargin, levelFrom, flaggedFrom}
+use Rattle.base.specs.Lists.{any}
 use Rattle.rules.specs.Reduction.{hasEligible, target}
-use Rattle.sales.proofs.Listed.{starts-rise}
-use Rattle.sales.proofs.Stores.{set-front}
+use Rattle.laws_sales.proofs.Listed.{starts-rise}
+use Rattle.base.proofs.Stores.{set-front}
 use Rattle.run_state.proofs.Reduced.{cond-and}
 use Rattle.run_state.proofs.Stays.{flagged-is, stays-first, target-is}
 use Rattle.run_state.specs.Asked.{memberAt}
-use Rattle.risk_user.specs.Account.{flaggedAt, targetAt}
+use Rattle.risk_user.specs.UserAt.{flaggedAt, targetAt}
 use Rattle.run_state.specs.Going.{OwedOf, owed, owedCalled}
 use Rattle.run_targets.specs.Asking.{Opening, owedIf}
-use Rattle.sales.proofs.Cover.{has-eligible-sales, short-from}
-use Rattle.sales.specs.Cover.{due, flaggedFrom, levelFrom, shortFrom}
-use Rattle.sales.specs.Groups.{starts}
-use Rattle.sales.specs.Parts.{part}
+use Rattle.laws_sales.proofs.Cover.{has-eligible-sales, short-from}
+use Rattle.laws_sales.specs.Cover.{due, shortFrom}
+use Rattle.laws_sales.specs.Groups.{starts}
+use Rattle.laws_sales.specs.Parts.{part}
 
 -- ---- T or 0, by cases
 

@@ -8,12 +8,12 @@ use lib.Dec.{eqb, ltb}
 use lib.ListN.{length, getD, set, length-set}
 use lib.Seq.{getD-set-other}
 use borrow.Author.Tests.{eq-eqb, ne-eqb, lt-ltb, le-ltb}
-use Rattle.rules.specs.Lists.{any}
-use Rattle.sales.proofs.Stores.{here-or-apart, set-each}
+use Rattle.base.proofs.Tests.{by-case}
+use Rattle.base.specs.Lists.{any}
+use Rattle.base.proofs.Stores.{here-or-apart, set-each}
 use Rattle.run_state.specs.Asked.{LookedAgain, touched}
-use Rattle.sales.proofs.Kept.{by-case}
-use Rattle.sales.proofs.Parts.{part-first, part-none}
-use Rattle.sales.specs.Parts.{part}
+use Rattle.laws_sales.proofs.Parts.{part-first, part-none}
+use Rattle.laws_sales.specs.Parts.{part}
 
 -- ---- one that stands above 0
 

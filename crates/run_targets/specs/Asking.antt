@@ -4,17 +4,17 @@ use mathlib.Core.List.{List}
 use mathlib.Core.Path.{_≡_}
 use Prim.Native.Nat.{ℕ, _≤_, _<_}
 use lib.ListN.{length, getD}
-use Rattle.columns.specs.Columns.{idAt}
-use Rattle.dealings.specs.Parties.{cutBefore}
-use Rattle.format.specs.Book.{bookOf, tradesOf, userCount, usersOf}
-use Rattle.format.specs.Questions.{Formed}
+use Rattle.book_parties.specs.Ids.{idAt}
+use Rattle.risk_holdings.specs.Parties.{cutBefore}
+use Rattle.book_format.specs.Book.{bookOf, tradesOf, userCount, usersOf}
+use Rattle.book_format.specs.Questions.{Formed}
 use Rattle.laws.specs.Sound.{Sound}
 use Rattle.rules.specs.Areas.{Prices}
 use Rattle.rules.specs.Book.{Trade, User}
-use Rattle.risk_user.specs.Account.{PositionsOf}
-use Rattle.positions.specs.Twelve.{TwelveOf}
+use Rattle.risk_user.specs.UserAt.{PositionsOf}
+use Rattle.book_sums.specs.Twelve.{TwelveOf}
 use Rattle.run_state.specs.Going.{StandingIn}
-use Rattle.sales.specs.Groups.{starts}
+use Rattle.laws_sales.specs.Groups.{starts}
 
 -- the buyers of the sales from..to are among the users
 pub record BuyersIn (s bs : List ℕ) (from to : ℕ) : Type 0 where

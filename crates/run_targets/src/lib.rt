@@ -5,16 +5,17 @@ ghost use mathlib.Core.Path.{_≡_};
 ghost use Prim.Native.Nat.{_+_, _*_, _≤_, _<_, min};
 ghost use lib.Dec.{eqb, ltb};
 ghost use lib.ListN.{getD, length, replicate, set};
-ghost use Rattle.columns.specs.Columns.{Trading, idAt, tradeIn, tradesIn, usersIn};
-ghost use Rattle.dealings.specs.Parties.{cutBefore};
-ghost use Rattle.format.specs.Book.{bookOf, usersOf};
-ghost use Rattle.rules.specs.Lists.{any};
-ghost use Rattle.places.specs.Ids.{Placed};
+ghost use Rattle.risk_holdings.specs.Parties.{cutBefore};
+ghost use Rattle.book_format.specs.Book.{bookOf, tradeCount, tradesOf, userCount, usersOf};
+ghost use Rattle.book_format.specs.Places.{TradeIn, UserIn};
+ghost use Rattle.rules.specs.Book.{noTrade};
+ghost use Rattle.base.specs.Lists.{any};
+ghost use Rattle.book_parties.specs.Ids.{BookIn, idAt};
 ghost use Rattle.run_state.specs.Asked.{LookedAgain};
-ghost use Rattle.positions.specs.Twelve.{Low};
-ghost use Rattle.risk_user.specs.Account.{flaggedAt, targetAt, DayOf, UserIn};
+ghost use Rattle.book_sums.specs.Twelve.{Low};
+ghost use Rattle.risk_user.specs.UserAt.{flaggedAt, targetAt, DayOf};
 ghost use Rattle.run_state.specs.Going.{OwedOf};
-ghost use Rattle.sales.specs.Parts.{part};
+ghost use Rattle.laws_sales.specs.Parts.{part};
 ghost use Rattle.units.specs.Prices.{asPrices};
 ghost use Rattle.units.specs.Limits.{asLimits};
 ghost use Rattle.run_targets.specs.Asking.{BuyersIn, CutFlags, Opening, owedIf};
@@ -52,13 +53,14 @@ pub fn fill_cut(
     parties: &[u8; 256],
     cut: &mut [bool; 64],
 )
-    requires { ⌜ Trading n m (now book) × Placed (usersIn n (now book)) (tradesIn n m (now book)) (now sellers) (now parties) ⌝ }
+    requires { ⌜ BookIn (now book) (now sellers) (now parties) × (n ≡ userCount (now book)) × (m ≡ tradeCount (now book)) ⌝ }
     requires { ⌜ now cut ≡ replicate 64 false ⌝ }
-    ensures { λ _. ⌜ CutFlags (usersIn n (now (book .entry))) (tradesIn n m (now (book .entry))) (now (cut .exit)) ⌝ }
+    ensures { λ _. ⌜ CutFlags (usersOf (now (book .entry))) (tradesOf (now (book .entry))) (now (cut .exit)) ⌝ }
 {
+    let at = book_format::trades_offset(book, n);
     let mut i = 0;
     while i < m {
-        let t = columns::trade_in(book, n, i);
+        let t = book_format::trade_at(book, at, i);
         let below = t.standing < t.notified;
         let seller = index(sellers[i]);
         cut[seller] = cut[seller] | below;
@@ -69,15 +71,15 @@ pub fn fill_cut(
 }
 
 // Is the user at a place one of the parties of the trade i, at their places, and does the trade stand below notified?
-fn is_cut(book: &[u8], n: usize, i: usize, seller: u8, buyer: u8, place: usize) -> bool
-    requires { ⌜ (n ≤ 64) × (i < 256) × (32 + 56 * n + 20 * i + 20 ≤ length (now book)) ⌝ }
-    ensures { λ r. ⌜ r ≡ (eqb seller place || eqb buyer place) && ltb (tradeIn n (now (book .entry)) i .standing) (tradeIn n (now (book .entry)) i .terms .notified) ⌝ }
+fn is_cut(book: &[u8], at: usize, i: usize, seller: u8, buyer: u8, place: usize) -> bool
+    requires { ⌜ TradeIn (now book) at i ⌝ }
+    ensures { λ r. ⌜ r ≡ (eqb seller place || eqb buyer place) && ltb (getD (tradesOf (now (book .entry))) i noTrade .standing) (getD (tradesOf (now (book .entry))) i noTrade .terms .notified) ⌝ }
 {
     let party = (index(seller) == place) | (index(buyer) == place);
     if !party {
         return false;
     }
-    let t = columns::trade_in(book, n, i);
+    let t = book_format::trade_at(book, at, i);
     t.standing < t.notified
 }
 
@@ -90,12 +92,13 @@ pub fn cut_at(
     parties: &[u8; 256],
     place: usize,
 ) -> bool
-    requires { ⌜ Trading n m (now book) × Placed (usersIn n (now book)) (tradesIn n m (now book)) (now sellers) (now parties) × (place < n) ⌝ }
-    ensures { λ r. ⌜ r ≡ cutBefore (idAt (usersIn n (now (book .entry))) place) (tradesIn n m (now (book .entry))) ⌝ }
+    requires { ⌜ BookIn (now book) (now sellers) (now parties) × (n ≡ userCount (now book)) × (m ≡ tradeCount (now book)) × (place < n) ⌝ }
+    ensures { λ r. ⌜ r ≡ cutBefore (idAt (usersOf (now (book .entry))) place) (tradesOf (now (book .entry))) ⌝ }
 {
+    let at = book_format::trades_offset(book, n);
     let mut i = 0;
     while i < m {
-        if is_cut(book, n, i, sellers[i], parties[i], place) {
+        if is_cut(book, at, i, sellers[i], parties[i], place) {
             return true;
         }
         i += 1;
@@ -166,7 +169,8 @@ fn lesser(a: usize, b: usize) -> usize
     b
 }
 
-// Asks the user at a place anew where it has an eligible trade: it is party to a trade standing below notified. Hands back the lesser of `least` and the place asked.
+// Asks the user at a place anew where it has an eligible trade: it is party to a trade standing below notified. Hands back the lesser of
+// `least` and the place asked.
 fn look_at(
     book: &[u8],
     sums: &[u32; 768],

@@ -10,15 +10,15 @@ use Rattle.cut_worth.specs.Tallies.{asTally}
 use Rattle.cut_worth.specs.Totals.{Within, totals}
 use Rattle.cut_worth.specs.declared.Tally.{Tally}
 use Rattle.cut_worth.specs.declared.Totals.{Totals}
-use Rattle.format.proofs.Passed.{length-usersOf}
-use Rattle.format.specs.Book.{bookOf, userCount}
-use Rattle.integers.proofs.Linear.{by-order}
+use Rattle.book_format.proofs.Passed.{length-usersOf}
+use Rattle.book_format.specs.Book.{bookOf, userCount}
+use Rattle.base.proofs.Linear.{by-order}
 use Rattle.laws.specs.Sound.{Sound}
 use Rattle.rules.specs.Book.{Book}
 use Rattle.rules.specs.Calls.{Answer, nextReduced, ofRun, reduced}
 use Rattle.rules.specs.Levels.{Limits}
 use Rattle.run_state.proofs.Left.{Left, left-end, left-more, left-start, left-turn, next-here, next-nobody, tally-within}
-use Rattle.sales.proofs.Stores.{set-front}
+use Rattle.base.proofs.Stores.{set-front}
 use Rattle.run_state.proofs.Stays.{stays, users-many}
 use Rattle.run_state.specs.Asked.{memberAt}
 use Rattle.run_state.specs.Going.{Going, StandingIn}

@@ -9,18 +9,18 @@ use lib.ListN.{length, getD, set}
 use lib.Seq.{getD-set-other, sets}
 use Rattle.cut_worth.specs.Tallies.{asTally}
 use Rattle.cut_worth.specs.declared.Tally.{Tally}
-use Rattle.format.proofs.Passed.{length-usersOf}
-use Rattle.format.specs.Book.{bookOf, userCount, usersOf}
+use Rattle.book_format.proofs.Passed.{length-usersOf}
+use Rattle.book_format.specs.Book.{bookOf, userCount, usersOf}
 use Rattle.rules.specs.Areas.{Prices}
 use Rattle.rules.specs.Book.{Book, Trade, User, nobody}
 use Rattle.rules.specs.Calls.{ofCuts, reduced}
 use Rattle.rules.specs.Levels.{Limits}
-use Rattle.rules.specs.Lists.{any}
+use Rattle.base.specs.Lists.{any}
 use Rattle.rules.specs.Reduction.{nothing, tallyAll, target}
 use Rattle.run_state.proofs.Stays.{stays, users-many}
 use Rattle.run_state.proofs.Turned.{owed-due, turn-going}
 use Rattle.run_state.specs.Asked.{LookedAgain, movedAll}
-use Rattle.risk_user.specs.Account.{flaggedAt, targetAt}
+use Rattle.risk_user.specs.UserAt.{flaggedAt, targetAt}
 use Rattle.run_state.specs.Going.{Going}
 use Rattle.run_targets.proofs.First.{owed-cut}
 use Rattle.run_targets.specs.Asking.{BuyersIn, owedIf}
@@ -28,12 +28,12 @@ use Rattle.run_reduction.proofs.Steps.{buyer-inside, cuts-before, cuts-behind, 
 use Rattle.run_reduction.specs.Reductions.{Reached, RunOf, shortIn}
 use Rattle.cut_tiers.specs.Tiers.{cutsOf}
 use Rattle.run_turns.specs.Turns.{CutIn, Turned}
-use Rattle.sales.proofs.Reduced.{sales-reduced}
-use Rattle.sales.specs.Cover.{due}
-use Rattle.sales.specs.Groups.{starts}
-use Rattle.sales.specs.Parts.{part}
-use Rattle.sales.specs.Reduced.{ownCuts, ownSales}
-use Rattle.sales.specs.Sales.{less}
+use Rattle.laws_sales.proofs.Reduced.{sales-reduced}
+use Rattle.laws_sales.specs.Cover.{due}
+use Rattle.laws_sales.specs.Groups.{starts}
+use Rattle.laws_sales.specs.Parts.{part}
+use Rattle.laws_sales.specs.Reduced.{ownCuts, ownSales}
+use Rattle.laws_sales.specs.Sales.{less}
 
 -- what a run has come to
 pub reached-now : {limits : Limits} {o b : Book} {ns ps ts : List ℕ} {es : List Bool} → Going limits o b ns ps ts es → Reached o b ns ps

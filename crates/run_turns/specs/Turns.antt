@@ -17,7 +17,7 @@ use Rattle.rules.specs.Reduction.{target, withTrades}
 use Rattle.run_state.specs.Asked.{memberAt}
 use Rattle.run_state.specs.Going.{Going, StandingIn}
 use Rattle.run_state.specs.Running.{wholeRun}
-use Rattle.sales.specs.Reduced.{ownCuts}
+use Rattle.laws_sales.specs.Reduced.{ownCuts}
 
 -- a run of a book has come to some book
 pub record Ongoing (limits : Limits) (o : Book) (ns ps ts : List ℕ) (es : List Bool) : Type 0 where

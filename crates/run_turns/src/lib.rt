@@ -1,4 +1,5 @@
-// The reductions of a run, one after another, on arrays: the book that the run has come to stands in them, and the bytes hold the opening book throughout.
+// The reductions of a run, one after another, on arrays: the book that the run has come to stands in them, and the bytes hold the opening
+// book throughout.
 use cut_worth::Tally;
 use cut_worth::Totals;
 use risk_user::Day;
@@ -7,11 +8,11 @@ use units::Prices;
 ghost use mathlib.Core.Path.{_≡_};
 ghost use Prim.Native.Nat.{_+_, _≤_, _<_};
 ghost use lib.ListN.{getD, length};
-ghost use Rattle.format.specs.Book.{bookOf, userCount};
+ghost use Rattle.book_format.specs.Book.{bookOf, userCount};
 ghost use Rattle.rules.specs.Book.{Book};
 ghost use Rattle.run_state.specs.Going.{Going};
 ghost use Rattle.run_state.specs.Running.{NextFrom};
-ghost use Rattle.sales.specs.Parts.{part};
+ghost use Rattle.laws_sales.specs.Parts.{part};
 ghost use Rattle.units.specs.Prices.{asPrices};
 ghost use Rattle.units.specs.Limits.{asLimits};
 ghost use Rattle.run_turns.specs.Turns.{CutIn, NoneCut, Ongoing, Ran, Turned};
@@ -25,7 +26,8 @@ pub struct Reduced {
     pub least: usize,
 }
 
-// Reduces the user at a place, which is due, for its target. `cuts` has what its sales lose, and must be cleared after it; what `rests` holds is of no use.
+// Reduces the user at a place, which is due, for its target. `cuts` has what its sales lose, and must be cleared after it; what `rests`
+// holds is of no use.
 pub fn turn(
     book: &[u8],
     sums: &[u32; 768],

@@ -6,12 +6,12 @@ use mathlib.Core.Path.{_≡_, refl, sym, ap, subst, _∙_}
 use Prim.Native.Nat.{ℕ, zero, suc, _≤_}
 use native.Mathlib.Omega.{arith}
 use Rattle.fields.specs.Field.{AllBytes}
-use Rattle.format.proofs.Formed.{book-passed}
-use Rattle.format.proofs.Passed.{passed-of}
-use Rattle.format.proofs.Round.{bytesOf-bookOf}
-use Rattle.format.specs.Book.{bookOf, bytesOf, tradesOf}
-use Rattle.format.specs.Questions.{aboutBytes}
-use Rattle.format.specs.Steps.{InBytes, inBytes, stepBytes}
+use Rattle.book_format.proofs.Formed.{book-passed}
+use Rattle.book_format.proofs.Passed.{passed-of}
+use Rattle.book_format.proofs.Round.{bytesOf-bookOf}
+use Rattle.book_format.specs.Book.{bookOf, bytesOf, tradesOf}
+use Rattle.book_format.specs.Questions.{aboutBytes}
+use Rattle.book_format.specs.Steps.{InBytes, inBytes, stepBytes}
 use Rattle.laws.proofs.Main.{run-counts}
 use Rattle.requests.proofs.Passed.{opening-book, opening-refused, passed-called}
 use Rattle.requests.specs.Carried.{Carried}

@@ -7,13 +7,13 @@ use mathlib.Core.Path.{_≡_, _∙_, ap, refl, subst, sym}
 use Prim.Native.Nat.{ℕ}
 use lib.Dec.{T, eqb}
 use Rattle.fields.specs.Field.{AllBytes}
-use Rattle.format.proofs.Formed.{book-passed}
-use Rattle.format.proofs.Passed.{Passed, passed}
-use Rattle.format.proofs.Round.{bytesOf-bookOf}
-use Rattle.format.proofs.Written.{all-bytes-bytesOf, bookOf-bytesOf, written-number}
-use Rattle.format.specs.Book.{bookOf, bytesOf, tradesOf, usersOf}
-use Rattle.format.specs.Questions.{aboutBytes, bookNumber}
-use Rattle.integers.specs.Sums.{sumℤ}
+use Rattle.book_format.proofs.Formed.{book-passed}
+use Rattle.book_format.proofs.Passed.{Passed, passed}
+use Rattle.book_format.proofs.Round.{bytesOf-bookOf}
+use Rattle.book_format.proofs.Written.{all-bytes-bytesOf, bookOf-bytesOf, written-number}
+use Rattle.book_format.specs.Book.{bookOf, bytesOf, tradesOf, usersOf}
+use Rattle.book_format.specs.Questions.{aboutBytes, bookNumber}
+use Rattle.base.specs.Sums.{sumℤ}
 use Rattle.laws.proofs.Moved.{Moved, moved-refl, moved-trans}
 use Rattle.laws.proofs.Positions.{positions-sum}
 use Rattle.laws.proofs.Refusals.{refusal-next}

@@ -17,17 +17,42 @@ use Rattle.laws.proofs.Refusals.{append-yes, first-yes, numbered, refusal-is}
 use Rattle.laws.proofs.Run.{reduced-law, run-law}
 use Rattle.laws.proofs.Sound.{accept, sound}
 use Rattle.laws.specs.Sound.{Sound}
-use Rattle.laws.proofs.Tests.{all-append, and-l, and-r}
+use Rattle.base.proofs.Tests.{all-append, and-l, and-r}
 use Rattle.laws.proofs.Trades.{lowered-refl}
 use Rattle.laws.specs.Statements.{AllCovered}
 use Rattle.laws.specs.Trades.{Lowered, Pairwise}
 use Rattle.requests.proofs.Opened.{setting-numbered}
 use Rattle.requests.specs.Request.{Setting, aboutSetting, limitsOn, stepGiven}
 use Rattle.rules.specs.Book.{Book, at, find}
-use Rattle.rules.specs.Calls.{posting, morningCall, afternoonCall, reduction, run, Call, Result, about, assignedFallsShort, assignedSuffices, calledInBeyondMargin, cuttable, effect, eligibleTrade, entryInRange, guaranteed, idKnown, isShipper, marginExceeded, ofCuts, ofLevel, only, reduced, reducedBy}
+use Rattle.rules.specs.Calls.{
+  posting,
+  morningCall,
+  afternoonCall,
+  reduction,
+  run,
+  Call,
+  Result,
+  about,
+  assignedFallsShort,
+  assignedSuffices,
+  calledInBeyondMargin,
+  cuttable,
+  effect,
+  eligibleTrade,
+  entryInRange,
+  guaranteed,
+  idKnown,
+  isShipper,
+  marginExceeded,
+  ofCuts,
+  ofLevel,
+  only,
+  reduced,
+  reducedBy,
+}
 use Rattle.rules.specs.Changes.{moved, withUsers}
 use Rattle.rules.specs.Levels.{Limits, afternoonLevel, morningLevel}
-use Rattle.rules.specs.Lists.{all}
+use Rattle.base.specs.Lists.{all}
 use Rattle.rules.specs.Questions.{Question, aboutBook, decided, refusal}
 use Rattle.rules.specs.Signed.{within}
 use Rattle.sequence.specs.Totals.{amountIn, counted}

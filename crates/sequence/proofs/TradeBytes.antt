@@ -1,4 +1,5 @@
 -- The bytes of trades that differ in what stands only. Assumes nothing.
+use Rattle.laws.proofs.Settle.{pairs-length}
 use mathlib.Core.List.{List}
 use mathlib.Core.Path.{_≡_, _∙_, ap, refl, sym}
 use Prim.Native.Nat.{_*_, _+_, _<_, _≤_, suc, zero, ℕ}
@@ -11,13 +12,13 @@ use Rattle.fields.proofs.Records.{every-part-at, getD-recordsOf}
 use Rattle.fields.proofs.Sets.{length-part}
 use Rattle.fields.specs.Field.{AllBytes, toBytes}
 use Rattle.fields.specs.Layout.{pack, recordsOf, size}
-use Rattle.format.proofs.Passed.{Passed, length-tradesOf, length-usersOf}
-use Rattle.format.proofs.Round.{header-back}
-use Rattle.format.specs.Book.{bookOf, headerValues, headerWidths, tradeCount, tradesAt, tradesOf, userAt, userCount, usersOf}
+use Rattle.book_format.proofs.Passed.{Passed, length-tradesOf, length-usersOf}
+use Rattle.book_format.proofs.Round.{header-back}
+use Rattle.book_format.specs.Book.{bookOf, headerValues, headerWidths, tradeCount, tradesAt, tradesOf, userAt, userCount, usersOf}
 use Rattle.laws.specs.Trades.{ended, then, Framed, Pairwise}
-use Rattle.records.proofs.Trades.{trade-bytes-of}
-use Rattle.records.specs.Trade.{tradeBytes, tradeOf, tradeValues, tradeWidths, tradeZeros}
-use Rattle.rules.specs.Book.{Book, Terms, Trade, at}
+use Rattle.book_records.proofs.Trades.{trade-bytes-of}
+use Rattle.book_records.specs.Trade.{tradeBytes, tradeOf, tradeValues, tradeWidths, tradeZeros}
+use Rattle.rules.specs.Book.{Book, Terms, Trade, at, noTrade}
 use Rattle.sequence.specs.Claim.{TradeBytes, tradeBytesAt}
 
 -- all but the last field of a trade's bytes are those of its terms
@@ -34,14 +35,7 @@ pairs-at ended i d h = absurd (not-suc-le-zero h)
 pairs-at (then p ps) zero d h = p
 pairs-at (then p ps) (suc i) d h = pairs-at ps i d (le-of-suc-le-suc h)
 
-pub pairs-length : {ts ns : List Trade} → Pairwise Framed ts ns → length ns ≡ length ts
-pairs-length ended = refl
-pairs-length (then p ps) = ap suc (pairs-length ps)
-
 -- ---- books in bytes
-
-noTrade : Trade
-noTrade = record { terms = record { seller = 0; buyer = 0; area = 0; kind = 0; day = 0; notified = 0 }; standing = 0 }
 
 trades-at : (s : List ℕ) → tradesAt s ≡ 32 + 56 * userCount s
 unfolding tradesAt userAt

@@ -7,12 +7,12 @@ use Prim.Native.Nat.{ℕ, _+_, _*_, _<_}
 use lib.Dec.{T}
 use lib.IntN.{_+ℤ_}
 use lib.ListN.{length, take, drop}
-use Rattle.format.specs.Book.{tradesAt, tradeCount, usersOf, tradesOf, bookOf, bytesOf}
-use Rattle.format.specs.Questions.{bookNumber}
-use Rattle.integers.specs.Sums.{sumℤ}
+use Rattle.book_format.specs.Book.{tradesAt, tradeCount, usersOf, tradesOf, bookOf, bytesOf}
+use Rattle.book_format.specs.Questions.{bookNumber}
+use Rattle.base.specs.Sums.{sumℤ}
 use Rattle.laws.specs.Statements.{AllCovered}
 use Rattle.laws.specs.Trades.{Lowered, Pairwise, leftMwh, leftWorth}
-use Rattle.records.specs.Trade.{tradeOf}
+use Rattle.book_records.specs.Trade.{tradeOf}
 use Rattle.rules.specs.Book.{at, Book, bilateralForDay}
 use Rattle.requests.specs.Request.{Request, stepGiven}
 use Rattle.rules.specs.Calls.{run, Answer}

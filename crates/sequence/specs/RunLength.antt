@@ -4,7 +4,7 @@ use mathlib.Core.Option.{Option}
 use mathlib.Core.Path.{_≡_}
 use Prim.Native.Nat.{ℕ, _≤_}
 use Rattle.fields.specs.Field.{AllBytes}
-use Rattle.format.specs.Book.{tradesOf}
+use Rattle.book_format.specs.Book.{tradesOf}
 use Rattle.requests.specs.Carried.{Carried}
 use Rattle.requests.specs.Request.{requestOf}
 use Rattle.rules.specs.Calls.{Answer, cuttable, run}

@@ -9,9 +9,9 @@ use borrow.Author.Tests.{lt-ltb, le-ltb}
 use lib.Dec.{ltb}
 use lib.ListN.{length, getD, set, replicate, length-append, length-map, length-set, List·getD-append, List·getD-map}
 use lib.Seq.{getD-at}
-use Rattle.integers.proofs.Linear.{by-order}
-use Rattle.integers.proofs.Sums.{sum-append, sum-map}
-use Rattle.integers.specs.Sums.{sum}
+use Rattle.base.proofs.Linear.{by-order}
+use Rattle.base.proofs.Sums.{sum-append, sum-map}
+use Rattle.base.specs.Sums.{sum}
 use Rattle.shrinkage.proofs.Places.{placed, placed-start, placed-more, placed-end, kwh-set}
 use Rattle.shrinkage.specs.Answer.{kwhOf}
 use Rattle.shrinkage.specs.Days.{daysTo, onDay, overDays}

@@ -10,7 +10,7 @@ use borrow.Author.Tests.{lt-ltb}
 use lib.Dec.{T, ltb}
 use lib.IntN.{ℤ, pos}
 use lib.ListN.{length, getD, replicate}
-use Rattle.integers.specs.Parts.{negPart}
+use Rattle.base.specs.Parts.{negPart}
 use Rattle.rules.specs.Questions.{refusal, decided}
 use Rattle.shrinkage.proofs.Totals.{own-more, half-le}
 use Rattle.shrinkage.specs.Return.{Returned, total, isNegative, half, own, ownSum, shareOf, remainderOf, shares, remainders, inPlaces, nothing, given, about, returned}

@@ -9,10 +9,10 @@ use native.Mathlib.Omega.{arith}
 use lib.Dec.{T}
 use lib.IntN.{ℤ, natAbs}
 use lib.ListN.{length, replicate}
-use Rattle.integers.proofs.Sums.{sum-append}
-use Rattle.integers.specs.Sums.{sum}
+use Rattle.base.proofs.Sums.{sum-append}
+use Rattle.base.specs.Sums.{sum}
 use Rattle.laws.proofs.Refusals.{number-none, numbered}
-use Rattle.rules.specs.Lists.{all}
+use Rattle.base.specs.Lists.{all}
 use Rattle.rules.specs.Questions.{refusal, decided, numberOf}
 use Rattle.shrinkage.proofs.Days.{days-sum, days-even, length-over-days}
 use Rattle.shrinkage.proofs.Division.{shares-given}

@@ -7,10 +7,10 @@ use native.Mathlib.Omega.{arith}
 use borrow.Author.Tests.{le-ltb, lt-ltb}
 use lib.Dec.{T, ltb→lt}
 use lib.IntN.{ℤ, natAbs}
-use Rattle.integers.proofs.Linear.{abs-parts, posPart-of, negPart-of}
-use Rattle.integers.proofs.Sums.{parts-sum}
-use Rattle.integers.specs.Parts.{posPart, negPart}
-use Rattle.integers.specs.Sums.{sum}
+use Rattle.base.proofs.Linear.{abs-parts, posPart-of, negPart-of}
+use Rattle.base.proofs.Sums.{parts-sum}
+use Rattle.base.specs.Parts.{posPart, negPart}
+use Rattle.base.specs.Sums.{sum}
 use Rattle.shrinkage.specs.Return.{total, isNegative, half, own, ownSum}
 
 module _ (zs : List ℤ) where

@@ -7,9 +7,9 @@ use native.Mathlib.Omega.{arith}
 use borrow.Author.Tests.{le-leb, lt-leb}
 use lib.IntN.{ℤ, natAbs}
 use lib.ListN.{length}
-use Rattle.integers.specs.Parts.{posPart}
-use Rattle.integers.specs.Sums.{sum}
-use Rattle.rules.specs.Lists.{all}
+use Rattle.base.specs.Parts.{posPart}
+use Rattle.base.specs.Sums.{sum}
+use Rattle.base.specs.Lists.{all}
 use Rattle.rules.specs.Questions.{refusal, decided}
 use Rattle.shrinkage.proofs.Totals.{size-is, is-negative, not-negative}
 use Rattle.shrinkage.specs.Answer.{kwhOf, SumsOf, Divisible, SharesOf}

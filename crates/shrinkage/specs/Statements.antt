@@ -6,7 +6,7 @@ use Prim.Native.Nat.{ℕ, _+_, _*_, _<_, _≤_}
 use lib.Dec.{T}
 use lib.IntN.{ℤ, pos, natAbs}
 use lib.ListN.{length, getD}
-use Rattle.integers.specs.Sums.{sum}
+use Rattle.base.specs.Sums.{sum}
 use Rattle.shrinkage.specs.Days.{overDays}
 use Rattle.shrinkage.specs.Return.{total, isNegative, own, ownSum, half, shareOf, remainderOf, nothing, returned}
 

@@ -1,5 +1,6 @@
 -- Laws of the two loops over a store's sets: those that are left have the whole answer to whether they are valid, and none that is passed from the last one down
 -- is in force. Assumes nothing.
+use Rattle.base.proofs.Tests.{and-false}
 use Prim.Native.Nat.{ℕ, zero, suc, _+_, _-_, _*_, _<_, _≤_}
 use mathlib.Core.Path.{_≡_, refl, sym, ap, ap₂, _∙_}
 use mathlib.Core.Bool.{Bool, true, false, cond, _&&_}
@@ -11,7 +12,7 @@ use lib.Dec.{leb, ltb}
 use lib.ListN.{length, take, drop, drop-of-length-le}
 use lib.Seq.{drop-cons, drop-drop}
 use borrow.Author.Tests.{le-ltb, lt-ltb, le-leb, lt-leb}
-use Rattle.rules.specs.Lists.{all}
+use Rattle.base.specs.Lists.{all}
 use Rattle.fields.proofs.Records.{length-recordsOf, getD-recordsOf}
 use Rattle.store.specs.Store.{ParameterSet, setOf, setsFrom, firstsRise, setValid, setsValid, orElse, begun, inForce}
 
@@ -39,10 +40,6 @@ pub record SetsLeft (s : List ℕ) (n last i a : ℕ) : Type 0 where
   pub place : a ≡ 6 + 24 * i
   pub within : i ≤ n
   pub answer : setsValid 0 (setsFrom n s) ≡ setsValid last (drop i (setsFrom n s))
-
-and-false : (b : Bool) → (b && false) ≡ false
-and-false true = refl
-and-false false = refl
 
 -- the next set, by the two tests of it
 valid-next : (last : ℕ) {zs : List ParameterSet} {p : ParameterSet} {rest : List ParameterSet} {a b : Bool} → zs ≡ p ∷ rest → ltb last (p .first) ≡ a → setValid p ≡ b

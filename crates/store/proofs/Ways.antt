@@ -9,9 +9,9 @@ use lib.Dec.{T, leb, leb→le, eqb→eq}
 use lib.ListN.{length}
 use Rattle.rules.specs.Calendar.{realDay}
 use Rattle.rules.specs.Levels.{Limits, today}
-use Rattle.rules.specs.Lists.{all}
+use Rattle.base.specs.Lists.{all}
 use Rattle.rules.specs.Questions.{refusal, numberOf, isNone}
-use Rattle.laws.proofs.Tests.{and-l, and-r, by-test}
+use Rattle.base.proofs.Tests.{and-l, and-r, by-test}
 use Rattle.units.specs.Limits.{LimitsInRange}
 use Rattle.store.specs.Store.{ParameterSet, setsFrom, setCount, setsOf, storeFormed, firstsRise, limitsValid, setValid, setsValid, storeValid, orElse, begun, inForce, aboutStore, storeNumber, figuresOf, limitsOf}
 use Rattle.store.specs.Asked.{ByForce, ByStore}

@@ -9,7 +9,7 @@ use Rattle.fields.specs.Field.{field}
 use Rattle.fields.specs.Layout.{recordsOf}
 use Rattle.rules.specs.Calendar.{realDay}
 use Rattle.rules.specs.Levels.{Limits, today}
-use Rattle.rules.specs.Lists.{all}
+use Rattle.base.specs.Lists.{all}
 use Rattle.rules.specs.Questions.{Question, refusal, numberOf, isNone}
 
 -- ---- the sets that bytes hold

@@ -6,8 +6,8 @@ use native.Mathlib.Omega.{arith}
 use lib.Dec.{leb}
 use lib.IntN.{ℤ, pos, natAbs, _+ℤ_, _-ℤ_, subℕ}
 use borrow.Author.Tests.{le-leb, lt-leb, leb-true}
-use Rattle.integers.specs.Parts.{posPart, negPart}
-use Rattle.integers.proofs.Linear.{by-order, posPart-diff, negPart-diff, eq-parts, parts-add, parts-sub, abs-parts}
+use Rattle.base.specs.Parts.{posPart, negPart}
+use Rattle.base.proofs.Linear.{by-order, posPart-diff, negPart-diff, eq-parts, parts-add, parts-sub, abs-parts}
 use Rattle.rules.specs.Signed.{within}
 use Rattle.units.specs.declared.Net.{Net}
 use Rattle.units.specs.declared.Balance.{Balance}

@@ -4,8 +4,8 @@ use Prim.Native.Nat.{ℕ, suc, _+_, _*_, _-_, _<_, _≤_, _^_}
 use native.Mathlib.Omega.{arith}
 use lib.IntN.{ℤ, pos, negsuc, subℕ}
 use borrow.Author.Tests.{lt-ltb, le-ltb}
-use Rattle.integers.specs.Parts.{posPart, negPart}
-use Rattle.integers.proofs.Linear.{by-order, posPart-pos, negPart-pos, posPart-diff, negPart-diff, diff-cong, eq-parts}
+use Rattle.base.specs.Parts.{posPart, negPart}
+use Rattle.base.proofs.Linear.{by-order, posPart-pos, negPart-pos, posPart-diff, negPart-diff, diff-cong, eq-parts}
 use Rattle.rules.specs.Signed.{signedOf, bitsOf}
 
 -- ---- what is read and what is written, by the sign

@@ -1,10 +1,11 @@
-// Energy, money and prices, each with its own type; signed amounts of energy and money; the prices of a day and the areas that they hold in; the limits of the rules.
-// A signed amount is kept as an unsigned number, the amount + an offset, and every contract speaks of the integer itself.
+// Energy, money and prices, each with its own type; signed amounts of energy and money; the prices of a day and the areas that they hold
+// in; the limits of the rules. A signed amount is kept as an unsigned number, the amount + an offset, and every contract speaks of the
+// integer itself.
 ghost use mathlib.Core.Path.{_≡_};
 ghost use mathlib.Core.Bool.{true, cond};
-ghost use Prim.Native.Nat.{_+_, _*_, _≤_, _<_, _^_};
+ghost use Prim.Native.Nat.{_+_, _-_, _*_, _≤_, _<_, _^_};
 ghost use lib.IntN.{pos, _+ℤ_, _-ℤ_};
-ghost use Rattle.integers.specs.Parts.{posPart, negPart};
+ghost use Rattle.base.specs.Parts.{posPart, negPart};
 ghost use Rattle.rules.specs.Areas.{tariff, referencePrice};
 ghost use Rattle.rules.specs.Levels.{today};
 ghost use Rattle.rules.specs.Signed.{signedOf, bitsOf, within};
@@ -18,11 +19,22 @@ pub struct Mwh(pub u64);
 // A sum of money, in cents.
 pub struct Cents(pub u64);
 
+// What an amount is above another, and 0 where it is not: max(0, a − b).
+pub fn excess(a: u64, b: u64) -> u64
+    ensures { λ r. ⌜ r ≡ a - b ⌝ }
+{
+    if a < b {
+        return 0;
+    }
+    a - b
+}
+
 // Cents for each MWh.
 pub struct Price(pub u32);
 
 impl Price {
-    // What an energy is worth at this price: the way from energy to money. Only the cuts of a tier, which are plain numbers, multiply by the rate of an area (`cut_worth`). No reference price in range is above 300,000.
+    // What an energy is worth at this price: the way from energy to money. Only the cuts of a tier, which are plain numbers, multiply by
+    // the rate of an area (`cut_worth`). No reference price in range is above 300,000.
     pub fn worth(self, energy: Mwh) -> Cents
         requires { ⌜ (self .0 ≤ 300000) × (energy .0 ≤ 2 ^ 45) ⌝ }
         ensures { λ r. ⌜ r .0 ≡ energy .0 * self .0 ⌝ }
@@ -71,11 +83,7 @@ impl Net {
         ensures { λ r. ⌜ r .0 < 2 ^ 31 ⌝ }
     {
         let x = self.0;
-        if x < Net::OFFSET {
-            Mwh(0)
-        } else {
-            Mwh((x - Net::OFFSET) as u64)
-        }
+        Mwh(excess(x as u64, Net::OFFSET as u64))
     }
 
     // How short it is: what it is below 0.
@@ -84,11 +92,7 @@ impl Net {
         ensures { λ r. ⌜ r .0 ≤ 2 ^ 31 ⌝ }
     {
         let x = self.0;
-        if x < Net::OFFSET {
-            Mwh((Net::OFFSET - x) as u64)
-        } else {
-            Mwh(0)
-        }
+        Mwh(excess(Net::OFFSET as u64, x as u64))
     }
 
     // Is it within the range of a physical entry, a million MWh either way?
@@ -168,11 +172,7 @@ impl Balance {
         ensures { λ r. ⌜ r .0 < 2 ^ 63 ⌝ }
     {
         let x = self.0;
-        if x < Balance::OFFSET {
-            Cents(0)
-        } else {
-            Cents(x - Balance::OFFSET)
-        }
+        Cents(excess(x, Balance::OFFSET))
     }
 
     // What is to the user's credit: what it is below 0.
@@ -181,11 +181,7 @@ impl Balance {
         ensures { λ r. ⌜ r .0 ≤ 2 ^ 63 ⌝ }
     {
         let x = self.0;
-        if x < Balance::OFFSET {
-            Cents(Balance::OFFSET - x)
-        } else {
-            Cents(0)
-        }
+        Cents(excess(Balance::OFFSET, x))
     }
 
     // Is it within the range of charges, 10^12 cents either way?
@@ -257,7 +253,8 @@ impl Posted {
     }
 }
 
-// The prices of a day, in cents per MWh: the tariffs P of PVB and Q of TVB and AVB, and the tolls L for liquefaction, X for PVB exit and I for injection.
+// The prices of a day, in cents per MWh: the tariffs P of PVB and Q of TVB and AVB, and the tolls L for liquefaction, X for PVB exit and I
+// for injection.
 pub struct Prices {
     pub p: u32,
     pub q: u32,
@@ -306,7 +303,8 @@ impl Area {
     }
 }
 
-// The three figures that the rules take as given: cents of a call, cents of the least level, MWh of a flag. The two that a store has in 64 bits each stand first: they are moved together.
+// The three figures that the rules take as given: cents of a call, cents of the least level, MWh of a flag. The two that a store has in 64
+// bits each stand first: they are moved together.
 pub struct Limits {
     pub margin: Cents,
     pub floor: Cents,

@@ -4,9 +4,8 @@ use native.Mathlib.Omega.{arith}
 use borrow.Author.Needs.{needs}
 use borrow.Author.Tests.{not-false, not-true}
 use denote.Ref.{now}
-use Rattle.format.specs.Book.{userCount}
+use Rattle.book_format.specs.Book.{userCount}
 use Rattle.run_reduction.proofs.Filled.{no-cuts}
-use Rattle.run_reduction.proofs.Start.{run-counted}
 use Rattle.run_reduction.proofs.Steps.{part-few, part-rises, reducible, run-prices, sales-in}
 use Rattle.call_reduction.proofs.Cuts.{own-cuttable, own-reduced, own-refused, user-reached, user-run}
 use Rattle.call_reduction.proofs.reduce_listed.Statement.{statement}
@@ -37,19 +36,21 @@ reduce-requires c κs =
     ((run-prices q, sales-in q k h, reducible q k h), (no-cuts _ _ (part-rises q k) (part-few q k), refl))
 
 get-u8-requires : tie.Need-get-u8-requires
-get-u8-requires c κs = omega (arith, c .before .before .before .before .before .before .before .before .before .before .before .before .pre .0 .book .book .held .form .head)
+get-u8-requires c κs = omega (arith, c .before .before .before .before .before .before .before .before .before .before .before .before .pre .0 .book .book .accepted .held .form .head)
 
 apply-requires : tie.Need-apply-requires
 apply-requires c κs =
     let s = c .before .before .before .before .before .before .before .before .before .before .before .before .before .before .before in
-    (run-counted (s .pre .0 .book) (users-are (c .before .before)) refl, own-cuttable (s .pre .0) (s .pre .1) (s .args .asked .0) _ _ (c .before .before .before .before .reduce .ensures .0) refl)
+    ((s .pre .0 .book .book, own-cuttable (s .pre .0) (s .pre .1) (s .args .asked .0) _ _ (c .before .before .before .before .reduce .ensures .0) refl), users-are (c .before .before))
 
 returns-2 : tie.Need-returns-2
 returns-2 c =
     let s = c .before .before .before .before .before .before .before .before .before .before .before .before .before .before .before .before .before .before .before in
     let left = c .before .before .before .before .before .before .before .before .before .before .before .before .before .before .any-left in
     let r = c .before .before .before .before .before .before .before .before .reduce .ensures in
-    own-reduced (s .pre .0) (s .pre .1) (s .args .asked .0) _ _ (r .0) refl (left .ensures) (not-false (left .result) (c .before .before .before .before .before .before .before .before .before .before .before .before .before .if1 .left)) (r .1 .1 .1 .0) (c .before .before .before .apply .ensures) (c .of-cuts .ensures)
+    own-reduced (s .pre .0) (s .pre .1) (s .args .asked .0) _ _ (r .0) refl (left .ensures)
+    (not-false (left .result) (c .before .before .before .before .before .before .before .before .before .before .before .before .before .if1 .left))
+    (r .1 .1 .1 .0) (c .before .before .before .apply .ensures) (c .of-cuts .ensures)
 
 pub reduce-listed-spec : {M : Type 1} → statement M
 reduce-listed-spec =

@@ -4,13 +4,11 @@ use native.Mathlib.Omega.{arith}
 use borrow.Author.Needs.{needs}
 use denote.Ref.{now}
 use lib.ListN.{getD}
-use Rattle.cut_lists.proofs.Lists.{accepted-placed, accepted-trading}
-use Rattle.format.specs.Book.{bookOf, tradeCount, userCount, usersOf}
+use Rattle.book_format.specs.Book.{bookOf, tradeCount, userCount, usersOf}
 use Rattle.rules.specs.Book.{nobody}
 use Rattle.rules.specs.Levels.{afternoonLevel, calledIn}
 use Rattle.rules.specs.Questions.{numberOf, refusal}
 use Rattle.units.specs.Limits.{asLimits}
-use Rattle.run_reduction.proofs.Start.{run-counted}
 use Rattle.run_reduction.proofs.Steps.{accepted-day}
 use Rattle.call_reduction.specs.Call.{levelQuestions}
 use Rattle.call_reduction.proofs.Cuts.{asked-called, asked-level, asked-number, asked-target}
@@ -28,7 +26,8 @@ unfolding tradeCount
 trades-are c = c .get-u16 .ensures
 
 -- the level is the user's, and whether it is called in
-level-is : (c : tie.After-level-at) → let a = c .before .before .before .before .before .before .before .before .before .before .before .before .before .before .before .before .args in c .level-at .result .0 ≡ afternoonLevel (asLimits (a .day .limits)) (bookOf (now (a .book))) (getD (usersOf (now (a .book))) (a .place) nobody)
+level-is : (c : tie.After-level-at) → let a = c .before .before .before .before .before .before .before .before .before .before .before .before .before .before .before .before .args in c .level-at .result .0 ≡ afternoonLevel
+    (asLimits (a .day .limits)) (bookOf (now (a .book))) (getD (usersOf (now (a .book))) (a .place) nobody)
 level-is c =
     let s = c .before .before .before .before .before .before .before .before .before .before .before .before .before .before .before .before in
     asked-level (s .pre .0) (s .pre .1) (c .before .before .before .before .before .before .before .before .fill-positions .ensures .0) (c .level-at .ensures)
@@ -36,37 +35,53 @@ level-is c =
 called-is : (c : tie.After-called-at) → let a = c .before .before .before .before .before .before .before .before .before .before .before .before .before .args in c .called-at .result ≡ calledIn (asLimits (a .day .limits)) (bookOf (now (a .book))) (getD (usersOf (now (a .book))) (a .place) nobody)
 called-is c =
     let s = c .before .before .before .before .before .before .before .before .before .before .before .before .before in
-    asked-called (s .pre .0) (s .pre .1) (c .before .before .before .before .before .fill-positions .ensures .0) (users-are (c .before .before .before .before .before .before .before .before .before .before)) (trades-are (c .before .before .before .before .before .before .before .before)) (c .called-at .ensures) (c .before .before .before .cut-at .ensures)
+    asked-called (s .pre .0) (s .pre .1) (c .before .before .before .before .before .fill-positions .ensures .0) (c .called-at .ensures) (c .before .before .before .cut-at .ensures)
 
 -- the number is that of the questions 9, 11 and 13
-number-is : (c : tie.After-refused-by) → let a = c .before .before .before .before .before .before .before .before .before .before .before .before .before .before .before .before .before .before .before .args in c .refused-by .result ≡ numberOf (refusal (levelQuestions (asLimits (a .day .limits)) (bookOf (now (a .book))) (getD (usersOf (now (a .book))) (a .place) nobody)))
+number-is : (c : tie.After-refused-by) → let a = c .before .before .before .before .before .before .before .before .before .before .before .before .before .before .before .before .before .before .before .args in c .refused-by .result
+    ≡ numberOf (refusal (levelQuestions (asLimits (a .day .limits)) (bookOf (now (a .book))) (getD (usersOf (now (a .book))) (a .place) nobody)))
 number-is c =
     let s = c .before .before .before .before .before .before .before .before .before .before .before .before .before .before .before .before .before .before .before in
-    asked-number (s .pre .0) (s .pre .1) (c .before .before .before .before .before .before .before .before .before .before .before .fill-positions .ensures .0) (level-is (c .before .before .before)) (called-is (c .before .before .before .before .before .before)) (c .refused-by .ensures) (c .before .state-of .ensures)
+    asked-number (s .pre .0) (s .pre .1) (c .before .before .before .before .before .before .before .before .before .before .before .fill-positions .ensures .0) (level-is (c .before .before .before))
+    (called-is (c .before .before .before .before .before .before)) (c .refused-by .ensures) (c .before .state-of .ensures)
 
 fill-positions-requires : tie.Need-fill-positions-requires
-fill-positions-requires c κs = (c .before .before .before .before .before .before .before .pre .0 .book .held .form, users-are (c .before .before .before .before), refl)
+fill-positions-requires c κs = (c .before .before .before .before .before .before .before .pre .0 .book .accepted .held .form, users-are (c .before .before .before .before), refl)
 
 cut-at-requires : tie.Need-cut-at-requires
 cut-at-requires c κs =
     let s = c .before .before .before .before .before .before .before .before .before in
-    let b = run-counted (s .pre .0) (users-are (c .before .before .before .before .before .before)) (trades-are (c .before .before .before .before)) in
-    (accepted-trading b, accepted-placed b, omega (arith, s .pre .1, users-are (c .before .before .before .before .before .before)))
+    (s .pre .0 .book, users-are (c .before .before .before .before .before .before), trades-are (c .before .before .before .before), omega (arith, s .pre .1, users-are (c .before .before .before .before .before .before)))
 
 called-at-requires : tie.Need-called-at-requires
 called-at-requires c κs =
-    let r = c .before .before .before .before .before .before .before .before .before .before .before .before .pre .0 in
-    (accepted-day (now (c .before .before .before .before .before .before .before .before .before .before .before .before .args .book)) (r .book .sound) (r .prices-are) (r .limits-in), record { form = r .book .held .form; inside = c .before .before .before .before .before .before .before .before .before .before .before .before .pre .1 })
+    let r = c .before .before .before .before .before .before .before .before .before .before .before .before .pre .0 in (
+      accepted-day (now (c .before .before .before .before .before .before .before .before .before .before .before .before .args .book)) (r .book .accepted .sound) (r .prices-are) (r .limits-in),
+      record { form = r .book .accepted .held .form; inside = c .before .before .before .before .before .before .before .before .before .before .before .before .pre .1 },
+    )
 
 level-at-requires : tie.Need-level-at-requires
 level-at-requires c κs =
-    let r = c .before .before .before .before .before .before .before .before .before .before .before .before .before .before .before .pre .0 in
-    (accepted-day (now (c .before .before .before .before .before .before .before .before .before .before .before .before .before .before .before .args .book)) (r .book .sound) (r .prices-are) (r .limits-in), record { form = r .book .held .form; inside = c .before .before .before .before .before .before .before .before .before .before .before .before .before .before .before .pre .1 }, r .low)
+    let r = c .before .before .before .before .before .before .before .before .before .before .before .before .before .before .before .pre .0 in (
+      accepted-day (now (c .before .before .before .before .before .before .before .before .before .before .before .before .before .before .before .args .book)) (r .book .accepted .sound)
+          (r .prices-are) (r .limits-in),
+      record {
+        form = r .book .accepted .held .form;
+        inside = c .before .before .before .before .before .before .before .before .before .before .before .before .before .before .before .pre .1;
+      },
+      r .low,
+    )
 
 state-of-requires : tie.Need-state-of-requires
 state-of-requires c κs =
-    let r = c .before .before .before .before .before .before .before .before .before .before .before .before .before .before .before .before .before .pre .0 in
-    (accepted-day (now (c .before .before .before .before .before .before .before .before .before .before .before .before .before .before .before .before .before .args .book)) (r .book .sound) (r .prices-are) (r .limits-in), record { form = r .book .held .form; inside = c .before .before .before .before .before .before .before .before .before .before .before .before .before .before .before .before .before .pre .1 })
+    let r = c .before .before .before .before .before .before .before .before .before .before .before .before .before .before .before .before .before .pre .0 in (
+      accepted-day (now (c .before .before .before .before .before .before .before .before .before .before .before .before .before .before .before .before .before .args .book))
+          (r .book .accepted .sound) (r .prices-are) (r .limits-in),
+      record {
+        form = r .book .accepted .held .form;
+        inside = c .before .before .before .before .before .before .before .before .before .before .before .before .before .before .before .before .before .pre .1;
+      },
+    )
 
 returns : tie.Need-returns
 returns c =
@@ -77,8 +92,10 @@ returns c =
 
 target-of-requires : tie.Need-target-of-requires
 target-of-requires c κs =
-    let r = c .before .before .before .before .before .before .before .before .before .before .before .before .before .before .before .before .before .before .before .before .before .pre .0 in
-    (accepted-day (now (c .before .before .before .before .before .before .before .before .before .before .before .before .before .before .before .before .before .before .before .before .before .args .book)) (r .book .sound) (r .prices-are) (r .limits-in), record { form = r .book .held .form; inside = c .before .before .before .before .before .before .before .before .before .before .before .before .before .before .before .before .before .before .before .before .before .pre .1 })
+    let r = c .before .before .before .before .before .before .before .before .before .before .before .before .before .before .before .before .before .before .before .before .before .pre .0 in (
+      accepted-day (now (c .before .before .before .before .before .before .before .before .before .before .before .before .before .before .before .before .before .before .before .before .before .args .book)) (r .book .accepted .sound) (r .prices-are) (r .limits-in),
+      record { form = r .book .accepted .held .form; inside = c .before .before .before .before .before .before .before .before .before .before .before .before .before .before .before .before .before .before .before .before .before .pre .1 },
+    )
 
 reduce-sales-requires : tie.Need-reduce-sales-requires
 reduce-sales-requires c κs =
@@ -91,7 +108,8 @@ returns-2 c =
     let s = c .before .before .before .before .before .before .before .before .before .before .before .before .before .before .before .before .before .before .before .before .before .before .before .before .before .before .before in
     let a = s .args in
     let k = c .before .before .before .before .before .before .before .before in
-    let target-is = asked-target (s .pre .0) (s .pre .1) (c .before .before .before .before .before .before .before .before .before .before .before .before .before .before .before .before .before .before .before .fill-positions .ensures .0) (level-is (c .before .before .before .before .before .before .before .before .before .before .before)) (called-is (c .before .before .before .before .before .before .before .before .before .before .before .before .before .before)) (k .refused-by .ensures)
+    let target-is = asked-target (s .pre .0) (s .pre .1) (c .before .before .before .before .before .before .before .before .before .before .before .before .before .before .before .before .before .before .before .fill-positions .ensures .0)
+    (level-is (c .before .before .before .before .before .before .before .before .before .before .before)) (called-is (c .before .before .before .before .before .before .before .before .before .before .before .before .before .before)) (k .refused-by .ensures)
     (c .before .before .before .before .before .before .before .before .before .state-of .ensures) (c .before .before .before .before .before .before .before .if1 .left) (c .before .before .before .before .before .target-of .ensures) in
     rw (user-asked (asLimits (a .day .limits)) (now (a .book)) (getD (usersOf (now (a .book))) (a .place) nobody) (number-is k) (c .before .before .before .before .before .before .before .if1 .left) target-is) (c .before .before .reduce-sales .ensures)
 

@@ -2,9 +2,9 @@
 use mathlib.Core.Path.{_≡_}
 use borrow.Author.Needs.{needs}
 use denote.Ref.{now}
-use Rattle.entry.proofs.Calls.{called}
-use Rattle.entry.specs.Entered.{Found}
-use Rattle.format.proofs.Passed.{passed}
+use Rattle.call_entry.proofs.Calls.{called}
+use Rattle.call_entry.specs.Entered.{Found}
+use Rattle.book_format.proofs.Passed.{passed}
 use Rattle.units.specs.Limits.{asLimits}
 use Rattle.run_reduction.proofs.Asked.{found-runnable}
 use Rattle.call_reduction.specs.Call.{reductionOf}

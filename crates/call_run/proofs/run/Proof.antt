@@ -2,8 +2,8 @@
 use mathlib.Core.Path.{_≡_}
 use borrow.Author.Needs.{needs}
 use denote.Ref.{now}
-use Rattle.format.proofs.Passed.{passed}
-use Rattle.format.specs.Questions.{bookNumber}
+use Rattle.book_format.proofs.Passed.{passed}
+use Rattle.book_format.specs.Questions.{bookNumber}
 use Rattle.units.specs.Limits.{asLimits}
 use Rattle.run_reduction.proofs.Asked.{found-runnable}
 use Rattle.call_run.proofs.Ways.{run-called, run-refused}

@@ -7,15 +7,15 @@ use Rattle.cut_apply.proofs.apply_many.Statement.{statement}
 use Rattle.cut_apply.proofs.apply_many.Tie as tie
 
 slice-aggregate-apply-noting : tie.Need-slice-aggregate-apply-noting
-slice-aggregate-apply-noting c = sym (length-take-le _ _ (c .before .before .before .pre .1))
+slice-aggregate-apply-noting c = sym (length-take-le _ _ (c .before .before .before .pre .0 .1))
 
 slice-aggregate-apply-noting-2 : tie.Need-slice-aggregate-apply-noting-2
-slice-aggregate-apply-noting-2 c = sym (length-take-le _ _ (c .before .before .before .before .pre .1))
+slice-aggregate-apply-noting-2 c = sym (length-take-le _ _ (c .before .before .before .before .pre .0 .1))
 
 apply-noting-requires : tie.Need-apply-noting-requires
 apply-noting-requires c κs =
     let p = c .before .before .before .before .pre in
-    lent-room 256 (p .0) (p .1)
+    (lent-room 256 (p .0 .0) (p .0 .1), p .1)
 
 pub apply-many-spec : {M : Type 1} → statement M
 apply-many-spec =

@@ -4,11 +4,12 @@ use Prim.Native.Nat.{_-_}
 use native.Mathlib.Omega.{arith}
 use borrow.Author.Needs.{needs}
 use lib.ListN.{length}
-use Rattle.arrays.proofs.Rewriting.{Rewritten, rewritten-start}
-use Rattle.format.specs.Book.{tradesOf}
-use Rattle.records.specs.Trade.{asTrade}
+use Rattle.base.proofs.Rewriting.{Rewritten, rewritten-start}
+use Rattle.book_format.specs.Book.{tradesOf}
+use Rattle.book_records.specs.Trade.{asTrade}
 use Rattle.cut_records.specs.Places.{atPlaces}
-use Rattle.cut_records.proofs.Places.{place-low, place-of}
+use Rattle.book_format.proofs.Places.{trade-low}
+use Rattle.cut_records.proofs.Places.{place-of}
 use Rattle.cut_records.proofs.Read.{read-turn, read-end}
 use Rattle.cut_records.proofs.read_few.Statement.{statement}
 use Rattle.cut_records.proofs.read_few.Tie as tie
@@ -26,7 +27,7 @@ cast-place : tie.Need-cast-place Inv-loop μ-loop
 cast-place c =
     let l = c .before .before in
     let s = l .before .before .before .before in
-    omega (arith, place-low (place-of (s .pre) (l .loop .k) (c .before .loop-test .taken)))
+    omega (arith, trade-low (place-of (s .pre) (l .loop .k) (c .before .loop-test .taken)))
 
 trade-at-requires : tie.Need-trade-at-requires Inv-loop μ-loop
 trade-at-requires c κs =

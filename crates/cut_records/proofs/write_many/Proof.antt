@@ -3,7 +3,8 @@ use Prim.Native.Nat.{_-_}
 use native.Mathlib.Omega.{arith}
 use borrow.Author.Needs.{needs}
 use lib.ListN.{length}
-use Rattle.cut_records.proofs.Places.{place-low, place-of}
+use Rattle.book_format.proofs.Places.{trade-low}
+use Rattle.cut_records.proofs.Places.{place-of}
 use Rattle.cut_records.proofs.Placed.{PlacedSo, placed-start, placed-next, placed-turn, placed-long, placed-end}
 use Rattle.cut_records.proofs.write_many.Statement.{statement}
 use Rattle.cut_records.proofs.write_many.Tie as tie
@@ -21,7 +22,7 @@ cast-place : tie.Need-cast-place Inv-loop μ-loop
 cast-place c =
     let l = c .before .before in
     let s = l .before .before .before in
-    omega (arith, place-low (place-of (s .pre) (l .loop .k) (c .before .loop-test .taken)))
+    omega (arith, trade-low (place-of (s .pre) (l .loop .k) (c .before .loop-test .taken)))
 
 put-trade-requires : tie.Need-put-trade-requires Inv-loop μ-loop
 put-trade-requires c κs =

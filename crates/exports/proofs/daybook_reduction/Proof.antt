@@ -1,6 +1,6 @@
 -- `daybook_reduction` makes the reduction where the lent part has five places, and stores its numbers there. Assumes nothing.
 use denote.Ref.{now}
-use Rattle.storing.specs.Numbers.{reductionNumbers}
+use Rattle.exports_answers.specs.Numbers.{reductionNumbers}
 use Rattle.exports.specs.Answers.{isYes}
 use Rattle.exports.proofs.Lent.{answered, not-called}
 use borrow.Author.Needs.{needs}

@@ -1,6 +1,6 @@
 -- `daybook_run` makes the run where the lent part has three places, and stores its numbers there. Assumes nothing.
 use denote.Ref.{now}
-use Rattle.storing.specs.Numbers.{runNumbers}
+use Rattle.exports_answers.specs.Numbers.{runNumbers}
 use Rattle.exports.specs.Answers.{isYes}
 use Rattle.exports.proofs.Lent.{answered, not-called}
 use borrow.Author.Needs.{needs}

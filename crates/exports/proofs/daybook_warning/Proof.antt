@@ -1,6 +1,6 @@
 -- `daybook_warning` stores whether the user is warned in a part of one place, and leaves another part as it is. Assumes nothing.
 use denote.Ref.{now}
-use Rattle.storing.specs.Numbers.{warningNumbers}
+use Rattle.exports_answers.specs.Numbers.{warningNumbers}
 use Rattle.exports.specs.Answers.{isYes}
 use Rattle.exports.proofs.Lent.{refused, replied}
 use borrow.Author.Needs.{needs}

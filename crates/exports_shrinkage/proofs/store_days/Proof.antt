@@ -4,19 +4,18 @@ use native.Mathlib.Omega.{arith}
 use mathlib.Core.Path.{sym}
 use lib.ListN.{length-map, List·getD-map}
 use Rattle.shrinkage.specs.Answer.{kwhOf}
-use Rattle.storing.proofs.Stores.{Stored, stored-none, stored-more, stored-all}
+use Rattle.base.proofs.Storing.{Storing, storing-start, storing-next, storing-all}
 use Rattle.exports_shrinkage.proofs.store_days.Statement.{statement}
 use Rattle.exports_shrinkage.proofs.store_days.Tie as tie
 
 abbrev Inv-loop : tie.InvT-loop
-Inv-loop answer₀ days i₀ answer i = Stored (kwhOf days) answer i
+Inv-loop answer₀ days i₀ answer i = Storing (kwhOf days) 0 answer₀ answer i
 
 abbrev μ-loop : tie.MeasureT-loop
 μ-loop answer₀ days i₀ answer i = 30 - i
 
 loop-holds : tie.Need-loop-holds Inv-loop μ-loop
-unfolding kwhOf
-loop-holds c = stored-none _ _ (omega (arith, c .pre, c .good, length-map (c .args .t2) (λ k. k .0)))
+loop-holds c = storing-start _ 0 (c .args .answer .now)
 
 mul-answer : tie.Need-mul-answer Inv-loop μ-loop
 mul-answer c = omega arith
@@ -28,8 +27,7 @@ mul-answer-2 : tie.Need-mul-answer-2 Inv-loop μ-loop
 mul-answer-2 c = omega arith
 
 slice-write-answer : tie.Need-slice-write-answer Inv-loop μ-loop
-unfolding kwhOf
-slice-write-answer c = omega (arith, c .before .loop .inv .long, c .before .before .good, length-map (c .before .before .args .t2) (λ k. k .0))
+slice-write-answer c = omega (arith, c .before .loop .inv .long, c .before .before .pre)
 
 add-i : tie.Need-add-i Inv-loop μ-loop
 add-i c = omega arith
@@ -42,16 +40,16 @@ unfolding kwhOf
 loop-again c =
     let l = c .before .loop in
     let days = c .before .before .args .t2 in
-    stored-more (kwhOf days) (l .answer) (l .i) _ (omega (arith, c .before .before .good, length-map days (λ k. k .0)))
-    (sym (List·getD-map (λ k. k .0) days (l .i) (record { 0 = 0 }))) (l .inv)
+    storing-next (l .inv) _ 0 (omega (arith, c .before .before .good, length-map days (λ k. k .0))) (sym (List·getD-map (λ k. k .0) days (l .i) (record { 0 = 0 })))
 
 same-length : tie.Need-same-length Inv-loop μ-loop
-unfolding kwhOf
-same-length c = omega (arith, c .before .loop .inv .long, c .before .before .pre, c .before .before .good, length-map (c .before .before .args .t2) (λ k. k .0))
+same-length c = c .before .loop .inv .long
 
 returns : tie.Need-returns Inv-loop μ-loop
 unfolding kwhOf
-returns c = stored-all _ _ (c .before .loop .i) (omega (arith, c .before .before .good, length-map (c .before .before .args .t2) (λ k. k .0))) (c .before .loop .inv)
+returns c =
+    storing-all (c .before .loop .inv) (omega (arith, c .before .before .pre, c .before .before .good, length-map (c .before .before .args .t2) (λ k. k .0)))
+    (omega (arith, c .before .before .good, length-map (c .before .before .args .t2) (λ k. k .0)))
 
 pub store-days-spec : {M : Type 1} → statement M
 store-days-spec =

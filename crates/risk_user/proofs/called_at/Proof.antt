@@ -1,33 +1,32 @@
--- `called_at`: who is party to a trade standing below notified is called in, and else who is flagged. Assumes nothing.
-use mathlib.Core.Bool.{Bool, true, false, _||_}
-use mathlib.Core.Path.{_≡_, refl, sym, _∙_}
+-- `called_at`: asked of the blocked guarantee and the positions that are read. Assumes nothing.
+use mathlib.Core.Bool.{Bool, _||_}
+use mathlib.Core.Path.{ap, _∙_}
+use native.Mathlib.Omega.{arith}
+use lib.ListN.{getD}
 use borrow.Author.Needs.{needs}
 use denote.Ref.{now}
-use Rattle.format.specs.Book.{usersOf}
+use Rattle.book_format.specs.Book.{usersOf}
+use Rattle.rules.specs.Book.{nobody}
 use Rattle.units.specs.Prices.{asPrices}
 use Rattle.units.specs.Limits.{asLimits}
-use Rattle.risk_user.specs.Account.{flaggedAt}
+use Rattle.risk_user.specs.UserAt.{flaggedAt}
+use Rattle.risk_user.proofs.Held.{flagged-positions}
 use Rattle.risk_user.proofs.called_at.Statement.{statement}
 use Rattle.risk_user.proofs.called_at.Tie as tie
 
-or-cut : (flagged : Bool) {cut : Bool} → cut ≡ true → true ≡ (flagged || cut)
-or-cut true e = refl
-or-cut false e = sym e
-
-or-uncut : {r flagged : Bool} {cut : Bool} → r ≡ flagged → cut ≡ false → r ≡ (flagged || cut)
-or-uncut {r} {flagged} {cut} h e = h ∙ go flagged
-  where
-    go : (x : Bool) → x ≡ (x || cut)
-    go true = refl
-    go false = sym e
+called-in-requires : tie.Need-called-in-requires
+called-in-requires c κs =
+    let s = c .before .before .before in
+    (s .pre .0 .limits-in, s .pre .0 .prices-in, omega (arith, c .before .blocked-at .ensures, s .pre .0 .blocked-most (s .args .place)))
 
 returns : tie.Need-returns
+unfolding flaggedAt
 returns c =
-    let a = c .before .before .args in
-    or-cut (flaggedAt (asLimits (a .day .limits)) (asPrices (a .day .prices)) (usersOf (now (a .book))) (now (a .positions)) (a .place)) (c .if1 .taken)
-
-returns-2 : tie.Need-returns-2
-returns-2 c = or-uncut (c .flagged-at .ensures) (c .before .if1 .left)
+    let p = c .before in
+    let a = p .before .before .before .args in
+    let u = getD (usersOf (now (a .book))) (a .place) nobody in
+    c .called-in .ensures u (p .before .blocked-at .ensures)
+    ∙ ap (λ (x : Bool). x || a .cut) (flagged-positions (now (a .positions)) (a .place) (p .positions-at .result) (p .positions-at .ensures) (asLimits (a .day .limits)) (asPrices (a .day .prices)) u)
 
 pub called-at-spec : {M : Type 1} → statement M
-called-at-spec = tie.close (tie.spec returns (λ c κs. search needs) returns-2)
+called-at-spec = tie.close (tie.spec (λ c κs. search needs) (λ c κs. search needs) called-in-requires returns)

@@ -7,7 +7,10 @@ use Rattle.risk_user.proofs.charges_at.Statement.{statement}
 use Rattle.risk_user.proofs.charges_at.Tie as tie
 
 returns : tie.Need-returns
-returns c = c .of-bits .ensures ∙ ap (signedOf 64) (c .before .get-u64 .ensures) ∙ charges-is (c .before .before .before .pre)
+returns c =
+    let g = c .before in
+    let o = g .before in
+    c .of-bits .ensures ∙ ap (signedOf 64) (g .get-u64 .ensures) ∙ charges-is (o .before .before .pre) (o .user-offset .ensures .0)
 
 pub charges-at-spec : {M : Type 1} → statement M
-charges-at-spec = tie.close (tie.spec (λ c. search needs) (λ c. search needs) (λ c. search needs) (λ c κs. search needs) (λ c κs. search needs) returns)
+charges-at-spec = tie.close (tie.spec (λ c κs. search needs) (λ c. search needs) (λ c κs. search needs) (λ c κs. search needs) returns)

@@ -1,25 +1,31 @@
--- `level_at`: the needs of the three areas and the short positions are the sums of the definition. Assumes nothing.
-use Rattle.format.specs.Book.{usersOf}
-use Rattle.risk_user.proofs.Targets.{level-sum}
-use Rattle.units.specs.Prices.{asPrices}
-use Rattle.units.specs.Limits.{asLimits}
+-- `level_at`: asked of the charges and the holdings that are read. Assumes nothing.
+use mathlib.Core.Path.{ap, _∙_}
+use lib.IntN.{ℤ}
+use lib.ListN.{getD}
 use borrow.Author.Needs.{needs}
 use denote.Ref.{now}
-use native.Mathlib.Omega.{arith}
+use Rattle.book_format.specs.Book.{usersOf}
+use Rattle.rules.specs.Book.{nobody}
+use Rattle.rules.specs.Levels.{afternoonSum, floored}
+use Rattle.units.specs.Prices.{asPrices}
+use Rattle.units.specs.Limits.{asLimits}
+use Rattle.risk_holdings.specs.Holdings.{heldIn}
+use Rattle.risk_user.specs.UserAt.{levelAt}
+use Rattle.risk_user.proofs.Held.{level-positions}
 use Rattle.risk_user.proofs.level_at.Statement.{statement}
 use Rattle.risk_user.proofs.level_at.Tie as tie
 
-floored-requires : tie.Need-floored-requires
-floored-requires c κs = (c .before .before .before .before .before .before .before .before .before .before .before .before .pre .0 .limits-in, omega (arith, c .before .before .before .before .exposure-at .ensures .1, c .before .before .before .before .before .need-worth3 .ensures .1, c .before .before .before .before .before .before .need-worth2 .ensures .1, c .before .before .before .before .before .before .before .need-worth .ensures .1))
-
 returns : tie.Need-returns
+unfolding levelAt
 returns c =
-    let a = c .before .before .before .before .before .before .before .before .before .before .before .before .before .args in
-    level-sum (asLimits (a .day .limits)) (asPrices (a .day .prices)) (usersOf (now (a .book))) (now (a .sums)) (now (a .positions)) (a .place)
-    (c .before .before .before .before .before .before .before .before .before .charges-at .result) (c .floored .ensures) (c .before .before .before .before .before .before .before .before .before .charges-at .ensures) (c .before .before .before .before .before .before .before .before .need-worth .ensures .0) (c .before .before .before .before .before .before .before .need-worth2 .ensures .0) (c .before .before .before .before .before .before .need-worth3 .ensures .0) (c .before .before .before .before .before .exposure-at .ensures .0)
+    let h = c .before in
+    let p = h .before in
+    let a = p .before .before .before .args in
+    let l = asLimits (a .day .limits) in
+    let f = asPrices (a .day .prices) in
+    c .afternoon-level .ensures
+    ∙ ap (λ (z : ℤ). floored l (afternoonSum f (heldIn (h .holdings-at .result)) z)) (p .before .charges-at .ensures)
+    ∙ level-positions (now (a .positions)) (a .place) (p .positions-at .result) (p .positions-at .ensures) (h .holdings-at .ensures) l f (getD (usersOf (now (a .book))) (a .place) nobody)
 
 pub level-at-spec : {M : Type 1} → statement M
-level-at-spec =
-    tie.close
-    (tie.spec (λ c κs. search needs) (λ c κs. search needs) (λ c κs. search needs) (λ c κs. search needs) (λ c κs. search needs) (λ c. search needs)
-    (λ c. search needs) (λ c. search needs) floored-requires returns)
+level-at-spec = tie.close (tie.spec (λ c κs. search needs) (λ c κs. search needs) (λ c κs. search needs) (λ c κs. search needs) returns)

@@ -6,7 +6,9 @@ use Rattle.risk_user.proofs.role_at.Statement.{statement}
 use Rattle.risk_user.proofs.role_at.Tie as tie
 
 returns : tie.Need-returns
-returns c = c .get-u8 .ensures ∙ role-is (c .before .before .pre)
+returns c =
+    let o = c .before in
+    c .get-u8 .ensures ∙ role-is (o .before .before .pre) (o .user-offset .ensures .0)
 
 pub role-at-spec : {M : Type 1} → statement M
-role-at-spec = tie.close (tie.spec (λ c. search needs) (λ c. search needs) (λ c. search needs) (λ c κs. search needs) returns)
+role-at-spec = tie.close (tie.spec (λ c κs. search needs) (λ c. search needs) (λ c κs. search needs) returns)

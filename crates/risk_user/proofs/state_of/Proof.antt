@@ -3,7 +3,7 @@ use lib.ListN.{getD}
 use borrow.Author.Needs.{needs}
 use borrow.Author.Tests.{not-true, not-false}
 use denote.Ref.{now}
-use Rattle.format.specs.Book.{usersOf}
+use Rattle.book_format.specs.Book.{usersOf}
 use Rattle.rules.specs.Book.{User, nobody}
 use Rattle.rules.specs.Levels.{Limits}
 use Rattle.units.specs.Limits.{asLimits}
@@ -35,15 +35,27 @@ returns-3 c =
 
 returns-4 : tie.Need-returns-4
 returns-4 c =
-    let s = c .before .before .before .before .before .before .before .before in
-    state-call (l s) (u s) (s .args .level .0) (c .before .before .before .before .before .before .role-at .ensures) (c .before .before .before .before .before .if1 .left) (not-false (s .args .called) (c .before .before .before .before .if2 .left)) (c .before .before .before .target-of .ensures) (c .before .before .if3 .left)
-    (c .before .exceeds-margin .ensures) (c .if4 .taken)
+    let m = c .before in
+    let e = m .before in
+    let t = e .before in
+    let f = t .before in
+    let h = f .before in
+    let r = h .before in
+    let s = r .before .before in
+    state-call (l s) (u s) (s .args .level .0) (r .role-at .ensures) (h .if1 .left) (not-false (s .args .called) (f .if2 .left)) (t .target-of .ensures) (e .if3 .left)
+    (m .exceeds-margin .ensures) (c .if4 .taken)
 
 returns-5 : tie.Need-returns-5
 returns-5 c =
-    let s = c .before .before .before .before .before .before .before .before in
-    state-within (l s) (u s) (s .args .level .0) (c .before .before .before .before .before .before .role-at .ensures) (c .before .before .before .before .before .if1 .left) (not-false (s .args .called) (c .before .before .before .before .if2 .left)) (c .before .before .before .target-of .ensures) (c .before .before .if3 .left)
-    (c .before .exceeds-margin .ensures) (c .if4 .left)
+    let m = c .before in
+    let e = m .before in
+    let t = e .before in
+    let f = t .before in
+    let h = f .before in
+    let r = h .before in
+    let s = r .before .before in
+    state-within (l s) (u s) (s .args .level .0) (r .role-at .ensures) (h .if1 .left) (not-false (s .args .called) (f .if2 .left)) (t .target-of .ensures) (e .if3 .left)
+    (m .exceeds-margin .ensures) (c .if4 .left)
 
 pub state-of-spec : {M : Type 1} → statement M
 state-of-spec = tie.close (tie.spec (λ c κs. search needs) returns returns-2 (λ c κs. search needs) returns-3 (λ c κs. search needs) returns-4 returns-5)

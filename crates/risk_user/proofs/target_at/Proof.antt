@@ -1,5 +1,5 @@
 -- `target_at`: a clearing house has none, and a shipper that of its level. Assumes nothing.
-use Rattle.format.specs.Book.{usersOf}
+use Rattle.book_format.specs.Book.{usersOf}
 use Rattle.risk_user.proofs.Targets.{target-house, target-shipper}
 use Rattle.units.specs.Prices.{asPrices}
 use Rattle.units.specs.Limits.{asLimits}

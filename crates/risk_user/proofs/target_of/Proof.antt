@@ -2,28 +2,24 @@
 use lib.ListN.{getD}
 use borrow.Author.Needs.{needs}
 use denote.Ref.{now}
-use Rattle.format.specs.Book.{usersOf}
+use Rattle.book_format.specs.Book.{usersOf}
 use Rattle.rules.specs.Book.{nobody}
 use Rattle.units.specs.Limits.{asLimits}
-use Rattle.risk_user.proofs.Targets.{target-covered, target-short, target-within}
+use Rattle.risk_user.proofs.Targets.{target-beyond, target-within}
 use Rattle.risk_user.proofs.target_of.Statement.{statement}
 use Rattle.risk_user.proofs.target_of.Tie as tie
 
 returns : tie.Need-returns
 returns c =
-    let a = c .before .before .before .before .before .args in
-    target-covered (asLimits (a .day .limits)) (getD (usersOf (now (a .book))) (a .place) nobody) (a .level .0) (c .before .before .before .assigned-at .ensures) (c .if1 .taken)
+    let t = c .before .before in
+    let a = t .before .before .before .args in
+    target-beyond (asLimits (a .day .limits)) (getD (usersOf (now (a .book))) (a .place) nobody) (a .level .0) (t .before .exceeds-margin .ensures) (t .if1 .taken)
+    (c .before .assigned-at .ensures) (c .excess .ensures)
 
 returns-2 : tie.Need-returns-2
 returns-2 c =
-    let a = c .before .before .before .before .before .before .before .before .before .args in
-    target-short (asLimits (a .day .limits)) (getD (usersOf (now (a .book))) (a .place) nobody) (a .level .0) (c .before .before .before .exceeds-margin .ensures) (c .before .before .if2 .taken)
-    (c .before .before .before .before .before .before .before .assigned-at .ensures) (c .before .before .before .before .if1 .left)
-
-returns-3 : tie.Need-returns-3
-returns-3 c =
-    let a = c .before .before .before .before .before .before .before .args in
-    target-within (asLimits (a .day .limits)) (getD (usersOf (now (a .book))) (a .place) nobody) (a .level .0) (c .before .exceeds-margin .ensures) (c .if2 .left)
+    let a = c .before .before .before .args in
+    target-within (asLimits (a .day .limits)) (getD (usersOf (now (a .book))) (a .place) nobody) (a .level .0) (c .before .exceeds-margin .ensures) (c .if1 .left)
 
 pub target-of-spec : {M : Type 1} → statement M
-target-of-spec = tie.close (tie.spec (λ c κs. search needs) returns (λ c κs. search needs) (λ c. search needs) returns-2 returns-3)
+target-of-spec = tie.close (tie.spec (λ c κs. search needs) (λ c κs. search needs) (λ c κs. search needs) returns returns-2)

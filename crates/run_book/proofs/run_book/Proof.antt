@@ -2,8 +2,7 @@
 use mathlib.Core.Path.{_≡_, refl}
 use borrow.Author.Needs.{needs}
 use denote.Ref.{now}
-use Rattle.format.specs.Book.{tradeCount, userCount}
-use Rattle.run_reduction.proofs.Start.{run-counted}
+use Rattle.book_format.specs.Book.{tradeCount, userCount}
 use Rattle.run_book.proofs.run_book.Statement.{statement}
 use Rattle.run_book.proofs.run_book.Tie as tie
 
@@ -17,8 +16,15 @@ unfolding tradeCount
 trades-are c = c .get-u16 .ensures
 
 fill-lists-requires : tie.Need-fill-lists-requires
-fill-lists-requires c κs =
-    (run-counted (c .before .before .before .before .before .before .before .before .before .before .before .pre) (users-are (c .before .before .before .before .before .before .before .before)) (trades-are (c .before .before .before .before .before .before)), (refl, record { origins-room = refl; standing-room = refl; areas-room = refl; buyers-room = refl }))
+fill-lists-requires c κs = (
+  (
+    c .before .before .before .before .before .before .before .before .before .before .before .pre .book,
+    users-are
+        (c .before .before .before .before .before .before .before .before),
+    trades-are (c .before .before .before .before .before .before),
+  ),
+  (refl, record { origins-room = refl; standing-room = refl; areas-room = refl; buyers-room = refl }),
+)
 
 returns : tie.Need-returns
 returns c = c .before .before .run-listed .ensures

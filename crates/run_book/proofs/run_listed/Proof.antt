@@ -3,12 +3,11 @@
 use mathlib.Core.Path.{_≡_, refl}
 use borrow.Author.Needs.{needs}
 use denote.Ref.{now}
-use Rattle.cut_lists.proofs.Lists.{accepted-placed, accepted-trading}
-use Rattle.format.specs.Book.{tradeCount, userCount}
+use Rattle.book_format.specs.Book.{tradeCount, userCount}
 use Rattle.run_reduction.proofs.Steps.{run-day}
 use Rattle.run_book.proofs.Ending.{lost-cuttable, ran-in, ran-left}
 use Rattle.run_book.proofs.Start.{run-going, run-opening}
-use Rattle.run_reduction.proofs.Start.{run-counted, run-stays}
+use Rattle.run_reduction.proofs.Start.{run-stays}
 use Rattle.run_book.proofs.run_listed.Statement.{statement}
 use Rattle.run_book.proofs.run_listed.Tie as tie
 
@@ -22,12 +21,12 @@ unfolding tradeCount
 trades-are c = c .get-u16 .ensures
 
 fill-positions-requires : tie.Need-fill-positions-requires
-fill-positions-requires c κs = (c .before .before .before .before .before .before .before .pre .0 .book .held .form, users-are (c .before .before .before .before), refl)
+fill-positions-requires c κs = (c .before .before .before .before .before .before .before .pre .0 .book .accepted .held .form, users-are (c .before .before .before .before), refl)
 
 fill-cut-requires : tie.Need-fill-cut-requires
 fill-cut-requires c κs =
-    let b = run-counted (c .before .before .before .before .before .before .before .before .before .before .pre .0) (users-are (c .before .before .before .before .before .before .before)) (trades-are (c .before .before .before .before .before)) in
-    ((accepted-trading b, accepted-placed b), refl)
+    let r = c .before .before .before .before .before .before .before .before .before .before .pre .0 in
+    ((r .book, users-are (c .before .before .before .before .before .before .before), trades-are (c .before .before .before .before .before)), refl)
 
 fill-targets-requires : tie.Need-fill-targets-requires
 fill-targets-requires c κs =
@@ -35,7 +34,13 @@ fill-targets-requires c κs =
     let r = s .pre .0 in
     let l = s .pre .1 in (
       (run-day (run-stays r l), r .low),
-      (run-opening r l (users-are (c .before .before .before .before .before .before .before .before .before .before .before .before .before)) (trades-are (c .before .before .before .before .before .before .before .before .before .before .before)) (c .before .before .before .before .before .before .before .before .fill-positions .ensures .0) (c .before .before .before .before .before .fill-cut .ensures), refl, refl),
+      (
+        run-opening r l (users-are (c .before .before .before .before .before .before .before .before .before .before .before .before .before))
+            (c .before .before .before .before .before .before .before .before .fill-positions .ensures .0)
+            (c .before .before .before .before .before .fill-cut .ensures),
+        refl,
+        refl,
+      ),
     )
 
 copy-sales-requires : tie.Need-copy-sales-requires
@@ -56,18 +61,21 @@ run-on-requires c κs =
 lost-of-requires : tie.Need-lost-of-requires
 lost-of-requires c κs =
     let s = c .before .before .before .before .before .before .before .before .before .before .before .before .before .before .before .before .before .before .before .before .before .before .before .before .before .before in
-    ran-left (s .pre .0 .book .sound) (s .pre .1) (c .before .run-on .ensures)
+    ran-left (s .pre .0 .book .accepted .sound) (s .pre .1) (c .before .run-on .ensures)
 
 apply-requires : tie.Need-apply-requires
 apply-requires c κs =
     let s = c .before .before .before .before .before .before .before .before .before .before .before .before .before .before .before .before .before .before .before .before .before .before .before .before .before .before .before .before .before in
-    let r = s .pre .0 in
-    (run-counted r (users-are (c .before .before .before .before .before .before .before .before .before .before .before .before .before .before .before .before .before .before .before .before .before .before .before .before .before .before)) refl, lost-cuttable (r .book .sound) (s .pre .1) (c .before .before .before .before .run-on .ensures) (c .before .before .lost-of .ensures))
+    let r = s .pre .0 in (
+      (r .book, lost-cuttable (r .book .accepted .sound) (s .pre .1) (c .before .before .before .before .run-on .ensures) (c .before .before .lost-of .ensures)),
+      users-are
+          (c .before .before .before .before .before .before .before .before .before .before .before .before .before .before .before .before .before .before .before .before .before .before .before .before .before .before),
+    )
 
 returns : tie.Need-returns
 returns c =
     let s = c .before .before .before .before .before .before .before .before .before .before .before .before .before .before .before .before .before .before .before .before .before .before .before .before .before .before .before .before .before .before .before .before in
-    ran-in (s .pre .0 .book .sound) (s .pre .1) (c .before .before .before .before .before .before .before .run-on .ensures) (c .before .before .before .before .before .lost-of .ensures) (c .before .before .apply .ensures)
+    ran-in (s .pre .0 .book .accepted .sound) (s .pre .1) (c .before .before .before .before .before .before .before .run-on .ensures) (c .before .before .before .before .before .lost-of .ensures) (c .before .before .apply .ensures)
 
 pub run-listed-spec : {M : Type 1} → statement M
 run-listed-spec =

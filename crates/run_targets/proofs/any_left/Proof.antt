@@ -1,6 +1,6 @@
 -- `any_left`: what is left has the whole answer. Assumes nothing.
 use Prim.Native.Nat.{_-_}
-use Rattle.rules.specs.Lists.{any}
+use Rattle.base.specs.Lists.{any}
 use Rattle.run_targets.proofs.Looking.{left-found, left-more, left-none}
 use denote.Ref.{now}
 use lib.Dec.{ltb}
@@ -9,7 +9,7 @@ use native.Mathlib.Omega.{arith}
 use borrow.Author.Needs.{needs}
 use Rattle.run_targets.proofs.any_left.Statement.{statement}
 use Rattle.run_targets.proofs.any_left.Tie as tie
-use Rattle.sales.specs.Parts.{part}
+use Rattle.laws_sales.specs.Parts.{part}
 
 abbrev Inv-loop : tie.InvT-loop
 Inv-loop standing from to i₀ i = any (λ n. ltb 0 n) (part i to standing) ≡ any (λ n. ltb 0 n) (part from to standing)

@@ -1,4 +1,4 @@
-//! Prints what the program `figures` of the engine has to print for a file of
+//! Prints what the program `try_calls` of the engine has to print for a file of
 //! calls on standard input: the place, the kind, the number and the fields of
 //! each, and after a call that may change the book the user's record.
 //!

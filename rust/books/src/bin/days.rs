@@ -1,4 +1,4 @@
-//! Writes the books that the program `days` of the engine runs, and prints
+//! Writes the books that the program `try_days` of the engine runs, and prints
 //! what it has to print. The arguments are the folder of the test data and the
 //! folder for the files `vectors`, `books` and `index`.
 //!

@@ -1,4 +1,4 @@
-//! Writes the reductions that the program `figures` of the engine makes, and
+//! Writes the reductions that the program `try_calls` of the engine makes, and
 //! prints by the reference what it has to print for them. The folder for the
 //! files `reductions` and `reductions.index` is the argument.
 //!

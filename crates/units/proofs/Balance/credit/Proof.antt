@@ -5,14 +5,8 @@ use borrow.Author.Needs.{needs}
 use Rattle.units.proofs.Balance.credit.Statement.{statement}
 use Rattle.units.proofs.Balance.credit.Tie as tie
 
-sub-t5 : tie.Need-sub-t5
-sub-t5 c = search needs
-
 returns : tie.Need-returns
-returns c = omega (arith, negPart-balance (c .before .args .self))
-
-returns-2 : tie.Need-returns-2
-returns-2 c = omega (arith, negPart-balance (c .before .args .self))
+returns c = omega (arith, negPart-balance (c .before .args .self), c .excess .ensures)
 
 pub credit-spec : {M : Type 1} → statement M
-credit-spec = tie.close (tie.spec sub-t5 returns returns-2)
+credit-spec = tie.close (tie.spec (λ c κs. search needs) returns)

@@ -11,8 +11,8 @@ use mir.Syntax.{w64}
 use mir.Val.{Fits, SFits, toZ, ofZ}
 use mir.ValLaws.{toZ-ofZ}
 use borrow.Author.Tests.{ltb-true}
-use Rattle.integers.specs.Parts.{posPart, negPart}
-use Rattle.integers.proofs.Linear.{eq-parts, parts-sub}
+use Rattle.base.specs.Parts.{posPart, negPart}
+use Rattle.base.proofs.Linear.{eq-parts, parts-sub}
 use Rattle.units.proofs.Flow.of.Statement.{statement}
 use Rattle.units.proofs.Flow.of.Tie as tie
 

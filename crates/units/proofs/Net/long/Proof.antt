@@ -5,14 +5,8 @@ use borrow.Author.Needs.{needs}
 use Rattle.units.proofs.Net.long.Statement.{statement}
 use Rattle.units.proofs.Net.long.Tie as tie
 
-cast-t6 : tie.Need-cast-t6
-cast-t6 c = search needs
-
 returns : tie.Need-returns
-returns c = omega (arith, posPart-net (c .before .args .self))
-
-returns-2 : tie.Need-returns-2
-returns-2 c = omega (arith, posPart-net (c .before .args .self))
+returns c = omega (arith, posPart-net (c .before .args .self), c .excess .ensures)
 
 pub long-spec : {M : Type 1} → statement M
-long-spec = tie.close (tie.spec cast-t6 returns returns-2)
+long-spec = tie.close (tie.spec (λ c. search needs) (λ c. search needs) (λ c κs. search needs) returns)

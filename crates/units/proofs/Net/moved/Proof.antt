@@ -5,7 +5,7 @@ use Prim.Native.Nat.{_+_, _-_, _≤_, _<_, _^_}
 use native.Mathlib.Omega.{arith}
 use lib.IntN.{_+ℤ_, _-ℤ_}
 use borrow.Author.Needs.{needs}
-use Rattle.integers.proofs.Linear.{parts-add, parts-sub}
+use Rattle.base.proofs.Linear.{parts-add, parts-sub}
 use Rattle.rules.specs.Signed.{within}
 use Rattle.units.specs.declared.Net.{Net}
 use Rattle.units.specs.Amounts.{net}

@@ -1,7 +1,7 @@
 -- `Net::raised` adds the energy to the number inside; the sum fits because what is above 0 stays below 2^31. Assumes nothing.
 use native.Mathlib.Omega.{arith}
 use lib.IntN.{pos, _+ℤ_}
-use Rattle.integers.proofs.Linear.{posPart-pos, negPart-pos, parts-add}
+use Rattle.base.proofs.Linear.{posPart-pos, negPart-pos, parts-add}
 use Rattle.units.specs.Amounts.{net}
 use Rattle.units.proofs.Amounts.{posPart-net, parts-net, net-eq}
 use borrow.Author.Needs.{needs}

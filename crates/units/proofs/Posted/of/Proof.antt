@@ -7,8 +7,8 @@ use lib.IntN.{ℤ, _+ℤ_}
 use mir.Syntax.{w64}
 use mir.Val.{SFits, toZ, ofZ}
 use mir.ValLaws.{toZ-ofZ}
-use Rattle.integers.specs.Parts.{posPart, negPart}
-use Rattle.integers.proofs.Linear.{parts-add, posPart-of, negPart-of}
+use Rattle.base.specs.Parts.{posPart, negPart}
+use Rattle.base.proofs.Linear.{parts-add, posPart-of, negPart-of}
 use Rattle.units.specs.declared.Net.{Net}
 use Rattle.units.specs.Amounts.{net}
 use Rattle.units.proofs.Amounts.{parts-net, le-within, lt-within, net-eq}

@@ -1,2 +1,0 @@
--- The account of a user.
-pub mod Account

@@ -1,0 +1,4 @@
+-- The parts of an integer above and below 0, sums over lists, and tests of every and of some element.
+pub mod Parts
+pub mod Sums
+pub mod Lists

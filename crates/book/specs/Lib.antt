@@ -1,2 +1,0 @@
--- The book as the code's struct, and the book of the rules that it is.
-pub mod Book

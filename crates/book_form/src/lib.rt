@@ -1,0 +1,156 @@
+// The form of a book in bytes: the questions 1 to 3 of any bytes, the question 4 of a header's fields, the zero bytes that the questions 5
+// and 6 ask for; and the header's prices read and its fields written.
+ghost use mathlib.Core.Path.{_≡_};
+ghost use mathlib.Core.Bool.{_&&_};
+ghost use Prim.Native.Nat.{_+_, _*_, _≤_};
+ghost use lib.ListN.{length, drop};
+ghost use Rattle.rules.specs.Calendar.{realDay};
+ghost use Rattle.rules.specs.Questions.{pricesValid};
+ghost use Rattle.units.specs.Prices.{asPrices};
+ghost use Rattle.fields.specs.Field.{field};
+ghost use Rattle.book_format.specs.Questions.{marked, versioned, sized, formNumber};
+ghost use Rattle.book_form.specs.Zeros.{zerosIn};
+ghost use mathlib.Core.List.{_∷_, []};
+ghost use Rattle.fields.specs.Layout.{setFields};
+ghost use Rattle.book_format.specs.Book.{mark, pricesAt};
+use units::Prices;
+
+// ---- 1 to 3
+
+// Are there 32 bytes at least, with the mark first?
+fn is_marked(s: &[u8]) -> bool
+    ensures { λ r. ⌜ r ≡ marked (now (s .entry)) ⌝ }
+{
+    if s.len() < 32 {
+        return false;
+    }
+    fields::get(s, 0, 3) == 0x42_44_47
+}
+
+// Is it version 1?
+fn is_versioned(s: &[u8]) -> bool
+    requires { ⌜ 32 ≤ length (now s) ⌝ }
+    ensures { λ r. ⌜ r ≡ versioned (now (s .entry)) ⌝ }
+{
+    fields::get_u16(s, 3) == 1
+}
+
+// Are the counts in range, and are there exactly as many bytes as they ask for?
+fn is_sized(s: &[u8]) -> bool
+    requires { ⌜ 32 ≤ length (now s) ⌝ }
+    ensures { λ r. ⌜ r ≡ sized (now (s .entry)) ⌝ }
+{
+    let n = fields::get_u8(s, 5) as usize;
+    let m = fields::get_u16(s, 6) as usize;
+    ((1 <= n) & (n <= 64)) & ((m <= 256) & (s.len() == 32 + 56 * n + 20 * m))
+}
+
+// The number of the first of the questions 1 to 3 that is answered by no, 0 where there is none.
+pub fn form_number(s: &[u8]) -> u32
+    ensures { λ r. ⌜ r ≡ formNumber (now (s .entry)) ⌝ }
+{
+    if !is_marked(s) {
+        return 1;
+    }
+    if !is_versioned(s) {
+        return 2;
+    }
+    if !is_sized(s) {
+        return 3;
+    }
+    0
+}
+
+// ---- 4
+
+// Are P and Q 1 to 100,000, and the tolls at most 100,000?
+fn prices_valid(f: Prices) -> bool
+    ensures { λ r. ⌜ r ≡ pricesValid (asPrices f) ⌝ }
+{
+    (((1 <= f.p) & (f.p <= 100000)) & ((1 <= f.q) & (f.q <= 100000)))
+        & ((f.l <= 100000) & ((f.x <= 100000) & (f.i <= 100000)))
+}
+
+// Are date, prices and tolls in range?
+pub fn header_valid(date: u32, f: Prices) -> bool
+    ensures { λ r. ⌜ r ≡ (realDay date && pricesValid (asPrices f)) ⌝ }
+{
+    let day = calendar::is_real_day(date);
+    let prices = prices_valid(f);
+    day & prices
+}
+
+// ---- zero bytes
+
+// Is the field of `width` bytes at an offset 0 in each of n records of a size that stand from `at` on?
+fn zeros_valid(s: &[u8], at: usize, n: usize, size: usize, offset: usize, width: usize) -> bool
+    requires { ⌜ (width ≤ 8) × (offset + width ≤ size) × (at + size * n ≤ length (now s)) ⌝ }
+    ensures { λ r. ⌜ r ≡ zerosIn (λ c. field width offset c) size n (drop at (now (s .entry))) ⌝ }
+{
+    let mut i = 0;
+    let mut a = at;
+    while i < n {
+        if fields::get(s, a + offset, width) != 0 {
+            return false;
+        }
+        a += size;
+        i += 1;
+    }
+    true
+}
+
+// Are the zero bytes of the n users from byte 32 on 0?
+pub fn user_zeros_valid(s: &[u8], n: usize) -> bool
+    requires { ⌜ 32 + 56 * n ≤ length (now s) ⌝ }
+    ensures { λ r. ⌜ r ≡ zerosIn (λ c. field 3 5 c) 56 n (drop 32 (now (s .entry))) ⌝ }
+{
+    zeros_valid(s, 32, n, 56, 5, 3)
+}
+
+// Are the zero bytes of the m trades from byte `at` on 0?
+pub fn trade_zeros_valid(s: &[u8], at: usize, m: usize) -> bool
+    requires { ⌜ at + 20 * m ≤ length (now s) ⌝ }
+    ensures { λ r. ⌜ r ≡ zerosIn (λ c. field 1 11 c) 20 m (drop at (now (s .entry))) ⌝ }
+{
+    zeros_valid(s, at, m, 20, 11, 1)
+}
+
+// ---- the header
+
+// The prices and tolls of the header.
+pub fn read_prices(s: &[u8]) -> Prices
+    requires { ⌜ 32 ≤ length (now s) ⌝ }
+    ensures { λ r. ⌜ asPrices r ≡ pricesAt 12 (now (s .entry)) ⌝ }
+{
+    Prices {
+        p: fields::get_u32(s, 12),
+        q: fields::get_u32(s, 16),
+        l: fields::get_u32(s, 20),
+        x: fields::get_u32(s, 24),
+        i: fields::get_u32(s, 28),
+    }
+}
+
+// Writes mark, version, counts and date.
+pub fn write_start(out: &mut [u8], version: u16, users: u8, trades: u16, date: u32)
+    requires { ⌜ 32 ≤ length (now out) ⌝ }
+    ensures { λ _. ⌜ now (out .exit) ≡ setFields (3 ∷ 2 ∷ 1 ∷ 2 ∷ 4 ∷ []) 0 (mark ∷ version ∷ users ∷ trades ∷ date ∷ []) (now (out .entry)) ⌝ }
+{
+    fields::put(out, 0, 3, 0x42_44_47);
+    fields::put_u16(out, 3, version);
+    fields::put_u8(out, 5, users);
+    fields::put_u16(out, 6, trades);
+    fields::put_u32(out, 8, date);
+}
+
+// Writes prices and tolls.
+pub fn write_prices(out: &mut [u8], prices: Prices)
+    requires { ⌜ 32 ≤ length (now out) ⌝ }
+    ensures { λ _. ⌜ now (out .exit) ≡ setFields (4 ∷ 4 ∷ 4 ∷ 4 ∷ 4 ∷ []) 12 (prices .p ∷ prices .q ∷ prices .l ∷ prices .x ∷ prices .i ∷ []) (now (out .entry)) ⌝ }
+{
+    fields::put_u32(out, 12, prices.p);
+    fields::put_u32(out, 16, prices.q);
+    fields::put_u32(out, 20, prices.l);
+    fields::put_u32(out, 24, prices.x);
+    fields::put_u32(out, 28, prices.i);
+}

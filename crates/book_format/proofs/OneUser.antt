@@ -1,0 +1,94 @@
+-- A book with one user changed: the same bytes but for that user's record, which stands in its place. Assumes nothing.
+use mathlib.Core.Bool.{Bool, _||_, cond, false, true}
+use mathlib.Core.List.{List, [], _++_, _∷_}
+use mathlib.Core.Path.{_≡_, _∙_, ap, refl, sym}
+use Prim.Native.Nat.{_*_, _+_, _<_, _≤_, suc, ℕ}
+use native.Mathlib.Nat.{le-of-eq}
+use native.Mathlib.Omega.{arith}
+use lib.Dec.{T, eqb, eqb→eq, leb·suc-suc, ltb}
+use lib.ListN.{getD, length, length-set, set}
+use lib.Seq.{sets}
+use borrow.Author.Tests.{le-ltb, lt-ltb}
+use Rattle.fields.proofs.Records.{bytesOfRecords-set, length-bytesOfRecords}
+use Rattle.fields.proofs.Sets.{sets-left, sets-right}
+use Rattle.fields.specs.Field.{AllBytes}
+use Rattle.fields.specs.Layout.{bytesOfRecords, pack}
+use Rattle.book_format.proofs.Passed.{Passed, length-usersOf}
+use Rattle.book_format.proofs.Round.{bytesOf-bookOf}
+use Rattle.book_format.proofs.Written.{length-header}
+use Rattle.book_format.specs.Book.{bookOf, bytesOf, headerValues, headerWidths, tradesOf, userAt, userCount, usersOf}
+use Rattle.book_format.specs.Steps.{placeOf}
+use Rattle.base.proofs.Tests.{and-r}
+use Rattle.laws.proofs.Users.{change-absent}
+use Rattle.book_records.proofs.Users.{length-userBytes}
+use Rattle.book_records.specs.Trade.{tradeBytes}
+use Rattle.book_records.specs.User.{userBytes}
+use Rattle.rules.specs.Book.{User, find, nobody}
+use Rattle.rules.specs.Changes.{change, withUsers}
+use Rattle.base.specs.Lists.{any}
+use Rattle.rules.specs.Questions.{idsRise, known}
+
+-- ---- the place of a user
+
+pub find-place : (us : List User) (id : ℕ) → find us id ≡ getD us (placeOf us id) nobody
+unfolding find placeOf
+find-place [] id = refl
+find-place (u ∷ us) id = go (eqb (u .party .id) id) (find-place us id)
+  where
+    go : (c : Bool) → find us id ≡ getD us (placeOf us id) nobody → cond c u (find us id) ≡ getD (u ∷ us) (cond c 0 (suc (placeOf us id))) nobody
+    go true h = refl
+    go false h = h
+
+-- it is below the number of users exactly where the id is known
+pub place-known : (us : List User) (id : ℕ) → ltb (placeOf us id) (length us) ≡ known us id
+unfolding placeOf known any
+place-known [] id = refl
+place-known (u ∷ us) id = go (eqb (u .party .id) id) (place-known us id)
+  where
+    go : (c : Bool) → ltb (placeOf us id) (length us) ≡ known us id → ltb (cond c 0 (suc (placeOf us id))) (suc (length us)) ≡ (c || known us id)
+    go true h = lt-ltb 0 (suc (length us)) (omega arith)
+    go false h = leb·suc-suc (suc (placeOf us id)) (length us) ∙ h
+
+-- the changed users are the users with that one record set
+pub change-place : (f : User → User) (us : List User) (low id : ℕ) → T (idsRise low us) → change id f us ≡ set us (placeOf us id) (f (find us id))
+unfolding change find placeOf idsRise
+change-place f [] low id r = refl
+change-place f (u ∷ us) low id r =
+    let rest = and-r (ltb low (u .party .id)) (idsRise (u .party .id) us) r in
+    go (eqb (u .party .id) id) (λ t. change-absent f us (u .party .id) id (le-of-eq (sym (eqb→eq (u .party .id) id t))) rest) (change-place f us (u .party .id) id rest)
+  where
+    go : (c : Bool) → (T c → change id f us ≡ us) → change id f us ≡ set us (placeOf us id) (f (find us id))
+        → cond c (f u) u ∷ change id f us ≡ set (u ∷ us) (cond c 0 (suc (placeOf us id))) (f (cond c u (find us id)))
+    go true a h = ap (λ (l : List User). f u ∷ l) (a tt)
+    go false a h = ap (λ (l : List User). u ∷ l) h
+
+-- ---- in bytes
+
+module _ (s : List ℕ) (id : ℕ) where
+  pub known-place : placeOf (usersOf s) id < userCount s → known (usersOf s) id ≡ true
+  known-place h = sym (place-known (usersOf s) id) ∙ rw (length-usersOf s) (lt-ltb (placeOf (usersOf s) id) (userCount s) h)
+
+  pub unknown-place : userCount s ≤ placeOf (usersOf s) id → known (usersOf s) id ≡ false
+  unknown-place h = sym (place-known (usersOf s) id) ∙ rw (length-usersOf s) (le-ltb (placeOf (usersOf s) id) (userCount s) h)
+
+pub changed-bytes : (s : List ℕ) → AllBytes s → Passed s → (id : ℕ) (f : User → User) → placeOf (usersOf s) id < userCount s
+    → bytesOf (withUsers (bookOf s) (change id f (usersOf s))) ≡ sets s (userAt s (placeOf (usersOf s) id)) (userBytes (f (find (usersOf s) id)))
+unfolding bytesOf withUsers headerValues bookOf userAt
+changed-bytes s b p id f k =
+    let us = usersOf s in
+    let i = placeOf us id in
+    let v = f (find us id) in
+    let H = pack headerWidths (headerValues (bookOf s)) in
+    let U = bytesOfRecords userBytes us in
+    let Q = bytesOfRecords tradeBytes (tradesOf s) in
+    let n : length us ≡ userCount s = length-usersOf s in
+    let g : i < length us = omega arith in
+    let e : change id f us ≡ set us i v = change-place f us 0 id (p .sound .ids) in
+    let l : length U ≡ 56 * length us = length-bytesOfRecords userBytes 56 length-userBytes us in
+    let m : 56 * i + length (userBytes v) ≤ length U = omega (arith, length-userBytes v) in
+    let h : length H ≡ 32 = length-header (bookOf s) in
+    rw (e, length-set, bytesOfRecords-set userBytes 56 length-userBytes us i v g)
+    (sym (ap (λ (x : List ℕ). sets x (32 + 56 * i) (userBytes v)) (sym (bytesOf-bookOf s b p))
+    ∙ ap (λ (x : ℕ). sets (H ++ (U ++ Q)) (x + 56 * i) (userBytes v)) (sym h)
+    ∙ sets-right (userBytes v) H (U ++ Q) (56 * i)
+    ∙ ap (λ (x : List ℕ). H ++ x) (sets-left (userBytes v) U Q (56 * i) m)))

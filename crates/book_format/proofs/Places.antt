@@ -1,0 +1,94 @@
+-- A user and a trade at their places: their bytes lie in the book, and are read as them; a field of them, and others in their place. Assumes nothing.
+use mathlib.Core.List.{List}
+use mathlib.Core.Path.{_≡_, sym, ap, _∙_}
+use Prim.Native.Nat.{ℕ, _+_, _-_, _*_, _≤_, _<_}
+use native.Mathlib.Omega.{arith}
+use lib.ListN.{length, take, drop, getD, set}
+use lib.Seq.{sets}
+use borrow.Rule.Slice.PartMut.{putMid}
+use Rattle.fields.proofs.Field.{field-part}
+use Rattle.fields.proofs.Sets.{part-sets}
+use Rattle.fields.specs.Field.{field}
+use Rattle.book_format.proofs.Held.{held-trade-set, held-userCount}
+use Rattle.book_format.proofs.Parts.{record-at}
+use Rattle.book_format.proofs.Passed.{length-tradesOf}
+use Rattle.book_format.proofs.Positions.{position-bytes}
+use Rattle.book_format.specs.Book.{bookOf, tradeCount, tradesAt, tradesOf, userAt, userCount, usersOf}
+use Rattle.book_format.specs.Held.{HeldAs, tradesReplaced}
+use Rattle.book_format.specs.Places.{TradeIn, UserIn, positionAt}
+use Rattle.book_records.proofs.Trades.{length-tradeBytes, trade-of-bytes}
+use Rattle.book_records.proofs.Users.{length-userBytes}
+use Rattle.book_records.specs.Trade.{FitsTrade, tradeBytes, tradeOf}
+use Rattle.book_records.specs.User.{userBytes, userOf}
+use Rattle.rules.specs.Book.{Trade, User, at, noTrade, nobody}
+use Rattle.rules.specs.Signed.{signedOf}
+
+-- ---- a user
+
+module _ {s : List ℕ} {place : ℕ} (p : UserIn s place) where
+  -- there are at most 64 users
+  pub user-low : place < 64
+  user-low = omega (arith, p .form .users, p .inside)
+
+  -- its bytes
+  pub user-lies : userAt s place + 56 ≤ length s
+  unfolding userAt
+  user-lies = omega (arith, p .form .whole, p .inside)
+
+  user-is : userOf (take 56 (drop (userAt s place) s)) ≡ getD (usersOf s) place nobody
+  unfolding usersOf userAt
+  user-is = record-at 56 userOf (userCount s) place 32 s nobody (p .inside)
+
+  -- the user is read from them
+  pub user-read : {a : ℕ} {u : User} → a ≡ userAt s place → u ≡ userOf (take (a + 56 - a) (drop a s)) → u ≡ getD (usersOf s) place nobody
+  user-read {a} e f =
+      let l : a + 56 - a ≡ 56 = omega arith in
+      (rw (l, e) at f) ∙ user-is
+
+  -- a field of the user
+  pub user-field : (w i : ℕ) {A : Type 0} (g : User → A) (f : ℕ → A) → i + w ≤ 56 → ((c : List ℕ) → f (field w i c) ≡ g (userOf c))
+      → f (field w (userAt s place + i) s) ≡ g (getD (usersOf s) place nobody)
+  user-field w i g f h e =
+      ap f (sym (field-part w i (userAt s place) 56 s h)) ∙ e (take 56 (drop (userAt s place) s)) ∙ ap g user-is
+
+  -- its position in an area
+  pub position-read : {area : ℕ} → area < 3 → signedOf 32 (field 4 (positionAt s place area) s) ≡ at (getD (usersOf s) place nobody .position) area
+  unfolding positionAt
+  position-read {area} k =
+      user-field 4 (20 + 4 * area) (λ u. at (u .position) area) (signedOf 32) (omega arith) (λ c. sym (position-bytes c area k))
+
+  -- another user's bytes in their place
+  pub user-put : {a : ℕ} {part : List ℕ} (u : User) → a ≡ userAt s place → part ≡ userBytes u → putMid a (a + 56 - a) s part ≡ sets s (userAt s place) (userBytes u)
+  user-put {a} u e f =
+      let l : a + 56 - a ≡ 56 = omega arith in
+      rw (l, f, e) (part-sets s (userBytes u) (userAt s place) 56 (length-userBytes u) user-lies)
+
+-- ---- a trade
+
+module _ {s : List ℕ} {at place : ℕ} (p : TradeIn s at place) where
+  -- there are at most 256 trades
+  pub trade-low : place < 256
+  trade-low = omega (arith, p .form .trades, p .inside)
+
+  -- its bytes
+  pub trade-lies : at + 20 * place + 20 ≤ length s
+  unfolding tradesAt userAt
+  trade-lies = omega (arith, p .form .whole, p .begin, p .inside)
+
+  -- the trade is read from them
+  pub trade-read : {a : ℕ} {t : Trade} → a ≡ at + 20 * place → t ≡ tradeOf (take (a + 20 - a) (drop a s)) → t ≡ getD (tradesOf s) place noTrade
+  unfolding tradesOf
+  trade-read {a} e f =
+      let l : a + 20 - a ≡ 20 = omega arith in
+      let b : a ≡ tradesAt s + 20 * place = omega (arith, p .begin) in
+      (rw (l, b) at f) ∙ record-at 20 tradeOf (tradeCount s) place (tradesAt s) s noTrade (p .inside)
+
+  -- another trade's bytes in their place
+  pub trade-put : HeldAs (bookOf s) s → {a : ℕ} {part : List ℕ} (t : Trade) → a ≡ at + 20 * place → FitsTrade t → part ≡ tradeBytes t
+      → HeldAs (tradesReplaced (bookOf s) (set (tradesOf s) place t)) (putMid a (a + 20 - a) s part)
+  unfolding bookOf tradesAt userAt
+  trade-put h {a} t e fits f =
+      let m : a ≡ 32 + 56 * length (usersOf s) + 20 * place = omega (arith, p .begin, held-userCount h) in
+      let l : a + 20 - a ≡ 20 = omega arith in
+      rw (l, f, part-sets s (tradeBytes t) a 20 (length-tradeBytes t) (omega (arith, trade-lies)), m)
+      (held-trade-set h place t (omega (arith, length-tradesOf s, p .inside)) (trade-of-bytes t fits))

@@ -1,0 +1,16 @@
+-- A user's position in an area is four bytes of the user's. Assumes nothing.
+use mathlib.Core.List.{List}
+use mathlib.Core.Path.{_≡_, refl}
+use Prim.Native.Nat.{ℕ, zero, suc, _+_, _*_, _<_}
+use native.Mathlib.Omega.{arith}
+use Rattle.fields.specs.Field.{field}
+use Rattle.book_records.specs.User.{amountsAt, userOf}
+use Rattle.rules.specs.Book.{at}
+use Rattle.rules.specs.Signed.{signedOf}
+
+pub position-bytes : (c : List ℕ) (area : ℕ) → area < 3 → at (userOf c .position) area ≡ signedOf 32 (field 4 (20 + 4 * area) c)
+unfolding userOf amountsAt at
+position-bytes c zero h = refl
+position-bytes c (suc zero) h = refl
+position-bytes c (suc (suc zero)) h = refl
+position-bytes c (suc (suc (suc area))) h = absurd (omega arith)

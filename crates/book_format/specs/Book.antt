@@ -1,0 +1,96 @@
+-- Document 01, "The book in bytes": the book that bytes hold, and the bytes of a book. Only this file and the records' know offsets and sizes. Assumes nothing.
+use mathlib.Core.List.{List, [], _∷_, _++_}
+use Prim.Native.Nat.{ℕ, _+_, _*_}
+use lib.ListN.{length, drop}
+use Rattle.rules.specs.Areas.{Prices}
+use Rattle.rules.specs.Book.{User, Trade, Book}
+use Rattle.fields.specs.Field.{field}
+use Rattle.fields.specs.Layout.{pack, recordsOf, bytesOfRecords}
+use Rattle.book_records.specs.User.{userOf, userBytes}
+use Rattle.book_records.specs.Trade.{tradeOf, tradeBytes}
+
+-- ---- sizes in bytes, by the version of the book
+
+abbrev pub headerSize : ℕ → ℕ
+headerSize version = 32
+
+abbrev pub userSize : ℕ → ℕ
+userSize version = 56
+
+abbrev pub tradeSize : ℕ → ℕ
+tradeSize version = 20
+
+-- ---- the header: mark `GDB`, version, user count, trade count, date, P, Q, L, X, I
+
+unfoldable pub headerWidths : List ℕ
+headerWidths = 3 ∷ 2 ∷ 1 ∷ 2 ∷ 4 ∷ 4 ∷ 4 ∷ 4 ∷ 4 ∷ 4 ∷ []
+
+-- the mark `GDB` as a number of three bytes
+unfoldable pub mark : ℕ
+mark = 0x42_44_47
+
+unfoldable pub markOf : List ℕ → ℕ
+markOf s = field 3 0 s
+
+unfoldable pub versionOf : List ℕ → ℕ
+versionOf s = field 2 3 s
+
+unfoldable pub userCount : List ℕ → ℕ
+userCount s = field 1 5 s
+
+unfoldable pub tradeCount : List ℕ → ℕ
+tradeCount s = field 2 6 s
+
+-- ---- the book that bytes hold
+
+-- where the user at a place stands
+unfoldable pub userAt : List ℕ → ℕ → ℕ
+userAt s place = headerSize (versionOf s) + userSize (versionOf s) * place
+
+-- where the trades begin, behind the last user
+unfoldable pub tradesAt : List ℕ → ℕ
+tradesAt s = userAt s (userCount s)
+
+-- "length exactly 32 + 56 × users + 20 × trades"
+unfoldable pub lengthOf : List ℕ → ℕ
+lengthOf s = tradesAt s + tradeSize (versionOf s) * tradeCount s
+
+unfoldable pub usersOf : List ℕ → List User
+usersOf s = recordsOf (userSize (versionOf s)) userOf (userCount s) (drop (headerSize (versionOf s)) s)
+
+unfoldable pub tradesOf : List ℕ → List Trade
+tradesOf s = recordsOf (tradeSize (versionOf s)) tradeOf (tradeCount s) (drop (tradesAt s) s)
+
+-- P, Q, L, X, I from an offset
+unfoldable pub pricesAt : ℕ → List ℕ → Prices
+pricesAt at s =
+    record { p = field 4 at s; q = field 4 (at + 4) s; l = field 4 (at + 8) s; x = field 4 (at + 12) s; i = field 4 (at + 16) s }
+
+unfoldable pub bookOf : List ℕ → Book
+bookOf s =
+    record {
+      header = record { version = versionOf s; date = field 4 8 s; prices = pricesAt 12 s };
+      users = usersOf s;
+      trades = tradesOf s;
+    }
+
+-- ---- the bytes of a book
+
+unfoldable pub headerValues : Book → List ℕ
+headerValues b =
+    let h = b .header in
+    mark
+    ∷ h .version
+    ∷ length (b .users)
+    ∷ length (b .trades)
+    ∷ h .date
+    ∷ h .prices .p
+    ∷ h .prices .q
+    ∷ h .prices .l
+    ∷ h .prices .x
+    ∷ h .prices .i
+    ∷ []
+
+unfoldable pub bytesOf : Book → List ℕ
+bytesOf b =
+    pack headerWidths (headerValues b) ++ (bytesOfRecords userBytes (b .users) ++ bytesOfRecords tradeBytes (b .trades))

@@ -1,0 +1,8 @@
+-- Parts filled one after the other.
+pub mod Copied
+-- Records whose zero bytes are 0; parts copied whole, and the loop that makes a field 0 in each record.
+pub mod Zeroed
+pub mod Turns
+-- The book of an image's fields, and the round trip of an image.
+mod Fields
+pub mod RoundTrip

@@ -1,0 +1,129 @@
+-- Parts copied whole, and the loop that makes a field 0 in each record: its start, a turn and its end. Assumes nothing.
+use Prim.Native.Nat.{ℕ, zero, suc, _+_, _-_, _*_, _<_, _≤_}
+use mathlib.Core.Path.{_≡_, refl, sym, ap, ap₂, _∙_}
+use mathlib.Core.List.{List, _++_, append-assoc, append-nil}
+use native.Mathlib.Omega.{arith}
+use native.Mathlib.Nat.{mul-zero, mul-suc, sub-zero, zero-add}
+use lib.ListN.{length, take, drop, length-drop, take-append-drop}
+use lib.Seq.{sets, drop-drop, take-at, take-add, take-length, drop-length, length-take-le, take-append-le, drop-append-le}
+use borrow.Rule.Slice.PartMut.{putMid}
+use Rattle.fields.specs.Field.{setField, toBytes, AllBytes}
+use Rattle.fields.specs.Layout.{recordsOf, bytesOfRecords}
+use Rattle.fields.proofs.Field.{length-setField, length-toBytes, all-bytes-take, all-bytes-drop}
+use Rattle.fields.proofs.Records.{length-recordsOf, length-bytesOfRecords}
+use Rattle.fields.proofs.Sets.{part-sets, sets-left, take-sets, drop-sets, drop-sets-add}
+use Rattle.book_image.specs.Zeroed.{zeroedRecords}
+
+-- ---- parts
+
+-- bytes stored over a part of their length
+pub all-copied : (s out : List ℕ) → length out ≡ length s → take (length s) s ++ drop (length s) out ≡ s
+all-copied s out e = rw (take-length, ← e, drop-length, append-nil)
+
+-- the front of bytes, lent and come back as others of its length
+pub front-set : {part : List ℕ} (k : ℕ) (l v : List ℕ) → length v ≡ k → k ≤ length l → part ≡ v → part ++ drop k l ≡ sets l 0 v
+front-set k l v n h e = rw e (part-sets l v 0 k n (omega (arith, h)))
+
+-- a part from a to a + k, lent and come back as others of its length
+part-set : {part : List ℕ} (a k : ℕ) (l v : List ℕ) → length v ≡ k → a + k ≤ length l → part ≡ v → putMid a (a + k - a) l part ≡ sets l a v
+part-set a k l v n h e = let m : a + k - a ≡ k = omega arith in rw (m, e) (part-sets l v a k n h)
+
+-- ---- a field made 0 in each record
+
+module _ (width offset size : ℕ) (fits : offset + width ≤ size) where
+  -- in the one that stands at a: what stands before it and behind it is as it was
+  zeroed-front : (out : List ℕ) (a : ℕ) → a + size ≤ length out
+      → take (a + size) (setField width (a + offset) 0 out) ≡ take a out ++ setField width offset 0 (take size (drop a out))
+  unfolding setField
+  zeroed-front out a h =
+      let z = toBytes width 0 in
+      let d = drop a out in
+      let x = take size d in
+      let k = length-toBytes width 0 in
+      let n : length x ≡ size = length-take-le size d (rw length-drop (omega arith)) in
+      let e : sets d offset z ≡ sets x offset z ++ drop size d = ap (λ (l : List ℕ). sets l offset z) (sym (take-append-drop size d)) ∙ sets-left z x (drop size d) offset (omega arith) in
+      let m : length (sets x offset z) ≡ size = length-setField width offset 0 x ∙ n in
+      rw (take-add, take-sets z out (a + offset) a (omega arith), drop-sets-add, e, take-at (sets x offset z) (drop size d) size m)
+
+  zeroed-behind : (out : List ℕ) (a : ℕ) → drop (a + size) (setField width (a + offset) 0 out) ≡ drop (a + size) out
+  unfolding setField
+  zeroed-behind out a = drop-sets (toBytes width 0) out (a + offset) (a + size) (omega (arith, length-toBytes width 0))
+
+-- where i of n records are cleared: the next one stands at a, what is left ends with the bytes, and with what was cleared it gives all of them
+pub record Clearing (width offset size n : ℕ) (entry out : List ℕ) (i a : ℕ) : Type 0 where
+  pub within : i ≤ n
+  pub room : a + size * (n - i) ≡ length out
+  pub kept : length out ≡ length entry
+  pub answer : take a out ++ zeroedRecords width offset size (n - i) (drop a out) ≡ zeroedRecords width offset size n entry
+
+module _ {width offset size n : ℕ} {entry : List ℕ} where
+  pub clearing-start : length entry ≡ size * n → Clearing width offset size n entry entry 0 0
+  clearing-start e = record { within = omega arith; room = rw (sub-zero, zero-add) (sym e); kept = refl; answer = rw sub-zero }
+
+  -- behind the next record stand those after it
+  clearing-room : {out : List ℕ} {i a : ℕ} → Clearing width offset size n entry out i a → i < n → a + size + size * (n - (i + 1)) ≡ length out
+  clearing-room {out} {i} {a} before h =
+      let e : n - i ≡ suc (n - (i + 1)) = omega arith in
+      omega (arith, rw (e, mul-suc) at (before .room))
+
+  -- the next one lies in the bytes
+  pub clearing-lies : {out : List ℕ} {i a : ℕ} → Clearing width offset size n entry out i a → i < n → a + size ≤ length out
+  clearing-lies before h = omega (arith, clearing-room before h)
+
+  pub clearing-turn : {out after : List ℕ} {i a : ℕ} → offset + width ≤ size → Clearing width offset size n entry out i a → i < n → after ≡ setField width (a + offset) 0 out
+      → Clearing width offset size n entry after (i + 1) (a + size)
+  unfolding zeroedRecords recordsOf bytesOfRecords
+  clearing-turn {out} {after} {i} {a} fits before h q =
+      let e : n - i ≡ suc (n - (i + 1)) = omega arith in
+      let l : length after ≡ length out = ap length q ∙ length-setField width (a + offset) 0 out in
+      record {
+        within = omega arith;
+        room = clearing-room before h ∙ sym l;
+        kept = l ∙ before .kept;
+        answer = rw (q, zeroed-front width offset size fits out a (clearing-lies before h), zeroed-behind width offset size fits out a, append-assoc) (rw (e, drop-drop) at (before .answer));
+      }
+
+  pub clearing-end : {out : List ℕ} {i a : ℕ} → Clearing width offset size n entry out i a → n ≤ i → out ≡ zeroedRecords width offset size n entry
+  unfolding zeroedRecords recordsOf bytesOfRecords
+  clearing-end {out} {i} {a} before h =
+      let e : n - i ≡ 0 = omega arith in
+      let k : a ≡ length out = omega (arith, rw (e, mul-zero) at (before .room)) in
+      sym (append-nil (take a out) ∙ ap (λ (m : ℕ). take m out) k ∙ take-length out) ∙ (rw e at (before .answer))
+
+-- ---- records by their bytes
+
+module _ {R : Type 0} (len : ℕ) (one : List ℕ → R) where
+  -- records that fill the front of a list do not depend on what stands behind them
+  pub records-front : (n : ℕ) (p q : List ℕ) → length p ≡ len * n → recordsOf len one n (p ++ q) ≡ recordsOf len one n p
+  unfolding recordsOf
+  records-front zero p q h = refl
+  records-front (suc n) p q h =
+      let e : len * suc n ≡ len * n + len = mul-suc len n in
+      let f : length (drop len p) ≡ len * n = rw length-drop (omega (arith, e, h)) in
+      rw (take-append-le len p q (omega (arith, e, h)), drop-append-le len p q (omega (arith, e, h)), records-front n (drop len p) q f)
+
+  -- records that are read and written again are their bytes with a field as 0, where this holds of each
+  zeroed-records : (width offset : ℕ) (bytes : R → List ℕ) → ((c : List ℕ) → AllBytes c → length c ≡ len → setField width offset 0 c ≡ bytes (one c))
+      → (n : ℕ) (s : List ℕ) → len * n ≤ length s → AllBytes s → zeroedRecords width offset len n s ≡ bytesOfRecords bytes (recordsOf len one n s)
+  unfolding zeroedRecords recordsOf bytesOfRecords
+  zeroed-records width offset bytes f zero s h b = refl
+  zeroed-records width offset bytes f (suc n) s h b =
+      let e : len * suc n ≡ len * n + len = mul-suc len n in
+      ap₂ (λ (x y : List ℕ). x ++ y) (f (take len s) (all-bytes-take len s b) (length-take-le len s (omega (arith, e, h))))
+      (zeroed-records width offset bytes f n (drop len s) (rw length-drop (omega (arith, e, h))) (all-bytes-drop len s b))
+
+  -- records lent from one part and written to another
+  pub records-copied : {part : List ℕ} (width offset : ℕ) (bytes : R → List ℕ) → ((c : List ℕ) → AllBytes c → length c ≡ len → setField width offset 0 c ≡ bytes (one c))
+      → ((r : R) → length (bytes r) ≡ len) → (s : List ℕ) (from n : ℕ) (out : List ℕ) (at : ℕ) → AllBytes s → from + len * n ≤ length s → at + len * n ≤ length out
+      → part ≡ zeroedRecords width offset len n (take (from + len * n - from) (drop from s))
+      → putMid at (at + len * n - at) out part ≡ sets out at (bytesOfRecords bytes (recordsOf len one n (drop from s)))
+  records-copied width offset bytes f sized s from n out at b h k e =
+      let m = len * n in
+      let d = drop from s in
+      let q : from + m - from ≡ m = omega arith in
+      let l : length (take m d) ≡ m = length-take-le m d (rw length-drop (omega (arith, h))) in
+      let z : zeroedRecords width offset len n (take m d) ≡ bytesOfRecords bytes (recordsOf len one n d) = zeroed-records width offset bytes f n (take m d)
+      (omega (arith, l)) (all-bytes-take m d (all-bytes-drop from s b)) ∙ ap (bytesOfRecords bytes)
+      (sym (records-front n (take m d) (drop m d) l) ∙ ap (recordsOf len one n) (take-append-drop m d)) in
+      let r : length (bytesOfRecords bytes (recordsOf len one n d)) ≡ m = length-bytesOfRecords bytes len sized (recordsOf len one n d) ∙ ap (λ (j : ℕ). len * j) (length-recordsOf len one n d) in
+      part-set at m out (bytesOfRecords bytes (recordsOf len one n d)) r k ((rw q at e) ∙ z)

@@ -1,0 +1,56 @@
+-- `clear_fields`: the records that are left, cleared behind those that are, give all of them. Assumes nothing.
+use Prim.Native.Nat.{_-_}
+use native.Mathlib.Omega.{arith}
+use borrow.Author.Needs.{needs}
+use Rattle.book_image.proofs.Turns.{Clearing, clearing-start, clearing-lies, clearing-turn, clearing-end}
+use Rattle.book_image.proofs.clear_fields.Statement.{statement}
+use Rattle.book_image.proofs.clear_fields.Tie as tie
+
+abbrev Inv-loop : tie.InvT-loop
+Inv-loop out₀ n size offset width i₀ a₀ out i a = Clearing width offset size n out₀ out i a
+
+abbrev μ-loop : tie.MeasureT-loop
+μ-loop out₀ n size offset width i₀ a₀ out i a = n - i
+
+loop-holds : tie.Need-loop-holds Inv-loop μ-loop
+loop-holds c = clearing-start (c .before .pre .1)
+
+add-put : tie.Need-add-put Inv-loop μ-loop
+add-put c = omega (arith, clearing-lies (c .before .before .loop .inv) (omega arith), c .before .before .loop .inv .kept, c .before .before .before .before .pre .0, c .before .before .before .before .fits)
+
+put-requires : tie.Need-put-requires Inv-loop μ-loop
+put-requires c κs = omega (arith, clearing-lies (c .before .before .loop .inv) (omega arith), c .before .before .before .before .pre .0)
+
+add-a : tie.Need-add-a Inv-loop μ-loop
+add-a c = omega (arith, clearing-lies (c .before .before .before .before .before .loop .inv) (omega (arith, c .before .before .before .before .loop-test)), c .before .before .before .before .before .loop .inv .kept, c .before .before .before .before .before .before .before .fits)
+
+add-i : tie.Need-add-i Inv-loop μ-loop
+add-i c = search needs
+
+loop-less : tie.Need-loop-less Inv-loop μ-loop
+loop-less c = search needs
+
+loop-again : tie.Need-loop-again Inv-loop μ-loop
+loop-again c = clearing-turn (c .before .before .before .before .before .before .before .pre .0) (c .before .before .before .before .before .loop .inv) (omega (arith, c .before .before .before .before .loop-test)) (c .before .before .put .ensures)
+
+same-length : tie.Need-same-length Inv-loop μ-loop
+same-length c = c .before .loop .inv .kept
+
+returns : tie.Need-returns Inv-loop μ-loop
+returns c = clearing-end (c .before .loop .inv) (omega arith)
+
+pub clear-fields-spec : {M : Type 1} → statement M
+clear-fields-spec =
+    tie.close
+    (tie.spec
+    Inv-loop
+    μ-loop
+    loop-holds
+    add-put
+    put-requires
+    add-a
+    add-i
+    loop-less
+    loop-again
+    same-length
+    returns)

@@ -1,0 +1,26 @@
+-- `copy_records` copies the records over the whole part, and makes the field 0 in each of them there. Assumes nothing.
+use mathlib.Core.Path.{ap, sym, _∙_}
+use denote.Ref.{now}
+use borrow.Author.Needs.{needs}
+use Rattle.book_image.specs.Zeroed.{zeroedRecords}
+use Rattle.book_image.proofs.Turns.{all-copied}
+use Rattle.book_image.proofs.copy_records.Statement.{statement}
+use Rattle.book_image.proofs.copy_records.Tie as tie
+
+copy-requires : tie.Need-copy-requires
+copy-requires c κs = search needs
+
+clear-fields-requires : tie.Need-clear-fields-requires
+clear-fields-requires c κs = search needs
+
+same-length : tie.Need-same-length
+same-length c = search needs
+
+returns : tie.Need-returns
+returns c =
+    let s = c .before .before .before .before .before .before .before .before .before .before in
+    let a = s .args in
+    c .before .before .clear-fields .ensures ∙ ap (zeroedRecords (a .width) (a .offset) (a .size) (a .n)) (c .before .before .before .before .before .before .copy .ensures .1 ∙ all-copied (now (a .s)) (now (a .out)) (s .pre .2 ∙ sym (s .pre .1)))
+
+pub copy-records-spec : {M : Type 1} → statement M
+copy-records-spec = tie.close (tie.spec copy-requires clear-fields-requires same-length returns)

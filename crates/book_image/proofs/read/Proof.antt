@@ -1,0 +1,71 @@
+-- `read` leaves an image of 0 where a question refuses the bytes, and else the image of bytes of the right form. Assumes nothing.
+use mathlib.Core.Path.{_≡_, sym, _∙_}
+use native.Mathlib.Omega.{arith}
+use denote.Ref.{now}
+use Rattle.rules.specs.Questions.{refusal, decided}
+use Rattle.laws.proofs.Refusals.{number-some}
+use Rattle.book_format.specs.Book.{userCount}
+use Rattle.book_format.specs.Questions.{Formed, aboutBytes, bookNumber}
+use Rattle.book_format.proofs.Formed.{book-passed}
+use Rattle.book_format.proofs.Passed.{passed}
+use Rattle.book_image.specs.Image.{readImage}
+use borrow.Author.Needs.{needs}
+use Rattle.book_image.proofs.read.Statement.{statement}
+use Rattle.book_image.proofs.read.Tie as tie
+
+number-requires : tie.Need-number-requires
+number-requires c κs = search needs
+
+clear-requires : tie.Need-clear-requires
+clear-requires c κs = search needs
+
+same-length : tie.Need-same-length
+same-length c = search needs
+
+returns : tie.Need-returns
+unfolding readImage bookNumber decided
+returns c =
+    let asked = c .before .before .before .before .before .number in
+    let start = c .before .before .before .before .before .before .before .before in
+    let r = number-some (refusal (aboutBytes (now (start .args .book)))) (asked .result) (asked .ensures) (c .before .before .before .before .if1 .taken) in
+    record { asked = asked .ensures; fields = c .before .before .clear .ensures ∙ rw (r, start .pre) }
+
+-- the bytes passed the questions, and so are of the right form
+accepted : (c : tie.Else1) → bookNumber (now (c .before .before .before .before .args .book)) ≡ 0
+accepted c = sym (c .before .number .ensures) ∙ c .if1 .left
+
+formed : (c : tie.Else1) → Formed (now (c .before .before .before .before .args .book))
+formed c = passed (now (c .before .before .before .before .args .book)) (accepted c) .form
+
+get-u8-requires : tie.Need-get-u8-requires
+get-u8-requires c κs = omega (arith, formed c .head)
+
+cast-n : tie.Need-cast-n
+cast-n c = search needs
+
+copy-book-requires : tie.Need-copy-book-requires
+unfolding userCount
+copy-book-requires c κs = (formed (c .before .before), c .before .get-u8 .ensures, c .before .before .before .before .before .before .pre)
+
+same-length-2 : tie.Need-same-length-2
+same-length-2 c = search needs
+
+returns-2 : tie.Need-returns-2
+unfolding readImage decided
+returns-2 c =
+    let e = accepted (c .before .before .before .before .before) in
+    record { asked = sym e; fields = c .before .before .copy-book .ensures ∙ rw (book-passed (now (c .before .before .before .before .before .before .before .before .before .args .book)) e) }
+
+pub read-spec : {M : Type 1} → statement M
+read-spec =
+    tie.close
+    (tie.spec
+    number-requires
+    clear-requires
+    same-length
+    returns
+    get-u8-requires
+    cast-n
+    copy-book-requires
+    same-length-2
+    returns-2)

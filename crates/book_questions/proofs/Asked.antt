@@ -1,0 +1,165 @@
+-- The number that the answers to the questions 4 to 7 give, of users and trades and of bytes. Assumes nothing.
+use mathlib.Core.Bool.{Bool, false, true, cond, _&&_}
+use mathlib.Core.Option.{none, some}
+use mathlib.Core.List.{List}
+use mathlib.Core.Path.{_≡_, refl, sym, ap, subst, _∙_}
+use Prim.Native.Nat.{ℕ, _*_, _+_}
+use native.Mathlib.Omega.{arith}
+use lib.Dec.{T}
+use lib.ListN.{drop, take}
+use Rattle.rules.specs.Areas.{Prices}
+use Rattle.rules.specs.Book.{User, Trade}
+use Rattle.rules.specs.Calendar.{realDay}
+use Rattle.base.specs.Lists.{all}
+use Rattle.rules.specs.Questions.{headerValid, numberOf, positionsValid, pricesValid, refusal, tradeValid}
+use Rattle.base.proofs.Tests.{and-r}
+use Rattle.fields.specs.Field.{field}
+use Rattle.book_records.specs.Trade.{tradeZeros}
+use Rattle.book_records.specs.User.{userZeros}
+use Rattle.book_format.specs.Book.{bookOf, pricesAt, tradeCount, tradesAt, tradesOf, userAt, userCount, usersOf}
+use Rattle.book_format.specs.Questions.{Formed, aboutFields, aboutForm, formNumber, marked, sized, tradeZerosValid, userZerosValid, versioned}
+use Rattle.book_parties.specs.Ids.{usersFrom, tradesFrom, idsOf}
+use Rattle.book_form.specs.Zeros.{zerosIn}
+use Rattle.book_sums.specs.Sums.{placesOf}
+use Rattle.book_sums.specs.Twelve.{Twelve, TwelveOf, Low}
+use Rattle.book_sums.proofs.Twelve.{twelve-of}
+use Rattle.book_questions.specs.Asked.{UsersAsked, TradesAsked, RecordsIn, RecordsAsked, FieldsPlaced, AskedOf, Summed, SumsFound, PartiesFound, pastSix, tradeAmong, recordsNumber, fieldsNumber}
+use Rattle.book_questions.proofs.Known.{all-tradeAmong, all-parties, valid-rising}
+
+-- ---- 5 to 7
+
+-- a second test that says the same
+and-same : (zeros : Bool) {valid test answer : Bool} → valid ≡ test → (zeros && valid) ≡ answer → (zeros && test) ≡ answer
+and-same zeros e h = ap (λ (b : Bool). zeros && b) (sym e) ∙ h
+
+-- where two tests are answered by yes, the second is
+pub second-yes : (zeros valid : Bool) → (zeros && valid) ≡ true → T valid
+second-yes zeros valid h = and-r zeros valid (rw h tt)
+
+yes-is : (b : Bool) → T b → b ≡ true
+yes-is true t = refl
+
+-- a question before 7 that refuses: nothing is told of the sums
+pub summed-none : {us : List User} {ts : List Trade} {count read : ℕ} {sums : List ℕ} (number : ℕ) → (T (pastSix number) → ⊥) → Summed us ts count number read sums
+summed-none number h = record { twelve = λ p. absurd (h p); low = λ p. absurd (h p); all-read = λ p. absurd (h p) }
+
+-- where no question refuses, the sums are what each user sold and bought
+pub sums-told : {us : List User} {ts : List Trade} {count number read : ℕ} {sums : List ℕ} → Summed us ts count number read sums → number ≡ 0
+    → TwelveOf us ts sums × Low sums
+unfolding pastSix
+sums-told {number = number} summed e = let past : T (pastSix number) = past-none e in (summed .twelve past, summed .low past)
+  where
+    past-none : {k : ℕ} → k ≡ 0 → T (pastSix k)
+    past-none h = rw h tt
+
+module _ {us : List User} {ts : List Trade} {n : ℕ} {valid : Bool} {ids sellers buyers : List ℕ} (users : UsersAsked us n valid ids) where
+  -- question 5 is answered by no
+  pub records-5 : {userZeros tradeZeros : Bool} → (userZeros && valid) ≡ false → RecordsAsked userZeros tradeZeros us ts 5 sellers buyers
+  unfolding recordsNumber refusal numberOf
+  records-5 {userZeros} h = record { asked = rw (and-same userZeros (users .answer) h); placed = λ e. absurd (omega arith) }
+
+  module _ {allowed : Bool} {sums : List ℕ} (trades : TradesAsked (take n ids) ts allowed sellers buyers sums) where
+    -- the answer to question 6 is that between the users
+    trades-answer : T valid → allowed ≡ all (tradeValid us) ts
+    trades-answer u = trades .answer ∙ ap (λ (xs : List ℕ). all (tradeAmong xs) ts) (users .listed u) ∙ all-tradeAmong us ts
+
+    -- the sums are what the users sold and bought: question 7 can be asked
+    pub records-sums : T valid → T allowed → TwelveOf us ts sums
+    records-sums u t =
+        twelve-of us ts (valid-rising us (rw (← users .answer) u)) (all-parties (idsOf us) ts (rw (← users .listed u, ← trades .answer) t))
+        (subst (λ (xs : List ℕ). Twelve (placesOf xs (λ r. r .seller) ts) (placesOf xs (λ r. r .buyer) ts) ts 25600000 sums) (users .listed u) (trades .twelve t))
+
+    -- and they are told, whatever it gives
+    pub records-summed : {count number read : ℕ} → T valid → T allowed → (allowed ≡ true → read ≡ count) → Summed us ts count number read sums
+    records-summed u t whole =
+        record { twelve = λ p. records-sums u t; low = λ p. record { low = trades .twelve t .low }; all-read = λ p. whole (yes-is allowed t) }
+
+    module _ {userZeros tradeZeros : Bool} (u : (userZeros && valid) ≡ true) where
+      -- question 6 is answered by no
+      pub records-6 : (tradeZeros && allowed) ≡ false → RecordsAsked userZeros tradeZeros us ts 6 sellers buyers
+      unfolding recordsNumber refusal numberOf
+      records-6 h =
+          record {
+            asked = rw (and-same userZeros (users .answer) u, and-same tradeZeros (trades-answer (second-yes userZeros valid u)) h);
+            placed = λ e. absurd (omega arith);
+          }
+
+      module _ {right : Bool} (t : (tradeZeros && allowed) ≡ true) (e : right ≡ all (positionsValid ts) us) where
+        -- question 7 is answered by no
+        pub records-7 : right ≡ false → RecordsAsked userZeros tradeZeros us ts 7 sellers buyers
+        unfolding recordsNumber refusal numberOf
+        records-7 h =
+            record {
+              asked = rw (and-same userZeros (users .answer) u, and-same tradeZeros (trades-answer (second-yes userZeros valid u)) t, sym e ∙ h);
+              placed = λ f. absurd (omega arith);
+            }
+
+        -- none is
+        pub records-0 : right ≡ true → RecordsAsked userZeros tradeZeros us ts 0 sellers buyers
+        unfolding recordsNumber refusal numberOf
+        records-0 h =
+            record {
+              asked = rw (and-same userZeros (users .answer) u, and-same tradeZeros (trades-answer (second-yes userZeros valid u)) t, sym e ∙ h);
+              placed = λ f. trades .placed (second-yes tradeZeros allowed t) us (sym (users .listed (second-yes userZeros valid u)));
+            }
+
+-- ---- 4 to 7 of bytes
+
+-- users and trades of bytes of the right form stand in them
+pub formed-bytes : {s : List ℕ} {n m : ℕ} → Formed s → n ≡ field 1 5 s → m ≡ field 2 6 s → RecordsIn 32 n (32 + 56 * n) m s
+unfolding userCount tradeCount
+formed-bytes form e f =
+    record {
+      few = omega (arith, form .users);
+      many = omega (arith, form .trades);
+      users = omega (arith, form .whole);
+      trades = omega (arith, form .whole);
+    }
+
+module _ (s : List ℕ) {date : ℕ} {prices : Prices} {valid : Bool} (d : date ≡ field 4 8 s) (p : prices ≡ pricesAt 12 s) (e : valid ≡ (realDay date && pricesValid prices)) where
+  -- the answer to question 4
+  header-answer : valid ≡ headerValid (bookOf s .header)
+  unfolding headerValid bookOf
+  header-answer = rw (← d, ← p) e
+
+  -- it is no
+  pub fields-4 : {sellers buyers : List ℕ} → valid ≡ false → FieldsPlaced s 4 sellers buyers
+  unfolding fieldsNumber aboutFields refusal numberOf
+  fields-4 h = record { asked = rw (sym header-answer ∙ h); placed = λ f. absurd (omega arith) }
+
+  -- it is yes: the number is that of the users and trades
+  pub fields-rest : {n m r : ℕ} {userZeros tradeZeros : Bool} {sellers buyers : List ℕ} → valid ≡ true → n ≡ field 1 5 s → m ≡ field 2 6 s
+      → userZeros ≡ zerosIn (λ c. field 3 5 c) 56 n (drop 32 s) → tradeZeros ≡ zerosIn (λ c. field 1 11 c) 20 m (drop (32 + 56 * n) s)
+      → RecordsAsked userZeros tradeZeros (usersFrom 32 n s) (tradesFrom (32 + 56 * n) m s) r sellers buyers → FieldsPlaced s r sellers buyers
+  unfolding fieldsNumber aboutFields refusal numberOf recordsNumber zerosIn userZerosValid tradeZerosValid userZeros tradeZeros usersOf tradesOf tradesAt userAt userCount tradeCount
+  fields-rest h f g uz tz asked =
+      record {
+        asked = asked .asked ∙ rw (uz, tz, f, g, sym header-answer ∙ h);
+        placed = λ k. rw (← f, ← g) (asked .placed k);
+      }
+
+-- so are the sums
+pub fields-summed : (s : List ℕ) {n m r read : ℕ} {sums : List ℕ} → n ≡ field 1 5 s → m ≡ field 2 6 s
+    → Summed (usersFrom 32 n s) (tradesFrom (32 + 56 * n) m s) m r read sums → Summed (usersOf s) (tradesOf s) (tradeCount s) r read sums
+unfolding usersOf tradesOf tradesAt userAt userCount tradeCount
+fields-summed s f g w = rw (← f, ← g) w
+
+-- the number of a form that is refused is below 4
+pub form-before : (s : List ℕ) {k : ℕ} → k ≡ formNumber s → (k ≡ 0 → ⊥) → T (pastSix k) → ⊥
+unfolding formNumber aboutForm refusal numberOf pastSix
+form-before s e h = go (marked s) (versioned s) (sized s) e h
+  where
+    go : (a b c : Bool) {k : ℕ} → k ≡ numberOf (cond a (cond b (cond c none (some 3)) (some 2)) (some 1)) → (k ≡ 0 → ⊥) → T (pastSix k) → ⊥
+    go true true true e h t = absurd (h e)
+    go true true false e h t = rw e at t
+    go true false c e h t = rw e at t
+    go false b c e h t = rw e at t
+
+-- ---- what a call is handed, by a number that is 0 only where no question refuses
+
+module _ {s : List ℕ} {count k read number : ℕ} {sums : List ℕ} (told : Summed (usersOf s) (tradesOf s) count k read sums) (passes : number ≡ 0 → k ≡ 0) where
+  pub sums-found : SumsFound s number sums
+  sums-found = record { twelve = λ e. sums-told told (passes e) .0; low = λ e. sums-told told (passes e) .1 }
+
+  pub parties-found : {sellers buyers : List ℕ} → AskedOf s k sellers buyers → PartiesFound s number sellers buyers sums
+  parties-found asked = record { placed = λ e. asked .placed (passes e); summed = sums-found }

@@ -1,0 +1,83 @@
+-- Users and trades by their ids: those of valid users rise, and a trade is valid between the ids where it is between the users. Assumes nothing.
+use Prim.Native.Nat.{ℕ, _≤_, _<_}
+use mathlib.Core.Path.{_≡_, refl, sym, ap, ap₂, _∙_}
+use mathlib.Core.Bool.{Bool, not, _&&_, _||_}
+use mathlib.Core.List.{List, [], _∷_}
+use lib.Dec.{T, eqb, ltb, leb, ltb→lt, leb→le}
+use native.Mathlib.Omega.{arith}
+use lib.ListN.{length, take}
+use Rattle.base.specs.Lists.{all}
+use Rattle.rules.specs.Book.{User, Trade, bilateralForDay}
+use Rattle.rules.specs.Questions.{amountsValid, codesValid, idsRise, tradeValid, userValid, usersValid}
+use Rattle.base.proofs.Tests.{all-by, and-i, and-l, and-r}
+use Rattle.book_valid.specs.Given.{tradeValidGiven}
+use Rattle.book_valid.proofs.Known.{tradeValidGiven-known}
+use Rattle.book_parties.specs.Ids.{idsOf, placeIn, among, Rising}
+use Rattle.book_parties.proofs.Known.{among-known, place-among}
+use Rattle.book_parties.proofs.Rising.{rising-ids}
+use Rattle.book_sums.specs.Sums.{partiesAmong}
+use Rattle.book_questions.specs.Asked.{tradeAmong}
+
+-- a trade among the first n ids, by the places of its parties: its test is what the test says that is given whether these are below n
+pub tradeAmong-places : (xs : List ℕ) (n : ℕ) (t : Trade) (p q : ℕ) {a b : Bool}
+    → n ≤ length xs → p ≡ placeIn (take n xs) (t .terms .seller) → q ≡ placeIn (take n xs) (t .terms .buyer)
+    → a ≡ tradeValidGiven (ltb p n) (ltb q n) t → a ≡ b → tradeAmong (take n xs) t ≡ b
+unfolding tradeAmong
+tradeAmong-places xs n t p q h e f g k =
+    let seller = place-among xs n (t .terms .seller) h in
+    let buyer = place-among xs n (t .terms .buyer) h in
+    sym (ap₂ (λ (c d : Bool). tradeValidGiven c d t) (ap (λ (x : ℕ). ltb x n) e ∙ seller) (ap (λ (x : ℕ). ltb x n) f ∙ buyer)) ∙ sym g ∙ k
+
+pub tradeAmong-valid : (us : List User) (t : Trade) → tradeAmong (idsOf us) t ≡ tradeValid us t
+unfolding tradeAmong
+tradeAmong-valid us t = rw (among-known us (t .terms .seller), among-known us (t .terms .buyer)) (tradeValidGiven-known us t)
+
+-- tests that are equal at every element give one answer
+pub all-same : {A : Type 0} (p q : A → Bool) → ((x : A) → p x ≡ q x) → (xs : List A) → all p xs ≡ all q xs
+unfolding all
+all-same p q h [] = refl
+all-same p q h (x ∷ xs) = ap₂ (λ (a b : Bool). a && b) (h x) (all-same p q h xs)
+
+pub all-tradeAmong : (us : List User) (ts : List Trade) → all (tradeAmong (idsOf us)) ts ≡ all (tradeValid us) ts
+all-tradeAmong us ts = all-same (tradeAmong (idsOf us)) (tradeValid us) (tradeAmong-valid us) ts
+
+-- a valid trade can be counted for its parties
+pub tradeAmong-parties : (ids : List ℕ) (t : Trade) → T (tradeAmong ids t) → T (partiesAmong ids t)
+unfolding tradeAmong tradeValidGiven partiesAmong codesValid
+tradeAmong-parties ids t h =
+    let both = among ids (t .terms .seller) && among ids (t .terms .buyer) in
+    let differ = not (eqb (t .terms .seller) (t .terms .buyer)) in
+    let area = ltb (t .terms .area) 3 in
+    let codes = ltb (t .terms .kind) 3 && ltb (t .terms .day) 2 in
+    and-i both area (and-l both differ (and-l (both && differ) ((area && codes) && amountsValid t) h))
+    (and-l area codes (and-l (area && codes) (amountsValid t) (and-r (both && differ) ((area && codes) && amountsValid t) h)))
+
+-- its day is one of the two, and no more stands than 100,000 MWh
+pub tradeAmong-day : (ids : List ℕ) (t : Trade) → T (tradeAmong ids t) → t .terms .day < 2
+unfolding tradeAmong tradeValidGiven codesValid
+tradeAmong-day ids t h =
+    let parties = (among ids (t .terms .seller) && among ids (t .terms .buyer)) && not (eqb (t .terms .seller) (t .terms .buyer)) in
+    let kind = ltb (t .terms .kind) 3 in
+    let day = ltb (t .terms .day) 2 in
+    let codes = ltb (t .terms .area) 3 && (kind && day) in
+    ltb→lt (t .terms .day) 2 (and-r kind day (and-r (ltb (t .terms .area) 3) (kind && day) (and-l codes (amountsValid t) (and-r parties (codes && amountsValid t) h))))
+
+pub tradeAmong-small : (ids : List ℕ) (t : Trade) → T (tradeAmong ids t) → t .standing ≤ 100000
+unfolding tradeAmong tradeValidGiven amountsValid
+tradeAmong-small ids t h =
+    let parties = (among ids (t .terms .seller) && among ids (t .terms .buyer)) && not (eqb (t .terms .seller) (t .terms .buyer)) in
+    let some = leb 1 (t .terms .notified) in
+    let most = leb (t .terms .notified) 100000 in
+    let stands = leb (t .standing) (t .terms .notified) in
+    let equal = bilateralForDay t || eqb (t .standing) (t .terms .notified) in
+    let amounts = and-r (codesValid t) ((some && most) && (stands && equal)) (and-r parties (codesValid t && ((some && most) && (stands && equal))) h) in
+    omega
+    (arith, leb→le (t .terms .notified) 100000 (and-r some most (and-l (some && most) (stands && equal) amounts)), leb→le (t .standing) (t .terms .notified) (and-l stands equal (and-r (some && most) (stands && equal) amounts)))
+
+pub all-parties : (ids : List ℕ) (ts : List Trade) → T (all (tradeAmong ids) ts) → T (all (partiesAmong ids) ts)
+all-parties ids ts = all-by (tradeAmong ids) (partiesAmong ids) (tradeAmong-parties ids) ts
+
+-- the ids of valid users rise
+pub valid-rising : (us : List User) → T (usersValid us) → Rising (idsOf us)
+unfolding usersValid
+valid-rising us h = rising-ids us (and-l (idsRise 0 us) (all userValid us) h)

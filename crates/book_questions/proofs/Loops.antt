@@ -1,0 +1,103 @@
+-- Laws of the loops that ask users and trades one by one: those left have the whole answer, and a list has what each one passed gave. Assumes nothing.
+use Rattle.base.proofs.Tests.{and-false}
+use Prim.Native.Nat.{ℕ, _+_, _-_, _<_, _≤_}
+use mathlib.Core.Path.{_≡_, refl, sym, ap, ap₂, _∙_}
+use mathlib.Core.Bool.{Bool, true, false, _&&_}
+use mathlib.Core.List.{List, [], _∷_, map, map-append}
+use native.Mathlib.Omega.{arith}
+use native.Mathlib.Numerals.{add-one}
+use lib.Dec.{ltb}
+use lib.ListN.{length, take, drop, getD, set, replicate, length-set, drop-of-length-le}
+use lib.Seq.{drop-cons, drop-drop, drop-set-lt, take-all, take-suc, take-suc-set}
+use borrow.Author.Tests.{le-ltb, lt-ltb}
+use Rattle.base.specs.Lists.{all}
+use Rattle.rules.specs.Book.{User}
+use Rattle.rules.specs.Questions.{idsRise, userValid, usersValid}
+use Rattle.fields.proofs.Sets.{drop-replicate}
+
+-- ---- users whose ids rise
+
+-- those left are valid users, with ids that rise from above the last
+unfoldable pub validFrom : ℕ → List User → Bool
+validFrom last us = idsRise last us && all userValid us
+
+-- where i users were valid: those left have the whole answer
+pub record UsersLeft (us : List User) (last i : ℕ) : Type 0 where
+  pub within : i ≤ length us
+  pub answer : usersValid us ≡ validFrom last (drop i us)
+
+-- the next user, by the two tests of it
+valid-next : (last : ℕ) {zs : List User} {u : User} {rest : List User} {a b : Bool} → zs ≡ u ∷ rest → ltb last (u .party .id) ≡ a → userValid u ≡ b
+    → validFrom last zs ≡ (a && idsRise (u .party .id) rest) && (b && all userValid rest)
+unfolding validFrom idsRise all
+valid-next last {zs} {u} {rest} e h k =
+    ap (validFrom last) e
+    ∙ ap₂ (λ (a b : Bool). (a && idsRise (u .party .id) rest) && (b && all userValid rest)) h k
+
+module _ (us : List User) where
+  -- before the first
+  pub users-start : UsersLeft us 0 0
+  unfolding validFrom usersValid
+  users-start = record { within = omega arith; answer = refl }
+
+  -- the next one and those after it
+  next-user : {i : ℕ} {u : User} (d : User) → i < length us → u ≡ getD us i d → drop i us ≡ u ∷ drop (i + 1) us
+  next-user {i} d h e = rw (e, add-one) (drop-cons us i d h)
+
+  -- its id is not above the last
+  pub users-id-no : {last i : ℕ} {u : User} (d : User) → UsersLeft us last i → i < length us → u ≡ getD us i d → u .party .id ≤ last → false ≡ usersValid us
+  users-id-no {last} {u = u} d before h e k =
+      sym (before .answer ∙ valid-next last (next-user d h e) (le-ltb last (u .party .id) k) refl)
+
+  -- a field of it is not valid
+  pub users-no : {last i : ℕ} {u : User} (d : User) → UsersLeft us last i → i < length us → u ≡ getD us i d → userValid u ≡ false → false ≡ usersValid us
+  users-no {last} {i} {u} d before h e k =
+      sym
+      (before .answer
+      ∙ valid-next last (next-user d h e) refl k
+      ∙ and-false (ltb last (u .party .id) && idsRise (u .party .id) (drop (i + 1) us)))
+
+  -- its id is, and its fields are
+  pub users-turn : {last i : ℕ} {u : User} (d : User) → UsersLeft us last i → i < length us → u ≡ getD us i d → last < u .party .id → userValid u ≡ true
+      → UsersLeft us (u .party .id) (i + 1)
+  unfolding validFrom
+  users-turn {last} {u = u} d before h e k v =
+      record { within = omega arith; answer = before .answer ∙ valid-next last (next-user d h e) (lt-ltb last (u .party .id) k) v }
+
+  -- none is left
+  pub users-end : {last i : ℕ} → UsersLeft us last i → length us ≤ i → true ≡ usersValid us
+  unfolding validFrom idsRise all
+  users-end {last} {i} before h = sym (before .answer ∙ ap (validFrom last) (drop-of-length-le us {i = i} h))
+
+-- ---- what each one passed gave
+
+-- the first i places of a list hold what the first i elements of another give; there is room for more
+pub record Listed {A : Type 0} (f : A → ℕ) (xs : List A) (room : ℕ) (ns : List ℕ) (i : ℕ) : Type 0 where
+  pub done : take i ns ≡ map f (take i xs)
+  pub full : length ns ≡ room
+
+module _ {A : Type 0} {f : A → ℕ} {xs : List A} {room : ℕ} where
+  -- before the first
+  pub listed-start : {ns : List ℕ} → length ns ≡ room → Listed f xs room ns 0
+  listed-start h = record { done = refl; full = h }
+
+  -- the next one's is stored
+  pub listed-turn : {ns : List ℕ} {i n : ℕ} (d : A) → Listed f xs room ns i → i < length xs → i < room → n ≡ f (getD xs i d) → Listed f xs room (set ns i n) (i + 1)
+  listed-turn {ns} {i} {n} d before h k e =
+      record {
+        done =
+            rw
+            (add-one, take-suc-set ns i n (omega (arith, before .full)), take-suc xs i d h, map-append f (take i xs) (getD xs i d ∷ []), before .done, e);
+        full = length-set ns i n ∙ before .full;
+      }
+
+  -- none is left
+  pub listed-end : {ns : List ℕ} {i : ℕ} → Listed f xs room ns i → length xs ≤ i → take i ns ≡ map f xs
+  listed-end {i = i} before h = before .done ∙ ap (map f) (take-all i xs h)
+
+-- the numbers past one that is stored
+pub rest-set : (room i : ℕ) (pad n : ℕ) (ns : List ℕ) → drop i ns ≡ replicate (room - i) pad → drop (i + 1) (set ns i n) ≡ replicate (room - (i + 1)) pad
+rest-set room i pad n ns e =
+    let q : drop 1 (drop i ns) ≡ drop (i + 1) ns = drop-drop 1 i ns in
+    let k : room - i - 1 ≡ room - (i + 1) = omega arith in
+    drop-set-lt (i + 1) ns i n (omega arith) ∙ sym q ∙ ap (drop 1) e ∙ drop-replicate 1 (room - i) pad ∙ ap (λ (m : ℕ). replicate m pad) k

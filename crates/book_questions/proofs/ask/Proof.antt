@@ -1,0 +1,61 @@
+-- `ask` returns the number of the form, or asks the fields of bytes of the right form. Assumes nothing.
+use mathlib.Core.Path.{sym, _∙_}
+use denote.Ref.{now}
+use Rattle.book_format.proofs.Formed.{formed, form-refused, form-passed}
+use Rattle.book_questions.specs.Asked.{fieldsNumber}
+use Rattle.book_questions.proofs.Asked.{form-before, summed-none}
+use borrow.Author.Needs.{needs}
+use Rattle.book_questions.proofs.ask.Statement.{statement}
+use Rattle.book_questions.proofs.ask.Tie as tie
+
+form-number-requires : tie.Need-form-number-requires
+form-number-requires c κs = search needs
+
+returns : tie.Need-returns
+returns c =
+    let form = c .before in
+    let s = now (form .before .before .before .before .args .s) in (
+      record {
+        number = form-refused s (form .form-number .result) (form .form-number .ensures) (c .if1 .taken);
+        placed = λ e. absurd (c .if1 .taken e);
+      },
+      summed-none (form .form-number .result) (form-before s (form .form-number .ensures) (c .if1 .taken)),
+    )
+
+ask-fields-requires : tie.Need-ask-fields-requires
+ask-fields-requires c κs =
+    let passed = c .before .before .before in
+    let form = passed .before in
+    (formed (now (form .before .before .before .before .args .s)) (sym (form .form-number .ensures) ∙ passed .if1 .left), search needs, search needs, search needs)
+
+same-length : tie.Need-same-length
+same-length c = search needs
+
+same-length-2 : tie.Need-same-length-2
+same-length-2 c = search needs
+
+returns-2 : tie.Need-returns-2
+unfolding fieldsNumber
+returns-2 c =
+    let asked = c .before .before .before .before in
+    let passed = asked .before .before .before .before in
+    let form = passed .before in (
+      record {
+        number =
+            asked .ask-fields .ensures .0 .asked
+            ∙ sym (form-passed (now (form .before .before .before .before .args .s)) (sym (form .form-number .ensures) ∙ passed .if1 .left));
+        placed = asked .ask-fields .ensures .0 .placed;
+      },
+      asked .ask-fields .ensures .1,
+    )
+
+pub ask-spec : {M : Type 1} → statement M
+ask-spec =
+    tie.close
+    (tie.spec
+    form-number-requires
+    returns
+    ask-fields-requires
+    same-length
+    same-length-2
+    returns-2)

@@ -1,0 +1,137 @@
+-- `ask_records` asks the questions 5 to 7 in their order, and returns at the first that is answered by no. Assumes nothing.
+use mathlib.Core.Path.{_≡_}
+use Prim.Native.Nat.{ℕ}
+use denote.Ref.{now}
+use borrow.Author.Tests.{not-true, not-false, eqb-true}
+use Rattle.base.specs.Lists.{all}
+use Rattle.rules.specs.Questions.{positionsValid}
+use Rattle.book_parties.specs.Ids.{usersFrom, tradesFrom}
+use Rattle.book_questions.specs.Asked.{Summed, pastSix}
+use Rattle.book_questions.proofs.Asked.{records-5, second-yes, records-6, records-sums, records-summed, summed-none, records-7, records-0}
+use borrow.Author.Needs.{needs}
+use Rattle.book_questions.proofs.ask_records.Statement.{statement}
+use Rattle.book_questions.proofs.ask_records.Tie as tie
+
+slice-aggregate-users-valid : tie.Need-slice-aggregate-users-valid
+slice-aggregate-users-valid c = search needs
+
+users-valid-requires : tie.Need-users-valid-requires
+users-valid-requires c κs = search needs
+
+returns : tie.Need-returns
+unfolding pastSix
+returns c = (records-5 (c .before .before .users-valid .ensures) (not-true _ (c .if1 .taken)), summed-none 5 (λ p. p))
+
+fill-guesses-requires : tie.Need-fill-guesses-requires
+fill-guesses-requires c κs = search needs
+
+slice-aggregate-valid-trades : tie.Need-slice-aggregate-valid-trades
+slice-aggregate-valid-trades c = search needs
+
+valid-trades-requires : tie.Need-valid-trades-requires
+valid-trades-requires c κs =
+    let passed = c .before .before .before .before .before .before .before .before in
+    let users = passed .before .before .users-valid in
+    let start = passed .before .before .before .before .before .before .before in
+    (users .ensures .padded (second-yes (start .args .user-zeros) (users .result) (not-false _ (passed .if1 .left))), search needs)
+
+same-length : tie.Need-same-length
+same-length c = search needs
+
+same-length-2 : tie.Need-same-length-2
+same-length-2 c = search needs
+
+returns-2 : tie.Need-returns-2
+unfolding pastSix
+returns-2 c =
+    let trades = c .before .before .before .before .before in
+    let passed = trades .before .before .before .before .before .before .before .before .before in
+    let a = passed .before .before .before .before .before .before .before .args in (
+      records-6 {ts = tradesFrom (a .trades-at) (a .m) (now (a .s))} (passed .before .before .users-valid .ensures) (trades .valid-trades .ensures) (not-false _ (passed .if1 .left)) (not-true _ (c .if2 .taken)),
+      summed-none 6 (λ p. p),
+    )
+
+positions-valid-requires : tie.Need-positions-valid-requires
+positions-valid-requires c κs = search needs
+
+-- the answer to question 7 is that of the rules
+positions-answer : (c : tie.After-positions-valid)
+    → let a = c .before .before .before .before .before .before .before .before .before .before .before .before .before .before .before .before .before .before .before .before .before .before .before .args in
+    c .positions-valid .result ≡ all (positionsValid (tradesFrom (a .trades-at) (a .m) (now (a .s)))) (usersFrom (a .users-at) (a .n) (now (a .s)))
+positions-answer c =
+    let allowed = c .before .before in
+    let trades = allowed .before .before .before .before .before in
+    let passed = trades .before .before .before .before .before .before .before .before .before in
+    let users = passed .before .before .users-valid in
+    let a = passed .before .before .before .before .before .before .before .args in
+    let ts = tradesFrom (a .trades-at) (a .m) (now (a .s)) in
+    c .positions-valid .ensures .answer ts
+    (records-sums {ts = ts} (users .ensures) (trades .valid-trades .ensures) (second-yes (a .user-zeros) (users .result) (not-false _ (passed .if1 .left))) (second-yes (a .trade-zeros) _ (not-false _ (allowed .if2 .left))))
+
+-- the sums are told past question 6
+summed : (number : ℕ) (c : tie.Else2)
+    → let t = c .before .before .before .before .before in
+    let a = t .before .before .before .before .before .before .before .before .before .before .before .before .before .before .before .before .args in
+    Summed (usersFrom (a .users-at) (a .n) (now (a .s))) (tradesFrom (a .trades-at) (a .m) (now (a .s))) (a .m) number (t .valid-trades .result) (t .valid-trades .last .1 .1 .1 .1 .1 .1 .1 .1 .0)
+summed number c =
+    let trades = c .before .before .before .before .before in
+    let passed = trades .before .before .before .before .before .before .before .before .before in
+    let users = passed .before .before .users-valid in
+    let a = passed .before .before .before .before .before .before .before .args in
+    records-summed {ts = tradesFrom (a .trades-at) (a .m) (now (a .s))} (users .ensures) (trades .valid-trades .ensures) (second-yes (a .user-zeros) (users .result) (not-false _ (passed .if1 .left)))
+    (second-yes (a .trade-zeros) _ (not-false _ (c .if2 .left))) (λ e. eqb-true (trades .valid-trades .result) (a .m) e)
+
+same-length-3 : tie.Need-same-length-3
+same-length-3 c = search needs
+
+same-length-4 : tie.Need-same-length-4
+same-length-4 c = search needs
+
+returns-3 : tie.Need-returns-3
+returns-3 c =
+    let allowed = c .before .before .before in
+    let trades = allowed .before .before .before .before .before in
+    let passed = trades .before .before .before .before .before .before .before .before .before in
+    let a = passed .before .before .before .before .before .before .before .args in (
+      records-7 {ts = tradesFrom (a .trades-at) (a .m) (now (a .s))} (passed .before .before .users-valid .ensures) (trades .valid-trades .ensures) (not-false _ (passed .if1 .left))
+          (not-false _ (allowed .if2 .left)) (positions-answer (c .before)) (not-true _ (c .if3 .taken)),
+      summed 7 allowed,
+    )
+
+same-length-5 : tie.Need-same-length-5
+same-length-5 c = search needs
+
+same-length-6 : tie.Need-same-length-6
+same-length-6 c = search needs
+
+returns-4 : tie.Need-returns-4
+returns-4 c =
+    let allowed = c .before .before .before in
+    let trades = allowed .before .before .before .before .before in
+    let passed = trades .before .before .before .before .before .before .before .before .before in
+    let a = passed .before .before .before .before .before .before .before .args in (
+      records-0 {ts = tradesFrom (a .trades-at) (a .m) (now (a .s))} (passed .before .before .users-valid .ensures) (trades .valid-trades .ensures) (not-false _ (passed .if1 .left))
+          (not-false _ (allowed .if2 .left)) (positions-answer (c .before)) (not-false _ (c .if3 .left)),
+      summed 0 allowed,
+    )
+
+pub ask-records-spec : {M : Type 1} → statement M
+ask-records-spec =
+    tie.close
+    (tie.spec
+    slice-aggregate-users-valid
+    users-valid-requires
+    returns
+    fill-guesses-requires
+    slice-aggregate-valid-trades
+    valid-trades-requires
+    same-length
+    same-length-2
+    returns-2
+    positions-valid-requires
+    same-length-3
+    same-length-4
+    returns-3
+    same-length-5
+    same-length-6
+    returns-4)

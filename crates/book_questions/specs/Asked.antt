@@ -1,0 +1,98 @@
+-- The questions 5 to 7 as the code asks them, of users and trades; and what bytes are that were asked all questions. Assumes nothing.
+use mathlib.Core.Path.{_≡_}
+use mathlib.Core.Bool.{Bool, _&&_, _||_}
+use mathlib.Core.List.{List, [], _∷_}
+use Prim.Native.Nat.{ℕ, _+_, _*_, _≤_}
+use lib.Dec.{T, eqb}
+use lib.ListN.{length, take}
+use Rattle.rules.specs.Book.{User, Trade}
+use Rattle.base.specs.Lists.{all}
+use Rattle.rules.specs.Questions.{refusal, numberOf, usersValid, tradeValid, positionsValid}
+use Rattle.book_valid.specs.Given.{tradeValidGiven}
+use Rattle.book_format.specs.Book.{usersOf, tradesOf}
+use Rattle.book_format.specs.Questions.{aboutFields, bookNumber}
+use Rattle.book_parties.specs.Ids.{idsOf, among, Padded, Placed}
+use Rattle.book_sums.specs.Sums.{placesOf}
+use Rattle.book_sums.specs.Twelve.{Twelve, TwelveOf, Low}
+
+-- ---- one question
+
+-- users that were asked question 5: the answer, and where it is yes, a list of their ids
+pub record UsersAsked (us : List User) (n : ℕ) (valid : Bool) (ids : List ℕ) : Type 0 where
+  pub answer : valid ≡ usersValid us
+  pub padded : T valid → Padded ids n
+  pub listed : T valid → take n ids ≡ idsOf us
+
+-- a trade is valid between users of these ids
+unfoldable pub tradeAmong : List ℕ → Trade → Bool
+tradeAmong ids t = tradeValidGiven (among ids (t .terms .seller)) (among ids (t .terms .buyer)) t
+
+-- trades that were asked question 6 between users of these ids: the answer, and where it is yes, the places of their parties and the sums of what is sold and
+-- bought at each place
+pub record TradesAsked (ids : List ℕ) (ts : List Trade) (valid : Bool) (sellers buyers sums : List ℕ) : Type 0 where
+  pub answer : valid ≡ all (tradeAmong ids) ts
+  pub placed : T valid → (us : List User) → idsOf us ≡ ids → Placed us ts sellers buyers
+  pub twelve : T valid → Twelve (placesOf ids (λ r. r .seller) ts) (placesOf ids (λ r. r .buyer) ts) ts 25600000 sums
+
+-- no question before 7 refuses
+unfoldable pub pastSix : ℕ → Bool
+pastSix number = eqb number 0 || eqb number 7
+
+-- users and trades that pass the questions 1 to 6: each user's twelve sums are 01's, and as many trades were read as there are
+pub record Summed (us : List User) (ts : List Trade) (count number read : ℕ) (sums : List ℕ) : Type 0 where
+  pub twelve : T (pastSix number) → TwelveOf us ts sums
+  pub low : T (pastSix number) → Low sums
+  pub all-read : T (pastSix number) → read ≡ count
+
+-- ---- 5 to 7
+
+-- n users and m trades, at most 64 and 256, stand in bytes from two offsets
+pub record RecordsIn (users-at n trades-at m : ℕ) (s : List ℕ) : Type 0 where
+  pub few : n ≤ 64
+  pub many : m ≤ 256
+  pub users : users-at + 56 * n ≤ length s
+  pub trades : trades-at + 20 * m ≤ length s
+
+-- the number of the first of the questions 5 to 7 that users and trades fail, 0 where they fail none, given whether their zero bytes are 0
+unfoldable pub recordsNumber : Bool → Bool → List User → List Trade → ℕ
+recordsNumber userZeros tradeZeros us ts =
+    numberOf
+    (refusal
+    (record { number = 5; holds = userZeros && usersValid us }
+    ∷ (record { number = 6; holds = tradeZeros && all (tradeValid us) ts }
+    ∷ (record { number = 7; holds = all (positionsValid ts) us } ∷ []))))
+
+-- users and trades that were asked the questions 5 to 7: the number, and the places of the parties where no question refuses
+pub record RecordsAsked (userZeros tradeZeros : Bool) (us : List User) (ts : List Trade) (number : ℕ) (sellers buyers : List ℕ) : Type 0 where
+  pub asked : number ≡ recordsNumber userZeros tradeZeros us ts
+  pub placed : number ≡ 0 → Placed us ts sellers buyers
+
+-- ---- 4 to 7
+
+-- the number of the first of the questions 4 to 7 that is answered by no, 0 where there is none
+unfoldable pub fieldsNumber : List ℕ → ℕ
+fieldsNumber s = numberOf (refusal (aboutFields s))
+
+-- bytes that were asked the questions 4 to 7: the number, and the places of the trades' parties where no question refuses
+pub record FieldsPlaced (s : List ℕ) (number : ℕ) (sellers buyers : List ℕ) : Type 0 where
+  pub asked : number ≡ fieldsNumber s
+  pub placed : number ≡ 0 → Placed (usersOf s) (tradesOf s) sellers buyers
+
+-- ---- 1 to 7
+
+-- bytes that were asked the questions 1 to 7: the number, and the places of the trades' parties where no question refuses
+pub record AskedOf (s : List ℕ) (r : ℕ) (sellers buyers : List ℕ) : Type 0 where
+  pub number : r ≡ bookNumber s
+  pub placed : r ≡ 0 → Placed (usersOf s) (tradesOf s) sellers buyers
+
+-- ---- what a call is handed with the number of its opening questions, which is 0 only where 1 to 7 refuse nothing
+
+-- where the number is 0, the sums are what each user sold and bought
+pub record SumsFound (s : List ℕ) (number : ℕ) (sums : List ℕ) : Type 0 where
+  pub twelve : number ≡ 0 → TwelveOf (usersOf s) (tradesOf s) sums
+  pub low : number ≡ 0 → Low sums
+
+-- and the places are those of the trades' parties
+pub record PartiesFound (s : List ℕ) (number : ℕ) (sellers buyers sums : List ℕ) : Type 0 where
+  pub placed : number ≡ 0 → Placed (usersOf s) (tradesOf s) sellers buyers
+  pub summed : SumsFound s number sums

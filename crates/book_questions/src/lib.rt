@@ -1,0 +1,228 @@
+// The questions 1 to 7, asked of any bytes: the number of the first that is answered by no, and the places of the trades' parties where
+// there is none. One walk over the trades serves the questions 6 and 7, and tells for every user what was sold and bought in the three
+// areas, for d and for d+1.
+ghost use mathlib.Core.Path.{_≡_};
+ghost use Prim.Native.Nat.{_+_, _*_, _≤_};
+ghost use lib.Dec.{eqb};
+ghost use lib.ListN.{length, take, replicate};
+ghost use Rattle.book_format.specs.Book.{usersOf, tradesOf, tradeCount};
+ghost use Rattle.book_format.specs.Questions.{Formed, bookNumber};
+ghost use Rattle.book_parties.specs.Ids.{usersFrom, tradesFrom, Padded};
+ghost use Rattle.book_questions.specs.Asked.{UsersAsked, TradesAsked, RecordsIn, RecordsAsked, FieldsPlaced, AskedOf, Summed};
+
+// What was asked: the number of the first question that is answered by no, 0 where there is none, and how many trades were read.
+pub struct Answer {
+    pub number: u32,
+    pub read: usize,
+}
+
+// ---- 5
+
+// Do the ids of the n users from `at` on rise from above 0, and is every field valid, positions apart? Their ids are listed where it is so.
+fn users_valid(s: &[u8], at: usize, n: usize, ids: &mut [u32]) -> bool
+    requires { ⌜ (n ≤ 64) × (at + 56 * n ≤ length (now s)) × (now ids ≡ replicate 64 4294967295) ⌝ }
+    ensures { λ r. ⌜ UsersAsked (usersFrom at n (now (s .entry))) n r (now (ids .exit)) ⌝ }
+{
+    let mut last = 0;
+    let mut i = 0;
+    let mut a = at;
+    while i < n {
+        let u = book_records::read_user(&s[a..a + 56]);
+        if u.id <= last {
+            return false;
+        }
+        if !book_valid::user_valid(u) {
+            return false;
+        }
+        last = u.id;
+        ids[i] = last;
+        a += 56;
+        i += 1;
+    }
+    true
+}
+
+// ---- 6
+
+// How many of the m trades from `at` on come before one that is not valid between users of the first n ids: m where all are valid. Where it
+// is so, the places of their parties are listed, and what stands is summed at each.
+fn valid_trades(
+    ids: &[u32],
+    guesses: &[u8; 1024],
+    n: usize,
+    s: &[u8],
+    at: usize,
+    m: usize,
+    sellers: &mut [u8],
+    buyers: &mut [u8],
+    sums: &mut [u32; 768],
+) -> usize
+    requires { ⌜ Padded (now ids) n ⌝ }
+    requires { ⌜ (m ≤ 256) × (at + 20 * m ≤ length (now s)) × (length (now sellers) ≡ 256) × (length (now buyers) ≡ 256) × (now sums ≡ replicate 768 0) ⌝ }
+    ensures { λ r. ⌜ TradesAsked (take n (now (ids .entry))) (tradesFrom at m (now (s .entry))) (eqb r m) (now (sellers .exit)) (now (buyers .exit)) (now (sums .exit)) ⌝ }
+{
+    let mut i = 0;
+    let mut a = at;
+    while i < m {
+        let t = book_records::read_trade(&s[a..a + 20]);
+        let seller = book_parties::find(ids, guesses, n, t.seller);
+        let buyer = book_parties::find(ids, guesses, n, t.buyer);
+        if !book_valid::trade_valid(seller < n, buyer < n, t) {
+            return i;
+        }
+        sellers[i] = seller as u8;
+        buyers[i] = buyer as u8;
+        book_sums::add_trade(sums, seller, 0, t);
+        book_sums::add_trade(sums, buyer, 1, t);
+        a += 20;
+        i += 1;
+    }
+    i
+}
+
+// ---- 5 to 7
+
+// Asks the questions 5 to 7 of the n users and the m trades from these offsets, given whether their zero bytes are 0. The places of the
+// trades' parties are listed where they fail none, and the sums of the users told where they fail none before 7.
+pub fn ask_records(
+    s: &[u8],
+    users_at: usize,
+    n: usize,
+    trades_at: usize,
+    m: usize,
+    user_zeros: bool,
+    trade_zeros: bool,
+    sellers: &mut [u8],
+    buyers: &mut [u8],
+    sums: &mut [u32; 768],
+) -> Answer
+    requires { ⌜ RecordsIn «users_at» n «trades_at» m (now s) ⌝ }
+    requires { ⌜ (length (now sellers) ≡ 256) × (length (now buyers) ≡ 256) × (now sums ≡ replicate 768 0) ⌝ }
+    ensures { λ r. ⌜ RecordsAsked «user_zeros» «trade_zeros» (usersFrom «users_at» n (now (s .entry))) (tradesFrom «trades_at» m (now (s .entry))) (r .number) (now (sellers .exit)) (now (buyers .exit)) ⌝ }
+    ensures { λ r. ⌜ Summed (usersFrom «users_at» n (now (s .entry))) (tradesFrom «trades_at» m (now (s .entry))) m (r .number) (r .read) (now (sums .exit)) ⌝ }
+{
+    let mut ids = [0xffff_ffffu32; 64];
+    if !(user_zeros & users_valid(s, users_at, n, &mut ids)) {
+        return Answer { number: 5, read: 0 };
+    }
+    let mut guesses = [0u8; 1024];
+    book_parties::fill_guesses(&ids, n, &mut guesses);
+    let read = valid_trades(&ids, &guesses, n, s, trades_at, m, sellers, buyers, sums);
+    if !(trade_zeros & (read == m)) {
+        return Answer {
+            number: 6,
+            read: read,
+        };
+    }
+    if !book_sums::positions_valid(s, users_at, n, sums) {
+        return Answer {
+            number: 7,
+            read: read,
+        };
+    }
+    Answer {
+        number: 0,
+        read: read,
+    }
+}
+
+// ---- all of them
+
+// Asks the questions 4 to 7 of bytes of the right form.
+pub fn ask_fields(s: &[u8], sellers: &mut [u8], buyers: &mut [u8], sums: &mut [u32; 768]) -> Answer
+    requires { ⌜ Formed (now s) × (length (now sellers) ≡ 256) × (length (now buyers) ≡ 256) × (now sums ≡ replicate 768 0) ⌝ }
+    ensures { λ r. ⌜ FieldsPlaced (now (s .entry)) (r .number) (now (sellers .exit)) (now (buyers .exit)) ⌝ }
+    ensures { λ r. ⌜ Summed (usersOf (now (s .entry))) (tradesOf (now (s .entry))) (tradeCount (now (s .entry))) (r .number) (r .read) (now (sums .exit)) ⌝ }
+{
+    let n = fields::get_u8(s, 5) as usize;
+    let m = fields::get_u16(s, 6) as usize;
+    let prices = book_form::read_prices(s);
+    if !book_form::header_valid(fields::get_u32(s, 8), prices) {
+        return Answer { number: 4, read: 0 };
+    }
+    let trades_at = 32 + 56 * n;
+    let user_zeros = book_form::user_zeros_valid(s, n);
+    let trade_zeros = book_form::trade_zeros_valid(s, trades_at, m);
+    ask_records(
+        s,
+        32,
+        n,
+        trades_at,
+        m,
+        user_zeros,
+        trade_zeros,
+        sellers,
+        buyers,
+        sums,
+    )
+}
+
+// Asks the questions 1 to 7 of any bytes: the number of the first that is answered by no, 0 where there is none, with the places of the
+// trades' parties; and of bytes that pass the questions 1 to 6 the twelve sums of every user, and the number of trades that were read for
+// them.
+pub fn ask(s: &[u8], sellers: &mut [u8], buyers: &mut [u8], sums: &mut [u32; 768]) -> Answer
+    requires { ⌜ (length (now sellers) ≡ 256) × (length (now buyers) ≡ 256) × (now sums ≡ replicate 768 0) ⌝ }
+    ensures { λ r. ⌜ AskedOf (now (s .entry)) (r .number) (now (sellers .exit)) (now (buyers .exit)) ⌝ }
+    ensures { λ r. ⌜ Summed (usersOf (now (s .entry))) (tradesOf (now (s .entry))) (tradeCount (now (s .entry))) (r .number) (r .read) (now (sums .exit)) ⌝ }
+{
+    let k = book_form::form_number(s);
+    if k != 0 {
+        return Answer { number: k, read: 0 };
+    }
+    ask_fields(s, sellers, buyers, sums)
+}
+
+// ---- without the sums
+
+// The number of the first of the questions 5 to 7 that the records fail, 0 where they fail none, and the places of the trades' parties.
+pub fn records_number(
+    s: &[u8],
+    users_at: usize,
+    n: usize,
+    trades_at: usize,
+    m: usize,
+    user_zeros: bool,
+    trade_zeros: bool,
+    sellers: &mut [u8],
+    buyers: &mut [u8],
+) -> u32
+    requires { ⌜ RecordsIn «users_at» n «trades_at» m (now s) ⌝ }
+    requires { ⌜ (length (now sellers) ≡ 256) × (length (now buyers) ≡ 256) ⌝ }
+    ensures { λ r. ⌜ RecordsAsked «user_zeros» «trade_zeros» (usersFrom «users_at» n (now (s .entry))) (tradesFrom «trades_at» m (now (s .entry))) r (now (sellers .exit)) (now (buyers .exit)) ⌝ }
+{
+    let mut sums = [0u32; 768];
+    let answer = ask_records(
+        s,
+        users_at,
+        n,
+        trades_at,
+        m,
+        user_zeros,
+        trade_zeros,
+        sellers,
+        buyers,
+        &mut sums,
+    );
+    answer.number
+}
+
+// The number of the first of the questions 4 to 7 that is answered by no, 0 where there is none, and the places of the trades' parties.
+pub fn fields_number(s: &[u8], sellers: &mut [u8], buyers: &mut [u8]) -> u32
+    requires { ⌜ Formed (now s) × (length (now sellers) ≡ 256) × (length (now buyers) ≡ 256) ⌝ }
+    ensures { λ r. ⌜ FieldsPlaced (now (s .entry)) r (now (sellers .exit)) (now (buyers .exit)) ⌝ }
+{
+    let mut sums = [0u32; 768];
+    let answer = ask_fields(s, sellers, buyers, &mut sums);
+    answer.number
+}
+
+// The number of the first of the questions 1 to 7 that any bytes fail, 0 where they fail none.
+pub fn number(s: &[u8]) -> u32
+    ensures { λ r. ⌜ r ≡ bookNumber (now (s .entry)) ⌝ }
+{
+    let mut sellers = [0u8; 256];
+    let mut buyers = [0u8; 256];
+    let mut sums = [0u32; 768];
+    let answer = ask(s, &mut sellers, &mut buyers, &mut sums);
+    answer.number
+}

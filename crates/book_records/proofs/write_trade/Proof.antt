@@ -1,0 +1,70 @@
+-- `write_trade` sets the fields of a trade one after the other, which over all of its 20 bytes gives the trade's bytes. Assumes nothing.
+use mathlib.Core.Path.{_≡_, refl, _∙_}
+use denote.Ref.{now}
+use Rattle.fields.specs.Layout.{setFields, size}
+use Rattle.fields.proofs.Pack.{setFields-whole}
+use Rattle.book_records.specs.Trade.{tradeWidths, tradeValues, tradeBytes, asTrade}
+use borrow.Author.Needs.{needs}
+use Rattle.book_records.proofs.write_trade.Statement.{statement}
+use Rattle.book_records.proofs.write_trade.Tie as tie
+
+put-u32-requires : tie.Need-put-u32-requires
+put-u32-requires c κs = search needs
+
+put-u32-requires-2 : tie.Need-put-u32-requires-2
+put-u32-requires-2 c κs = search needs
+
+put-u8-requires : tie.Need-put-u8-requires
+put-u8-requires c κs = search needs
+
+put-u8-requires-2 : tie.Need-put-u8-requires-2
+put-u8-requires-2 c κs = search needs
+
+put-u8-requires-3 : tie.Need-put-u8-requires-3
+put-u8-requires-3 c κs = search needs
+
+put-u8-requires-4 : tie.Need-put-u8-requires-4
+put-u8-requires-4 c κs = search needs
+
+put-u32-requires-3 : tie.Need-put-u32-requires-3
+put-u32-requires-3 c κs = search needs
+
+put-u32-requires-4 : tie.Need-put-u32-requires-4
+put-u32-requires-4 c κs = search needs
+
+same-length : tie.Need-same-length
+same-length c = search needs
+
+returns : tie.Need-returns
+unfolding tradeBytes asTrade setFields tradeWidths tradeValues size
+returns c =
+    let w8 = c .before .before in
+    let w7 = w8 .before .before .before .before in
+    let w6 = w7 .before .before .before .before in
+    let w5 = w6 .before .before .before .before in
+    let w4 = w5 .before .before .before .before in
+    let w3 = w4 .before .before .before .before in
+    let w2 = w3 .before .before .before .before in
+    let w1 = w2 .before .before .before .before in
+    let start = w1 .before .before .before in
+    let t = asTrade (start .args .t) in
+    let e : w8 .put-u324 .last .0 ≡ setFields tradeWidths 0 (tradeValues t) (now (start .args .c)) =
+    w8 .put-u324 .ensures
+    ∙ rw
+    (w7 .put-u323 .ensures, w6 .put-u84 .ensures, w5 .put-u83 .ensures, w4 .put-u82 .ensures, w3 .put-u8 .ensures, w2 .put-u322 .ensures, w1 .put-u32 .ensures) in
+    e ∙ setFields-whole tradeWidths (tradeValues t) (now (start .args .c)) refl (start .pre)
+
+pub write-trade-spec : {M : Type 1} → statement M
+write-trade-spec =
+    tie.close
+    (tie.spec
+    put-u32-requires
+    put-u32-requires-2
+    put-u8-requires
+    put-u8-requires-2
+    put-u8-requires-3
+    put-u8-requires-4
+    put-u32-requires-3
+    put-u32-requires-4
+    same-length
+    returns)

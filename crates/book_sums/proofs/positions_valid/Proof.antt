@@ -1,0 +1,115 @@
+-- `positions_valid`: the users that are left have the whole answer, until a position is not as the sums have it or none is left. Assumes nothing.
+use Prim.Native.Nat.{_+_, _-_, _*_, _≤_, _<_}
+use mathlib.Core.Path.{_≡_}
+use mathlib.Core.Bool.{Bool}
+use mathlib.Core.List.{List}
+use native.Mathlib.Omega.{arith}
+use borrow.Author.Needs.{needs}
+use borrow.Author.Tests.{not-true, not-false}
+use denote.Ref.{now}
+use lib.ListN.{length, getD, length-take, length-drop}
+use Rattle.rules.specs.Book.{Trade, nobody}
+use Rattle.rules.specs.Questions.{positionsValid}
+use Rattle.fields.proofs.Records.{length-recordsOf}
+use Rattle.book_records.specs.User.{userOf}
+use Rattle.book_parties.specs.Ids.{usersFrom}
+use Rattle.book_sums.specs.Twelve.{TwelveOf}
+use Rattle.book_sums.proofs.Twelve.{as-asked}
+use Rattle.book_sums.proofs.Walk.{Passed, passed-start, passed-no, passed-turn, passed-end, record-at}
+use Rattle.book_sums.proofs.positions_valid.Statement.{statement}
+use Rattle.book_sums.proofs.positions_valid.Tie as tie
+
+abbrev Inv-loop : tie.InvT-loop
+Inv-loop s at n sums i₀ a₀ i a =
+    (a ≡ at + 56 * i) × ((ts : List Trade) → TwelveOf (usersFrom at n s) ts sums → Passed (positionsValid ts) (usersFrom at n s) i)
+
+abbrev μ-loop : tie.MeasureT-loop
+μ-loop s at n sums i₀ a₀ i a = n - i
+
+-- the user at hand is one of the n
+within : (c : tie.In-loop Inv-loop μ-loop) → c .before .loop .i < length (usersFrom (c .before .before .before .args .at) (c .before .before .before .args .n) (now (c .before .before .before .args .s)))
+within c = rw length-recordsOf (omega arith)
+
+-- and its bytes stand there
+lies : (c : tie.In-loop Inv-loop μ-loop) → c .before .loop .a + 56 ≤ length (now (c .before .before .before .args .s))
+lies c = omega (arith, c .loop-test, c .before .loop .inv .0, c .before .before .before .pre .1)
+
+-- what the sums said of its positions is what the rules say
+asked : {answer : Bool} (c : tie.After-user-positions-valid Inv-loop μ-loop) → c .user-positions-valid .result ≡ answer → (ts : List Trade)
+    → TwelveOf (usersFrom (c .before .before .before .before .before .before .args .at) (c .before .before .before .before .before .before .args .n) (now (c .before .before .before .before .before .before .args .s))) ts (now (c .before .before .before .before .before .before .args .sums))
+    → positionsValid ts (getD (usersFrom (c .before .before .before .before .before .before .args .at) (c .before .before .before .before .before .before .args .n) (now (c .before .before .before .before .before .before .args .s))) (c .before .before .before .before .loop .i) nobody) ≡ answer
+asked c e ts sums =
+    let l = c .before .before .before .before .loop in
+    let a = c .before .before .before .before .before .before .args in
+    as-asked sums (l .i) (within (c .before .before .before))
+    (record-at 56 userOf (now (a .s)) (a .at) (a .n) (l .i) nobody (l .inv .0) (omega (arith, c .before .before .before .loop-test)) (c .before .read-user .ensures)) (c .user-positions-valid .ensures) e
+
+loop-holds : tie.Need-loop-holds Inv-loop μ-loop
+loop-holds c = (omega arith, λ ts sums. passed-start)
+
+add-read-user : tie.Need-add-read-user Inv-loop μ-loop
+add-read-user c = omega (arith, lies c, c .before .before .before .fits)
+
+sub-read-user : tie.Need-sub-read-user Inv-loop μ-loop
+sub-read-user c = search needs
+
+part-read-user-start : tie.Need-part-read-user-start Inv-loop μ-loop
+part-read-user-start c = omega arith
+
+part-read-user-end : tie.Need-part-read-user-end Inv-loop μ-loop
+part-read-user-end c = omega (arith, lies c)
+
+read-user-requires : tie.Need-read-user-requires Inv-loop μ-loop
+read-user-requires c κs = simp (length-take, length-drop) (omega arith)
+
+user-positions-valid-requires : tie.Need-user-positions-valid-requires Inv-loop μ-loop
+user-positions-valid-requires c κs =
+    let s = c .before .before .before .before .before in
+    omega (arith, c .before .before .loop-test, s .pre .0)
+
+returns : tie.Need-returns Inv-loop μ-loop
+returns c =
+    let asks = c .before in
+    record {
+      answer = λ ts sums. passed-no nobody (asks .before .before .before .before .loop .inv .1 ts sums) (within (asks .before .before .before)) (asked asks (not-true (asks .user-positions-valid .result) (c .if1 .taken)) ts sums);
+    }
+
+add-a : tie.Need-add-a Inv-loop μ-loop
+add-a c = omega (arith, lies (c .before .before .before .before), c .before .before .before .before .before .before .before .fits)
+
+add-i : tie.Need-add-i Inv-loop μ-loop
+add-i c = search needs
+
+loop-less : tie.Need-loop-less Inv-loop μ-loop
+loop-less c = search needs
+
+loop-again : tie.Need-loop-again Inv-loop μ-loop
+loop-again c =
+    let asks = c .before in
+    let l = asks .before .before .before .before .loop in (
+      omega (arith, l .inv .0),
+      λ ts sums. passed-turn nobody (l .inv .1 ts sums) (within (asks .before .before .before)) (asked asks (not-false (asks .user-positions-valid .result) (c .if1 .left)) ts sums),
+    )
+
+returns-2 : tie.Need-returns-2 Inv-loop μ-loop
+returns-2 c = record { answer = λ ts sums. passed-end (c .before .loop .inv .1 ts sums) (rw length-recordsOf (omega arith)) }
+
+pub positions-valid-spec : {M : Type 1} → statement M
+positions-valid-spec =
+    tie.close
+    (tie.spec
+    Inv-loop
+    μ-loop
+    loop-holds
+    add-read-user
+    sub-read-user
+    part-read-user-start
+    part-read-user-end
+    read-user-requires
+    user-positions-valid-requires
+    returns
+    add-a
+    add-i
+    loop-less
+    loop-again
+    returns-2)

@@ -1,0 +1,50 @@
+-- `user_valid` asks the tests of the rules in their order; an id of 32 bits passes its own. Assumes nothing.
+use Prim.Native.Nat.{_^_}
+use borrow.Author.Tests.{lt-ltb}
+use Rattle.rules.specs.Book.{at}
+use Rattle.rules.specs.Questions.{userValid, guaranteesValid, entriesValid}
+use Rattle.book_records.specs.User.{asAmounts, asUser}
+use borrow.Author.Needs.{needs}
+use Rattle.book_valid.proofs.user_valid.Statement.{statement}
+use Rattle.book_valid.proofs.user_valid.Tie as tie
+
+array-copy-out-pvb : tie.Need-array-copy-out-pvb
+array-copy-out-pvb c = search needs
+
+array-copy-out-tvb : tie.Need-array-copy-out-tvb
+array-copy-out-tvb c = search needs
+
+array-copy-out-avb : tie.Need-array-copy-out-avb
+array-copy-out-avb c = search needs
+
+is-entry-requires : tie.Need-is-entry-requires
+is-entry-requires c κs = search needs
+
+is-entry-requires-2 : tie.Need-is-entry-requires-2
+is-entry-requires-2 c κs = search needs
+
+is-entry-requires-3 : tie.Need-is-entry-requires-3
+is-entry-requires-3 c κs = search needs
+
+is-charges-requires : tie.Need-is-charges-requires
+is-charges-requires c κs = search needs
+
+returns : tie.Need-returns
+unfolding userValid guaranteesValid entriesValid at asUser asAmounts
+returns c =
+    let u = c .before .before .before .before .before .before .before .before .before .before .before .before .args .u in
+    rw
+    (lt-ltb (u .id) (2 ^ 32) (search needs), c .before .before .before .before .before .before .is-entry .ensures, c .before .before .before .before .before .is-entry2 .ensures, c .before .before .before .before .is-entry3 .ensures, c .before .before .before .is-charges .ensures)
+
+pub user-valid-spec : {M : Type 1} → statement M
+user-valid-spec =
+    tie.close
+    (tie.spec
+    array-copy-out-pvb
+    array-copy-out-tvb
+    array-copy-out-avb
+    is-entry-requires
+    is-entry-requires-2
+    is-entry-requires-3
+    is-charges-requires
+    returns)

@@ -1,0 +1,83 @@
+-- The ways out of writing, by the questions; and the form of what a struct with counts in range is written as. Assumes nothing.
+use mathlib.Core.Bool.{_&&_, false, true}
+use mathlib.Core.List.{List, map}
+use mathlib.Core.Option.{some}
+use mathlib.Core.Path.{_≡_, _∙_}
+use Prim.Native.Nat.{_*_, _+_, ℕ}
+use native.Mathlib.Omega.{arith}
+use lib.Dec.{T, eqb, leb, leb→le}
+use lib.ListN.{length, length-map, length-take, take}
+use borrow.Author.Tests.{eqb-true}
+use Rattle.book_value.specs.Book.{asBook}
+use Rattle.book_value.specs.declared.Book.{Book}
+use Rattle.book_format.proofs.Written.{formed-bytesOf, length-bytesOf}
+use Rattle.book_format.specs.Book.{bytesOf}
+use Rattle.book_format.specs.Questions.{Formed, aboutFields}
+use Rattle.laws.proofs.Refusals.{number-none, number-some, numbered}
+use Rattle.base.proofs.Tests.{and-l, and-r}
+use Rattle.book_questions.specs.Asked.{fieldsNumber}
+use Rattle.book_records.specs.Trade.{asTrade}
+use Rattle.book_records.specs.User.{asUser}
+use Rattle.rules.specs.Book as model
+use Rattle.base.specs.Lists.{all}
+use Rattle.rules.specs.Questions.{decided, numberOf, refusal}
+use Rattle.book_value.specs.Written.{InCounts, WrittenAs, aboutWriting, countsInRange}
+
+-- the tests of version and counts, as facts
+pub in-counts : (b : Book) → eqb (b .version) 1 ≡ true → countsInRange (b .«user_count») (b .«trade_count») ≡ true → InCounts b
+unfolding countsInRange
+in-counts b v k =
+    let t : T ((leb 1 (b .«user_count») && leb (b .«user_count») 64) && leb (b .«trade_count») 256) = rw k tt in
+    record {
+      version = eqb-true (b .version) 1 v;
+      some = leb→le 1 (b .«user_count») (search (and-l, and-r));
+      users = leb→le (b .«user_count») 64 (search (and-l, and-r));
+      trades = leb→le (b .«trade_count») 256 (search (and-l, and-r));
+    }
+
+-- a struct of version 1 with counts in range is written as bytes of the right form
+pub formed-written : (b : Book) → InCounts b → length (b .users) ≡ 64 → length (b .trades) ≡ 256 → Formed (bytesOf (asBook b))
+unfolding asBook
+formed-written b c u t =
+    let n : length (map asUser (take (b .«user_count») (b .users))) ≡ b .«user_count» = rw (length-map, length-take) (omega (arith, c .users)) in
+    let m : length (map asTrade (take (b .«trade_count») (b .trades))) ≡ b .«trade_count» = rw (length-map, length-take) (omega (arith, c .trades)) in
+    formed-bytesOf (asBook b) (c .version) (omega (arith, c .some)) (omega (arith, c .users)) (omega (arith, c .trades))
+
+-- and of the length that the counts ask for
+pub length-written : (b : Book) → InCounts b → length (b .users) ≡ 64 → length (b .trades) ≡ 256 → length (bytesOf (asBook b)) ≡ 32 + 56 * b .«user_count» + 20 * b .«trade_count»
+unfolding asBook
+length-written b c u t =
+    let n : length (map asUser (take (b .«user_count») (b .users))) ≡ b .«user_count» = rw (length-map, length-take) (omega (arith, c .users)) in
+    let m : length (map asTrade (take (b .«trade_count») (b .trades))) ≡ b .«trade_count» = rw (length-map, length-take) (omega (arith, c .trades)) in
+    length-bytesOf (asBook b) ∙ omega arith
+
+fields-numbered : (s : List ℕ) → T (numbered (aboutFields s))
+unfolding numbered aboutFields all
+fields-numbered s = tt
+
+module _ (users trades : ℕ) (b : model.Book) (s : List ℕ) where
+  pub written-2 : eqb (b .header .version) 1 ≡ false → WrittenAs users trades b s 2 s
+  unfolding aboutWriting refusal numberOf decided
+  written-2 h = record { asked = rw h; part = rw h }
+
+  module _ (v : eqb (b .header .version) 1 ≡ true) where
+    pub written-3 : (countsInRange users trades && eqb (length s) (32 + 56 * users + 20 * trades)) ≡ false → WrittenAs users trades b s 3 s
+    unfolding aboutWriting refusal numberOf decided
+    written-3 h = record { asked = rw (v, h); part = rw (v, h) }
+
+    module _ (k : (countsInRange users trades && eqb (length s) (32 + 56 * users + 20 * trades)) ≡ true) where
+      fields-left : refusal (aboutWriting users trades b (length s)) ≡ refusal (aboutFields (bytesOf b))
+      unfolding aboutWriting refusal
+      fields-left = rw (v, k)
+
+      pub written-refused : (n : ℕ) → n ≡ fieldsNumber (bytesOf b) → (n ≡ 0 → ⊥) → WrittenAs users trades b s n s
+      unfolding fieldsNumber decided numberOf
+      written-refused n e h =
+          let o = number-some (refusal (aboutFields (bytesOf b))) n e h in
+          record { asked = rw (fields-left, o); part = rw (fields-left, o) }
+
+      pub written-0 : fieldsNumber (bytesOf b) ≡ 0 → (t : List ℕ) → t ≡ bytesOf b → WrittenAs users trades b s 0 t
+      unfolding fieldsNumber decided numberOf
+      written-0 e t f =
+          let o = number-none (aboutFields (bytesOf b)) (fields-numbered (bytesOf b)) e in
+          record { asked = rw (fields-left, o); part = rw (fields-left, o) f }

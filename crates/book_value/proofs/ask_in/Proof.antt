@@ -1,0 +1,82 @@
+-- `ask_in` asks the part that it wrote, which is the bytes of the book. Assumes nothing.
+use mathlib.Core.List.{_++_}
+use mathlib.Core.Path.{_≡_, sym, ap, _∙_}
+use native.Mathlib.Omega.{arith}
+use lib.ListN.{length, take, drop, length-take}
+use lib.Seq.{take-at}
+use borrow.Author.Needs.{needs}
+use denote.Ref.{now}
+use Rattle.book_value.specs.Book.{asBook}
+use Rattle.book_format.specs.Book.{bytesOf}
+use Rattle.book_questions.specs.Asked.{fieldsNumber}
+use Rattle.book_value.proofs.PartWritten.{formed-written, length-written}
+use Rattle.book_value.proofs.ask_in.Statement.{statement}
+use Rattle.book_value.proofs.ask_in.Tie as tie
+
+-- the part that was written and lent again is the bytes of the book
+written : (c : tie.After-fields-number-arg) → take (c .before .before .before .before .before .before .args .len)
+    (c .before .before .before .write-book .last .0 ++ drop (c .before .before .before .before .before .before .args .len)
+    (now (c .before .before .before .before .before .before .args .scratch)))
+    ≡ bytesOf (asBook (c .before .before .before .before .before .before .args .b))
+written c =
+    let w = c .before .before .before in
+    let st = w .before .before .before in
+    let n : length (w .write-book .last .0) ≡ st .args .len = ap length (w .write-book .ensures .bytes) ∙ length-written (st .args .b) (st .pre .0) (w .write-book .ensures .user-room) (w .write-book .ensures .trade-room) ∙ sym (st .pre .1) in
+    take-at (w .write-book .last .0) (drop (st .args .len) (now (st .args .scratch))) (st .args .len) n ∙ w .write-book .ensures .bytes
+
+slice-relend-prefix-write-book : tie.Need-slice-relend-prefix-write-book
+slice-relend-prefix-write-book c = search needs
+
+slice-aggregate-write-book : tie.Need-slice-aggregate-write-book
+slice-aggregate-write-book c = rw length-take (omega (arith, c .before .before .pre .2))
+
+write-book-requires : tie.Need-write-book-requires
+write-book-requires c κs =
+    let p = c .before .before .pre in
+    (p .0 .users, p .0 .trades, rw length-take (omega (arith, p .1, p .2)))
+
+slice-reshare-prefix-fields-number : tie.Need-slice-reshare-prefix-fields-number
+slice-reshare-prefix-fields-number c = search needs
+
+slice-aggregate-fields-number : tie.Need-slice-aggregate-fields-number
+slice-aggregate-fields-number c =
+    let w = c .before .before .before in
+    let st = w .before .before .before in
+    sym (ap length (written c) ∙ length-written (st .args .b) (st .pre .0) (w .write-book .ensures .user-room) (w .write-book .ensures .trade-room) ∙ sym (st .pre .1))
+
+slice-aggregate-fields-number-2 : tie.Need-slice-aggregate-fields-number-2
+slice-aggregate-fields-number-2 c = search needs
+
+slice-aggregate-fields-number-3 : tie.Need-slice-aggregate-fields-number-3
+slice-aggregate-fields-number-3 c = search needs
+
+fields-number-requires : tie.Need-fields-number-requires
+fields-number-requires c κs =
+    let arg = c .before .before in
+    let w = arg .before .before .before in
+    let st = w .before .before .before in (
+      rw (written arg) (formed-written (st .args .b) (st .pre .0) (w .write-book .ensures .user-room) (w .write-book .ensures .trade-room)),
+      search needs,
+      search needs,
+    )
+
+same-length : tie.Need-same-length
+same-length c = search needs
+
+returns : tie.Need-returns
+returns c = c .before .before .fields-number .ensures .asked ∙ ap fieldsNumber (written (c .before .before .before .before .before))
+
+pub ask-in-spec : {M : Type 1} → statement M
+ask-in-spec =
+    tie.close
+    (tie.spec
+    slice-relend-prefix-write-book
+    slice-aggregate-write-book
+    write-book-requires
+    slice-reshare-prefix-fields-number
+    slice-aggregate-fields-number
+    slice-aggregate-fields-number-2
+    slice-aggregate-fields-number-3
+    fields-number-requires
+    same-length
+    returns)

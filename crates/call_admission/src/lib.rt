@@ -1,0 +1,69 @@
+// The opening questions of a call with its setting: those of its book, 1 to 7, and after them those of its store, 16 and 17. They give a
+// number and the figures of the call.
+use units::Limits;
+ghost use mathlib.Core.Path.{_≡_};
+ghost use lib.ListN.{length, replicate};
+ghost use Rattle.units.specs.Limits.{asLimits, LimitsInRange};
+ghost use Rattle.book_format.specs.Questions.{bookNumber};
+ghost use Rattle.book_questions.specs.Asked.{PartiesFound};
+ghost use Rattle.store.specs.Store.{given};
+ghost use Rattle.requests.specs.Request.{settingOf};
+ghost use Rattle.requests.specs.Carried.{Admitted};
+
+// What the opening questions give: the number of the first that is answered by no, 0 where there is none, and the figures that the call
+// takes then.
+pub struct Admission {
+    pub limits: Limits,
+    pub number: u32,
+}
+
+// The questions of the store, after those of the book: the book's number where one of those is answered by no.
+fn by_store(book: &[u8], asked: u32, with_store: bool, store: &[u8]) -> Admission
+    requires { ⌜ asked ≡ bookNumber (now book) ⌝ }
+    ensures { λ r. ⌜ Admitted (settingOf (given «with_store» (now (store .entry)))) (now (book .entry)) (r .number) (asLimits (r .limits)) ⌝ }
+    ensures { λ r. ⌜ LimitsInRange (asLimits (r .limits)) ⌝ }
+    ensures { λ r. ⌜ (r .number ≡ 0 → asked ≡ 0) ⌝ }
+{
+    if asked != 0 {
+        return Admission {
+            limits: Limits::today(),
+            number: asked,
+        };
+    }
+    let date = fields::get_u32(book, 8);
+    let figures = store::figures_on(date, with_store, store);
+    let limits = figures.limits;
+    Admission {
+        limits: limits,
+        number: figures.number,
+    }
+}
+
+// Asks the opening questions of a call that needs no sums.
+pub fn admit(book: &[u8], with_store: bool, store: &[u8]) -> Admission
+    ensures { λ r. ⌜ Admitted (settingOf (given «with_store» (now (store .entry)))) (now (book .entry)) (r .number) (asLimits (r .limits)) ⌝ }
+    ensures { λ r. ⌜ LimitsInRange (asLimits (r .limits)) ⌝ }
+    ensures { λ r. ⌜ (r .number ≡ 0 → bookNumber (now (book .entry)) ≡ 0) ⌝ }
+{
+    let asked = book_questions::number(book);
+    by_store(book, asked, with_store, store)
+}
+
+// Asks the opening questions, and where none is answered by no lists the places of the trades' parties, with the twelve sums of every user.
+pub fn admit_with_sums(
+    book: &[u8],
+    with_store: bool,
+    store: &[u8],
+    sellers: &mut [u8],
+    buyers: &mut [u8],
+    sums: &mut [u32; 768],
+) -> Admission
+    requires { ⌜ (length (now sellers) ≡ 256) × (length (now buyers) ≡ 256) × (now sums ≡ replicate 768 0) ⌝ }
+    ensures { λ r. ⌜ Admitted (settingOf (given «with_store» (now (store .entry)))) (now (book .entry)) (r .number) (asLimits (r .limits)) ⌝ }
+    ensures { λ r. ⌜ LimitsInRange (asLimits (r .limits)) ⌝ }
+    ensures { λ r. ⌜ (r .number ≡ 0 → bookNumber (now (book .entry)) ≡ 0) ⌝ }
+    ensures { λ r. ⌜ PartiesFound (now (book .entry)) (r .number) (now (sellers .exit)) (now (buyers .exit)) (now (sums .exit)) ⌝ }
+{
+    let asked = book_questions::ask(book, sellers, buyers, sums);
+    by_store(book, asked.number, with_store, store)
+}

@@ -1,0 +1,115 @@
+// The answers of the public calls: a number, and what the call found, made or cut; 0 in every other field where the number is not 0.
+use cut_worth::Tally;
+use units::Cents;
+use units::Mwh;
+ghost use mathlib.Core.Path.{_≡_};
+ghost use Prim.Native.Nat.{_-_};
+ghost use Rattle.rules.specs.Calls.{only, ofCuts};
+ghost use Rattle.cut_worth.specs.Tallies.{asTally};
+ghost use Rattle.call_answers.specs.Call as call;
+ghost use Rattle.call_answers.specs.Reduction as reduction;
+ghost use Rattle.call_answers.specs.Run as run;
+
+// A level, and 0; or 0 cents and the number of the first question that is answered by no.
+pub struct LevelAnswer {
+    pub number: u32,
+    pub level: Cents,
+}
+
+// Whether the user is warned, and 0; or no and the number of the first question that is answered by no.
+pub struct WarningAnswer {
+    pub number: u32,
+    pub warned: bool,
+}
+
+// ---- a guarantee call
+
+// The level and what was added to the blocked guarantee, and 0; or 0 cents and the number of the first question that is answered by no.
+pub struct CallAnswer {
+    pub number: u32,
+    pub level: Cents,
+    pub added: Cents,
+}
+
+impl CallAnswer {
+    // A number alone.
+    pub fn refused(number: u32) -> CallAnswer
+        ensures { λ r. ⌜ call.answerOf r ≡ only number ⌝ }
+    {
+        CallAnswer {
+            number: number,
+            level: Cents(0),
+            added: Cents(0),
+        }
+    }
+}
+
+// ---- a reduction
+
+// The MWh cut and their worth, the target, and what the worth falls short of it or exceeds it by, and 0; or 0 in every field and the number
+// of the first question that is answered by no.
+pub struct ReductionAnswer {
+    pub number: u32,
+    pub mwh: Mwh,
+    pub worth: Cents,
+    pub target: Cents,
+    pub short: Cents,
+    pub over: Cents,
+}
+
+impl ReductionAnswer {
+    // A number alone.
+    pub fn refused(number: u32) -> ReductionAnswer
+        ensures { λ r. ⌜ reduction.answerOf r ≡ only number ⌝ }
+    {
+        ReductionAnswer {
+            number: number,
+            mwh: Mwh(0),
+            worth: Cents(0),
+            target: Cents(0),
+            short: Cents(0),
+            over: Cents(0),
+        }
+    }
+
+    // The answer of a reduction for an amount, by the tally of its cuts.
+    pub fn of_cuts(asked: Cents, tally: Tally) -> ReductionAnswer
+        ensures { λ r. ⌜ reduction.answerOf r ≡ ofCuts (asked .0) (asTally tally) ⌝ }
+    {
+        let mwh = tally.mwh;
+        let worth = tally.worth;
+        ReductionAnswer {
+            number: 0,
+            mwh: mwh,
+            worth: worth,
+            target: asked,
+            short: Cents(units::excess(asked.0, worth.0)),
+            over: Cents(units::excess(worth.0, asked.0)),
+        }
+    }
+}
+
+// ---- a run
+
+// The number of reductions, the MWh cut and their worth, and 0; or the number of the first question that is answered by no, with every
+// other field 0.
+pub struct RunAnswer {
+    pub number: u32,
+    pub reductions: u64,
+    pub mwh: Mwh,
+    pub worth: Cents,
+}
+
+impl RunAnswer {
+    // A number alone.
+    pub fn refused(number: u32) -> RunAnswer
+        ensures { λ r. ⌜ run.answerOf r ≡ only number ⌝ }
+    {
+        RunAnswer {
+            number: number,
+            reductions: 0,
+            mwh: Mwh(0),
+            worth: Cents(0),
+        }
+    }
+}

@@ -1,0 +1,80 @@
+-- A call and a query on a user, by what the entry found: refused with its number, or by the questions that are its own. Assumes nothing.
+use mathlib.Core.List.{List, _∷_}
+use mathlib.Core.Path.{_≡_, _∙_, ap, sym}
+use Prim.Native.Nat.{ℕ}
+use lib.Dec.{T}
+use lib.ListN.{getD}
+use Rattle.call_entry.proofs.Asked.{entry-found, entry-refused}
+use Rattle.call_entry.specs.Entered.{Entered, Found}
+use Rattle.book_format.proofs.OneUser.{find-place, known-place}
+use Rattle.book_format.proofs.Passed.{passed}
+use Rattle.book_format.specs.After.{CalledAfter, after, replyAfter, stepAfter, unchanged}
+use Rattle.book_format.specs.Book.{bookOf, tradesOf, usersOf}
+use Rattle.book_format.specs.Places.{UserIn}
+use Rattle.book_format.specs.Steps.{InBytes, inBytes}
+use Rattle.laws.proofs.Users.{all-find}
+use Rattle.book_records.specs.User.{asUser}
+use Rattle.book_records.specs.declared.User as code
+use Rattle.rules.specs.Book.{User, find, nobody}
+use Rattle.rules.specs.Calls.{Answer, Call, about, effect, idKnown, only}
+use Rattle.rules.specs.Levels.{Limits}
+use Rattle.rules.specs.Queries.{Query, aboutQuery, found, onlyNumber}
+use Rattle.rules.specs.Questions.{Question, decided, known, positionsValid, refusal, userValid}
+
+-- what a call gives is its contract
+pub called : {before : ℕ} {limits : Limits} {s t : List ℕ} {a x : Answer} (c : Call) → a ≡ x → stepAfter before limits s c ≡ record { answer = x; bytes = t } → CalledAfter before limits s c a t
+called c h e = record { answer = h ∙ sym (ap (λ (r : InBytes). r .answer) e); bytes = sym (ap (λ (r : InBytes). r .bytes) e) }
+
+module _ (before : ℕ) (limits : Limits) (s : List ℕ) (id : ℕ) (rest : List Question) where
+  -- ---- a call
+
+  module _ (c : Call) (own : about limits (bookOf s) c ≡ idKnown (bookOf s) id ∷ rest) where
+    pub call-refused : {n place : ℕ} → Entered before s id n place → (n ≡ 0 → ⊥) → stepAfter before limits s c ≡ record { answer = only n; bytes = s }
+    unfolding stepAfter unchanged
+    call-refused {n} e h = rw own (entry-refused s id rest (unchanged s) (inBytes (effect limits (bookOf s) c)) before n (e .asked) h)
+
+    pub call-found : {place : ℕ} → before ≡ 0 → Found s id place
+        → stepAfter before limits s c ≡ decided (refusal rest) (λ n. record { answer = only n; bytes = s }) (inBytes (effect limits (bookOf s) c))
+    unfolding stepAfter unchanged after
+    call-found e f = rw (e, own, entry-found s id rest f)
+
+  -- ---- a query
+
+  module _ (q : Query) (own : aboutQuery (bookOf s) q ≡ idKnown (bookOf s) id ∷ rest) where
+    pub query-refused : {n place : ℕ} → Entered before s id n place → (n ≡ 0 → ⊥) → replyAfter before limits s q ≡ onlyNumber n
+    unfolding replyAfter
+    query-refused {n} e h = rw own (entry-refused s id rest onlyNumber (found limits (bookOf s) q) before n (e .asked) h)
+
+    pub query-found : {place : ℕ} → before ≡ 0 → Found s id place → replyAfter before limits s q ≡ decided (refusal rest) onlyNumber (found limits (bookOf s) q)
+    unfolding replyAfter after
+    query-found e f = rw (e, own, entry-found s id rest f)
+
+-- ---- the user that the entry found
+
+module _ {s : List ℕ} {id place : ℕ} (f : Found s id place) where
+  -- it stands at its place
+  pub found-user : UserIn s place
+  found-user = record { form = passed s (f .passes) .form; inside = f .known }
+
+  pub found-known : T (known (usersOf s) id)
+  found-known = rw (known-place s id (rw (f .stands) at (f .known))) tt
+
+  pub found-valid : T (userValid (find (usersOf s) id))
+  unfolding bookOf
+  found-valid = all-find userValid (usersOf s) id (passed s (f .passes) .sound .users) found-known
+
+  pub found-positions : T (positionsValid (tradesOf s) (find (usersOf s) id))
+  unfolding bookOf
+  found-positions = all-find (positionsValid (tradesOf s)) (usersOf s) id (passed s (f .passes) .sound .positions) found-known
+
+-- ---- a struct that is the user at the place
+
+module _ {s : List ℕ} {id place : ℕ} (u : code.User) (f : Found s id place) (h : asUser u ≡ getD (usersOf s) place nobody) where
+  -- it is the user of the id
+  pub read-user : asUser u ≡ find (bookOf s .users) id
+  unfolding bookOf
+  read-user = h ∙ ap (λ (i : ℕ). getD (usersOf s) i nobody) (f .stands) ∙ sym (find-place (usersOf s) id)
+
+  pub read-role : u .role ≡ find (bookOf s .users) id .party .role
+  unfolding asUser
+  read-role = ap (λ (v : User). v .party .role) read-user

@@ -1,0 +1,110 @@
+-- The ways out of a guarantee call: refused by the entry, by a question of its own, or answered. Assumes nothing.
+use mathlib.Core.Bool.{Bool, true, false}
+use mathlib.Core.List.{List, _∷_}
+use mathlib.Core.Path.{_≡_, refl, sym, ap, _∙_}
+use Prim.Native.Nat.{ℕ, _+_, _-_, _*_, _≤_, _<_}
+use lib.ListN.{getD}
+use lib.Seq.{sets}
+use borrow.Author.Tests.{eq-eqb, ne-eqb, le-leb, lt-leb}
+use Rattle.rules.specs.Book.{Book, User, find, nobody}
+use Rattle.rules.specs.Levels.{Limits, shipper, exceedsMargin}
+use Rattle.rules.specs.Questions.{Question, refusal, decided}
+use Rattle.rules.specs.Calls.{about, assignedSuffices, calledInBeyondMargin, effect, guaranteed, idKnown, isShipper, marginExceeded, ofLevel, only}
+use Rattle.rules.specs.Changes.{blockedTo}
+use Rattle.fields.specs.Field.{AllBytes}
+use Rattle.book_records.specs.User.{asUser, userBytes}
+use Rattle.book_records.specs.declared.User as code
+use Rattle.book_format.specs.Book.{bookOf, userAt, usersOf}
+use Rattle.book_format.specs.Steps.{inBytes}
+use Rattle.book_format.proofs.OneUser.{changed-bytes}
+use Rattle.book_format.proofs.Passed.{passed}
+use Rattle.book_format.specs.After.{stepAfter}
+use Rattle.call_entry.specs.Entered.{Entered, Found}
+use Rattle.call_entry.proofs.Calls.{call-found, call-refused, read-role, read-user}
+use Rattle.call_level.specs.Times.{levelOf}
+use Rattle.call_guarantee.specs.Times.{dueOf, callOf}
+use Rattle.call_guarantee.specs.Raised.{lastQuestions, raised}
+
+-- ---- question 11
+
+module _ (limits : Limits) (b : Book) (level : ℕ) (u : User) where
+  pub due-within : (afternoon : Bool) → exceedsMargin limits level u ≡ false → false ≡ dueOf afternoon limits b level u
+  unfolding dueOf
+  due-within true h = rw h
+  due-within false h = sym h
+
+-- ---- the end of a call
+
+module _ (s : List ℕ) (place : ℕ) (u : User) (level : ℕ) {due : Bool} where
+  pub raised-undue : due ≡ false → raised s place u level due ≡ record { answer = only 11; bytes = s }
+  unfolding raised lastQuestions refusal decided
+  raised-undue e = rw e
+
+  pub raised-short : due ≡ true → u .party .assigned < level → raised s place u level due ≡ record { answer = only 12; bytes = s }
+  unfolding raised lastQuestions assignedSuffices refusal decided
+  raised-short e h = rw (e, lt-leb level (u .party .assigned) h)
+
+  pub raised-full : due ≡ true → level ≤ u .party .assigned
+      → raised s place u level due ≡ record { answer = ofLevel level (level - u .blocked); bytes = sets s (userAt s place) (userBytes (blockedTo level u)) }
+  unfolding raised lastQuestions assignedSuffices refusal decided
+  raised-full e h = rw (e, le-leb level (u .party .assigned) h)
+
+-- ---- a call
+
+call-asks : (limits : Limits) (b : Book) (id : ℕ) (afternoon : Bool) → let u = find (b .users) id in let level = levelOf afternoon limits b u in
+    about limits b (callOf afternoon id) ≡ idKnown b id ∷ (isShipper u ∷ lastQuestions (dueOf afternoon limits b level u) level u)
+unfolding about levelOf dueOf lastQuestions marginExceeded calledInBeyondMargin
+call-asks limits b id true = refl
+call-asks limits b id false = refl
+
+call-effects : (limits : Limits) (b : Book) (id : ℕ) (afternoon : Bool) → effect limits b (callOf afternoon id) ≡ guaranteed b id (levelOf afternoon limits b (find (b .users) id))
+unfolding effect levelOf
+call-effects limits b id true = refl
+call-effects limits b id false = refl
+
+module _ (before : ℕ) (limits : Limits) (s : List ℕ) (id : ℕ) (afternoon : Bool) where
+  -- the user, its level, and the answer to question 11
+  abbrev user : User
+  user = find (bookOf s .users) id
+
+  abbrev level : ℕ
+  level = levelOf afternoon limits (bookOf s) user
+
+  abbrev due : Bool
+  due = dueOf afternoon limits (bookOf s) level user
+
+  -- what is asked after the entry
+  abbrev rest : List Question
+  rest = isShipper user ∷ lastQuestions due level user
+
+  pub call-unentered : {n place : ℕ} → Entered before s id n place → (n ≡ 0 → ⊥) → stepAfter before limits s (callOf afternoon id) ≡ record { answer = only n; bytes = s }
+  call-unentered e h = call-refused before limits s id rest (callOf afternoon id) (call-asks limits (bookOf s) id afternoon) e h
+
+  module _ {place : ℕ} (o : before ≡ 0) (f : Found s id place) where
+    pub call-of-house : (find (bookOf s .users) id .party .role ≡ 0 → ⊥) → stepAfter before limits s (callOf afternoon id) ≡ record { answer = only 9; bytes = s }
+    unfolding isShipper shipper refusal decided
+    call-of-house h =
+        rw (call-found before limits s id rest (callOf afternoon id) (call-asks limits (bookOf s) id afternoon) o f, ne-eqb (user .party .role) 0 h)
+
+    -- one user's record is changed
+    effect-bytes : AllBytes s → inBytes (effect limits (bookOf s) (callOf afternoon id))
+        ≡ record { answer = ofLevel level (level - user .blocked); bytes = sets s (userAt s place) (userBytes (blockedTo level user)) }
+    unfolding inBytes guaranteed bookOf
+    effect-bytes h =
+        rw (call-effects limits (bookOf s) id afternoon, f .stands)
+        (ap (λ (l : List ℕ). record { answer = ofLevel level (level - user .blocked); bytes = l })
+        (changed-bytes s h (passed s (f .passes)) id (blockedTo level) (rw (f .stands) at (f .known))))
+
+    pub call-raised : AllBytes s → user .party .role ≡ 0 → stepAfter before limits s (callOf afternoon id) ≡ raised s place user level due
+    unfolding isShipper shipper refusal raised
+    call-raised h k =
+        rw (call-found before limits s id rest (callOf afternoon id) (call-asks limits (bookOf s) id afternoon) o f, eq-eqb (user .party .role) 0 k)
+        (ap (decided (refusal (lastQuestions due level user)) (λ n. record { answer = only n; bytes = s })) (effect-bytes h))
+
+    -- with the record that was read of the user, its level and its answer to question 11
+    pub call-ends : AllBytes s → (u : code.User) {n : ℕ} {d : Bool} → asUser u ≡ getD (usersOf s) place nobody → u .role ≡ 0
+        → n ≡ levelOf afternoon limits (bookOf s) (asUser u) → d ≡ dueOf afternoon limits (bookOf s) n (asUser u)
+        → raised s place (asUser u) n d ≡ stepAfter before limits s (callOf afternoon id)
+    call-ends h u {n} {d} is k m w =
+        let x : raised s place (asUser u) n d ≡ raised s place user level due = cc (m, w, read-user u f is) in
+        x ∙ sym (call-raised h (sym (read-role u f is) ∙ k))

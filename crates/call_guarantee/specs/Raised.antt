@@ -1,0 +1,22 @@
+-- How a guarantee call ends: its last questions, and what they leave. Assumes nothing.
+use mathlib.Core.Bool.{Bool}
+use mathlib.Core.List.{List, [], _∷_}
+use Prim.Native.Nat.{ℕ, _-_}
+use lib.Seq.{sets}
+use Rattle.rules.specs.Book.{User}
+use Rattle.rules.specs.Questions.{Question, refusal, decided}
+use Rattle.rules.specs.Changes.{blockedTo}
+use Rattle.rules.specs.Calls.{only, ofLevel, assignedSuffices}
+use Rattle.book_records.specs.User.{userBytes}
+use Rattle.book_format.specs.Book.{userAt}
+use Rattle.book_format.specs.Steps.{InBytes}
+
+-- the questions 11, with its answer, and 12
+unfoldable pub lastQuestions : Bool → ℕ → User → List Question
+lastQuestions due level u = record { number = 11; holds = due } ∷ (assignedSuffices level u ∷ [])
+
+-- what the questions 11 and 12 leave: the bytes as they are, or with the record of the user at the place, whose blocked guarantee reaches the level
+unfoldable pub raised : List ℕ → ℕ → User → ℕ → Bool → InBytes
+raised s place u level due =
+    decided (refusal (lastQuestions due level u)) (λ n. record { answer = only n; bytes = s })
+    (record { answer = ofLevel level (level - u .blocked); bytes = sets s (userAt s place) (userBytes (blockedTo level u)) })

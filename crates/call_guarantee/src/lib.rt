@@ -1,0 +1,92 @@
+// The guarantee calls on a lent book in bytes: a user's blocked guarantee is raised to its morning or its afternoon level. Both times of
+// the day go one way, with the level of the time.
+use book_records::User;
+use call_answers::CallAnswer;
+use units::Cents;
+use units::Limits;
+ghost use mathlib.Core.Path.{_≡_};
+ghost use Prim.Native.Nat.{_≤_};
+ghost use Rattle.units.specs.Limits.{asLimits, LimitsInRange};
+ghost use Rattle.book_records.specs.User.{asUser};
+ghost use Rattle.book_format.specs.After.{CalledAfter};
+ghost use Rattle.book_format.specs.Book.{bookOf};
+ghost use Rattle.book_format.specs.Places.{UserIn};
+ghost use Rattle.book_format.specs.Questions.{bookNumber};
+ghost use Rattle.call_answers.specs.Call.{answerOf};
+ghost use Rattle.book_questions.specs.Asked.{SumsFound};
+ghost use Rattle.call_guarantee.specs.Times.{dueOf, callOf};
+ghost use Rattle.call_guarantee.specs.Raised.{raised};
+
+// Question 11 of a user of an accepted book: does the level exceed blocked by more than the margin, and in the afternoon, is the user
+// called in?
+fn is_due(book: &[u8], user: User, limits: Limits, level: Cents, afternoon: bool) -> bool
+    requires { ⌜ (bookNumber (now book) ≡ 0) × (user .blocked .0 ≤ 1000000000000) × LimitsInRange (asLimits limits) ⌝ }
+    ensures { λ r. ⌜ r ≡ dueOf afternoon (asLimits limits) (bookOf (now (book .entry))) (level .0) (asUser user) ⌝ }
+{
+    let blocked = user.blocked;
+    if !risk_levels::exceeds_margin(limits, level, blocked) {
+        return false;
+    }
+    if afternoon {
+        let prices = book_form::read_prices(book);
+        let position = user.position;
+        let cut = risk_user::cut_before(book, user.id);
+        return risk_levels::called_in(limits, prices, blocked, position, cut);
+    }
+    true
+}
+
+// The end of a call on the user at a place, with its level and the answer to question 11: asks question 12, and raises the user's record in
+// the book.
+fn raise(book: &mut [u8], place: usize, user: User, level: Cents, due: bool) -> CallAnswer
+    requires { ⌜ UserIn (now book) place ⌝ }
+    ensures { λ r. ⌜ answerOf r ≡ raised (now (book .entry)) place (asUser user) (level .0) due .answer ⌝ }
+    ensures { λ _. ⌜ now (book .exit) ≡ raised (now (book .entry)) place (asUser user) (level .0) due .bytes ⌝ }
+{
+    let assigned = user.assigned;
+    if !due {
+        return CallAnswer::refused(11);
+    }
+    if assigned.0 < level.0 {
+        return CallAnswer::refused(12);
+    }
+    let blocking = lent_user::blocked_user(user, level);
+    let guaranteed = blocking.user;
+    let added = blocking.added;
+    book_format::put_user(book, place, guaranteed);
+    CallAnswer {
+        number: 0,
+        level: level,
+        added: added,
+    }
+}
+
+// The guarantee call on the user of an id, at one time of the day, after the opening questions, whose number is given with the sums of the
+// users.
+pub fn call(
+    book: &mut [u8],
+    number: u32,
+    limits: Limits,
+    sums: &[u32; 768],
+    id: u32,
+    afternoon: bool,
+) -> CallAnswer
+    requires { ⌜ (number ≡ 0 → bookNumber (now book) ≡ 0) ⌝ }
+    requires { ⌜ LimitsInRange (asLimits limits) ⌝ }
+    requires { ⌜ SumsFound (now book) number (now sums) ⌝ }
+    ensures { λ r. ⌜ CalledAfter number (asLimits limits) (now (book .entry)) (callOf afternoon id) (answerOf r) (now (book .exit)) ⌝ }
+{
+    let entry = call_entry::seek(book, number, id);
+    let number = entry.number;
+    let place = entry.place;
+    if number != 0 {
+        return CallAnswer::refused(number);
+    }
+    let user = book_format::user_at(book, place);
+    if user.role != 0 {
+        return CallAnswer::refused(9);
+    }
+    let level = call_level::level_of(book, sums, place, user, limits, afternoon);
+    let due = is_due(book, user, limits, level, afternoon);
+    raise(book, place, user, level, due)
+}

@@ -1,0 +1,73 @@
+-- `level_of` computes the level of the time, which is that of the rules by what the record and the sums tell of the user. Assumes nothing.
+use mathlib.Core.Path.{_≡_, sym, subst, _∙_}
+use Prim.Native.Nat.{_<_}
+use native.Mathlib.Omega.{arith}
+use denote.Ref.{now}
+use lib.ListN.{length}
+use Rattle.units.specs.Limits.{asLimits}
+use Rattle.units.specs.Prices.{InRange, asPrices}
+use Rattle.book_records.specs.User.{asUser}
+use Rattle.book_format.specs.Book.{bookOf}
+use Rattle.book_format.proofs.Passed.{length-usersOf, passed}
+use Rattle.risk_user.proofs.Accepted.{prices-within}
+use Rattle.risk_user.proofs.Held.{afternoon-record, morning-record}
+use Rattle.call_level.specs.Times.{levelOf}
+use Rattle.call_level.proofs.level_of.Statement.{statement}
+use Rattle.call_level.proofs.level_of.Tie as tie
+
+read-prices-requires : tie.Need-read-prices-requires
+read-prices-requires c κs = passed (now (c .before .args .book)) (c .before .pre .0 .passes) .form .head
+
+-- the prices are the book's
+priced : (c : tie.After-read-prices) → asPrices (c .read-prices .result) ≡ bookOf (now (c .before .before .args .book)) .header .prices
+unfolding bookOf
+priced c = c .read-prices .ensures
+
+ranged : (c : tie.After-read-prices) → InRange (asPrices (c .read-prices .result))
+ranged c = subst InRange (sym (priced c)) (prices-within (now (c .before .before .args .book)) (c .before .before .pre .0 .passes))
+
+-- the user is one of the book's
+member : (c : tie.Start) → c .args .place < length (bookOf (now (c .args .book)) .users)
+unfolding bookOf
+member c = rw (length-usersOf (now (c .args .book))) (c .pre .0 .inside)
+
+holdings-at-requires : tie.Need-holdings-at-requires
+holdings-at-requires c κs =
+    let s = c .before .before .before .before in
+    (s .pre .0 .low, omega (arith, s .pre .0 .inside, passed (now (s .args .book)) (s .pre .0 .passes) .form .users))
+
+afternoon-level-requires : tie.Need-afternoon-level-requires
+afternoon-level-requires c κs =
+    let h = c .before .before in
+    let p = h .before .before .before in
+    (p .before .before .pre .1, ranged p, h .holdings-at .ensures .low)
+
+returns : tie.Need-returns
+unfolding levelOf asUser bookOf
+returns c =
+    let h = c .before .before .before in
+    let p = h .before .before .before in
+    let s = p .before .before in
+    rw (c .before .if1 .taken)
+    (c .afternoon-level .ensures
+    ∙ afternoon-record (asLimits (s .args .limits)) (bookOf (now (s .args .book))) (s .args .user) (priced p) (s .pre .0 .twelve) (member s) (s .pre .0 .user) (h .holdings-at .ensures))
+
+morning-level-requires : tie.Need-morning-level-requires
+morning-level-requires c κs =
+    let h = c .before .before in
+    let p = h .before .before .before in
+    (p .before .before .pre .1, ranged p, h .holdings-at .ensures .low)
+
+returns-2 : tie.Need-returns-2
+unfolding levelOf asUser bookOf
+returns-2 c =
+    let h = c .before .before .before in
+    let p = h .before .before .before in
+    let s = p .before .before in
+    rw (c .before .if1 .left)
+    (c .morning-level .ensures
+    ∙ morning-record (asLimits (s .args .limits)) (bookOf (now (s .args .book))) (s .args .user) (priced p) (s .pre .0 .twelve) (member s) (s .pre .0 .user) (h .holdings-at .ensures))
+
+pub level-of-spec : {M : Type 1} → statement M
+level-of-spec =
+    tie.close (tie.spec read-prices-requires holdings-at-requires afternoon-level-requires returns morning-level-requires returns-2)

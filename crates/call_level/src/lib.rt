@@ -1,0 +1,75 @@
+// The morning or the afternoon level of a user, on a lent book in bytes. Both times of the day go one way, with the level of the time.
+use book_records::User;
+use call_answers::LevelAnswer;
+use units::Cents;
+use units::Limits;
+ghost use mathlib.Core.Path.{_≡_};
+ghost use Rattle.units.specs.Limits.{asLimits, LimitsInRange};
+ghost use Rattle.book_records.specs.User.{asUser};
+ghost use Rattle.book_format.specs.Book.{bookOf};
+ghost use Rattle.book_format.specs.After.{replyAfter};
+ghost use Rattle.book_format.specs.Questions.{bookNumber};
+ghost use Rattle.call_answers.specs.Level.{replyOf};
+ghost use Rattle.risk_user.specs.UserAt.{UserRead};
+ghost use Rattle.book_questions.specs.Asked.{SumsFound};
+ghost use Rattle.call_level.specs.Times.{levelOf, queryOf};
+
+// The level of the user whose record was read at a place, the afternoon's or the morning's.
+pub fn level_of(
+    book: &[u8],
+    sums: &[u32; 768],
+    place: usize,
+    user: User,
+    limits: Limits,
+    afternoon: bool,
+) -> Cents
+    requires { ⌜ UserRead (now book) (now sums) place user × LimitsInRange (asLimits limits) ⌝ }
+    ensures { λ r. ⌜ r .0 ≡ levelOf afternoon (asLimits limits) (bookOf (now (book .entry))) (asUser user) ⌝ }
+{
+    let prices = book_form::read_prices(book);
+    let physical = user.physical;
+    let position = user.position;
+    let holdings = risk_user::holdings_at(sums, place, physical, position);
+    let charges = user.charges;
+    if afternoon {
+        return risk_levels::afternoon_level(limits, prices, charges, holdings);
+    }
+    risk_levels::morning_level(limits, prices, charges, holdings)
+}
+
+// The level of the user of an id, at one time of the day, after the opening questions, whose number is given with the sums of the users.
+pub fn level(
+    book: &[u8],
+    number: u32,
+    limits: Limits,
+    sums: &[u32; 768],
+    id: u32,
+    afternoon: bool,
+) -> LevelAnswer
+    requires { ⌜ (number ≡ 0 → bookNumber (now book) ≡ 0) ⌝ }
+    requires { ⌜ LimitsInRange (asLimits limits) ⌝ }
+    requires { ⌜ SumsFound (now book) number (now sums) ⌝ }
+    ensures { λ r. ⌜ replyOf r ≡ replyAfter number (asLimits limits) (now (book .entry)) (queryOf afternoon id) ⌝ }
+{
+    let entry = call_entry::seek(book, number, id);
+    let number = entry.number;
+    let place = entry.place;
+    if number != 0 {
+        return LevelAnswer {
+            number: number,
+            level: Cents(0),
+        };
+    }
+    let user = book_format::user_at(book, place);
+    if user.role != 0 {
+        return LevelAnswer {
+            number: 9,
+            level: Cents(0),
+        };
+    }
+    let level = level_of(book, sums, place, user, limits, afternoon);
+    LevelAnswer {
+        number: 0,
+        level: level,
+    }
+}

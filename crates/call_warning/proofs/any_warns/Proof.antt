@@ -1,0 +1,136 @@
+-- `any_warns`: what is left to look at has the whole answer, until a trade warns or none is left. Assumes nothing.
+use mathlib.Core.Bool.{Bool}
+use mathlib.Core.Path.{_≡_, ap, _∙_}
+use Prim.Native.Nat.{_+_, _-_, _*_, _≤_}
+use native.Mathlib.Omega.{arith}
+use denote.Ref.{now}
+use lib.ListN.{drop, length, length-drop, length-take, take}
+use Rattle.rules.specs.Book.{Trade}
+use Rattle.base.specs.Lists.{any}
+use Rattle.units.specs.Limits.{asLimits}
+use Rattle.fields.specs.Layout.{recordsOf}
+use Rattle.book_records.specs.Trade.{tradeOf}
+use Rattle.book_format.specs.Book.{bookOf, tradeCount, userCount}
+use Rattle.book_format.specs.Questions.{Formed}
+use Rattle.book_format.proofs.Passed.{passed}
+use Rattle.risk_user.proofs.Accepted.{trades-from}
+use Rattle.risk_user.proofs.Walks.{Searching, searching-start, searching-found, searching-turn, searching-end}
+use Rattle.call_warning.specs.Warned.{warnsBuyer}
+use borrow.Author.Needs.{needs}
+use Rattle.call_warning.proofs.any_warns.Statement.{statement}
+use Rattle.call_warning.proofs.any_warns.Tie as tie
+
+abbrev Inv-loop : tie.InvT-loop
+Inv-loop book prices id limits n m i₀ a₀ i a = Searching (warnsBuyer (asLimits limits) (bookOf book) id) book (32 + 56 * n) m i a
+
+abbrev μ-loop : tie.MeasureT-loop
+μ-loop book prices id limits n m i₀ a₀ i a = m - i
+
+form : (c : tie.Start Inv-loop μ-loop) → Formed (now (c .args .book))
+form c = passed (now (c .args .book)) (c .pre .0 .passes) .form
+
+get-u8-requires : tie.Need-get-u8-requires Inv-loop μ-loop
+get-u8-requires c κs = omega (arith, form (c .before) .head)
+
+cast-n : tie.Need-cast-n Inv-loop μ-loop
+cast-n c = search needs
+
+get-u16-requires : tie.Need-get-u16-requires Inv-loop μ-loop
+get-u16-requires c κs = omega (arith, form (c .before .before) .head)
+
+cast-m : tie.Need-cast-m Inv-loop μ-loop
+cast-m c = search needs
+
+mul-a : tie.Need-mul-a Inv-loop μ-loop
+mul-a c = search needs
+
+add-a : tie.Need-add-a Inv-loop μ-loop
+add-a c = search needs
+
+loop-holds : tie.Need-loop-holds Inv-loop μ-loop
+loop-holds c = searching-start
+
+-- ---- the trades stand in the bytes to their end, and are the book's
+
+room : (c : tie.After-get-u16 Inv-loop μ-loop) → 32 + 56 * c .before .get-u8 .result + 20 * c .get-u16 .result ≡ length (now (c .before .before .before .args .book))
+unfolding userCount tradeCount
+room c = omega (arith, form (c .before .before .before) .whole, c .before .get-u8 .ensures, c .get-u16 .ensures)
+
+lies : (c : tie.In-loop Inv-loop μ-loop) → c .before .loop .a + 20 ≤ length (now (c .before .before .before .before .before .args .book))
+lies c = omega (arith, room (c .before .before), c .before .loop .inv .place)
+
+by-trades : (c : tie.After-get-u16 Inv-loop μ-loop) → (p : Trade → Bool)
+    → any p (recordsOf 20 tradeOf (c .get-u16 .result) (drop (32 + 56 * c .before .get-u8 .result) (now (c .before .before .before .args .book)))) ≡ any p (bookOf (now (c .before .before .before .args .book)) .trades)
+unfolding userCount tradeCount
+by-trades c p = ap (any p) (trades-from (now (c .before .before .before .args .book)) (c .before .get-u8 .ensures) (c .get-u16 .ensures))
+
+add-read-trade : tie.Need-add-read-trade Inv-loop μ-loop
+add-read-trade c = omega (arith, lies c)
+
+sub-read-trade : tie.Need-sub-read-trade Inv-loop μ-loop
+sub-read-trade c = search needs
+
+part-read-trade-start : tie.Need-part-read-trade-start Inv-loop μ-loop
+part-read-trade-start c = search needs
+
+part-read-trade-end : tie.Need-part-read-trade-end Inv-loop μ-loop
+part-read-trade-end c = omega (arith, lies c)
+
+read-trade-requires : tie.Need-read-trade-requires Inv-loop μ-loop
+read-trade-requires c κs = simp (length-take, length-drop) (omega (arith, lies (c .before)))
+
+warns-buyer-requires : tie.Need-warns-buyer-requires Inv-loop μ-loop
+warns-buyer-requires c κs = search needs
+
+-- the test of the next trade
+told : (c : tie.After-warns-buyer Inv-loop μ-loop) → let l = c .before .before .before .before in let s = l .before .before .before .before .args in
+    c .warns-buyer .result ≡ warnsBuyer (asLimits (s .limits)) (bookOf (now (s .book))) (s .id) (tradeOf (take (l .loop .a + 20 - l .loop .a) (drop (l .loop .a) (now (s .book)))))
+told c =
+    let s = c .before .before .before .before .before .before .before .before .args in
+    c .warns-buyer .ensures ∙ ap (warnsBuyer (asLimits (s .limits)) (bookOf (now (s .book))) (s .id)) (c .before .read-trade .ensures)
+
+returns : tie.Need-returns Inv-loop μ-loop
+returns c =
+    let l = c .before .before .before .before .before in
+    searching-found (l .loop .inv) (omega arith) (told (c .before)) (c .if1 .taken) ∙ by-trades (l .before) _
+
+add-a-2 : tie.Need-add-a-2 Inv-loop μ-loop
+add-a-2 c = omega (arith, lies (c .before .before .before .before))
+
+add-i : tie.Need-add-i Inv-loop μ-loop
+add-i c = search needs
+
+loop-less : tie.Need-loop-less Inv-loop μ-loop
+loop-less c = search needs
+
+loop-again : tie.Need-loop-again Inv-loop μ-loop
+loop-again c = searching-turn (c .before .before .before .before .before .loop .inv) (omega arith) (told (c .before)) (c .if1 .left)
+
+returns-2 : tie.Need-returns-2 Inv-loop μ-loop
+returns-2 c = searching-end (c .before .loop .inv) (omega arith) ∙ by-trades (c .before .before) _
+
+pub any-warns-spec : {M : Type 1} → statement M
+any-warns-spec =
+    tie.close
+    (tie.spec
+    Inv-loop
+    μ-loop
+    get-u8-requires
+    cast-n
+    get-u16-requires
+    cast-m
+    mul-a
+    add-a
+    loop-holds
+    add-read-trade
+    sub-read-trade
+    part-read-trade-start
+    part-read-trade-end
+    read-trade-requires
+    warns-buyer-requires
+    returns
+    add-a-2
+    add-i
+    loop-less
+    loop-again
+    returns-2)

@@ -1,0 +1,110 @@
+// The midday warning of a user: is it flagged, or buyer of a bilateral trade of the day that stands, whose seller is a flagged shipper?
+use book_records::Trade;
+use call_answers::WarningAnswer;
+use units::Limits;
+use units::Prices;
+ghost use mathlib.Core.Path.{_≡_};
+ghost use Rattle.rules.specs.Book.{find};
+ghost use Rattle.base.specs.Lists.{any};
+ghost use Rattle.units.specs.Limits.{asLimits, LimitsInRange};
+ghost use Rattle.book_records.specs.Trade.{asTrade};
+ghost use Rattle.book_format.specs.Book.{bookOf};
+ghost use Rattle.book_format.specs.Questions.{bookNumber};
+ghost use Rattle.book_format.specs.After.{replyAfter};
+ghost use Rattle.call_answers.specs.Warning.{replyOf};
+ghost use Rattle.call_warning.specs.Warned.{Priced, flaggedShipper, warnsBuyer, warningOf};
+
+// Is the seller of an id a flagged shipper?
+fn is_flagged_shipper(book: &[u8], prices: Prices, id: u32, limits: Limits) -> bool
+    requires { ⌜ Priced (now book) prices ⌝ }
+    requires { ⌜ LimitsInRange (asLimits limits) ⌝ }
+    ensures { λ r. ⌜ r ≡ flaggedShipper (asLimits limits) (bookOf (now (book .entry))) (find (bookOf (now (book .entry)) .users) id) ⌝ }
+{
+    let place = call_entry::place_of(book, id);
+    let n = fields::get_u8(book, 5) as usize;
+    if n <= place {
+        return false;
+    }
+    let seller = book_format::user_at(book, place);
+    if seller.role != 0 {
+        return false;
+    }
+    let position = seller.position;
+    risk_levels::flagged(limits, prices, seller.blocked, position)
+}
+
+// Is the user of an id the buyer of the trade, and does the trade warn its buyer?
+fn warns_buyer(book: &[u8], prices: Prices, t: Trade, id: u32, limits: Limits) -> bool
+    requires { ⌜ Priced (now book) prices ⌝ }
+    requires { ⌜ LimitsInRange (asLimits limits) ⌝ }
+    ensures { λ r. ⌜ r ≡ warnsBuyer (asLimits limits) (bookOf (now (book .entry))) id (asTrade t) ⌝ }
+{
+    if t.buyer != id {
+        return false;
+    }
+    if !book_records::is_bilateral_for_day(t) {
+        return false;
+    }
+    if t.standing == 0 {
+        return false;
+    }
+    is_flagged_shipper(book, prices, t.seller, limits)
+}
+
+// Does one of the trades warn the user of an id?
+fn any_warns(book: &[u8], prices: Prices, id: u32, limits: Limits) -> bool
+    requires { ⌜ Priced (now book) prices ⌝ }
+    requires { ⌜ LimitsInRange (asLimits limits) ⌝ }
+    ensures { λ r. ⌜ r ≡ any (warnsBuyer (asLimits limits) (bookOf (now (book .entry))) id) (bookOf (now (book .entry)) .trades) ⌝ }
+{
+    let n = fields::get_u8(book, 5) as usize;
+    let m = fields::get_u16(book, 6) as usize;
+    let mut i = 0;
+    let mut a = 32 + 56 * n;
+    while i < m {
+        let t = book_records::read_trade(&book[a..a + 20]);
+        if warns_buyer(book, prices, t, id, limits) {
+            return true;
+        }
+        a += 20;
+        i += 1;
+    }
+    false
+}
+
+// The warning of the user of an id, after the opening questions, whose number is given.
+pub fn warning(book: &[u8], number: u32, limits: Limits, id: u32) -> WarningAnswer
+    requires { ⌜ (number ≡ 0 → bookNumber (now book) ≡ 0) ⌝ }
+    requires { ⌜ LimitsInRange (asLimits limits) ⌝ }
+    ensures { λ r. ⌜ replyOf r ≡ replyAfter number (asLimits limits) (now (book .entry)) (warningOf id) ⌝ }
+{
+    let entry = call_entry::seek(book, number, id);
+    let number = entry.number;
+    let place = entry.place;
+    if number != 0 {
+        return WarningAnswer {
+            number: number,
+            warned: false,
+        };
+    }
+    let user = book_format::user_at(book, place);
+    if user.role != 0 {
+        return WarningAnswer {
+            number: 9,
+            warned: false,
+        };
+    }
+    let prices = book_form::read_prices(book);
+    let position = user.position;
+    if risk_levels::flagged(limits, prices, user.blocked, position) {
+        return WarningAnswer {
+            number: 0,
+            warned: true,
+        };
+    }
+    let warned = any_warns(book, prices, user.id, limits);
+    WarningAnswer {
+        number: 0,
+        warned: warned,
+    }
+}

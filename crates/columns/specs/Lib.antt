@@ -1,2 +1,0 @@
--- The trades of a book in bytes.
-pub mod Columns

@@ -1,2 +1,0 @@
--- Records with a field as 0.
-pub mod Zeroed

@@ -1,0 +1,48 @@
+-- `line_at`: the user is the one at the place, and its level and state are the rules'. Assumes nothing.
+use mathlib.Core.Path.{_∙_}
+use borrow.Author.Needs.{needs}
+use denote.Ref.{now}
+use Rattle.book_format.specs.Book.{bookOf}
+use Rattle.units.specs.Limits.{asLimits}
+use Rattle.day_lines.specs.Lines.{asLine}
+use Rattle.day_lines.proofs.Places.{line-day, line-in, line-level, line-of, line-state, line-user}
+use Rattle.day_lines.proofs.line_at.Statement.{statement}
+use Rattle.day_lines.proofs.line_at.Tie as tie
+
+user-at-requires : tie.Need-user-at-requires
+user-at-requires c κs = line-user (c .before .pre)
+
+level-at-requires : tie.Need-level-at-requires
+level-at-requires c κs = let p = c .before .before .before .pre in (line-day p, line-user p, p .low)
+
+called-at-requires : tie.Need-called-at-requires
+called-at-requires c κs = let p = c .before .before .before .before .pre in (line-day p, line-user p)
+
+state-of-requires : tie.Need-state-of-requires
+state-of-requires c κs = let p = c .before .before .before .before .before .pre in (line-day p, line-user p)
+
+printed-level-requires : tie.Need-printed-level-requires
+printed-level-requires c κs = search needs
+
+returns : tie.Need-returns
+unfolding asLine
+returns c =
+    let s = c .before .before .before .before .before .before .before in
+    let a = s .args in
+    let l = asLimits (a .day .limits) in
+    let k = c .before .before .before .before .before .user-at in
+    let level = c .before .before .before .level-at .ensures in
+    line-of l (bookOf (now (a .book))) (k .result) (line-state (s .pre) (k .result) (k .ensures) level (c .before .before .called-at .ensures) (c .before .state-of .ensures))
+    (line-level (s .pre) (k .result) (k .ensures) level) (c .printed-level .ensures)
+    ∙ line-in l (now (a .book)) (a .place) (k .result) (k .ensures)
+
+pub line-at-spec : {M : Type 1} → statement M
+line-at-spec =
+    tie.close
+    (tie.spec
+    user-at-requires
+    level-at-requires
+    called-at-requires
+    state-of-requires
+    printed-level-requires
+    returns)

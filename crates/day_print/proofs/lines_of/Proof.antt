@@ -1,0 +1,56 @@
+-- `day_print::lines_of` is safe and ends: `i` counts up to the number of users, and each of them has a line. Assumes nothing.
+use Prim.Native.Nat.{_≤_, _-_}
+use native.Mathlib.Omega.{arith}
+use borrow.Author.Needs.{needs}
+use denote.Ref.{now}
+use Rattle.book_format.proofs.Passed.{passed}
+use Rattle.day_print.proofs.Told.{line-asked}
+use Rattle.day_print.proofs.lines_of.Statement.{statement}
+use Rattle.day_print.proofs.lines_of.Tie as tie
+
+abbrev Inv-loop : tie.InvT-loop
+Inv-loop book n sums positions cut day i₀ i = i ≤ n
+
+abbrev μ-loop : tie.MeasureT-loop
+μ-loop book n sums positions cut day i₀ i = n - i
+
+loop-holds : tie.Need-loop-holds Inv-loop μ-loop
+loop-holds c = search needs
+
+element-copy-out-line-at : tie.Need-element-copy-out-line-at Inv-loop μ-loop
+element-copy-out-line-at c =
+    let s = c .before .before .before in
+    omega (arith, c .loop-test .taken, s .pre .users-are, passed (now (s .args .book)) (s .pre .passes) .form .users)
+
+line-at-requires : tie.Need-line-at-requires Inv-loop μ-loop
+line-at-requires c κs = line-asked (c .before .before .before .before .pre) (c .before .before .loop .i) (c .before .loop-test .taken)
+
+line-requires : tie.Need-line-requires Inv-loop μ-loop
+line-requires c κs = search needs
+
+add-i : tie.Need-add-i Inv-loop μ-loop
+add-i c = search needs
+
+loop-less : tie.Need-loop-less Inv-loop μ-loop
+loop-less c = search needs
+
+loop-again : tie.Need-loop-again Inv-loop μ-loop
+loop-again c = search needs
+
+returns : tie.Need-returns Inv-loop μ-loop
+returns c = search needs
+
+pub lines-of-spec : {M : Type 1} → statement M
+lines-of-spec =
+    tie.close
+    (tie.spec
+    Inv-loop
+    μ-loop
+    loop-holds
+    element-copy-out-line-at
+    line-at-requires
+    line-requires
+    add-i
+    loop-less
+    loop-again
+    returns)

@@ -1,0 +1,54 @@
+-- `day_print::run` runs after the questions of the book, with today's figures. Assumes nothing.
+use mathlib.Core.Path.{_∙_, subst, sym}
+use borrow.Author.Needs.{needs}
+use denote.Ref.{now}
+use Rattle.call_answers.specs.Run.{answerOf}
+use Rattle.call_run.specs.Call.{runCall}
+use Rattle.book_format.proofs.After.{opened}
+use Rattle.book_format.specs.After.{CalledAfter}
+use Rattle.book_questions.proofs.Asked.{parties-found}
+use Rattle.rules.specs.Levels.{Limits}
+use Rattle.day_print.proofs.run.Statement.{statement}
+use Rattle.day_print.proofs.run.Tie as tie
+
+slice-aggregate-ask : tie.Need-slice-aggregate-ask
+slice-aggregate-ask c = search needs
+
+slice-aggregate-ask-2 : tie.Need-slice-aggregate-ask-2
+slice-aggregate-ask-2 c = search needs
+
+ask-requires : tie.Need-ask-requires
+ask-requires c κs = search needs
+
+today-requires : tie.Need-today-requires
+today-requires c κs = search needs
+
+run-requires : tie.Need-run-requires
+run-requires c κs =
+    let t = c .before .before .before in
+    let told = t .before .before .before .before .ask .ensures in
+    (λ z. sym (told .0 .number) ∙ z, (t .today .ensures .1, parties-found (told .1) (λ z. z) (told .0)))
+
+same-length : tie.Need-same-length
+same-length c = search needs
+
+returns : tie.Need-returns
+returns c =
+    let k = c .before .before in
+    let t = k .before .before .before .before in
+    let o = t .before .before .before .before in
+    let s = now (o .before .before .before .before .before .before .args .book) in
+    opened (o .ask .ensures .0 .number)
+    (subst (λ (limits : Limits). CalledAfter (o .ask .result .number) limits s runCall (answerOf (k .run .result)) (k .run .last .0)) (t .today .ensures .0) (k .run .ensures))
+
+pub run-spec : {M : Type 1} → statement M
+run-spec =
+    tie.close
+    (tie.spec
+    slice-aggregate-ask
+    slice-aggregate-ask-2
+    ask-requires
+    today-requires
+    run-requires
+    same-length
+    returns)

@@ -1,4 +1,0 @@
--- What a user dealt in the trades of a book: energies per area, and tests of a user's trades.
-pub mod Energies
-pub mod Dealt
-pub mod Parties

@@ -1,0 +1,38 @@
+-- `store_warning` stores an array of the one number, which the cast makes 1 of yes and 0 of no. Assumes nothing.
+use mathlib.Core.Path.{_≡_, refl, ap, _∙_}
+use mathlib.Core.Bool.{Bool, true, false}
+use mathlib.Core.List.{[], _∷_}
+use Prim.Native.Nat.{ℕ}
+use mir.Val.{boolByte}
+use Rattle.exports_answers.specs.Numbers.{bit, warningNumbers}
+use borrow.Author.Needs.{needs}
+use Rattle.exports_answers.proofs.store_warning.Statement.{statement}
+use Rattle.exports_answers.proofs.store_warning.Tie as tie
+
+-- what the cast makes of yes and no
+cast-bit : (b : Bool) → boolByte b ≡ bit b
+unfolding bit
+cast-bit true = refl
+cast-bit false = refl
+
+cast-t4 : tie.Need-cast-t4
+cast-t4 c = search needs
+
+slice-aggregate-store : tie.Need-slice-aggregate-store
+slice-aggregate-store c = search needs
+
+store-requires : tie.Need-store-requires
+store-requires c κs = search needs
+
+same-length : tie.Need-same-length
+same-length c = search needs
+
+returns : tie.Need-returns
+unfolding warningNumbers
+returns c =
+    let storing = c .before .before in
+    (refl, storing .store .ensures ∙ ap (λ (n : ℕ). n ∷ []) (cast-bit (storing .before .before .before .before .before .args .reply .warned)))
+
+pub store-warning-spec : {M : Type 1} → statement M
+store-warning-spec =
+    tie.close (tie.spec cast-t4 slice-aggregate-store store-requires same-length returns)

@@ -1,5 +1,0 @@
--- A book in bytes.
-pub mod Book
-pub mod Questions
-pub mod Steps
-pub mod After

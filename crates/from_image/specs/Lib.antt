@@ -1,2 +1,0 @@
--- The book that an image's fields are.
-pub mod ImageBook

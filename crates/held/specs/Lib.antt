@@ -1,2 +1,0 @@
--- A book held in bytes.
-pub mod Held

@@ -1,2 +1,0 @@
--- Laws of needs.
-pub mod Needs

@@ -1,0 +1,248 @@
+-- After the cuts of a reduction: who is party to a trade standing below notified, who is short of cover and who has an eligible trade. Assumes nothing.
+use mathlib.Core.Bool.{Bool, true, false, not, cond, _&&_, _||_}
+use mathlib.Core.List.{List, [], _∷_, map}
+use mathlib.Core.Path.{_≡_, refl, sym, ap, ap₂, fun-ext, _∙_}
+use Prim.Native.Nat.{ℕ, _+_, _-_, _*_, _≤_}
+use native.Mathlib.Omega.{arith}
+use lib.Dec.{T, eqb, ltb, leb, leb→le, eqb→eq, ltb→lt}
+use lib.IntN.{ℤ, pos, _+ℤ_}
+use lib.ListN.{length}
+use borrow.Author.Tests.{lt-ltb, le-ltb, ltb-true, ltb-false, ne-eqb}
+use Rattle.risk_holdings.specs.Parties.{isCut, cutBefore}
+use Rattle.base.specs.Parts.{posPart, negPart}
+use Rattle.base.specs.Sums.{sum}
+use Rattle.laws.proofs.Shares.{eachWithin}
+use Rattle.base.proofs.Tests.{and-l, and-r, or-l, all-by, sum-by, by-case, fails}
+use Rattle.laws.specs.Trades.{Framed, Pairwise, ended, then}
+use Rattle.rules.specs.Areas.{Prices, areas, referencePrice}
+use Rattle.rules.specs.Book.{Party, Terms, Book, User, Trade, bilateralForDay, dealt, sold, bought}
+use Rattle.rules.specs.Levels.{Limits, Holding, holding, sells, buys, partyTo, floored, stock, afternoonNeed, afternoonSum, exposure, leastReferencePrice, levelFrom, flaggedFrom, afternoonLevel, flagged, calledIn, shortOfCover}
+use Rattle.base.specs.Lists.{all, any}
+use Rattle.rules.specs.Questions.{tradeValid, amountsValid}
+use Rattle.rules.specs.Reduction.{hasEligible, target, cutBy, cutAll}
+use Rattle.laws_sales.proofs.Cuts.{cut-yes, cut-no}
+use Rattle.laws_sales.proofs.Kept.{kept-yes, kept-no, any-kept}
+use Rattle.laws_sales.proofs.Own.{own-eligible}
+use Rattle.laws_sales.specs.Cover.{SameNext, AllNext, shortFrom}
+use Rattle.laws_sales.specs.Kept.{kept, spread}
+use Rattle.laws_sales.specs.Own.{EligibleBy}
+use Rattle.laws_sales.specs.Sales.{ownSale, salesOf, isParty, someCut}
+
+-- ---- trades standing below notified
+
+-- no more stands than was notified
+unfoldable pub asNotified : Trade → Bool
+asNotified t = leb (t .standing) (t .terms .notified)
+
+pub valid-notified : (us : List User) (ts : List Trade) → T (all (tradeValid us) ts) → T (all asNotified ts)
+unfolding tradeValid amountsValid asNotified
+valid-notified us ts h = all-by (tradeValid us) asNotified (λ t k. search (and-l, and-r)) ts h
+
+-- a cut leaves less than was notified where less stood, or where it is above 0
+below-cut : (c s n : ℕ) → c ≤ s → s ≤ n → ltb (s - c) n ≡ ltb s n || ltb 0 c
+below-cut c s n h k =
+    by-case (ltb s n)
+    (λ e. rw e (lt-ltb (s - c) n (omega (arith, ltb-true s n e))))
+    (λ e. rw e (by-case (ltb 0 c)
+    (λ g. rw g (lt-ltb (s - c) n (omega (arith, ltb-false s n e, ltb-true 0 c g))))
+    (λ g. rw g (le-ltb (s - c) n (omega (arith, ltb-false s n e, ltb-false 0 c g))))))
+
+distribute : (a x y : Bool) → (a && (x || y)) ≡ (a && x) || (a && y)
+distribute true x y = refl
+distribute false x y = refl
+
+regroup : (a b c d : Bool) → ((a || b) || (c || d)) ≡ ((a || c) || (b || d))
+regroup true b c d = refl
+regroup false true true d = refl
+regroup false true false d = refl
+regroup false false true d = refl
+regroup false false false d = refl
+
+regroup-one : (a c d : Bool) → (a || (c || d)) ≡ ((a || c) || d)
+regroup-one true c d = refl
+regroup-one false c d = refl
+
+pub or-false : (a b : Bool) → b ≡ false → (a || b) ≡ a
+or-false true b e = refl
+or-false false b e = e
+
+is-cut-after : (id c : ℕ) (t : Trade) → c ≤ t .standing → T (asNotified t) → isCut id (cutBy c t) ≡ isCut id t || (isParty id t && ltb 0 c)
+unfolding isCut cutBy isParty asNotified
+is-cut-after id c t h k =
+    ap (λ (x : Bool). (eqb (t .terms .seller) id || eqb (t .terms .buyer) id) && x) (below-cut c (t .standing) (t .terms .notified) h (leb→le (t .standing) (t .terms .notified) k))
+    ∙ distribute (eqb (t .terms .seller) id || eqb (t .terms .buyer) id) (ltb (t .standing) (t .terms .notified)) (ltb 0 c)
+
+-- after cuts of those that pass: as before, or party to one of them with a cut above 0
+pub cut-before-kept : (id : ℕ) (p : Trade → Bool) (ts : List Trade) (cs : List ℕ) → T (all asNotified ts) → T (eachWithin cs (map (λ t. t .standing) (kept p ts)))
+    → cutBefore id (cutAll (spread p ts cs) ts) ≡ cutBefore id ts || someCut (isParty id) cs (kept p ts)
+unfolding cutBefore any all spread cutAll kept eachWithin someCut
+cut-before-kept id p [] [] v h = refl
+cut-before-kept id p [] (c ∷ cs) v h = refl
+cut-before-kept id p (t ∷ ts) cs v h =
+    let vs = and-r (asNotified t) (all asNotified ts) v in
+    by-case (p t)
+    (λ e. here e cs (λ ds k. cut-before-kept id p ts ds vs k) (rw (kept-yes p t ts e) at h))
+    (λ e. ap (cutBefore id) (cut-no p t ts cs e)
+    ∙ ap (λ (x : Bool). isCut id t || x) (cut-before-kept id p ts cs vs (rw (kept-no p t ts e) at h))
+    ∙ regroup-one (isCut id t) (cutBefore id ts) (someCut (isParty id) cs (kept p ts))
+    ∙ ap (λ (ss : List Trade). cutBefore id (t ∷ ts) || someCut (isParty id) cs ss) (sym (kept-no p t ts e)))
+  where
+    here : p t ≡ true → (cs : List ℕ)
+        → ((ds : List ℕ) → T (eachWithin ds (map (λ t. t .standing) (kept p ts))) → cutBefore id (cutAll (spread p ts ds) ts) ≡ cutBefore id ts || someCut (isParty id) ds (kept p ts))
+        → T (eachWithin cs (map (λ t. t .standing) (t ∷ kept p ts)))
+        → cutBefore id (cutAll (spread p (t ∷ ts) cs) (t ∷ ts)) ≡ cutBefore id (t ∷ ts) || someCut (isParty id) cs (kept p (t ∷ ts))
+    here e [] ih h = absurd h
+    here e (c ∷ cs) ih h =
+        let rest = eachWithin cs (map (λ t. t .standing) (kept p ts)) in
+        let l = leb→le c (t .standing) (and-l (leb c (t .standing)) rest h) in
+        ap (cutBefore id) (cut-yes p t ts c cs e)
+        ∙ ap₂ (λ (x y : Bool). x || y) (is-cut-after id c t l (and-l (asNotified t) (all asNotified ts) v)) (ih cs (and-r (leb c (t .standing)) rest h))
+        ∙ regroup (isCut id t) (isParty id t && ltb 0 c) (cutBefore id ts) (someCut (isParty id) cs (kept p ts))
+        ∙ ap (λ (ss : List Trade). cutBefore id (t ∷ ts) || someCut (isParty id) (c ∷ cs) ss) (sym (kept-yes p t ts e))
+
+-- of sales that all pass: some cut is above 0
+some-cut-all : (q : Trade → Bool) (cs : List ℕ) (ss : List Trade) → T (all q ss) → length cs ≡ length ss → someCut q cs ss ≡ any (λ c. ltb 0 c) cs
+unfolding someCut any all
+some-cut-all q [] ss h e = refl
+some-cut-all q (c ∷ cs) [] h e = absurd (omega arith)
+some-cut-all q (c ∷ cs) (s ∷ ss) h e =
+    ap₂ (λ (x y : Bool). (x && ltb 0 c) || y) (is-true (q s) (and-l (q s) (all q ss) h)) (some-cut-all q cs ss (and-r (q s) (all q ss) h) (omega arith))
+  where
+    is-true : (a : Bool) → T a → a ≡ true
+    is-true true t = refl
+    is-true false t = absurd t
+
+-- of sales on which two tests agree
+some-cut-same : (p q r : Trade → Bool) → ((t : Trade) → T (p t) → q t ≡ r t) → (cs : List ℕ) (ss : List Trade) → T (all p ss) → someCut q cs ss ≡ someCut r cs ss
+unfolding someCut all
+some-cut-same p q r f [] ss h = refl
+some-cut-same p q r f (c ∷ cs) [] h = refl
+some-cut-same p q r f (c ∷ cs) (s ∷ ss) h =
+    ap₂ (λ (x y : Bool). (x && ltb 0 c) || y) (f s (and-l (p s) (all p ss) h)) (some-cut-same p q r f cs ss (and-r (p s) (all p ss) h))
+
+-- the seller is party to all its own sales
+pub some-cut-seller : (id : ℕ) (cs : List ℕ) (ss : List Trade) → T (all (ownSale id) ss) → length cs ≡ length ss
+    → someCut (isParty id) cs ss ≡ any (λ c. ltb 0 c) cs
+unfolding ownSale isParty
+some-cut-seller id cs ss h e =
+    some-cut-all (isParty id) cs ss
+    (all-by (ownSale id) (isParty id) (λ t k. or-l (eqb (t .terms .seller) id) (eqb (t .terms .buyer) id) (and-l (eqb (t .terms .seller) id) (bilateralForDay t) k)) ss h) e
+
+-- another user to those that it buys
+pub some-cut-buyer : (id other : ℕ) → (other ≡ id → ⊥) → (cs : List ℕ) (ss : List Trade) → T (all (ownSale id) ss)
+    → someCut (isParty other) cs ss ≡ someCut (λ s. eqb (s .terms .buyer) other) cs ss
+unfolding ownSale isParty
+some-cut-buyer id other n cs ss h =
+    some-cut-same (ownSale id) (isParty other) (λ s. eqb (s .terms .buyer) other)
+    (λ t k.
+    let seller = eqb→eq (t .terms .seller) id (and-l (eqb (t .terms .seller) id) (bilateralForDay t) k) in
+    rw (ne-eqb (t .terms .seller) other (λ e. n (sym e ∙ seller))) refl) cs ss h
+
+-- ---- eligible trades
+
+any-map : {A : Type 0} (q : ℕ → Bool) (g : A → ℕ) (xs : List A) → any (λ x. q (g x)) xs ≡ any q (map g xs)
+unfolding any
+any-map q g [] = refl
+any-map q g (x ∷ xs) = ap (λ (c : Bool). q (g x) || c) (any-map q g xs)
+
+-- the user has an eligible trade where an own sale stands above 0
+has-eligible-kept : (b : Book) (u : User) (p : Trade → Bool) → EligibleBy b u p → hasEligible b u ≡ any (λ n. ltb 0 n) (map (λ s. s .standing) (kept p (b .trades)))
+unfolding hasEligible EligibleBy
+has-eligible-kept b u p own =
+    ap (λ (q : Trade → Bool). any q (b .trades)) (fun-ext own)
+    ∙ any-kept p (λ t. ltb 0 (t .standing)) (b .trades)
+    ∙ any-map (λ n. ltb 0 n) (λ t. t .standing) (kept p (b .trades))
+
+pub has-eligible-sales : (b : Book) (u : User) → hasEligible b u ≡ any (λ n. ltb 0 n) (map (λ s. s .standing) (salesOf (b .trades) (u .party .id)))
+has-eligible-sales b u = has-eligible-kept b u (ownSale (u .party .id)) (own-eligible b u)
+
+-- ---- what was sold and bought for d+1
+
+-- a trade for d+1 is not cut
+next-one : (counts day : Bool) (s n : ℕ) → (T day → n ≡ s) → cond counts (cond day n 0) 0 ≡ cond counts (cond day s 0) 0
+next-one true true s n h = h tt
+next-one true false s n h = refl
+next-one false day s n h = refl
+
+not-of-day : {t n : Trade} (area : ℕ) → Framed t n → T (eqb (t .terms .area) area && eqb (t .terms .day) 1) → n .standing ≡ t .standing
+unfolding bilateralForDay
+not-of-day {t} {n} area p h =
+    let e = eqb→eq (t .terms .day) 1 (and-r (eqb (t .terms .area) area) (eqb (t .terms .day) 1) h) in
+    p .other (off (eqb (t .terms .kind) 0) (ne-eqb (t .terms .day) 0 (λ z. omega arith)))
+  where
+    off : (k : Bool) → eqb (t .terms .day) 0 ≡ false → T (not (k && eqb (t .terms .day) 0))
+    off true e = fails e
+    off false e = tt
+
+-- trades that differ in what stands of kind 0 and day 0 only: for d+1 the same is dealt
+pub next-framed : (side : Terms → ℕ) (counts : ℕ → Bool) (area : ℕ) {ts ns : List Trade} → Pairwise Framed ts ns → dealt side counts ns area 1 ≡ dealt side counts ts area 1
+unfolding dealt sum
+next-framed side counts area ended = refl
+next-framed side counts area (then {t = t} {n = n} {ts = ts} {ns = ns} p ps) =
+    rw (p .terms)
+    (ap₂ (λ (x y : ℕ). x + y)
+    (next-one (counts (side (t .terms))) (eqb (t .terms .area) area && eqb (t .terms .day) 1) (t .standing) (n .standing) (not-of-day area p))
+    (next-framed side counts area ps))
+
+module _ (id area : ℕ) {ts ns : List Trade} (h : Pairwise Framed ts ns) where
+  pub sold-next : sold ns id area 1 ≡ sold ts id area 1
+  unfolding sold
+  sold-next = next-framed (λ r. r .seller) (λ party. eqb party id) area h
+
+  pub bought-next : bought ns id area 1 ≡ bought ts id area 1
+  unfolding bought
+  bought-next = next-framed (λ r. r .buyer) (λ party. eqb party id) area h
+
+-- ---- levels and cover
+
+-- a user's holdings after, where its record is v and before it was u
+pub next-holding : (b n : Book) (u v : User) → v .party ≡ u .party → Pairwise Framed (b .trades) (n .trades) → (area : ℕ) (h : Holding)
+    → h .position ≡ holding n v area .position → h .soldNext ≡ holding b u area .soldNext → h .boughtNext ≡ holding b u area .boughtNext → SameNext h (holding n v area)
+unfolding holding
+next-holding b n u v e p area h z s t =
+    record {
+      position = z;
+      sold = s ∙ sym (sold-next (u .party .id) area p) ∙ ap (λ (q : Party). sold (n .trades) (q .id) area 1) (sym e);
+      bought = t ∙ sym (bought-next (u .party .id) area p) ∙ ap (λ (q : Party). bought (n .trades) (q .id) area 1) (sym e);
+    }
+
+module _ {g h : ℕ → Holding} (same : AllNext g h) where
+  areas-next : (worth : ℕ → Holding → ℕ) → ((area : ℕ) → SameNext (g area) (h area) → worth area (g area) ≡ worth area (h area))
+      → sum (λ area. worth area (g area)) areas ≡ sum (λ area. worth area (h area)) areas
+  unfolding areas all
+  areas-next worth e = sum-by (λ area. ltb area 3) (λ area t. e area (same .each area (ltb→lt area 3 t))) (0 ∷ 1 ∷ 2 ∷ []) tt
+
+  pub exposure-next : (f : Prices) → exposure f g ≡ exposure f h
+  unfolding exposure
+  exposure-next f = areas-next (λ area x. negPart (x .position) * referencePrice f area) (λ area s. ap (λ (z : ℤ). negPart z * referencePrice f area) (s .position))
+
+  need-next : (area : ℕ) → SameNext (g area) (h area) → afternoonNeed area (g area) ≡ afternoonNeed area (h area)
+  unfolding afternoonNeed stock
+  need-next area s = rw (s .position, s .sold, s .bought)
+
+  pub afternoon-next : (f : Prices) (charges : ℤ) → afternoonSum f g charges ≡ afternoonSum f h charges
+  unfolding afternoonSum
+  afternoon-next f charges =
+      ap₂ (λ (m n : ℕ). charges +ℤ pos m +ℤ pos n)
+      (areas-next (λ area x. posPart (afternoonNeed area x) * referencePrice f area) (λ area s. ap (λ (z : ℤ). posPart z * referencePrice f area) (need-next area s)))
+      (exposure-next f)
+
+  module _ (limits : Limits) (f : Prices) (u : User) where
+    pub level-next : levelFrom limits f u g ≡ levelFrom limits f u h
+    level-next = ap (floored limits) (afternoon-next f (u .party .charges))
+
+    pub flagged-next : flaggedFrom limits f u g ≡ flaggedFrom limits f u h
+    flagged-next = ap (λ (n : ℕ). ltb (limits .flagMwh * leastReferencePrice f + u .blocked) n) (exposure-next f)
+
+    pub short-next : (cut : Bool) → shortFrom limits f u g cut ≡ shortFrom limits f u h cut
+    unfolding shortFrom
+    short-next cut = rw (level-next, flagged-next)
+
+module _ (limits : Limits) (b : Book) (u : User) where
+  pub target-from : target limits b u ≡ levelFrom limits (b .header .prices) u (holding b u) - u .party .assigned
+  unfolding target afternoonLevel
+  target-from = refl
+
+  pub short-from : shortOfCover limits b u ≡ shortFrom limits (b .header .prices) u (holding b u) (cutBefore (u .party .id) (b .trades))
+  unfolding shortOfCover shortFrom afternoonLevel calledIn flagged partyTo sells buys cutBefore isCut
+  short-from = refl

@@ -1,0 +1,200 @@
+-- The cuts of a reduction are those of the user's own sales, spread over the trades; what they do to the sales of each user and to the tally. Assumes nothing.
+use mathlib.Core.Bool.{Bool, true, false, not, cond, _&&_}
+use mathlib.Core.List.{List, [], _∷_, map}
+use mathlib.Core.Path.{_≡_, refl, sym, ap, ap₂, subst, fun-ext, _∙_}
+use Prim.Native.Nat.{ℕ, _+_, _-_}
+use native.Mathlib.Nat.{sub-zero, zero-mul}
+use native.Mathlib.Omega.{arith}
+use lib.Dec.{T, ltb}
+use lib.ListN.{length, length-map}
+use borrow.Author.Tests.{ltb-false}
+use Rattle.laws.proofs.Cuts.{together-within, lot-standings}
+use Rattle.laws.proofs.Shares.{eachWithin, within-length, tier-length, tier-within}
+use Rattle.base.proofs.Tests.{map-by, by-case, holds}
+use Rattle.laws.specs.Trades.{standingIf}
+use Rattle.rules.specs.Areas.{Prices, tariff}
+use Rattle.rules.specs.Book.{Book, User, Trade}
+use Rattle.rules.specs.Levels.{holding}
+use Rattle.rules.specs.Reduction.{eligible, shortIn, lot, tierOne, tierTwo, together, cuts, cutBy, cutAll, Tally, tallied, tallyAll}
+use Rattle.rules.specs.Shares.{Lot, tierWorth, tierCuts}
+use Rattle.laws_sales.proofs.Kept.{kept-yes, kept-no, kept-pass, spread-yes, spread-no, spread-together}
+use Rattle.laws_sales.proofs.Tiers.{tier-kept, worth-kept}
+use Rattle.laws_sales.specs.Kept.{kept, spread}
+use Rattle.laws_sales.specs.Own.{EligibleBy, OfTerms, Owned}
+use Rattle.laws_sales.specs.Sales.{shortAt, saleLots, saleCuts}
+
+-- ---- the cuts of own sales
+
+-- a tier has a cut for each sale
+tier-count : (f : Prices) (belongs : ℕ → Bool) (asked : ℕ) (ss : List Trade) → length (tierCuts asked (saleLots f belongs ss)) ≡ length ss
+unfolding saleLots
+tier-count f belongs asked ss = tier-length asked (saleLots f belongs ss) ∙ length-map ss (lot f (λ t. belongs (t .terms .area)))
+
+module _ (f : Prices) (short : ℕ → Bool) (asked : ℕ) (ss : List Trade) where
+  -- a sale is of one of the tiers
+  both : (s : Trade) → standingIf (λ t. short (t .terms .area)) s + standingIf (λ t. not (short (t .terms .area))) s ≡ s .standing
+  both s = go (short (s .terms .area))
+    where
+      go : (c : Bool) → cond c (s .standing) 0 + cond (not c) (s .standing) 0 ≡ s .standing
+      go true = omega arith
+      go false = omega arith
+
+  -- each cut is at most what stands, and there are as many cuts as sales
+  pub sale-within : T (eachWithin (saleCuts f short asked ss) (map (λ s. s .standing) ss))
+  unfolding saleCuts saleLots
+  sale-within =
+      let p : Trade → Bool = λ t. short (t .terms .area) in
+      let q : Trade → Bool = λ t. not (short (t .terms .area)) in
+      let one = saleLots f short ss in
+      let two = saleLots f (λ area. not (short area)) ss in
+      subst (λ (g : Trade → ℕ). T (eachWithin (saleCuts f short asked ss) (map g ss))) (fun-ext both)
+      (together-within (standingIf p) (standingIf q) (tierCuts asked one) (tierCuts (asked - tierWorth one) two) ss
+      (rw (lot-standings f p ss) at (tier-within asked one))
+      (rw (lot-standings f q ss) at (tier-within (asked - tierWorth one) two)))
+
+  pub sale-length : length (saleCuts f short asked ss) ≡ length ss
+  sale-length =
+      within-length (saleCuts f short asked ss) (map (λ s. s .standing) ss) sale-within ∙ length-map ss (λ s. s .standing)
+
+-- ---- the cuts of a reduction
+
+-- a sale of the user is eligible where it stands above 0
+kept-standing : (own some belongs : Bool) (n : ℕ) → T own → (some ≡ false → n ≡ 0) → cond ((own && some) && belongs) n 0 ≡ cond belongs n 0
+kept-standing true true belongs n h z = refl
+kept-standing true false true n h z = sym (z refl)
+kept-standing true false false n h z = refl
+kept-standing false some belongs n h z = absurd h
+
+other-standing : (own some belongs : Bool) (n : ℕ) → T (not own) → cond ((own && some) && belongs) n 0 ≡ 0
+other-standing true some belongs n h = absurd h
+other-standing false some belongs n h = refl
+
+-- what does not stand above 0 is 0
+not-above : (n : ℕ) → ltb 0 n ≡ false → n ≡ 0
+not-above n e = omega (arith, ltb-false 0 n e)
+
+module _ (b : Book) (u : User) (p : Trade → Bool) (own : EligibleBy b u p) where
+  -- a tier of the book: the user's eligible trades in areas that pass a test
+  lotIn : (ℕ → Bool) → Trade → Lot
+  lotIn belongs = lot (b .header .prices) (λ t. eligible b u t && belongs (t .terms .area))
+
+  module _ (belongs : ℕ → Bool) where
+    lot-none : (t : Trade) → T (not (p t)) → lotIn belongs t .standing ≡ 0
+    unfolding lotIn lot EligibleBy
+    lot-none t h =
+        ap (λ (c : Bool). cond (c && belongs (t .terms .area)) (t .standing) 0) (own t)
+        ∙ other-standing (p t) (ltb 0 (t .standing)) (belongs (t .terms .area)) (t .standing) h
+
+    lots-sales : map (lotIn belongs) (kept p (b .trades)) ≡ saleLots (b .header .prices) belongs (kept p (b .trades))
+    unfolding lotIn lot saleLots EligibleBy
+    lots-sales =
+        map-by p (lotIn belongs) (lot (b .header .prices) (λ t. belongs (t .terms .area)))
+        (λ t h. ap (λ (n : ℕ). record { standing = n; tariff = tariff (b .header .prices) (t .terms .area) })
+        (ap (λ (c : Bool). cond (c && belongs (t .terms .area)) (t .standing) 0) (own t)
+        ∙ kept-standing (p t) (ltb 0 (t .standing)) (belongs (t .terms .area)) (t .standing) h (not-above (t .standing))))
+        (kept p (b .trades)) (kept-pass p (b .trades))
+
+    tier-worth-sales : tierWorth (map (lotIn belongs) (b .trades)) ≡ tierWorth (saleLots (b .header .prices) belongs (kept p (b .trades)))
+    tier-worth-sales = worth-kept p (lotIn belongs) lot-none (b .trades) ∙ ap tierWorth lots-sales
+
+    tier-sales : (asked : ℕ) → tierCuts asked (map (lotIn belongs) (b .trades)) ≡ spread p (b .trades) (tierCuts asked (saleLots (b .header .prices) belongs (kept p (b .trades))))
+    tier-sales asked =
+        tier-kept p (lotIn belongs) lot-none asked (b .trades)
+        ∙ ap (λ (xs : List Lot). spread p (b .trades) (tierCuts asked xs)) lots-sales
+
+  -- the cuts of a reduction are the cuts of the user's own sales, each at its place, and 0 elsewhere
+  pub cuts-sales : (asked : ℕ) → cuts b u asked ≡ spread p (b .trades) (saleCuts (b .header .prices) (shortAt u) asked (kept p (b .trades)))
+  unfolding cuts tierOne tierTwo shortIn holding shortAt saleCuts lotIn
+  cuts-sales asked =
+      let ss = kept p (b .trades) in
+      let long : ℕ → Bool = λ area. not (shortAt u area) in
+      let one = saleLots (b .header .prices) (shortAt u) ss in
+      let two = saleLots (b .header .prices) long ss in
+      ap₂ together (tier-sales (shortAt u) asked)
+      (ap (λ (n : ℕ). tierCuts (asked - n) (map (lotIn long) (b .trades))) (tier-worth-sales (shortAt u)) ∙ tier-sales long (asked - tierWorth one))
+      ∙ spread-together p (b .trades) (tierCuts asked one) (tierCuts (asked - tierWorth one) two)
+      (tier-count (b .header .prices) (shortAt u) asked ss ∙ sym (tier-count (b .header .prices) long (asked - tierWorth one) ss))
+
+-- ---- cuts of trades
+
+-- a cut of 0 leaves the trade
+pub cut-zero : (t : Trade) → cutBy 0 t ≡ t
+unfolding cutBy
+cut-zero t = ap (λ (n : ℕ). record { terms = t .terms; standing = n }) (sub-zero (t .standing))
+
+-- cuts for none of those that pass leave all
+pub cut-nobody : (p : Trade → Bool) (ts : List Trade) → cutAll (spread p ts []) ts ≡ ts
+unfolding spread cutAll
+cut-nobody p [] = refl
+cut-nobody p (t ∷ ts) = ap₂ (λ (n : Trade) (ns : List Trade). n ∷ ns) (cut-zero t) (cut-nobody p ts)
+
+-- one element of the cuts of those that pass
+pub cut-yes : (p : Trade → Bool) (t : Trade) (ts : List Trade) (c : ℕ) (cs : List ℕ) → p t ≡ true
+    → cutAll (spread p (t ∷ ts) (c ∷ cs)) (t ∷ ts) ≡ cutBy c t ∷ cutAll (spread p ts cs) ts
+unfolding cutAll
+cut-yes p t ts c cs e = rw (spread-yes p t ts c cs e)
+
+pub cut-no : (p : Trade → Bool) (t : Trade) (ts : List Trade) (cs : List ℕ) → p t ≡ false
+    → cutAll (spread p (t ∷ ts) cs) (t ∷ ts) ≡ t ∷ cutAll (spread p ts cs) ts
+unfolding cutAll
+cut-no p t ts cs e = rw (spread-no p t ts cs e) (ap (λ (n : Trade). n ∷ cutAll (spread p ts cs) ts) (cut-zero t))
+
+-- of those that pass, the cuts are taken off
+pub kept-cut : (p : Trade → Bool) → OfTerms p → (ts : List Trade) (cs : List ℕ) → kept p (cutAll (spread p ts cs) ts) ≡ cutAll cs (kept p ts)
+unfolding OfTerms cutAll kept spread cutBy
+kept-cut p o ts [] = ap (kept p) (cut-nobody p ts)
+kept-cut p o [] (c ∷ cs) = refl
+kept-cut p o (t ∷ ts) (c ∷ cs) =
+    by-case (p t)
+    (λ e. ap (kept p) (cut-yes p t ts c cs e) ∙ kept-yes p (cutBy c t) (cutAll (spread p ts cs) ts) (o t (cutBy c t) refl ∙ e)
+    ∙ ap (λ (ns : List Trade). cutBy c t ∷ ns) (kept-cut p o ts cs) ∙ ap (cutAll (c ∷ cs)) (sym (kept-yes p t ts e)))
+    (λ e. ap (kept p) (cut-no p t ts (c ∷ cs) e) ∙ kept-no p t (cutAll (spread p ts (c ∷ cs)) ts) e
+    ∙ kept-cut p o ts (c ∷ cs) ∙ ap (cutAll (c ∷ cs)) (sym (kept-no p t ts e)))
+
+-- of others, nothing is
+pub kept-apart : (p q : Trade → Bool) → OfTerms q → ((t : Trade) → T (p t) → q t ≡ false) → (ts : List Trade) (cs : List ℕ)
+    → kept q (cutAll (spread p ts cs) ts) ≡ kept q ts
+unfolding OfTerms cutAll spread cutBy
+kept-apart p q o d ts [] = ap (kept q) (cut-nobody p ts)
+kept-apart p q o d [] (c ∷ cs) = refl
+kept-apart p q o d (t ∷ ts) (c ∷ cs) =
+    by-case (p t)
+    (λ e. ap (kept q) (cut-yes p t ts c cs e) ∙ kept-no q (cutBy c t) (cutAll (spread p ts cs) ts) (o t (cutBy c t) refl ∙ d t (holds e))
+    ∙ kept-apart p q o d ts cs ∙ sym (kept-no q t ts (d t (holds e))))
+    (λ e. ap (kept q) (cut-no p t ts (c ∷ cs) e)
+    ∙ by-case (q t)
+    (λ k. kept-yes q t (cutAll (spread p ts (c ∷ cs)) ts) k ∙ ap (λ (ns : List Trade). t ∷ ns) (kept-apart p q o d ts (c ∷ cs)) ∙ sym (kept-yes q t ts k))
+    (λ k. kept-no q t (cutAll (spread p ts (c ∷ cs)) ts) k ∙ kept-apart p q o d ts (c ∷ cs) ∙ sym (kept-no q t ts k)))
+
+module _ {own : ℕ → Trade → Bool} (o : Owned own) (id : ℕ) (ts : List Trade) (cs : List ℕ) where
+  -- the user's own sales after the cuts
+  pub sales-cut : kept (own id) (cutAll (spread (own id) ts cs) ts) ≡ cutAll cs (kept (own id) ts)
+  sales-cut = kept-cut (own id) (o .of-terms id) ts cs
+
+  -- another's
+  pub sales-other : (other : ℕ) → (other ≡ id → ⊥) → kept (own other) (cutAll (spread (own id) ts cs) ts) ≡ kept (own other) ts
+  sales-other other n = kept-apart (own id) (own other) (o .of-terms other) (o .apart id other n) ts cs
+
+-- ---- the tally
+
+module _ (f : Prices) where
+  -- no cut changes no tally
+  pub tally-zero : (t : Trade) (tally : Tally) → tallied f 0 t tally ≡ tally
+  unfolding tallied
+  tally-zero t tally =
+      ap₂ (λ (m n : ℕ). record { mwh = m; worth = n }) (omega arith) (omega (arith, zero-mul (tariff f (t .terms .area))))
+
+  tally-nobody : (p : Trade → Bool) (ts : List Trade) (tally : Tally) → tallyAll f (spread p ts []) ts tally ≡ tally
+  unfolding spread tallyAll
+  tally-nobody p [] tally = refl
+  tally-nobody p (t ∷ ts) tally = ap (tallyAll f (spread p ts []) ts) (tally-zero t tally) ∙ tally-nobody p ts tally
+
+  -- the tally of spread cuts is that of the cuts of those that pass
+  pub tally-kept : (p : Trade → Bool) (ts : List Trade) (cs : List ℕ) (tally : Tally) → tallyAll f (spread p ts cs) ts tally ≡ tallyAll f cs (kept p ts) tally
+  unfolding tallyAll kept spread
+  tally-kept p ts [] tally = tally-nobody p ts tally
+  tally-kept p [] (c ∷ cs) tally = refl
+  tally-kept p (t ∷ ts) (c ∷ cs) tally =
+      by-case (p t)
+      (λ e. rw (spread-yes p t ts c cs e, kept-yes p t ts e) (tally-kept p ts cs (tallied f c t tally)))
+      (λ e. rw (spread-no p t ts (c ∷ cs) e, kept-no p t ts e) (ap (tallyAll f (spread p ts (c ∷ cs)) ts) (tally-zero t tally) ∙ tally-kept p ts (c ∷ cs) tally))

@@ -1,0 +1,137 @@
+-- Positions while own sales are cut one after the other: after each, the users are those of an accepted book, so that their positions are within the range of one.
+-- Start, a turn and the end of a loop over the sales, by the places of the users. Assumes nothing.
+use mathlib.Core.Bool.{Bool, _||_}
+use mathlib.Core.List.{List, [], _∷_, map}
+use mathlib.Core.Path.{_≡_, sym, ap, subst, _∙_}
+use Prim.Native.Nat.{ℕ, suc, _≤_, _<_}
+use native.Mathlib.Omega.{arith}
+use lib.Dec.{T, eqb, leb, le→leb}
+use lib.ListN.{length, take, getD, length-map, length-take, List·getD-eq-default}
+use lib.Seq.{take-all, getD-take}
+use Rattle.base.proofs.Fronts.{all-at}
+use Rattle.base.proofs.Linear.{by-order}
+use Rattle.base.specs.Parts.{posPart, negPart}
+use Rattle.laws.proofs.Bounds.{position-bound}
+use Rattle.laws.proofs.Reduction.{cuts-sound}
+use Rattle.laws.proofs.Shares.{within-at}
+use Rattle.laws.specs.Sound.{Sound}
+use Rattle.base.proofs.Tests.{and-i, or-r, by-case, holds}
+use Rattle.laws.specs.Trades.{cutWithin, cutsWithin}
+use Rattle.rules.specs.Book.{at, Party, Book, User, Trade, bilateralForDay, nobody}
+use Rattle.rules.specs.Questions.{positionsValid, userValid}
+use Rattle.rules.specs.Reduction.{cutAll, settle, withTrades}
+use Rattle.laws_sales.proofs.Cuts.{sale-length, sale-within}
+use Rattle.laws_sales.proofs.Kept.{kept-yes, kept-no}
+use Rattle.laws_sales.proofs.Numbers.{read-at}
+use Rattle.laws_sales.proofs.Settled.{settle-none, settle-kept, settle-front, settle-parties, settle-rise, settle-one-at, party-at}
+use Rattle.laws_sales.specs.Kept.{kept, spread}
+use Rattle.laws_sales.specs.Own.{Owned}
+use Rattle.laws_sales.specs.Reduced.{cutsBy, salesBy, settledFirst}
+use Rattle.laws_sales.specs.Sales.{shortAt, settledAt}
+
+-- ---- cuts of some of the sales
+
+-- cuts of trades that pass, each at most what stands, leave the other trades
+spread-within : (p q : Trade → Bool) → ((t : Trade) → T (p t) → T (q t)) → (ts : List Trade) (cs : List ℕ)
+    → ((i : ℕ) → getD cs i 0 ≤ getD (map (λ t. t .standing) (kept p ts)) i 0) → T (cutsWithin q (spread p ts cs) ts)
+unfolding cutsWithin cutWithin spread kept
+spread-within p q f [] cs h = tt
+spread-within p q f (t ∷ ts) [] h =
+    and-i (cutWithin q 0 t) (cutsWithin q (spread p ts []) ts) (and-i (leb 0 (t .standing)) (eqb 0 0 || q t) (le→leb 0 (t .standing) (omega arith)) tt)
+    (spread-within p q f ts [] (λ i. omega (arith, List·getD-eq-default {A = ℕ} [] 0 {n = i} (omega arith))))
+spread-within p q f (t ∷ ts) (c ∷ cs) h =
+    by-case (p t)
+    (λ e. rw e
+    (let g : (i : ℕ) → getD (c ∷ cs) i 0 ≤ getD (map (λ t. t .standing) (t ∷ kept p ts)) i 0
+    = subst (λ (ss : List Trade). (i : ℕ) → getD (c ∷ cs) i 0 ≤ getD (map (λ t. t .standing) ss) i 0) (kept-yes p t ts e) h in
+    and-i (cutWithin q c t) (cutsWithin q (spread p ts cs) ts)
+    (and-i (leb c (t .standing)) (eqb c 0 || q t) (le→leb c (t .standing) (g 0)) (or-r (eqb c 0) (q t) (f t (holds e))))
+    (spread-within p q f ts cs (λ i. g (suc i)))))
+    (λ e. rw e
+    (and-i (cutWithin q 0 t) (cutsWithin q (spread p ts (c ∷ cs)) ts) (and-i (leb 0 (t .standing)) (eqb 0 0 || q t) (le→leb 0 (t .standing) (omega arith)) tt)
+    (spread-within p q f ts (c ∷ cs)
+    (subst (λ (ss : List Trade). (i : ℕ) → getD (c ∷ cs) i 0 ≤ getD (map (λ t. t .standing) ss) i 0) (kept-no p t ts e) h))))
+
+-- the first of a list are at most what all are
+take-le : (n : ℕ) (cs : List ℕ) (i : ℕ) → getD (take n cs) i 0 ≤ getD cs i 0
+take-le n cs i =
+    by-order i n (λ h. omega (arith, getD-take n cs i 0 h))
+    (λ h. omega (arith, List·getD-eq-default (take n cs) 0 {n = i} (omega (arith, length-take n cs))))
+
+module _ {own : ℕ → Trade → Bool} (o : Owned own) (b : Book) (u : User) (asked : ℕ) where
+  -- a cut is at most what stands
+  pub own-cut-le : (i : ℕ) → getD (cutsBy own b u asked) i 0 ≤ getD (map (λ s. s .standing) (salesBy own b u)) i 0
+  own-cut-le i =
+      within-at (cutsBy own b u asked) (map (λ s. s .standing) (salesBy own b u)) (sale-within (b .header .prices) (shortAt u) asked (salesBy own b u)) i
+
+  -- a cut for each own sale
+  pub own-cuts-length : length (cutsBy own b u asked) ≡ length (salesBy own b u)
+  own-cuts-length = sale-length (b .header .prices) (shortAt u) asked (salesBy own b u)
+
+  -- the book after the first cuts
+  bookAfter : ℕ → Book
+  bookAfter n = withTrades b (cutAll (spread (own (u .party .id)) (b .trades) (take n (cutsBy own b u asked))) (b .trades))
+
+  after-users : (n : ℕ) → bookAfter n .users ≡ settledFirst own b u asked n
+  unfolding bookAfter withTrades
+  after-users n = settle-kept (own (u .party .id)) (b .trades) (take n (cutsBy own b u asked)) (b .users)
+
+  -- before the first cut
+  pub first-none : settledFirst own b u asked 0 ≡ b .users
+  unfolding cutAll
+  first-none = settle-none (salesBy own b u) (b .users)
+
+  -- after the last
+  pub first-all : (n : ℕ) → length (salesBy own b u) ≤ n → settledFirst own b u asked n ≡ settle (salesBy own b u) (cutAll (cutsBy own b u asked) (salesBy own b u)) (b .users)
+  first-all n h =
+      ap (λ (cs : List ℕ). settle (salesBy own b u) (cutAll cs (salesBy own b u)) (b .users)) (take-all n (cutsBy own b u asked) (omega (arith, own-cuts-length)))
+
+  -- the users are the same parties
+  pub first-parties : (n : ℕ) → map (λ v. v .party) (settledFirst own b u asked n) ≡ map (λ v. v .party) (b .users)
+  first-parties n = settle-parties (salesBy own b u) (cutAll (take n (cutsBy own b u asked)) (salesBy own b u)) (b .users)
+
+  pub first-length : (n : ℕ) → length (settledFirst own b u asked n) ≡ length (b .users)
+  first-length n =
+      sym (length-map (settledFirst own b u asked n) (λ v. v .party)) ∙ ap length (first-parties n) ∙ length-map (b .users) (λ v. v .party)
+
+  module _ (s : Sound b) where
+    after-sound : (n : ℕ) → Sound (bookAfter n)
+    unfolding bookAfter
+    after-sound n =
+        cuts-sound b (spread (own (u .party .id)) (b .trades) (take n (cutsBy own b u asked))) s
+        (spread-within (own (u .party .id)) bilateralForDay (o .bilateral (u .party .id)) (b .trades) (take n (cutsBy own b u asked))
+        (λ i. omega (arith, take-le n (cutsBy own b u asked) i, own-cut-le i)))
+
+    -- each position is that of an accepted book
+    pub first-bound : (n i area : ℕ) → i < length (b .users) → area < 3
+        → (posPart (at (getD (settledFirst own b u asked n) i nobody .position) area) ≤ 26600000)
+        × (negPart (at (getD (settledFirst own b u asked n) i nobody .position) area) ≤ 26600000)
+    first-bound n i area h k =
+        let vs = settledFirst own b u asked n in
+        let users = after-users n in
+        let valid = after-sound n in
+        let inside : i < length vs = omega (arith, first-length n) in
+        let x = getD vs i nobody in
+        position-bound (bookAfter n) valid x
+        (all-at userValid vs (rw users at (valid .users)) i nobody inside)
+        (all-at (positionsValid (bookAfter n .trades)) vs (rw users at (valid .positions)) i nobody inside)
+        area k
+
+    -- one cut more, by the places of the sale's seller and buyer
+    pub first-next : (n seller buyer : ℕ) (d : Trade) → n < length (salesBy own b u) → seller < length (b .users) → buyer < length (b .users)
+        → getD (b .users) seller nobody .party .id ≡ getD (salesBy own b u) n d .terms .seller → getD (b .users) buyer nobody .party .id ≡ getD (salesBy own b u) n d .terms .buyer
+        → settledFirst own b u asked (suc n) ≡ settledAt seller buyer (getD (salesBy own b u) n d .terms .area) (getD (cutsBy own b u asked) n 0) (settledFirst own b u asked n)
+    first-next n seller buyer d h k l e g =
+        let ss = salesBy own b u in
+        let cs = cutsBy own b u asked in
+        let vs = settledFirst own b u asked n in
+        let t = getD ss n d in
+        let same = first-parties n in
+        let stands : getD (map (λ s. s .standing) ss) n 0 ≡ t .standing
+        = read-at (λ s. s .standing) ss n d 0 h in
+        settle-front cs ss (b .users) n d h (omega (arith, own-cuts-length))
+        ∙ settle-one-at (getD cs n 0) t vs 0 seller buyer
+        (rw (settle-rise ss (cutAll (take n cs) ss) 0 (b .users)) (s .ids)) (omega (arith, first-length n)) (omega (arith, first-length n))
+        (ap (λ (q : Party). q .id) (party-at (b .users) vs same seller nobody) ∙ e)
+        (ap (λ (q : Party). q .id) (party-at (b .users) vs same buyer nobody) ∙ g)
+        (omega (arith, own-cut-le n))

@@ -1,0 +1,50 @@
+-- A sale is its seller's: the test is one of the terms, no trade is a sale of two users, each is one of some user, and those that stand above 0 are eligible. Assumes nothing.
+use mathlib.Core.Bool.{Bool, true, false, _&&_}
+use mathlib.Core.List.{List, [], _∷_}
+use mathlib.Core.Path.{_≡_, refl, sym, ap, _∙_}
+use Prim.Native.Nat.{ℕ}
+use lib.Dec.{T, eqb, eqb→eq, ltb}
+use borrow.Author.Tests.{ne-eqb}
+use Rattle.laws.proofs.Positions.{seller-known}
+use Rattle.base.proofs.Tests.{and-l, and-r, eqb-comm, or-l, by-case}
+use Rattle.rules.specs.Book.{Book, Terms, Trade, User, bilateralForDay}
+use Rattle.rules.specs.Levels.{sells}
+use Rattle.base.specs.Lists.{any}
+use Rattle.rules.specs.Questions.{known}
+use Rattle.rules.specs.Reduction.{eligible}
+use Rattle.laws_sales.specs.Own.{EligibleBy, OfTerms, Owned, OwnedAmong}
+use Rattle.laws_sales.specs.Sales.{ownSale}
+
+of-terms : (id : ℕ) → OfTerms (ownSale id)
+unfolding OfTerms ownSale bilateralForDay
+of-terms id t n e = ap (λ (r : Terms). eqb (r .seller) id && (eqb (r .kind) 0 && eqb (r .day) 0)) e
+
+pub own-sales : Owned ownSale
+unfolding ownSale
+own-sales = record {
+  of-terms = of-terms;
+  bilateral = λ id t h. and-r (eqb (t .terms .seller) id) (bilateralForDay t) h;
+  apart = λ id other n t h.
+      let e = eqb→eq (t .terms .seller) id (and-l (eqb (t .terms .seller) id) (bilateralForDay t) h) in
+      rw (ne-eqb (t .terms .seller) other (λ k. n (sym k ∙ e))) refl;
+}
+
+-- a trade of kind 0 and day 0 with a known seller is a sale of some user
+known-owned : (us : List User) (t : Trade) → T (bilateralForDay t) → T (known us (t .terms .seller)) → T (any (λ u. ownSale (u .party .id) t) us)
+unfolding any known ownSale
+known-owned [] t e h = h
+known-owned (u ∷ us) t e h =
+    by-case (eqb (u .party .id) (t .terms .seller))
+    (λ k. rw (eqb-comm (t .terms .seller) (u .party .id) ∙ k) (or-l (bilateralForDay t) (any (λ v. ownSale (v .party .id) t) us) e))
+    (λ k. rw (eqb-comm (t .terms .seller) (u .party .id) ∙ k) (known-owned us t e (rw k at h)))
+
+pub own-among : (us : List User) → OwnedAmong ownSale us
+own-among us = record { some = λ t v e. known-owned us t e (seller-known us t v) }
+
+and-assoc : (a b c : Bool) → (a && (b && c)) ≡ ((a && b) && c)
+and-assoc true b c = refl
+and-assoc false b c = refl
+
+pub own-eligible : (b : Book) (u : User) → EligibleBy b u (ownSale (u .party .id))
+unfolding EligibleBy eligible sells ownSale
+own-eligible b u t = and-assoc (eqb (t .terms .seller) (u .party .id)) (bilateralForDay t) (ltb 0 (t .standing))

@@ -1,2 +1,0 @@
--- A value in a local that is lent.
-pub mod Local

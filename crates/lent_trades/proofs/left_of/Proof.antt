@@ -1,0 +1,32 @@
+-- `left_of`: past the cuts the cut that is read is 0. Assumes nothing.
+use native.Mathlib.Omega.{arith}
+use lib.ListN.{List·getD-eq-default}
+use borrow.Author.Needs.{needs}
+use Rattle.lent_trades.proofs.left_of.Statement.{statement}
+use Rattle.lent_trades.proofs.left_of.Tie as tie
+
+mul-cut : tie.Need-mul-cut
+mul-cut c = search needs
+
+shared-slice-read-cut : tie.Need-shared-slice-read-cut
+shared-slice-read-cut c = search needs
+
+sub-result : tie.Need-sub-result
+sub-result c = search needs
+
+cast-result : tie.Need-cast-result
+cast-result c = search needs
+
+returns : tie.Need-returns
+returns c = omega arith
+
+returns-2 : tie.Need-returns-2
+returns-2 c = omega arith
+
+returns-3 : tie.Need-returns-3
+returns-3 c = let a = c .before .args in omega (arith, List·getD-eq-default (a .cuts .now) 0 {n = a .i} (omega arith))
+
+pub left-of-spec : {M : Type 1} → statement M
+left-of-spec =
+    tie.close
+    (tie.spec mul-cut shared-slice-read-cut sub-result cast-result returns returns-2 returns-3)

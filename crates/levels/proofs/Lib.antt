@@ -1,3 +1,0 @@
--- Laws of levels.
-mod Floors
-pub mod Sums

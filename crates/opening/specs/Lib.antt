@@ -1,2 +1,0 @@
--- What a book is that was opened.
-pub mod Opened

@@ -1,0 +1,18 @@
+-- `Holding::morning_need` is the difference that the need is, and 0 where that is below 0. Assumes nothing.
+use native.Mathlib.Omega.{arith}
+use Rattle.risk_holdings.specs.Holdings.{asHolding}
+use Rattle.risk_holdings.proofs.Needs.{morning-need-of}
+use borrow.Author.Needs.{needs}
+use Rattle.risk_holdings.proofs.Holding.morning_need.Statement.{statement}
+use Rattle.risk_holdings.proofs.Holding.morning_need.Tie as tie
+
+returns : tie.Need-returns
+unfolding asHolding
+returns c =
+    omega (arith, morning-need-of (asHolding (c .before .before .before .before .before .before .before .before .args .self)), c .excess .ensures)
+
+pub morning-need-spec : {M : Type 1} → statement M
+morning-need-spec =
+    tie.close
+    (tie.spec (λ c κs. search needs) (λ c κs. search needs) (λ c. search needs) (λ c. search needs) (λ c. search needs) (λ c. search needs)
+    (λ c κs. search needs) returns)

@@ -1,0 +1,4 @@
+-- A search through the first trades.
+pub mod Search
+-- Laws of needs.
+pub mod Needs

@@ -1,0 +1,35 @@
+-- A level as a difference of naturals, never below the floor, and the exposure in it. Assumes nothing.
+use mathlib.Core.List.{List, [], _∷_}
+use mathlib.Core.Path.{_≡_, refl}
+use Prim.Native.Nat.{ℕ, _+_, _-_, max}
+use native.Mathlib.Omega.{arith}
+use lib.IntN.{ℤ, pos, _+ℤ_, +ℤ-assoc}
+use Rattle.base.specs.Parts.{posPart, negPart}
+use Rattle.base.proofs.Linear.{posPart-of, posPart-pos, negPart-pos, parts-add}
+use Rattle.base.specs.Sums.{sum}
+use Rattle.rules.specs.Areas.{Prices, areas}
+use Rattle.rules.specs.Book.{at}
+use Rattle.rules.specs.Levels.{Limits, exposure, floored}
+use Rattle.units.specs.declared.Net.{Net}
+use Rattle.book_records.specs.User.{asAmounts}
+use Rattle.risk_holdings.specs.declared.Holdings.{Holdings}
+use Rattle.risk_holdings.specs.Holdings.{asHolding, heldIn, positioned}
+
+-- charges and a worth, with the floor
+pub floored-of : (l : Limits) (charges : ℤ) (n : ℕ) → floored l (charges +ℤ pos n) ≡ max (l .floor) (posPart charges + n - negPart charges)
+unfolding floored
+floored-of l charges n =
+    omega (
+      arith,
+      posPart-of (charges +ℤ pos n) (posPart charges + n) (negPart charges)
+          (omega (arith, parts-add charges (pos n), posPart-pos n, negPart-pos n)),
+    )
+
+-- two worths added one after the other, or together
+pub add-worths : (charges : ℤ) (m n : ℕ) → charges +ℤ pos m +ℤ pos n ≡ charges +ℤ pos (m + n)
+add-worths charges m n = +ℤ-assoc charges (pos m) (pos n)
+
+-- of holdings, exposure reads the positions
+pub exposure-held : (f : Prices) (h : Holdings) {v : List Net} → v ≡ h .pvb .position ∷ h .tvb .position ∷ h .avb .position ∷ [] → exposure f (positioned v) ≡ exposure f (heldIn h)
+unfolding exposure sum areas positioned heldIn asHolding at asAmounts
+exposure-held f h e = rw e refl

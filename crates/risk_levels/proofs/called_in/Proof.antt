@@ -1,0 +1,31 @@
+-- `called_in`: who is party to a trade standing below notified is called in, and else who is flagged. Assumes nothing.
+use mathlib.Core.Bool.{Bool, true, false, _||_}
+use mathlib.Core.Path.{_≡_, refl, sym, _∙_}
+use Rattle.rules.specs.Levels.{flaggedFrom}
+use Rattle.units.specs.Prices.{asPrices}
+use Rattle.units.specs.Limits.{asLimits}
+use Rattle.risk_holdings.specs.Holdings.{positioned}
+use borrow.Author.Needs.{needs}
+use Rattle.risk_levels.proofs.called_in.Statement.{statement}
+use Rattle.risk_levels.proofs.called_in.Tie as tie
+
+or-cut : (flagged : Bool) {cut : Bool} → cut ≡ true → true ≡ (flagged || cut)
+or-cut true e = refl
+or-cut false e = sym e
+
+or-uncut : (flagged : Bool) {cut : Bool} → cut ≡ false → flagged ≡ (flagged || cut)
+or-uncut true e = refl
+or-uncut false e = sym e
+
+returns : tie.Need-returns
+returns c = λ u e.
+    let a = c .before .args in
+    or-cut (flaggedFrom (asLimits (a .limits)) (asPrices (a .prices)) u (positioned (a .positions))) (c .if1 .taken)
+
+returns-2 : tie.Need-returns-2
+returns-2 c = λ u e.
+    let a = c .before .before .args in
+    c .flagged .ensures u e ∙ or-uncut (flaggedFrom (asLimits (a .limits)) (asPrices (a .prices)) u (positioned (a .positions))) (c .before .if1 .left)
+
+pub called-in-spec : {M : Type 1} → statement M
+called-in-spec = tie.close (tie.spec returns (λ c κs. search needs) returns-2)

@@ -1,0 +1,17 @@
+-- `exceeds_margin` tests what the definition does. Assumes nothing.
+use mathlib.Core.Path.{ap}
+use Prim.Native.Nat.{ℕ, _+_}
+use lib.Dec.{ltb}
+use Rattle.rules.specs.Levels.{exceedsMargin}
+use borrow.Author.Needs.{needs}
+use Rattle.risk_levels.proofs.exceeds_margin.Statement.{statement}
+use Rattle.risk_levels.proofs.exceeds_margin.Tie as tie
+
+returns : tie.Need-returns
+unfolding exceedsMargin
+returns c = λ u e.
+    let a = c .before .before .before .before .args in
+    ap (λ (n : ℕ). ltb (a .limits .margin .0 + n) (a .level .0)) e
+
+pub exceeds-margin-spec : {M : Type 1} → statement M
+exceeds-margin-spec = tie.close (tie.spec (λ c. search needs) returns)

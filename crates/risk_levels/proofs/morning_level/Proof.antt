@@ -1,0 +1,28 @@
+-- `morning_level`: the needs of the three areas are the sum of the definition, and the floor does the rest. Assumes nothing.
+use mathlib.Core.Path.{ap, _∙_}
+use Prim.Native.Nat.{ℕ}
+use native.Mathlib.Omega.{arith}
+use lib.IntN.{pos, _+ℤ_}
+use Rattle.base.specs.Sums.{sum}
+use Rattle.rules.specs.Areas.{areas}
+use Rattle.rules.specs.Levels.{morningSum, floored}
+use Rattle.units.specs.Amounts.{balance}
+use Rattle.units.specs.Limits.{asLimits}
+use Rattle.risk_holdings.specs.Holdings.{heldIn}
+use borrow.Author.Needs.{needs}
+use Rattle.risk_levels.proofs.morning_level.Statement.{statement}
+use Rattle.risk_levels.proofs.morning_level.Tie as tie
+
+returns : tie.Need-returns
+unfolding morningSum sum areas heldIn
+returns c =
+    let w = c .before .before .before .before in
+    let a = w .before .before .before .args in
+    c .floored .ensures
+    ∙ ap (λ (n : ℕ). floored (asLimits (a .limits)) (balance (a .charges) +ℤ pos n))
+    (omega (arith, w .before .before .morning-worth .ensures .0, w .before .morning-worth2 .ensures .0, w .morning-worth3 .ensures .0))
+
+pub morning-level-spec : {M : Type 1} → statement M
+morning-level-spec =
+    tie.close
+    (tie.spec (λ c κs. search needs) (λ c κs. search needs) (λ c κs. search needs) (λ c. search needs) (λ c. search needs) (λ c κs. search needs) returns)

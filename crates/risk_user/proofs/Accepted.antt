@@ -1,0 +1,45 @@
+-- What an accepted book in bytes tells: where its trades stand, the range of the prices, and of the blocked guarantee of the user at a place. Assumes nothing.
+use mathlib.Core.List.{List}
+use mathlib.Core.Path.{_≡_, sym, subst}
+use Prim.Native.Nat.{ℕ, _+_, _*_, _<_, _≤_}
+use lib.ListN.{drop, getD}
+use Rattle.rules.specs.Book.{User, nobody}
+use Rattle.rules.specs.Questions.{userValid}
+use Rattle.laws.proofs.Bounds.{blocked-le, prices-le, tariffs-pos}
+use Rattle.units.specs.Prices.{InRange}
+use Rattle.fields.specs.Layout.{recordsOf}
+use Rattle.book_records.specs.Trade.{tradeOf}
+use Rattle.book_records.specs.User.{asUser}
+use Rattle.book_records.specs.declared.User as code
+use Rattle.base.proofs.Fronts.{all-at}
+use Rattle.book_format.proofs.Passed.{length-usersOf, passed}
+use Rattle.book_format.specs.Book.{bookOf, tradeCount, tradesAt, tradesOf, userAt, userCount, usersOf}
+use Rattle.book_format.specs.Questions.{bookNumber}
+
+module _ (s : List ℕ) where
+  -- the trades stand behind the users
+  pub trades-from : {n m : ℕ} → n ≡ userCount s → m ≡ tradeCount s → recordsOf 20 tradeOf m (drop (32 + 56 * n) s) ≡ bookOf s .trades
+  unfolding bookOf tradesOf tradesAt userAt
+  trades-from e k = rw (e, k)
+
+  -- from where they begin
+  pub trades-there : {at m : ℕ} → at ≡ tradesAt s → m ≡ tradeCount s → recordsOf 20 tradeOf m (drop at s) ≡ bookOf s .trades
+  unfolding bookOf tradesOf
+  trades-there e k = rw (e, k)
+
+module _ (s : List ℕ) (h : bookNumber s ≡ 0) where
+  pub prices-within : InRange (bookOf s .header .prices)
+  prices-within =
+      let p = prices-le (bookOf s) (passed s h .sound) in
+      let t = tariffs-pos (bookOf s) (passed s h .sound) in
+      record { p-least = t .0; p-most = p .0; q-least = t .1; q-most = p .1; l-most = p .2; x-most = p .3; i-most = p .4 }
+
+  pub blocked-within : {place : ℕ} → place < userCount s → getD (usersOf s) place nobody .blocked ≤ 1000000000000
+  unfolding bookOf
+  blocked-within {place} k =
+      blocked-le (getD (usersOf s) place nobody) (all-at userValid (usersOf s) (passed s h .sound .users) place nobody (rw (length-usersOf s) k))
+
+  -- of the record that is read
+  pub record-blocked : {place : ℕ} → place < userCount s → (u : code.User) → asUser u ≡ getD (usersOf s) place nobody → u .blocked .0 ≤ 1000000000000
+  unfolding asUser
+  record-blocked k u e = subst (λ (v : User). v .blocked ≤ 1000000000000) (sym e) (blocked-within k)

@@ -1,2 +1,0 @@
--- Laws of a loop that stores a list.
-pub mod Stores

@@ -1,3 +1,0 @@
--- Laws of the loops that read and write records.
-pub mod Reading
-pub mod Writing

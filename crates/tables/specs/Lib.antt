@@ -1,2 +1,0 @@
--- Arrays of records.
-pub mod Filled

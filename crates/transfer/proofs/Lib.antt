@@ -1,2 +1,0 @@
--- What follows for a book that is written.
-pub mod Writing

@@ -1,2 +1,0 @@
--- A book written from its fields.
-pub mod Written

@@ -1,0 +1,21 @@
+-- `try_calls::print_book`: the counts of a book that was read are those of a book. Assumes nothing.
+use Rattle.try_calls.proofs.Opened.{opened-trades, opened-users}
+use borrow.Author.Needs.{needs}
+use Rattle.try_calls.proofs.print_book.Statement.{statement}
+use Rattle.try_calls.proofs.print_book.Tie as tie
+
+read-requires : tie.Need-read-requires
+read-requires c κs = search needs
+
+print-standing-requires : tie.Need-print-standing-requires
+print-standing-requires c κs = let o = c .before .read in opened-trades (o .result .number) (o .ensures)
+
+print-users-requires : tie.Need-print-users-requires
+print-users-requires c κs = let o = c .before .before .read in opened-users (o .result .number) (o .ensures)
+
+returns : tie.Need-returns
+returns c = search needs
+
+pub print-book-spec : {M : Type 1} → statement M
+print-book-spec =
+    tie.close (tie.spec read-requires print-standing-requires print-users-requires returns)
