@@ -1,5 +1,6 @@
-// The C interface over the public calls of `daybook` and `shrinkage`; include/daybook.h declares it. A slice is a pointer and a length in C. No function asks anything of what it is lent:
-// a part for answers of another length than the function's gets the number 255, and nothing is asked or changed. A store comes with a flag, which is 0 where there is none.
+// The C interface over the public calls of `daybook` and `shrinkage`; include/daybook.h declares it. A slice is a pointer and a length in
+// C. No function asks anything of what it is lent: a part for answers of another length than the function's gets the number 255, and
+// nothing is asked or changed. A store comes with a flag, which is 0 where there is none.
 ghost use mathlib.Core.Path.{_≡_};
 ghost use Rattle.rules.specs.Calls.{only, morningCall, afternoonCall};
 ghost use Rattle.rules.specs.Queries.{morningLevelOf, afternoonLevelOf};
@@ -139,7 +140,8 @@ pub extern "C" fn daybook_posting(
     daybook::posting(book, with_store != 0, store, id, area, amount)
 }
 
-// Posts a list of corrections, given as columns, and stores the number of each line in its place. Places of another count than the lines are refused by question 15.
+// Posts a list of corrections, given as columns, and stores the number of each line in its place. Places of another count than the lines
+// are refused by question 15.
 #[no_mangle]
 pub extern "C" fn daybook_list(
     book: &mut [u8],
@@ -265,7 +267,8 @@ pub extern "C" fn daybook_warning(
     exports_answers::store_warning(answer, reply)
 }
 
-// Cuts a user's bilateral sales for its target: 5 numbers, the MWh cut, their worth, the target, and what the worth falls short of it or exceeds it by.
+// Cuts a user's bilateral sales for its target: 5 numbers, the MWh cut, their worth, the target, and what the worth falls short of it or
+// exceeds it by.
 #[no_mangle]
 pub extern "C" fn daybook_reduction(
     book: &mut [u8],

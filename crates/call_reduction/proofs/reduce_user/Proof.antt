@@ -26,7 +26,8 @@ unfolding tradeCount
 trades-are c = c .get-u16 .ensures
 
 -- the level is the user's, and whether it is called in
-level-is : (c : tie.After-level-at) → let a = c .before .before .before .before .before .before .before .before .before .before .before .before .before .before .before .before .args in c .level-at .result .0 ≡ afternoonLevel (asLimits (a .day .limits)) (bookOf (now (a .book))) (getD (usersOf (now (a .book))) (a .place) nobody)
+level-is : (c : tie.After-level-at) → let a = c .before .before .before .before .before .before .before .before .before .before .before .before .before .before .before .before .args in c .level-at .result .0 ≡ afternoonLevel
+    (asLimits (a .day .limits)) (bookOf (now (a .book))) (getD (usersOf (now (a .book))) (a .place) nobody)
 level-is c =
     let s = c .before .before .before .before .before .before .before .before .before .before .before .before .before .before .before .before in
     asked-level (s .pre .0) (s .pre .1) (c .before .before .before .before .before .before .before .before .fill-positions .ensures .0) (c .level-at .ensures)
@@ -37,10 +38,12 @@ called-is c =
     asked-called (s .pre .0) (s .pre .1) (c .before .before .before .before .before .fill-positions .ensures .0) (c .called-at .ensures) (c .before .before .before .cut-at .ensures)
 
 -- the number is that of the questions 9, 11 and 13
-number-is : (c : tie.After-refused-by) → let a = c .before .before .before .before .before .before .before .before .before .before .before .before .before .before .before .before .before .before .before .args in c .refused-by .result ≡ numberOf (refusal (levelQuestions (asLimits (a .day .limits)) (bookOf (now (a .book))) (getD (usersOf (now (a .book))) (a .place) nobody)))
+number-is : (c : tie.After-refused-by) → let a = c .before .before .before .before .before .before .before .before .before .before .before .before .before .before .before .before .before .before .before .args in c .refused-by .result
+    ≡ numberOf (refusal (levelQuestions (asLimits (a .day .limits)) (bookOf (now (a .book))) (getD (usersOf (now (a .book))) (a .place) nobody)))
 number-is c =
     let s = c .before .before .before .before .before .before .before .before .before .before .before .before .before .before .before .before .before .before .before in
-    asked-number (s .pre .0) (s .pre .1) (c .before .before .before .before .before .before .before .before .before .before .before .fill-positions .ensures .0) (level-is (c .before .before .before)) (called-is (c .before .before .before .before .before .before)) (c .refused-by .ensures) (c .before .state-of .ensures)
+    asked-number (s .pre .0) (s .pre .1) (c .before .before .before .before .before .before .before .before .before .before .before .fill-positions .ensures .0) (level-is (c .before .before .before))
+    (called-is (c .before .before .before .before .before .before)) (c .refused-by .ensures) (c .before .state-of .ensures)
 
 fill-positions-requires : tie.Need-fill-positions-requires
 fill-positions-requires c κs = (c .before .before .before .before .before .before .before .pre .0 .book .accepted .held .form, users-are (c .before .before .before .before), refl)
@@ -52,18 +55,33 @@ cut-at-requires c κs =
 
 called-at-requires : tie.Need-called-at-requires
 called-at-requires c κs =
-    let r = c .before .before .before .before .before .before .before .before .before .before .before .before .pre .0 in
-    (accepted-day (now (c .before .before .before .before .before .before .before .before .before .before .before .before .args .book)) (r .book .accepted .sound) (r .prices-are) (r .limits-in), record { form = r .book .accepted .held .form; inside = c .before .before .before .before .before .before .before .before .before .before .before .before .pre .1 })
+    let r = c .before .before .before .before .before .before .before .before .before .before .before .before .pre .0 in (
+      accepted-day (now (c .before .before .before .before .before .before .before .before .before .before .before .before .args .book)) (r .book .accepted .sound) (r .prices-are) (r .limits-in),
+      record { form = r .book .accepted .held .form; inside = c .before .before .before .before .before .before .before .before .before .before .before .before .pre .1 },
+    )
 
 level-at-requires : tie.Need-level-at-requires
 level-at-requires c κs =
-    let r = c .before .before .before .before .before .before .before .before .before .before .before .before .before .before .before .pre .0 in
-    (accepted-day (now (c .before .before .before .before .before .before .before .before .before .before .before .before .before .before .before .args .book)) (r .book .accepted .sound) (r .prices-are) (r .limits-in), record { form = r .book .accepted .held .form; inside = c .before .before .before .before .before .before .before .before .before .before .before .before .before .before .before .pre .1 }, r .low)
+    let r = c .before .before .before .before .before .before .before .before .before .before .before .before .before .before .before .pre .0 in (
+      accepted-day (now (c .before .before .before .before .before .before .before .before .before .before .before .before .before .before .before .args .book)) (r .book .accepted .sound)
+          (r .prices-are) (r .limits-in),
+      record {
+        form = r .book .accepted .held .form;
+        inside = c .before .before .before .before .before .before .before .before .before .before .before .before .before .before .before .pre .1;
+      },
+      r .low,
+    )
 
 state-of-requires : tie.Need-state-of-requires
 state-of-requires c κs =
-    let r = c .before .before .before .before .before .before .before .before .before .before .before .before .before .before .before .before .before .pre .0 in
-    (accepted-day (now (c .before .before .before .before .before .before .before .before .before .before .before .before .before .before .before .before .before .args .book)) (r .book .accepted .sound) (r .prices-are) (r .limits-in), record { form = r .book .accepted .held .form; inside = c .before .before .before .before .before .before .before .before .before .before .before .before .before .before .before .before .before .pre .1 })
+    let r = c .before .before .before .before .before .before .before .before .before .before .before .before .before .before .before .before .before .pre .0 in (
+      accepted-day (now (c .before .before .before .before .before .before .before .before .before .before .before .before .before .before .before .before .before .args .book))
+          (r .book .accepted .sound) (r .prices-are) (r .limits-in),
+      record {
+        form = r .book .accepted .held .form;
+        inside = c .before .before .before .before .before .before .before .before .before .before .before .before .before .before .before .before .before .pre .1;
+      },
+    )
 
 returns : tie.Need-returns
 returns c =
@@ -74,8 +92,10 @@ returns c =
 
 target-of-requires : tie.Need-target-of-requires
 target-of-requires c κs =
-    let r = c .before .before .before .before .before .before .before .before .before .before .before .before .before .before .before .before .before .before .before .before .before .pre .0 in
-    (accepted-day (now (c .before .before .before .before .before .before .before .before .before .before .before .before .before .before .before .before .before .before .before .before .before .args .book)) (r .book .accepted .sound) (r .prices-are) (r .limits-in), record { form = r .book .accepted .held .form; inside = c .before .before .before .before .before .before .before .before .before .before .before .before .before .before .before .before .before .before .before .before .before .pre .1 })
+    let r = c .before .before .before .before .before .before .before .before .before .before .before .before .before .before .before .before .before .before .before .before .before .pre .0 in (
+      accepted-day (now (c .before .before .before .before .before .before .before .before .before .before .before .before .before .before .before .before .before .before .before .before .before .args .book)) (r .book .accepted .sound) (r .prices-are) (r .limits-in),
+      record { form = r .book .accepted .held .form; inside = c .before .before .before .before .before .before .before .before .before .before .before .before .before .before .before .before .before .before .before .before .before .pre .1 },
+    )
 
 reduce-sales-requires : tie.Need-reduce-sales-requires
 reduce-sales-requires c κs =
@@ -88,7 +108,8 @@ returns-2 c =
     let s = c .before .before .before .before .before .before .before .before .before .before .before .before .before .before .before .before .before .before .before .before .before .before .before .before .before .before .before in
     let a = s .args in
     let k = c .before .before .before .before .before .before .before .before in
-    let target-is = asked-target (s .pre .0) (s .pre .1) (c .before .before .before .before .before .before .before .before .before .before .before .before .before .before .before .before .before .before .before .fill-positions .ensures .0) (level-is (c .before .before .before .before .before .before .before .before .before .before .before)) (called-is (c .before .before .before .before .before .before .before .before .before .before .before .before .before .before)) (k .refused-by .ensures)
+    let target-is = asked-target (s .pre .0) (s .pre .1) (c .before .before .before .before .before .before .before .before .before .before .before .before .before .before .before .before .before .before .before .fill-positions .ensures .0)
+    (level-is (c .before .before .before .before .before .before .before .before .before .before .before)) (called-is (c .before .before .before .before .before .before .before .before .before .before .before .before .before .before)) (k .refused-by .ensures)
     (c .before .before .before .before .before .before .before .before .before .state-of .ensures) (c .before .before .before .before .before .before .before .if1 .left) (c .before .before .before .before .before .target-of .ensures) in
     rw (user-asked (asLimits (a .day .limits)) (now (a .book)) (getD (usersOf (now (a .book))) (a .place) nobody) (number-is k) (c .before .before .before .before .before .before .before .if1 .left) target-is) (c .before .before .reduce-sales .ensures)
 
