@@ -22,13 +22,15 @@
  *   12  call: assigned >= level?
  *   13  reduction: assigned < level?
  *   14  reduction: has the user an eligible trade?
+ *   15  list: at most 512 lines, and columns and places of one count? (asked after 7 and before 16)
  *   16  is the store well formed? (asked where a store is given, after 7 and before 8)
  *   17  has the store a set in force on the book's date? (the same)
  *   27  return: every balance within 500,000,000 kWh either way?
  *   28  return: at most 64 users? (asked before 27)
  *  255  the part lent for the answer, the record or the image is not of the length that the function asks for
  *
- * After a number from 1 to 28 the answer, the record or the image is all 0 and the book is byte for byte the same. After 255 nothing at all is changed.
+ * After a number from 1 to 28 the answer, the record or the image is all 0, the places beside a list are as they were, and the book is byte for byte the same. After 255
+ * nothing at all is changed.
  */
 #ifndef DAYBOOK_H
 #define DAYBOOK_H
@@ -55,6 +57,9 @@
 /* A book has 1 to 64 users and at most 256 trades. */
 #define DAYBOOK_MAX_USERS 64
 #define DAYBOOK_MAX_TRADES 256
+
+/* A list of postings has at most 512 lines. */
+#define DAYBOOK_MAX_LINES 512
 
 /* A shown record: the user's bytes. */
 #define DAYBOOK_RECORD_SIZE DAYBOOK_USER_SIZE
@@ -102,6 +107,14 @@ uint32_t daybook_show_picked(const uint8_t *morning, size_t morning_len, const u
 /* Adds a signed amount of MWh to a user's physical entry and position in an area: 0 PVB, 1 TVB, 2 AVB. */
 uint32_t daybook_posting(uint8_t *book, size_t book_len, uint32_t with_store, const uint8_t *store, size_t store_len,
                          uint32_t id, uint32_t area, int64_t amount);
+
+/* Posts a list of corrections, at most DAYBOOK_MAX_LINES lines as three columns: ids, areas, signed amounts of MWh. Book and numbers are those of the postings made one
+   after another: 0, 8 or 10 for each line, in the place beside it, and the function returns 0 also where every line was refused. The other questions are asked once, before
+   the first line; where one of them refuses the list, book and places are unchanged. Columns and places of different counts, the places too, are 15, never 255. An empty
+   list is accepted. */
+uint32_t daybook_list(uint8_t *book, size_t book_len, uint32_t with_store, const uint8_t *store, size_t store_len,
+                      const uint32_t *ids, size_t ids_len, const uint32_t *areas, size_t areas_len,
+                      const int64_t *amounts, size_t amounts_len, uint32_t *places, size_t places_len);
 
 /* The morning level of a user; DAYBOOK_LEVEL_NUMBERS: the level. */
 uint32_t daybook_morning_level(const uint8_t *book, size_t book_len, uint32_t with_store, const uint8_t *store,

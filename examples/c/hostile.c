@@ -1,92 +1,8 @@
-/* Calls every function of daybook.h on hostile input: hostile BOOK. Each part is a block of exactly its length, so that valgrind sees a byte read or written outside it
+/* Calls every function of daybook.h but daybook_list (hostile_lists.c) on hostile input: hostile BOOK. Each part is a block of exactly its length, so that valgrind sees a byte read or written outside it
    (the script `valgrind` beside this file). What a caller can tell is held against the header: the numbers, the 0 of a refused answer, and what stays unchanged. */
-#include <inttypes.h>
-#include <stdio.h>
-#include <stdlib.h>
-#include <string.h>
+#include "hostile.h"
 
-#include "daybook.h"
-
-enum { LONGEST = 8800, FILLER = 0xA5 };
-
-static unsigned long calls;
-
-/* ---- parts */
-
-static void *block(size_t size)
-{
-    void *p = malloc(size);
-    if (p == NULL && size != 0) {
-        fprintf(stderr, "no memory\n");
-        exit(2);
-    }
-    return p;
-}
-
-static uint8_t *copy_of(const uint8_t *bytes, size_t size)
-{
-    uint8_t *p = block(size);
-    if (size != 0)
-        memcpy(p, bytes, size);
-    return p;
-}
-
-static int all_bytes(const void *part, size_t size, uint8_t value)
-{
-    const uint8_t *p = part;
-    for (size_t i = 0; i < size; i++)
-        if (p[i] != value)
-            return 0;
-    return 1;
-}
-
-static void expect(int holds, const char *call, const char *what, uint32_t number)
-{
-    if (!holds) {
-        fprintf(stderr, "%s: %s (number %" PRIu32 ")\n", call, what, number);
-        exit(1);
-    }
-}
-
-/* A fixed sequence of numbers that look random. */
-static uint64_t state = 88172645463325252u;
-
-static uint64_t next(void)
-{
-    state ^= state << 13;
-    state ^= state >> 7;
-    state ^= state << 17;
-    return state;
-}
-
-/* ---- stores */
-
-/* The store of a call: none, of length 0, bytes that are no store, or one set with today's figures, of which a bit may be turned round. */
-static struct {
-    uint32_t with;
-    size_t size;
-    uint8_t *bytes;
-} given;
-
-/* As the three arguments of a call. */
-#define GIVEN given.with, given.bytes, given.size
-
-static void give_store(void)
-{
-    static const uint8_t today[30] = {'G',  'P',  'S', 1, 0, 1, 0xA5, 0x3A, 0x34, 1,    0x30, 0x75, 0, 0, 0x40,
-                                      0x42, 0x0F, 0,   0, 0, 0, 0,    0x80, 0x96, 0x98, 0,    0,    0, 0, 0};
-    uint64_t drawn = next();
-    given.with = (uint32_t)(drawn % 4);
-    given.size = drawn / 4 % 8 == 0 ? drawn / 32 % 30 : drawn / 4 % 8 == 1 ? 0 : sizeof today;
-    given.bytes = copy_of(today, given.size);
-    if (drawn / 1024 % 2 == 0 && given.size != 0)
-        given.bytes[drawn / 2048 % given.size] ^= (uint8_t)(1u << drawn / 65536 % 8);
-}
-
-static void take_store_back(void)
-{
-    free(given.bytes);
-}
+enum { LONGEST = 8800 };
 
 /* ---- the functions with an answer in numbers, under one type */
 
@@ -437,22 +353,8 @@ static void largest_book(const uint8_t *sample)
 int main(int argc, char **argv)
 {
     static uint8_t sample[DAYBOOK_IMAGE_SIZE];
-    if (argc != 2) {
-        fprintf(stderr, "usage: hostile BOOK\n");
-        return 2;
-    }
-    FILE *file = fopen(argv[1], "rb");
-    if (file == NULL) {
-        perror(argv[1]);
-        return 2;
-    }
-    size_t size = fread(sample, 1, sizeof sample, file);
-    fclose(file);
-    if (size < DAYBOOK_HEADER_SIZE + DAYBOOK_USER_SIZE) {
-        fprintf(stderr, "%s: no book\n", argv[1]);
-        return 2;
-    }
-    uint32_t id = sample[32] | (uint32_t)sample[33] << 8 | (uint32_t)sample[34] << 16 | (uint32_t)sample[35] << 24;
+    uint32_t id;
+    size_t size = read_sample(argc, argv, sample, &id);
 
     random_bytes(sample);
     damaged_books(sample, size, id);

@@ -1,5 +1,5 @@
 // The opening questions of a call with its setting: those of its book, 1 to 7, and after them those of its store, 16 and 17. They give a
-// number and the figures of the call.
+// number and the figures of the call. A list of postings is asked 15 between them.
 use units::Limits;
 ghost use mathlib.Core.Path.{_≡_};
 ghost use lib.ListN.{length, replicate};
@@ -7,7 +7,7 @@ ghost use Rattle.units.specs.Limits.{asLimits, LimitsInRange};
 ghost use Rattle.book_format.specs.Questions.{bookNumber};
 ghost use Rattle.book_questions.specs.Asked.{PartiesFound};
 ghost use Rattle.store.specs.Store.{given};
-ghost use Rattle.requests.specs.Request.{settingOf};
+ghost use Rattle.requests.specs.Request.{Lines, linesFit, linesNumber, settingOf};
 ghost use Rattle.requests.specs.Carried.{Admitted};
 
 // What the opening questions give: the number of the first that is answered by no, 0 where there is none, and the figures that the call
@@ -66,4 +66,18 @@ pub fn admit_with_sums(
 {
     let asked = book_questions::ask(book, sellers, buyers, sums);
     by_store(book, asked.number, with_store, store)
+}
+
+// Asks the opening questions of a list of postings, given whether it passes question 15. Its lines take no figure.
+pub fn admit_list(book: &[u8], with_store: bool, store: &[u8], fits: bool) -> u32
+    ensures { λ r. ⌜ ((v : Lines) → fits ≡ linesFit v → r ≡ linesNumber (settingOf (given «with_store» (now (store .entry)))) v (now (book .entry))) ⌝ }
+{
+    let asked = book_questions::number(book);
+    if asked != 0 {
+        return asked;
+    }
+    if !fits {
+        return 15;
+    }
+    by_store(book, asked, with_store, store).number
 }

@@ -1,69 +1,65 @@
 // The posting: a signed amount added to one user's physical entry and position in one area, on a lent book in bytes.
 ghost use mathlib.Core.Path.{_≡_};
 ghost use Prim.Native.Nat.{_<_};
-ghost use lib.ListN.{length, set};
 ghost use Rattle.rules.specs.Levels.{Limits};
 ghost use Rattle.rules.specs.Calls.{only};
-ghost use Rattle.book_records.specs.User.{asUser};
+ghost use Rattle.book_format.specs.Book.{userCount};
 ghost use Rattle.book_format.specs.Questions.{bookNumber};
 ghost use Rattle.book_format.specs.After.{CalledAfter};
-ghost use Rattle.call_posting.specs.Posting.{Ready, PostedTo, postingOf};
-use book_records::User;
+ghost use Rattle.call_posting.specs.Posting.{Ready, PostedTo, PostedAt, postingOf};
 use units::Net;
 use units::Posted;
 
-// A user after a posting, and whether the posting is accepted.
-pub struct PostedUser {
-    pub accepted: bool,
-    pub user: User,
+// The bits of a physical entry and of its position after a posting, and whether it is accepted.
+struct Change {
+    accepted: bool,
+    entry: u32,
+    position: u32,
 }
 
-// The amounts of the three areas with one of them replaced.
-fn replaced(v: [Net; 3], area: usize, x: Net) -> [Net; 3]
-    requires { ⌜ area < 3 ⌝ }
-    ensures { λ r. ⌜ (r ≡ set v area x) × (length v ≡ 3) ⌝ }
+// An amount added to an entry and its position, each as its bits; both stay where the new entry is out of range.
+fn post(entry: u32, position: u32, amount: i64) -> Change
+    requires { ⌜ Ready entry position ⌝ }
+    ensures { λ r. ⌜ PostedTo entry position amount (r .accepted) (r .entry) (r .position) ⌝ }
 {
-    let mut w = v;
-    w[area] = x;
-    w
-}
-
-// The user with an amount added to the physical entry and the position of an area; unchanged where the new entry is out of range.
-fn post(u: User, area: usize, amount: i64) -> PostedUser
-    requires { ⌜ Ready area (asUser u) ⌝ }
-    ensures { λ r. ⌜ PostedTo area amount (asUser u) (r .accepted) (asUser (r .user)) ⌝ }
-{
-    let physical = u.physical;
-    let position = u.position;
-    let old = physical[area];
-    let held = position[area];
+    let old = Net::of_bits(entry);
     let posted = Posted::of(old, amount);
     let new = posted.entry;
     if !posted.accepted {
-        return PostedUser {
+        return Change {
             accepted: false,
-            user: u,
+            entry: entry,
+            position: position,
         };
     }
+    let held = Net::of_bits(position);
     let moved = held.moved(old, new);
-    let physical = replaced(physical, area, new);
-    let position = replaced(position, area, moved);
-    let charges = u.charges;
-    let assigned = u.assigned;
-    let blocked = u.blocked;
-    let user = User {
-        id: u.id,
-        role: u.role,
-        physical: physical,
-        position: position,
-        charges: charges,
-        assigned: assigned,
-        blocked: blocked,
-    };
-    PostedUser {
+    Change {
         accepted: true,
-        user: user,
+        entry: new.bits(),
+        position: moved.bits(),
     }
+}
+
+// Adds an amount to the physical entry and the position of the user at a place, in an area: 0, or 10 and nothing is changed. Of the user's
+// record it reads and writes these two fields alone.
+pub fn post_at(book: &mut [u8], place: usize, area: u32, amount: i64) -> u32
+    requires { ⌜ (bookNumber (now book) ≡ 0) × (place < userCount (now book)) ⌝ }
+    ensures { λ r. ⌜ PostedAt place area amount (now (book .entry)) r (now (book .exit)) ⌝ }
+{
+    if 2 < area {
+        return 10;
+    }
+    let a = 40 + 56 * place + 4 * area as usize;
+    let entry = fields::get_u32(book, a);
+    let position = fields::get_u32(book, a + 12);
+    let change = post(entry, position, amount);
+    if !change.accepted {
+        return 10;
+    }
+    fields::put_u32(book, a, change.entry);
+    fields::put_u32(book, a + 12, change.position);
+    0
 }
 
 // Adds an amount to a user's physical entry and position in an area, after the opening questions, whose number is given; the number of the
@@ -78,15 +74,5 @@ pub fn posting(book: &mut [u8], number: u32, id: u32, area: u32, amount: i64) ->
     if number != 0 {
         return number;
     }
-    if 2 < area {
-        return 10;
-    }
-    let user = book_format::user_at(book, place);
-    let posted = post(user, area as usize, amount);
-    if !posted.accepted {
-        return 10;
-    }
-    let user = posted.user;
-    book_format::put_user(book, place, user);
-    0
+    post_at(book, place, area, amount)
 }

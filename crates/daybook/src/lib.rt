@@ -6,7 +6,7 @@ ghost use Rattle.rules.specs.Calls.{only, morningCall, afternoonCall};
 ghost use Rattle.rules.specs.Queries.{morningLevelOf, afternoonLevelOf};
 ghost use Rattle.store.specs.Store.{given};
 ghost use Rattle.requests.specs.Request.{enquiry, requestOf, settingOf};
-ghost use Rattle.requests.specs.Carried.{Carried, Handed};
+ghost use Rattle.requests.specs.Carried.{Carried, Handed, Posted};
 ghost use Rattle.call_posting.specs.Posting.{postingOf};
 ghost use Rattle.call_level.specs.Times.{queryOf};
 ghost use Rattle.call_guarantee.specs.Times.{callOf};
@@ -91,6 +91,24 @@ pub fn posting(
 {
     let admission = call_admission::admit(book, with_store, store);
     call_posting::posting(book, admission.number, id, area, amount)
+}
+
+// Posts a list of corrections, at most 512 lines of id, area and signed amount, one after another, and answers 0 with the number of each
+// line in the place beside it; or the number of the first question that is answered by no, and places and book stay as they are.
+pub fn list(
+    book: &mut [u8],
+    with_store: bool,
+    store: &[u8],
+    ids: &[u32],
+    areas: &[u32],
+    amounts: &[i64],
+    places: &mut [u32],
+) -> u32
+    ensures { λ r. ⌜ Posted (given «with_store» (now (store .entry))) (now (ids .entry)) (now (areas .entry)) (now (amounts .entry)) (now (places .entry)) (now (book .entry)) r (now (book .exit)) (now (places .exit)) ⌝ }
+{
+    let fits = call_list::fits(ids, areas, amounts, places);
+    let number = call_admission::admit_list(book, with_store, store, fits);
+    call_list::list(book, number, ids, areas, amounts, places)
 }
 
 // The level of a user at one time of the day.

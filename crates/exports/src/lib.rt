@@ -5,7 +5,7 @@ ghost use mathlib.Core.Path.{_≡_};
 ghost use Rattle.rules.specs.Calls.{only, morningCall, afternoonCall};
 ghost use Rattle.rules.specs.Queries.{morningLevelOf, afternoonLevelOf};
 ghost use Rattle.requests.specs.Request.{requestOf, settingOf};
-ghost use Rattle.requests.specs.Carried.{Carried};
+ghost use Rattle.requests.specs.Carried.{Carried, Posted};
 ghost use Rattle.call_posting.specs.Posting.{postingOf};
 ghost use Rattle.call_level.specs.Times.{queryOf};
 ghost use Rattle.call_guarantee.specs.Times.{callOf};
@@ -138,6 +138,23 @@ pub extern "C" fn daybook_posting(
     ensures { λ r. ⌜ Carried (requestOf (storeBy «with_store» (now (store .entry))) (postingOf id area amount)) (now (book .entry)) (only r) (now (book .exit)) ⌝ }
 {
     daybook::posting(book, with_store != 0, store, id, area, amount)
+}
+
+// Posts a list of corrections, given as columns, and stores the number of each line in its place. Places of another count than the lines
+// are refused by question 15.
+#[no_mangle]
+pub extern "C" fn daybook_list(
+    book: &mut [u8],
+    with_store: u32,
+    store: &[u8],
+    ids: &[u32],
+    areas: &[u32],
+    amounts: &[i64],
+    places: &mut [u32],
+) -> u32
+    ensures { λ r. ⌜ Posted (storeBy «with_store» (now (store .entry))) (now (ids .entry)) (now (areas .entry)) (now (amounts .entry)) (now (places .entry)) (now (book .entry)) r (now (book .exit)) (now (places .exit)) ⌝ }
+{
+    daybook::list(book, with_store != 0, store, ids, areas, amounts, places)
 }
 
 // The level of a user at one time of the day: 1 number.

@@ -17,7 +17,7 @@ use Rattle.laws.specs.Sound.{Sound}
 use Rattle.base.proofs.Tests.{and-i, and-l, and-r}
 use Rattle.requests.proofs.Passed.{accepted-opening, passed-called, passed-carried}
 use Rattle.requests.specs.Carried.{Carried}
-use Rattle.requests.specs.Request.{limitsOn, openingNumber, requestOf}
+use Rattle.requests.specs.Request.{limitsOn, openingNumber, requestOf, settingOf}
 use Rattle.rules.specs.Book.{Book, at, find}
 use Rattle.rules.specs.Calls.{posting, Answer, about, effect, entryInRange, idKnown, only}
 use Rattle.rules.specs.Changes.{change, posted, withUsers}
@@ -101,24 +101,24 @@ module _ (limits : Limits) {s : List ℕ} {id area : ℕ} {z : ℤ} where
 
 module _ (store : Option (List ℕ)) {s : List ℕ} {id area : ℕ} {z : ℤ} where
   module _ {a : Answer} {t : List ℕ} (k : Carried (requestOf store (posting id area z)) s a t) (h : a .number ≡ 0) where
-    as-called : Called (limitsOn (requestOf store (posting id area z) .setting) (bookOf s)) s (posting id area z) a t
-    as-called = passed-called (requestOf store (posting id area z)) s (accepted-opening (requestOf store (posting id area z)) s k h) k
+    as-called : Called (limitsOn (settingOf store) (bookOf s)) s (posting id area z) a t
+    as-called = passed-called (settingOf store) (posting id area z) s (accepted-opening (settingOf store) (posting id area z) s k h) k
 
     -- the book and the store pass their questions
-    pub opened : openingNumber (requestOf store (posting id area z) .setting) s ≡ 0
-    opened = accepted-opening (requestOf store (posting id area z)) s k h
+    pub opened : openingNumber (settingOf store) s ≡ 0
+    opened = accepted-opening (settingOf store) (posting id area z) s k h
 
     pub accepted : Accepted s id area z
-    accepted = call-accepted (limitsOn (requestOf store (posting id area z) .setting) (bookOf s)) as-called h
+    accepted = call-accepted (limitsOn (settingOf store) (bookOf s)) as-called h
 
     -- the bytes that it leaves
     pub bytes-left : t ≡ bytesOf (postedBook id area z (bookOf s))
-    bytes-left = call-bytes (limitsOn (requestOf store (posting id area z) .setting) (bookOf s)) as-called h
+    bytes-left = call-bytes (limitsOn (settingOf store) (bookOf s)) as-called h
 
     -- the book that they hold
     pub book-left : bookOf t ≡ postedBook id area z (bookOf s)
     book-left = ap bookOf bytes-left ∙ bookOf-bytesOf (postedBook id area z (bookOf s)) (sound-after accepted)
 
   -- where every question is answered by yes, the posting is accepted
-  pub carried : openingNumber (requestOf store (posting id area z) .setting) s ≡ 0 → Accepted s id area z → Carried (requestOf store (posting id area z)) s (only 0) (bytesOf (postedBook id area z (bookOf s)))
-  carried e q = passed-carried (requestOf store (posting id area z)) s e (call-made (limitsOn (requestOf store (posting id area z) .setting) (bookOf s)) q)
+  pub carried : openingNumber (settingOf store) s ≡ 0 → Accepted s id area z → Carried (requestOf store (posting id area z)) s (only 0) (bytesOf (postedBook id area z (bookOf s)))
+  carried e q = passed-carried (settingOf store) (posting id area z) s e (call-made (limitsOn (settingOf store) (bookOf s)) q)

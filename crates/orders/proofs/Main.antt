@@ -11,7 +11,7 @@ use lib.IntN.{ℤ, natAbs, _+ℤ_, +ℤ-assoc}
 use Rattle.book_format.proofs.Passed.{passed-of}
 use Rattle.book_format.specs.Book.{bookOf, bytesOf}
 use Rattle.requests.specs.Carried.{Carried}
-use Rattle.requests.specs.Request.{Request, openingNumber, requestOf}
+use Rattle.requests.specs.Request.{Request, openingNumber, requestOf, settingOf}
 use Rattle.base.proofs.Linear.{abs-parts, parts-add, posPart-of}
 use Rattle.base.specs.Parts.{posPart, negPart}
 use Rattle.laws.proofs.Bounds.{entry-le}
@@ -53,7 +53,7 @@ module _ (store : Option (List ℕ)) {s t u : List ℕ} {id area : ℕ} {x y : �
       subst (λ (z : ℤ). T (within 1000000 z)) r q
 
   -- the store is the same, and so is the book that is given
-  same-opening : openingNumber (requestOf store (posting id area (x +ℤ y)) .setting) s ≡ 0
+  same-opening : openingNumber (settingOf store) s ≡ 0
   same-opening = opened store (w .first) (w .first-accepted)
 
   -- so the posting of the sum passes every question
@@ -123,9 +123,9 @@ module _ (store : Option (List ℕ)) where
       → (ps ≡ [] → s ≡ bytesOf (bookOf s)) → t ≡ bytesOf (allPosted ps (bookOf s))
   unfolding allPosted requestsOf callOf all isAccepted
   all-left [] ended e t b = b refl
-  all-left [] (then g o k m) e t b = absurd (cons≢nil e)
+  all-left [] (then g o k n m) e t b = absurd (cons≢nil e)
   all-left (p ∷ ps) ended e t b = absurd (nil≢cons e)
-  all-left {s} (p ∷ ps) (then {l = l} {ls = ls} g o k m) e t b =
+  all-left {s} (p ∷ ps) (then {l = l} {ls = ls} g o k w m) e t b =
       let c : Carried (requestOf store (callOf p)) s (l .gave .answer) (l .gave .bytes)
       = subst (λ (x : List ℕ). Carried (requestOf store (callOf p)) x (l .gave .answer) (l .gave .bytes)) g
       (subst (λ (r : Request). Carried r (l .given) (l .gave .answer) (l .gave .bytes)) (head-eq-of-cons-eq e) k) in
@@ -138,10 +138,10 @@ module _ (store : Option (List ℕ)) where
   none-left : {s t : List ℕ} {ls : List Link} → Linked store s ls t → requestsOf ls ≡ [] → t ≡ s
   unfolding requestsOf
   none-left ended e = refl
-  none-left (then g o k m) e = absurd (cons≢nil e)
+  none-left (then g o k n m) e = absurd (cons≢nil e)
 
   -- the same postings in two orders, all accepted in both
-  same-end : {s t u : List ℕ} (ps qs : List Posting) {ls ms : List Link} → List·Permᴰ ps qs → InOrder store s ps ls t → T (all isAccepted ls)
+  pub same-end : {s t u : List ℕ} (ps qs : List Posting) {ls ms : List Link} → List·Permᴰ ps qs → InOrder store s ps ls t → T (all isAccepted ls)
       → InOrder store s qs ms u → T (all isAccepted ms) → t ≡ u
   same-end [] [] d p v q w = none-left (p .linked) (p .requests) ∙ sym (none-left (q .linked) (q .requests))
   same-end [] (y ∷ qs) d p v q w = absurd (cons≢nil (no-other d refl))

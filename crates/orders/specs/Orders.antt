@@ -1,12 +1,13 @@
--- Ask 12, "Corrections in another order": of postings on a book in bytes that are all given one store, or none, by the contract of the public function. Assumes nothing.
+-- Ask 12, "Corrections in another order": of postings on a book in bytes that are all given one store, or none, by the contract of the public function; and of the lines
+-- of a list. Assumes nothing.
 use mathlib.Core.Bool.{true}
 use mathlib.Core.List.{List, List·Permᴰ, map}
 use mathlib.Core.Option.{Option}
 use mathlib.Core.Path.{_≡_}
 use Prim.Native.Nat.{ℕ}
-use lib.Dec.{T}
+use lib.Dec.{T, eqb}
 use lib.IntN.{ℤ, _+ℤ_}
-use Rattle.requests.specs.Carried.{Carried}
+use Rattle.requests.specs.Carried.{Carried, Posted}
 use Rattle.requests.specs.Request.{requestOf}
 use Rattle.rules.specs.Calls.{Call, posting, Answer, only}
 use Rattle.base.specs.Lists.{all}
@@ -53,3 +54,26 @@ pub record OrderFree (store : Option (List ℕ)) : Type 0 where
       → InOrder store s ps ls t → T (all isAccepted ls)
       → InOrder store s qs ms u → T (all isAccepted ms)
       → t ≡ u
+
+-- ---- the lines of a list
+
+-- the postings ps as the lines of a list: it is accepted, by the contract of the public function, and every place holds 0 after it
+pub record InList (store : Option (List ℕ)) (s : List ℕ) (ps : List Posting) (places t left : List ℕ) : Type 0 where
+  pub posted : Posted store (map (λ p. p .id) ps) (map (λ p. p .area) ps) (map (λ p. p .amount) ps) places s 0 t left
+  pub zeros : T (all (λ n. eqb n 0) left)
+
+-- accepted postings one after the other and nothing between
+pub record Apart (store : Option (List ℕ)) (s : List ℕ) (ps : List Posting) (t : List ℕ) : Type 0 where
+  pub links : List Link
+  pub order : InOrder store s ps links t
+  pub accepted : T (all isAccepted links)
+
+pub record LinesOrderFree (store : Option (List ℕ)) : Type 0 where
+  -- such lines are accepted postings one after the other, of which all the above holds
+  pub apart : {s t places left : List ℕ} {ps : List Posting} → InList store s ps places t left → Apart store s ps t
+  -- the same lines in two orders, every place 0 after both lists
+  pub lists : {s t u places left others gave : List ℕ} {ps qs : List Posting} → List·Permᴰ ps qs
+      → InList store s ps places t left → InList store s qs others u gave → t ≡ u
+  -- a list, and its lines as postings of their own in another order
+  pub calls : {s t u places left : List ℕ} {ps qs : List Posting} {ms : List Link} → List·Permᴰ ps qs
+      → InList store s ps places t left → InOrder store s qs ms u → T (all isAccepted ms) → t ≡ u

@@ -1,4 +1,5 @@
--- What follows for requests: after their opening questions, where these are passed or refuse, and in no setting.
+-- What follows for requests: after their opening questions, where these are passed or refuse, in no setting, and for lists of postings.
 pub mod Opened
 pub mod Passed
 pub mod Plain
+pub mod Lines

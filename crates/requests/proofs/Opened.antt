@@ -1,5 +1,5 @@
 -- A request is the call after its opening questions, by their number and the figures that the setting gives. Assumes nothing.
-use mathlib.Core.List.{List}
+use mathlib.Core.List.{List, []}
 use mathlib.Core.Option.{Option, none, some}
 use mathlib.Core.Path.{_≡_, _∙_, ap, refl, sym}
 use Prim.Native.Nat.{ℕ, suc, zero}
@@ -20,7 +20,7 @@ use Rattle.book_format.specs.Questions.{aboutBytes, bookNumber}
 use Rattle.book_format.specs.Steps.{InBytes, inBytes}
 use Rattle.store.specs.Store.{aboutStore, storeNumber}
 use Rattle.requests.specs.Carried.{Admitted, Carried}
-use Rattle.requests.specs.Request.{Outcome, Request, Setting, aboutSetting, carriedOut, enquiry, limitsOn, opening, openingNumber, refused, request}
+use Rattle.requests.specs.Request.{Outcome, Setting, aboutSetting, actIn, callIn, carriedOut, enquiry, limitsOn, opening, openingNumber, refused, request, stepIn}
 
 -- ---- numbers
 
@@ -46,7 +46,7 @@ opening-number g s = number-after (aboutBytes s) (aboutSetting g (bookOf s)) (by
 
 -- what a call gives, as an outcome
 unfoldable pub outcome : InBytes → Outcome
-outcome x = record { answer = x .answer; bytes = x .bytes }
+outcome x = record { answer = x .answer; numbers = []; bytes = x .bytes }
 
 -- both refuse with the bytes as they were, and both write the book that the rules give
 same-outcome : (o : Option ℕ) (n : ℕ) (s : List ℕ) (r : Result) → after n (refused s) (decided o (refused s) (carriedOut r)) ≡ outcome (after n (unchanged s) (decided o (unchanged s) (inBytes r)))
@@ -56,12 +56,16 @@ same-outcome (some m) zero s r = refl
 same-outcome none (suc n) s r = refl
 same-outcome (some m) (suc n) s r = refl
 
-pub request-opened : (r : Request) (s : List ℕ) → request r s ≡ outcome (stepAfter (openingNumber (r .setting) s) (limitsOn (r .setting) (bookOf s)) s (r .call))
-unfolding request stepAfter openingNumber
-request-opened r s =
-    let limits = limitsOn (r .setting) (bookOf s) in
-    asked-after (refused s) (carriedOut (effect limits (bookOf s) (r .call))) (opening (r .setting) s) (about limits (bookOf s) (r .call)) (opening-numbered (r .setting) s)
-    ∙ same-outcome (refusal (about limits (bookOf s) (r .call))) (numberOf (refusal (opening (r .setting) s))) s (effect limits (bookOf s) (r .call))
+pub call-opened : (g : Setting) (s : List ℕ) (c : Call) → stepIn g s c ≡ outcome (stepAfter (openingNumber g s) (limitsOn g (bookOf s)) s c)
+unfolding stepIn stepAfter openingNumber
+call-opened g s c =
+    let limits = limitsOn g (bookOf s) in
+    asked-after (refused s) (carriedOut (effect limits (bookOf s) c)) (opening g s) (about limits (bookOf s) c) (opening-numbered g s)
+    ∙ same-outcome (refusal (about limits (bookOf s) c)) (numberOf (refusal (opening g s))) s (effect limits (bookOf s) c)
+
+pub request-opened : (g : Setting) (s : List ℕ) (c : Call) → request (callIn g c) s ≡ outcome (stepAfter (openingNumber g s) (limitsOn g (bookOf s)) s c)
+unfolding request actIn
+request-opened g s c = call-opened g s c
 
 -- a refused call gives the same whatever the figures
 step-same : (n : ℕ) {l m : Limits} (s : List ℕ) (c : Call) → (n ≡ 0 → l ≡ m) → stepAfter n l s c ≡ stepAfter n m s c
@@ -70,13 +74,13 @@ step-same zero s c h = ap (λ (k : Limits). stepAfter 0 k s c) (h refl)
 step-same (suc n) s c h = refl
 
 -- a public call, from what asked its opening questions and the contract of the inner call
-pub carried : {r : Request} {s t : List ℕ} {a : Answer} {number : ℕ} {limits : Limits} → Admitted (r .setting) s number limits → CalledAfter number limits s (r .call) a t → Carried r s a t
+pub carried : {g : Setting} {s t : List ℕ} {c : Call} {a : Answer} {number : ℕ} {limits : Limits} → Admitted g s number limits → CalledAfter number limits s c a t → Carried (callIn g c) s a t
 unfolding outcome
-carried {r} {s} {number = number} {limits = limits} d k =
-    let e : request r s ≡ outcome (stepAfter number limits s (r .call))
-    = request-opened r s
-    ∙ ap (λ (n : ℕ). outcome (stepAfter n (limitsOn (r .setting) (bookOf s)) s (r .call))) (sym (d .asked))
-    ∙ ap outcome (sym (step-same number s (r .call) (d .taken))) in
+carried {g} {s} {c = c} {number = number} {limits = limits} d k =
+    let e : request (callIn g c) s ≡ outcome (stepAfter number limits s c)
+    = request-opened g s c
+    ∙ ap (λ (n : ℕ). outcome (stepAfter n (limitsOn g (bookOf s)) s c)) (sym (d .asked))
+    ∙ ap outcome (sym (step-same number s c (d .taken))) in
     record { answer = k .answer ∙ ap (λ (x : Outcome). x .answer) (sym e); bytes = k .bytes ∙ ap (λ (x : Outcome). x .bytes) (sym e) }
 
 -- ---- queries

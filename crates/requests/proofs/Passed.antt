@@ -3,7 +3,7 @@ use mathlib.Core.List.{List}
 use mathlib.Core.Path.{_≡_, _∙_, ap, refl, sym}
 use Prim.Native.Nat.{ℕ, suc, zero}
 use native.Mathlib.Omega.{arith}
-use Rattle.rules.specs.Calls.{Answer, only}
+use Rattle.rules.specs.Calls.{Answer, Call, only}
 use Rattle.book_format.proofs.After.{step-opened}
 use Rattle.book_format.specs.After.{after, stepAfter, unchanged}
 use Rattle.book_format.specs.Book.{bookOf}
@@ -12,7 +12,7 @@ use Rattle.book_format.specs.Steps.{Called, stepBytes}
 use Rattle.store.specs.Store.{storeNumber}
 use Rattle.requests.proofs.Opened.{opening-number, outcome, request-opened}
 use Rattle.requests.specs.Carried.{Carried}
-use Rattle.requests.specs.Request.{Outcome, Request, Setting, limitsOn, openingNumber, request}
+use Rattle.requests.specs.Request.{Outcome, Setting, callIn, limitsOn, openingNumber, request}
 
 -- who passes the opening questions passes those of the book
 pub opening-book : (g : Setting) (s : List ℕ) → openingNumber g s ≡ 0 → bookNumber s ≡ 0
@@ -23,23 +23,23 @@ opening-book g s e = go (bookNumber s) (storeNumber (g .store) (bookOf s .header
     go zero m h = refl
     go (suc n) m h = absurd (omega arith)
 
-module _ (r : Request) (s : List ℕ) where
+module _ (g : Setting) (c : Call) (s : List ℕ) where
   -- ---- passed
 
-  request-passed : openingNumber (r .setting) s ≡ 0 → request r s ≡ outcome (stepBytes (limitsOn (r .setting) (bookOf s)) s (r .call))
+  request-passed : openingNumber g s ≡ 0 → request (callIn g c) s ≡ outcome (stepBytes (limitsOn g (bookOf s)) s c)
   request-passed e =
-      let limits = limitsOn (r .setting) (bookOf s) in
-      request-opened r s
-      ∙ ap (λ (n : ℕ). outcome (stepAfter n limits s (r .call))) (e ∙ sym (opening-book (r .setting) s e))
-      ∙ ap outcome (sym (step-opened limits s (r .call)))
+      let limits = limitsOn g (bookOf s) in
+      request-opened g s c
+      ∙ ap (λ (n : ℕ). outcome (stepAfter n limits s c)) (e ∙ sym (opening-book g s e))
+      ∙ ap outcome (sym (step-opened limits s c))
 
-  pub passed-called : {a : Answer} {t : List ℕ} → openingNumber (r .setting) s ≡ 0 → Carried r s a t → Called (limitsOn (r .setting) (bookOf s)) s (r .call) a t
+  pub passed-called : {a : Answer} {t : List ℕ} → openingNumber g s ≡ 0 → Carried (callIn g c) s a t → Called (limitsOn g (bookOf s)) s c a t
   unfolding outcome
   passed-called e k =
       let h = request-passed e in
       record { answer = k .answer ∙ ap (λ (x : Outcome). x .answer) h; bytes = k .bytes ∙ ap (λ (x : Outcome). x .bytes) h }
 
-  pub passed-carried : {a : Answer} {t : List ℕ} → openingNumber (r .setting) s ≡ 0 → Called (limitsOn (r .setting) (bookOf s)) s (r .call) a t → Carried r s a t
+  pub passed-carried : {a : Answer} {t : List ℕ} → openingNumber g s ≡ 0 → Called (limitsOn g (bookOf s)) s c a t → Carried (callIn g c) s a t
   unfolding outcome
   passed-carried e k =
       let h = sym (request-passed e) in
@@ -48,18 +48,18 @@ module _ (r : Request) (s : List ℕ) where
   -- ---- refused
 
   -- a number alone, and the bytes as they were
-  pub opening-refused : {a : Answer} {t : List ℕ} {n : ℕ} → openingNumber (r .setting) s ≡ suc n → Carried r s a t → (a ≡ only (suc n)) × (t ≡ s)
+  pub opening-refused : {a : Answer} {t : List ℕ} {n : ℕ} → openingNumber g s ≡ suc n → Carried (callIn g c) s a t → (a ≡ only (suc n)) × (t ≡ s)
   unfolding outcome stepAfter after unchanged
   opening-refused {n = n} e k =
-      let limits = limitsOn (r .setting) (bookOf s) in
-      let h = request-opened r s ∙ ap (λ (m : ℕ). outcome (stepAfter m limits s (r .call))) e in
+      let limits = limitsOn g (bookOf s) in
+      let h = request-opened g s c ∙ ap (λ (m : ℕ). outcome (stepAfter m limits s c)) e in
       (k .answer ∙ ap (λ (x : Outcome). x .answer) h, k .bytes ∙ ap (λ (x : Outcome). x .bytes) h)
 
   -- so an accepted request passed them
-  pub accepted-opening : {a : Answer} {t : List ℕ} → Carried r s a t → a .number ≡ 0 → openingNumber (r .setting) s ≡ 0
+  pub accepted-opening : {a : Answer} {t : List ℕ} → Carried (callIn g c) s a t → a .number ≡ 0 → openingNumber g s ≡ 0
   unfolding only
-  accepted-opening {a} k e = go (openingNumber (r .setting) s) refl
+  accepted-opening {a} k e = go (openingNumber g s) refl
     where
-      go : (n : ℕ) → openingNumber (r .setting) s ≡ n → n ≡ 0
+      go : (n : ℕ) → openingNumber g s ≡ n → n ≡ 0
       go zero h = refl
       go (suc n) h = absurd (let x = opening-refused h k .0 in let y : _≡_ {A = ℕ} 0 (suc n) = sym e ∙ ap (λ (b : Answer). b .number) x in omega arith)

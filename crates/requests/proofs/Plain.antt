@@ -38,7 +38,7 @@ opening-alone s = append-nil (aboutBytes s)
 request-alone : (s : List ℕ) (c : Call) → request (requestOf none c) s ≡ outcome (stepBytes today s c)
 unfolding limitsOn limitsOf alone openingNumber bookNumber
 request-alone s c =
-    request-opened (requestOf none c) s
+    request-opened alone s c
     ∙ ap (λ (qs : List Question). outcome (stepAfter (numberOf (refusal qs)) today s c)) (opening-alone s)
     ∙ ap outcome (sym (step-opened today s c))
 

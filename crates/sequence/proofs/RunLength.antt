@@ -15,7 +15,7 @@ use Rattle.book_format.specs.Steps.{InBytes, inBytes, stepBytes}
 use Rattle.laws.proofs.Main.{run-counts}
 use Rattle.requests.proofs.Passed.{opening-book, opening-refused, passed-called}
 use Rattle.requests.specs.Carried.{Carried}
-use Rattle.requests.specs.Request.{limitsOn, openingNumber, requestOf}
+use Rattle.requests.specs.Request.{limitsOn, openingNumber, requestOf, settingOf}
 use Rattle.rules.specs.Book.{Book, User}
 use Rattle.rules.specs.Calls.{Answer, about, cuttable, effect, nextReduced, ofRun, only, onward, run, runFor}
 use Rattle.rules.specs.Levels.{Limits}
@@ -65,14 +65,14 @@ module _ (store : Option (List ℕ)) {s t : List ℕ} {a : Answer} (k : Carried 
       → (refusal (aboutBytes s) ≡ none → P (gives (limitsOf store (bookOf s .header .date)) s (refusal asks) .answer) (gives (limitsOf store (bookOf s .header .date)) s (refusal asks) .bytes))
       → P a t
   unfolding stepBytes gives limitsOn asks
-  by-opening P refused passed = go (openingNumber (requestOf store run .setting) s) refl
+  by-opening P refused passed = go (openingNumber (settingOf store) s) refl
     where
-      go : (n : ℕ) → openingNumber (requestOf store run .setting) s ≡ n → P a t
+      go : (n : ℕ) → openingNumber (settingOf store) s ≡ n → P a t
       go zero e =
-          let c = passed-called (requestOf store run) s e k in
-          subst (λ (x : Answer). P x t) (sym (c .answer)) (subst (P _) (sym (c .bytes)) (passed (book-passed s (opening-book (requestOf store run .setting) s e))))
+          let c = passed-called (settingOf store) run s e k in
+          subst (λ (x : Answer). P x t) (sym (c .answer)) (subst (P _) (sym (c .bytes)) (passed (book-passed s (opening-book (settingOf store) s e))))
       go (suc n) e =
-          let c = opening-refused (requestOf store run) s e k in
+          let c = opening-refused (settingOf store) run s e k in
           subst (λ (x : Answer). P x t) (sym (c .0)) (subst (P _) (sym (c .1)) (refused n))
 
 pub run-length : (store : Option (List ℕ)) → RunLength store

@@ -1,14 +1,15 @@
 -- Any finite sequence of requests with one store from any bytes that pass the questions 1 to 7. One request on bytes is the request of the rules on the book that they
 -- hold; what it does to the book composes over the sequence; positions come at the end from double counting. Assumes nothing.
 use mathlib.Core.Bool.{not}
-use mathlib.Core.List.{List, _∷_, _++_, append-assoc}
+use mathlib.Core.List.{List, [], _∷_, _++_, append-assoc}
 use mathlib.Core.Option.{Option, none, some}
-use mathlib.Core.Path.{_≡_, _∙_, ap, refl, subst, sym}
+use mathlib.Core.Path.{_≡_, _∙_, ap, ap₂, refl, subst, sym}
 use Prim.Native.Nat.{ℕ}
 use lib.Dec.{T, eqb}
+use lib.IntN.{ℤ}
 use Rattle.fields.specs.Field.{AllBytes}
 use Rattle.book_format.proofs.Formed.{book-passed}
-use Rattle.book_format.proofs.Passed.{Passed, passed}
+use Rattle.book_format.proofs.Passed.{passed}
 use Rattle.book_format.proofs.Round.{bytesOf-bookOf}
 use Rattle.book_format.proofs.Written.{all-bytes-bytesOf, bookOf-bytesOf, written-number}
 use Rattle.book_format.specs.Book.{bookOf, bytesOf, tradesOf, usersOf}
@@ -21,12 +22,13 @@ use Rattle.laws.proofs.Sound.{none-refuses}
 use Rattle.laws.specs.Statements.{AllCovered}
 use Rattle.laws.specs.Trades.{Lowered, Pairwise}
 use Rattle.requests.specs.Carried.{Carried}
-use Rattle.requests.specs.Request.{Request, aboutSetting, carriedOut, limitsOn, opening, refused, request, stepGiven}
+use Rattle.requests.specs.Request.{call, postings, Act, Event, Outcome, Request, Setting, aboutLines, aboutSetting, actGiven, actIn, carriedOut, limitsOn, linesGiven, linesIn, ofCall, opening, openingLines, refused, request, stepGiven, stepIn}
 use Rattle.rules.specs.Book.{Book, Header}
-use Rattle.rules.specs.Calls.{Answer, Result, about, effect, only}
+use Rattle.rules.specs.Calls.{posting, Answer, Call, Result, about, effect, only}
 use Rattle.rules.specs.Levels.{Limits}
 use Rattle.rules.specs.Questions.{aboutBook, decided, refusal}
-use Rattle.sequence.proofs.Step.{Stepped, step-law}
+use Rattle.sequence.proofs.Acts.{Acted, act-law}
+use Rattle.sequence.proofs.Step.{step-law}
 use Rattle.sequence.proofs.TradeBytes.{trade-bytes}
 use Rattle.sequence.specs.Claim.{asNone, asAlso, eachNone, eachAlso, AsDefined, Each, Kept, events, final, Claim}
 use Rattle.sequence.specs.Links.{ended, then, Link, requestsOf, isAccepted, Linked}
@@ -35,51 +37,96 @@ use Rattle.store.specs.Store.{limitsOf}
 
 -- ---- one request on bytes
 
--- by the questions of the request: the same answer, and the bytes of the same book, also where it is refused and the very bytes are left
+-- by the questions of a call: the same answer, and the bytes of the same book, also where it is refused and the very bytes are left
 by-questions : (o : Option ℕ) (s : List ℕ) (b : Book) (r : Result) → s ≡ bytesOf b
     → (decided o (refused s) (carriedOut r) .answer ≡ decided o (λ n. record { answer = only n; book = b }) r .answer)
+    × (decided o (refused s) (carriedOut r) .numbers ≡ [])
     × (decided o (refused s) (carriedOut r) .bytes ≡ bytesOf (decided o (λ n. record { answer = only n; book = b }) r .book))
 unfolding decided refused carriedOut
-by-questions none s b r e = (refl, refl)
-by-questions (some n) s b r e = (refl, e)
+by-questions none s b r e = (refl, refl, refl)
+by-questions (some n) s b r e = (refl, refl, e)
+
+call-bytes : (g : Setting) (s : List ℕ) (c : Call) → AllBytes s → bookNumber s ≡ 0
+    → (stepIn g s c .answer ≡ stepGiven g (bookOf s) c .answer) × (stepIn g s c .numbers ≡ []) × (stepIn g s c .bytes ≡ bytesOf (stepGiven g (bookOf s) c .book))
+unfolding stepIn stepGiven opening
+call-bytes g s c b h =
+    let n = bookOf s in
+    let p = passed s h in
+    let limits = limitsOn g n in
+    let own = aboutSetting g n ++ about limits n c in
+    rw (append-assoc (aboutBytes s) (aboutSetting g n) (about limits n c), refusal-next (aboutBytes s) own (book-passed s h), refusal-next (aboutBook n) own (none-refuses n (p .sound)))
+    (by-questions (refusal own) s n (effect limits n c) (sym (bytesOf-bookOf s b p)))
+
+-- an act gives on bytes what it gives on the book that they hold
+record Same (o : Outcome) (e : Event) : Type 0 where
+  answer : o .answer ≡ e .answer
+  numbers : o .numbers ≡ e .numbers
+  bytes : o .bytes ≡ bytesOf (e .book)
+
+-- the lines of a list, one after another
+lines-bytes : (g : Setting) (s ids areas : List ℕ) (amounts : List ℤ) → AllBytes s → bookNumber s ≡ 0 → Same (linesIn g s ids areas amounts) (linesGiven g (bookOf s) ids areas amounts)
+unfolding linesIn linesGiven
+lines-bytes g s [] areas amounts b h = record { answer = refl; numbers = refl; bytes = sym (bytesOf-bookOf s b (passed s h)) }
+lines-bytes g s (id ∷ ids) [] amounts b h = record { answer = refl; numbers = refl; bytes = sym (bytesOf-bookOf s b (passed s h)) }
+lines-bytes g s (id ∷ ids) (area ∷ areas) [] b h = record { answer = refl; numbers = refl; bytes = sym (bytesOf-bookOf s b (passed s h)) }
+lines-bytes g s (id ∷ ids) (area ∷ areas) (z ∷ amounts) b h =
+    let c = call-bytes g s (posting id area z) b h in
+    let n = stepGiven g (bookOf s) (posting id area z) .book in
+    let t = stepIn g s (posting id area z) .bytes in
+    let sound = step-law g (bookOf s) (posting id area z) (passed s h .sound) .sound in
+    let e : t ≡ bytesOf n = c .2 in
+    let r : Same (linesIn g t ids areas amounts) (linesGiven g n ids areas amounts)
+    = subst (λ (x : Book). Same (linesIn g t ids areas amounts) (linesGiven g x ids areas amounts)) (ap bookOf e ∙ bookOf-bytesOf n sound)
+    (lines-bytes g t ids areas amounts (rw e (all-bytes-bytesOf n)) (ap bookNumber e ∙ written-number n sound)) in
+    record {
+      answer = refl;
+      numbers = ap₂ (λ (k : ℕ) (ks : List ℕ). k ∷ ks) (ap (λ (a : Answer). a .number) (c .0)) (r .numbers);
+      bytes = r .bytes;
+    }
 
 -- what the rules give for a request on the book that bytes hold
-abbrev givenBy : Request → List ℕ → Result
-givenBy r s = stepGiven (r .setting) (bookOf s) (r .call)
+abbrev givenBy : Request → List ℕ → Event
+givenBy r s = actGiven (r .setting) (bookOf s) (r .act)
 
-request-bytes : (r : Request) (s : List ℕ) → AllBytes s → Passed s → bookNumber s ≡ 0
-    → (request r s .answer ≡ givenBy r s .answer) × (request r s .bytes ≡ bytesOf (givenBy r s .book))
-unfolding request stepGiven opening
-request-bytes r s b p h =
-    let n = bookOf s in
-    let limits = limitsOn (r .setting) n in
-    let own = aboutSetting (r .setting) n ++ about limits n (r .call) in
-    rw (append-assoc (aboutBytes s) (aboutSetting (r .setting) n) (about limits n (r .call)), refusal-next (aboutBytes s) own (book-passed s h), refusal-next (aboutBook n) own (none-refuses n (p .sound)))
-    (by-questions (refusal own) s n (effect limits n (r .call)) (sym (bytesOf-bookOf s b p)))
+act-bytes : (g : Setting) (s : List ℕ) (a : Act) → AllBytes s → bookNumber s ≡ 0 → Same (actIn g s a) (actGiven g (bookOf s) a)
+unfolding actIn actGiven ofCall openingLines decided refused
+act-bytes g s (call c) b h = let k = call-bytes g s c b h in record { answer = k .0; numbers = k .1; bytes = k .2 }
+act-bytes g s (postings v) b h =
+    let own = aboutLines v ++ aboutSetting g (bookOf s) in
+    rw (refusal-next (aboutBytes s) own (book-passed s h), refusal-next (aboutBook (bookOf s)) own (none-refuses (bookOf s) (passed s h .sound))) (go (refusal own))
+  where
+    go : (o : Option ℕ)
+        → Same (decided o (refused s) (linesIn g s (v .ids) (v .areas) (v .amounts)))
+        (decided o (λ n. record { answer = only n; numbers = []; book = bookOf s }) (linesGiven g (bookOf s) (v .ids) (v .areas) (v .amounts)))
+    go none = lines-bytes g s (v .ids) (v .areas) (v .amounts) b h
+    go (some n) = record { answer = refl; numbers = refl; bytes = sym (bytesOf-bookOf s b (passed s h)) }
 
 -- what a link leaves
 record Left (l : Link) : Type 0 where
   answer : l .gave .answer ≡ givenBy (l .asked) (l .given) .answer
+  numbers : l .gave .numbers ≡ givenBy (l .asked) (l .given) .numbers
   bytes : l .gave .bytes ≡ bytesOf (givenBy (l .asked) (l .given) .book)
   all-bytes : AllBytes (l .gave .bytes)
   number : bookNumber (l .gave .bytes) ≡ 0
   book : bookOf (l .gave .bytes) ≡ givenBy (l .asked) (l .given) .book
-  stepped : Stepped (limitsOn (l .asked .setting) (bookOf (l .given))) (bookOf (l .given)) (l .asked .call) (givenBy (l .asked) (l .given))
+  acted : Acted (limitsOn (l .asked .setting) (bookOf (l .given))) (bookOf (l .given)) (l .asked .act) (givenBy (l .asked) (l .given))
 
-left-of : (l : Link) → AllBytes (l .given) → bookNumber (l .given) ≡ 0 → Carried (l .asked) (l .given) (l .gave .answer) (l .gave .bytes) → Left l
-left-of l b h k =
-    let p = passed (l .given) h in
+left-of : (l : Link) → AllBytes (l .given) → bookNumber (l .given) ≡ 0 → Carried (l .asked) (l .given) (l .gave .answer) (l .gave .bytes)
+    → l .gave .numbers ≡ request (l .asked) (l .given) .numbers → Left l
+unfolding request
+left-of l b h k w =
     let n = givenBy (l .asked) (l .given) .book in
-    let r = request-bytes (l .asked) (l .given) b p h in
-    let d = step-law (l .asked .setting) (bookOf (l .given)) (l .asked .call) (p .sound) in
-    let e : l .gave .bytes ≡ bytesOf n = k .bytes ∙ r .1 in
+    let r = act-bytes (l .asked .setting) (l .given) (l .asked .act) b h in
+    let d = act-law (l .asked .setting) (bookOf (l .given)) (l .asked .act) (passed (l .given) h .sound) in
+    let e : l .gave .bytes ≡ bytesOf n = k .bytes ∙ r .bytes in
     record {
-      answer = k .answer ∙ r .0;
+      answer = k .answer ∙ r .answer;
+      numbers = w ∙ r .numbers;
       bytes = e;
       all-bytes = rw e (all-bytes-bytesOf n);
       number = ap bookNumber e ∙ written-number n (d .sound);
       book = ap bookOf e ∙ bookOf-bytesOf n (d .sound);
-      stepped = d;
+      acted = d;
     }
 
 -- ---- what is kept by a request
@@ -87,21 +134,21 @@ left-of l b h k =
 -- what the request added and what it reported, as the link has them
 moved-by : (l : Link) → Left l → Moved (bookOf (l .given)) (bookOf (l .gave .bytes)) (λ a. postedIn a l) (reportedMwh l) (reportedWorth l)
 unfolding postedIn reportedMwh reportedWorth isAccepted
-moved-by l d = rw (d .answer, d .book) (d .stepped .moved)
+moved-by l d = rw (d .answer, d .numbers, d .book) (d .acted .moved)
 
 kept : (l : Link) → AllBytes (l .given) → bookNumber (l .given) ≡ 0 → Left l → Kept (limitsOn (l .asked .setting) (bookOf (l .given))) l
 unfolding isAccepted bookOf
 kept l b h d =
     record {
       accepted = d .number;
-      lowered = subst (λ (n : Book). Pairwise Lowered (tradesOf (l .given)) (n .trades)) (sym (d .book)) (d .stepped .lowered);
+      lowered = subst (λ (n : Book). Pairwise Lowered (tradesOf (l .given)) (n .trades)) (sym (d .book)) (d .acted .lowered);
       refused = λ k.
           d .bytes
-          ∙ ap bytesOf (d .stepped .refused (subst (λ (a : Answer). T (not (eqb (a .number) 0))) (d .answer) k))
+          ∙ ap bytesOf (d .acted .refused (subst (λ (a : Answer). T (not (eqb (a .number) 0))) (d .answer) k))
           ∙ bytesOf-bookOf (l .given) b (passed (l .given) h);
       covered = λ e k.
           subst (λ (n : Book). AllCovered (limitsOn (l .asked .setting) (bookOf (l .given))) n) (sym (d .book))
-          (d .stepped .covered e (subst (λ (a : Answer). T (eqb (a .number) 0)) (d .answer) k));
+          (d .acted .covered e (subst (λ (a : Answer). T (eqb (a .number) 0)) (d .answer) k));
     }
 
 -- ---- the sequence
@@ -124,12 +171,12 @@ played : {store : Option (List ℕ)} {s t : List ℕ} {ls : List Link} (date : �
 unfolding requestsOf events final sumℤ
 played {s = s} date ended b h z =
     record { defined = asNone; book = refl; all-bytes = b; number = h; each = eachNone; moved = moved-refl (bookOf s) }
-played {store} {s} {t} date (then {l = l} {ls = ls} g st k m) b h z =
+played {store} {s} {t} date (then {l = l} {ls = ls} g st k ns m) b h z =
     let c : AllBytes (l .given) = subst (λ (x : List ℕ). AllBytes x) (sym g) b in
     let o : bookNumber (l .given) ≡ 0 = ap bookNumber g ∙ h in
     let w : bookOf (l .given) .header .date ≡ date = ap (λ (x : List ℕ). bookOf x .header .date) g ∙ z in
     let limits = limitsOf store date in
-    let d = left-of l c o k in
+    let d = left-of l c o k ns in
     let v = moved-by l d in
     let y : bookOf (l .gave .bytes) .header .date ≡ date = ap (λ (x : Header). x .date) (v .header) ∙ w in
     let n = givenBy (l .asked) (l .given) .book in
@@ -138,7 +185,7 @@ played {store} {s} {t} date (then {l = l} {ls = ls} g st k m) b h z =
     = subst (λ (x : Book). Moved (bookOf (l .given)) x (λ a. postedIn a l) (reportedMwh l) (reportedWorth l)) (d .book) v in
     subst (λ (x : List ℕ). Played limits (bookOf x) (l ∷ ls) t) g
     (record {
-      defined = asAlso (d .answer) (d .bytes) (q .defined);
+      defined = asAlso (d .answer) (d .numbers) (d .bytes) (q .defined);
       book = q .book;
       all-bytes = q .all-bytes;
       number = q .number;

@@ -1,4 +1,4 @@
--- One request by the rules, accepted or refused: what it does to a sound book. Assumes nothing.
+-- One call by the rules, accepted or refused: what it does to a sound book. Assumes nothing.
 use mathlib.Core.Bool.{cond, false, not, true}
 use mathlib.Core.List.{List, _++_}
 use mathlib.Core.Option.{Option, none, some}
@@ -66,7 +66,7 @@ isRun (reduction id) = 0
 isRun run = 1
 
 -- no question has the number 0
-book-numbered : (b : Book) → T (all (λ q. ltb 0 (q .number)) (aboutBook b))
+pub book-numbered : (b : Book) → T (all (λ q. ltb 0 (q .number)) (aboutBook b))
 unfolding aboutBook all
 book-numbered b = tt
 

@@ -14,8 +14,8 @@ use Rattle.laws.specs.Statements.{AllCovered}
 use Rattle.laws.specs.Trades.{Lowered, Pairwise, leftMwh, leftWorth}
 use Rattle.book_records.specs.Trade.{tradeOf}
 use Rattle.rules.specs.Book.{at, Book, bilateralForDay}
-use Rattle.requests.specs.Request.{Request, stepGiven}
-use Rattle.rules.specs.Calls.{run, Answer}
+use Rattle.requests.specs.Request.{call, Event, Request, actGiven}
+use Rattle.rules.specs.Calls.{run}
 use Rattle.rules.specs.Levels.{Limits}
 use Rattle.sequence.specs.Links.{Link, isAccepted, requestsOf}
 use Rattle.store.specs.Store.{limitsOf}
@@ -23,26 +23,20 @@ use Rattle.sequence.specs.Totals.{postedIn, reportedMwh, reportedWorth}
 
 -- ---- "Each answer, and the book after each call, are those that these rules give from the opening book and the arguments of the calls so far"
 
--- what the rules give: the answers and the books after a list of requests, from a book
-pub record Event : Type 0 where
-  pub answer : Answer
-  pub book : Book
-
+-- what the rules give: the answers, the numbers of a list's lines and the books after a list of requests, from a book
 unfoldable pub events : Book → List Request → List Event
 events b [] = []
-events b (r ∷ rs) =
-    let gives = stepGiven (r .setting) b (r .call) in
-    record { answer = gives .answer; book = gives .book } ∷ events (gives .book) rs
+events b (r ∷ rs) = let gives = actGiven (r .setting) b (r .act) in gives ∷ events (gives .book) rs
 
 -- the book at the end
 unfoldable pub final : Book → List Request → Book
 final b [] = b
-final b (r ∷ rs) = final (stepGiven (r .setting) b (r .call) .book) rs
+final b (r ∷ rs) = final (actGiven (r .setting) b (r .act) .book) rs
 
--- request by request: the answer that was given, and the bytes of the book
+-- request by request: the answer that was given, the numbers of the lines, and the bytes of the book
 pub data AsDefined : List Link → List Event → Type 0 where
   asNone : AsDefined [] []
-  asAlso : {l : Link} {e : Event} {ls : List Link} {es : List Event} → l .gave .answer ≡ e .answer → l .gave .bytes ≡ bytesOf (e .book) → AsDefined ls es → AsDefined (l ∷ ls) (e ∷ es)
+  asAlso : {l : Link} {e : Event} {ls : List Link} {es : List Event} → l .gave .answer ≡ e .answer → l .gave .numbers ≡ e .numbers → l .gave .bytes ≡ bytesOf (e .book) → AsDefined ls es → AsDefined (l ∷ ls) (e ∷ es)
 
 -- ---- "Every trade byte is as in the opening book, except standing where kind and day are 0."
 
@@ -67,7 +61,7 @@ pub record Kept (limits : Limits) (l : Link) : Type 0 where
   -- a refused request leaves the bytes
   pub refused : T (not (isAccepted l)) → l .gave .bytes ≡ l .given
   -- "no accepted run ends while a short user has a sale to cut", judged on the book that it leaves
-  pub covered : l .asked .call ≡ run → T (isAccepted l) → AllCovered limits (bookOf (l .gave .bytes))
+  pub covered : l .asked .act ≡ call run → T (isAccepted l) → AllCovered limits (bookOf (l .gave .bytes))
 
 pub data Each (limits : Limits) : List Link → Type 0 where
   eachNone : Each limits []

@@ -1,8 +1,11 @@
--- Document 01, "Sequences": the totals over a sequence; "a refused call adds to no sum". Assumes nothing.
+-- Document 01, "Sequences": the totals over a sequence; "a refused call adds to no sum". Document 02, ask 1: lists, "each line given 0 counting as an accepted posting".
+-- Assumes nothing.
 use mathlib.Core.Bool.{cond}
+use mathlib.Core.List.{List, [], _∷_}
 use Prim.Native.Nat.{ℕ}
 use lib.Dec.{eqb}
-use lib.IntN.{ℤ, pos}
+use lib.IntN.{ℤ, pos, _+ℤ_}
+use Rattle.requests.specs.Request.{Act, call, postings}
 use Rattle.rules.specs.Calls.{Call, posting, morningCall, afternoonCall, reduction, run}
 use Rattle.sequence.specs.Links.{Link, isAccepted}
 
@@ -14,6 +17,18 @@ amountIn a (afternoonCall id) = pos 0
 amountIn a (reduction id) = pos 0
 amountIn a run = pos 0
 
+-- the amounts in an area of the lines given 0
+unfoldable pub lineAmounts : ℕ → List ℕ → List ℤ → List ℕ → ℤ
+lineAmounts a [] amounts numbers = pos 0
+lineAmounts a (area ∷ areas) [] numbers = pos 0
+lineAmounts a (area ∷ areas) (z ∷ amounts) [] = pos 0
+lineAmounts a (area ∷ areas) (z ∷ amounts) (n ∷ numbers) = cond (eqb n 0) (cond (eqb area a) z (pos 0)) (pos 0) +ℤ lineAmounts a areas amounts numbers
+
+-- the amounts of an act in an area
+unfoldable pub amountsIn : ℕ → Act → List ℕ → ℤ
+amountsIn a (call c) numbers = amountIn a c
+amountsIn a (postings v) numbers = lineAmounts a (v .areas) (v .amounts) numbers
+
 -- what a reduction's or a run's answer adds to a total of the cuts
 unfoldable pub counted : Call → ℕ → ℤ
 counted (posting id area amount) n = pos 0
@@ -22,13 +37,18 @@ counted (afternoonCall id) n = pos 0
 counted (reduction id) n = pos n
 counted run n = pos n
 
+-- a list cuts nothing
+unfoldable pub countedIn : Act → ℕ → ℤ
+countedIn (call c) n = counted c n
+countedIn (postings v) n = pos 0
+
 -- "the amounts of the accepted postings in that area"
 unfoldable pub postedIn : ℕ → Link → ℤ
-postedIn a l = cond (isAccepted l) (amountIn a (l .asked .call)) (pos 0)
+postedIn a l = cond (isAccepted l) (amountsIn a (l .asked .act) (l .gave .numbers)) (pos 0)
 
 -- "the MWh and the worth in the answers of the accepted reductions and runs"
 unfoldable pub reportedMwh : Link → ℤ
-reportedMwh l = cond (isAccepted l) (counted (l .asked .call) (l .gave .answer .mwh)) (pos 0)
+reportedMwh l = cond (isAccepted l) (countedIn (l .asked .act) (l .gave .answer .mwh)) (pos 0)
 
 unfoldable pub reportedWorth : Link → ℤ
-reportedWorth l = cond (isAccepted l) (counted (l .asked .call) (l .gave .answer .worth)) (pos 0)
+reportedWorth l = cond (isAccepted l) (countedIn (l .asked .act) (l .gave .answer .worth)) (pos 0)

@@ -29,7 +29,10 @@ pub fn print_table(subject: &Subject, options: &Options) {
     print_row("write from an image", write_image(subject, options));
     print_row("write from fields", write(subject, options));
     print_row("show", show(subject, options));
-    print_row("posting", posting(subject, options));
+    let one = posting(subject, options);
+    let lines = list(subject, options);
+    print_row("posting", one);
+    print_row("list of 512 lines", lines);
     print_row("morning level", morning_level(subject, options));
     print_row("afternoon level", level(subject, options));
     print_row("the same, 32 sets", level_of_store(subject, options));
@@ -38,6 +41,16 @@ pub fn print_table(subject: &Subject, options: &Options) {
     print_row("reduction", reduction(subject, options));
     let name = format!("run, reductions: {}", subject.reductions);
     print_row(&name, run(subject, options));
+    print_multiple("a list of 512 lines takes", lines, one, "postings");
+}
+
+/// Prints how many times another call's time a call takes, by either side.
+fn print_multiple(start: &str, times: Times, of: Times, end: &str) {
+    let [engine, tuned] = [times.engine / of.engine, times.tuned / of.tuned];
+    println!(
+        "{start} the time of {:.2} {end} by the engine, {:.2} by the tuned one (median); {:.2}, {:.2} (least)",
+        engine.median, tuned.median, engine.least, tuned.least
+    );
 }
 
 /// Prints what a reduction takes beyond reading and writing its book.
@@ -145,6 +158,43 @@ fn posting(subject: &Subject, options: &Options) -> Times {
         |book| expect(archive::posting(book, None, id, 0, 1)),
         |book| accept(tuned::posting(book, id, 0, 1)),
     )
+}
+
+/// 512 corrections, over the users and the areas in turns, up and down by one
+/// MWh, so that nearly all of them are accepted.
+fn list(subject: &Subject, options: &Options) -> Times {
+    let book = tuned::read(&subject.book).expect("an accepted book");
+    let places = 0..daybook::MOST_LINES;
+    // 37 and 64 have no common factor: the ids come in no order.
+    let ids: Vec<u32> = places
+        .clone()
+        .map(|place| book.users[37 * place % book.users.len()].id)
+        .collect();
+    let areas: Vec<u32> = (0..3).cycle().take(ids.len()).collect();
+    let amounts: Vec<i64> = [1, -1].into_iter().cycle().take(ids.len()).collect();
+    let columns = tuned::Columns {
+        ids: &ids,
+        areas: &areas,
+        amounts: &amounts,
+    };
+    let [mut one, mut other] = [0, 1].map(|_| vec![99; ids.len()]);
+    let times = both(
+        subject,
+        options,
+        |book| {
+            expect(archive::list(
+                book,
+                None,
+                black_box(&ids),
+                &areas,
+                &amounts,
+                &mut one,
+            ))
+        },
+        |book| accept(tuned::list(book, None, black_box(columns), &mut other)),
+    );
+    assert_eq!(one, other, "{}: the numbers of the lines", subject.name);
+    times
 }
 
 fn morning_level(subject: &Subject, options: &Options) -> Times {

@@ -1,6 +1,6 @@
 //! Times of two sides, measured in turns.
 
-use std::ops::Sub;
+use std::ops::{Div, Sub};
 use std::time::Instant;
 
 /// The time of one call, in microseconds. On a machine that does other things
@@ -35,6 +35,17 @@ impl Sub for Time {
         Time {
             median: self.median - other.median,
             least: self.least - other.least,
+        }
+    }
+}
+
+/// How many times another time: a multiple of the medians and of the least.
+impl Div for Time {
+    type Output = Time;
+    fn div(self, other: Time) -> Time {
+        Time {
+            median: self.median / other.median,
+            least: self.least / other.least,
         }
     }
 }

@@ -27,6 +27,8 @@ fn every_book_is_measured() {
         "many-sellers",
         "chain",
         "widest",
+        "list of 512 lines",
+        "a list of 512 lines takes the time of",
     ] {
         assert!(text.contains(word), "{word} in\n{text}");
     }

@@ -1,6 +1,10 @@
 //! Calls as values, and their answers by the reference.
 
+use reference::list::Columns;
 use reference::transfer::Image;
+
+/// What each place beside a list holds before the call.
+pub const PLACE_BEFORE: u32 = 99;
 
 /// One call, with its arguments. The book is lent apart.
 #[derive(Clone, Debug, PartialEq, Eq)]
@@ -9,6 +13,13 @@ pub enum Call {
         id: u32,
         area: u32,
         amount: i64,
+    },
+    /// A list of postings, its columns and the number of places beside them.
+    List {
+        ids: Vec<u32>,
+        areas: Vec<u32>,
+        amounts: Vec<i64>,
+        places: usize,
     },
     Show {
         id: u32,
@@ -48,8 +59,9 @@ pub enum Call {
 }
 
 impl Call {
-    pub const NAMES: [&'static str; 13] = [
+    pub const NAMES: [&'static str; 14] = [
         "posting",
+        "list",
         "show",
         "show picked",
         "morning level",
@@ -72,18 +84,19 @@ impl Call {
     pub fn name(&self) -> &'static str {
         let place = match self {
             Call::Posting { .. } => 0,
-            Call::Show { .. } => 1,
-            Call::ShowPicked { .. } => 2,
-            Call::MorningLevel { .. } => 3,
-            Call::AfternoonLevel { .. } => 4,
-            Call::MorningCall { .. } => 5,
-            Call::AfternoonCall { .. } => 6,
-            Call::Warning { .. } => 7,
-            Call::Reduction { .. } => 8,
-            Call::Run => 9,
-            Call::Read => 10,
-            Call::Write { .. } => 11,
-            Call::Day => 12,
+            Call::List { .. } => 1,
+            Call::Show { .. } => 2,
+            Call::ShowPicked { .. } => 3,
+            Call::MorningLevel { .. } => 4,
+            Call::AfternoonLevel { .. } => 5,
+            Call::MorningCall { .. } => 6,
+            Call::AfternoonCall { .. } => 7,
+            Call::Warning { .. } => 8,
+            Call::Reduction { .. } => 9,
+            Call::Run => 10,
+            Call::Read => 11,
+            Call::Write { .. } => 12,
+            Call::Day => 13,
         };
         Call::NAMES[place]
     }
@@ -94,8 +107,8 @@ impl Call {
 #[derive(Clone, Debug, Default, PartialEq, Eq)]
 pub struct Answer {
     pub number: u32,
-    /// Level; level, added; warned; MWh, worth, T, short, over; reductions,
-    /// MWh, worth; else empty.
+    /// The places of a list; level; level, added; warned; MWh, worth, T, short,
+    /// over; reductions, MWh, worth; else empty.
     pub fields: Vec<i128>,
     /// The shown record, the image read, the part written into, or the printed
     /// day; else empty.
@@ -107,6 +120,18 @@ impl Answer {
         Answer {
             number,
             fields: fields.to_vec(),
+            part: Vec::new(),
+        }
+    }
+
+    /// The number of a list, and this many places as the call leaves them.
+    pub fn of_places(places: usize, list: impl FnOnce(&mut [u32]) -> u32) -> Answer {
+        let mut places = vec![PLACE_BEFORE; places];
+        let number = list(&mut places);
+        let fields = places.into_iter().map(i128::from);
+        Answer {
+            number,
+            fields: fields.collect(),
             part: Vec::new(),
         }
     }
@@ -126,6 +151,21 @@ pub fn answer(book: &mut [u8], store: Option<&[u8]>, call: &Call) -> Answer {
     match call {
         Call::Posting { id, area, amount } => {
             Answer::of_fields(reference::posting(book, store, *id, *area, *amount), &[])
+        }
+        Call::List {
+            ids,
+            areas,
+            amounts,
+            places,
+        } => {
+            let columns = Columns {
+                ids,
+                areas,
+                amounts,
+            };
+            Answer::of_places(*places, |places| {
+                reference::list(book, store, columns, places)
+            })
         }
         Call::Show { id } => {
             let (number, part) = reference::show(book, store, *id);

@@ -282,14 +282,15 @@ impl Generator {
         }
     }
 
-    /// A call that changes the book: a posting, a guarantee call, a reduction
-    /// or a run.
+    /// A call that changes the book: a posting, a list of them, a guarantee call,
+    /// a reduction or a run.
     pub fn changing_call(&mut self, book: &[u8], store: Option<&[u8]>) -> Call {
         let Arguments {
             id, area, amount, ..
         } = self.arguments(book);
-        match self.random.below(10) {
+        match self.random.below(11) {
             0..=2 => Call::Posting { id, area, amount },
+            10 => self.list(book),
             3 => Call::MorningCall { id },
             4 => Call::AfternoonCall { id },
             5 if is_short_run(book, store) => Call::Run,

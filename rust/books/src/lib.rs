@@ -9,6 +9,7 @@ pub mod calls;
 pub mod damage;
 pub mod generator;
 pub mod hard;
+pub mod lists;
 pub mod random;
 pub mod sha256;
 pub mod shrinkage;

@@ -11,6 +11,21 @@ pub fn answer(book: &mut [u8], store: Option<&[u8]>, call: &Call) -> Option<Answ
         Call::Posting { id, area, amount } => {
             fields(requests::posting(book, store, *id, *area, *amount).map(|()| []))
         }
+        Call::List {
+            ids,
+            areas,
+            amounts,
+            places,
+        } => {
+            let columns = tuned::Columns {
+                ids,
+                areas,
+                amounts,
+            };
+            Answer::of_places(*places, |places| {
+                number(tuned::list(book, store, columns, places))
+            })
+        }
         Call::Show { id } => record(requests::show(book, store, *id)),
         Call::ShowPicked {
             afternoon,
@@ -56,9 +71,14 @@ pub fn plain_answer(book: &mut [u8], call: &Call) -> Option<Answer> {
         Call::Warning { id } => fields(tuned::warning(book, *id).map(|warned| [warned.into()])),
         Call::Reduction { id } => reduction(tuned::reduction(book, *id)),
         Call::Run => run(tuned::run(book)),
-        Call::Read | Call::Write { .. } | Call::Day => return None,
+        Call::List { .. } | Call::Read | Call::Write { .. } | Call::Day => return None,
     };
     Some(answer)
+}
+
+/// The number of a call.
+fn number(answer: Result<(), u32>) -> u32 {
+    answer.err().unwrap_or(0)
 }
 
 /// The number and the fields, each of them 0 after a refusal.

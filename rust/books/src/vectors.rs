@@ -13,7 +13,7 @@ use crate::sha256::{hex, sha256};
 pub const CALLS: usize = 2_173;
 
 /// Lines of `version-1/calls.txt`.
-pub const REQUESTS: usize = 3_026;
+pub const REQUESTS: usize = 3_269;
 
 /// Books with a printed day, of both folders.
 pub const DAYS: usize = 124;
@@ -151,7 +151,7 @@ fn after(book: Vec<u8>, call: &Call) -> Vec<u8> {
     }
 }
 
-/// Replays every call with a store, or none, of `version-1/calls.txt`, and says
+/// Replays every call of `version-1/calls.txt`, with a store or none, and says
 /// how many there were.
 pub fn replay_requests(implementation: Implementation) -> usize {
     let text = String::from_utf8(file("version-1/calls.txt")).expect("text");
@@ -185,12 +185,30 @@ impl Request {
         };
         let number = |key: &str| value(key).expect(key).parse::<i64>().expect(key);
         let id = || u32::try_from(number("id")).expect("id");
+        let column = |key: &str| {
+            let words = value(key).expect(key).split(',');
+            let words = words.filter(|word| !word.is_empty());
+            let numbers = words.map(|word| word.parse().expect(key));
+            numbers.collect::<Vec<i64>>()
+        };
+        let unsigned = |key: &str| {
+            let numbers = column(key).into_iter();
+            numbers
+                .map(|number| u32::try_from(number).expect(key))
+                .collect()
+        };
         let part = |key: &str| file(&format!("version-1/{}", value(key).expect(key)));
         let call = match name {
             "posting" => Call::Posting {
                 id: id(),
                 area: u32::try_from(number("area")).expect("area"),
                 amount: number("amount"),
+            },
+            "posting_list" => Call::List {
+                ids: unsigned("ids"),
+                areas: unsigned("areas"),
+                amounts: column("amounts"),
+                places: usize::try_from(number("places")).expect("places"),
             },
             "show" => Call::Show { id: id() },
             "show_two" => Call::ShowPicked {
@@ -253,5 +271,11 @@ fn keyed(book: &[u8], call: &Call, given: &Answer) -> String {
     if matches!(call, Call::Show { .. } | Call::ShowPicked { .. }) {
         text.push_str(&format!(" part={}", hex(&given.part)));
     }
-    format!("{text} book={}", sha256(told))
+    text.push_str(&format!(" book={}", sha256(told)));
+    if matches!(call, Call::List { .. }) {
+        let places = given.fields.iter().map(i128::to_string);
+        let places = places.collect::<Vec<String>>().join(",");
+        text.push_str(&format!(" places={places}"));
+    }
+    text
 }

@@ -1,5 +1,5 @@
 //! Counts how often generated books and calls without a store reach each number
-//! and each branch of document 01, and fails if one is never reached.
+//! and each branch of the documents, and fails if one is never reached.
 
 #![forbid(unsafe_code)]
 
@@ -38,6 +38,7 @@ impl Counts {
 fn numbers(name: &str) -> Vec<u32> {
     match name {
         "posting" => [(0..=8).collect(), vec![10]].concat(),
+        "list" => [(0..=7).collect(), vec![15]].concat(),
         "show" | "show picked" => (0..=8).collect(),
         "morning call" | "afternoon call" => [(0..=9).collect(), vec![11, 12]].concat(),
         "reduction" => [(0..=9).collect(), vec![11, 13, 14]].concat(),
@@ -130,7 +131,7 @@ fn every_number_and_branch_is_reached() {
 
 fn print_and_judge(counts: &Counts) {
     let mut required: Vec<String> = BRANCHES.iter().map(|branch| branch.to_string()).collect();
-    required.extend((0..=14).map(|number| format!("number {number}")));
+    required.extend((0..=15).map(|number| format!("number {number}")));
     for name in Call::NAMES {
         required.extend(
             numbers(name)

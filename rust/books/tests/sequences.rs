@@ -3,6 +3,7 @@
 
 #![forbid(unsafe_code)]
 
+use books::calls::PLACE_BEFORE;
 use books::{answer, Call, Generator, Kind};
 use reference::book::Book;
 use reference::questions::questions_1_to_7;
@@ -85,7 +86,12 @@ fn step(bytes: &mut [u8], store: Option<&[u8]>, call: &Call, sums: &mut Sums) {
     let answer = answer(bytes, store, call);
     if answer.number != 0 {
         assert_eq!(bytes, before, "a refused call leaves the book");
-        assert!(answer.fields.iter().all(|field| *field == 0), "{answer:?}");
+        let left = i128::from(match call {
+            Call::List { .. } => PLACE_BEFORE,
+            _ => 0,
+        });
+        let fields = &answer.fields;
+        assert!(fields.iter().all(|field| *field == left), "{answer:?}");
         sums.refused += 1;
         return;
     }
@@ -94,6 +100,13 @@ fn step(bytes: &mut [u8], store: Option<&[u8]>, call: &Call, sums: &mut Sums) {
         Call::Posting { area, amount, .. } => {
             let place = usize::try_from(*area).expect("area");
             sums.posted[place] = sums.posted[place] + Mwh(i128::from(*amount));
+        }
+        Call::List { areas, amounts, .. } => {
+            let lines = areas.iter().zip(amounts).zip(&answer.fields);
+            for ((area, amount), _) in lines.filter(|(_, number)| **number == 0) {
+                let place = usize::try_from(*area).expect("area");
+                sums.posted[place] = sums.posted[place] + Mwh(i128::from(*amount));
+            }
         }
         Call::MorningCall { .. } | Call::AfternoonCall { .. } => {
             assert!(answer.fields[1] > 0, "an accepted call blocks something");

@@ -180,6 +180,7 @@ impl Comparison {
         let afternoon = self.generator.book(Kind::Small);
         let mut calls = vec![
             Call::Posting { id, area, amount },
+            self.generator.list(book),
             Call::Show { id },
             Call::MorningLevel { id },
             Call::AfternoonLevel { id },

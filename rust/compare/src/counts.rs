@@ -4,8 +4,8 @@ use std::fmt::{self, Display, Formatter};
 
 use books::Call;
 
-/// The numbers: 0 for an accepted call, 1 to 14 for a refusal of document 01, 16
-/// and 17 for one of ask 4.
+/// The numbers: 0 for an accepted call, 1 to 14 for a refusal of document 01, 15
+/// for one of ask 1, 16 and 17 for one of ask 4.
 pub const NUMBERS: usize = 18;
 
 /// Calls that were compared, by kind and number.
@@ -61,6 +61,7 @@ fn kind(name: &str) -> usize {
 pub fn possible(name: &str) -> Vec<usize> {
     let (last, more): (usize, &[usize]) = match name {
         "posting" => (8, &[10, 16, 17]),
+        "list" => (7, &[15, 16, 17]),
         "show" | "show picked" => (8, &[16, 17]),
         "morning level" | "afternoon level" | "warning" => (9, &[16, 17]),
         "morning call" | "afternoon call" => (9, &[11, 12, 16, 17]),

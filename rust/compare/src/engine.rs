@@ -15,6 +15,14 @@ pub fn answer(book: &mut [u8], store: Option<&[u8]>, call: &Call) -> Answer {
         Call::Posting { id, area, amount } => {
             Answer::of_fields(archive::posting(book, store, *id, *area, *amount), &[])
         }
+        Call::List {
+            ids,
+            areas,
+            amounts,
+            places,
+        } => Answer::of_places(*places, |places| {
+            archive::list(book, store, ids, areas, amounts, places)
+        }),
         Call::Show { id } => record(|part| archive::show(book, store, *id, part)),
         Call::ShowPicked {
             afternoon,

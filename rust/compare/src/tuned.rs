@@ -8,15 +8,16 @@ const BEFORE: u8 = 0xA5;
 
 /// The answer of the tuned implementation to a call with this store, or none; the
 /// book is changed as the call says. Without a store its functions of document 01
-/// have to give the same.
+/// have to give the same to the calls of that document.
 pub fn answer(book: &mut [u8], store: Option<&[u8]>, call: &Call) -> Answer {
     let before = book.to_vec();
     if let Some(given) = books::tuned::answer(book, store, call) {
         if store.is_none() {
             let mut other = before;
-            let plain = books::tuned::plain_answer(&mut other, call);
-            assert_eq!(plain.as_ref(), Some(&given), "without a store");
-            assert_eq!(other, book, "without a store");
+            if let Some(plain) = books::tuned::plain_answer(&mut other, call) {
+                assert_eq!(plain, given, "without a store");
+                assert_eq!(other, book, "without a store");
+            }
         }
         return given;
     }

@@ -1,12 +1,24 @@
 //! The engine's answers by the Rust types of `daybook`.
 
 use books::{Answer, Call};
-use daybook::{Book, GuaranteeCall, Image, Level, Refusal, Request, Trade, User, IMAGE_LENGTH};
+use daybook::{
+    Book, GuaranteeCall, Image, Level, Line, Refusal, Request, Trade, User, IMAGE_LENGTH,
+};
 
 /// Whether the call has a function of its own in `daybook`; a printed day is
-/// put together of others.
+/// put together of others, and a list of lines has columns and places of one
+/// count.
 pub fn has(call: &Call) -> bool {
-    *call != Call::Day
+    match call {
+        Call::Day => false,
+        Call::List {
+            ids,
+            areas,
+            amounts,
+            places,
+        } => [ids.len(), areas.len(), amounts.len()] == [*places; 3],
+        _ => true,
+    }
 }
 
 /// The answer to a call that `daybook` has, with this store, or none; the book is
@@ -20,6 +32,12 @@ pub fn answer(book: &mut [u8], store: Option<&[u8]>, call: &Call) -> Answer {
         Call::Posting { id, area, amount } => {
             fields(request.posting(book, *id, *area, *amount).map(|()| []))
         }
+        Call::List {
+            ids,
+            areas,
+            amounts,
+            ..
+        } => list(request, book, &lines(ids, areas, amounts)),
         Call::Show { id } => record(request.show(book, *id)),
         Call::ShowPicked {
             afternoon,
@@ -64,6 +82,29 @@ fn number<T>(answer: &Result<T, Refusal>) -> u32 {
 /// The number and the fields, each of them 0 after a refusal.
 fn fields<const COUNT: usize>(answer: Result<[i128; COUNT], Refusal>) -> Answer {
     Answer::of_fields(number(&answer), &answer.unwrap_or([0; COUNT]))
+}
+
+/// The lines of three columns.
+fn lines(ids: &[u32], areas: &[u32], amounts: &[i64]) -> Vec<Line> {
+    let lines = ids.iter().zip(areas).zip(amounts);
+    let line = |((id, area), amount): ((&u32, &u32), &i64)| Line {
+        id: *id,
+        area: *area,
+        amount: *amount,
+    };
+    lines.map(line).collect()
+}
+
+/// The number of a list and those of its lines; a refused list says nothing of
+/// its lines.
+fn list(request: Request<'_>, book: &mut [u8], lines: &[Line]) -> Answer {
+    let answer = request.list(book, lines);
+    Answer::of_places(lines.len(), |places| {
+        for (place, line) in places.iter_mut().zip(answer.iter().flatten()) {
+            *place = number(line);
+        }
+        number(&answer)
+    })
 }
 
 fn level(answer: Result<Level, Refusal>) -> Answer {

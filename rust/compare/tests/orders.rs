@@ -1,11 +1,12 @@
 //! Corrections in another order (ask 12): accepted postings in shuffled orders,
-//! and two postings against the posting of their sum.
+//! one by one and as the lines of a list, and two postings against the posting of
+//! their sum.
 
 #![forbid(unsafe_code)]
 
 use books::{Generator, Kind};
 use compare::settings::seed;
-use daybook::{posting, read};
+use daybook::{list, posting, read, Line};
 
 /// Books of each kind, and orders of the postings on each.
 const BOOKS: usize = 60;
@@ -48,6 +49,20 @@ fn posted(book: &[u8], postings: &[Posting]) -> (Vec<u8>, bool) {
     (book, all)
 }
 
+/// The same by one list.
+fn listed(book: &[u8], postings: &[Posting]) -> (Vec<u8>, bool) {
+    let mut book = book.to_vec();
+    let line = |(id, area, amount): &Posting| Line {
+        id: *id,
+        area: *area,
+        amount: *amount,
+    };
+    let lines: Vec<Line> = postings.iter().map(line).collect();
+    let answers = list(&mut book, &lines).expect("an accepted list");
+    let all = answers.iter().all(|answer| answer.is_ok());
+    (book, all)
+}
+
 /// Postings that are accepted one after the other.
 fn accepted(generator: &mut Generator, book: &[u8]) -> Vec<Posting> {
     let mut left = book.to_vec();
@@ -82,7 +97,9 @@ fn any_order_ends_in_the_same_bytes() {
             assert!(all);
             for _ in 0..ORDERS {
                 let other = shuffled(&mut generator, &postings);
-                match posted(&book, &other) {
+                let left = posted(&book, &other);
+                assert!(left == listed(&book, &other), "{other:?}");
+                match left {
                     (left, true) => {
                         assert!(left == expected, "{postings:?} and {other:?}");
                         same += 1;

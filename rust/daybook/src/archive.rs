@@ -48,6 +48,21 @@ unsafe extern "C" {
         area: u32,
         amount: i64,
     ) -> u32;
+    fn daybook_list(
+        book: *mut u8,
+        book_len: usize,
+        with_store: u32,
+        store: *const u8,
+        store_len: usize,
+        ids: *const u32,
+        ids_len: usize,
+        areas: *const u32,
+        areas_len: usize,
+        amounts: *const i64,
+        amounts_len: usize,
+        places: *mut u32,
+        places_len: usize,
+    ) -> u32;
     fn daybook_morning_level(
         book: *const u8,
         book_len: usize,
@@ -220,6 +235,40 @@ pub fn posting(book: &mut [u8], store: Option<&[u8]>, id: u32, area: u32, amount
             id,
             area,
             amount,
+        )
+    }
+}
+
+/// Makes the postings of a list, given as three columns, one after another; each
+/// line's number goes to the place beside it. Columns and places of other counts
+/// than one another, or of more than 512, get 15, never [`WRONG_LENGTH`]; a
+/// refused call leaves book and places.
+pub fn list(
+    book: &mut [u8],
+    store: Option<&[u8]>,
+    ids: &[u32],
+    areas: &[u32],
+    amounts: &[i64],
+    places: &mut [u32],
+) -> u32 {
+    let (with_store, store, store_len) = lent(store);
+    // SAFETY: each pointer comes with the length of its slice in elements, the slices live through
+    // the call, and book and places, lent by &mut, overlap nothing. Store and columns are only read.
+    unsafe {
+        daybook_list(
+            book.as_mut_ptr(),
+            book.len(),
+            with_store,
+            store,
+            store_len,
+            ids.as_ptr(),
+            ids.len(),
+            areas.as_ptr(),
+            areas.len(),
+            amounts.as_ptr(),
+            amounts.len(),
+            places.as_mut_ptr(),
+            places.len(),
         )
     }
 }

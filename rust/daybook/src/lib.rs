@@ -33,6 +33,7 @@
 pub mod archive;
 mod book;
 mod calls;
+mod list;
 mod refusal;
 mod request;
 pub mod shrinkage;
@@ -45,5 +46,6 @@ pub use calls::{
     afternoon_call, afternoon_level, morning_call, morning_level, most_reductions, posting, read,
     reduction, run, show, show_picked, warning, write, GuaranteeCall, Level, Reduction, Run,
 };
+pub use list::{list, Line, MOST_LINES};
 pub use refusal::Refusal;
 pub use request::Request;

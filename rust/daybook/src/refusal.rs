@@ -21,13 +21,14 @@ pub enum Refusal {
     AssignedCoversLevel = 12,
     AssignedBelowLevel = 13,
     EligibleTrade = 14,
+    Lines = 15,
     StoreForm = 16,
     SetInForce = 17,
 }
 
 impl Refusal {
     /// Every refusal, in the order of the numbers.
-    pub const ALL: [Refusal; 16] = [
+    pub const ALL: [Refusal; 17] = [
         Refusal::Mark,
         Refusal::Version,
         Refusal::CountsAndLength,
@@ -42,6 +43,7 @@ impl Refusal {
         Refusal::AssignedCoversLevel,
         Refusal::AssignedBelowLevel,
         Refusal::EligibleTrade,
+        Refusal::Lines,
         Refusal::StoreForm,
         Refusal::SetInForce,
     ];
@@ -79,6 +81,7 @@ impl Refusal {
             Refusal::AssignedCoversLevel => "assigned ≥ level?",
             Refusal::AssignedBelowLevel => "assigned < level?",
             Refusal::EligibleTrade => "has the user an eligible trade?",
+            Refusal::Lines => "at most 512 lines, columns and places of one count?",
             Refusal::StoreForm => "is the store well formed?",
             Refusal::SetInForce => "has the store a set in force on the book's date?",
         }

@@ -3,6 +3,7 @@
 use crate::archive;
 use crate::book::{User, USER_LENGTH};
 use crate::calls::{answered, GuaranteeCall, Level, Reduction, Run};
+use crate::list::Line;
 use crate::refusal::Refusal;
 
 /// What a call is given beside its book. Without a store its figures are today's.
@@ -63,6 +64,28 @@ impl<'a> Request<'a> {
     /// area.
     pub fn posting(self, book: &mut [u8], id: u32, area: u32, amount: i64) -> Result<(), Refusal> {
         answered(archive::posting(book, self.store, id, area, amount))
+    }
+
+    /// Makes the postings of a list one after another, and answers for each line
+    /// what its single posting would ([`crate::list()`]).
+    pub fn list(
+        self,
+        book: &mut [u8],
+        lines: &[Line],
+    ) -> Result<Vec<Result<(), Refusal>>, Refusal> {
+        let ids: Vec<u32> = lines.iter().map(|line| line.id).collect();
+        let areas: Vec<u32> = lines.iter().map(|line| line.area).collect();
+        let amounts: Vec<i64> = lines.iter().map(|line| line.amount).collect();
+        let mut places = vec![0; lines.len()];
+        answered(archive::list(
+            book,
+            self.store,
+            &ids,
+            &areas,
+            &amounts,
+            &mut places,
+        ))?;
+        Ok(places.into_iter().map(answered).collect())
     }
 
     /// The morning level of a shipper.

@@ -2,7 +2,9 @@
 
 #![forbid(unsafe_code)]
 
-use daybook::{archive, Book, GuaranteeCall, Level, Prices, Refusal, Request, Trade, User};
+use daybook::{
+    archive, Book, GuaranteeCall, Level, Line, Prices, Refusal, Request, Trade, User, MOST_LINES,
+};
 
 /// The book of document 01's printed day.
 fn book() -> Book {
@@ -128,6 +130,58 @@ fn calls_with_a_store() {
     assert_eq!(level(&[]), Err(Refusal::StoreForm));
 }
 
+/// Each line is judged on the book that the lines before it left.
+#[test]
+fn a_list_of_postings() {
+    let mut listed = bytes(&book());
+    let mut posted = listed.clone();
+    let line = |id: u32, area: u32, amount: i64| Line { id, area, amount };
+    let lines = [
+        line(101, 0, 1_000_000),
+        line(101, 0, 20_000),
+        line(103, 0, 1),
+        line(101, 3, 1),
+        line(101, 0, -1_000_000),
+        line(101, 0, 20_000),
+        line(102, 1, i64::MIN),
+    ];
+    let (id, entry) = (Err(Refusal::Id), Err(Refusal::Entry));
+    let expected = vec![Ok(()), entry, id, entry, Ok(()), Ok(()), entry];
+    assert_eq!(daybook::list(&mut listed, &lines), Ok(expected.clone()));
+    let singles = lines.map(|line| daybook::posting(&mut posted, line.id, line.area, line.amount));
+    assert_eq!(singles[..], expected);
+    assert_eq!(listed, posted);
+}
+
+/// An empty list is accepted, 512 lines too; a refused list leaves the book.
+#[test]
+fn the_length_of_a_list() {
+    let opening = bytes(&book());
+    let mut book = opening.clone();
+    assert_eq!(daybook::list(&mut book, &[]), Ok(vec![]));
+    let up = Line {
+        id: 102,
+        area: 2,
+        amount: 3,
+    };
+    let many = vec![up; MOST_LINES + 1];
+    assert_eq!(daybook::list(&mut book, &many), Err(Refusal::Lines));
+    let late = store(20_260_319, 12);
+    let request = Request::new().store(&late);
+    assert_eq!(request.list(&mut book, &many), Err(Refusal::Lines));
+    assert_eq!(request.list(&mut book, &[up]), Err(Refusal::SetInForce));
+    assert_eq!(book, opening);
+    let lines = &many[..MOST_LINES];
+    assert_eq!(
+        daybook::list(&mut book, lines),
+        Ok(vec![Ok(()); MOST_LINES])
+    );
+    let entries = daybook::show(&book, 102).map(|user| user.physical);
+    assert_eq!(entries, Ok([0, 0, 3 * 512]));
+    book.truncate(31);
+    assert_eq!(daybook::list(&mut book, &many), Err(Refusal::Mark));
+}
+
 #[test]
 fn the_archive_has_this_interface() {
     assert_eq!(archive::interface(), archive::INTERFACE);
@@ -163,12 +217,12 @@ fn refused_writes() {
 
 #[test]
 fn refusals_have_the_numbers_of_the_questions() {
-    for (refusal, number) in Refusal::ALL.into_iter().zip((1..=14).chain(16..=17)) {
+    for (refusal, number) in Refusal::ALL.into_iter().zip(1..=17) {
         assert_eq!(refusal.number(), number);
         assert_eq!(Refusal::from_number(number), Some(refusal));
     }
     assert_eq!(Refusal::from_number(0), None);
-    assert_eq!(Refusal::from_number(15), None);
+    assert_eq!(Refusal::from_number(18), None);
     assert_eq!(
         Refusal::Shipper.to_string(),
         "refused by question 9: a shipper?"

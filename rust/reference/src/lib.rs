@@ -1,6 +1,6 @@
 //! Reference implementation of document 01: the day book, imbalance risk,
-//! guarantee calls and reduced trades; and of document 02, ask 4: parameters
-//! with a start date.
+//! guarantee calls and reduced trades; and of document 02, asks 4 (parameters
+//! with a start date) and 1 (a list of postings).
 //!
 //! It is plain and slow on purpose. The modules follow the order of the
 //! document, and the comments cite its sections in quotes. Every number is
@@ -19,6 +19,7 @@ pub mod book;
 pub mod calls;
 pub mod day;
 pub mod levels;
+pub mod list;
 pub mod posting;
 pub mod questions;
 pub mod reduction;
@@ -33,6 +34,7 @@ pub mod warning;
 pub use calls::{afternoon_call, morning_call, CallAnswer};
 pub use day::day;
 pub use levels::{afternoon_level, morning_level, LevelAnswer};
+pub use list::{list, Columns};
 pub use posting::posting;
 pub use questions::check;
 pub use reduction::{reduction, ReductionAnswer};

@@ -10,13 +10,15 @@
 //!
 //! Every call takes the book as bytes. A refused call returns the number of the
 //! first question that failed, and leaves the book. The calls of document 01
-//! stand here, those with a store (document 02, ask 4) in [`requests`].
+//! stand here, those with a store (document 02, ask 4) in [`requests`]; a list of
+//! postings (ask 1) is [`list()`].
 
 #![forbid(unsafe_code)]
 
 mod account;
 mod calls;
 mod gathered;
+mod list;
 mod records;
 mod reduction;
 pub mod requests;
@@ -30,6 +32,7 @@ pub use calls::{
     afternoon_call, afternoon_level, morning_call, morning_level, posting, show, show_picked,
     warning, GuaranteeCall,
 };
+pub use list::{list, Columns};
 pub use records::{Book, Trade, User, IMAGE_LENGTH};
 pub use reduction::{reduction, Reduction};
 pub use run::{run, Run};

@@ -1,0 +1,98 @@
+-- The ids of a book's users, listed to be searched: filled in one by one, found, and the same after every line. Assumes nothing.
+use mathlib.Core.List.{List, [], _∷_, map}
+use mathlib.Core.Path.{_≡_, _∙_, ap, refl, sym}
+use Prim.Native.Nat.{ℕ, suc, _+_, _*_, _-_, _<_, _≤_}
+use native.Mathlib.Omega.{arith}
+use lib.ListN.{length, take, drop, getD, set, replicate, length-replicate}
+use Rattle.fields.proofs.Field.{field-part}
+use Rattle.fields.specs.Field.{field}
+use Rattle.book_format.proofs.Passed.{length-usersOf, passed}
+use Rattle.book_format.specs.Book.{bookOf, userCount, usersOf}
+use Rattle.book_format.specs.Questions.{bookNumber}
+use Rattle.book_format.proofs.Parts.{record-at}
+use Rattle.book_parties.proofs.Rising.{rising-ids}
+use Rattle.book_parties.specs.Ids.{idsOf}
+use Rattle.book_questions.proofs.Loops.{Listed, listed-end, listed-start, listed-turn, rest-set}
+use Rattle.book_records.specs.User.{userOf}
+use Rattle.requests.proofs.Lines.{Onward}
+use Rattle.rules.specs.Book.{Party, User, nobody}
+use Rattle.call_list.specs.Lines.{Known}
+
+-- ---- filled in
+
+-- the ids of the first i users are listed, of which the next stands at a; the rest is as it was
+pub record Filling (s : List ℕ) (n : ℕ) (known : List ℕ) (i a : ℕ) : Type 0 where
+  pub place : a ≡ 32 + 56 * i
+  pub within : i ≤ n
+  pub listed : Listed (λ u. u .party .id) (usersOf s) 64 known i
+  pub rest : drop i known ≡ replicate (64 - i) 4294967295
+
+module _ {s : List ℕ} {n : ℕ} where
+  pub filling-start : {known : List ℕ} → known ≡ replicate 64 4294967295 → Filling s n known 0 32
+  filling-start e =
+      record { place = omega arith; within = omega arith; listed = listed-start (ap length e ∙ length-replicate {A = ℕ} 64 4294967295); rest = e }
+
+  -- the id of the next user is the first field of its record
+  pub filling-turn : {known : List ℕ} {i a x : ℕ} → Filling s n known i a → i < n → n ≡ userCount s → n ≤ 64 → x ≡ field 4 a s → Filling s n (set known i x) (i + 1) (a + 56)
+  unfolding usersOf userOf
+  filling-turn {known} {i} {a} {x} before h count few e =
+      let at : a ≡ 32 + 56 * i + 0 = omega (arith, before .place) in
+      let user : userOf (take 56 (drop (32 + 56 * i) s)) ≡ getD (usersOf s) i nobody = record-at 56 userOf (userCount s) i 32 s nobody (omega arith) in
+      let id : x ≡ getD (usersOf s) i nobody .party .id
+      = e ∙ ap (λ (m : ℕ). field 4 m s) at ∙ sym (field-part 4 0 (32 + 56 * i) 56 s (omega arith)) ∙ ap (λ (u : User). u .party .id) user in
+      record {
+        place = omega (arith, before .place);
+        within = omega arith;
+        listed = listed-turn nobody (before .listed) (omega (arith, length-usersOf s)) (omega arith) id;
+        rest = rest-set 64 i 4294967295 x known (before .rest);
+      }
+
+  pub filling-end : {known : List ℕ} {i a : ℕ} → Filling s n known i a → n ≤ i → n ≡ userCount s → bookNumber s ≡ 0 → Known known n s
+  unfolding idsOf bookOf
+  filling-end {known} {i} before h count e =
+      let over : i ≡ n = omega (arith, before .within) in
+      let p = passed s e in
+      let ids : take n known ≡ idsOf (usersOf s) = rw over at (listed-end (before .listed) (omega (arith, length-usersOf s))) in
+      record {
+        passes = e;
+        count = count;
+        listed = ids;
+        padded = record {
+          full = before .listed .full;
+          few = omega (arith, p .form .users);
+          rising = rw ids (rising-ids (usersOf s) (p .sound .ids));
+          rest = rw over at (before .rest);
+        };
+      }
+
+-- ---- after a line
+
+-- ids and their number are those of the parties
+ids-parties : (us : List User) → idsOf us ≡ map (λ p. p .id) (map (λ u. u .party) us)
+unfolding idsOf
+ids-parties [] = refl
+ids-parties (u ∷ us) = ap (λ (l : List ℕ). u .party .id ∷ l) (ids-parties us)
+
+count-parties : (us : List User) → length us ≡ length (map (λ u. u .party) us)
+count-parties [] = refl
+count-parties (u ∷ us) = ap suc (count-parties us)
+
+pub known-onward : {known : List ℕ} {n : ℕ} {s t : List ℕ} → Onward s t → Known known n s → Known known n t
+unfolding bookOf
+known-onward {s = s} {t = t} w k =
+    record {
+      passes = w .number;
+      count =
+          k .count
+          ∙ sym (length-usersOf s)
+          ∙ count-parties (usersOf s)
+          ∙ ap (λ (ps : List Party). length ps) (sym (w .parties))
+          ∙ sym (count-parties (usersOf t))
+          ∙ length-usersOf t;
+      listed =
+          k .listed
+          ∙ ids-parties (usersOf s)
+          ∙ ap (λ (ps : List Party). map (λ p. p .id) ps) (sym (w .parties))
+          ∙ sym (ids-parties (usersOf t));
+      padded = k .padded;
+    }

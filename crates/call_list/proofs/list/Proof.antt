@@ -1,0 +1,53 @@
+-- `list` hands on a number other than 0; else it lists the ids of the book's users and posts the lines. Assumes nothing.
+use mathlib.Core.Path.{refl}
+use native.Mathlib.Omega.{arith}
+use borrow.Author.Needs.{needs}
+use denote.Ref.{now}
+use Rattle.book_format.proofs.Passed.{passed}
+use Rattle.book_format.specs.Book.{userCount}
+use Rattle.call_list.proofs.Turns.{listed-posted, listed-refused}
+use Rattle.call_list.proofs.list.Statement.{statement}
+use Rattle.call_list.proofs.list.Tie as tie
+
+abbrev start : tie.Else1 → tie.Start
+start c = c .before .before .before .before .before
+
+returns : tie.Need-returns
+returns c = let s = c .before .before .before .before .before in listed-refused (s .args .number) (c .if1 .taken)
+
+get-u8-requires : tie.Need-get-u8-requires
+get-u8-requires c κs =
+    let e = c .before in
+    let s = start e in
+    omega (arith, passed (now (s .args .book)) (s .pre .0 (e .if1 .left)) .form .head)
+
+fill-ids-requires : tie.Need-fill-ids-requires
+unfolding userCount
+fill-ids-requires c κs =
+    let g = c .before .before in
+    let e = g .before .before in
+    let s = start e in
+    (s .pre .0 (e .if1 .left), g .get-u8 .ensures, refl)
+
+fill-guesses-requires : tie.Need-fill-guesses-requires
+fill-guesses-requires c κs = c .before .before .before .fill-ids .ensures .padded .few
+
+post-lines-requires : tie.Need-post-lines-requires
+post-lines-requires c κs =
+    let f = c .before .before .before .before .before .before .before .before in
+    let e = f .before .before .before .before .before in
+    let s = start e in
+    (f .fill-ids .ensures, s .pre .1 (e .if1 .left))
+
+returns-2 : tie.Need-returns-2
+returns-2 c =
+    let p = c .before .before .before .before in
+    let f = p .before .before .before .before .before .before .before .before .before in
+    let e = f .before .before .before .before .before in
+    listed-posted (start e .args .number) (e .if1 .left) (p .post-lines .ensures)
+
+pub list-spec : {M : Type 1} → statement M
+list-spec =
+    tie.close
+    (tie.spec returns get-u8-requires (λ c. search needs) (λ c. search needs) fill-ids-requires fill-guesses-requires (λ c. search needs) post-lines-requires
+    (λ c. search needs) (λ c. search needs) returns-2)

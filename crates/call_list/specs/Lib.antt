@@ -1,0 +1,2 @@
+-- A list of postings after its opening questions.
+pub mod Lines

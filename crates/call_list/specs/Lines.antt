@@ -1,0 +1,35 @@
+-- A list of postings after its opening questions: what is known before its lines, and what they leave. Assumes nothing.
+use mathlib.Core.List.{List}
+use mathlib.Core.Path.{_≡_}
+use Prim.Native.Nat.{ℕ}
+use lib.IntN.{ℤ}
+use lib.ListN.{length, take}
+use Rattle.book_format.specs.After.{after}
+use Rattle.book_format.specs.Book.{userCount, usersOf}
+use Rattle.book_format.specs.Questions.{bookNumber}
+use Rattle.book_parties.specs.Ids.{Padded, idsOf}
+use Rattle.requests.specs.Request.{Setting, linesIn, openingNumber}
+
+-- the columns and the places have one count
+pub record Even (ids areas : List ℕ) (amounts : List ℤ) (places : List ℕ) : Type 0 where
+  pub of-areas : length areas ≡ length ids
+  pub of-amounts : length amounts ≡ length ids
+  pub of-places : length places ≡ length ids
+
+-- the bytes pass their questions, and the first n of 64 numbers are the ids of their users, which can be searched
+pub record Known (known : List ℕ) (n : ℕ) (s : List ℕ) : Type 0 where
+  pub passes : bookNumber s ≡ 0
+  pub count : n ≡ userCount s
+  pub listed : take n known ≡ idsOf (usersOf s)
+  pub padded : Padded known n
+
+-- the lines posted one after another in any setting whose opening questions the bytes pass: the bytes and the places after
+pub record LinesPosted (ids areas : List ℕ) (amounts : List ℤ) (s t left : List ℕ) : Type 0 where
+  pub bytes : (g : Setting) → openingNumber g s ≡ 0 → t ≡ linesIn g s ids areas amounts .bytes
+  pub beside : (g : Setting) → openingNumber g s ≡ 0 → left ≡ linesIn g s ids areas amounts .numbers
+
+-- by the number of the opening questions: it is returned, and where it is not 0 bytes and places are as they were
+pub record ListedAfter (number : ℕ) (ids areas : List ℕ) (amounts : List ℤ) (places s : List ℕ) (result : ℕ) (t left : List ℕ) : Type 0 where
+  pub asked : result ≡ number
+  pub bytes : (g : Setting) → (number ≡ 0 → openingNumber g s ≡ 0) → t ≡ after number (λ n. s) (linesIn g s ids areas amounts .bytes)
+  pub beside : (g : Setting) → (number ≡ 0 → openingNumber g s ≡ 0) → left ≡ after number (λ n. places) (linesIn g s ids areas amounts .numbers)

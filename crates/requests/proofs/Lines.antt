@@ -1,0 +1,216 @@
+-- A list of postings after its opening questions, asked once: an accepted posting leaves a book that passes them again, so that asking them before each line gives the
+-- same. Assumes nothing.
+use mathlib.Core.Bool.{Bool, cond, true, false}
+use mathlib.Core.List.{List, [], _∷_, _++_, map}
+use mathlib.Core.Option.{Option, none, some}
+use mathlib.Core.Path.{_≡_, _∙_, ap, ap₂, refl, sym}
+use Prim.Native.Nat.{ℕ, suc, zero}
+use native.Mathlib.Omega.{arith}
+use lib.Dec.{T, ltb, ltb→lt}
+use lib.IntN.{ℤ, _+ℤ_}
+use lib.ListN.{length}
+use Rattle.fields.specs.Field.{AllBytes}
+use Rattle.laws.proofs.Posting.{posting-sound}
+use Rattle.laws.proofs.Refusals.{first-yes, numbered, refusal-is}
+use Rattle.base.proofs.Tests.{all-append, and-l, and-r}
+use Rattle.laws.proofs.Changed.{keeps-party}
+use Rattle.laws.specs.Sound.{Sound}
+use Rattle.rules.specs.Book.{Book, Header, User, at, find}
+use Rattle.rules.specs.Calls.{about, effect, entryInRange, idKnown, only, posting}
+use Rattle.rules.specs.Changes.{change, posted, withUsers}
+use Rattle.rules.specs.Levels.{Limits}
+use Rattle.base.specs.Lists.{all}
+use Rattle.rules.specs.Questions.{decided, numberOf, refusal}
+use Rattle.rules.specs.Signed.{within}
+use Rattle.book_format.proofs.After.{number-after}
+use Rattle.book_format.proofs.Formed.{bytes-numbered}
+use Rattle.book_format.proofs.Passed.{passed}
+use Rattle.book_format.proofs.Written.{all-bytes-bytesOf, bookOf-bytesOf, written-number}
+use Rattle.book_format.specs.After.{after, stepAfter, unchanged}
+use Rattle.book_format.specs.Book.{bookOf}
+use Rattle.book_format.specs.Questions.{aboutBytes, bookNumber}
+use Rattle.book_format.specs.Steps.{inBytes}
+use Rattle.store.specs.Store.{storeNumber}
+use Rattle.requests.proofs.Opened.{opening-number, setting-numbered}
+use Rattle.requests.specs.Carried.{Posted}
+use Rattle.requests.specs.Request.{Lines, Outcome, Setting, aboutLines, aboutSetting, actIn, linesFit, linesIn, linesNumber, linesOf, listOf, openingLines, openingNumber, refused, request, settingOf, stepIn}
+
+-- ---- the opening questions
+
+-- the number of question 15
+unfoldable pub fitNumber : Bool → ℕ
+fitNumber fits = cond fits 0 15
+
+lines-numbered : (g : Setting) (v : Lines) (s : List ℕ) → T (numbered (openingLines g v s))
+unfolding openingLines aboutLines numbered all
+lines-numbered g v s = all-append (λ q. ltb 0 (q .number)) (aboutBytes s) (aboutLines v ++ aboutSetting g (bookOf s)) (bytes-numbered s) (setting-numbered g (bookOf s))
+
+-- that of the book's questions, or where it is 0 that of 15, or where it is 0 that of the store's
+pub lines-number : (g : Setting) (v : Lines) (s : List ℕ)
+    → linesNumber g v s ≡ after (bookNumber s) (λ n. n) (after (fitNumber (linesFit v)) (λ n. n) (storeNumber (g .store) (bookOf s .header .date)))
+unfolding linesNumber openingLines bookNumber aboutLines refusal storeNumber aboutSetting fitNumber after numberOf
+lines-number g v s =
+    number-after (aboutBytes s) (aboutLines v ++ aboutSetting g (bookOf s)) (bytes-numbered s)
+    ∙ ap (λ (n : ℕ). after (numberOf (refusal (aboutBytes s))) (λ m. m) n) fit
+  where
+    fit : numberOf (refusal (aboutLines v ++ aboutSetting g (bookOf s))) ≡ after (fitNumber (linesFit v)) (λ n. n) (storeNumber (g .store) (bookOf s .header .date))
+    fit = go (linesFit v)
+      where
+        go : (c : Bool) → numberOf (refusal (record { number = 15; holds = c } ∷ aboutSetting g (bookOf s))) ≡ after (cond c 0 15) (λ n. n) (storeNumber (g .store) (bookOf s .header .date))
+        go true = refl
+        go false = refl
+
+-- so a question of the book refuses,
+pub lines-book : (g : Setting) (v : Lines) (s : List ℕ) {n : ℕ} → n ≡ bookNumber s → (n ≡ 0 → ⊥) → n ≡ linesNumber g v s
+unfolding after
+lines-book g v s {n} e h =
+    let rest = after (fitNumber (linesFit v)) (λ m. m) (storeNumber (g .store) (bookOf s .header .date)) in
+    go n rest h ∙ ap (λ (m : ℕ). after m (λ k. k) rest) e ∙ sym (lines-number g v s)
+  where
+    go : (m k : ℕ) → (m ≡ 0 → ⊥) → m ≡ after m (λ j. j) k
+    go zero k z = absurd (z refl)
+    go (suc m) k z = refl
+
+-- or 15 does,
+pub lines-unfit : (g : Setting) (v : Lines) (s : List ℕ) → bookNumber s ≡ 0 → linesFit v ≡ false → 15 ≡ linesNumber g v s
+unfolding after fitNumber
+lines-unfit g v s e f =
+    sym (lines-number g v s ∙ ap (λ (n : ℕ). after n (λ m. m) (after (fitNumber (linesFit v)) (λ m. m) (storeNumber (g .store) (bookOf s .header .date)))) e
+    ∙ ap (λ (c : Bool). after (fitNumber c) (λ m. m) (storeNumber (g .store) (bookOf s .header .date))) f)
+
+-- or the number is that of a call's opening questions
+pub lines-fit : (g : Setting) (v : Lines) (s : List ℕ) {n : ℕ} → linesFit v ≡ true → n ≡ openingNumber g s → n ≡ linesNumber g v s
+unfolding after fitNumber
+lines-fit g v s f e =
+    e ∙ opening-number g s
+    ∙ sym (lines-number g v s ∙ ap (λ (c : Bool). after (bookNumber s) (λ m. m) (after (fitNumber c) (λ m. m) (storeNumber (g .store) (bookOf s .header .date)))) f)
+
+-- a list that passes them fits, and each of its lines would pass its own
+pub lines-opening : (g : Setting) (v : Lines) (s : List ℕ) → linesNumber g v s ≡ 0 → (linesFit v ≡ true) × (openingNumber g s ≡ 0)
+unfolding after fitNumber
+lines-opening g v s e =
+    go (bookNumber s) (linesFit v) (storeNumber (g .store) (bookOf s .header .date)) (sym (lines-number g v s) ∙ e) (λ h. opening-number g s ∙ h)
+  where
+    go : (n : ℕ) (fits : Bool) (m : ℕ) → after n (λ k. k) (after (fitNumber fits) (λ k. k) m) ≡ 0
+        → (after n (λ k. k) m ≡ 0 → openingNumber g s ≡ 0) → (fits ≡ true) × (openingNumber g s ≡ 0)
+    go zero true m h k = (refl, k h)
+    go zero false m h k = absurd (omega arith)
+    go (suc n) fits m h k = absurd (omega arith)
+
+-- ---- a list by its number
+
+module _ (store : Option (List ℕ)) (ids areas : List ℕ) (amounts : List ℤ) (n : ℕ) (s : List ℕ) where
+  abbrev pub lines : Lines
+  lines = linesOf ids areas amounts n
+
+  pub list-opened : request (listOf store ids areas amounts n) s
+      ≡ after (linesNumber (settingOf store) lines s) (refused s) (linesIn (settingOf store) s ids areas amounts)
+  unfolding request actIn linesNumber numbered after decided numberOf
+  list-opened = go (refusal (openingLines (settingOf store) lines s)) refl
+    where
+      go : (o : Option ℕ) → refusal (openingLines (settingOf store) lines s) ≡ o
+          → decided o (refused s) (linesIn (settingOf store) s ids areas amounts) ≡ after (numberOf o) (refused s) (linesIn (settingOf store) s ids areas amounts)
+      go none e = refl
+      go (some zero) e = absurd (let l = ltb→lt 0 0 (refusal-is (λ i. ltb 0 i) (openingLines (settingOf store) lines s) 0 (lines-numbered (settingOf store) lines s) e) in omega arith)
+      go (some (suc m)) e = refl
+
+  -- the answer of a list is its number alone
+  pub list-answer : request (listOf store ids areas amounts n) s .answer ≡ only (linesNumber (settingOf store) lines s)
+  unfolding after refused linesIn
+  list-answer = ap (λ (o : Outcome). o .answer) list-opened ∙ go (linesNumber (settingOf store) lines s)
+    where
+      lines-answer : (g : Setting) (t xs ys : List ℕ) (zs : List ℤ) → linesIn g t xs ys zs .answer ≡ only 0
+      lines-answer g t [] ys zs = refl
+      lines-answer g t (x ∷ xs) [] zs = refl
+      lines-answer g t (x ∷ xs) (y ∷ ys) [] = refl
+      lines-answer g t (x ∷ xs) (y ∷ ys) (z ∷ zs) = refl
+
+      go : (m : ℕ) → after m (refused s) (linesIn (settingOf store) s ids areas amounts) .answer ≡ only m
+      go zero = lines-answer (settingOf store) s ids areas amounts
+      go (suc m) = refl
+
+-- a public list, from the number of its opening questions and what the inner list leaves
+pub posted-list : {store : Option (List ℕ)} {ids areas : List ℕ} {amounts : List ℤ} {places s : List ℕ} {number : ℕ} {t left : List ℕ}
+    → number ≡ linesNumber (settingOf store) (linesOf ids areas amounts (length places)) s
+    → t ≡ after number (λ n. s) (linesIn (settingOf store) s ids areas amounts .bytes)
+    → left ≡ after number (λ n. places) (linesIn (settingOf store) s ids areas amounts .numbers)
+    → Posted store ids areas amounts places s number t left
+unfolding after refused
+posted-list {store} {ids} {areas} {amounts} {places} {s} {number} {t} {left} e b l =
+    record {
+      carried = record {
+        answer = ap only e ∙ sym (list-answer store ids areas amounts (length places) s);
+        bytes = b ∙ by-bytes number ∙ sym (ap (λ (o : Outcome). o .bytes) whole);
+      };
+      beside = l ∙ by-numbers number ∙ ap (λ (o : Outcome). after number (λ n. places) (o .numbers)) (sym whole);
+    }
+  where
+    whole : request (listOf store ids areas amounts (length places)) s ≡ after number (refused s) (linesIn (settingOf store) s ids areas amounts)
+    whole = list-opened store ids areas amounts (length places) s ∙ ap (λ (n : ℕ). after n (refused s) (linesIn (settingOf store) s ids areas amounts)) (sym e)
+
+    by-bytes : (n : ℕ) → after n (λ m. s) (linesIn (settingOf store) s ids areas amounts .bytes) ≡ after n (refused s) (linesIn (settingOf store) s ids areas amounts) .bytes
+    by-bytes zero = refl
+    by-bytes (suc n) = refl
+
+    by-numbers : (n : ℕ) → after n (λ m. places) (linesIn (settingOf store) s ids areas amounts .numbers)
+        ≡ after n (λ m. places) (after n (refused s) (linesIn (settingOf store) s ids areas amounts) .numbers)
+    by-numbers zero = refl
+    by-numbers (suc n) = refl
+
+-- ---- one posting after another
+
+-- one line, and the lines after it on the bytes that it leaves
+pub one-line : (g : Setting) (s t : List ℕ) (id area : ℕ) (z : ℤ) (r : ℕ) (ids areas : List ℕ) (amounts : List ℤ)
+    → stepIn g s (posting id area z) .answer .number ≡ r → stepIn g s (posting id area z) .bytes ≡ t
+    → (linesIn g s (id ∷ ids) (area ∷ areas) (z ∷ amounts) .bytes ≡ linesIn g t ids areas amounts .bytes)
+    × (linesIn g s (id ∷ ids) (area ∷ areas) (z ∷ amounts) .numbers ≡ r ∷ linesIn g t ids areas amounts .numbers)
+unfolding linesIn
+one-line g s t id area z r ids areas amounts e f =
+    (ap (λ (u : List ℕ). linesIn g u ids areas amounts .bytes) f, ap₂ (λ (n : ℕ) (u : List ℕ). n ∷ linesIn g u ids areas amounts .numbers) e f)
+
+-- a posting on bytes that pass their questions leaves bytes that pass them, with the header and the parties as they were
+pub record Onward (s t : List ℕ) : Type 0 where
+  pub bytes : AllBytes t
+  pub number : bookNumber t ≡ 0
+  pub header : bookOf t .header ≡ bookOf s .header
+  pub parties : map (λ u. u .party) (bookOf t .users) ≡ map (λ u. u .party) (bookOf s .users)
+
+-- changed users have their parties
+change-parties : (id area : ℕ) (z : ℤ) (us : List User) → map (λ u. u .party) (change id (posted area z) us) ≡ map (λ u. u .party) us
+unfolding change posted
+change-parties id area z [] = refl
+change-parties id area z (u ∷ us) = λ i. keeps-party (posted area z) (λ v. refl) id u i ∷ change-parties id area z us i
+
+pub posting-onward : (limits : Limits) (s : List ℕ) (id area : ℕ) (z : ℤ) → AllBytes s → bookNumber s ≡ 0 → Onward s (stepAfter 0 limits s (posting id area z) .bytes)
+unfolding stepAfter after decided unchanged inBytes about effect idKnown entryInRange withUsers
+posting-onward limits s id area z b h = go (refusal (about limits (bookOf s) (posting id area z))) refl
+  where
+    book : Book
+    book = bookOf s
+
+    next : Book
+    next = withUsers book (change id (posted area z) (book .users))
+
+    go : (o : Option ℕ) → refusal (about limits book (posting id area z)) ≡ o → Onward s (decided o (unchanged s) (inBytes (effect limits book (posting id area z))) .bytes)
+    go none e =
+        let q8 = first-yes _ _ e in
+        let q10 = first-yes _ _ (q8 .1) in
+        let ok = within 1000000 (at (find (book .users) id .physical) area +ℤ z) in
+        let sound : Sound next = posting-sound book id area z (passed s h .sound) (q8 .0) (ltb→lt area 3 (and-l (ltb area 3) ok (q10 .0))) (and-r (ltb area 3) ok (q10 .0)) in
+        let back = bookOf-bytesOf next sound in
+        record {
+          bytes = all-bytes-bytesOf next;
+          number = written-number next sound;
+          header = ap (λ (n : Book). n .header) back;
+          parties = ap (λ (n : Book). map (λ u. u .party) (n .users)) back ∙ change-parties id area z (book .users);
+        }
+    go (some n) e = record { bytes = b; number = h; header = refl; parties = refl }
+
+-- and so the opening questions of the next posting are passed too: the store is asked on the same date
+pub onward-opening : (g : Setting) {s t : List ℕ} → Onward s t → bookNumber s ≡ 0 → openingNumber g s ≡ 0 → openingNumber g t ≡ 0
+onward-opening g {s} {t} w h e =
+    opening-number g t
+    ∙ ap (λ (n : ℕ). after n (λ m. m) (storeNumber (g .store) (bookOf t .header .date))) (w .number ∙ sym h)
+    ∙ ap (λ (x : Header). after (bookNumber s) (λ m. m) (storeNumber (g .store) (x .date))) (w .header)
+    ∙ sym (opening-number g s)
+    ∙ e
