@@ -16,14 +16,12 @@ unfolding tradeCount
 trades-are c = c .get-u16 .ensures
 
 trades-offset-requires : tie.Need-trades-offset-requires
-trades-offset-requires c κs =
-    let m = c .before in
-    (m .before .before .before .pre .0 .accepted .held .form, users-are (m .before))
+trades-offset-requires c κs = (c .before .before .before .pre .0 .accepted .held .form, users-are (c .before))
 
 cancel-among-requires : tie.Need-cancel-among-requires
 cancel-among-requires c κs =
     let o = c .before in
-    let m = o .before .before in
+    let m = o .before in
     let s = m .before .before .before in
     ((rw (o .trades-offset .ensures, trades-are m) (s .pre .0), refl), (s .pre .1 .0, s .pre .1 .1))
 
