@@ -1,5 +1,6 @@
-//! Random books for whole cancellations: a seller with few or many sales, of one
-//! size or of several, asked for what some of them are worth, or nearly.
+//! Random whole cancellations, and books for them: a seller with few or many
+//! sales, of one size or of several, asked for what some of them are worth, or
+//! nearly.
 
 use reference::book::{Book, Trade, User, MOST_TRADES, TOMORROW};
 use reference::cancellation::MOST_TRIES;
@@ -9,8 +10,22 @@ use reference::store::Limits;
 use reference::units::{Cents, Mwh};
 
 use crate::accepted::{ends_within, header, ids, set_positions, small, MOST_REDUCTIONS};
+use crate::calls::Call;
+use crate::generator::{reducible, Arguments, Generator};
 use crate::random::Random;
 use crate::written::{MOST_CENTS, MOST_MWH};
+
+impl Generator {
+    /// A whole cancellation, mostly for the user whom a run would reduce next.
+    pub fn cancellation(&mut self, book: &[u8], store: Option<&[u8]>) -> Call {
+        let Arguments { id, .. } = self.arguments(book);
+        let reducible = reducible(book, store).filter(|_| !self.random().one_in(6));
+        Call::Cancellation {
+            id: reducible.unwrap_or(id),
+            tries: tries(self.random()),
+        }
+    }
+}
 
 /// A book whose first user has sales to cancel. The run of it is kept short.
 pub fn whole(random: &mut Random) -> Book {

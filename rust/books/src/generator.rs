@@ -10,7 +10,7 @@ use crate::accepted::{
     MOST_LONG_REDUCTIONS,
 };
 use crate::calls::Call;
-use crate::cancellations::{tries, whole};
+use crate::cancellations::whole;
 use crate::damage::{counts, raw, Damage};
 use crate::random::Random;
 use crate::stores::{any_store, date_of};
@@ -290,16 +290,6 @@ impl Generator {
         }
     }
 
-    /// A whole cancellation, mostly for the user whom a run would reduce next.
-    pub fn cancellation(&mut self, book: &[u8], store: Option<&[u8]>) -> Call {
-        let Arguments { id, .. } = self.arguments(book);
-        let reducible = reducible(book, store).filter(|_| !self.random.one_in(6));
-        Call::Cancellation {
-            id: reducible.unwrap_or(id),
-            tries: tries(&mut self.random),
-        }
-    }
-
     /// A call that changes the book: a posting, a list of them, a guarantee call,
     /// a reduction or a run.
     pub fn changing_call(&mut self, book: &[u8], store: Option<&[u8]>) -> Call {
@@ -392,7 +382,7 @@ fn users_in_place(bytes: &[u8]) -> Vec<User> {
 }
 
 /// The id of the user whom a run with this store would reduce next.
-fn reducible(bytes: &[u8], store: Option<&[u8]>) -> Option<u32> {
+pub(crate) fn reducible(bytes: &[u8], store: Option<&[u8]>) -> Option<u32> {
     let Opened { book, limits } = opening_questions(bytes, store).ok()?;
     let place = next_reduction(&limits, &book)?;
     Some(book.users[place].id)
