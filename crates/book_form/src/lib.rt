@@ -1,5 +1,5 @@
-// The form of a book in bytes: the questions 1 to 3 of any bytes, the question 4 of a header's fields, the zero bytes that the questions 5 and 6 ask for; and the header's
-// prices read and its fields written.
+// The form of a book in bytes: the questions 1 to 3 of any bytes, the question 4 of a header's fields, the zero bytes that the questions 5
+// and 6 ask for; and the header's prices read and its fields written.
 ghost use mathlib.Core.Path.{_≡_};
 ghost use mathlib.Core.Bool.{_&&_};
 ghost use Prim.Native.Nat.{_+_, _*_, _≤_};

@@ -1,5 +1,6 @@
-// A book in bytes: what the bytes are, which questions they are asked, what a call does with them, and what they hold after a part of one record is set in place. The definitions
-// are in specs/, what follows from them (both round trips, one record changed) in proofs/. The code is one record's: where it stands, read, and written, by its place.
+// A book in bytes: what the bytes are, which questions they are asked, what a call does with them, and what they hold after a part of one
+// record is set in place. The definitions are in specs/, what follows from them (both round trips, one record changed) in proofs/. The code
+// is one record's: where it stands, read, and written, by its place.
 ghost use mathlib.Core.Path.{_≡_};
 ghost use Prim.Native.Nat.{_+_, _*_, _≤_, _<_};
 ghost use lib.ListN.{length, getD, set};

@@ -136,7 +136,10 @@ module _ {s : List ℕ} {n m : ℕ} (counts : CountsOf s n m) where
         → sets (sets (sets out 0 (setField 3 0 mark (take 32 s))) 32 (bytesOfRecords userBytes (usersFrom 32 n s))) (32 + 56 * n) (bytesOfRecords tradeBytes (tradesFrom 3616 m s)) ≡ bytesOf (imageBook s)
     image-written out h =
         let b = imageBook s in
-        let same : sets (sets (sets out 0 (setField 3 0 mark (take 32 s))) 32 (bytesOfRecords userBytes (usersFrom 32 n s))) (32 + 56 * n) (bytesOfRecords tradeBytes (tradesFrom 3616 m s)) ≡ sets (sets (sets out 0 (pack headerWidths (headerValues b))) 32 (bytesOfRecords userBytes (b .users))) (32 + 56 * length (b .users)) (bytesOfRecords tradeBytes (b .trades)) = rw (header-copied, user-count, users-are, trades-are) in
+        let same : sets (sets (sets out 0 (setField 3 0 mark (take 32 s))) 32 (bytesOfRecords userBytes (usersFrom 32 n s))) (32 + 56 * n)
+        (bytesOfRecords tradeBytes (tradesFrom 3616 m s)) ≡ sets
+        (sets (sets out 0 (pack headerWidths (headerValues b))) 32 (bytesOfRecords userBytes (b .users))) (32 + 56 * length (b .users))
+        (bytesOfRecords tradeBytes (b .trades)) = rw (header-copied, user-count, users-are, trades-are) in
         same ∙ parts-written b out (rw (user-count, trade-count) h)
 
     book-fits : FitsBook (imageBook s)

@@ -122,6 +122,8 @@ module _ {R : Type 0} (len : ℕ) (one : List ℕ → R) where
       let d = drop from s in
       let q : from + m - from ≡ m = omega arith in
       let l : length (take m d) ≡ m = length-take-le m d (rw length-drop (omega (arith, h))) in
-      let z : zeroedRecords width offset len n (take m d) ≡ bytesOfRecords bytes (recordsOf len one n d) = zeroed-records width offset bytes f n (take m d) (omega (arith, l)) (all-bytes-take m d (all-bytes-drop from s b)) ∙ ap (bytesOfRecords bytes) (sym (records-front n (take m d) (drop m d) l) ∙ ap (recordsOf len one n) (take-append-drop m d)) in
+      let z : zeroedRecords width offset len n (take m d) ≡ bytesOfRecords bytes (recordsOf len one n d) = zeroed-records width offset bytes f n (take m d)
+      (omega (arith, l)) (all-bytes-take m d (all-bytes-drop from s b)) ∙ ap (bytesOfRecords bytes)
+      (sym (records-front n (take m d) (drop m d) l) ∙ ap (recordsOf len one n) (take-append-drop m d)) in
       let r : length (bytesOfRecords bytes (recordsOf len one n d)) ≡ m = length-bytesOfRecords bytes len sized (recordsOf len one n d) ∙ ap (λ (j : ℕ). len * j) (length-recordsOf len one n d) in
       part-set at m out (bytesOfRecords bytes (recordsOf len one n d)) r k ((rw q at e) ∙ z)

@@ -1,5 +1,6 @@
-// The fields of a book as an image of 8,736 bytes, for callers that have no struct `Book`: header, 64 users and 256 trades in the book's format, 0 past the counts. A book is
-// read into an image, and written from the fields of one: the image is asked what the bytes of that book would be asked.
+// The fields of a book as an image of 8,736 bytes, for callers that have no struct `Book`: header, 64 users and 256 trades in the book's
+// format, 0 past the counts. A book is read into an image, and written from the fields of one: the image is asked what the bytes of that
+// book would be asked.
 ghost use mathlib.Core.Path.{_≡_};
 ghost use Prim.Native.Nat.{_-_, _≤_, _+_, _*_};
 ghost use lib.ListN.{length, replicate, take, drop};
@@ -58,7 +59,8 @@ fn copy_book(image: &mut [u8], s: &[u8], n: usize)
     fill_part(image, 3616, 8736, &s[at..]);
 }
 
-// The number of the first of the questions 1 to 7 that the bytes of a book fail, and an image of 0; or 0 and the image of the book's fields.
+// The number of the first of the questions 1 to 7 that the bytes of a book fail, and an image of 0; or 0 and the image of the book's
+// fields.
 pub fn read(book: &[u8], image: &mut [u8]) -> u32
     requires { ⌜ length (now image) ≡ 8736 ⌝ }
     ensures { λ r. ⌜ ImageRead (now (book .entry)) r (now (image .exit)) ⌝ }
@@ -135,8 +137,8 @@ pub fn copy_trades(s: &[u8], from: usize, m: usize, out: &mut [u8], at: usize)
 
 // ---- a book written from an image
 
-// The number of the first of the questions 4 to 7 that the book of an image's fields would fail in bytes, 0 where it fails none; neither the mark
-// of the image nor its zero bytes are looked at.
+// The number of the first of the questions 4 to 7 that the book of an image's fields would fail in bytes, 0 where it fails none; neither
+// the mark of the image nor its zero bytes are looked at.
 fn fields_number(image: &[u8], n: usize, m: usize) -> u32
     requires { ⌜ CountsOf (now image) n m ⌝ }
     ensures { λ r. ⌜ r ≡ fieldsNumber (bytesOf (imageBook (now (image .entry)))) ⌝ }
@@ -160,7 +162,8 @@ fn write_fields(image: &[u8], n: usize, m: usize, out: &mut [u8])
     copy_trades(image, 3616, m, out, 32 + 56 * n);
 }
 
-// Writes the book that an image's fields are to a part of exactly its length, and answers 0; or leaves the part and answers the first question that the bytes would fail.
+// Writes the book that an image's fields are to a part of exactly its length, and answers 0; or leaves the part and answers the first
+// question that the bytes would fail.
 pub fn write(image: &[u8], out: &mut [u8]) -> u32
     requires { ⌜ length (now image) ≡ 8736 ⌝ }
     ensures { λ r. ⌜ WrittenAs (userCount (now (image .entry))) (tradeCount (now (image .entry))) (imageBook (now (image .entry))) (now (out .entry)) r (now (out .exit)) ⌝ }

@@ -1,5 +1,6 @@
-// The questions 1 to 7, asked of any bytes: the number of the first that is answered by no, and the places of the trades' parties where there is none. One walk over the
-// trades serves the questions 6 and 7, and tells for every user what was sold and bought in the three areas, for d and for d+1.
+// The questions 1 to 7, asked of any bytes: the number of the first that is answered by no, and the places of the trades' parties where
+// there is none. One walk over the trades serves the questions 6 and 7, and tells for every user what was sold and bought in the three
+// areas, for d and for d+1.
 ghost use mathlib.Core.Path.{_≡_};
 ghost use Prim.Native.Nat.{_+_, _*_, _≤_};
 ghost use lib.Dec.{eqb};
@@ -43,8 +44,8 @@ fn users_valid(s: &[u8], at: usize, n: usize, ids: &mut [u32]) -> bool
 
 // ---- 6
 
-// How many of the m trades from `at` on come before one that is not valid between users of the first n ids: m where all are valid. Where it is so, the places of their
-// parties are listed, and what stands is summed at each.
+// How many of the m trades from `at` on come before one that is not valid between users of the first n ids: m where all are valid. Where it
+// is so, the places of their parties are listed, and what stands is summed at each.
 fn valid_trades(
     ids: &[u32],
     guesses: &[u8; 1024],
@@ -81,8 +82,8 @@ fn valid_trades(
 
 // ---- 5 to 7
 
-// Asks the questions 5 to 7 of the n users and the m trades from these offsets, given whether their zero bytes are 0. The places of the trades' parties are listed
-// where they fail none, and the sums of the users told where they fail none before 7.
+// Asks the questions 5 to 7 of the n users and the m trades from these offsets, given whether their zero bytes are 0. The places of the
+// trades' parties are listed where they fail none, and the sums of the users told where they fail none before 7.
 pub fn ask_records(
     s: &[u8],
     users_at: usize,
@@ -156,8 +157,9 @@ pub fn ask_fields(s: &[u8], sellers: &mut [u8], buyers: &mut [u8], sums: &mut [u
     )
 }
 
-// Asks the questions 1 to 7 of any bytes: the number of the first that is answered by no, 0 where there is none, with the places of the trades' parties; and of bytes that
-// pass the questions 1 to 6 the twelve sums of every user, and the number of trades that were read for them.
+// Asks the questions 1 to 7 of any bytes: the number of the first that is answered by no, 0 where there is none, with the places of the
+// trades' parties; and of bytes that pass the questions 1 to 6 the twelve sums of every user, and the number of trades that were read for
+// them.
 pub fn ask(s: &[u8], sellers: &mut [u8], buyers: &mut [u8], sums: &mut [u32; 768]) -> Answer
     requires { ⌜ (length (now sellers) ≡ 256) × (length (now buyers) ≡ 256) × (now sums ≡ replicate 768 0) ⌝ }
     ensures { λ r. ⌜ AskedOf (now (s .entry)) (r .number) (now (sellers .exit)) (now (buyers .exit)) ⌝ }

@@ -63,15 +63,47 @@ unfolding userFrom userValues amountValues
 userFrom-values u f =
     let h = u .physical in
     let p = u .position in
-    rw
-    (signed-bits 32 (h .pvb) (f .physical .pvb), signed-bits 32 (h .tvb) (f .physical .tvb), signed-bits 32 (h .avb) (f .physical .avb), signed-bits 32 (p .pvb) (f .position .pvb), signed-bits 32 (p .tvb) (f .position .tvb), signed-bits 32 (p .avb) (f .position .avb), signed-bits 64 (u .party .charges) (f .charges))
+    rw (
+      signed-bits 32 (h .pvb) (f .physical .pvb),
+      signed-bits 32 (h .tvb) (f .physical .tvb),
+      signed-bits 32 (h .avb) (f .physical .avb),
+      signed-bits 32
+          (p .pvb) (f .position .pvb),
+      signed-bits 32 (p .tvb) (f .position .tvb),
+      signed-bits 32 (p .avb) (f .position .avb),
+      signed-bits 64 (u .party .charges)
+          (f .charges),
+    )
 
 fit-userValues : (u : User) → FitsUser u → FitAll userWidths (userValues u)
 unfolding userWidths amountWidths userValues amountValues
 fit-userValues u f =
     let h = u .physical in
-    let p = u .position in
-    (f .id, (f .role, (omega arith, (bits-lt 32 (h .pvb) (f .physical .pvb), (bits-lt 32 (h .tvb) (f .physical .tvb), (bits-lt 32 (h .avb) (f .physical .avb), (bits-lt 32 (p .pvb) (f .position .pvb), (bits-lt 32 (p .tvb) (f .position .tvb), (bits-lt 32 (p .avb) (f .position .avb), (bits-lt 64 (u .party .charges) (f .charges), (f .assigned, (f .blocked, tt))))))))))))
+    let p = u .position in (
+      f .id,
+      (
+        f .role,
+        (
+          omega arith,
+          (
+            bits-lt 32 (h .pvb) (f .physical .pvb),
+            (
+              bits-lt 32 (h .tvb) (f .physical .tvb),
+              (
+                bits-lt 32 (h .avb) (f .physical .avb),
+                (
+                  bits-lt 32 (p .pvb) (f .position .pvb),
+                  (
+                    bits-lt 32 (p .tvb) (f .position .tvb),
+                    (bits-lt 32 (p .avb) (f .position .avb), (bits-lt 64 (u .party .charges) (f .charges), (f .assigned, (f .blocked, tt)))),
+                  ),
+                ),
+              ),
+            ),
+          ),
+        ),
+      ),
+    )
 
 pub user-of-bytes : (u : User) → FitsUser u → userOf (userBytes u) ≡ u
 unfolding userBytes

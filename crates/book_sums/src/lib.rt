@@ -14,7 +14,8 @@ use units::Net;
 
 // ---- the sums of both sides and days: twelve for each user, in the order of the users
 
-// Counts a trade that is valid for its party at a place, on the side of the sellers (0) or of the buyers (1): what stands is added in its area and day.
+// Counts a trade that is valid for its party at a place, on the side of the sellers (0) or of the buyers (1): what stands is added in its
+// area and day.
 pub fn add_trade(sums: &mut [u32; 768], place: usize, side: usize, t: Trade)
     requires { ⌜ Addable side place (asTrade t) (now sums) ⌝ }
     ensures { λ _. ⌜ now (sums .exit) ≡ added side place (asTrade t) (now (sums .entry)) ⌝ }

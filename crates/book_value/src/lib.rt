@@ -1,5 +1,5 @@
-// The whole book as a struct by value. Its users and trades are arrays of records; it is read from bytes that pass the questions 1 to 7, and written to a lent part of its
-// length, or refused with the first question that the bytes so written would fail.
+// The whole book as a struct by value. Its users and trades are arrays of records; it is read from bytes that pass the questions 1 to 7,
+// and written to a lent part of its length, or refused with the first question that the bytes so written would fail.
 ghost use mathlib.Core.Path.{_≡_};
 ghost use Prim.Native.Nat.{_+_, _*_, _≤_};
 ghost use lib.ListN.{length, take, drop};
@@ -86,7 +86,8 @@ pub fn write_trades(out: &mut [u8], at: usize, trades: [Trade; 256], n: usize)
 
 // ---- the book
 
-// A book: the header's fields, the users up to `user_count` and the trades up to `trade_count`; what stands past the counts is not of the book.
+// A book: the header's fields, the users up to `user_count` and the trades up to `trade_count`; what stands past the counts is not of the
+// book.
 pub struct Book {
     pub version: u16,
     pub user_count: u8,
@@ -204,7 +205,8 @@ pub fn open(s: &[u8]) -> Opening
 
 // ---- a book written from its fields
 
-// The number of the first of the questions 4 to 7 that the bytes of a book fail, 0 where they fail none; they are written to a part lent for it.
+// The number of the first of the questions 4 to 7 that the bytes of a book fail, 0 where they fail none; they are written to a part lent
+// for it.
 fn ask_in(scratch: &mut [u8], b: Book, len: usize) -> u32
     requires { ⌜ InCounts b × (len ≡ 32 + 56 * b .«user_count» + 20 * b .«trade_count») × (len ≤ length (now scratch)) ⌝ }
     ensures { λ r. ⌜ r ≡ fieldsNumber (bytesOf (asBook b)) ⌝ }
@@ -224,7 +226,8 @@ fn ask_written(b: Book, len: usize) -> u32
     ask_in(&mut scratch, b, len)
 }
 
-// Writes a book to a part of exactly its length, and answers 0; or leaves the part and answers the first question that the bytes would fail.
+// Writes a book to a part of exactly its length, and answers 0; or leaves the part and answers the first question that the bytes would
+// fail.
 pub fn write(b: Book, out: &mut [u8]) -> u32
     ensures { λ r. ⌜ Written b (now (out .entry)) r (now (out .exit)) ⌝ }
 {

@@ -1,5 +1,5 @@
-// The opening questions of a call with its setting: those of its book, 1 to 7, and after them those of its store, 16 and 17. They give a number and the figures of the call.
-// A list of postings is asked 15 between them.
+// The opening questions of a call with its setting: those of its book, 1 to 7, and after them those of its store, 16 and 17. They give a
+// number and the figures of the call. A list of postings is asked 15 between them.
 use units::Limits;
 ghost use mathlib.Core.Path.{_≡_};
 ghost use lib.ListN.{length, replicate};
@@ -10,7 +10,8 @@ ghost use Rattle.store.specs.Store.{given};
 ghost use Rattle.requests.specs.Request.{Lines, linesFit, linesNumber, settingOf};
 ghost use Rattle.requests.specs.Carried.{Admitted};
 
-// What the opening questions give: the number of the first that is answered by no, 0 where there is none, and the figures that the call takes then.
+// What the opening questions give: the number of the first that is answered by no, 0 where there is none, and the figures that the call
+// takes then.
 pub struct Admission {
     pub limits: Limits,
     pub number: u32,

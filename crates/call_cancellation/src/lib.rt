@@ -1,5 +1,6 @@
-// A whole cancellation on a lent book in bytes: its questions, the worths of the user's eligible trades, of both tiers, the search among their sets (`cut_sets`), and the marks of
-// the set that it found, by trade place. It changes no book. Everywhere `book` has m trades, which begin at `at`, and `sellers` has the places of their sellers.
+// A whole cancellation on a lent book in bytes: its questions, the worths of the user's eligible trades, of both tiers, the search among
+// their sets (`cut_sets`), and the marks of the set that it found, by trade place. It changes no book. Everywhere `book` has m trades,
+// which begin at `at`, and `sellers` has the places of their sellers.
 use risk_user::Day;
 use units::Area;
 use units::Cents;
@@ -27,8 +28,8 @@ ghost use Rattle.units.specs.Prices.{asPrices, InRange};
 ghost use Rattle.call_cancellation.specs.Call.{cancellationOf, onSales, onUser};
 ghost use Rattle.call_cancellation.specs.Sales.{Selling, Worths, setsOf, unmarked};
 
-// The marks of the trades to cancel, by trade place, what their worth exceeds the target by, the tries made, whether the search is complete, and 0; or no mark, 0 in every
-// field and the number of the first question that is answered by no.
+// The marks of the trades to cancel, by trade place, what their worth exceeds the target by, the tries made, whether the search is
+// complete, and 0; or no mark, 0 in every field and the number of the first question that is answered by no.
 pub struct CancellationAnswer {
     pub number: u32,
     pub marks: [bool; 256],
@@ -150,7 +151,8 @@ fn marks_of(
 
 // ---- the call
 
-// Asks the questions 14 and 24 of the user at a place and cancels whole trades for an amount; `worths` has room for those of its eligible trades.
+// Asks the questions 14 and 24 of the user at a place and cancels whole trades for an amount; `worths` has room for those of its eligible
+// trades.
 fn cancel_among(
     book: &[u8],
     at: usize,
@@ -265,8 +267,8 @@ fn ask_tries(number: u32, tries: u32) -> u32
     0
 }
 
-// The whole cancellation for the user of an id with a number of tries, after the opening questions, whose number is given with the places of the trades' parties and the sums
-// of the users.
+// The whole cancellation for the user of an id with a number of tries, after the opening questions, whose number is given with the places
+// of the trades' parties and the sums of the users.
 pub fn cancellation(
     book: &[u8],
     number: u32,

@@ -24,7 +24,8 @@ pub fn place_of(s: &[u8], id: u32) -> usize
     n
 }
 
-// What a call on a user begins with: the number of the first of the opening questions and question 8 that is answered by no, else 0 with the user's place.
+// What a call on a user begins with: the number of the first of the opening questions and question 8 that is answered by no, else 0 with
+// the user's place.
 pub struct Entry {
     pub number: u32,
     pub place: usize,

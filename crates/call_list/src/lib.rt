@@ -1,5 +1,5 @@
-// A list of postings: up to 512 corrections as columns of ids, areas and signed amounts, and a place beside each line for its number. The opening questions are asked once
-// for the whole list; then the lines are posted one after another, each with its own question 8 or 10.
+// A list of postings: up to 512 corrections as columns of ids, areas and signed amounts, and a place beside each line for its number. The
+// opening questions are asked once for the whole list; then the lines are posted one after another, each with its own question 8 or 10.
 ghost use mathlib.Core.Path.{_≡_};
 ghost use lib.ListN.{length, replicate};
 ghost use Rattle.rules.specs.Levels.{Limits};
@@ -79,7 +79,8 @@ fn post_lines(
     }
 }
 
-// Posts a list after its opening questions, whose number is given: that number, and where it is 0 the number of each line in its place; else nothing is changed.
+// Posts a list after its opening questions, whose number is given: that number, and where it is 0 the number of each line in its place;
+// else nothing is changed.
 pub fn list(
     book: &mut [u8],
     number: u32,

@@ -41,8 +41,8 @@ fn post(entry: u32, position: u32, amount: i64) -> Change
     }
 }
 
-// Adds an amount to the physical entry and the position of the user at a place, in an area: 0, or 10 and nothing is changed. Of the user's record it reads and writes
-// these two fields alone.
+// Adds an amount to the physical entry and the position of the user at a place, in an area: 0, or 10 and nothing is changed. Of the user's
+// record it reads and writes these two fields alone.
 pub fn post_at(book: &mut [u8], place: usize, area: u32, amount: i64) -> u32
     requires { ⌜ (bookNumber (now book) ≡ 0) × (place < userCount (now book)) ⌝ }
     ensures { λ r. ⌜ PostedAt place area amount (now (book .entry)) r (now (book .exit)) ⌝ }
@@ -62,8 +62,8 @@ pub fn post_at(book: &mut [u8], place: usize, area: u32, amount: i64) -> u32
     0
 }
 
-// Adds an amount to a user's physical entry and position in an area, after the opening questions, whose number is given; the number of the first question that is answered
-// by no, and then nothing is changed. It takes no figure of the limits.
+// Adds an amount to a user's physical entry and position in an area, after the opening questions, whose number is given; the number of the
+// first question that is answered by no, and then nothing is changed. It takes no figure of the limits.
 pub fn posting(book: &mut [u8], number: u32, id: u32, area: u32, amount: i64) -> u32
     requires { ⌜ (number ≡ 0 → bookNumber (now book) ≡ 0) ⌝ }
     ensures { λ r. ⌜ ((limits : Limits) → CalledAfter number limits (now (book .entry)) (postingOf id area amount) (only r) (now (book .exit))) ⌝ }

@@ -1,4 +1,5 @@
-// What a reduction and a whole cancellation ask of a user before they look at its sales: the questions 9, 11 and 13 on its state, and the target T where none of them refuses.
+// What a reduction and a whole cancellation ask of a user before they look at its sales: the questions 9, 11 and 13 on its state, and the
+// target T where none of them refuses.
 use risk_user::Day;
 use risk_user::State;
 use units::Cents;
@@ -14,7 +15,8 @@ ghost use Rattle.run_reduction.specs.Books.{Runnable};
 ghost use Rattle.units.specs.Prices.{asPrices};
 ghost use Rattle.call_questions.specs.Asked.{ShortfallOf, refusedBy};
 
-// What is told of a user: the number of the first of the questions 9, 11 and 13 that is answered by no, 0 where there is none, and then the target.
+// What is told of a user: the number of the first of the questions 9, 11 and 13 that is answered by no, 0 where there is none, and then the
+// target.
 pub struct Shortfall {
     pub number: u32,
     pub target: Cents,

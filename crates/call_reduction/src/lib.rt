@@ -1,5 +1,5 @@
-// A reduction on a lent book in bytes: its questions, and the cuts of the user's own sales for what its afternoon level exceeds its assigned guarantee by. The sales are cut on
-// arrays, as in a run, and what they lose is taken off in the bytes.
+// A reduction on a lent book in bytes: its questions, and the cuts of the user's own sales for what its afternoon level exceeds its
+// assigned guarantee by. The sales are cut on arrays, as in a run, and what they lose is taken off in the bytes.
 use call_answers::ReductionAnswer;
 use risk_user::Day;
 use units::Cents;
@@ -154,8 +154,8 @@ fn reduce_user(
     )
 }
 
-// The reduction of the user of an id, after the opening questions, whose number is given with the places of the trades' parties and the sums of the users: the user's
-// eligible trades are cut for its target.
+// The reduction of the user of an id, after the opening questions, whose number is given with the places of the trades' parties and the
+// sums of the users: the user's eligible trades are cut for its target.
 pub fn reduction(
     book: &mut [u8],
     number: u32,

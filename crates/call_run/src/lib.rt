@@ -26,7 +26,8 @@ fn accepted(t: Totals) -> RunAnswer
     }
 }
 
-// Runs the book that the bytes hold, in the bytes, after the opening questions, whose number is given with the places of the trades' parties and the sums of the users.
+// Runs the book that the bytes hold, in the bytes, after the opening questions, whose number is given with the places of the trades'
+// parties and the sums of the users.
 pub fn run(
     book: &mut [u8],
     number: u32,

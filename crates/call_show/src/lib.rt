@@ -3,8 +3,8 @@ ghost use mathlib.Core.Path.{_≡_};
 ghost use Rattle.book_format.specs.Questions.{bookNumber};
 ghost use Rattle.call_show.specs.Shown.{ShownAfter, PartAfter, picked, pickedAt};
 
-// The record of the user of an id as a part of the book, after the opening questions, whose number is given, and 0; or the empty part and the number of the first
-// question that is answered by no.
+// The record of the user of an id as a part of the book, after the opening questions, whose number is given, and 0; or the empty part and
+// the number of the first question that is answered by no.
 pub fn show<'a>(book: &'a [u8], opened: u32, id: u32, number: &mut u32) -> &'a [u8]
     requires { ⌜ (opened ≡ 0 → bookNumber (now book) ≡ 0) ⌝ }
     ensures { λ r. ⌜ ShownAfter opened (now (book .entry)) id (now (number .exit)) (now r) ⌝ }

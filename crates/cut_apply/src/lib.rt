@@ -1,4 +1,5 @@
-// Sales that lose something, in the bytes of a book: the positions of the seller and the buyer of each move, and the trades are lowered as records, in one list, and written back.
+// Sales that lose something, in the bytes of a book: the positions of the seller and the buyer of each move, and the trades are lowered as
+// records, in one list, and written back.
 ghost use mathlib.Core.Path.{_≡_};
 ghost use Prim.Native.Nat.{_+_, _*_, _≤_, _<_, _^_};
 ghost use lib.IntN.{pos, negℤ, _+ℤ_};
@@ -17,7 +18,8 @@ ghost use Rattle.cut_apply.specs.Cutting.{Cutting, CuttablePart, MovedBy
 
 // ---- positions
 
-// The bits of a position in two's complement after it rises by an energy. The sum is taken of the bits as they stand: with a sign in between, four stores of a byte do not become one.
+// The bits of a position in two's complement after it rises by an energy. The sum is taken of the bits as they stand: with a sign in
+// between, four stores of a byte do not become one.
 fn raised(bits: u32, energy: u32) -> u32
     requires { ⌜ posPart (signedOf 32 bits) + energy < 2 ^ 31 ⌝ }
     ensures { λ r. ⌜ r ≡ bitsOf 32 (signedOf 32 bits +ℤ pos energy) ⌝ }
@@ -85,7 +87,8 @@ fn count_losing(cuts: &[u64; 256], from: usize, to: usize) -> usize
     lost
 }
 
-// Moves the positions of the parties of a sale by its cut, and notes its place and the cut as the next of those that lose something; gives the number of these. A cut of 0 is passed by.
+// Moves the positions of the parties of a sale by its cut, and notes its place and the cut as the next of those that lose something; gives
+// the number of these. A cut of 0 is passed by.
 fn cut_sale(
     book: &mut [u8],
     at: usize,
@@ -112,7 +115,8 @@ fn cut_sale(
     lost
 }
 
-// Moves the positions of the parties of the sales, from a place up to another, by their cuts, and notes those that lose something, for which there is room.
+// Moves the positions of the parties of the sales, from a place up to another, by their cuts, and notes those that lose something, for
+// which there is room.
 fn move_all(
     book: &mut [u8],
     at: usize,
@@ -141,7 +145,8 @@ fn move_all(
     }
 }
 
-// Cuts the sales from a place up to another: what stands of each falls by its cut, and the positions of its parties move by it. Those that lose something are noted, as many as there is room for, and lowered as records.
+// Cuts the sales from a place up to another: what stands of each falls by its cut, and the positions of its parties move by it. Those that
+// lose something are noted, as many as there is room for, and lowered as records.
 fn apply_noting(
     book: &mut [u8],
     n: usize,

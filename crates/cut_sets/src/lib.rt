@@ -1,7 +1,8 @@
-// Document 02, ask 8: "a set of whole eligible trades .. whose worth at tariff is at least the target T", searched among the worths of the eligible trades in book order.
-// "sets are tried counting down from all trades to the empty set": the sets left out then count up from 0, so that try k + 1 leaves out the set k, the last trade
-// being its lowest bit. With at most 65,535 tries only the last 16 trades are ever left out.
-// The worth of a set left out is read off two tables, of its high and its low eight bits, with one sum for each try; the high bits change only with every 256th try.
+// Document 02, ask 8: "a set of whole eligible trades .. whose worth at tariff is at least the target T", searched among the worths of the
+// eligible trades in book order. "sets are tried counting down from all trades to the empty set": the sets left out then count up from 0,
+// so that try k + 1 leaves out the set k, the last trade being its lowest bit. With at most 65,535 tries only the last 16 trades are ever
+// left out. The worth of a set left out is read off two tables, of its high and its low eight bits, with one sum for each try; the high
+// bits change only with every 256th try.
 ghost use mathlib.Core.Path.{_≡_};
 ghost use Prim.Native.Nat.{_^_, _≤_, _<_, min};
 ghost use lib.ListN.{take};
@@ -114,16 +115,16 @@ fn table(worths: &[u64; 256], n: usize, step: usize, count: usize) -> [u64; 256]
     table
 }
 
-// Whether a set that leaves out trades of the worth `out` reaches the target with a smaller excess than one that leaves out trades of the worth `best`; `spare` is what all
-// trades together are worth above the target.
+// Whether a set that leaves out trades of the worth `out` reaches the target with a smaller excess than one that leaves out trades of the
+// worth `best`; `spare` is what all trades together are worth above the target.
 fn is_better(best: u64, out: u64, spare: u64) -> bool
     ensures { λ r. ⌜ r ≡ smaller spare out best ⌝ }
 {
     (best < out) & (out <= spare)
 }
 
-// The first try from a number on, up to another, whose set reaches the target with a smaller excess than one that leaves out trades of the worth `best`; else the latter. The
-// sets have the same high eight bits, whose trades left out are worth `base`.
+// The first try from a number on, up to another, whose set reaches the target with a smaller excess than one that leaves out trades of the
+// worth `best`; else the latter. The sets have the same high eight bits, whose trades left out are worth `base`.
 fn first_better(
     best: u64,
     base: u64,

@@ -1,4 +1,5 @@
-// The cuts of a reduction on arrays: what stands of a seller's own sales and the areas of the sales, from..to. The cuts of both tiers are filled in; one is taken off, and tallied.
+// The cuts of a reduction on arrays: what stands of a seller's own sales and the areas of the sales, from..to. The cuts of both tiers are
+// filled in; one is taken off, and tallied.
 use cut_worth::Tally;
 use units::Area;
 use units::Cents;
@@ -43,8 +44,8 @@ fn rates_of(pvb: bool, tvb: bool, avb: bool, prices: Prices) -> [u64; 3]
     [p, t, a]
 }
 
-// Fills in what each sale loses where the seller is reduced for an amount; `short` says in which areas its position is negative. Tier one takes the amount, tier
-// two what tier one's worth leaves of it. `rests` is room for remainders; what it holds at the end is of no use.
+// Fills in what each sale loses where the seller is reduced for an amount; `short` says in which areas its position is negative. Tier one
+// takes the amount, tier two what tier one's worth leaves of it. `rests` is room for remainders; what it holds at the end is of no use.
 pub fn fill_cuts(
     standing: &[u64; 256],
     areas: &[u8; 256],

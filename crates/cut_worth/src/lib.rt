@@ -1,5 +1,6 @@
-// The worth of a tier, the running tally of a reduction and the totals of a run. Sales stand in two arrays: what stands of each, and its area. A part of them is
-// named by where it starts and where it ends. `rates` has the tariff of each area that belongs to the tier, and 0 for the others.
+// The worth of a tier, the running tally of a reduction and the totals of a run. Sales stand in two arrays: what stands of each, and its
+// area. A part of them is named by where it starts and where it ends. `rates` has the tariff of each area that belongs to the tier, and 0
+// for the others.
 ghost use mathlib.Core.Path.{_≡_};
 ghost use Prim.Native.Nat.{_+_, _*_, _-_, _≤_, _<_, _^_};
 ghost use lib.ListN.{getD};

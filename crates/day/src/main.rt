@@ -1,4 +1,5 @@
-// Reads a book from standard input, runs it and prints its day. The longest book has 8,736 bytes: one byte more is all that has to be read of a longer input, which is refused.
+// Reads a book from standard input, runs it and prints its day. The longest book has 8,736 bytes: one byte more is all that has to be read
+// of a longer input, which is refused.
 
 fn main() {
     let mut book = [0u8; 8737];

@@ -1,5 +1,5 @@
-// What is printed of a user after the run: id, state, afternoon level and the three positions. A line is told from the book's bytes, and from the sums and the positions of its
-// users, which are gathered once for all lines.
+// What is printed of a user after the run: id, state, afternoon level and the three positions. A line is told from the book's bytes, and
+// from the sums and the positions of its users, which are gathered once for all lines.
 use book_records::User;
 use risk_user::Day;
 use risk_user::State;

@@ -146,7 +146,8 @@ fn run(book: &mut [u8]) -> RunAnswer
     )
 }
 
-// Runs a book in bytes and prints its day: the run, and the line of every user in the book that the run leaves; or the number of the question that refuses it.
+// Runs a book in bytes and prints its day: the run, and the line of every user in the book that the run leaves; or the number of the
+// question that refuses it.
 pub fn day(book: &mut [u8])
     ensures { λ _. ⌜ now (book .exit) ≡ stepBytes today (now (book .entry)) runCall .bytes ⌝ }
 {

@@ -1,6 +1,6 @@
-// The public calls on a lent book in bytes, each with a store of parameter sets or none. None asks anything of its caller: any bytes, any id and any amount get the documents'
-// number or their answer, and a refused call leaves the book byte for byte the same. Each asks the opening questions and hands their number on, with the figures that they give;
-// what it gives is one definition of specs/ of `requests`.
+// The public calls on a lent book in bytes, each with a store of parameter sets or none. None asks anything of its caller: any bytes, any
+// id and any amount get the documents' number or their answer, and a refused call leaves the book byte for byte the same. Each asks the
+// opening questions and hands their number on, with the figures that they give; what it gives is one definition of specs/ of `requests`.
 ghost use mathlib.Core.Path.{_≡_};
 ghost use Rattle.rules.specs.Calls.{only, morningCall, afternoonCall};
 ghost use Rattle.rules.specs.Queries.{morningLevelOf, afternoonLevelOf};
@@ -32,21 +32,24 @@ use call_answers::RunAnswer;
 use call_answers::WarningAnswer;
 use call_cancellation::CancellationAnswer;
 
-// The book that bytes hold, every field of it, and 0; or a book whose every field is 0 and the number of the first of the questions 1 to 7 that is answered by no.
+// The book that bytes hold, every field of it, and 0; or a book whose every field is 0 and the number of the first of the questions 1 to 7
+// that is answered by no.
 pub fn read(bytes: &[u8]) -> Opening
     ensures { λ r. ⌜ Opened (now (bytes .entry)) (r .number) (r .book) ⌝ }
 {
     book_value::open(bytes)
 }
 
-// Writes a book, up to its counts, to a part of exactly its length, and answers 0; or leaves the part and answers the first question that the bytes would fail.
+// Writes a book, up to its counts, to a part of exactly its length, and answers 0; or leaves the part and answers the first question that
+// the bytes would fail.
 pub fn write(book: Book, out: &mut [u8]) -> u32
     ensures { λ r. ⌜ Written book (now (out .entry)) r (now (out .exit)) ⌝ }
 {
     book_value::write(book, out)
 }
 
-// The 56 bytes of a user's record as that part of the book, and 0; or the empty part and the number of the first question that is answered by no.
+// The 56 bytes of a user's record as that part of the book, and 0; or the empty part and the number of the first question that is answered
+// by no.
 pub fn show<'a>(
     book: &'a [u8],
     with_store: bool,
@@ -60,7 +63,8 @@ pub fn show<'a>(
     call_show::show(book, admission.number, id, number)
 }
 
-// The same of the picked one of two books: the afternoon's where `afternoon_picked` is yes, else the morning's. Only the picked book is questioned.
+// The same of the picked one of two books: the afternoon's where `afternoon_picked` is yes, else the morning's. Only the picked book is
+// questioned.
 pub fn show_picked<'a>(
     morning: &'a [u8],
     afternoon: &'a [u8],
@@ -76,7 +80,8 @@ pub fn show_picked<'a>(
     show(book, with_store, store, id, number)
 }
 
-// Adds a signed amount to a user's physical entry and position in an area, and answers 0; or the number of the first question that is answered by no.
+// Adds a signed amount to a user's physical entry and position in an area, and answers 0; or the number of the first question that is
+// answered by no.
 pub fn posting(
     book: &mut [u8],
     with_store: bool,
@@ -91,8 +96,8 @@ pub fn posting(
     call_posting::posting(book, admission.number, id, area, amount)
 }
 
-// Posts a list of corrections, at most 512 lines of id, area and signed amount, one after another, and answers 0 with the number of each line in the place beside it;
-// or the number of the first question that is answered by no, and places and book stay as they are.
+// Posts a list of corrections, at most 512 lines of id, area and signed amount, one after another, and answers 0 with the number of each
+// line in the place beside it; or the number of the first question that is answered by no, and places and book stay as they are.
 pub fn list(
     book: &mut [u8],
     with_store: bool,
@@ -203,7 +208,8 @@ pub fn reduction(book: &mut [u8], with_store: bool, store: &[u8], id: u32) -> Re
     call_reduction::reduction(book, admission.number, limits, &sellers, &buyers, &sums, id)
 }
 
-// Finds whole eligible trades of a user whose worth at tariff reaches what its afternoon level exceeds its assigned guarantee by, in a number of tries.
+// Finds whole eligible trades of a user whose worth at tariff reaches what its afternoon level exceeds its assigned guarantee by, in a
+// number of tries.
 pub fn cancellation(
     book: &[u8],
     with_store: bool,

@@ -1,5 +1,6 @@
-// The C interface over the public calls of `daybook` and `shrinkage`; include/daybook.h declares it. A slice is a pointer and a length in C. No function asks anything of what it is lent:
-// a part for answers of another length than the function's gets the number 255, and nothing is asked or changed. A store comes with a flag, which is 0 where there is none.
+// The C interface over the public calls of `daybook` and `shrinkage`; include/daybook.h declares it. A slice is a pointer and a length in
+// C. No function asks anything of what it is lent: a part for answers of another length than the function's gets the number 255, and
+// nothing is asked or changed. A store comes with a flag, which is 0 where there is none.
 ghost use mathlib.Core.Path.{_≡_};
 ghost use Rattle.rules.specs.Calls.{only, morningCall, afternoonCall};
 ghost use Rattle.rules.specs.Queries.{morningLevelOf, afternoonLevelOf};
@@ -13,7 +14,8 @@ ghost use Rattle.call_reduction.specs.Call.{reductionOf};
 ghost use Rattle.call_run.specs.Call.{runCall};
 ghost use Rattle.call_show.specs.Shown.{picked};
 ghost use Rattle.exports_answers.specs.Numbers.{levelNumbers, warningNumbers, callNumbers, reductionNumbers, runNumbers};
-ghost use Rattle.exports.specs.Answers.{isYes, storeBy, Replied, Answered, Copied, ReadInto, WrittenFrom, ReturnedInto, SpreadInto, CancelledInto};
+ghost use Rattle.exports.specs.Answers.{isYes, storeBy, Replied, Answered, Copied};
+ghost use Rattle.exports.specs.Answers.{ReadInto, WrittenFrom, ReturnedInto, SpreadInto, CancelledInto};
 use shrinkage::Kwh;
 
 // The number for a lent part of another length than the function asks for.
@@ -144,7 +146,8 @@ pub extern "C" fn daybook_posting(
     daybook::posting(book, with_store != 0, store, id, area, amount)
 }
 
-// Posts a list of corrections, given as columns, and stores the number of each line in its place. Places of another count than the lines are refused by question 15.
+// Posts a list of corrections, given as columns, and stores the number of each line in its place. Places of another count than the lines
+// are refused by question 15.
 #[no_mangle]
 pub extern "C" fn daybook_list(
     book: &mut [u8],
@@ -270,7 +273,8 @@ pub extern "C" fn daybook_warning(
     exports_answers::store_warning(answer, reply)
 }
 
-// Cuts a user's bilateral sales for its target: 5 numbers, the MWh cut, their worth, the target, and what the worth falls short of it or exceeds it by.
+// Cuts a user's bilateral sales for its target: 5 numbers, the MWh cut, their worth, the target, and what the worth falls short of it or
+// exceeds it by.
 #[no_mangle]
 pub extern "C" fn daybook_reduction(
     book: &mut [u8],
@@ -288,7 +292,8 @@ pub extern "C" fn daybook_reduction(
     exports_answers::store_reduction(answer, reduction)
 }
 
-// Finds whole trades to cancel for a user's target: 256 marks by trade place, and 3 numbers, the excess, the tries made, and 1 where the search is complete.
+// Finds whole trades to cancel for a user's target: 256 marks by trade place, and 3 numbers, the excess, the tries made, and 1 where the
+// search is complete.
 #[no_mangle]
 pub extern "C" fn daybook_cancellation(
     book: &[u8],

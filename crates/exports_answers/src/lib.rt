@@ -1,4 +1,5 @@
-// The answers of the calls as numbers in a lent part, for the C interface: each kind of answer has its numbers in a fixed order, and its number is passed on.
+// The answers of the calls as numbers in a lent part, for the C interface: each kind of answer has its numbers in a fixed order, and its
+// number is passed on.
 ghost use mathlib.Core.Path.{_≡_};
 ghost use lib.ListN.{length};
 ghost use Rattle.call_answers.specs.Level as levels;

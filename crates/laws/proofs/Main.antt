@@ -24,7 +24,33 @@ use Rattle.laws.proofs.Users.{all-find}
 use Rattle.laws.specs.Statements.{Conserved, StaysAccepted, CutsEligible, SomethingCut, TargetMet, SettledAnew, AllCovered, RunEnds, RunCounts, Bounded}
 use Rattle.laws.specs.Trades.{Lowered, Pairwise}
 use Rattle.rules.specs.Book.{Book, at, find}
-use Rattle.rules.specs.Calls.{posting, morningCall, afternoonCall, reduction, run, Call, about, assignedFallsShort, assignedSuffices, calledInBeyondMargin, cuttable, effect, eligibleTrade, entryInRange, guaranteed, idKnown, isShipper, marginExceeded, ofCuts, only, questions, reduced, reducedBy, runFor, step}
+use Rattle.rules.specs.Calls.{
+  posting,
+  morningCall,
+  afternoonCall,
+  reduction,
+  run,
+  Call,
+  about,
+  assignedFallsShort,
+  assignedSuffices,
+  calledInBeyondMargin,
+  cuttable,
+  effect,
+  eligibleTrade,
+  entryInRange,
+  guaranteed,
+  idKnown,
+  isShipper,
+  marginExceeded,
+  ofCuts,
+  only,
+  questions,
+  reduced,
+  reducedBy,
+  runFor,
+  step,
+}
 use Rattle.rules.specs.Changes.{withUsers}
 use Rattle.rules.specs.Levels.{Limits, afternoonLevel, morningLevel}
 use Rattle.rules.specs.Questions.{aboutBook, decided, positionsValid, refusal, userValid}

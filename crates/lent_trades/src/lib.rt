@@ -1,4 +1,5 @@
-// The trades of a tier are a list of records, cut where they are: the list is lent by `&mut`, and what stands of each trade is lowered by its cut.
+// The trades of a tier are a list of records, cut where they are: the list is lent by `&mut`, and what stands of each trade is lowered by
+// its cut.
 ghost use mathlib.Core.Path.{_≡_};
 ghost use Prim.Native.Nat.{_-_};
 ghost use lib.ListN.{getD};
@@ -20,7 +21,8 @@ pub fn left_of(cuts: &[u64], i: usize, standing: u32) -> u32
     standing
 }
 
-// Each trade of the list is lowered by its own cut, where it is; trades past the cuts stay as they are, so the loop ends with the shorter list. The borrow checker does not cover this form, so its proof walks the code by hand.
+// Each trade of the list is lowered by its own cut, where it is; trades past the cuts stay as they are, so the loop ends with the shorter
+// list. The borrow checker does not cover this form, so its proof walks the code by hand.
 pub fn lower_all(trades: &mut [Trade], cuts: &[u64])
     ensures { λ _. ⌜ LoweredBy (now (cuts .entry)) (now (trades .entry)) (now (trades .exit)) ⌝ }
 {
@@ -33,7 +35,8 @@ pub fn lower_all(trades: &mut [Trade], cuts: &[u64])
     }
 }
 
-// An array of trades by value is lent to `lower_all`. This proof walks the code by hand, too; with no struct behind a reference, whoever calls it needs no such proof.
+// An array of trades by value is lent to `lower_all`. This proof walks the code by hand, too; with no struct behind a reference, whoever
+// calls it needs no such proof.
 pub fn cut_all(trades: [Trade; 256], cuts: &[u64]) -> [Trade; 256]
     ensures { λ r. ⌜ LoweredBy (now (cuts .entry)) trades r ⌝ }
 {

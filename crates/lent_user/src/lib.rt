@@ -25,7 +25,8 @@ pub fn raise(blocked: Cents, level: Cents) -> Raised
     }
 }
 
-// The record is changed where it is: its blocked guarantee is raised to the level. Gives back what was added. The borrow checker does not cover this form, so its proof walks the code by hand.
+// The record is changed where it is: its blocked guarantee is raised to the level. Gives back what was added. The borrow checker does not
+// cover this form, so its proof walks the code by hand.
 pub fn block(user: &mut User, level: Cents) -> Cents
     ensures { λ r. ⌜ BlockedTo (level .0) (now (user .entry)) (now (user .exit)) r ⌝ }
 {
@@ -41,7 +42,8 @@ pub struct Blocking {
     pub added: Cents,
 }
 
-// A record by value is lent to `block`. This proof walks the code by hand, too; with plain parameters, whoever calls it needs no such proof.
+// A record by value is lent to `block`. This proof walks the code by hand, too; with plain parameters, whoever calls it needs no such
+// proof.
 pub fn blocked_user(user: User, level: Cents) -> Blocking
     ensures { λ r. ⌜ BlockedTo (level .0) user (r .user) (r .added) ⌝ }
 {

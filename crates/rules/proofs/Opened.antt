@@ -7,7 +7,33 @@ use Rattle.rules.specs.Signed.{signedOf, bitsOf, within}
 use Rattle.rules.specs.Calendar.{leapYear, daysInMonth, yearOf, monthOf, dayOf, realDay}
 use Rattle.base.specs.Lists.{all, any}
 use Rattle.rules.specs.Book.{at, bilateralForDay, dealt, sold, bought, definedPosition, nobody, find}
-use Rattle.rules.specs.Questions.{refusal, numberOf, decided, versionValid, countsValid, tariffValid, tollValid, pricesValid, headerValid, idsRise, entriesValid, guaranteesValid, userValid, usersValid, known, partiesValid, codesValid, amountsValid, tradeValid, eqbℤ, positionValid, positionsValid, aboutBook, isNone, accepted}
+use Rattle.rules.specs.Questions.{
+  refusal,
+  numberOf,
+  decided,
+  versionValid,
+  countsValid,
+  tariffValid,
+  tollValid,
+  pricesValid,
+  headerValid,
+  idsRise,
+  entriesValid,
+  guaranteesValid,
+  userValid,
+  usersValid,
+  known,
+  partiesValid,
+  codesValid,
+  amountsValid,
+  tradeValid,
+  eqbℤ,
+  positionValid,
+  positionsValid,
+  aboutBook,
+  isNone,
+  accepted,
+}
 use Rattle.rules.specs.Changes.{change, withUsers, add, posted, blockedTo, moved}
 use Rattle.rules.specs.Levels.{today, holding, sells, buys, partyTo, sellerOf, morningNeed, stock, afternoonNeed, exposure, morningSum, afternoonSum, leastReferencePrice, shipper, floored, morningLevel, afternoonLevel, flagged, calledIn, exceedsMargin, shortOfCover}
 use Rattle.rules.specs.Shares.{tierWorth, shareOf, loss, largestRemainder, oneMore, byTurns, inProportion, tierCuts}
@@ -17,5 +43,13 @@ use Rattle.rules.specs.Queries.{onlyNumber, aLevel, aWarning, aRecord, a
 use Rattle.rules.specs.Day.{callDue, state, printedLevel, line, lines}
 
 unfoldable pub opened : ℕ
-unfolding posPart negPart sum sumℤ areas tariff referencePrice signedOf bitsOf within leapYear daysInMonth yearOf monthOf dayOf realDay all any at bilateralForDay dealt sold bought definedPosition nobody find refusal numberOf decided versionValid countsValid tariffValid tollValid pricesValid headerValid idsRise entriesValid guaranteesValid userValid usersValid known partiesValid codesValid amountsValid tradeValid eqbℤ positionValid positionsValid aboutBook isNone accepted change withUsers add posted blockedTo moved today holding sells buys partyTo sellerOf morningNeed stock afternoonNeed exposure morningSum afternoonSum leastReferencePrice shipper floored morningLevel afternoonLevel flagged calledIn exceedsMargin shortOfCover tierWorth shareOf loss largestRemainder oneMore byTurns inProportion tierCuts target eligible hasEligible shortIn lot tierOne tierTwo together cuts cutBy cutAll nothing tallied tallyAll lost settleOne settle withTrades only ofLevel ofCuts ofRun guaranteed reducedBy cuttable idKnown isShipper entryInRange assignedSuffices assignedFallsShort eligibleTrade marginExceeded calledInBeyondMargin about questions reduced nextReduced onward runFor effect step onlyNumber aLevel aWarning aRecord aboutQuery warns warned found reply callDue state printedLevel line lines
+unfolding posPart negPart sum sumℤ areas tariff referencePrice signedOf bitsOf within leapYear daysInMonth yearOf monthOf dayOf realDay all any at
+    bilateralForDay dealt sold bought definedPosition nobody find refusal numberOf decided versionValid countsValid tariffValid tollValid pricesValid
+    headerValid idsRise entriesValid guaranteesValid userValid usersValid known partiesValid codesValid amountsValid tradeValid eqbℤ positionValid
+    positionsValid aboutBook isNone accepted change withUsers add posted blockedTo moved today holding sells buys partyTo sellerOf morningNeed stock
+    afternoonNeed exposure morningSum afternoonSum leastReferencePrice shipper floored morningLevel afternoonLevel flagged calledIn exceedsMargin
+    shortOfCover tierWorth shareOf loss largestRemainder oneMore byTurns inProportion tierCuts target eligible hasEligible shortIn lot tierOne tierTwo
+    together cuts cutBy cutAll nothing tallied tallyAll lost settleOne settle withTrades only ofLevel ofCuts ofRun guaranteed reducedBy cuttable idKnown
+    isShipper entryInRange assignedSuffices assignedFallsShort eligibleTrade marginExceeded calledInBeyondMargin about questions reduced nextReduced onward
+    runFor effect step onlyNumber aLevel aWarning aRecord aboutQuery warns warned found reply callDue state printedLevel line lines
 opened = 0

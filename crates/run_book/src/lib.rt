@@ -1,4 +1,5 @@
-// The run of a book in its bytes, by arrays: they are filled in from the opening book, the run goes on in them, and what its sales have lost is taken off in the bytes at the end.
+// The run of a book in its bytes, by arrays: they are filled in from the opening book, the run goes on in them, and what its sales have
+// lost is taken off in the bytes at the end.
 use cut_worth::Totals;
 use risk_user::Day;
 ghost use mathlib.Core.Path.{_≡_};
@@ -38,7 +39,8 @@ fn lost_of(standing: &[u64; 256], left: &mut [u64; 256], count: usize)
 
 // ---- the run
 
-// Runs a book of which the own sales are listed: fills in positions, who has been cut and who owes what, runs on in a copy of what stands, and takes off what was lost.
+// Runs a book of which the own sales are listed: fills in positions, who has been cut and who owes what, runs on in a copy of what stands,
+// and takes off what was lost.
 fn run_listed(
     book: &mut [u8],
     sellers: &[u8; 256],
@@ -96,8 +98,8 @@ fn run_listed(
     totals
 }
 
-// Runs an accepted book, the parties of whose trades have these places and whose users these sums: while some user that is short of cover has an own sale to cut, the one of
-// the lowest id is reduced.
+// Runs an accepted book, the parties of whose trades have these places and whose users these sums: while some user that is short of cover
+// has an own sale to cut, the one of the lowest id is reduced.
 pub fn run_book(
     book: &mut [u8],
     sellers: &[u8; 256],

@@ -1,4 +1,5 @@
-// The positions of a run's users in an array, three for each place: filled in from the bytes of the opening book, and moved by the cut of a sale.
+// The positions of a run's users in an array, three for each place: filled in from the bytes of the opening book, and moved by the cut of a
+// sale.
 use units::Net;
 ghost use mathlib.Core.Path.{_≡_};
 ghost use Prim.Native.Nat.{_+_, _*_, _-_, _≤_, _<_, _^_};

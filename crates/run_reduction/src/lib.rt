@@ -1,4 +1,5 @@
-// One reduction on arrays, of a run and of a single user alike: the cuts of the sales from..to of the user at a place, taken off what stands, and the positions that they move.
+// One reduction on arrays, of a run and of a single user alike: the cuts of the sales from..to of the user at a place, taken off what
+// stands, and the positions that they move.
 use cut_worth::Tally;
 use units::Cents;
 use units::Prices;
@@ -21,7 +22,8 @@ ghost use Rattle.run_reduction.specs.Reductions.{Reducible, shortIn};
 
 // ---- what the sales of a user lose, taken off
 
-// Takes the cut of the sale i off what stands, moves the positions of its seller, at a place, and of its buyer, and adds it to the tally. Most sales lose nothing.
+// Takes the cut of the sale i off what stands, moves the positions of its seller, at a place, and of its buyer, and adds it to the tally.
+// Most sales lose nothing.
 fn settle_sale(
     standing: &mut [u64; 256],
     positions: &mut [u32; 192],
@@ -50,7 +52,8 @@ fn settle_sale(
     cut_tiers::tally_with(tally, cut, area, prices)
 }
 
-// Takes the cuts of the sales from..to of the user at a place off what stands, moves the positions of the user and of the buyers, and gives the tally of the cuts.
+// Takes the cuts of the sales from..to of the user at a place off what stands, moves the positions of the user and of the buyers, and gives
+// the tally of the cuts.
 fn settle(
     standing: &mut [u64; 256],
     areas: &[u8; 256],
@@ -91,7 +94,8 @@ fn settle(
 
 // ---- the reduction
 
-// Reduces the user at a place for an amount. `cuts`, which has none from..to, has what its sales lose after it; what `rests` holds is of no use.
+// Reduces the user at a place for an amount. `cuts`, which has none from..to, has what its sales lose after it; what `rests` holds is of no
+// use.
 pub fn reduce(
     standing: &mut [u64; 256],
     areas: &[u8; 256],

@@ -169,7 +169,8 @@ fn lesser(a: usize, b: usize) -> usize
     b
 }
 
-// Asks the user at a place anew where it has an eligible trade: it is party to a trade standing below notified. Hands back the lesser of `least` and the place asked.
+// Asks the user at a place anew where it has an eligible trade: it is party to a trade standing below notified. Hands back the lesser of
+// `least` and the place asked.
 fn look_at(
     book: &[u8],
     sums: &[u32; 768],

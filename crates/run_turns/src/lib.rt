@@ -1,4 +1,5 @@
-// The reductions of a run, one after another, on arrays: the book that the run has come to stands in them, and the bytes hold the opening book throughout.
+// The reductions of a run, one after another, on arrays: the book that the run has come to stands in them, and the bytes hold the opening
+// book throughout.
 use cut_worth::Tally;
 use cut_worth::Totals;
 use risk_user::Day;
@@ -25,7 +26,8 @@ pub struct Reduced {
     pub least: usize,
 }
 
-// Reduces the user at a place, which is due, for its target. `cuts` has what its sales lose, and must be cleared after it; what `rests` holds is of no use.
+// Reduces the user at a place, which is due, for its target. `cuts` has what its sales lose, and must be cleared after it; what `rests`
+// holds is of no use.
 pub fn turn(
     book: &[u8],
     sums: &[u32; 768],

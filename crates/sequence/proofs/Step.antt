@@ -24,7 +24,32 @@ use Rattle.laws.specs.Trades.{Lowered, Pairwise}
 use Rattle.requests.proofs.Opened.{setting-numbered}
 use Rattle.requests.specs.Request.{Setting, aboutSetting, limitsOn, stepGiven}
 use Rattle.rules.specs.Book.{Book, at, find}
-use Rattle.rules.specs.Calls.{posting, morningCall, afternoonCall, reduction, run, Call, Result, about, assignedFallsShort, assignedSuffices, calledInBeyondMargin, cuttable, effect, eligibleTrade, entryInRange, guaranteed, idKnown, isShipper, marginExceeded, ofCuts, ofLevel, only, reduced, reducedBy}
+use Rattle.rules.specs.Calls.{
+  posting,
+  morningCall,
+  afternoonCall,
+  reduction,
+  run,
+  Call,
+  Result,
+  about,
+  assignedFallsShort,
+  assignedSuffices,
+  calledInBeyondMargin,
+  cuttable,
+  effect,
+  eligibleTrade,
+  entryInRange,
+  guaranteed,
+  idKnown,
+  isShipper,
+  marginExceeded,
+  ofCuts,
+  ofLevel,
+  only,
+  reduced,
+  reducedBy,
+}
 use Rattle.rules.specs.Changes.{moved, withUsers}
 use Rattle.rules.specs.Levels.{Limits, afternoonLevel, morningLevel}
 use Rattle.base.specs.Lists.{all}

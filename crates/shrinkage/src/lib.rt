@@ -1,5 +1,6 @@
-// Return of retained shrinkage: half of a negative total of the users' balances goes back to the users whose own balance is negative, in proportion to it, over 30 days.
-// A balance is a number of kWh with a sign. The public functions are `shrinkage_return` and `over_days`; they take any balances and any share, and no book.
+// Return of retained shrinkage: half of a negative total of the users' balances goes back to the users whose own balance is negative, in
+// proportion to it, over 30 days. A balance is a number of kWh with a sign. The public functions are `shrinkage_return` and `over_days`;
+// they take any balances and any share, and no book.
 ghost use mathlib.Core.Path.{_≡_};
 ghost use Prim.Native.Nat.{_*_, _≤_, _<_, _^_};
 ghost use lib.ListN.{length};
@@ -120,8 +121,8 @@ fn shares_of(balances: &[i64], half: Kwh, sum: Kwh) -> Shares
 
 // ---- the return
 
-// Half of the total's absolute value, the odd kWh, the users' shares with the remainders of their divisions, and the rest of the half, which stays in the system
-// account; 0 for a total of 0 or above, and in every field but the number where the number is not 0.
+// Half of the total's absolute value, the odd kWh, the users' shares with the remainders of their divisions, and the rest of the half,
+// which stays in the system account; 0 for a total of 0 or above, and in every field but the number where the number is not 0.
 pub struct ShrinkageReturn {
     pub number: u32,
     pub half: Kwh,

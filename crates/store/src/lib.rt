@@ -1,4 +1,5 @@
-// The store of parameter sets, in any bytes: is it well formed, which of its sets is in force on a book's date, and the figures that a call takes from it.
+// The store of parameter sets, in any bytes: is it well formed, which of its sets is in force on a book's date, and the figures that a call
+// takes from it.
 use units::Cents;
 use units::Limits;
 use units::Mwh;
@@ -11,7 +12,8 @@ ghost use Rattle.units.specs.Limits.{asLimits};
 ghost use Rattle.store.specs.Store.{setOf, setsFrom, storeFormed, setValid, setsValid, inForce, given};
 ghost use Rattle.store.specs.Asked.{asSet, ByForce, ByStore};
 
-// A parameter set: its figures, and the first date on which they are in force. They are as the bytes have them: whether they are valid is asked apart.
+// A parameter set: its figures, and the first date on which they are in force. They are as the bytes have them: whether they are valid is
+// asked apart.
 pub struct ParameterSet {
     pub first: u32,
     pub limits: Limits,

@@ -1,5 +1,5 @@
-// Damaged books: each book of the file `books` is read, and its place in the file and the number that reading answers are printed, a line each. data/index says what is
-// wrong with each. In the file a book stands behind its length, a number of two bytes.
+// Damaged books: each book of the file `books` is read, and its place in the file and the number that reading answers are printed, a line
+// each. data/index says what is wrong with each. In the file a book stands behind its length, a number of two bytes.
 
 use libc::STDOUT_FILENO;
 

@@ -1,4 +1,5 @@
-// Returns of shrinkage and shares over 30 days: each goes through the module and is printed, a line each. The file stdout, made by another implementation, holds the program to it.
+// Returns of shrinkage and shares over 30 days: each goes through the module and is printed, a line each. The file stdout, made by another
+// implementation, holds the program to it.
 ghost use Prim.Native.Nat.{_<_};
 use libc::STDOUT_FILENO;
 use shrinkage::Kwh;

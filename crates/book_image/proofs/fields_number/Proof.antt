@@ -42,7 +42,10 @@ records-number-requires c κs = search needs
 
 returns-2 : tie.Need-returns-2
 returns-2 c =
-    fields-rest (c .before .before .before .before .before .before .before .before .before .before .pre) (λ i. c .before .before .before .before .before .before .before .before .before .shared-slice-known .given i .fits) (asked (c .before .before .before .before .before .before)) (not-false (c .before .before .before .before .before .before .header-valid .result) (c .before .before .before .before .before .if1 .left))
+    fields-rest (c .before .before .before .before .before .before .before .before .before .before .pre)
+    (λ i. c .before .before .before .before .before .before .before .before .before .shared-slice-known .given i .fits)
+    (asked (c .before .before .before .before .before .before))
+    (not-false (c .before .before .before .before .before .before .header-valid .result) (c .before .before .before .before .before .if1 .left))
     (c .before .before .records-number .ensures .asked)
 
 pub fields-number-spec : {M : Type 1} → statement M

@@ -38,7 +38,11 @@ module _ {answer : Bool} (c : tie.After-get-u162) where
   of-version e = ap (λ (v : ℕ). eqb v 1) (sym (c .before .before .get-u16 .ensures)) ∙ e
 
   of-size : (countsInRange (c .before .get-u8 .result) (c .get-u162 .result) && eqb (length (now (c .before .before .before .before .before .args .out))) (32 + 56 * c .before .get-u8 .result + 20 * c .get-u162 .result)) ≡ answer
-      → (countsInRange (userCount (now (c .before .before .before .before .before .args .image))) (tradeCount (now (c .before .before .before .before .before .args .image))) && eqb (length (now (c .before .before .before .before .before .args .out))) (32 + 56 * userCount (now (c .before .before .before .before .before .args .image)) + 20 * tradeCount (now (c .before .before .before .before .before .args .image)))) ≡ answer
+      → (countsInRange (userCount (now (c .before .before .before .before .before .args .image)))
+      (tradeCount (now (c .before .before .before .before .before .args .image))) && eqb
+      (length (now (c .before .before .before .before .before .args .out)))
+      (32 + 56 * userCount (now (c .before .before .before .before .before .args .image)) + 20 * tradeCount
+      (now (c .before .before .before .before .before .args .image)))) ≡ answer
   unfolding userCount tradeCount
   of-size e =
       ap₂ (λ (n m : ℕ). countsInRange n m && eqb (length (now (c .before .before .before .before .before .args .out))) (32 + 56 * n + 20 * m)) (sym (c .before .get-u8 .ensures)) (sym (c .get-u162 .ensures)) ∙ e
@@ -59,18 +63,30 @@ unfolding versionOf userCount tradeCount
 counts c =
     counts-of (c .before .before .before .before .before .before .before .pre) (sym (c .before .before .before .before .get-u16 .ensures) ∙ c .before .if1 .left) (c .before .before .before .get-u8 .ensures) (c .before .before .get-u162 .ensures) (in-range c)
 
-sized : (c : tie.Else3) → (countsInRange (userCount (now (c .before .before .before .before .before .before .before .before .args .image))) (tradeCount (now (c .before .before .before .before .before .before .before .before .args .image))) && eqb (length (now (c .before .before .before .before .before .before .before .before .args .out))) (32 + 56 * userCount (now (c .before .before .before .before .before .before .before .before .args .image)) + 20 * tradeCount (now (c .before .before .before .before .before .before .before .before .args .image)))) ≡ true
+sized : (c : tie.Else3) → (countsInRange (userCount (now (c .before .before .before .before .before .before .before .before .args .image)))
+    (tradeCount (now (c .before .before .before .before .before .before .before .before .args .image))) && eqb
+    (length (now (c .before .before .before .before .before .before .before .before .args .out)))
+    (32 + 56 * userCount (now (c .before .before .before .before .before .before .before .before .args .image)) + 20 * tradeCount
+    (now (c .before .before .before .before .before .before .before .before .args .image)))) ≡ true
 sized c =
-    of-size (c .before .before .before) (ap₂ (λ (x y : Bool). x && y) (in-range (c .before)) (eq-eqb (length (now (c .before .before .before .before .before .before .before .before .args .out))) (32 + 56 * c .before .before .before .before .get-u8 .result + 20 * c .before .before .before .get-u162 .result) (c .if3 .left)))
+    of-size (c .before .before .before) (ap₂ (λ (x y : Bool). x && y) (in-range (c .before))
+    (eq-eqb (length (now (c .before .before .before .before .before .before .before .before .args .out)))
+    (32 + 56 * c .before .before .before .before .get-u8 .result + 20 * c .before .before .before .get-u162 .result) (c .if3 .left)))
 
 -- ---- the ways out
 
 returns : tie.Need-returns
-returns c = written-2 (userCount (now (c .before .before .before .before .before .before .args .image))) (tradeCount (now (c .before .before .before .before .before .before .args .image))) (imageBook (now (c .before .before .before .before .before .before .args .image))) (now (c .before .before .before .before .before .before .args .out)) (of-version (c .before) (ne-eqb (c .before .before .before .get-u16 .result) 1 (c .if1 .taken)))
+returns c = written-2 (userCount (now (c .before .before .before .before .before .before .args .image)))
+    (tradeCount (now (c .before .before .before .before .before .before .args .image)))
+    (imageBook (now (c .before .before .before .before .before .before .args .image))) (now (c .before .before .before .before .before .before .args .out))
+    (of-version (c .before) (ne-eqb (c .before .before .before .get-u16 .result) 1 (c .if1 .taken)))
 
 returns-2 : tie.Need-returns-2
 returns-2 c =
-    written-3 (userCount (now (c .before .before .before .before .before .before .before .args .image))) (tradeCount (now (c .before .before .before .before .before .before .before .args .image))) (imageBook (now (c .before .before .before .before .before .before .before .args .image))) (now (c .before .before .before .before .before .before .before .args .out)) (version (c .before))
+    written-3 (userCount (now (c .before .before .before .before .before .before .before .args .image)))
+    (tradeCount (now (c .before .before .before .before .before .before .before .args .image)))
+    (imageBook (now (c .before .before .before .before .before .before .before .args .image)))
+    (now (c .before .before .before .before .before .before .before .args .out)) (version (c .before))
     (of-size (c .before .before) (ap (λ (x : Bool). x && eqb (length (now (c .before .before .before .before .before .before .before .args .out))) (32 + 56 * c .before .before .before .get-u8 .result + 20 * c .before .before .get-u162 .result)) (out-of-range c)))
 
 mul-if3 : tie.Need-mul-if3
@@ -87,15 +103,24 @@ add-if3-2 c = search needs
 
 returns-3 : tie.Need-returns-3
 returns-3 c =
-    written-3 (userCount (now (c .before .before .before .before .before .before .before .before .args .image))) (tradeCount (now (c .before .before .before .before .before .before .before .before .args .image))) (imageBook (now (c .before .before .before .before .before .before .before .before .args .image))) (now (c .before .before .before .before .before .before .before .before .args .out)) (version (c .before .before))
-    (of-size (c .before .before .before) (ap₂ (λ (x y : Bool). x && y) (in-range (c .before)) (ne-eqb (length (now (c .before .before .before .before .before .before .before .before .args .out))) (32 + 56 * c .before .before .before .before .get-u8 .result + 20 * c .before .before .before .get-u162 .result) (c .if3 .taken))))
+    written-3 (userCount (now (c .before .before .before .before .before .before .before .before .args .image)))
+    (tradeCount (now (c .before .before .before .before .before .before .before .before .args .image)))
+    (imageBook (now (c .before .before .before .before .before .before .before .before .args .image)))
+    (now (c .before .before .before .before .before .before .before .before .args .out)) (version (c .before .before))
+    (of-size (c .before .before .before) (ap₂ (λ (x y : Bool). x && y) (in-range (c .before))
+    (ne-eqb (length (now (c .before .before .before .before .before .before .before .before .args .out)))
+    (32 + 56 * c .before .before .before .before .get-u8 .result + 20 * c .before .before .before .get-u162 .result) (c .if3 .taken))))
 
 fields-number-requires : tie.Need-fields-number-requires
 fields-number-requires c κs = counts (c .before)
 
 returns-4 : tie.Need-returns-4
 returns-4 c =
-    written-refused (userCount (now (c .before .before .before .before .before .before .before .before .before .before .args .image))) (tradeCount (now (c .before .before .before .before .before .before .before .before .before .before .args .image))) (imageBook (now (c .before .before .before .before .before .before .before .before .before .before .args .image))) (now (c .before .before .before .before .before .before .before .before .before .before .args .out)) (version (c .before .before .before .before)) (sized (c .before .before)) (c .before .fields-number .result) (c .before .fields-number .ensures) (c .if4 .taken)
+    written-refused (userCount (now (c .before .before .before .before .before .before .before .before .before .before .args .image)))
+    (tradeCount (now (c .before .before .before .before .before .before .before .before .before .before .args .image)))
+    (imageBook (now (c .before .before .before .before .before .before .before .before .before .before .args .image)))
+    (now (c .before .before .before .before .before .before .before .before .before .before .args .out)) (version (c .before .before .before .before))
+    (sized (c .before .before)) (c .before .fields-number .result) (c .before .fields-number .ensures) (c .if4 .taken)
 
 write-fields-requires : tie.Need-write-fields-requires
 write-fields-requires c κs = (counts (c .before .before .before .before), c .before .before .before .if3 .left)
@@ -105,7 +130,12 @@ same-length c = search needs
 
 returns-5 : tie.Need-returns-5
 returns-5 c =
-    written-0 (userCount (now (c .before .before .before .before .before .before .before .before .before .before .before .before .before .before .args .image))) (tradeCount (now (c .before .before .before .before .before .before .before .before .before .before .before .before .before .before .args .image))) (imageBook (now (c .before .before .before .before .before .before .before .before .before .before .before .before .before .before .args .image))) (now (c .before .before .before .before .before .before .before .before .before .before .before .before .before .before .args .out)) (version (c .before .before .before .before .before .before .before .before)) (sized (c .before .before .before .before .before .before)) (sym (c .before .before .before .before .before .fields-number .ensures) ∙ c .before .before .before .before .if4 .left) _ (c .before .before .write-fields .ensures)
+    written-0 (userCount (now (c .before .before .before .before .before .before .before .before .before .before .before .before .before .before .args .image)))
+    (tradeCount (now (c .before .before .before .before .before .before .before .before .before .before .before .before .before .before .args .image)))
+    (imageBook (now (c .before .before .before .before .before .before .before .before .before .before .before .before .before .before .args .image)))
+    (now (c .before .before .before .before .before .before .before .before .before .before .before .before .before .before .args .out))
+    (version (c .before .before .before .before .before .before .before .before)) (sized (c .before .before .before .before .before .before))
+    (sym (c .before .before .before .before .before .fields-number .ensures) ∙ c .before .before .before .before .if4 .left) _ (c .before .before .write-fields .ensures)
 
 pub write-spec : {M : Type 1} → statement M
 write-spec =

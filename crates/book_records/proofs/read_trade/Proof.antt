@@ -28,8 +28,15 @@ get-u32-requires-4 c κs = search needs
 returns : tie.Need-returns
 unfolding tradeOf asTrade
 returns c =
-    rw
-    (c .get-u324 .ensures, c .before .get-u323 .ensures, c .before .before .get-u83 .ensures, c .before .before .before .get-u82 .ensures, c .before .before .before .before .get-u8 .ensures, c .before .before .before .before .before .get-u322 .ensures, c .before .before .before .before .before .before .get-u32 .ensures)
+    rw (
+      c .get-u324 .ensures,
+      c .before .get-u323 .ensures,
+      c .before .before .get-u83 .ensures,
+      c .before .before .before .get-u82 .ensures,
+      c .before .before .before .before .get-u8 .ensures,
+      c .before .before .before .before .before .get-u322 .ensures,
+      c .before .before .before .before .before .before .get-u32 .ensures,
+    )
 
 pub read-trade-spec : {M : Type 1} → statement M
 read-trade-spec =

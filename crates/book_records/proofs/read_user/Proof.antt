@@ -31,8 +31,16 @@ get-u64-requires-3 c κs = search needs
 returns : tie.Need-returns
 unfolding userOf asUser
 returns c =
-    rw
-    (c .get-u643 .ensures, c .before .get-u642 .ensures, c .before .before .get-u8 .ensures, c .before .before .before .get-u32 .ensures, c .before .before .before .before .of-bits .ensures, c .before .before .before .before .before .get-u64 .ensures, c .before .before .before .before .before .before .get-amounts2 .ensures, c .before .before .before .before .before .before .before .get-amounts .ensures)
+    rw (
+      c .get-u643 .ensures,
+      c .before .get-u642 .ensures,
+      c .before .before .get-u8 .ensures,
+      c .before .before .before .get-u32 .ensures,
+      c .before .before .before .before .of-bits .ensures,
+      c .before .before .before .before .before .get-u64 .ensures,
+      c .before .before .before .before .before .before .get-amounts2 .ensures,
+      c .before .before .before .before .before .before .before .get-amounts .ensures,
+    )
 
 pub read-user-spec : {M : Type 1} → statement M
 read-user-spec =

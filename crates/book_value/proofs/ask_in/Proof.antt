@@ -14,7 +14,9 @@ use Rattle.book_value.proofs.ask_in.Statement.{statement}
 use Rattle.book_value.proofs.ask_in.Tie as tie
 
 -- the part that was written and lent again is the bytes of the book
-written : (c : tie.After-fields-number-arg) → take (c .before .before .before .before .before .before .args .len) (c .before .before .before .write-book .last .0 ++ drop (c .before .before .before .before .before .before .args .len) (now (c .before .before .before .before .before .before .args .scratch)))
+written : (c : tie.After-fields-number-arg) → take (c .before .before .before .before .before .before .args .len)
+    (c .before .before .before .write-book .last .0 ++ drop (c .before .before .before .before .before .before .args .len)
+    (now (c .before .before .before .before .before .before .args .scratch)))
     ≡ bytesOf (asBook (c .before .before .before .before .before .before .args .b))
 written c =
     let w = c .before .before .before in

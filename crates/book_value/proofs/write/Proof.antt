@@ -23,7 +23,9 @@ unfolding countsInRange
 counted c = not-false _ (c .if2 .left)
 
 -- counts in range, and the part of the length that they ask for
-sized : (c : tie.Else3) → (countsInRange (c .before .before .before .before .before .before .before .args .b .«user_count») (c .before .before .before .before .before .before .before .args .b .«trade_count») && eqb (length (now (c .before .before .before .before .before .before .before .args .out))) (32 + 56 * c .before .before .before .before .before .before .before .args .b .«user_count» + 20 * c .before .before .before .before .before .before .before .args .b .«trade_count»)) ≡ true
+sized : (c : tie.Else3) → (countsInRange (c .before .before .before .before .before .before .before .args .b .«user_count»)
+    (c .before .before .before .before .before .before .before .args .b .«trade_count») && eqb (length (now (c .before .before .before .before .before .before .before .args .out)))
+    (32 + 56 * c .before .before .before .before .before .before .before .args .b .«user_count» + 20 * c .before .before .before .before .before .before .before .args .b .«trade_count»)) ≡ true
 sized c =
     let a = c .before .before .before .before .before .before .before .args in
     ap₂ (λ (x y : Bool). x && y) (counted (c .before)) (eq-eqb (length (now (a .out))) (32 + 56 * a .b .«user_count» + 20 * a .b .«trade_count») (c .if3 .left))

@@ -48,7 +48,9 @@ returns-2 c =
     let s = c .before .before .before .before .before .before .before .before .before .before .before .before .before .before .before .before .before .before .before in
     let left = c .before .before .before .before .before .before .before .before .before .before .before .before .before .before .any-left in
     let r = c .before .before .before .before .before .before .before .before .reduce .ensures in
-    own-reduced (s .pre .0) (s .pre .1) (s .args .asked .0) _ _ (r .0) refl (left .ensures) (not-false (left .result) (c .before .before .before .before .before .before .before .before .before .before .before .before .before .if1 .left)) (r .1 .1 .1 .0) (c .before .before .before .apply .ensures) (c .of-cuts .ensures)
+    own-reduced (s .pre .0) (s .pre .1) (s .args .asked .0) _ _ (r .0) refl (left .ensures)
+    (not-false (left .result) (c .before .before .before .before .before .before .before .before .before .before .before .before .before .if1 .left))
+    (r .1 .1 .1 .0) (c .before .before .before .apply .ensures) (c .of-cuts .ensures)
 
 pub reduce-listed-spec : {M : Type 1} → statement M
 reduce-listed-spec =

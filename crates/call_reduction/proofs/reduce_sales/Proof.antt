@@ -17,8 +17,15 @@ unfolding tradeCount
 trades-are c = c .get-u16 .ensures
 
 fill-lists-requires : tie.Need-fill-lists-requires
-fill-lists-requires c κs =
-    ((c .before .before .before .before .before .before .before .before .before .before .before .pre .book .book, users-are (c .before .before .before .before .before .before .before .before), trades-are (c .before .before .before .before .before .before)), (refl, record { origins-room = refl; standing-room = refl; areas-room = refl; buyers-room = refl }))
+fill-lists-requires c κs = (
+  (
+    c .before .before .before .before .before .before .before .before .before .before .before .pre .book .book,
+    users-are
+        (c .before .before .before .before .before .before .before .before),
+    trades-are (c .before .before .before .before .before .before),
+  ),
+  (refl, record { origins-room = refl; standing-room = refl; areas-room = refl; buyers-room = refl }),
+)
 
 reduce-listed-requires : tie.Need-reduce-listed-requires
 reduce-listed-requires c κs =

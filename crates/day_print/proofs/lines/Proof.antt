@@ -52,14 +52,21 @@ fill-positions-requires c κs = let s = c .before .before .before .before .befor
 fill-cut-requires : tie.Need-fill-cut-requires
 fill-cut-requires c κs =
     let o = c .before .before .before .before .before .before .before .before .before .before .before .ask .ensures in
-    let r = asked-runnable (o .0) (o .0 .number ∙ c .before .before .before .before .before .before .before .before .before .before .before .before .before .before .before .before .pre) (λ j. c .before .before .before .before .before .before .before .before .before .before .before .before .before .before .before .shared-slice-known .given j .fits) (c .before .before .before .before .before .before .before .before .today .ensures .1) (c .before .before .before .before .before .before .before .read-prices .ensures) (o .1) in
+    let r = asked-runnable (o .0) (o .0 .number ∙ c .before .before .before .before .before .before .before .before .before .before .before .before .before .before .before .before .pre)
+    (λ j. c .before .before .before .before .before .before .before .before .before .before .before .before .before .before .before .shared-slice-known .given j .fits)
+    (c .before .before .before .before .before .before .before .before .today .ensures .1) (c .before .before .before .before .before .before .before .read-prices .ensures) (o .1) in
     ((r .book, users-are (c .before .before .before .before .before .before), trades-are (c .before .before .before .before .before)), refl)
 
 lines-of-requires : tie.Need-lines-of-requires
 lines-of-requires c κs =
     let o = c .before .before .before .before .before .before .before .before .before .before .before .before .before .before .before .ask .ensures in
-    let r = asked-runnable (o .0) (o .0 .number ∙ c .before .before .before .before .before .before .before .before .before .before .before .before .before .before .before .before .before .before .before .before .pre) (λ j. c .before .before .before .before .before .before .before .before .before .before .before .before .before .before .before .before .before .before .before .shared-slice-known .given j .fits) (c .before .before .before .before .before .before .before .before .before .before .before .before .today .ensures .1) (c .before .before .before .before .before .before .before .before .before .before .before .read-prices .ensures) (o .1) in
-    lines-asked r (c .before .before .before .before .before .before .before .before .before .before .before .before .before .before .before .before .before .before .before .before .pre) (users-are (c .before .before .before .before .before .before .before .before .before .before)) (c .before .before .before .before .before .before .before .fill-positions .ensures .0) (c .before .before .before .fill-cut .ensures)
+    let r = asked-runnable (o .0) (o .0 .number ∙ c .before .before .before .before .before .before .before .before .before .before .before .before .before .before .before .before .before .before .before .before .pre)
+    (λ j. c .before .before .before .before .before .before .before .before .before .before .before .before .before .before .before .before .before .before .before .shared-slice-known .given j .fits)
+    (c .before .before .before .before .before .before .before .before .before .before .before .before .today .ensures .1)
+    (c .before .before .before .before .before .before .before .before .before .before .before .read-prices .ensures) (o .1) in
+    lines-asked r (c .before .before .before .before .before .before .before .before .before .before .before .before .before .before .before .before .before .before .before .before .pre)
+    (users-are (c .before .before .before .before .before .before .before .before .before .before)) (c .before .before .before .before .before .before .before .fill-positions .ensures .0)
+    (c .before .before .before .fill-cut .ensures)
 
 returns : tie.Need-returns
 returns c = search needs

@@ -216,7 +216,9 @@ module _ {M : Type 1} (𝓤 : URA M) (H : Heap 𝓤) (A : Atoms 𝓤) (W : Given
         assigns ! (of-opd ! (load ! (start ! (hop ! (look ! 10 refl) (fld ! refl (stop !)))) (look-in ! 0 (sub ! 6 refl (whole !))))) (start ! (stop !)) (init ! 3 refl (tt, record { fits = had (getD zs i blankTrade) was })) $
         move ! (18 ∷ []) $ use1 W (‵ Own ⊛ ‵ Own) (shr-slice-copy 𝓤 H A W (named 1) κ′ u64 .twice cuts (cv ∷ [])) $ split ! $ move ! (20 ∷ 0 ∷ []) $
         use2 W (raw (LeftOf 𝓤 H A at-mem run .pre (to-left-of i (getD zs i blankTrade .standing)))) (goes-left-of i (getD zs i blankTrade .standing) i-fits (had (getD zs i blankTrade) was)) $
-        calls-at ! (fmOf 𝓤 H (W .laws) 𝓣) (LeftOf 𝓤 H A at-mem run) known (to-left-of i (getD zs i blankTrade .standing)) (and-then ! (load ! (start ! (stop !)) (look ! 15 refl)) (and-then ! (load ! (start ! (stop !)) (look ! 4 refl)) (and-then ! (load ! (start ! (stop !)) (look ! 5 refl)) (no-more !)))) (λ v.
+        calls-at ! (fmOf 𝓤 H (W .laws) 𝓣) (LeftOf 𝓤 H A at-mem run) known (to-left-of i (getD zs i blankTrade .standing))
+        (and-then ! (load ! (start ! (stop !)) (look ! 15 refl))
+        (and-then ! (load ! (start ! (stop !)) (look ! 4 refl)) (and-then ! (load ! (start ! (stop !)) (look ! 5 refl)) (no-more !)))) (λ v.
         use1 W (later (some (λ (r : ℕ). ((‵ (flft κ′ q′) ⊛ ‵ ftrue) ⊛ ‵ (u32 .own r (v ∷ []))) ⊛ raw (ensured 𝓤 H A left-of.ended (left-of.clauses 𝓤 H A at-mem run) (κ′, tt) (cuts, (i, (getD zs i blankTrade .standing, tt))) tt r)))) (id⊢ 𝓤 _) $ await ! tt $ pick ! (λ r.
         split ! $ move ! (1 ∷ []) $ use1 W (raw (fact 𝓤 (Says i (getD zs i blankTrade .standing) r))) (left-of-says i (getD zs i blankTrade .standing) r) $ heard ! (Says i (getD zs i blankTrade .standing) r) (λ e. split ! $ move ! (1 ∷ []) $
         peeks ! u32 (Is u32) (shows 𝓤 H A u32) r (v ∷ []) (λ is. drop ! $
@@ -246,7 +248,9 @@ module _ {M : Type 1} (𝓤 : URA M) (H : Heap 𝓤) (A : Atoms 𝓤) (W : Given
         assigns ! (of-opd ! (load ! (start ! (fld ! refl (stop !))) (look-in ! 12 (sub ! 1 refl (whole !))))) (start ! (stop !)) (init ! 6 refl (tt, record { fits = room′ .0 })) $
         assigns ! (bin ! (load ! (start ! (stop !)) (look ! 1 refl)) (load ! (start ! (stop !)) (look ! 6 refl)) tt) (start ! (stop !)) (init ! 7 refl (tt, tt)) $
         assigns ! (bin ! (load ! (start ! (stop !)) (look ! 5 refl)) (load ! (start ! (stop !)) (look ! 7 refl)) tt) (start ! (stop !)) (init ! 8 refl (tt, tt)) $
-        rewrite ! 8 (λ (t : Bool). ‵ (fat fullShare tyBool l₁₀ 0 (vbool t))) (fails (ltb i n && ltb i (length cs)) (λ a. past (ltb→lt i n (and-l (ltb i n) (ltb i (length cs)) a)) (ltb→lt i (length cs) (and-r (ltb i n) (ltb i (length cs)) a)))) refl $ leaves-loop ! (load ! (start ! (stop !)) (look ! 8 refl)) $
+        rewrite ! 8 (λ (t : Bool). ‵ (fat fullShare tyBool l₁₀ 0 (vbool t)))
+        (fails (ltb i n && ltb i (length cs)) (λ a. past (ltb→lt i n (and-l (ltb i n) (ltb i (length cs)) a))
+        (ltb→lt i (length cs) (and-r (ltb i n) (ltb i (length cs)) a)))) refl $ leaves-loop ! (load ! (start ! (stop !)) (look ! 8 refl)) $
         exec ! C Λ En body.t-3 (atRet En Post) $ assigns ! (of-opd ! (unit-lit !)) (start ! (stop !)) (init ! 13 refl (tt, tt)) $
         move ! (0 ∷ 14 ∷ 15 ∷ 16 ∷ []) $ closes-slice ! tt R ys zs same b o $
         -- [obs; the borrow; the token; i (3); _4; _5; _6 (6); _7 (7); _8 (8); _9 (9); _10 (10); _11; _12; trades (13); cuts (14); _0 (15); what the cuts own (16); their token (17); that each local dies (18 to 30)]

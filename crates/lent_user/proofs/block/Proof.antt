@@ -136,7 +136,10 @@ module _ {M : Type 1} (𝓤 : URA M) (H : Heap 𝓤) (A : Atoms 𝓤) (W : Given
         peeks ! Q.the-row (Is Q.the-row) (shows 𝓤 H A Q.the-row) r (v ∷ []) (λ is. drop ! $
         land ! (from ! (stop !)) (init ! 6 refl (LL.lawful Q.the-type Q′.the-laws 𝓤 H A W .typed r _ is .0)) $
         rewrite ! 6 (λ (u : Val). ‵ (fat fullShare Q′.mir l₄ 0 u)) (ap only (LL.tells Q.the-type Q′.the-laws r (v ∷ []) is)) refl $
-        assigns ! (of-opd ! (load ! (from ! (fld ! refl (stop !))) (look-in ! 6 (sub ! 0 refl (whole !))))) (from ! (hop ! (look ! 12 refl) (fld ! refl (stop !)))) (store-in ! 0 (sub ! 6 refl (whole !)) (LL.lawful N.the-type N′.the-laws 𝓤 H A W .typed (r .blocked) _ (LL.owed Q.the-type Q′.the-laws r _ is .0) .0)) $
+        assigns ! (of-opd ! (load ! (from ! (fld ! refl (stop !))) (look-in ! 6 (sub ! 0 refl (whole !)))))
+        (from ! (hop ! (look ! 12 refl) (fld ! refl (stop !))))
+        (store-in ! 0 (sub ! 6 refl (whole !)) (LL.lawful N.the-type N′.the-laws 𝓤 H A W .typed (r .blocked) _
+        (LL.owed Q.the-type Q′.the-laws r _ is .0) .0)) $
         assigns ! (of-opd ! (load ! (from ! (fld ! refl (stop !))) (look-in ! 6 (sub ! 1 refl (whole !))))) (from ! (stop !)) (init ! 14 refl (LL.lawful N.the-type N′.the-laws 𝓤 H A W .typed (r .added) _ (LL.owed Q.the-type Q′.the-laws r _ is .1 .0) .0)) $
         -- the borrow is closed at the new record
         owned ! R (Is R) ((LL.makes T.the-type T′.the-plain) 𝓤 H A) (with-blocked h (r .blocked)) _ (made (r .blocked) (LL.owed Q.the-type Q′.the-laws r _ is .0) was) $ move ! (1 ∷ 0 ∷ []) $

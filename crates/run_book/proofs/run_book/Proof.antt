@@ -16,8 +16,15 @@ unfolding tradeCount
 trades-are c = c .get-u16 .ensures
 
 fill-lists-requires : tie.Need-fill-lists-requires
-fill-lists-requires c κs =
-    ((c .before .before .before .before .before .before .before .before .before .before .before .pre .book, users-are (c .before .before .before .before .before .before .before .before), trades-are (c .before .before .before .before .before .before)), (refl, record { origins-room = refl; standing-room = refl; areas-room = refl; buyers-room = refl }))
+fill-lists-requires c κs = (
+  (
+    c .before .before .before .before .before .before .before .before .before .before .before .pre .book,
+    users-are
+        (c .before .before .before .before .before .before .before .before),
+    trades-are (c .before .before .before .before .before .before),
+  ),
+  (refl, record { origins-room = refl; standing-room = refl; areas-room = refl; buyers-room = refl }),
+)
 
 returns : tie.Need-returns
 returns c = c .before .before .run-listed .ensures

@@ -34,7 +34,13 @@ fill-targets-requires c κs =
     let r = s .pre .0 in
     let l = s .pre .1 in (
       (run-day (run-stays r l), r .low),
-      (run-opening r l (users-are (c .before .before .before .before .before .before .before .before .before .before .before .before .before)) (c .before .before .before .before .before .before .before .before .fill-positions .ensures .0) (c .before .before .before .before .before .fill-cut .ensures), refl, refl),
+      (
+        run-opening r l (users-are (c .before .before .before .before .before .before .before .before .before .before .before .before .before))
+            (c .before .before .before .before .before .before .before .before .fill-positions .ensures .0)
+            (c .before .before .before .before .before .fill-cut .ensures),
+        refl,
+        refl,
+      ),
     )
 
 copy-sales-requires : tie.Need-copy-sales-requires
@@ -60,8 +66,11 @@ lost-of-requires c κs =
 apply-requires : tie.Need-apply-requires
 apply-requires c κs =
     let s = c .before .before .before .before .before .before .before .before .before .before .before .before .before .before .before .before .before .before .before .before .before .before .before .before .before .before .before .before .before in
-    let r = s .pre .0 in
-    ((r .book, lost-cuttable (r .book .accepted .sound) (s .pre .1) (c .before .before .before .before .run-on .ensures) (c .before .before .lost-of .ensures)), users-are (c .before .before .before .before .before .before .before .before .before .before .before .before .before .before .before .before .before .before .before .before .before .before .before .before .before .before))
+    let r = s .pre .0 in (
+      (r .book, lost-cuttable (r .book .accepted .sound) (s .pre .1) (c .before .before .before .before .run-on .ensures) (c .before .before .lost-of .ensures)),
+      users-are
+          (c .before .before .before .before .before .before .before .before .before .before .before .before .before .before .before .before .before .before .before .before .before .before .before .before .before .before),
+    )
 
 returns : tie.Need-returns
 returns c =

@@ -16,7 +16,9 @@ settle-requires : tie.Need-settle-requires
 settle-requires c κs =
     let s = c .before .before .before .before .before .before .before .before .before .before in
     let a = s .args in
-    let t = filled-takeable (now (a .standing)) (now (a .areas)) (now (a .cuts)) (a .from) (a .to) (s .pre .0 .1) (asPrices (a .prices)) (shortBy (c .before .before .before .before .before .before .before .before .shorts-at .result)) (a .asked .0) (s .pre .1 .0) (c .before .before .before .fill-cuts .ensures .0) in
+    let t = filled-takeable (now (a .standing)) (now (a .areas)) (now (a .cuts)) (a .from) (a .to) (s .pre .0 .1) (asPrices (a .prices))
+    (shortBy (c .before .before .before .before .before .before .before .before .shorts-at .result)) (a .asked .0) (s .pre .1 .0)
+    (c .before .before .before .fill-cuts .ensures .0) in
     ((s .pre .0 .0, s .pre .0 .1, t), filled-movable (s .pre .0 .1) (s .pre .0 .2) t)
 
 returns : tie.Need-returns

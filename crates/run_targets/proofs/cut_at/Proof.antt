@@ -39,14 +39,18 @@ returns c =
     let s = c .before .before .before .before .before .before .before .before in
     let a = s .args in
     let inside : a .place < userCount (now (a .book)) = omega (arith, s .pre .3, s .pre .1) in
-    one-found (now (a .book)) (now (a .sellers)) (now (a .parties)) (s .pre .0 .accepted) (s .pre .0 .placed) (a .place) inside (c .before .before .before .before .before .loop .inv) (omega (arith, c .before .before .before .before .loop-test .taken, s .pre .2)) (c .before .is-cut .ensures) (c .if1 .taken)
+    one-found (now (a .book)) (now (a .sellers)) (now (a .parties)) (s .pre .0 .accepted) (s .pre .0 .placed) (a .place) inside
+    (c .before .before .before .before .before .loop .inv) (omega (arith, c .before .before .before .before .loop-test .taken, s .pre .2))
+    (c .before .is-cut .ensures) (c .if1 .taken)
 
 loop-again : tie.Need-loop-again Inv-loop μ-loop
 loop-again c =
     let s = c .before .before .before .before .before .before .before .before in
     let a = s .args in
     let inside : a .place < userCount (now (a .book)) = omega (arith, s .pre .3, s .pre .1) in
-    one-more (now (a .book)) (now (a .sellers)) (now (a .parties)) (s .pre .0 .accepted) (s .pre .0 .placed) (a .place) inside (c .before .before .before .before .before .loop .inv) (omega (arith, c .before .before .before .before .loop-test .taken, s .pre .2)) (c .before .is-cut .ensures) (c .if1 .left)
+    one-more (now (a .book)) (now (a .sellers)) (now (a .parties)) (s .pre .0 .accepted) (s .pre .0 .placed) (a .place) inside
+    (c .before .before .before .before .before .loop .inv) (omega (arith, c .before .before .before .before .loop-test .taken, s .pre .2))
+    (c .before .is-cut .ensures) (c .if1 .left)
 
 returns-2 : tie.Need-returns-2 Inv-loop μ-loop
 returns-2 c =

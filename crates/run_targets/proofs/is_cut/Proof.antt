@@ -19,7 +19,9 @@ returns c =
 
 returns-2 : tie.Need-returns-2
 unfolding asTrade
-returns-2 c = one-party (c .before .before .before .before .before .before .args .place) (c .before .before .before .before .index .ensures) (c .before .before .before .index2 .ensures) (c .before .before .if1 .left) (ap (λ (t : Trade). ltb (t .standing) (t .terms .notified)) (c .before .trade-at .ensures))
+returns-2 c = one-party (c .before .before .before .before .before .before .args .place) (c .before .before .before .before .index .ensures)
+    (c .before .before .before .index2 .ensures) (c .before .before .if1 .left)
+    (ap (λ (t : Trade). ltb (t .standing) (t .terms .notified)) (c .before .trade-at .ensures))
 
 pub is-cut-spec : {M : Type 1} → statement M
 is-cut-spec = tie.close (tie.spec (λ c κs. search needs) (λ c κs. search needs) returns (λ c κs. search needs) returns-2)
