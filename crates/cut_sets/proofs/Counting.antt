@@ -191,7 +191,7 @@ module _ {base until spare : ℕ} {table : List ℕ} {o : Best} where
         below i j a c = by-order i j (λ l. l) (λ l. absurd (c (omega arith)))
 
   pub going-end : {b : Best} → Going base until spare table o b → (b .out ≡ spare) ⊎ (b .made ≡ until) → Passed base until spare table o b
-  going-end g e = record { on = g .on; inside = g .inside; ended = e; counts = g .counts }
+  going-end g e = record { ended = e; counts = g .counts }
 
 -- ---- the first that is better
 
@@ -280,8 +280,6 @@ module _ {ws : List ℕ} {all asked tries spare sets limit : ℕ} {low high : Li
       record {
         search-is = e;
         left-few = omega (arith, t .left-is, p .below, p .few);
-        left-tried = omega (arith, t .left-is, t .tries-is, p .below);
-        tries-few = omega (arith, t .tries-is, p .within);
       }
 
   -- "until .. an excess of 0 is met"

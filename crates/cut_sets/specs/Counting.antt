@@ -40,8 +40,6 @@ pub record FirstBetter (best base until spare : ℕ) (table : List ℕ) (from k 
 
 -- they were tried, up to the number or until an excess of 0 was met, whatever the search is that they belong to
 pub record Passed (base until spare : ℕ) (table : List ℕ) (b r : Best) : Type 0 where
-  pub on : b .made ≤ r .made
-  pub inside : r .made ≤ until
   pub ended : (r .out ≡ spare) ⊎ (r .made ≡ until)
   pub counts : (ws : List ℕ) (all asked tries : ℕ) → until ≤ tries → until ≤ all → ((k : ℕ) → b .made ≤ k → k < until → base + getD table (k % 256) 0 ≡ worthOf ws k)
       → Counting ws all asked tries spare b → Counting ws all asked tries spare r

@@ -39,12 +39,10 @@ pub record Table (worth : ℕ → ℕ) (step count : ℕ) (table : List ℕ) : T
 unfoldable pub searchOf : ℕ → Found → Search
 searchOf all r = record { choice = record { set = all - 1 - r .left; excess = r .excess }; tries = r .tries; complete = r .complete }
 
--- the answer is the search's, and what is left out is one of the sets, and one of those that were tried
+-- the answer is the search's, and what is left out is one of the sets
 pub record Answered (all asked tries : ℕ) (ws : List ℕ) (r : Found) : Type 0 where
   pub search-is : searchOf all r ≡ wholeSearch ws asked tries
   pub left-few : r .left < all
-  pub left-tried : r .left < r .tries
-  pub tries-few : r .tries ≤ tries
 
 -- where all trades together are worth `spare` above the target: a set that leaves out trades of the worth `out` reaches it, and exceeds it by less than one that leaves out `best`
 abbrev pub smaller : ℕ → ℕ → ℕ → Bool
