@@ -48,7 +48,7 @@ returns-3 : tie.Need-returns-3
 unfolding ofLevel asUser
 returns-3 c =
     let w = c .before .before in
-    let b = w .before .before .before in
+    let b = w .before .before .before .before in
     let f = b .before .before .before .before in
     let a = f .before .before .before .args in
     let e = raised-full (now (a .book)) (a .place) (asUser (a .user)) (a .level .0) (not-false (a .due) (f .if1 .left)) (b .before .if2 .left) in (

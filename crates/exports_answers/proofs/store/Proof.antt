@@ -20,7 +20,7 @@ mul-answer : tie.Need-mul-answer Inv-loop μ-loop
 mul-answer c = omega (arith, c .before .before .good)
 
 shared-slice-read-answer : tie.Need-shared-slice-read-answer Inv-loop μ-loop
-shared-slice-read-answer c = omega (arith, c .before .loop .inv .long, c .before .before .pre)
+shared-slice-read-answer c = omega (arith, c .before .before .loop .inv .long, c .before .before .before .pre)
 
 mul-answer-2 : tie.Need-mul-answer-2 Inv-loop μ-loop
 mul-answer-2 c = omega (arith, c .before .before .before .good)
