@@ -18,19 +18,21 @@
  *    8  id in the book?
  *    9  a shipper? (not asked for a posting or a shown record)
  *   10  posting: area 0 to 2, and the new physical entry within 1,000,000 either way?
- *   11  call, reduction: level - blocked > 1,000,000 (with a store, its figure), and, but for the morning call, user called in?
+ *   11  call, reduction, cancellation: level - blocked > 1,000,000 (with a store, its figure), and, but for the morning call, user called in?
  *   12  call: assigned >= level?
- *   13  reduction: assigned < level?
- *   14  reduction: has the user an eligible trade?
+ *   13  reduction, cancellation: assigned < level?
+ *   14  reduction, cancellation: has the user an eligible trade?
  *   15  list: at most 512 lines, and columns and places of one count? (asked after 7 and before 16)
  *   16  is the store well formed? (asked where a store is given, after 7 and before 8)
  *   17  has the store a set in force on the book's date? (the same)
+ *   24  cancellation: are all eligible trades together worth the target? (asked last)
+ *   25  cancellation: 1 to 65,535 tries? (asked after 17 and before 8)
  *   27  return: every balance within 500,000,000 kWh either way?
  *   28  return: at most 64 users? (asked before 27)
- *  255  the part lent for the answer, the record or the image is not of the length that the function asks for
+ *  255  the part lent for the answer, the marks, the record or the image is not of the length that the function asks for
  *
- * After a number from 1 to 28 the answer, the record or the image is all 0, the places beside a list are as they were, and the book is byte for byte the same. After 255
- * nothing at all is changed.
+ * After a number from 1 to 28 the answer, the marks, the record or the image is all 0, the places beside a list are as they were, and the book is byte for byte the same.
+ * After 255 nothing at all is changed.
  */
 #ifndef DAYBOOK_H
 #define DAYBOOK_H
@@ -74,6 +76,10 @@
 #define DAYBOOK_WARNING_NUMBERS 1
 #define DAYBOOK_REDUCTION_NUMBERS 5
 #define DAYBOOK_RUN_NUMBERS 3
+#define DAYBOOK_CANCELLATION_NUMBERS 3
+
+/* The marks of a cancellation: a byte for each place of a trade. */
+#define DAYBOOK_MARKS DAYBOOK_MAX_TRADES
 
 /* A return of shrinkage has the numbers H, odd kWh and rest, then from these places on the shares and the remainders of 64 users; a share has 30 days. */
 #define DAYBOOK_RETURN_SHARES 3
@@ -140,6 +146,15 @@ uint32_t daybook_warning(const uint8_t *book, size_t book_len, uint32_t with_sto
    worth, the target, and what the worth falls short of the target or exceeds it by. */
 uint32_t daybook_reduction(uint8_t *book, size_t book_len, uint32_t with_store, const uint8_t *store,
                            size_t store_len, uint32_t id, uint64_t *answer, size_t answer_len);
+
+/* Finds whole trades of a user to cancel, among its eligible ones, whose worth at tariff reaches what its afternoon level exceeds its assigned guarantee by; the book is not
+   changed. A set of trades is read as a binary number, the earliest trade its highest bit, and sets are tried counting down from all trades to the empty set, until the tries
+   are spent, an excess of 0 is met or none is left. `marks`, of DAYBOOK_MARKS bytes by trade place, has 1 for each trade of the first tried set with the smallest excess over
+   the target, else 0. DAYBOOK_CANCELLATION_NUMBERS: that excess, the tries made, and 1 where the search is complete, which is where the excess is 0 or every set was tried,
+   so that no set has a smaller one. More tries never give a larger excess (proved: crates/requests/specs/Cancellation.antt). */
+uint32_t daybook_cancellation(const uint8_t *book, size_t book_len, uint32_t with_store, const uint8_t *store,
+                              size_t store_len, uint32_t id, uint32_t tries, uint8_t *marks, size_t marks_len,
+                              uint64_t *answer, size_t answer_len);
 
 /* Reduces the user of the lowest id that is short of cover and has an eligible trade, until there is none; DAYBOOK_RUN_NUMBERS: the reductions, the MWh cut, their worth.
    It reports at most as many reductions as MWh stand, before the run, in trades of kind 0 and day 0, and leaves the book byte for byte where it reports none (proved:

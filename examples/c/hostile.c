@@ -1,4 +1,4 @@
-/* Calls every function of daybook.h but daybook_list (hostile_lists.c) on hostile input: hostile BOOK. Each part is a block of exactly its length, so that valgrind sees a byte read or written outside it
+/* Calls every function of daybook.h on hostile input, but daybook_list (hostile_lists.c) and daybook_cancellation (hostile_cancellations.c): hostile BOOK. Each part is a block of exactly its length, so that valgrind sees a byte read or written outside it
    (the script `valgrind` beside this file). What a caller can tell is held against the header: the numbers, the 0 of a refused answer, and what stays unchanged. */
 #include "hostile.h"
 

@@ -1,13 +1,12 @@
--- What is asked of the user at a place is what the rules ask, and the cuts of its own sales, taken off in the bytes, give the rules' book. Assumes nothing.
-use mathlib.Core.Bool.{Bool, true, false, cond, _&&_, _||_}
+-- The cuts of the user's own sales, taken off in the bytes, give the rules' book. Assumes nothing.
+use mathlib.Core.Bool.{Bool, true, false}
 use mathlib.Core.List.{List, map}
 use mathlib.Core.Path.{_≡_, refl, sym, ap, ap₂, subst, _∙_}
 use Prim.Native.Nat.{ℕ, _+_, _-_, _<_}
 use native.Mathlib.Omega.{arith}
-use lib.Dec.{leb, ltb}
+use lib.Dec.{ltb}
 use lib.ListN.{length, getD}
 use lib.Seq.{sets}
-use Rattle.book_parties.specs.Ids.{idAt}
 use Rattle.cut_apply.proofs.Own.{cuttable-part, own-lowered}
 use Rattle.cut_apply.specs.Cutting.{CuttablePart, loweredAt}
 use Rattle.cut_lists.proofs.Own.{own-inside, own-origins}
@@ -15,25 +14,18 @@ use Rattle.cut_lists.specs.Sales.{SalesOf, SalesRoom, StandingOf}
 use Rattle.cut_tiers.specs.Tiers.{cutsOf}
 use Rattle.cut_worth.specs.Tallies.{asTally}
 use Rattle.cut_worth.specs.declared.Tally.{Tally}
-use Rattle.risk_holdings.specs.Parties.{cutBefore}
 use Rattle.book_format.proofs.Passed.{length-usersOf}
-use Rattle.book_format.specs.Book.{bookOf, tradesOf, userCount, usersOf}
+use Rattle.book_format.specs.Book.{bookOf, usersOf}
 use Rattle.book_format.specs.Steps.{inBytes}
 use Rattle.book_format.specs.Held.{HeldAs}
-use Rattle.risk_user.proofs.Rules.{called-own, level-own, state-own}
-use Rattle.risk_user.specs.UserAt.{PositionsOf, flaggedAt, levelAt, targetOf}
-use Rattle.risk_user.specs.States.{stateBy}
 use Rattle.rules.specs.Areas.{Prices}
 use Rattle.rules.specs.Book.{Book, Trade, User, nobody}
 use Rattle.rules.specs.Calls.{Answer, ofCuts, only, reducedBy}
-use Rattle.rules.specs.Day.{State, call, clear, quiet, short}
-use Rattle.rules.specs.Levels.{Limits, afternoonLevel, calledIn, exceedsMargin, shipper}
 use Rattle.base.specs.Lists.{any}
-use Rattle.rules.specs.Questions.{numberOf, refusal}
-use Rattle.rules.specs.Reduction.{cutAll, hasEligible, nothing, tallyAll, target, withTrades}
+use Rattle.rules.specs.Reduction.{cutAll, hasEligible, nothing, tallyAll, withTrades}
 use Rattle.run_reduction.proofs.Start.{first-reached, run-stays}
 use Rattle.run_reduction.proofs.Steps.{cut-within, cuts-own, cuts-part, cuts-room, own-codes, own-standing, prices-same}
-use Rattle.run_reduction.specs.Books.{Listed, Runnable}
+use Rattle.run_reduction.specs.Books.{Listed}
 use Rattle.run_reduction.specs.Reductions.{Reached, RunOf, shortIn}
 use Rattle.laws_sales.proofs.Cover.{has-eligible-sales}
 use Rattle.laws_sales.proofs.Cuts.{cuts-sales}
@@ -44,58 +36,8 @@ use Rattle.laws_sales.specs.Parts.{part}
 use Rattle.laws_sales.specs.Reduced.{ownCuts, ownSales}
 use Rattle.laws_sales.specs.Sales.{ownSale}
 use Rattle.call_reduction.specs.Books.{UserOf, allSales}
-use Rattle.call_reduction.specs.Call.{Gives, levelQuestions, onSales}
-use Rattle.call_reduction.specs.States.{refusedBy}
-use Rattle.call_reduction.proofs.Ways.{gives-refused, sales-none, sales-some, state-refuses}
-
--- ---- the questions
-
--- who is refused by none of 9, 11 and 13 is cut for what the level exceeds the assigned guarantee by
-short-target : (limits : Limits) (u : User) (level : ℕ) (called : Bool) → refusedBy (stateBy limits u level called) ≡ 0 → targetOf limits u level ≡ level - u .party .assigned
-unfolding stateBy targetOf
-short-target limits u level called h =
-    go (shipper u) called (exceedsMargin limits level u) (ltb (u .party .assigned) level) (leb level (u .party .assigned)) h
-  where
-    go : (x c m a n : Bool) → refusedBy (cond x (cond (c && (m && a)) short (cond (c && (m && n)) call quiet)) clear) ≡ 0 → cond (m && a) (level - u .party .assigned) 0 ≡ level - u .party .assigned
-    go true true true true n k = refl
-    go true true true false true k = absurd (omega (arith, k))
-    go true true true false false k = absurd (omega (arith, k))
-    go true true false a n k = absurd (omega (arith, k))
-    go true false m a n k = absurd (omega (arith, k))
-    go false c m a n k = absurd (omega (arith, k))
-
-module _ {limits : Limits} {f : Prices} {s sellers parties sums : List ℕ} (r : Runnable limits f s sellers parties sums) {place : ℕ} (inside : place < userCount s)
-    {ps : List ℕ} (p : PositionsOf (usersOf s) ps) where
-  abbrev user : User
-  user = getD (usersOf s) place nobody
-
-  member : place < length (usersOf s)
-  member = omega (arith, length-usersOf s)
-
-  -- the level is the user's
-  pub asked-level : {level : ℕ} → level ≡ levelAt limits f (usersOf s) sums ps place → level ≡ afternoonLevel limits (bookOf s) (getD (usersOf s) place nobody)
-  unfolding bookOf
-  asked-level e = e ∙ ap (λ (g : Prices). levelAt limits g (usersOf s) sums ps place) (r .prices-are) ∙ level-own (bookOf s) (r .twelve) p place member limits
-
-  -- and whether it is called in
-  pub asked-called : {called cut : Bool} → called ≡ (flaggedAt limits f (usersOf s) ps place || cut)
-      → cut ≡ cutBefore (idAt (usersOf s) place) (tradesOf s) → called ≡ calledIn limits (bookOf s) (getD (usersOf s) place nobody)
-  unfolding bookOf
-  asked-called {called} {cut} e c =
-      called-own (bookOf s) (r .twelve) p place member limits (e ∙ ap (λ (g : Prices). flaggedAt limits g (usersOf s) ps place || cut) (r .prices-are)) c
-
-  module _ {level : ℕ} {called : Bool} (le : level ≡ afternoonLevel limits (bookOf s) (getD (usersOf s) place nobody)) (ce : called ≡ calledIn limits (bookOf s) (getD (usersOf s) place nobody))
-      {number : ℕ} {state : State} (ne : number ≡ refusedBy state) (se : state ≡ stateBy limits (getD (usersOf s) place nobody) level called) where
-    -- the number is that of the questions
-    pub asked-number : number ≡ numberOf (refusal (levelQuestions limits (bookOf s) (getD (usersOf s) place nobody)))
-    asked-number = ne ∙ ap refusedBy (se ∙ state-own limits (bookOf s) user le ce) ∙ state-refuses limits (bookOf s) user
-
-    -- and what is asked for is the target
-    pub asked-target : number ≡ 0 → {t : ℕ} → t ≡ targetOf limits (getD (usersOf s) place nobody) level → t ≡ target limits (bookOf s) (getD (usersOf s) place nobody)
-    unfolding target
-    asked-target z e = e ∙ short-target limits user level called (sym (ne ∙ ap refusedBy se) ∙ z) ∙ ap (λ (n : ℕ). n - user .party .assigned) le
-
--- ---- the cuts
+use Rattle.call_reduction.specs.Call.{Gives, onSales}
+use Rattle.call_reduction.proofs.Ways.{gives-refused, sales-none, sales-some}
 
 -- the lists have the own sales of all users
 pub all-listed : {b : Book} {ss origins ns areaCodes bs : List ℕ} {count : ℕ} → SalesOf b ss origins areaCodes bs count → StandingOf b ns count → SalesRoom origins ns areaCodes bs

@@ -2,21 +2,17 @@
 use mathlib.Core.List.{List, [], _∷_, _++_}
 use mathlib.Core.Path.{_≡_}
 use Prim.Native.Nat.{ℕ}
-use Rattle.rules.specs.Book.{Book, User}
-use Rattle.rules.specs.Questions.{Question, decided, refusal}
-use Rattle.rules.specs.Levels.{Limits, afternoonLevel}
-use Rattle.rules.specs.Calls.{Answer, Call, reduction, isShipper, calledInBeyondMargin, assignedFallsShort, eligibleTrade, only, reduced, reducedBy}
+use Rattle.rules.specs.Book.{User}
+use Rattle.rules.specs.Questions.{decided, refusal}
+use Rattle.rules.specs.Levels.{Limits}
+use Rattle.rules.specs.Calls.{Answer, Call, reduction, eligibleTrade, only, reduced, reducedBy}
 use Rattle.book_format.specs.Book.{bookOf}
 use Rattle.book_format.specs.Steps.{InBytes, inBytes}
+use Rattle.call_questions.specs.Asked.{levelQuestions}
 
 -- the call that the function `reduction` is
 abbrev pub reductionOf : ℕ → Call
 reductionOf id = reduction id
-
--- the questions 9, 11 and 13
-unfoldable pub levelQuestions : Limits → Book → User → List Question
-levelQuestions limits b u =
-    isShipper u ∷ (calledInBeyondMargin limits b u ∷ (assignedFallsShort (afternoonLevel limits b u) u ∷ []))
 
 -- the questions 9, 11, 13 and 14, and the reduction of the user for its target
 unfoldable pub onUser : Limits → List ℕ → User → InBytes

@@ -1,4 +1,3 @@
 -- The call that a reduction is, the questions that are its own, and the book that it reduces.
 pub mod Call
-pub mod States
 pub mod Books

@@ -2,7 +2,6 @@
 // assigned guarantee by. The sales are cut on arrays, as in a run, and what they lose is taken off in the bytes.
 use call_answers::ReductionAnswer;
 use risk_user::Day;
-use risk_user::State;
 use units::Cents;
 use units::Limits;
 use units::Prices;
@@ -14,13 +13,11 @@ ghost use Rattle.book_format.specs.After.{CalledAfter};
 ghost use Rattle.book_format.specs.Book.{bookOf, userCount, usersOf};
 ghost use Rattle.book_format.specs.Questions.{bookNumber};
 ghost use Rattle.book_questions.specs.Asked.{PartiesFound};
-ghost use Rattle.risk_user.specs.States.{stateOf};
 ghost use Rattle.rules.specs.Book.{nobody};
 ghost use Rattle.run_reduction.specs.Books.{Listed, Runnable};
 ghost use Rattle.units.specs.Prices.{asPrices};
 ghost use Rattle.units.specs.Limits.{asLimits, LimitsInRange};
 ghost use Rattle.call_reduction.specs.Call.{Gives, onSales, onUser, reductionOf};
-ghost use Rattle.call_reduction.specs.States.{refusedBy};
 ghost use Rattle.call_reduction.specs.Books.{UserOf, allSales};
 
 // ---- the cuts
@@ -119,18 +116,6 @@ fn reduce_sales(
 
 // ---- the questions
 
-// The number of the question 9, 11 or 13 that refuses a user in this state; 0 where none does.
-fn refused_by(state: State) -> u32
-    ensures { λ r. ⌜ r ≡ refusedBy (stateOf state) ⌝ }
-{
-    match state {
-        State::Clear => 9,
-        State::Short => 0,
-        State::Call => 13,
-        State::Quiet => 11,
-    }
-}
-
 // Asks the questions 9, 11, 13 and 14 of the user at a place and reduces it for its target.
 fn reduce_user(
     book: &mut [u8],
@@ -143,25 +128,28 @@ fn reduce_user(
     requires { ⌜ Runnable (asLimits (day .limits)) (asPrices (day .prices)) (now book) (now sellers) (now parties) (now sums) × (place < userCount (now book)) ⌝ }
     ensures { λ r. ⌜ Gives (onUser (asLimits (day .limits)) (now (book .entry)) (getD (usersOf (now (book .entry))) place nobody)) (answerOf r) (now (book .exit)) ⌝ }
 {
-    let n = fields::get_u8(book, 5) as usize;
-    let m = fields::get_u16(book, 6) as usize;
     let mut positions = [0u32; 192];
-    run_positions::fill_positions(book, n, &mut positions);
-    let cut = run_targets::cut_at(book, n, m, sellers, parties, place);
-    let called = risk_user::called_at(book, &positions, place, cut, day);
-    let level = risk_user::level_at(book, sums, &positions, place, day);
-    let number = refused_by(risk_user::state_of(book, place, level, called, day));
+    let shortfall = call_questions::shortfall_at(
+        book,
+        sellers,
+        parties,
+        sums,
+        &mut positions,
+        place,
+        day,
+    );
+    let number = shortfall.number;
     if number != 0 {
         return ReductionAnswer::refused(number);
     }
-    let target = risk_user::target_of(book, place, level, day);
+    let target = shortfall.target;
     reduce_sales(
         book,
         sellers,
         parties,
         &mut positions,
         place,
-        Cents(target),
+        target,
         day.prices,
     )
 }

@@ -7,6 +7,7 @@ ghost use Rattle.rules.specs.Queries.{morningLevelOf, afternoonLevelOf};
 ghost use Rattle.store.specs.Store.{given};
 ghost use Rattle.requests.specs.Request.{enquiry, requestOf, settingOf};
 ghost use Rattle.requests.specs.Carried.{Carried, Handed, Posted};
+ghost use Rattle.requests.specs.Cancellation.{cancellation};
 ghost use Rattle.call_posting.specs.Posting.{postingOf};
 ghost use Rattle.call_level.specs.Times.{queryOf};
 ghost use Rattle.call_guarantee.specs.Times.{callOf};
@@ -17,6 +18,7 @@ ghost use Rattle.call_answers.specs.Reduction as reducing;
 ghost use Rattle.call_answers.specs.Run as running;
 ghost use Rattle.call_warning.specs.Warned.{warningOf};
 ghost use Rattle.call_reduction.specs.Call.{reductionOf};
+ghost use Rattle.call_cancellation.specs.Call.{cancellationOf};
 ghost use Rattle.call_run.specs.Call.{runCall};
 ghost use Rattle.book_value.specs.Opened.{Opened};
 ghost use Rattle.book_value.specs.Written.{Written};
@@ -28,6 +30,7 @@ use call_answers::LevelAnswer;
 use call_answers::ReductionAnswer;
 use call_answers::RunAnswer;
 use call_answers::WarningAnswer;
+use call_cancellation::CancellationAnswer;
 
 // The book that bytes hold, every field of it, and 0; or a book whose every field is 0 and the number of the first of the questions 1 to 7
 // that is answered by no.
@@ -203,6 +206,41 @@ pub fn reduction(book: &mut [u8], with_store: bool, store: &[u8], id: u32) -> Re
     );
     let limits = admission.limits;
     call_reduction::reduction(book, admission.number, limits, &sellers, &buyers, &sums, id)
+}
+
+// Finds whole eligible trades of a user whose worth at tariff reaches what its afternoon level exceeds its assigned guarantee by, in a
+// number of tries.
+pub fn cancellation(
+    book: &[u8],
+    with_store: bool,
+    store: &[u8],
+    id: u32,
+    tries: u32,
+) -> CancellationAnswer
+    ensures { λ r. ⌜ cancellationOf r ≡ cancellation (settingOf (given «with_store» (now (store .entry)))) (now (book .entry)) id tries ⌝ }
+{
+    let mut sellers = [0u8; 256];
+    let mut buyers = [0u8; 256];
+    let mut sums = [0u32; 768];
+    let admission = call_admission::admit_with_sums(
+        book,
+        with_store,
+        store,
+        &mut sellers,
+        &mut buyers,
+        &mut sums,
+    );
+    let limits = admission.limits;
+    call_cancellation::cancellation(
+        book,
+        admission.number,
+        limits,
+        &sellers,
+        &buyers,
+        &sums,
+        id,
+        tries,
+    )
 }
 
 // Reduces the user of the lowest id among those short of cover with an eligible trade, until there is none.

@@ -7,10 +7,12 @@ use lib.ListN.{length}
 use borrow.Author.Tests.{eq-eqb, ne-eqb}
 use Rattle.rules.specs.Calls.{Answer}
 use Rattle.rules.specs.Queries.{Query, Reply}
+use Rattle.requests.specs.Cancellation.{Cancellation, cancellation}
 use Rattle.requests.specs.Carried.{Carried}
 use Rattle.requests.specs.Request.{Request, Setting, enquiry, request}
+use Rattle.exports_cancellation.specs.Numbers.{cancellationNumbers, markNumbers}
 use Rattle.exports.specs.Lent.{byLength, wrongLength, Given}
-use Rattle.exports.specs.Answers.{Replied, Answered}
+use Rattle.exports.specs.Answers.{Replied, Answered, CancelledInto}
 
 module _ (n : ℕ) (lent : List ℕ) where
   -- by the length: the one where it is that of the part, the other where it is not
@@ -48,3 +50,28 @@ module _ (n : ℕ) (lent : List ℕ) where
     -- a call that was not made
     pub not-called : (length lent ≡ n → ⊥) → Answered n numbers r s lent wrongLength lent s
     not-called e = record { answer = refused _ _ lent e; book = of-other (request r s .bytes) s e }
+
+-- ---- a whole cancellation, in two parts
+
+module _ (g : Setting) (s : List ℕ) (id tries : ℕ) (marks answer : List ℕ) where
+  -- the first part is of another length, or the second
+  pub marks-refused : (length marks ≡ 256 → ⊥) → CancelledInto g s id tries marks answer wrongLength marks answer
+  marks-refused e = record { number = of-other 256 marks _ wrongLength e; marked = of-other 256 marks _ marks e; numbers = of-other 256 marks _ answer e }
+
+  pub numbers-refused : length marks ≡ 256 → (length answer ≡ 3 → ⊥) → CancelledInto g s id tries marks answer wrongLength marks answer
+  numbers-refused e f =
+      record {
+        number = of-other 3 answer _ wrongLength f ∙ of-length 256 marks _ wrongLength e;
+        marked = of-other 3 answer _ marks f ∙ of-length 256 marks _ marks e;
+        numbers = of-other 3 answer _ answer f ∙ of-length 256 marks _ answer e;
+      }
+
+  -- both are of the length that is asked for
+  pub cancelled-into : (c : Cancellation) (result : ℕ) (marks-after answer-after : List ℕ) → length marks ≡ 256 → length answer ≡ 3 → c ≡ cancellation g s id tries → result ≡ c .number
+      → marks-after ≡ markNumbers c → answer-after ≡ cancellationNumbers c → CancelledInto g s id tries marks answer result marks-after answer-after
+  cancelled-into c result marks-after answer-after e f h number marked numbers =
+      record {
+        number = number ∙ ap (λ (x : Cancellation). x .number) h ∙ of-length 3 answer _ wrongLength f ∙ of-length 256 marks _ wrongLength e;
+        marked = marked ∙ ap markNumbers h ∙ of-length 3 answer _ marks f ∙ of-length 256 marks _ marks e;
+        numbers = numbers ∙ ap cancellationNumbers h ∙ of-length 3 answer _ answer f ∙ of-length 256 marks _ answer e;
+      }

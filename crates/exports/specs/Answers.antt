@@ -13,6 +13,7 @@ use Rattle.rules.specs.Questions.{refusal, numberOf, decided}
 use Rattle.book_format.specs.Book.{userCount, tradeCount, bytesOf}
 use Rattle.book_format.specs.Questions.{bookNumber}
 use Rattle.store.specs.Store.{given}
+use Rattle.requests.specs.Cancellation.{cancellation}
 use Rattle.requests.specs.Carried.{partShown}
 use Rattle.requests.specs.Request.{Request, Setting, enquiry, request}
 use Rattle.book_value.specs.Written.{aboutWriting}
@@ -21,7 +22,8 @@ use Rattle.book_image.specs.ImageBook.{imageBook}
 use Rattle.shrinkage.specs.Return.{returned}
 use Rattle.shrinkage.specs.Days.{overDays}
 use Rattle.exports_shrinkage.specs.Numbers.{returnNumbers}
-use Rattle.exports.specs.Lent.{byLength, Given, Stored}
+use Rattle.exports_cancellation.specs.Numbers.{cancellationNumbers, markNumbers}
+use Rattle.exports.specs.Lent.{byLength, Given, Stored, wrongLength}
 
 -- a flag as a number: 0 is no, any other yes
 unfoldable pub isYes : ℕ → Bool
@@ -41,6 +43,12 @@ Replied n numbers g s q lent result after =
 pub record Answered (n : ℕ) (numbers : Answer → List ℕ) (r : Request) (s : List ℕ) (lent : List ℕ) (result : ℕ) (after : List ℕ) (t : List ℕ) : Type 0 where
   pub answer : Stored n lent (request r s .answer .number) (numbers (request r s .answer)) result after
   pub book : t ≡ byLength n lent (request r s .bytes) s
+
+-- a whole cancellation, with a part for 256 marks and one for 3 numbers: its number and both parts; where one of them is of another length both are left as they are
+pub record CancelledInto (g : Setting) (s : List ℕ) (id tries : ℕ) (marks answer : List ℕ) (result : ℕ) (marks-after answer-after : List ℕ) : Type 0 where
+  pub number : result ≡ byLength 256 marks (byLength 3 answer (cancellation g s id tries .number) wrongLength) wrongLength
+  pub marked : marks-after ≡ byLength 256 marks (byLength 3 answer (markNumbers (cancellation g s id tries)) marks) marks
+  pub numbers : answer-after ≡ byLength 256 marks (byLength 3 answer (cancellationNumbers (cancellation g s id tries)) answer) answer
 
 -- a shown record: the user's 56 bytes, or 56 times 0
 abbrev pub Copied : Setting → List ℕ → ℕ → List ℕ → ℕ → List ℕ → Type 0

@@ -14,7 +14,8 @@ ghost use Rattle.call_reduction.specs.Call.{reductionOf};
 ghost use Rattle.call_run.specs.Call.{runCall};
 ghost use Rattle.call_show.specs.Shown.{picked};
 ghost use Rattle.exports_answers.specs.Numbers.{levelNumbers, warningNumbers, callNumbers, reductionNumbers, runNumbers};
-ghost use Rattle.exports.specs.Answers.{isYes, storeBy, Replied, Answered, Copied, ReadInto, WrittenFrom, ReturnedInto, SpreadInto};
+ghost use Rattle.exports.specs.Answers.{isYes, storeBy, Replied, Answered, Copied};
+ghost use Rattle.exports.specs.Answers.{ReadInto, WrittenFrom, ReturnedInto, SpreadInto, CancelledInto};
 use shrinkage::Kwh;
 
 // The number for a lent part of another length than the function asks for.
@@ -28,6 +29,9 @@ const IMAGE_SIZE: usize = 8736;
 
 const RECORD_SIZE: usize = 56;
 
+// The marks of a cancellation, one for each place of a trade.
+const MARKS: usize = 256;
+
 // How many numbers an answer has.
 const LEVEL_NUMBERS: usize = 1;
 
@@ -36,6 +40,8 @@ const WARNING_NUMBERS: usize = 1;
 const CALL_NUMBERS: usize = 2;
 
 const REDUCTION_NUMBERS: usize = 5;
+
+const CANCELLATION_NUMBERS: usize = 3;
 
 const RUN_NUMBERS: usize = 3;
 
@@ -284,6 +290,30 @@ pub extern "C" fn daybook_reduction(
     }
     let reduction = daybook::reduction(book, with_store != 0, store, id);
     exports_answers::store_reduction(answer, reduction)
+}
+
+// Finds whole trades to cancel for a user's target: 256 marks by trade place, and 3 numbers, the excess, the tries made, and 1 where the
+// search is complete.
+#[no_mangle]
+pub extern "C" fn daybook_cancellation(
+    book: &[u8],
+    with_store: u32,
+    store: &[u8],
+    id: u32,
+    tries: u32,
+    marks: &mut [u8],
+    answer: &mut [u64],
+) -> u32
+    ensures { λ r. ⌜ CancelledInto (settingOf (storeBy «with_store» (now (store .entry)))) (now (book .entry)) id tries (now (marks .entry)) (now (answer .entry)) r (now (marks .exit)) (now (answer .exit)) ⌝ }
+{
+    if marks.len() != MARKS {
+        return WRONG_LENGTH;
+    }
+    if answer.len() != CANCELLATION_NUMBERS {
+        return WRONG_LENGTH;
+    }
+    let cancellation = daybook::cancellation(book, with_store != 0, store, id, tries);
+    exports_cancellation::store_cancellation(marks, answer, cancellation)
 }
 
 // Reduces users until none that is short of cover has an eligible trade: 3 numbers, the reductions, the MWh cut and their worth.

@@ -3,3 +3,4 @@ pub mod Opened
 pub mod Passed
 pub mod Plain
 pub mod Lines
+pub mod Cancellation

@@ -72,6 +72,20 @@ pub fn print_beyond(subject: &Subject, options: &Options) {
     print_row("reduction - level - write", reduction - level - write);
 }
 
+/// Prints the times of whole cancellations among 256 sales, with few tries and
+/// with all.
+pub fn print_cancellations(subject: &Subject, options: &Options) {
+    println!(
+        "\n{} book: whole cancellations among 256 sales; microseconds, {} samples of {} calls",
+        subject.name, options.samples, options.batch
+    );
+    print_head("tries");
+    for tries in [1, 100, 4_096, daybook::MOST_TRIES] {
+        let times = cancellation(subject, options, tries);
+        print_row(&format!("cancellation, {tries}"), times);
+    }
+}
+
 fn print_row(name: &str, times: Times) {
     print_times(name, Some(times.engine), times.tuned);
 }
@@ -306,6 +320,36 @@ fn refused_reduction(subject: &Subject, options: &Options) -> Times {
         |book| assert_eq!(archive::reduction(book, None, id, &mut answer), 13),
         |book| assert_eq!(tuned::reduction(book, id), Err(13)),
     )
+}
+
+/// All tries are made: no set that is tried has an excess of 0.
+fn cancellation(subject: &Subject, options: &Options, tries: u32) -> Times {
+    let id = subject.reduced;
+    let (mut marks, mut answer) = ([0; 256], [0; 3]);
+    let mut found = None;
+    let times = both(
+        subject,
+        options,
+        |book| {
+            expect(archive::cancellation(
+                black_box(book),
+                None,
+                id,
+                black_box(tries),
+                &mut marks,
+                &mut answer,
+            ))
+        },
+        |book| found = tuned::cancellation(black_box(book), None, id, black_box(tries)).ok(),
+    );
+    let found = found.expect("an accepted cancellation");
+    assert_eq!(marks.map(|mark| mark == 1), found.marks, "the marks");
+    let excess = found.excess.0.unsigned_abs();
+    assert_eq!(
+        answer,
+        [excess, u64::from(tries), u64::from(found.complete)]
+    );
+    times
 }
 
 fn run(subject: &Subject, options: &Options) -> Times {

@@ -31,7 +31,9 @@ fn main() -> ExitCode {
         calls::print_table(&subject, &options);
     }
     if options.has_book("wide") {
-        calls::print_beyond(&subjects::wide(), &options);
+        let wide = subjects::wide();
+        calls::print_beyond(&wide, &options);
+        calls::print_cancellations(&wide, &options);
     }
     hard::print_table(&options);
     print_machine("after");

@@ -29,6 +29,7 @@ fn every_book_is_measured() {
         "widest",
         "list of 512 lines",
         "a list of 512 lines takes the time of",
+        "cancellation, 65535",
     ] {
         assert!(text.contains(word), "{word} in\n{text}");
     }

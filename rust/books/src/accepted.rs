@@ -140,7 +140,7 @@ pub fn set_positions(book: &mut Book) {
     }
 }
 
-fn header(random: &mut Random) -> Book {
+pub(crate) fn header(random: &mut Random) -> Book {
     Book {
         version: 1,
         date: date(random),
@@ -203,7 +203,7 @@ fn price_list([p, q, l, x, i]: [i128; 5]) -> Prices {
 }
 
 /// Strictly rising ids, none of them 0.
-fn ids(random: &mut Random, count: usize) -> Vec<u32> {
+pub(crate) fn ids(random: &mut Random, count: usize) -> Vec<u32> {
     let mut ids: Vec<u32> = match random.below(3) {
         0 => (1..).take(count).collect(),
         1 => (101..).take(count).collect(),

@@ -48,6 +48,10 @@ pub enum Call {
     Reduction {
         id: u32,
     },
+    Cancellation {
+        id: u32,
+        tries: u32,
+    },
     Run,
     Read,
     /// The image is written into a part of this length, each byte 0xAA before.
@@ -59,7 +63,7 @@ pub enum Call {
 }
 
 impl Call {
-    pub const NAMES: [&'static str; 14] = [
+    pub const NAMES: [&'static str; 15] = [
         "posting",
         "list",
         "show",
@@ -70,6 +74,7 @@ impl Call {
         "afternoon call",
         "warning",
         "reduction",
+        "cancellation",
         "run",
         "read",
         "write",
@@ -93,10 +98,11 @@ impl Call {
             Call::AfternoonCall { .. } => 7,
             Call::Warning { .. } => 8,
             Call::Reduction { .. } => 9,
-            Call::Run => 10,
-            Call::Read => 11,
-            Call::Write { .. } => 12,
-            Call::Day => 13,
+            Call::Cancellation { .. } => 10,
+            Call::Run => 11,
+            Call::Read => 12,
+            Call::Write { .. } => 13,
+            Call::Day => 14,
         };
         Call::NAMES[place]
     }
@@ -108,10 +114,10 @@ impl Call {
 pub struct Answer {
     pub number: u32,
     /// The places of a list; level; level, added; warned; MWh, worth, T, short,
-    /// over; reductions, MWh, worth; else empty.
+    /// over; excess, tries, complete; reductions, MWh, worth; else empty.
     pub fields: Vec<i128>,
-    /// The shown record, the image read, the part written into, or the printed
-    /// day; else empty.
+    /// The shown record, the 256 marks of a cancellation, the image read, the part
+    /// written into, or the printed day; else empty.
     pub part: Vec<u8>,
 }
 
@@ -188,6 +194,15 @@ pub fn answer(book: &mut [u8], store: Option<&[u8]>, call: &Call) -> Answer {
             Answer::of_fields(warning.number, &[i128::from(warning.warned)])
         }
         Call::Reduction { id } => reduction(reference::reduction(book, store, *id)),
+        Call::Cancellation { id, tries } => {
+            let given = reference::cancellation(book, store, *id, *tries);
+            let complete = i128::from(given.complete);
+            Answer {
+                number: given.number,
+                fields: vec![given.excess, i128::from(given.tries), complete],
+                part: given.marks.map(u8::from).to_vec(),
+            }
+        }
         Call::Run => {
             let run = reference::run(book, store);
             let fields = [i128::from(run.reductions), run.mwh, run.worth];

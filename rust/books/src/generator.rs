@@ -10,6 +10,7 @@ use crate::accepted::{
     MOST_LONG_REDUCTIONS,
 };
 use crate::calls::Call;
+use crate::cancellations::whole;
 use crate::damage::{counts, raw, Damage};
 use crate::random::Random;
 use crate::stores::{any_store, date_of};
@@ -30,6 +31,8 @@ pub enum Kind {
     Chain,
     /// Many sales of few sizes by one user.
     Shares,
+    /// A seller asked for what some of its sales are worth.
+    Whole,
     /// Flags around their limit.
     Midday,
     /// A run of up to 3,000 reductions.
@@ -41,7 +44,7 @@ pub enum Kind {
 }
 
 impl Kind {
-    pub const ALL: [Kind; 11] = [
+    pub const ALL: [Kind; 12] = [
         Kind::Small,
         Kind::Usual,
         Kind::AnySize,
@@ -49,6 +52,7 @@ impl Kind {
         Kind::Extreme,
         Kind::Chain,
         Kind::Shares,
+        Kind::Whole,
         Kind::Midday,
         Kind::Long,
         Kind::Damaged,
@@ -56,7 +60,7 @@ impl Kind {
     ];
 
     /// The kinds that pass questions 1 to 7.
-    pub const ACCEPTED: [Kind; 9] = [
+    pub const ACCEPTED: [Kind; 10] = [
         Kind::Small,
         Kind::Usual,
         Kind::AnySize,
@@ -64,6 +68,7 @@ impl Kind {
         Kind::Extreme,
         Kind::Chain,
         Kind::Shares,
+        Kind::Whole,
         Kind::Midday,
         Kind::Long,
     ];
@@ -107,6 +112,7 @@ impl Generator {
             Kind::Extreme => extreme(random).to_bytes(),
             Kind::Chain => chain(random).to_bytes(),
             Kind::Shares => shares(random).to_bytes(),
+            Kind::Whole => whole(random).to_bytes(),
             Kind::Midday => midday(random).to_bytes(),
             Kind::Long => long(random).to_bytes(),
             Kind::Damaged => self.damaged(),
@@ -125,7 +131,7 @@ impl Generator {
 
     /// A book of any kind, the large ones less often.
     pub fn any_book(&mut self) -> Vec<u8> {
-        let kind = match self.random.below(24) {
+        let kind = match self.random.below(26) {
             0 => self
                 .random
                 .pick(&[Kind::Largest, Kind::Extreme, Kind::AnySize]),
@@ -136,6 +142,7 @@ impl Generator {
             9..=12 => Kind::Shares,
             13..=15 => Kind::Midday,
             16..=19 => Kind::Usual,
+            20 | 21 => Kind::Whole,
             _ => Kind::Small,
         };
         self.book(kind)
@@ -265,7 +272,7 @@ impl Generator {
     /// reductions is not drawn.
     pub fn call(&mut self, book: &[u8], store: Option<&[u8]>) -> Call {
         let Arguments { id, pick, .. } = self.arguments(book);
-        match self.random.below(16) {
+        match self.random.below(17) {
             0 => Call::Show { id },
             1 => Call::ShowPicked {
                 afternoon: self.small_book(),
@@ -278,6 +285,7 @@ impl Generator {
             5 => Call::Read,
             6 => self.write(),
             7 if is_short_run(book, None) => Call::Day,
+            8 => self.cancellation(book, store),
             _ => self.changing_call(book, store),
         }
     }
@@ -374,7 +382,7 @@ fn users_in_place(bytes: &[u8]) -> Vec<User> {
 }
 
 /// The id of the user whom a run with this store would reduce next.
-fn reducible(bytes: &[u8], store: Option<&[u8]>) -> Option<u32> {
+pub(crate) fn reducible(bytes: &[u8], store: Option<&[u8]>) -> Option<u32> {
     let Opened { book, limits } = opening_questions(bytes, store).ok()?;
     let place = next_reduction(&limits, &book)?;
     Some(book.users[place].id)

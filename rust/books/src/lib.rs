@@ -6,6 +6,7 @@
 
 pub mod accepted;
 pub mod calls;
+pub mod cancellations;
 pub mod damage;
 pub mod generator;
 pub mod hard;

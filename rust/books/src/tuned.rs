@@ -44,6 +44,9 @@ pub fn answer(book: &mut [u8], store: Option<&[u8]>, call: &Call) -> Option<Answ
             fields(requests::warning(book, store, *id).map(|warned| [warned.into()]))
         }
         Call::Reduction { id } => reduction(requests::reduction(book, store, *id)),
+        Call::Cancellation { id, tries } => {
+            cancellation(tuned::cancellation(book, store, *id, *tries))
+        }
         Call::Run => run(requests::run(book, store)),
         Call::Read | Call::Write { .. } | Call::Day => return None,
     };
@@ -71,7 +74,11 @@ pub fn plain_answer(book: &mut [u8], call: &Call) -> Option<Answer> {
         Call::Warning { id } => fields(tuned::warning(book, *id).map(|warned| [warned.into()])),
         Call::Reduction { id } => reduction(tuned::reduction(book, *id)),
         Call::Run => run(tuned::run(book)),
-        Call::List { .. } | Call::Read | Call::Write { .. } | Call::Day => return None,
+        Call::List { .. }
+        | Call::Cancellation { .. }
+        | Call::Read
+        | Call::Write { .. }
+        | Call::Day => return None,
     };
     Some(answer)
 }
@@ -98,6 +105,19 @@ fn reduction(answer: Result<tuned::Reduction, u32>) -> Answer {
         let [worth, target] = [done.worth, done.target].map(|money| money.0);
         [done.mwh.0, worth, target, done.short.0, done.over.0]
     }))
+}
+
+/// The fields, and the marks as the part; each of them 0 after a refusal.
+fn cancellation(answer: Result<tuned::Cancellation, u32>) -> Answer {
+    let marks = answer.map_or([0; 256], |found| found.marks.map(u8::from));
+    let fields = fields(answer.map(|found| {
+        let complete = i64::from(found.complete);
+        [found.excess.0, i64::from(found.tries), complete]
+    }));
+    Answer {
+        part: marks.to_vec(),
+        ..fields
+    }
 }
 
 fn run(answer: Result<tuned::Run, u32>) -> Answer {

@@ -13,7 +13,7 @@ use crate::sha256::{hex, sha256};
 pub const CALLS: usize = 2_173;
 
 /// Lines of `version-1/calls.txt`.
-pub const REQUESTS: usize = 3_269;
+pub const REQUESTS: usize = 3_566;
 
 /// Books with a printed day, of both folders.
 pub const DAYS: usize = 124;
@@ -222,6 +222,10 @@ impl Request {
             "afternoon_call" => Call::AfternoonCall { id: id() },
             "midday_warning" => Call::Warning { id: id() },
             "reduction" => Call::Reduction { id: id() },
+            "cancel" => Call::Cancellation {
+                id: id(),
+                tries: u32::try_from(number("tries")).expect("tries"),
+            },
             "run" => Call::Run,
             call => panic!("no such call: {call}"),
         };
@@ -255,10 +259,17 @@ fn keyed(book: &[u8], call: &Call, given: &Answer) -> String {
         Call::MorningCall { .. } | Call::AfternoonCall { .. } => &["level", "added"],
         Call::Warning { .. } => &["warned"],
         Call::Reduction { .. } => &["mwh", "worth", "target", "short", "over"],
+        Call::Cancellation { .. } => &["excess", "tries", "complete"],
         Call::Run => &["reductions", "mwh", "worth"],
         _ => &[],
     };
     let mut text = format!("number={}", given.number);
+    if matches!(call, Call::Cancellation { .. }) {
+        let marked = (0..given.part.len()).filter(|place| given.part[*place] != 0);
+        let marked = marked.map(|place| place.to_string());
+        let marked = marked.collect::<Vec<String>>().join(",");
+        text.push_str(&format!(" marks={marked}"));
+    }
     for (name, field) in names.iter().zip(&given.fields) {
         text.push_str(&format!(" {name}={field}"));
     }

@@ -42,13 +42,14 @@ fn numbers(name: &str) -> Vec<u32> {
         "show" | "show picked" => (0..=8).collect(),
         "morning call" | "afternoon call" => [(0..=9).collect(), vec![11, 12]].concat(),
         "reduction" => [(0..=9).collect(), vec![11, 13, 14]].concat(),
+        "cancellation" => [(0..=9).collect(), vec![11, 13, 14, 24, 25]].concat(),
         "run" | "read" | "day" => (0..=7).collect(),
         "write" => [vec![0], (2..=7).collect()].concat(),
         _ => (0..=9).collect(),
     }
 }
 
-const BRANCHES: [&str; 57] = [
+const BRANCHES: [&str; 68] = [
     "book: one user",
     "book: 64 users, 256 trades",
     "book: no trades",
@@ -94,6 +95,17 @@ const BRANCHES: [&str; 57] = [
     "reduction: short",
     "reduction: over",
     "reduction: exact",
+    "cancellation: excess 0 at the first try",
+    "cancellation: excess 0 at a later try",
+    "cancellation: every set tried, excess above 0",
+    "cancellation: tries spent",
+    "cancellation: the last try is the empty set",
+    "cancellation: one trade",
+    "cancellation: more than 16 trades",
+    "cancellation: both tiers",
+    "cancellation: a trade of tier two in the set",
+    "cancellation: a trade that is not eligible before one of the set",
+    "cancellation: a later set of equal excess",
     "run: 0 reductions",
     "run: 1 reduction",
     "run: 2 reductions",
@@ -131,7 +143,11 @@ fn every_number_and_branch_is_reached() {
 
 fn print_and_judge(counts: &Counts) {
     let mut required: Vec<String> = BRANCHES.iter().map(|branch| branch.to_string()).collect();
-    required.extend((0..=15).map(|number| format!("number {number}")));
+    required.extend(
+        (0..=15)
+            .chain([24, 25])
+            .map(|number| format!("number {number}")),
+    );
     for name in Call::NAMES {
         required.extend(
             numbers(name)
@@ -242,6 +258,10 @@ fn count_call(counts: &mut Counts, book: &Book, call: &Call, answer: &Answer) {
         Call::Reduction { id } => {
             let place = book.place_of(*id).expect("a user of the book");
             count_reduction(counts, book, place, answer);
+        }
+        Call::Cancellation { id, tries } => {
+            let place = book.place_of(*id).expect("a user of the book");
+            count_cancellation(counts, book, place, *tries, answer);
         }
         Call::Run => count_run(counts, book, answer),
         Call::Day => count_day(counts, &answer.part),
@@ -355,6 +375,64 @@ fn count_shares(counts: &mut Counts, sales: &[Sale], asked: Cents, worth: Cents)
                     .any(|(other, also)| other == remainder && !also)
         });
     counts.add_if(tie, "reduction: tie of remainders decided by place");
+}
+
+fn count_cancellation(counts: &mut Counts, book: &Book, place: usize, tries: u32, answer: &Answer) {
+    let user = &book.users[place];
+    let (excess, made, complete) = (answer.fields[0], answer.fields[1], answer.fields[2] == 1);
+    let spent = made == i128::from(tries);
+    counts.add(match (excess, complete) {
+        (0, _) if made == 1 => "cancellation: excess 0 at the first try",
+        (0, _) => "cancellation: excess 0 at a later try",
+        (_, true) => "cancellation: every set tried, excess above 0",
+        (_, false) => "cancellation: tries spent",
+    });
+    counts.add_if(
+        excess > 0 && complete && spent,
+        "cancellation: the last try is the empty set",
+    );
+    let (one, two) = tiers(book, user);
+    let marked = |place: &usize| answer.part[*place] == 1;
+    counts.add_if(one.len() + two.len() == 1, "cancellation: one trade");
+    counts.add_if(
+        one.len() + two.len() > 16,
+        "cancellation: more than 16 trades",
+    );
+    counts.add_if(
+        !one.is_empty() && !two.is_empty(),
+        "cancellation: both tiers",
+    );
+    counts.add_if(
+        two.iter().any(marked),
+        "cancellation: a trade of tier two in the set",
+    );
+    let mut eligible = [one, two].concat();
+    eligible.sort_unstable();
+    let last = eligible.iter().rposition(marked);
+    counts.add_if(
+        last.is_some_and(|last| eligible[last] > last),
+        "cancellation: a trade that is not eligible before one of the set",
+    );
+    let asked = target(&Limits::TODAY, book, user) + Cents(excess);
+    let later = later_sets(&sales(book, &eligible), asked, made);
+    counts.add_if(later, "cancellation: a later set of equal excess");
+}
+
+/// Whether more than one of the first sets, of few sales, is worth this much.
+fn later_sets(sales: &[Sale], worth: Cents, made: i128) -> bool {
+    let count = sales.len();
+    if count > 10 {
+        return false;
+    }
+    let sets = (0..1_i128 << count)
+        .rev()
+        .take(usize::try_from(made).unwrap_or(0));
+    let equal = sets.filter(|set| {
+        let chosen = sales.iter().enumerate();
+        let chosen = chosen.filter(|(place, _)| set >> (count - 1 - place) & 1 == 1);
+        worth == chosen.map(|(_, sale)| sale.standing * sale.tariff).sum()
+    });
+    equal.count() > 1
 }
 
 fn count_run(counts: &mut Counts, book: &Book, answer: &Answer) {

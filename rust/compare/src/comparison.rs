@@ -188,6 +188,7 @@ impl Comparison {
             Call::AfternoonCall { id },
             Call::Warning { id },
             Call::Reduction { id },
+            self.generator.cancellation(book, None),
             Call::Read,
         ];
         for pick in [false, true] {

@@ -5,8 +5,8 @@ use std::fmt::{self, Display, Formatter};
 use books::Call;
 
 /// The numbers: 0 for an accepted call, 1 to 14 for a refusal of document 01, 15
-/// for one of ask 1, 16 and 17 for one of ask 4.
-pub const NUMBERS: usize = 18;
+/// for one of ask 1, 16 and 17 of ask 4, 24 and 25 of ask 8.
+pub const NUMBERS: usize = 26;
 
 /// Calls that were compared, by kind and number.
 #[derive(Clone, Debug, Default, PartialEq, Eq)]
@@ -66,6 +66,7 @@ pub fn possible(name: &str) -> Vec<usize> {
         "morning level" | "afternoon level" | "warning" => (9, &[16, 17]),
         "morning call" | "afternoon call" => (9, &[11, 12, 16, 17]),
         "reduction" => (9, &[11, 13, 14, 16, 17]),
+        "cancellation" => (9, &[11, 13, 14, 16, 17, 24, 25]),
         "run" => (7, &[16, 17]),
         _ => (7, &[]),
     };
@@ -76,16 +77,24 @@ pub fn possible(name: &str) -> Vec<usize> {
 }
 
 impl Display for Counts {
-    /// A line for each kind of call, a column for each number.
+    /// A line for each kind of call, a column for each number that some call can
+    /// get, or got.
     fn fmt(&self, formatter: &mut Formatter<'_>) -> fmt::Result {
+        let told = |number: &usize| {
+            let names = Call::NAMES.iter();
+            names.clone().any(|name| possible(name).contains(number))
+                || names.clone().any(|name| self.of(name, *number) > 0)
+        };
+        let numbers: Vec<usize> = (0..NUMBERS).filter(told).collect();
         write!(formatter, "{:<16}", "call")?;
-        for number in 0..NUMBERS {
+        for number in &numbers {
             write!(formatter, "{number:>9}")?;
         }
         for (name, counts) in Call::NAMES.iter().zip(&self.counts) {
             write!(formatter, "\n{name:<16}")?;
-            for (number, count) in counts.iter().enumerate() {
-                if possible(name).contains(&number) || *count > 0 {
+            for number in &numbers {
+                let count = counts[*number];
+                if possible(name).contains(number) || count > 0 {
                     write!(formatter, "{count:>9}")?;
                 } else {
                     write!(formatter, "{:>9}", "-")?;

@@ -2,7 +2,7 @@
 
 use books::{Answer, Call};
 use daybook::archive;
-use daybook::{IMAGE_LENGTH, USER_LENGTH};
+use daybook::{IMAGE_LENGTH, MOST_TRADES, USER_LENGTH};
 
 /// What a part for an answer holds before the call: a refusal has to put 0
 /// there.
@@ -55,6 +55,16 @@ pub fn answer(book: &mut [u8], store: Option<&[u8]>, call: &Call) -> Answer {
             Answer::of_part(number, &part)
         }
         Call::Reduction { id } => fields::<5>(|part| archive::reduction(book, store, *id, part)),
+        Call::Cancellation { id, tries } => {
+            let mut marks = [BEFORE; MOST_TRADES];
+            let found = fields::<3>(|part| {
+                archive::cancellation(book, store, *id, *tries, &mut marks, part)
+            });
+            Answer {
+                part: marks.to_vec(),
+                ..found
+            }
+        }
         Call::Run => fields::<3>(|part| archive::run(book, store, part)),
         Call::Day => crate::day::printed(book, answer),
     }

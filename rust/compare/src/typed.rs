@@ -2,7 +2,8 @@
 
 use books::{Answer, Call};
 use daybook::{
-    Book, GuaranteeCall, Image, Level, Line, Refusal, Request, Trade, User, IMAGE_LENGTH,
+    Book, Cancellation, GuaranteeCall, Image, Level, Line, Refusal, Request, Trade, User,
+    IMAGE_LENGTH, MOST_TRADES,
 };
 
 /// Whether the call has a function of its own in `daybook`; a printed day is
@@ -64,6 +65,7 @@ pub fn answer(book: &mut [u8], store: Option<&[u8]>, call: &Call) -> Answer {
                 [done.mwh, done.worth, done.target, done.short, done.over].map(i128::from)
             }))
         }
+        Call::Cancellation { id, tries } => cancellation(request.cancellation(book, *id, *tries)),
         Call::Run => {
             let run = request.run(book);
             fields(run.map(|done| [done.reductions, done.mwh, done.worth].map(i128::from)))
@@ -113,6 +115,19 @@ fn level(answer: Result<Level, Refusal>) -> Answer {
 
 fn guarantee_call(answer: Result<GuaranteeCall, Refusal>) -> Answer {
     fields(answer.map(|call| [call.level.0.into(), call.added.into()]))
+}
+
+/// The fields, and the marks as the part; each of them 0 after a refusal.
+fn cancellation(answer: Result<Cancellation, Refusal>) -> Answer {
+    let marks = answer.map_or([0; MOST_TRADES], |found| found.marks.map(u8::from));
+    let found = fields(answer.map(|found| {
+        let complete = i128::from(found.complete);
+        [found.excess.into(), found.tries.into(), complete]
+    }));
+    Answer {
+        part: marks.to_vec(),
+        ..found
+    }
 }
 
 fn record(answer: Result<User, Refusal>) -> Answer {

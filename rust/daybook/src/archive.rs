@@ -2,9 +2,9 @@
 //!
 //! This is the only module with unsafe code. A function answers 0 or a number of
 //! documents 01 and 02; after a refusal the part for the answer is 0 and the book
-//! is unchanged. A call takes a store of parameter sets, or none. An image, record
-//! or answer of another length than said gets [`WRONG_LENGTH`], and nothing is
-//! read, asked or changed.
+//! is unchanged. A call takes a store of parameter sets, or none. An image, record,
+//! answer or part for marks of another length than said gets [`WRONG_LENGTH`], and
+//! nothing is read, asked or changed.
 
 #![allow(unsafe_code)]
 
@@ -120,6 +120,19 @@ unsafe extern "C" {
         store: *const u8,
         store_len: usize,
         id: u32,
+        answer: *mut u64,
+        answer_len: usize,
+    ) -> u32;
+    fn daybook_cancellation(
+        book: *const u8,
+        book_len: usize,
+        with_store: u32,
+        store: *const u8,
+        store_len: usize,
+        id: u32,
+        tries: u32,
+        marks: *mut u8,
+        marks_len: usize,
         answer: *mut u64,
         answer_len: usize,
     ) -> u32;
@@ -383,6 +396,36 @@ pub fn reduction(book: &mut [u8], store: Option<&[u8]>, id: u32, answer: &mut [u
             store,
             store_len,
             id,
+            answer.as_mut_ptr(),
+            answer.len(),
+        )
+    }
+}
+
+/// The whole cancellation: a mark for each of 256 trade places, 1 or 0; the answer
+/// is the excess, the tries made, and 1 for complete, else 0.
+pub fn cancellation(
+    book: &[u8],
+    store: Option<&[u8]>,
+    id: u32,
+    tries: u32,
+    marks: &mut [u8],
+    answer: &mut [u64],
+) -> u32 {
+    let (with_store, store, store_len) = lent(store);
+    // SAFETY: each pointer comes with the length of its slice in elements, the slices live through
+    // the call, and marks and answer, lent by &mut, overlap nothing. Book and store are only read.
+    unsafe {
+        daybook_cancellation(
+            book.as_ptr(),
+            book.len(),
+            with_store,
+            store,
+            store_len,
+            id,
+            tries,
+            marks.as_mut_ptr(),
+            marks.len(),
             answer.as_mut_ptr(),
             answer.len(),
         )

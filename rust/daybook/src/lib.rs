@@ -33,6 +33,7 @@
 pub mod archive;
 mod book;
 mod calls;
+mod cancellation;
 mod list;
 mod refusal;
 mod request;
@@ -46,6 +47,7 @@ pub use calls::{
     afternoon_call, afternoon_level, morning_call, morning_level, most_reductions, posting, read,
     reduction, run, show, show_picked, warning, write, GuaranteeCall, Level, Reduction, Run,
 };
+pub use cancellation::{cancellation, Cancellation, MOST_TRIES};
 pub use list::{list, Line, MOST_LINES};
 pub use refusal::Refusal;
 pub use request::Request;

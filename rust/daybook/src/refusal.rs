@@ -24,11 +24,13 @@ pub enum Refusal {
     Lines = 15,
     StoreForm = 16,
     SetInForce = 17,
+    WorthOfTrades = 24,
+    Tries = 25,
 }
 
 impl Refusal {
     /// Every refusal, in the order of the numbers.
-    pub const ALL: [Refusal; 17] = [
+    pub const ALL: [Refusal; 19] = [
         Refusal::Mark,
         Refusal::Version,
         Refusal::CountsAndLength,
@@ -46,6 +48,8 @@ impl Refusal {
         Refusal::Lines,
         Refusal::StoreForm,
         Refusal::SetInForce,
+        Refusal::WorthOfTrades,
+        Refusal::Tries,
     ];
 
     /// The number of the question.
@@ -84,6 +88,8 @@ impl Refusal {
             Refusal::Lines => "at most 512 lines, columns and places of one count?",
             Refusal::StoreForm => "is the store well formed?",
             Refusal::SetInForce => "has the store a set in force on the book's date?",
+            Refusal::WorthOfTrades => "are all eligible trades together worth the target?",
+            Refusal::Tries => "1 to 65,535 tries?",
         }
     }
 }

@@ -1,8 +1,9 @@
 //! A call with its setting: the store of parameter sets that it is given, or none.
 
 use crate::archive;
-use crate::book::{User, USER_LENGTH};
+use crate::book::{User, MOST_TRADES, USER_LENGTH};
 use crate::calls::{answered, GuaranteeCall, Level, Reduction, Run};
+use crate::cancellation::Cancellation;
 use crate::list::Line;
 use crate::refusal::Refusal;
 
@@ -134,6 +135,28 @@ impl<'a> Request<'a> {
             target,
             short,
             over,
+        })
+    }
+
+    /// The whole trades of a shipper that cover what a reduction would be asked
+    /// for ([`crate::cancellation()`]).
+    pub fn cancellation(self, book: &[u8], id: u32, tries: u32) -> Result<Cancellation, Refusal> {
+        let mut marks = [0; MOST_TRADES];
+        let mut answer = [0; 3];
+        answered(archive::cancellation(
+            book,
+            self.store,
+            id,
+            tries,
+            &mut marks,
+            &mut answer,
+        ))?;
+        let [excess, tries, complete] = answer;
+        Ok(Cancellation {
+            marks: marks.map(|mark| mark != 0),
+            excess,
+            tries,
+            complete: complete != 0,
         })
     }
 

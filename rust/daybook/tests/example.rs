@@ -3,7 +3,8 @@
 #![forbid(unsafe_code)]
 
 use daybook::{
-    archive, Book, GuaranteeCall, Level, Line, Prices, Refusal, Request, Trade, User, MOST_LINES,
+    archive, Book, Cancellation, GuaranteeCall, Level, Line, Prices, Refusal, Request, Trade, User,
+    MOST_LINES, MOST_TRIES,
 };
 
 /// The book of document 01's printed day.
@@ -182,6 +183,64 @@ fn the_length_of_a_list() {
     assert_eq!(daybook::list(&mut book, &many), Err(Refusal::Mark));
 }
 
+/// The example with its sale as three, of 5,000, 10,000 and 15,000 MWh, and one
+/// for the next day between them. T is 30,000,000.
+fn three_sales() -> Vec<u8> {
+    let mut book = book();
+    let sale = |mwh: u32| Trade {
+        notified: mwh,
+        standing: mwh,
+        ..book.trades[0]
+    };
+    let tomorrow = Trade { day: 1, ..sale(1) };
+    book.trades = vec![sale(5_000), tomorrow, sale(10_000), sale(15_000)];
+    // The MWh of the next day raises the level by 2,000 cents.
+    book.users[0].assigned += 2_000;
+    bytes(&book)
+}
+
+/// 111 is worth 60,000,000, 110 just the 30,000,000 that are asked for.
+#[test]
+fn whole_cancellations() {
+    let book = three_sales();
+    let before = book.clone();
+    let found = |tries: u32| daybook::cancellation(&book, 101, tries);
+    let cancelled = |places: &[usize], (excess, tries, complete): (u64, u64, bool)| {
+        let mut marks = [false; 256];
+        places.iter().for_each(|place| marks[*place] = true);
+        Ok(Cancellation {
+            marks,
+            excess,
+            tries,
+            complete,
+        })
+    };
+    assert_eq!(found(1), cancelled(&[0, 2, 3], (30_000_000, 1, false)));
+    assert_eq!(found(2), cancelled(&[0, 2], (0, 2, true)));
+    assert_eq!(found(MOST_TRIES), found(2));
+    let places: Vec<usize> = found(2).iter().flat_map(Cancellation::trades).collect();
+    assert_eq!(places, [0, 2]);
+    assert_eq!(book, before);
+}
+
+#[test]
+fn refused_cancellations() {
+    let book = three_sales();
+    let found = |id: u32, tries: u32| daybook::cancellation(&book, id, tries);
+    assert_eq!(found(103, 0), Err(Refusal::Tries));
+    assert_eq!(found(101, MOST_TRIES + 1), Err(Refusal::Tries));
+    assert_eq!(found(103, 1), Err(Refusal::Id));
+    assert_eq!(found(102, 1), Err(Refusal::CalledIn));
+    let dear = store(20_260_318, 1_000_000_000);
+    let request = Request::new().store(&dear);
+    let found = |tries: u32| request.cancellation(&book, 101, tries);
+    assert_eq!(found(1), Err(Refusal::WorthOfTrades));
+    assert_eq!(found(0), Err(Refusal::Tries));
+    let late = store(20_260_319, 1_000_000_000);
+    let found = Request::new().store(&late).cancellation(&book, 101, 0);
+    assert_eq!(found, Err(Refusal::SetInForce));
+}
+
 #[test]
 fn the_archive_has_this_interface() {
     assert_eq!(archive::interface(), archive::INTERFACE);
@@ -217,7 +276,7 @@ fn refused_writes() {
 
 #[test]
 fn refusals_have_the_numbers_of_the_questions() {
-    for (refusal, number) in Refusal::ALL.into_iter().zip(1..=17) {
+    for (refusal, number) in Refusal::ALL.into_iter().zip((1..=17).chain(24..=25)) {
         assert_eq!(refusal.number(), number);
         assert_eq!(Refusal::from_number(number), Some(refusal));
     }

@@ -1,6 +1,6 @@
 //! Reference implementation of document 01: the day book, imbalance risk,
 //! guarantee calls and reduced trades; and of document 02, asks 4 (parameters
-//! with a start date) and 1 (a list of postings).
+//! with a start date), 1 (a list of postings) and 8 (whole cancellations).
 //!
 //! It is plain and slow on purpose. The modules follow the order of the
 //! document, and the comments cite its sections in quotes. Every number is
@@ -17,6 +17,7 @@
 
 pub mod book;
 pub mod calls;
+pub mod cancellation;
 pub mod day;
 pub mod levels;
 pub mod list;
@@ -32,6 +33,7 @@ pub mod units;
 pub mod warning;
 
 pub use calls::{afternoon_call, morning_call, CallAnswer};
+pub use cancellation::{cancellation, CancellationAnswer};
 pub use day::day;
 pub use levels::{afternoon_level, morning_level, LevelAnswer};
 pub use list::{list, Columns};

@@ -34,16 +34,20 @@ pub fn reduction(bytes: &mut [u8], store: Option<&[u8]>, id: u32) -> ReductionAn
 /// The questions of a reduction, then the book afterwards and the answer.
 fn reduced(bytes: &[u8], store: Option<&[u8]>, id: u32) -> Result<(Vec<u8>, ReductionAnswer), u32> {
     let (Opened { mut book, limits }, place) = questions_to_9(bytes, store, id)?;
-    let user = &book.users[place];
-    let level = afternoon_level_of(&limits, &book, user);
-    ask(
-        11,
-        above_margin(&limits, user, level) && called_in(&limits, &book, user),
-    )?;
-    ask(13, user.assigned < level)?;
-    ask(14, has_eligible_trade(&book, user))?;
+    questions_11_to_14(&limits, &book, &book.users[place])?;
     let answer = reduce(&limits, &mut book, place);
     Ok((book.to_bytes(), answer))
+}
+
+/// The questions 11, 13 and 14 of a reduction.
+pub fn questions_11_to_14(limits: &Limits, book: &Book, user: &User) -> Result<(), u32> {
+    let level = afternoon_level_of(limits, book, user);
+    ask(
+        11,
+        above_margin(limits, user, level) && called_in(limits, book, user),
+    )?;
+    ask(13, user.assigned < level)?;
+    ask(14, has_eligible_trade(book, user))
 }
 
 /// "Eligible: the user's sales of kind 0, day 0, standing above 0."

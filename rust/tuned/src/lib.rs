@@ -11,12 +11,13 @@
 //! Every call takes the book as bytes. A refused call returns the number of the
 //! first question that failed, and leaves the book. The calls of document 01
 //! stand here, those with a store (document 02, ask 4) in [`requests`]; a list of
-//! postings (ask 1) is [`list()`].
+//! postings (ask 1) is [`list()`], a whole cancellation (ask 8) [`cancellation()`].
 
 #![forbid(unsafe_code)]
 
 mod account;
 mod calls;
+mod cancellation;
 mod gathered;
 mod list;
 mod records;
@@ -32,6 +33,7 @@ pub use calls::{
     afternoon_call, afternoon_level, morning_call, morning_level, posting, show, show_picked,
     warning, GuaranteeCall,
 };
+pub use cancellation::{cancellation, Cancellation};
 pub use list::{list, Columns};
 pub use records::{Book, Trade, User, IMAGE_LENGTH};
 pub use reduction::{reduction, Reduction};

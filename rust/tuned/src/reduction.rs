@@ -69,7 +69,11 @@ pub fn reduced(
 
 /// The eligible trades of the user at this place, and what they stand at in each
 /// area.
-fn own_sales(records: &Records<'_>, gathered: &Gathered, place: usize) -> (Vec<Sale>, [Mwh; 3]) {
+pub fn own_sales(
+    records: &Records<'_>,
+    gathered: &Gathered,
+    place: usize,
+) -> (Vec<Sale>, [Mwh; 3]) {
     let mut sales = Vec::with_capacity(records.trades.len());
     let mut standing = [Mwh::ZERO; 3];
     for (trade, (bytes, parties)) in (0..=u8::MAX).zip(records.trades.iter().zip(&gathered.parties))

@@ -12,7 +12,7 @@ use crate::store::limits;
 use crate::units::{Cents, Rates};
 
 /// What was gathered of a book, with the figures of the store.
-fn gathered(records: Records<'_>, store: Option<&[u8]>) -> Result<Gathered, u32> {
+pub(crate) fn gathered(records: Records<'_>, store: Option<&[u8]>) -> Result<Gathered, u32> {
     let mut gathered = records.gather()?;
     if let Some(store) = store {
         let limits = limits(store, records.header.date)?;

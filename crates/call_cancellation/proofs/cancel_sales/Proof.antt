@@ -1,0 +1,31 @@
+-- `cancel_sales`: the counts are those of the book. Assumes nothing.
+use mathlib.Core.Path.{_≡_, refl}
+use borrow.Author.Needs.{needs}
+use denote.Ref.{now}
+use Rattle.book_format.specs.Book.{tradeCount, userCount}
+use Rattle.call_cancellation.proofs.cancel_sales.Statement.{statement}
+use Rattle.call_cancellation.proofs.cancel_sales.Tie as tie
+
+-- the counts of the book
+users-are : (c : tie.After-get-u8) → c .get-u8 .result ≡ userCount (now (c .before .before .args .book))
+unfolding userCount
+users-are c = c .get-u8 .ensures
+
+trades-are : (c : tie.After-get-u16) → c .get-u16 .result ≡ tradeCount (now (c .before .before .before .args .book))
+unfolding tradeCount
+trades-are c = c .get-u16 .ensures
+
+trades-offset-requires : tie.Need-trades-offset-requires
+trades-offset-requires c κs = (c .before .before .before .pre .0 .accepted .held .form, users-are (c .before))
+
+cancel-among-requires : tie.Need-cancel-among-requires
+cancel-among-requires c κs =
+    let o = c .before in
+    let m = o .before in
+    let s = m .before .before .before in
+    ((rw (o .trades-offset .ensures, trades-are m) (s .pre .0), refl), (s .pre .1 .0, s .pre .1 .1))
+
+pub cancel-sales-spec : {M : Type 1} → statement M
+cancel-sales-spec =
+    tie.close
+    (tie.spec (λ c κs. search needs) (λ c. search needs) (λ c κs. search needs) (λ c. search needs) trades-offset-requires cancel-among-requires (λ c. search needs))

@@ -1,0 +1,55 @@
+-- `cancellation` is refused by the opening questions, by 25 or by 8, or goes on with the user that the entry found. Assumes nothing.
+use mathlib.Core.Path.{_≡_, _∙_, sym}
+use borrow.Author.Needs.{needs}
+use denote.Ref.{now}
+use Rattle.call_entry.specs.Entered.{Found}
+use Rattle.book_format.proofs.Passed.{passed}
+use Rattle.units.specs.Limits.{asLimits}
+use Rattle.run_reduction.proofs.Asked.{found-runnable}
+use Rattle.call_cancellation.proofs.Ways.{call-entered, call-unentered, tries-passed, triesAsked}
+use Rattle.call_cancellation.proofs.cancellation.Statement.{statement}
+use Rattle.call_cancellation.proofs.cancellation.Tie as tie
+
+abbrev start : tie.After-ask-tries → tie.Start
+start c = c .before .before
+
+-- the user that the entry found
+found : (c : tie.Else1) → Found (now (start (c .before .before) .args .book)) (start (c .before .before) .args .id) (c .before .seek .result .place)
+found c = c .before .seek .ensures .found (c .if1 .left)
+
+-- neither the opening questions nor 25 refuse
+started : (c : tie.Else1) → let a = start (c .before .before) .args in triesAsked (a .number) (a .tries) ≡ 0
+started c = let k = c .before in sym (k .before .ask-tries .ensures) ∙ k .seek .ensures .start (c .if1 .left)
+
+seek-requires : tie.Need-seek-requires
+seek-requires c κs =
+    let s = start c in
+    λ e. s .pre .0 (tries-passed (s .args .number) (s .args .tries) (sym (c .ask-tries .ensures) ∙ e) .0)
+
+returns : tie.Need-returns
+returns c =
+    let k = c .before .before in
+    let a = start (k .before) .args in
+    c .refused .ensures ∙ sym (call-unentered (a .number) (asLimits (a .limits)) (now (a .book)) (a .id) (a .tries) (k .before .ask-tries .ensures) (k .seek .ensures) (c .before .if1 .taken))
+
+read-prices-requires : tie.Need-read-prices-requires
+read-prices-requires c κs = passed (now (start (c .before .before) .args .book)) (found c .passes) .form .head
+
+cancel-user-requires : tie.Need-cancel-user-requires
+cancel-user-requires c κs =
+    let e = c .before in
+    let s = start (e .before .before) in
+    let t = tries-passed (s .args .number) (s .args .tries) (started e) in
+    let f = found e in
+    ((found-runnable (s .pre .1 .1) (t .0) (f .passes) (λ j. e .before .before .before .shared-slice-known .given j .fits) (s .pre .1 .0) (c .read-prices .ensures), f .known), (t .1, t .2))
+
+returns-2 : tie.Need-returns-2
+returns-2 c =
+    let e = c .before .before in
+    let a = start (e .before .before) .args in
+    c .cancel-user .ensures ∙ sym (call-entered (a .number) (asLimits (a .limits)) (now (a .book)) (a .id) (a .tries) (started e) (found e))
+
+pub cancellation-spec : {M : Type 1} → statement M
+cancellation-spec =
+    tie.close
+    (tie.spec (λ c κs. search needs) seek-requires (λ c κs. search needs) returns read-prices-requires cancel-user-requires returns-2)

@@ -1,0 +1,29 @@
+-- `eligible_at`: the trade is read where its seller is at the place. Assumes nothing.
+use mathlib.Core.Bool.{Bool, _&&_}
+use mathlib.Core.Path.{_∙_, ap, sym}
+use borrow.Author.Needs.{needs}
+use borrow.Author.Tests.{eq-eqb, ne-eqb}
+use lib.Dec.{ltb}
+use Rattle.book_records.specs.Trade.{asTrade}
+use Rattle.rules.specs.Book.{Trade, bilateralForDay}
+use Rattle.call_cancellation.proofs.eligible_at.Statement.{statement}
+use Rattle.call_cancellation.proofs.eligible_at.Tie as tie
+
+returns : tie.Need-returns
+returns c =
+    let i = c .before in
+    let a = i .before .before .args in
+    rw (ne-eqb (a .seller) (a .place) (λ e. c .if1 .taken (i .index .ensures .0 ∙ e)))
+
+returns-2 : tie.Need-returns-2
+unfolding asTrade
+returns-2 c =
+    let t = c .before .before in
+    let i = t .before .before in
+    let a = i .before .before .args in
+    rw (eq-eqb (a .seller) (a .place) (sym (i .index .ensures .0) ∙ t .before .if1 .left))
+    (ap (λ (x : Bool). x && ltb 0 (t .trade-at .result .standing)) (c .is-bilateral-for-day .ensures)
+    ∙ ap (λ (x : Trade). bilateralForDay x && ltb 0 (x .standing)) (t .trade-at .ensures))
+
+pub eligible-at-spec : {M : Type 1} → statement M
+eligible-at-spec = tie.close (tie.spec (λ c κs. search needs) returns (λ c κs. search needs) (λ c κs. search needs) returns-2)

@@ -1,0 +1,24 @@
+-- The answer of the rules that the code's answer is, and what a cancellation gives past the user's id. Assumes nothing.
+use mathlib.Core.List.{[], _∷_, _++_}
+use Prim.Native.Nat.{ℕ}
+use Rattle.rules.specs.Book.{Book, User}
+use Rattle.rules.specs.Calls.{eligibleTrade}
+use Rattle.rules.specs.Levels.{Limits}
+use Rattle.rules.specs.Questions.{decided, refusal}
+use Rattle.rules.specs.Reduction.{target}
+use Rattle.call_questions.specs.Asked.{levelQuestions}
+use Rattle.requests.specs.Cancellation.{Cancellation, cancelled, cancelledFor, notCancelled, worthSuffices}
+use Rattle.call_cancellation.specs.declared.CancellationAnswer.{CancellationAnswer}
+
+-- the same number, marks and amounts
+abbrev pub cancellationOf : CancellationAnswer → Cancellation
+cancellationOf a = record { number = a .number; marks = a .marks; excess = a .excess; tries = a .tries; complete = a .complete }
+
+-- the questions 14 and 24, and the cancellation for an amount
+unfoldable pub onSales : Book → User → ℕ → ℕ → Cancellation
+onSales b u asked tries = decided (refusal (eligibleTrade b u ∷ (worthSuffices b u asked ∷ []))) notCancelled (cancelledFor b u asked tries)
+
+-- the questions 9, 11, 13, 14 and 24, and the cancellation for the user's target
+unfoldable pub onUser : Limits → Book → User → ℕ → Cancellation
+onUser limits b u tries =
+    decided (refusal (levelQuestions limits b u ++ (eligibleTrade b u ∷ (worthSuffices b u (target limits b u) ∷ [])))) notCancelled (cancelled limits b u tries)

@@ -1,0 +1,36 @@
+-- A user of a book in bytes whose eligible trades are looked for, and their worths. Assumes nothing.
+use mathlib.Core.Bool.{Bool}
+use mathlib.Core.List.{List}
+use mathlib.Core.Path.{_≡_}
+use Prim.Native.Nat.{ℕ, _-_, _<_, _^_}
+use lib.ListN.{take}
+use Rattle.cut_sets.specs.Found.{Given}
+use Rattle.cut_sets.specs.Places.{countOf, worthsOf}
+use Rattle.book_format.specs.Book.{tradeCount, tradesAt, tradesOf, userCount, usersOf}
+use Rattle.book_format.specs.Held.{Accepted}
+use Rattle.book_parties.specs.Ids.{PlacedOn}
+use Rattle.requests.specs.Cancellation.{marksOf, wholeWorth}
+use Rattle.rules.specs.Book.{Book, User}
+use Rattle.rules.specs.Reduction.{eligible}
+
+-- bytes hold an accepted book, whose m trades begin at an offset; the places of the sellers of its trades, and the place of a user
+pub record Selling (at m : ℕ) (s sellers : List ℕ) (place : ℕ) : Type 0 where
+  pub accepted : Accepted s
+  pub begin : at ≡ tradesAt s
+  pub trades-are : m ≡ tradeCount s
+  pub placed : PlacedOn (λ r. r .seller) (usersOf s) (tradesOf s) sellers
+  pub inside : place < userCount s
+
+-- the number of sets of the user's eligible trades
+abbrev pub setsOf : Book → User → ℕ
+setsOf b u = 2 ^ countOf (eligible b u) (b .trades)
+
+-- the marks of all of them but those of a set left out
+abbrev pub unmarked : Book → User → ℕ → List Bool
+unmarked b u left = marksOf b u (setsOf b u - 1 - left)
+
+-- the first k numbers are the worths of the user's eligible trades, in book order
+pub record Worths (b : Book) (u : User) (k : ℕ) (worths : List ℕ) : Type 0 where
+  pub given : Given k worths
+  pub count-is : k ≡ countOf (eligible b u) (b .trades)
+  pub worths-are : take k worths ≡ worthsOf (eligible b u) (wholeWorth b) (b .trades)

@@ -1,0 +1,30 @@
+-- `sets_of`: 2^16 is 65,536. Assumes nothing.
+use mathlib.Core.Path.{_≡_}
+use Prim.Native.Nat.{ℕ, _*_, _^_, _%_, _≤_, _<_, min}
+use native.Mathlib.Omega.{arith}
+use borrow.Author.Needs.{needs}
+use lib.Pow.{pow-mono}
+use Rattle.cut_sets.proofs.sets_of.Statement.{statement}
+use Rattle.cut_sets.proofs.sets_of.Tie as tie
+
+many : (n : ℕ) → 15 < n → 65536 ≡ min (2 ^ n) 65536
+many n h =
+    let most : 2 ^ 16 ≤ 2 ^ n = pow-mono h in
+    omega arith
+
+few : (n : ℕ) → n ≤ 15 → 1 * 2 ^ n % 2 ^ 64 ≡ min (2 ^ n) 65536
+few n h =
+    let most : 2 ^ n ≤ 2 ^ 15 = pow-mono h in
+    omega arith
+
+returns : tie.Need-returns
+returns c = many _ (c .if1 .taken)
+
+shl-result : tie.Need-shl-result
+shl-result c = search needs
+
+returns-2 : tie.Need-returns-2
+returns-2 c = few _ (c .if1 .left)
+
+pub sets-of-spec : {M : Type 1} → statement M
+sets-of-spec = tie.close (tie.spec returns shl-result returns-2)

@@ -1,0 +1,40 @@
+-- Document 02, ask 8: what is claimed of a search. Assumes nothing.
+use mathlib.Core.Bool.{true, _||_}
+use mathlib.Core.List.{List}
+use mathlib.Core.Logic.{_⊎_}
+use mathlib.Core.Path.{_≡_}
+use Prim.Native.Nat.{ℕ, _+_, _-_, _^_, _≤_, _<_}
+use lib.Dec.{eqb}
+use lib.ListN.{length}
+use Rattle.base.specs.Sums.{sum}
+use Rattle.cut_sets.specs.Sets.{worthOf}
+use Rattle.cut_sets.specs.Search.{Search, wholeSearch}
+
+module _ (worth : ℕ → ℕ) (asked all tries : ℕ) where
+  -- what a search with so many tries among the sets below `all` gives. The sets tried are the last s .tries below `all`.
+  pub record Claim (s : Search) : Type 0 where
+    -- the answer is a tried set that reaches the target
+    pub tried : all ≤ s .choice .set + s .tries
+    pub inside : s .choice .set < all
+    pub reaches : worth (s .choice .set) ≡ asked + s .choice .excess
+    -- "with the smallest excess": every tried set that reaches the target has at least this excess
+    pub smallest : (j : ℕ) → all ≤ j + s .tries → j < all → asked ≤ worth j → s .choice .excess ≤ worth j - asked
+    -- "the first such": every set tried before it that reaches the target has more
+    pub first : (j : ℕ) → s .choice .set < j → j < all → asked ≤ worth j → s .choice .excess < worth j - asked
+    -- "until the tries are spent, an excess of 0 is met or none is left", and no longer
+    pub within : s .tries ≤ tries
+    pub few : s .tries ≤ all
+    pub until : (s .tries ≡ tries) ⊎ ((s .choice .excess ≡ 0) ⊎ (s .tries ≡ all))
+    pub at-once : s .choice .excess ≡ 0 → all ≡ s .choice .set + s .tries
+    -- "It says complete exactly when the excess is 0 or every set was tried"
+    pub complete-is : s .complete ≡ (eqb (s .choice .excess) 0 || eqb (s .tries) all)
+    -- "then every other set that reaches T has at least this excess"
+    pub least : s .complete ≡ true → (j : ℕ) → j < all → asked ≤ worth j → s .choice .excess ≤ worth j - asked
+
+-- the claim of every search whose target is reached by all trades together
+abbrev pub SearchClaim : Type 0
+SearchClaim = (ws : List ℕ) (asked tries : ℕ) → asked ≤ sum (λ w. w) ws → 0 < tries → Claim (worthOf ws) asked (2 ^ length ws) tries (wholeSearch ws asked tries)
+
+-- "More tries never give a larger excess."
+abbrev pub MoreTriesClaim : Type 0
+MoreTriesClaim = (ws : List ℕ) (asked tries more : ℕ) → tries ≤ more → wholeSearch ws asked more .choice .excess ≤ wholeSearch ws asked tries .choice .excess

@@ -1,0 +1,2 @@
+-- A yes or no as a number.
+mod Bits

@@ -1,0 +1,23 @@
+-- `store_cancellation` stores the marks, then an array of the three numbers. Assumes nothing.
+use mathlib.Core.List.{[], _∷_}
+use mathlib.Core.Path.{refl, ap, _∙_}
+use Prim.Native.Nat.{ℕ}
+use borrow.Author.Needs.{needs}
+use Rattle.exports_cancellation.specs.Numbers.{cancellationNumbers, markNumbers}
+use Rattle.exports_cancellation.proofs.Bits.{byte-bit}
+use Rattle.exports_cancellation.proofs.store_cancellation.Statement.{statement}
+use Rattle.exports_cancellation.proofs.store_cancellation.Tie as tie
+
+returns : tie.Need-returns
+unfolding markNumbers cancellationNumbers
+returns c =
+    let storing = c .before .before in
+    let marked = storing .before .before .before .before .before .before .before in
+    let a = marked .before .before .before .before .before .args .cancellation in
+    (refl, marked .store-marks .ensures, storing .store .ensures ∙ ap (λ (n : ℕ). a .excess ∷ (a .tries ∷ (n ∷ []))) (byte-bit (a .complete)))
+
+pub store-cancellation-spec : {M : Type 1} → statement M
+store-cancellation-spec =
+    tie.close
+    (tie.spec (λ c κs. search needs) (λ c. search needs) (λ c. search needs) (λ c. search needs) (λ c κs. search needs) (λ c. search needs) (λ c. search needs)
+    returns)

@@ -1,0 +1,13 @@
+-- The numbers that a whole cancellation is in two lent parts, in their order. Assumes nothing.
+use mathlib.Core.List.{List, [], _∷_, map}
+use Prim.Native.Nat.{ℕ}
+use Rattle.requests.specs.Cancellation.{Cancellation}
+use Rattle.exports_answers.specs.Numbers.{bit}
+
+-- "256 marks by trade place": 1 where the trade is cancelled, else 0
+unfoldable pub markNumbers : Cancellation → List ℕ
+markNumbers c = map bit (c .marks)
+
+-- the excess in cents, the tries made, and whether it is complete
+unfoldable pub cancellationNumbers : Cancellation → List ℕ
+cancellationNumbers c = c .excess ∷ c .tries ∷ bit (c .complete) ∷ []

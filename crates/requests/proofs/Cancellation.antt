@@ -1,0 +1,100 @@
+-- A whole cancellation after its opening questions, and what is claimed of an accepted one. Assumes nothing.
+use mathlib.Core.List.{List, _++_}
+use mathlib.Core.Option.{Option, none, some}
+use mathlib.Core.Path.{_≡_, _∙_, ap, refl, subst, sym}
+use Prim.Native.Nat.{ℕ, suc, zero, _≤_}
+use native.Mathlib.Omega.{arith}
+use lib.Dec.{T, leb, leb→le, ltb, ltb→lt}
+use Rattle.laws.proofs.Refusals.{append-yes, first-yes, numbered, refusal-is}
+use Rattle.base.proofs.Tests.{all-append, and-l}
+use Rattle.rules.specs.Book.{find}
+use Rattle.rules.specs.Calls.{about, assignedFallsShort, calledInBeyondMargin, eligibleTrade, idKnown, isShipper, reduction}
+use Rattle.rules.specs.Levels.{Limits}
+use Rattle.base.specs.Lists.{all}
+use Rattle.rules.specs.Questions.{Question, decided, refusal}
+use Rattle.rules.specs.Reduction.{eligible, target}
+use Rattle.book_format.proofs.After.{asked-after}
+use Rattle.book_format.specs.After.{after}
+use Rattle.book_format.specs.Book.{bookOf}
+use Rattle.cut_sets.proofs.Places.{place-claim, place-more-tries}
+use Rattle.requests.proofs.Opened.{opening-numbered}
+use Rattle.requests.specs.Cancellation.{Cancellation, CancellationClaim, Cancels, MoreTries, aboutCancellation, cancellation, cancellationAfter, cancelled, cancelledFor, notCancelled, searchFor, triesInRange, wholeWorth, worthSuffices}
+use Rattle.requests.specs.Carried.{Admitted}
+use Rattle.requests.specs.Request.{Setting, limitsOn, opening, openingNumber}
+
+-- ---- after the opening questions
+
+-- a refused one gives the same whatever the figures
+cancellation-same : (n : ℕ) {l m : Limits} (s : List ℕ) (id tries : ℕ) → (n ≡ 0 → l ≡ m) → cancellationAfter n l s id tries ≡ cancellationAfter n m s id tries
+unfolding cancellationAfter after
+cancellation-same zero s id tries h = ap (λ (k : Limits). cancellationAfter 0 k s id tries) (h refl)
+cancellation-same (suc n) s id tries h = refl
+
+-- a public call, from what asked its opening questions and the contract of the inner call
+pub cancellation-opened : (g : Setting) (s : List ℕ) (id tries : ℕ) {number : ℕ} {limits : Limits} → Admitted g s number limits → cancellationAfter number limits s id tries ≡ cancellation g s id tries
+unfolding cancellation cancellationAfter openingNumber
+cancellation-opened g s id tries {number} {limits} d =
+    let b = bookOf s in
+    let l = limitsOn g b in
+    cancellation-same number s id tries (d .taken)
+    ∙ ap (λ (n : ℕ). cancellationAfter n l s id tries) (d .asked)
+    ∙ sym (asked-after notCancelled (cancelled l b (find (b .users) id) tries) (opening g s) (aboutCancellation l b id tries) (opening-numbered g s))
+
+-- ---- an accepted one
+
+module _ (g : Setting) (s : List ℕ) (id tries : ℕ) where
+  abbrev limits : Limits
+  limits = limitsOn g (bookOf s)
+
+  asks : List Question
+  asks = opening g s ++ aboutCancellation limits (bookOf s) id tries
+
+  asks-numbered : T (numbered asks)
+  unfolding asks numbered aboutCancellation triesInRange about idKnown isShipper calledInBeyondMargin assignedFallsShort eligibleTrade worthSuffices all
+  asks-numbered = all-append (λ q. ltb 0 (q .number)) (opening g s) (aboutCancellation limits (bookOf s) id tries) (opening-numbered g s) tt
+
+  -- no question refuses it
+  none-refuses : cancellation g s id tries .number ≡ 0 → refusal asks ≡ none
+  unfolding cancellation asks numbered decided notCancelled
+  none-refuses h = go (refusal asks) refl h
+    where
+      go : (o : Option ℕ) → refusal asks ≡ o → decided o notCancelled (cancelled limits (bookOf s) (find (bookOf s .users) id) tries) .number ≡ 0 → o ≡ none
+      go none e k = refl
+      go (some n) e k = absurd (let l = ltb→lt 0 n (refusal-is (λ i. ltb 0 i) asks n asks-numbered e) in omega (arith, k))
+
+  module _ (h : cancellation g s id tries .number ≡ 0) where
+    accepted-is : cancellation g s id tries ≡ cancelled limits (bookOf s) (find (bookOf s .users) id) tries
+    unfolding cancellation decided asks
+    accepted-is = rw (none-refuses h)
+
+    own-none : refusal (aboutCancellation limits (bookOf s) id tries) ≡ none
+    unfolding asks
+    own-none = append-yes (opening g s) (aboutCancellation limits (bookOf s) id tries) (none-refuses h) .1
+
+    some-tries : 1 ≤ tries
+    unfolding aboutCancellation triesInRange
+    some-tries = leb→le 1 tries (and-l (leb 1 tries) (leb tries 65535) (first-yes _ _ own-none .0))
+
+    reached : T (worthSuffices (bookOf s) (find (bookOf s .users) id) (target limits (bookOf s) (find (bookOf s .users) id)) .holds)
+    unfolding aboutCancellation
+    reached = first-yes _ _ (append-yes (about limits (bookOf s) (reduction id)) _ (first-yes _ _ own-none .1) .1) .0
+
+pub cancellation-claim : CancellationClaim
+unfolding cancelled cancelledFor searchFor worthSuffices
+cancellation-claim g s id tries h =
+    let b = bookOf s in
+    let u = find (b .users) id in
+    let l = limitsOn g b in
+    subst (λ (a : Cancellation). Cancels l b u tries a) (sym (accepted-is g s id tries h))
+    (record {
+      set = searchFor b u (target l b u) tries .choice .set;
+      marked = refl;
+      claim = place-claim (eligible b u) (wholeWorth b) (b .trades) (target l b u) tries (leb→le _ _ (reached g s id tries h)) (some-tries g s id tries h);
+    })
+
+pub more-tries-claim : MoreTries
+unfolding cancelled cancelledFor searchFor
+more-tries-claim g s id tries more h k l =
+    let b = bookOf s in
+    let u = find (b .users) id in
+    rw (accepted-is g s id tries k, accepted-is g s id more l) (place-more-tries (eligible b u) (wholeWorth b) (b .trades) (target (limitsOn g b) b u) tries more h)
