@@ -1,0 +1,124 @@
+//! A book that a command is given: in bytes, or as text; and the verdict on it.
+
+use std::path::Path;
+
+use daybook::{Refusal, Request};
+
+use crate::draft::{Mistake, Spot};
+use crate::faults::{faults, Fault};
+use crate::files;
+use crate::outcome::Failure;
+use crate::text;
+
+/// How many faults of a book are told.
+const MOST_FAULTS: usize = 20;
+
+/// An accepted book, and how it was given.
+#[derive(Clone, Debug, PartialEq, Eq)]
+pub struct Source {
+    /// The file's name, for messages.
+    pub name: String,
+    pub bytes: Vec<u8>,
+    pub is_text: bool,
+}
+
+/// What the engine says of a file.
+#[derive(Clone, Debug, PartialEq, Eq)]
+pub enum Verdict {
+    Accepted(Source),
+    /// The questions' number, and the fields at fault: where they are written,
+    /// for a text or CSV.
+    Refused(Refusal, Vec<(Option<Spot>, Fault)>),
+    /// A text that cannot be read.
+    Unread(Vec<Mistake>),
+}
+
+/// The verdict on a file's bytes: a book, or its text form.
+pub fn verdict(name: &str, bytes: Vec<u8>) -> Verdict {
+    let is_text = text::is_text(&bytes);
+    let bytes = match is_text {
+        false => bytes,
+        true => match text::read(&bytes) {
+            Err(mistakes) => return Verdict::Unread(mistakes),
+            Ok(draft) => match draft.into_bytes() {
+                Ok(bytes) => bytes,
+                Err(refused) => {
+                    let faults = refused.faults.into_iter();
+                    let faults = faults.map(|(spot, fault)| (Some(spot), fault)).collect();
+                    return Verdict::Refused(refused.refusal, faults);
+                }
+            },
+        },
+    };
+    match daybook::read(&bytes) {
+        Ok(_) => Verdict::Accepted(Source {
+            name: name.to_string(),
+            bytes,
+            is_text,
+        }),
+        Err(refusal) => {
+            let faults = faults(&bytes, refusal.number());
+            Verdict::Refused(refusal, faults.into_iter().map(|it| (None, it)).collect())
+        }
+    }
+}
+
+/// The accepted book of a file, or why it is none.
+pub fn open(path: &Path) -> Result<Source, Failure> {
+    let bytes = files::read(path)?;
+    accepted(&files::shown(path), bytes)
+}
+
+fn accepted(name: &str, bytes: Vec<u8>) -> Result<Source, Failure> {
+    match verdict(name, bytes) {
+        Verdict::Accepted(source) => Ok(source),
+        Verdict::Refused(refusal, faults) => Err(refused(name, refusal, &faults)),
+        Verdict::Unread(mistakes) => Err(unread(name, &mistakes)),
+    }
+}
+
+/// A refusal in words: the question, then the faults, a line each.
+pub fn refused(name: &str, refusal: Refusal, faults: &[(Option<Spot>, Fault)]) -> Failure {
+    let mut lines = vec![format!("{name}: {refusal}")];
+    for (spot, fault) in faults.iter().take(MOST_FAULTS) {
+        let spot = spot.map_or_else(String::new, |spot| spot.to_string());
+        lines.push(format!("{name}{spot}: {fault}"));
+    }
+    if faults.len() > MOST_FAULTS {
+        lines.push(format!("{name}: and {} more", faults.len() - MOST_FAULTS));
+    }
+    Failure::Refused(lines.join("\n"))
+}
+
+/// The mistakes of a text, a line each.
+pub fn unread(name: &str, mistakes: &[Mistake]) -> Failure {
+    let line = |mistake: &Mistake| format!("{name}{}: {}", mistake.spot, mistake.reason);
+    Failure::Refused(
+        mistakes
+            .iter()
+            .map(line)
+            .collect::<Vec<String>>()
+            .join("\n"),
+    )
+}
+
+/// The store of a command, or none.
+#[derive(Clone, Debug, Default, PartialEq, Eq)]
+pub struct Store {
+    pub bytes: Option<Vec<u8>>,
+}
+
+impl Store {
+    pub fn open(path: Option<&Path>) -> Result<Store, Failure> {
+        let bytes = path.map(files::read).transpose()?;
+        Ok(Store { bytes })
+    }
+
+    /// The request with this store, or without one.
+    pub fn request(&self) -> Request<'_> {
+        match &self.bytes {
+            Some(bytes) => Request::new().store(bytes),
+            None => Request::new(),
+        }
+    }
+}
