@@ -4,7 +4,7 @@ use std::ffi::OsString;
 
 use crate::arguments::{Arguments, Known};
 use crate::outcome::{Failure, Outcome};
-use crate::{calls, check, convert, shrinkage};
+use crate::{calls, check, convert, explain, shrinkage};
 
 /// A command of the program.
 pub struct Command {
@@ -118,6 +118,13 @@ pub const COMMANDS: &[Command] = &[
         page: include_str!("../help/run.txt"),
         options: CHANGING,
         run: calls::run,
+    },
+    Command {
+        name: "explain",
+        about: "a run reduction by reduction: who was short, and what was cut",
+        page: include_str!("../help/explain.txt"),
+        options: &[Known::Flag("--all"), Known::Value("--steps"), STORE, JSON],
+        run: explain::explain,
     },
     Command {
         name: "shrinkage",
