@@ -4,7 +4,7 @@ use std::ffi::OsString;
 
 use crate::arguments::{Arguments, Known};
 use crate::outcome::{Failure, Outcome};
-use crate::{calls, check, convert, explain, shrinkage};
+use crate::{calls, check, convert, explain, report, shrinkage};
 
 /// A command of the program.
 pub struct Command {
@@ -125,6 +125,13 @@ pub const COMMANDS: &[Command] = &[
         page: include_str!("../help/explain.txt"),
         options: &[Known::Flag("--all"), Known::Value("--steps"), STORE, JSON],
         run: explain::explain,
+    },
+    Command {
+        name: "report",
+        about: "a page about the day: figures, chains of cuts, users, trades",
+        page: include_str!("../help/report.txt"),
+        options: &[OUTPUT, FORCE, Known::Value("--steps"), STORE],
+        run: report::report,
     },
     Command {
         name: "shrinkage",

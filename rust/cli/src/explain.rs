@@ -29,11 +29,13 @@ pub fn explain(arguments: &Arguments) -> Result<Outcome, Failure> {
         true => Extent {
             first: usize::try_from(most).unwrap_or(usize::MAX),
             last: 0,
+            chapters: (0, 0),
             most,
         },
         false => Extent {
             first: FIRST,
             last: LAST,
+            chapters: (0, 0),
             most,
         },
     };

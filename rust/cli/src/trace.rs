@@ -4,10 +4,9 @@
 //! book after it. Beside them stand the worth of each tier, what it is asked for,
 //! and each trade's share with its remainder; the tests hold these to the cuts.
 
-use std::collections::VecDeque;
-
 use daybook::{Book, Level, Prices, Reduction, Refusal, Request, Run, Trade, User};
 
+use crate::ends::Ends;
 use crate::reasons::is_party_to_cut;
 use crate::store::Figures;
 
@@ -77,6 +76,17 @@ pub struct Step {
     pub next: Option<u32>,
 }
 
+/// Reductions of one user that follow one another, and what they cut.
+#[derive(Clone, Debug, PartialEq, Eq)]
+pub struct Chapter {
+    /// The place of the first in the run, from 1, and of the last.
+    pub first: u64,
+    pub last: u64,
+    pub id: u32,
+    /// MWh by buyer and area, in the order of the book.
+    pub cuts: Vec<(u32, usize, u64)>,
+}
+
 /// A run.
 #[derive(Clone, Debug, PartialEq, Eq)]
 pub struct Trace {
@@ -87,6 +97,8 @@ pub struct Trace {
     pub first: Vec<Step>,
     /// The last of those after them.
     pub last: Vec<Step>,
+    /// The first chapters of the run, and the last of those after them.
+    pub chapters: (Vec<Chapter>, Vec<Chapter>),
     /// How often each user was reduced, in the order of the book, as far as the
     /// run was taken apart.
     pub counts: Vec<(u32, u64)>,
@@ -101,6 +113,8 @@ pub struct Extent {
     pub first: usize,
     /// Reductions shown up to the last.
     pub last: usize,
+    /// Chapters shown from the first on, and up to the last.
+    pub chapters: (usize, usize),
     /// The most that are made one by one.
     pub most: u64,
 }
@@ -117,8 +131,8 @@ pub fn trace(
     let opening = daybook::read(bytes)?;
     let mut walk = Walk::new(request, bytes, &opening);
     let mut counts: Vec<(u32, u64)> = opening.users.iter().map(|user| (user.id, 0)).collect();
-    let mut first: Vec<Raw> = Vec::new();
-    let mut last: VecDeque<Raw> = VecDeque::new();
+    let mut steps: Ends<Raw> = Ends::new(extent.first, extent.last);
+    let mut chapters: Ends<Span> = Ends::new(extent.chapters.0, extent.chapters.1);
     let mut taken = 0;
     while taken < extent.most {
         let before = walk.bytes.clone();
@@ -129,40 +143,85 @@ pub fn trace(
         if let Some((_, count)) = counts.iter_mut().find(|(it, _)| *it == id) {
             *count += 1;
         }
-        let raw = Raw {
+        if let Some(previous) = steps.newest() {
+            previous.next = Some(id);
+        }
+        match chapters.newest() {
+            Some(span) if span.id == id => {
+                span.last = taken;
+                span.after.clone_from(&walk.bytes);
+            }
+            _ => chapters.push(Span {
+                first: taken,
+                last: taken,
+                id,
+                before: before.clone(),
+                after: walk.bytes.clone(),
+            }),
+        }
+        steps.push(Raw {
             number: taken,
             id,
             answer,
             before,
             after: walk.bytes.clone(),
             next: None,
-        };
-        if let Some(previous) = last.back_mut().or(first.last_mut()) {
-            previous.next = Some(id);
-        }
-        if first.len() < extent.first {
-            first.push(raw);
-        } else {
-            last.push_back(raw);
-            if last.len() > extent.last.max(1) {
-                last.pop_front();
-            }
-        }
+        });
     }
+    let (first, mut last) = steps.into_lists();
+    let (opened, mut closed) = chapters.into_lists();
     // What is not made one by one has no last reduction to show.
-    if taken < run.reductions || extent.last == 0 {
+    if taken < run.reductions {
         last.clear();
+        closed.clear();
     }
     let step = |raw: &Raw| raw.step(request, figures);
+    let chapter = |span: &Span| span.chapter();
     Ok(Trace {
         closing: daybook::read(&after)?,
         opening,
         run,
         first: first.iter().map(step).collect::<Result<_, _>>()?,
         last: last.iter().map(step).collect::<Result<_, _>>()?,
+        chapters: (
+            opened.iter().map(chapter).collect::<Result<_, _>>()?,
+            closed.iter().map(chapter).collect::<Result<_, _>>()?,
+        ),
         counts,
         taken,
     })
+}
+
+/// A chapter with the books around it.
+struct Span {
+    first: u64,
+    last: u64,
+    id: u32,
+    before: Vec<u8>,
+    after: Vec<u8>,
+}
+
+impl Span {
+    fn chapter(&self) -> Result<Chapter, Refusal> {
+        let (before, after) = (daybook::read(&self.before)?, daybook::read(&self.after)?);
+        let mut cuts: Vec<(u32, usize, u64)> = Vec::new();
+        for (trade, later) in before.trades.iter().zip(&after.trades) {
+            let mwh = u64::from(trade.standing.saturating_sub(later.standing));
+            let (buyer, area) = (trade.buyer, usize::from(trade.area).min(2));
+            let same = cuts.iter_mut().find(|cut| (cut.0, cut.1) == (buyer, area));
+            match same {
+                _ if mwh == 0 => {}
+                Some(cut) => cut.2 += mwh,
+                None => cuts.push((buyer, area, mwh)),
+            }
+        }
+        Ok(Chapter {
+            first: self.first,
+            last: self.last,
+            id: self.id,
+            cuts,
+        })
+    }
 }
 
 /// The reductions of a run, made one by one.

@@ -11,6 +11,7 @@ use daybook::Request;
 const ALL: Extent = Extent {
     first: usize::MAX,
     last: 0,
+    chapters: (usize::MAX, 0),
     most: u64::MAX,
 };
 
@@ -66,10 +67,29 @@ fn the_reductions_are_those_of_the_run() {
                 assert!(step.called_in.is_flagged() || step.called_in.party);
                 assert_eq!(step.answer.target, step.level - step.user.assigned);
             }
+            chapters_agree(&trace);
             reductions += run.reductions;
         }
     }
     assert!(reductions > 3_000, "{reductions}");
+}
+
+/// The chapters are the reductions put together.
+fn chapters_agree(trace: &Trace) {
+    let mut steps = trace.first.iter();
+    let mut before = None;
+    for chapter in &trace.chapters.0 {
+        assert_ne!(before, Some(chapter.id));
+        let mut mwh = 0;
+        for number in chapter.first..=chapter.last {
+            let step = steps.next().expect("a reduction");
+            assert_eq!((step.number, step.user.id), (number, chapter.id));
+            mwh += step.answer.mwh;
+        }
+        assert_eq!(chapter.cuts.iter().map(|cut| cut.2).sum::<u64>(), mwh);
+        before = Some(chapter.id);
+    }
+    assert_eq!(steps.next(), None);
 }
 
 /// The cuts that document 01 makes of the shares are the engine's.
@@ -166,6 +186,7 @@ fn long_runs_are_summarised() {
     let extent = |most: u64| Extent {
         first: 5,
         last: 3,
+        chapters: (2, 1),
         most,
     };
     let whole = trace(Request::new(), &figures, &book, extent(u64::MAX)).expect("a run");
