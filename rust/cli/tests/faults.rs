@@ -46,6 +46,22 @@ fn the_damaged_books_of_the_engine() {
     assert_eq!(count, 133);
 }
 
+/// The books of the outside vectors, many of them damaged.
+#[test]
+fn the_outside_vectors() {
+    let vectors = concat!(env!("CARGO_MANIFEST_DIR"), "/../vectors");
+    let mut numbers = [0; 8];
+    for folder in ["", "/books", "/version-1", "/version-1/books"] {
+        let files = std::fs::read_dir(format!("{vectors}{folder}")).expect("a folder");
+        let paths = files.map(|file| file.expect("a file").path());
+        for path in paths.filter(|path| path.is_file()) {
+            let bytes = std::fs::read(&path).expect("a file");
+            numbers[usize::try_from(agree(&bytes)).expect("number")] += 1;
+        }
+    }
+    assert!(numbers.iter().all(|count| *count > 10), "{numbers:?}");
+}
+
 #[test]
 fn books_of_every_kind() {
     let mut generator = Generator::new(21);
