@@ -40,14 +40,13 @@ pub fn csv(arguments: &Arguments) -> Result<Outcome, Failure> {
     let there = csv::FILES.iter().find(|file| folder.join(file).exists());
     if let (Some(file), false) = (there, over) {
         let hint = "is there already; --force puts the new one over it";
-        return Err(Failure::misuse(format!(
+        return Err(Failure::file(format!(
             "{}: {hint}",
             folder.join(file).display()
         )));
     }
-    fs::create_dir_all(folder).map_err(|error| {
-        Failure::misuse(format!("{}: cannot be made: {error}", folder.display()))
-    })?;
+    fs::create_dir_all(folder)
+        .map_err(|error| Failure::file(format!("{}: cannot be made: {error}", folder.display())))?;
     for (file, text) in csv::FILES.iter().zip(csv::write(&book)) {
         files::write(&folder.join(file), text.as_bytes(), over)?;
     }

@@ -32,7 +32,7 @@ pub fn read(path: &Path) -> Result<Vec<u8>, Failure> {
         File::open(path).and_then(bytes)
     };
     let failed = |reason: &dyn std::fmt::Display| {
-        Failure::misuse(format!("{}: cannot be read: {reason}", shown(path)))
+        Failure::file(format!("{}: cannot be read: {reason}", shown(path)))
     };
     match read {
         Ok(bytes) if bytes.len() as u64 > LONGEST => {
@@ -60,7 +60,7 @@ pub fn write(path: &Path, bytes: &[u8], over: bool) -> Result<(), Failure> {
         Ok(mut file) => file.write_all(bytes).and_then(|()| file.sync_all()),
         Err(error) if error.kind() == io::ErrorKind::AlreadyExists => {
             let hint = "is there already; --force puts the new one over it";
-            return Err(Failure::misuse(format!("{}: {hint}", path.display())));
+            return Err(Failure::file(format!("{}: {hint}", path.display())));
         }
         Err(error) => return Err(unwritten(path, &error)),
     };
@@ -105,5 +105,5 @@ fn beside(path: &Path) -> PathBuf {
 }
 
 fn unwritten(path: &Path, error: &io::Error) -> Failure {
-    Failure::misuse(format!("{}: cannot be written: {error}", path.display()))
+    Failure::file(format!("{}: cannot be written: {error}", path.display()))
 }

@@ -62,7 +62,10 @@ impl Outcome {
 #[derive(Clone, Debug, PartialEq, Eq)]
 pub enum Failure {
     Refused(String),
+    /// The arguments are not what the command takes.
     Misuse(String),
+    /// A file cannot be read or written.
+    File(String),
 }
 
 impl Failure {
@@ -70,16 +73,22 @@ impl Failure {
         Failure::Misuse(message.to_string())
     }
 
+    pub fn file(message: impl Display) -> Failure {
+        Failure::File(message.to_string())
+    }
+
     pub fn message(&self) -> &str {
         match self {
-            Failure::Refused(message) | Failure::Misuse(message) => message,
+            Failure::Refused(message) | Failure::Misuse(message) | Failure::File(message) => {
+                message
+            }
         }
     }
 
     pub fn status(&self) -> Status {
         match self {
             Failure::Refused(_) => Status::Refused,
-            Failure::Misuse(_) => Status::Misuse,
+            Failure::Misuse(_) | Failure::File(_) => Status::Misuse,
         }
     }
 }
