@@ -4,7 +4,7 @@ use std::ffi::OsString;
 
 use crate::arguments::{Arguments, Known};
 use crate::outcome::{Failure, Outcome};
-use crate::{calls, check, convert, explain, report, shrinkage};
+use crate::{calls, check, convert, explain, parameters, report, shrinkage};
 
 /// A command of the program.
 pub struct Command {
@@ -132,6 +132,13 @@ pub const COMMANDS: &[Command] = &[
         page: include_str!("../help/report.txt"),
         options: &[OUTPUT, FORCE, Known::Value("--steps"), STORE],
         run: report::report,
+    },
+    Command {
+        name: "store",
+        about: "a store of parameter sets as text, and from text",
+        page: include_str!("../help/store.txt"),
+        options: &[OUTPUT, FORCE],
+        run: parameters::store,
     },
     Command {
         name: "shrinkage",

@@ -21,6 +21,7 @@ pub mod fields;
 pub mod files;
 pub mod json;
 pub mod outcome;
+pub mod parameters;
 pub mod picture;
 pub mod reasons;
 pub mod report;

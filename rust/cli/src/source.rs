@@ -8,6 +8,7 @@ use crate::draft::{Mistake, Spot};
 use crate::faults::{faults, Fault};
 use crate::files;
 use crate::outcome::Failure;
+use crate::parameters::from_file;
 use crate::text;
 
 /// How many faults of a book are told.
@@ -109,8 +110,10 @@ pub struct Store {
 }
 
 impl Store {
+    /// The store of a file, in bytes or as text.
     pub fn open(path: Option<&Path>) -> Result<Store, Failure> {
-        let bytes = path.map(files::read).transpose()?;
+        let read = |path: &Path| from_file(&files::shown(path), files::read(path)?);
+        let bytes = path.map(read).transpose()?;
         Ok(Store { bytes })
     }
 

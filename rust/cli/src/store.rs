@@ -1,5 +1,5 @@
-//! The store of parameter sets, after the engine has accepted it: the figures
-//! that are in force on a date. They are shown beside the engine's answers.
+//! The store of parameter sets in bytes: its sets, the figures that are in force
+//! on a date, shown beside the engine's answers, and why the engine refuses one.
 
 use crate::faults::date_fault;
 use crate::words::{counted, date, grouped};
@@ -31,9 +31,9 @@ pub const TODAY: Figures = Figures {
 
 /// A set of a store: its first date, and its figures.
 #[derive(Clone, Copy, Debug, PartialEq, Eq)]
-struct Set {
-    first_date: u32,
-    figures: Figures,
+pub struct Set {
+    pub first_date: u32,
+    pub figures: Figures,
 }
 
 /// The figures in force on a date; today's without a store, and where the store
@@ -45,7 +45,7 @@ pub fn figures(store: Option<&[u8]>, on: u32) -> Figures {
 }
 
 /// The sets that stand in the bytes, well formed or not.
-fn sets(bytes: &[u8]) -> Vec<Set> {
+pub fn sets(bytes: &[u8]) -> Vec<Set> {
     let records = bytes.get(START_LENGTH..).unwrap_or(&[]);
     let (records, _) = records.as_chunks::<SET_LENGTH>();
     records.iter().map(set).collect()
@@ -62,6 +62,21 @@ fn set(record: &[u8; SET_LENGTH]) -> Set {
             least_level: eight(16),
         },
     }
+}
+
+/// The bytes of a store of these sets; too many are counted as 255, which is out of
+/// range.
+pub fn to_bytes(version: u16, sets: &[Set]) -> Vec<u8> {
+    let mut bytes = MARK.to_vec();
+    bytes.extend(version.to_le_bytes());
+    bytes.push(u8::try_from(sets.len()).unwrap_or(u8::MAX));
+    for set in sets {
+        bytes.extend(set.first_date.to_le_bytes());
+        bytes.extend(set.figures.flag_mwh.to_le_bytes());
+        bytes.extend(set.figures.margin.to_le_bytes());
+        bytes.extend(set.figures.least_level.to_le_bytes());
+    }
+    bytes
 }
 
 /// Why question 16 refuses a store; none where it does not.

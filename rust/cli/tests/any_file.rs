@@ -4,7 +4,7 @@
 
 use std::ffi::OsString;
 use std::fs;
-use std::path::{Path, PathBuf};
+use std::path::Path;
 
 use books::Generator;
 use cli::commands::{perform, COMMANDS};
@@ -98,7 +98,7 @@ fn fs_unchanged(file: &Path, bytes: &[u8]) {
 }
 
 /// Text and CSV of any file, and any file as a text or a list of balances.
-fn converted(folder: &Path, book: &PathBuf, bytes: &[u8]) {
+fn converted(folder: &Path, book: &Path, bytes: &[u8]) {
     let refused = u8::from(reference::check(bytes) != 0);
     let (book, tables) = (book.display(), folder.join("tables"));
     let tables = tables.display();

@@ -7,6 +7,7 @@
 use std::collections::BTreeSet;
 
 use books::{Generator, Kind};
+use cli::parameters;
 use cli::reasons::{reason, Asked};
 use cli::source::Store;
 use cli::store::{figures, malformed, not_in_force};
@@ -41,6 +42,58 @@ fn stores_are_malformed_where_question_16_says_so() {
         seen.insert(refusal.number());
     }
     assert_eq!(seen, BTreeSet::from([8, 16, 17]));
+}
+
+/// A store as text and back; the engine's word on its form is the same by itself
+/// as with a book.
+#[test]
+fn stores_as_text_and_back() {
+    let mut generator = Generator::new(43);
+    let mut seen = [0; 2];
+    for _ in 0..4_000 {
+        let book = generator.book(Kind::Small);
+        let Some(bytes) = generator.store(&book) else {
+            continue;
+        };
+        let refused = daybook::Request::new().store(&bytes).show(&book, 0);
+        let is_malformed = refused == Err(Refusal::StoreForm);
+        assert_eq!(parameters::refusal(&bytes).is_some(), is_malformed);
+        if !is_malformed {
+            let text = parameters::write(&bytes);
+            assert_eq!(parameters::read(text.as_bytes()), Ok(bytes));
+        }
+        seen[usize::from(is_malformed)] += 1;
+    }
+    assert!(seen.iter().all(|count| *count > 100), "{seen:?}");
+    for (text, told) in [
+        ("parameter 1", ":1:1: `parameter` instead of `parameters`"),
+        (
+            "parameters 1\nfrom 2026-1-1",
+            ":2:6: the date is written as 2026-03-18, not `2026-1-1`",
+        ),
+        (
+            "parameters 1\nfrom 2026-01-01 flag 1",
+            ":2:23: a set has `flag MWH`, `margin EUR` and `least EUR`",
+        ),
+        (
+            "parameters 1\nfrom 2026-01-01 flag 1 flag 1",
+            ":2:24: a second flag",
+        ),
+        (
+            "parameters 1\nfrom 2026-01-01 limit 1",
+            ":2:17: a figure is `flag`, `margin` or `least`",
+        ),
+        (
+            "parameters 1\nfrom 2026-01-01 margin 5",
+            ":2:24: margin is euros with two decimals, as 1,234.50, not `5`",
+        ),
+    ] {
+        let mistakes = parameters::read(text.as_bytes()).expect_err("a mistake");
+        assert_eq!(
+            format!("{}: {}", mistakes[0].spot, mistakes[0].reason),
+            told
+        );
+    }
 }
 
 #[test]

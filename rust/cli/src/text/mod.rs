@@ -17,7 +17,7 @@ use daybook::{Book, Trade, User};
 use crate::fields::{prices, PRICES};
 use crate::words::{date, euros, grouped, word, AREAS, DAYS, KINDS, ROLES};
 
-pub use line::short;
+pub use line::{mistake, short, Words};
 pub use read::read;
 
 /// The word that a text starts with.
@@ -26,13 +26,18 @@ const FIRST: &str = "daybook";
 /// Whether bytes are meant as the text form: the first word that is no comment
 /// says so. No book in bytes starts with it.
 pub fn is_text(bytes: &[u8]) -> bool {
+    starts_with_word(bytes, FIRST)
+}
+
+/// Whether the first word of a text that is no comment is this one.
+pub fn starts_with_word(bytes: &[u8], word: &str) -> bool {
     let bytes = bytes.strip_prefix(b"\xef\xbb\xbf").unwrap_or(bytes);
     let lines = bytes.split(|byte| *byte == b'\n').map(<[u8]>::trim_ascii);
     let mut lines = lines.filter(|line| !line.is_empty() && !line.starts_with(b"#"));
-    let first = lines
+    let rest = lines
         .next()
-        .and_then(|line| line.strip_prefix(FIRST.as_bytes()));
-    first.is_some_and(|rest| rest.first().is_none_or(u8::is_ascii_whitespace))
+        .and_then(|line| line.strip_prefix(word.as_bytes()));
+    rest.is_some_and(|rest| rest.first().is_none_or(u8::is_ascii_whitespace))
 }
 
 /// The text of an accepted book; with the positions, or without.
