@@ -4,11 +4,11 @@
 use daybook::{GuaranteeCall, Level, Reduction, Refusal, Run, User};
 
 use crate::arguments::{amount, id, Arguments};
-use crate::check::refused_call;
 use crate::files;
 use crate::json::{list, Object};
-use crate::outcome::{Failure, Outcome, Status};
+use crate::outcome::{Failure, Outcome};
 use crate::reasons::Asked;
+use crate::refusals;
 use crate::source::{open, Source, Store};
 use crate::state::{state, State};
 use crate::text;
@@ -30,10 +30,6 @@ impl Call {
             store,
             json: arguments.has("--json"),
         })
-    }
-
-    fn refused(&self, id: u32, asked: Asked, refusal: Refusal) -> Failure {
-        refused_call(&self.source, &self.store, id, asked, refusal)
     }
 
     /// The ids that are asked for; those of all users where none is.
@@ -61,7 +57,7 @@ impl Call {
             match answer(id) {
                 Ok((line, object)) => self.tell(&mut outcome, line, object),
                 Err(Refusal::Shipper) if arguments.count() == 1 => {}
-                Err(refusal) => self.refuse(&mut outcome, id, Asked::Plain, refusal),
+                Err(refusal) => self.refuse(&mut outcome, Some(id), Asked::Plain, refusal),
             }
         }
         Ok(outcome)
@@ -75,18 +71,9 @@ impl Call {
     }
 
     /// A refusal: in words on standard error, or as an object.
-    fn refuse(&self, outcome: &mut Outcome, id: u32, asked: Asked, refusal: Refusal) {
-        if !self.json {
-            return outcome.fail(&self.refused(id, asked, refusal));
-        }
-        let reason = crate::reasons::reason(&self.source.bytes, &self.store, id, asked, refusal);
-        let object = Object::new()
-            .put("number", refusal.number())
-            .put("id", id)
-            .string("question", refusal.question())
-            .string("reason", &reason);
-        outcome.line(object.end());
-        outcome.status = outcome.status.max(Status::Refused);
+    fn refuse(&self, outcome: &mut Outcome, id: Option<u32>, asked: Asked, refusal: Refusal) {
+        let failure = refusals::of_call(&self.source, &self.store, id, asked, refusal);
+        outcome.fail(&failure, self.json);
     }
 }
 
@@ -253,7 +240,7 @@ pub fn run(arguments: &Arguments) -> Result<Outcome, Failure> {
     let done = match call.store.request().run(&mut bytes) {
         Ok(done) => done,
         Err(refusal) => {
-            call.refuse(&mut outcome, 0, Asked::Plain, refusal);
+            call.refuse(&mut outcome, None, Asked::Plain, refusal);
             return Ok(outcome);
         }
     };
@@ -327,7 +314,7 @@ fn changing(
     let mut bytes = call.source.bytes.clone();
     let mut outcome = Outcome::default();
     match make(call.store.request(), &mut bytes) {
-        Err(refusal) => call.refuse(&mut outcome, id, asked, refusal),
+        Err(refusal) => call.refuse(&mut outcome, Some(id), asked, refusal),
         Ok((line, object)) => {
             call.tell(&mut outcome, line, object);
             keep(arguments, &call.source, &bytes, &mut outcome)?;

@@ -170,15 +170,26 @@ pub fn perform(words: &[OsString]) -> Outcome {
 }
 
 fn done(command: &Command, words: &[OsString]) -> Outcome {
-    let arguments = Arguments::parse(words, command.options);
-    let done = arguments.and_then(|arguments| (command.run)(&arguments));
-    done.unwrap_or_else(|failure| match failure {
+    let arguments = match Arguments::parse(words, command.options) {
+        Ok(arguments) => arguments,
+        Err(failure) => return hinted(command, failure).into(),
+    };
+    (command.run)(&arguments).unwrap_or_else(|failure| {
+        let mut outcome = Outcome::default();
+        outcome.fail(&hinted(command, failure), arguments.has("--json"));
+        outcome
+    })
+}
+
+/// Misuse is told with the page that says more.
+fn hinted(command: &Command, failure: Failure) -> Failure {
+    match failure {
         Failure::Misuse(message) => {
             let more = format!("`daybook help {}` says more", command.name);
-            Failure::misuse(format!("{message}\n{more}")).into()
+            Failure::misuse(format!("{message}\n{more}"))
         }
-        refused => refused.into(),
-    })
+        other => other,
+    }
 }
 
 /// The page of a command, or the overview.

@@ -8,14 +8,15 @@ use crate::csv;
 use crate::draft::Draft;
 use crate::files;
 use crate::outcome::{Failure, Outcome};
-use crate::source::{open, refused, unread};
+use crate::refusals;
+use crate::source::open;
 use crate::text;
 
 pub fn text(arguments: &Arguments) -> Result<Outcome, Failure> {
     arguments.expect(1, 1, "text BOOK [--positions] [-o FILE [--force]]")?;
     let source = open(arguments.file(0))?;
-    let book =
-        daybook::read(&source.bytes).map_err(|refusal| refused(&source.name, refusal, &[]))?;
+    let book = daybook::read(&source.bytes)
+        .map_err(|refusal| refusals::of_book(&source.name, refusal, &[]))?;
     let text = text::write(&book, arguments.has("--positions"));
     output(arguments, text.as_bytes())
 }
@@ -26,15 +27,15 @@ pub fn book(arguments: &Arguments) -> Result<Outcome, Failure> {
     let path = arguments.file(0);
     let bytes = files::read(path)?;
     let name = files::shown(path);
-    let draft = text::read(&bytes).map_err(|mistakes| unread(&name, &mistakes))?;
+    let draft = text::read(&bytes).map_err(|mistakes| refusals::of_text(&name, &mistakes))?;
     made(arguments, &name, draft, usage)
 }
 
 pub fn csv(arguments: &Arguments) -> Result<Outcome, Failure> {
     arguments.expect(2, 2, "csv BOOK DIR [--force]")?;
     let source = open(arguments.file(0))?;
-    let book =
-        daybook::read(&source.bytes).map_err(|refusal| refused(&source.name, refusal, &[]))?;
+    let book = daybook::read(&source.bytes)
+        .map_err(|refusal| refusals::of_book(&source.name, refusal, &[]))?;
     let folder = arguments.file(1);
     let over = arguments.has("--force");
     let there = csv::FILES.iter().find(|file| folder.join(file).exists());
@@ -61,8 +62,8 @@ pub fn from_csv(arguments: &Arguments) -> Result<Outcome, Failure> {
     let [header, users, trades] = csv::FILES.map(read);
     let (header, users, trades) = (header?, users?, trades?);
     let name = folder.display().to_string();
-    let draft =
-        csv::read([&header, &users, &trades]).map_err(|mistakes| unread(&name, &mistakes))?;
+    let draft = csv::read([&header, &users, &trades])
+        .map_err(|mistakes| refusals::of_text(&name, &mistakes))?;
     made(arguments, &name, draft, usage)
 }
 
@@ -76,7 +77,7 @@ fn made(arguments: &Arguments, name: &str, draft: Draft, usage: &str) -> Result<
             .faults
             .into_iter()
             .map(|(spot, fault)| (Some(spot), fault));
-        refused(name, it.refusal, &faults.collect::<Vec<_>>())
+        refusals::of_book(name, it.refusal, &faults.collect::<Vec<_>>())
     })?;
     output(arguments, &bytes)
 }

@@ -2,10 +2,10 @@
 
 use crate::arguments::Arguments;
 use crate::calls::{reduction_object, run_line};
-use crate::check::refused_call;
 use crate::json::{list, Object};
 use crate::outcome::{Failure, Outcome};
 use crate::reasons::Asked;
+use crate::refusals::of_call;
 use crate::source::{open, Store};
 use crate::store::{figures, Figures};
 use crate::text::aligned;
@@ -41,10 +41,10 @@ pub fn explain(arguments: &Arguments) -> Result<Outcome, Failure> {
     };
     let figures = match daybook::read(&source.bytes) {
         Ok(book) => figures(store.bytes.as_deref(), book.date),
-        Err(refusal) => return Err(refused_call(&source, &store, 0, Asked::Plain, refusal)),
+        Err(refusal) => return Err(of_call(&source, &store, None, Asked::Plain, refusal)),
     };
     let trace = trace(store.request(), &figures, &source.bytes, extent)
-        .map_err(|refusal| refused_call(&source, &store, 0, Asked::Plain, refusal))?;
+        .map_err(|refusal| of_call(&source, &store, None, Asked::Plain, refusal))?;
     let mut outcome = Outcome::default();
     match arguments.has("--json") {
         true => objects(&mut outcome, &trace),

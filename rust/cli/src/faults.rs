@@ -10,7 +10,7 @@ use std::fmt::{self, Display, Formatter};
 use daybook::{Book, Trade, User, MOST_TRADES, MOST_USERS, TRADE_LENGTH, USER_LENGTH};
 
 use crate::fields::{fields, prices, two, Field, Place, HEADER_LENGTH, MARK, PRICES};
-use crate::words::{self, counted, euros, grouped, word, AREAS};
+use crate::words::{self, counted, euros, grouped, AREAS};
 
 const MOST_MONEY: u64 = 1_000_000_000_000;
 const MOST_ENTRY: u32 = 1_000_000;
@@ -388,12 +388,4 @@ fn nonzero(
         known_by,
         reason: format!("byte {at} of the record is {value} instead of 0"),
     })
-}
-
-/// A trade in words: its parties, area, kind and day.
-pub fn trade_words(trade: &Trade) -> String {
-    let area = word(&AREAS, trade.area);
-    let kind = word(&words::KINDS, trade.kind);
-    let day = word(&words::DAYS, trade.day);
-    format!("{} {area} {kind} {day}", parties(trade))
 }

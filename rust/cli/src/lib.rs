@@ -24,6 +24,7 @@ pub mod outcome;
 pub mod parameters;
 pub mod picture;
 pub mod reasons;
+pub mod refusals;
 pub mod report;
 pub mod shrinkage;
 pub mod source;

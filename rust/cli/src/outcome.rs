@@ -51,17 +51,29 @@ impl Outcome {
         self.messages.push_str(&format!("{line}\n"));
     }
 
-    /// Takes in a failure: its message, and its status where it is the worse.
-    pub fn fail(&mut self, failure: &Failure) {
-        self.message(failure.message());
+    /// Takes in a failure: its message, or its object where that is wanted, and its
+    /// status where it is the worse.
+    pub fn fail(&mut self, failure: &Failure, json: bool) {
+        match failure {
+            Failure::Refused(Told { object, .. }) if json => self.line(object),
+            _ => self.message(failure.message()),
+        }
         self.status = self.status.max(failure.status());
     }
+}
+
+/// A refusal in words, and as an object.
+#[derive(Clone, Debug, PartialEq, Eq)]
+pub struct Told {
+    pub message: String,
+    pub object: String,
 }
 
 /// Why a command stops.
 #[derive(Clone, Debug, PartialEq, Eq)]
 pub enum Failure {
-    Refused(String),
+    /// A book, a store or a text is refused.
+    Refused(Told),
     /// The arguments are not what the command takes.
     Misuse(String),
     /// A file cannot be read or written.
@@ -79,9 +91,8 @@ impl Failure {
 
     pub fn message(&self) -> &str {
         match self {
-            Failure::Refused(message) | Failure::Misuse(message) | Failure::File(message) => {
-                message
-            }
+            Failure::Refused(Told { message, .. }) => message,
+            Failure::Misuse(message) | Failure::File(message) => message,
         }
     }
 
@@ -96,7 +107,7 @@ impl Failure {
 impl From<Failure> for Outcome {
     fn from(failure: Failure) -> Outcome {
         let mut outcome = Outcome::default();
-        outcome.fail(&failure);
+        outcome.fail(&failure, false);
         outcome
     }
 }

@@ -12,7 +12,7 @@ use crate::convert::output;
 use crate::draft::{Mistake, MOST_MISTAKES};
 use crate::files;
 use crate::outcome::{Failure, Outcome};
-use crate::source::unread;
+use crate::refusals;
 use crate::store::{malformed, sets, to_bytes, Figures, Set};
 use crate::text::{aligned, mistake, starts_with_word, Words};
 use crate::words::{date, euros, grouped};
@@ -29,9 +29,7 @@ pub fn store(arguments: &Arguments) -> Result<Outcome, Failure> {
     let store = from_file(&name, bytes)?;
     if let Some(refusal) = refusal(&store) {
         let reason = malformed(&store).unwrap_or_default();
-        return Err(Failure::Refused(format!(
-            "{name}: {refusal}\n{name}: {reason}"
-        )));
+        return Err(refusals::of_store(&name, refusal, &reason));
     }
     match is_text {
         false => output(arguments, write(&store).as_bytes()),
@@ -45,7 +43,7 @@ pub fn store(arguments: &Arguments) -> Result<Outcome, Failure> {
 /// The store of a file's bytes: a store already, or its text form.
 pub fn from_file(name: &str, bytes: Vec<u8>) -> Result<Vec<u8>, Failure> {
     match is_text(&bytes) {
-        true => read(&bytes).map_err(|mistakes| unread(name, &mistakes)),
+        true => read(&bytes).map_err(|mistakes| refusals::of_text(name, &mistakes)),
         false => Ok(bytes),
     }
 }

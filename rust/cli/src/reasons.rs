@@ -29,11 +29,11 @@ pub fn reason(book: &[u8], store: &Store, id: u32, asked: Asked, refusal: Refusa
     match (refusal, fields.users.iter().find(|user| user.id == id)) {
         (Refusal::StoreForm, _) => {
             let bytes = store.bytes.as_deref().unwrap_or(&[]);
-            store::malformed(bytes).unwrap_or_default()
+            format!("store: {}", store::malformed(bytes).unwrap_or_default())
         }
         (Refusal::SetInForce, _) => {
             let bytes = store.bytes.as_deref().unwrap_or(&[]);
-            store::not_in_force(bytes, fields.date)
+            format!("store: {}", store::not_in_force(bytes, fields.date))
         }
         (Refusal::Id, _) => not_in_the_book(&fields, id),
         (_, Some(user)) => of_user(book, &fields, store, user, asked, refusal),

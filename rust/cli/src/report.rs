@@ -3,12 +3,12 @@
 use daybook::{Book, Request, User};
 
 use crate::arguments::Arguments;
-use crate::check::refused_call;
 use crate::convert::output;
 use crate::explain::MOST;
 use crate::outcome::{Failure, Outcome};
 use crate::picture::picture;
 use crate::reasons::Asked;
+use crate::refusals::of_call;
 use crate::source::{open, Store};
 use crate::state::{state, State};
 use crate::store::{figures, Figures};
@@ -33,7 +33,7 @@ pub fn report(arguments: &Arguments) -> Result<Outcome, Failure> {
         chapters: (FIRST, LAST),
         most: arguments.number("--steps")?.unwrap_or(MOST),
     };
-    let refused = |refusal| refused_call(&source, &store, 0, Asked::Plain, refusal);
+    let refused = |refusal| of_call(&source, &store, None, Asked::Plain, refusal);
     let request = store.request();
     let book = daybook::read(&source.bytes).map_err(refused)?;
     let figures = figures(store.bytes.as_deref(), book.date);

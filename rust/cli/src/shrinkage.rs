@@ -4,9 +4,11 @@
 use daybook::shrinkage::{over_days, shrinkage_return, Kwh};
 
 use crate::arguments::Arguments;
+use crate::draft::{Mistake, Spot};
 use crate::files;
 use crate::json::{list, Object};
-use crate::outcome::{Failure, Outcome, Status};
+use crate::outcome::{Failure, Outcome, Told};
+use crate::refusals;
 use crate::text::{aligned, short};
 use crate::words::{grouped, read_whole};
 
@@ -29,17 +31,13 @@ pub fn shrinkage(arguments: &Arguments) -> Result<Outcome, Failure> {
         Ok(returned) => returned,
         Err(refusal) => {
             let (number, question) = (refusal.number(), refusal.question());
-            if json {
-                let object = Object::new().put("number", number);
-                outcome.line(object.string("question", question).end());
-                outcome.status = Status::Refused;
-            } else {
-                outcome.fail(&Failure::Refused(format!(
-                    "{name}: {refusal}{}",
-                    why(&balances)
-                )));
-            }
-            return Ok(outcome);
+            let object = Object::new()
+                .put("number", number)
+                .string("question", question);
+            return Err(Failure::Refused(Told {
+                message: format!("{name}: {refusal}{}", why(&balances)),
+                object: object.end(),
+            }));
         }
     };
     let (half, odd, rest) = (returned.half.0, returned.odd.0, returned.rest.0);
@@ -102,16 +100,20 @@ fn read(file: &str, bytes: &[u8]) -> Result<Vec<Balance>, Failure> {
     let text = String::from_utf8_lossy(bytes);
     let mut balances = Vec::new();
     for (place, line) in text.lines().enumerate() {
-        let line = line.split('#').next().unwrap_or("").trim();
+        let line = line.split('#').next().unwrap_or("").trim_end();
         if line.is_empty() {
             continue;
         }
         let (name, word) = line.rsplit_once(char::is_whitespace).unwrap_or(("", line));
         let kwh = read_whole(word).and_then(|number| i64::try_from(number).ok());
         let Some(kwh) = kwh else {
-            let (line, word) = (place + 1, short(word));
-            let reason = format!("a balance is a whole number of kWh, not `{word}`");
-            return Err(Failure::Refused(format!("{file}:{line}: {reason}")));
+            let spot = Spot {
+                file: "",
+                line: place + 1,
+                column: line[..line.len() - word.len()].chars().count() + 1,
+            };
+            let reason = format!("a balance is a whole number of kWh, not `{}`", short(word));
+            return Err(refusals::of_text(file, &[Mistake { spot, reason }]));
         };
         let name = match name.trim() {
             "" => (balances.len() + 1).to_string(),

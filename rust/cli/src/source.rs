@@ -9,10 +9,8 @@ use crate::faults::{faults, Fault};
 use crate::files;
 use crate::outcome::Failure;
 use crate::parameters::from_file;
+use crate::refusals;
 use crate::text;
-
-/// How many faults of a book are told.
-const MOST_FAULTS: usize = 20;
 
 /// An accepted book, and how it was given.
 #[derive(Clone, Debug, PartialEq, Eq)]
@@ -70,37 +68,13 @@ pub fn open(path: &Path) -> Result<Source, Failure> {
     accepted(&files::shown(path), bytes)
 }
 
-fn accepted(name: &str, bytes: Vec<u8>) -> Result<Source, Failure> {
+/// The accepted book of these bytes, or why they are none.
+pub fn accepted(name: &str, bytes: Vec<u8>) -> Result<Source, Failure> {
     match verdict(name, bytes) {
         Verdict::Accepted(source) => Ok(source),
-        Verdict::Refused(refusal, faults) => Err(refused(name, refusal, &faults)),
-        Verdict::Unread(mistakes) => Err(unread(name, &mistakes)),
+        Verdict::Refused(refusal, faults) => Err(refusals::of_book(name, refusal, &faults)),
+        Verdict::Unread(mistakes) => Err(refusals::of_text(name, &mistakes)),
     }
-}
-
-/// A refusal in words: the question, then the faults, a line each.
-pub fn refused(name: &str, refusal: Refusal, faults: &[(Option<Spot>, Fault)]) -> Failure {
-    let mut lines = vec![format!("{name}: {refusal}")];
-    for (spot, fault) in faults.iter().take(MOST_FAULTS) {
-        let spot = spot.map_or_else(String::new, |spot| spot.to_string());
-        lines.push(format!("{name}{spot}: {fault}"));
-    }
-    if faults.len() > MOST_FAULTS {
-        lines.push(format!("{name}: and {} more", faults.len() - MOST_FAULTS));
-    }
-    Failure::Refused(lines.join("\n"))
-}
-
-/// The mistakes of a text, a line each.
-pub fn unread(name: &str, mistakes: &[Mistake]) -> Failure {
-    let line = |mistake: &Mistake| format!("{name}{}: {}", mistake.spot, mistake.reason);
-    Failure::Refused(
-        mistakes
-            .iter()
-            .map(line)
-            .collect::<Vec<String>>()
-            .join("\n"),
-    )
 }
 
 /// The store of a command, or none.

@@ -139,7 +139,7 @@ fn set_fault(set: &Set, before: Option<u32>) -> Option<String> {
 /// Why question 17 refuses a well formed store.
 pub fn not_in_force(bytes: &[u8], on: u32) -> String {
     match sets(bytes).first() {
-        None => "the store has no set".to_string(),
+        None => "it has no set".to_string(),
         Some(set) => {
             let (first, on) = (date(set.first_date), date(on));
             format!("its first set begins on {first}, after the book's date {on}")

@@ -272,6 +272,32 @@ fn answers_as_objects() {
             "{words}"
         );
     }
+    fs::write(folder.0.join("no.txt"), "daybook 1\nuser x").expect("a file");
+    fs::write(folder.0.join("no.gdb"), "GDB").expect("a file");
+    for (words, out) in [
+        (
+            "run no.txt --json",
+            r#"{"book":"no.txt","accepted":false,"mistakes":[{"line":2,"column":6,"reason":"the id is a whole number, not `x`"}]}"#,
+        ),
+        (
+            "level no.gdb 1 --json",
+            r#"{"book":"no.gdb","accepted":false,"number":1,"question":"at least 32 bytes, starting with the mark?","faults":[{"record":"header","field":"length","reason":"header: 3 bytes, a header alone has 32"}]}"#,
+        ),
+        (
+            "run day.gdb --store no.gdb --json",
+            r#"{"number":16,"question":"is the store well formed?","reason":"store: 3 bytes, the start alone has 6"}"#,
+        ),
+        (
+            "check day.gdb --store no.gdb --json",
+            r#"{"book":"day.gdb","accepted":false,"number":16,"question":"is the store well formed?","reason":"store: 3 bytes, the start alone has 6"}"#,
+        ),
+    ] {
+        assert_eq!(
+            folder.run(words),
+            (1, format!("{out}\n"), String::new()),
+            "{words}"
+        );
+    }
     let (_, out, _) = folder.run("run day.gdb --json -o run.gdb");
     assert_eq!(
         out,
@@ -312,7 +338,7 @@ fn shrinkage_of_a_file() {
         (
             "North x",
             1,
-            "kwh:1: a balance is a whole number of kWh, not `x`",
+            "kwh:1:7: a balance is a whole number of kWh, not `x`",
         ),
     ] {
         fs::write(folder.0.join("kwh"), text).expect("a file");
