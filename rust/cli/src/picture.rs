@@ -1,6 +1,7 @@
-//! The chains of cuts as a picture (SVG): a line down for each user who sold or
+//! The chains of cuts as pictures (SVG): a line down for each user who sold or
 //! bought what was cut, and an arrow for each cut, from the seller to the buyer,
-//! in the order of the reductions.
+//! in the order of the reductions. A long run has several, each of a size that a
+//! page or a phone can show, with the users that it needs.
 
 use crate::trace::{Chapter, Trace};
 use crate::words::{grouped, AREAS};
@@ -14,72 +15,133 @@ const FULL: usize = 760;
 const SIDE: usize = 80;
 
 /// Heights: of the users' names, of an arrow, of what stands between reductions.
-const TOP: usize = 58;
+const TOP: usize = 64;
 const ARROW: usize = 30;
 const BETWEEN: usize = 12;
 
-/// The picture of the chapters that a trace shows; none where nothing was cut.
+/// The most users of a picture and its greatest height, but for a chapter that
+/// has more by itself.
+const MOST_USERS: usize = 7;
+const MOST_HEIGHT: usize = 640;
+
+/// The pictures of the chapters that a trace shows; none where nothing was cut.
 /// The states are those after the run, by id.
-pub fn picture(trace: &Trace, states: &[(u32, &'static str)]) -> Option<String> {
+pub fn pictures(trace: &Trace, states: &[(u32, &'static str)]) -> Vec<String> {
+    let ids: Vec<u32> = trace.opening.users.iter().map(|user| user.id).collect();
     let (first, last) = &trace.chapters;
-    let chapters: Vec<&Chapter> = first.iter().chain(last).collect();
-    let ids = involved(trace, &chapters);
-    if ids.is_empty() {
-        return None;
-    }
-    let between = (FULL / ids.len()).clamp(NARROW, WIDE);
-    let at = |id: u32| {
-        let place = ids.iter().position(|it| *it == id).unwrap_or(0);
-        SIDE + between * place
-    };
-    let width = 2 * SIDE + between * (ids.len() - 1);
-    let (mut rows, mut y, mut shown) = (String::new(), TOP + BETWEEN, 0);
-    for chapter in chapters {
-        if chapter.first > shown + 1 {
-            rows.push_str(&gap(width, y, chapter.first - shown - 1));
-            y += ARROW + BETWEEN;
-        }
+    let mut parts: Vec<Part> = Vec::new();
+    let mut shown = 0;
+    for chapter in first.iter().chain(last) {
+        let before = chapter.first - shown - 1;
         shown = chapter.last;
-        let (from, number) = (at(chapter.id), number(chapter));
-        let mut beside = mark_width(&number) / 2;
-        let top = y + ARROW / 2;
-        for (buyer, area, mwh) in &chapter.cuts {
-            rows.push_str(&arrow(
-                (from, at(*buyer)),
-                beside,
-                y + ARROW / 2,
-                (*area, *mwh),
-            ));
-            // The first arrow leaves from the mark, the others from the line.
-            beside = 0;
-            y += ARROW;
+        match parts.last_mut() {
+            Some(part) if part.has_room(chapter) => part.add(before, chapter),
+            _ => {
+                let mut part = Part::default();
+                part.add(before, chapter);
+                parts.push(part);
+            }
         }
-        rows.push_str(&mark(from, top, y - ARROW / 2, &number));
-        y += BETWEEN;
     }
-    if shown < trace.run.reductions {
-        rows.push_str(&gap(width, y, trace.run.reductions - shown));
-        y += ARROW + BETWEEN;
+    if let Some(part) = parts.last_mut() {
+        part.after = trace.run.reductions.saturating_sub(shown);
     }
-    let height = y + TOP / 2 + 8;
-    let lines: String = ids.iter().map(|id| user(*id, at(*id), y, states)).collect();
-    let least = width * 4 / 5;
-    Some(format!(
-        "<svg viewBox=\"0 0 {width} {height}\" style=\"max-width:{width}px;min-width:{least}px\" \
-         role=\"img\" aria-label=\"Who cut whom, from the first reduction down to the last\">\n\
-         {}{lines}{rows}</svg>\n",
-        heads()
-    ))
+    parts
+        .iter()
+        .map(|part| part.picture(&ids, states))
+        .collect()
 }
 
-/// The users who were reduced or lost a purchase, in the order of the book.
-fn involved(trace: &Trace, chapters: &[&Chapter]) -> Vec<u32> {
-    let is_in = |id: u32| {
-        let is_of = |it: &&Chapter| it.id == id || it.cuts.iter().any(|(buyer, _, _)| *buyer == id);
-        chapters.iter().any(is_of)
-    };
-    let ids = trace.opening.users.iter().map(|user| user.id);
-    ids.filter(|id| is_in(*id)).collect()
+/// Chapters that stand in one picture, each with how many reductions before it are
+/// not shown.
+#[derive(Default)]
+struct Part<'a> {
+    chapters: Vec<(u64, &'a Chapter)>,
+    /// The reductions after the last chapter that are not shown.
+    after: u64,
+    ids: Vec<u32>,
+    height: usize,
+}
+
+impl<'a> Part<'a> {
+    fn has_room(&self, chapter: &Chapter) -> bool {
+        let new = involved(chapter)
+            .filter(|id| !self.ids.contains(id))
+            .count();
+        let height = self.height + chapter_height(chapter);
+        self.ids.len() + new <= MOST_USERS && height <= MOST_HEIGHT
+    }
+
+    fn add(&mut self, before: u64, chapter: &'a Chapter) {
+        for id in involved(chapter) {
+            if !self.ids.contains(&id) {
+                self.ids.push(id);
+            }
+        }
+        self.height += chapter_height(chapter);
+        self.chapters.push((before, chapter));
+    }
+
+    /// The picture, with the users in the order of the book.
+    fn picture(&self, book: &[u32], states: &[(u32, &'static str)]) -> String {
+        let ids: Vec<u32> = book
+            .iter()
+            .copied()
+            .filter(|id| self.ids.contains(id))
+            .collect();
+        let between = (FULL / ids.len().max(1)).clamp(NARROW, WIDE);
+        let at = |id: u32| {
+            let place = ids.iter().position(|it| *it == id).unwrap_or(0);
+            SIDE + between * place
+        };
+        let width = 2 * SIDE + between * ids.len().saturating_sub(1);
+        let (mut rows, mut y) = (String::new(), TOP);
+        for (before, chapter) in &self.chapters {
+            if *before > 0 {
+                rows.push_str(&gap(width, y, *before));
+                y += ARROW + BETWEEN;
+            }
+            let (from, number) = (at(chapter.id), number(chapter));
+            let mut beside = mark_width(&number) / 2;
+            let top = y + ARROW / 2;
+            for (buyer, area, mwh) in &chapter.cuts {
+                rows.push_str(&arrow(
+                    (from, at(*buyer)),
+                    beside,
+                    y + ARROW / 2,
+                    (*area, *mwh),
+                ));
+                // The first arrow leaves from the mark, the others from the line.
+                beside = 0;
+                y += ARROW;
+            }
+            rows.push_str(&mark(from, top, y - ARROW / 2, &number));
+            y += BETWEEN;
+        }
+        if self.after > 0 {
+            rows.push_str(&gap(width, y, self.after));
+            y += ARROW + BETWEEN;
+        }
+        let lines: String = ids.iter().map(|id| user(*id, at(*id), y, states)).collect();
+        let (height, least) = (y + BETWEEN, width * 4 / 5);
+        let label = "Who cut whom, from the first reduction down to the last";
+        format!(
+            "<svg viewBox=\"0 0 {width} {height}\" style=\"max-width:{width}px;min-width:{least}px\" \
+             role=\"img\" aria-label=\"{label}\">\n{}{lines}{rows}</svg>\n",
+            heads()
+        )
+    }
+}
+
+/// The height of a chapter, with a line for what is not shown before it.
+fn chapter_height(chapter: &Chapter) -> usize {
+    ARROW * (chapter.cuts.len() + 1) + BETWEEN
+}
+
+/// The user who was reduced, and those who lost a purchase.
+fn involved(chapter: &Chapter) -> impl Iterator<Item = u32> + '_ {
+    let buyers = chapter.cuts.iter().map(|(buyer, _, _)| *buyer);
+    std::iter::once(chapter.id).chain(buyers)
 }
 
 /// The number of a chapter's reduction, or of the first and the last.
@@ -103,18 +165,18 @@ fn heads() -> String {
     format!("<defs>{heads}</defs>\n")
 }
 
-/// A user's name, the line down, and the state at its end.
+/// A user's name, the state after the run below it, and the line down.
 fn user(id: u32, x: usize, end: usize, states: &[(u32, &'static str)]) -> String {
     let state = states
         .iter()
         .find(|(it, _)| *it == id)
         .map_or("", |it| it.1);
-    let (left, foot) = (x - 40, end + 22);
+    let left = x - 40;
     format!(
-        "<line class=\"life\" x1=\"{x}\" y1=\"34\" x2=\"{x}\" y2=\"{end}\"/>\
-         <rect class=\"name\" x=\"{left}\" y=\"6\" width=\"80\" height=\"28\" rx=\"6\"/>\
-         <text class=\"id\" x=\"{x}\" y=\"25\">{id}</text>\
-         <text class=\"state\" x=\"{x}\" y=\"{foot}\">{state}</text>\n"
+        "<line class=\"life\" x1=\"{x}\" y1=\"44\" x2=\"{x}\" y2=\"{end}\"/>\
+         <rect class=\"name\" x=\"{left}\" y=\"4\" width=\"80\" height=\"40\" rx=\"6\"/>\
+         <text class=\"id\" x=\"{x}\" y=\"21\">{id}</text>\
+         <text class=\"state\" x=\"{x}\" y=\"37\">{state}</text>\n"
     )
 }
 

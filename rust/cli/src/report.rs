@@ -6,7 +6,7 @@ use crate::arguments::Arguments;
 use crate::convert::output;
 use crate::explain::MOST;
 use crate::outcome::{Failure, Outcome};
-use crate::picture::picture;
+use crate::picture::pictures;
 use crate::reasons::Asked;
 use crate::refusals::of_call;
 use crate::source::{open, Store};
@@ -110,16 +110,17 @@ impl Day<'_> {
         let ids = self.trace.closing.users.iter().map(|user| user.id);
         let states: Vec<(u32, &'static str)> =
             ids.zip(self.after.iter().map(|it| it.word)).collect();
-        match picture(self.trace, &states) {
-            None => "<h2>Chains of cuts</h2>\n<p>No trade was cut.</p>\n".to_string(),
-            Some(picture) => format!(
-                "<h2>Chains of cuts</h2>\n<p>Down the page in the order of the reductions, \
-                 whose numbers stand in the dark marks: each arrow is a cut, from the seller who \
-                 was reduced to the buyer who lost it. A user's state after the run stands at the \
-                 end of its line.</p>\n\
-                 <div class=\"scroll picture\">{picture}</div>\n"
-            ),
+        let pictures = pictures(self.trace, &states);
+        if pictures.is_empty() {
+            return "<h2>Chains of cuts</h2>\n<p>No trade was cut.</p>\n".to_string();
         }
+        format!(
+            "<h2>Chains of cuts</h2>\n<p>Down the page in the order of the reductions, whose numbers \
+             stand in the dark marks: each arrow is a cut, from the seller who was reduced to the \
+             buyer who lost it. Below a user's name stands its state after the run.</p>\n\
+             <div class=\"scroll\">{}</div>\n",
+            pictures.concat()
+        )
     }
 
     fn reductions(&self) -> String {

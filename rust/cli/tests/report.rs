@@ -113,6 +113,8 @@ fn long_marks() {
         counts: Vec::new(),
         taken: 0,
     };
-    let picture = cli::picture::picture(&trace, &[]).expect("a picture");
-    assert!(picture.contains("10,000,000–20,000,000"));
+    let pictures = cli::picture::pictures(&trace, &[]);
+    assert_eq!(pictures.len(), 1);
+    assert!(pictures[0].contains("10,000,000–20,000,000"));
+    assert!(pictures[0].contains("… 9,999,999 reductions more …"));
 }
