@@ -13,9 +13,9 @@ use crate::text::{aligned, short};
 use crate::words::{grouped, read_whole};
 
 /// A line of the file: a name, or none, and a balance.
-struct Balance {
-    name: String,
-    kwh: i64,
+pub struct Balance {
+    pub name: String,
+    pub kwh: i64,
 }
 
 pub fn shrinkage(arguments: &Arguments) -> Result<Outcome, Failure> {
@@ -96,7 +96,7 @@ fn why(balances: &[Balance]) -> String {
 }
 
 /// A balance a line, a name before it or not; comments after #.
-fn read(file: &str, bytes: &[u8]) -> Result<Vec<Balance>, Failure> {
+pub fn read(file: &str, bytes: &[u8]) -> Result<Vec<Balance>, Failure> {
     let text = String::from_utf8_lossy(bytes);
     let mut balances = Vec::new();
     for (place, line) in text.lines().enumerate() {

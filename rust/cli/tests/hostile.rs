@@ -1,4 +1,4 @@
-//! Hostile texts and CSV files: any input is read or told what is wrong with it,
+//! Hostile texts, CSV files, stores and balances: any input is read or told what is wrong with it,
 //! without a panic, and what is accepted is the same book again.
 //!
 //! DAYBOOK_INPUTS is how many inputs of each form are tried (20,000 where it is
@@ -11,7 +11,7 @@ use std::env;
 use books::{Generator, Kind, Random};
 use cli::draft::{Mistake, Refused, Spot, MOST_MISTAKES};
 use cli::source::{verdict, Verdict};
-use cli::{csv, text};
+use cli::{csv, parameters, text};
 
 fn setting(name: &str, else_this: u64) -> u64 {
     env::var(name).map_or(else_this, |value| value.parse().expect("a number"))
@@ -287,6 +287,53 @@ fn tables() {
         }
     }
     println!("{inputs} tables from seed {seed}: accepted, refused, unread {counts:?}");
+    assert!(
+        counts.iter().all(|count| *count > inputs / 100),
+        "{counts:?}"
+    );
+}
+
+/// Stores as text, and files of balances.
+#[test]
+fn stores_and_balances() {
+    let (inputs, seed) = (
+        setting("DAYBOOK_INPUTS", 20_000),
+        setting("DAYBOOK_SEED", 1),
+    );
+    let mut generator = Generator::new(seed ^ 0x570);
+    let mut counts = [0; 3];
+    let longest = books::stores::longest();
+    for input in 0..inputs {
+        let sets = 1 + usize::try_from(input % 4).unwrap_or(0);
+        let mut store = longest[..6 + 24 * sets].to_vec();
+        store[5] = u8::try_from(sets).unwrap_or(0);
+        let written = parameters::write(&store);
+        let bytes = changed(generator.random(), written.as_bytes());
+        let lines = bytes.split(|byte| *byte == b'\n').count();
+        match parameters::read(&bytes) {
+            Err(mistakes) => {
+                are_told(&mistakes, lines);
+                counts[2] += 1;
+            }
+            Ok(made) => {
+                let refused = parameters::refusal(&made).is_some();
+                assert_eq!(refused, cli::store::malformed(&made).is_some());
+                if !refused {
+                    let again = parameters::read(parameters::write(&made).as_bytes());
+                    assert_eq!(again.as_deref(), Ok(made.as_slice()));
+                }
+                counts[usize::from(refused)] += 1;
+            }
+        }
+        let balances = changed(
+            generator.random(),
+            b"North -100\n50\nSouth East -25 # kWh\n",
+        );
+        if let Ok(balances) = cli::shrinkage::read("a file", &balances) {
+            assert!(balances.iter().all(|balance| !balance.name.is_empty()));
+        }
+    }
+    println!("{inputs} stores from seed {seed}: well formed, refused, unread {counts:?}");
     assert!(
         counts.iter().all(|count| *count > inputs / 100),
         "{counts:?}"
