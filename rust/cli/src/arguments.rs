@@ -45,7 +45,13 @@ impl Arguments {
                 arguments.words.push(word.clone());
                 continue;
             }
-            let option = known.iter().find(|it| word == it.name());
+            // A value may also follow its option after =.
+            let (name, joined) = match word.to_str().and_then(|word| word.split_once('=')) {
+                Some((name, value)) => (OsStr::new(name), Some(OsString::from(value))),
+                None => (word.as_os_str(), None),
+            };
+            let option = known.iter().find(|it| name == it.name());
+            let option = option.filter(|it| joined.is_none() || matches!(it, Known::Value(_)));
             let Some(option) = option else {
                 return Err(Failure::misuse(format!(
                     "{}: no such option",
@@ -57,8 +63,8 @@ impl Arguments {
             }
             match option {
                 Known::Flag(name) => arguments.flags.push(name),
-                Known::Value(name) => match words.next() {
-                    Some(value) => arguments.values.push((name, value.clone())),
+                Known::Value(name) => match joined.or_else(|| words.next().cloned()) {
+                    Some(value) => arguments.values.push((name, value)),
                     None => return Err(Failure::misuse(format!("{name} needs a value"))),
                 },
             }

@@ -119,7 +119,8 @@ fn words(outcome: &mut Outcome, trace: &Trace, figures: &Figures) {
         outcome.text(&step_words(step, figures, least));
     }
     let shown = trace.first.len() + trace.last.len();
-    let unshown = trace.run.reductions - u64::try_from(shown).unwrap_or(0);
+    let shown = u64::try_from(shown).unwrap_or(u64::MAX);
+    let unshown = trace.run.reductions.saturating_sub(shown);
     if unshown > 0 {
         let ending = if unshown == 1 { "" } else { "s" };
         outcome.line(format!(
@@ -149,7 +150,9 @@ fn reduced(trace: &Trace) -> Vec<Vec<String>> {
     for (id, count) in trace.counts.iter().filter(|(_, count)| *count > 0) {
         let trades = trace.opening.trades.iter().zip(&trace.closing.trades);
         let lost = trades.filter(|(trade, _)| trade.seller == *id);
-        let lost: u64 = lost.map(|(a, b)| u64::from(a.standing - b.standing)).sum();
+        let lost: u64 = lost
+            .map(|(a, b)| u64::from(a.standing.saturating_sub(b.standing)))
+            .sum();
         let count = counted(usize::try_from(*count).unwrap_or(usize::MAX), "reduction");
         rows.push(vec![
             "  user".to_string(),

@@ -177,7 +177,7 @@ impl Day<'_> {
         let tariffs = tariffs(&opening.prices);
         let mut rows = String::new();
         for (place, (trade, later)) in opening.trades.iter().zip(&closing.trades).enumerate() {
-            let cut = u64::from(trade.standing - later.standing);
+            let cut = u64::from(trade.standing.saturating_sub(later.standing));
             if cut == 0 {
                 continue;
             }
