@@ -9,7 +9,7 @@ use std::fmt::{self, Display, Formatter};
 
 use daybook::{Book, Trade, User, MOST_TRADES, MOST_USERS, TRADE_LENGTH, USER_LENGTH};
 
-use crate::fields::{fields, prices, two, Field, Place, HEADER_LENGTH, MARK, PRICES};
+use crate::fields::{date_fault, fields, prices, two, Field, Place, HEADER_LENGTH, MARK, PRICES};
 use crate::words::{self, counted, euros, grouped, AREAS};
 
 const MOST_MONEY: u64 = 1_000_000_000_000;
@@ -104,10 +104,22 @@ fn mark(bytes: &[u8]) -> Vec<Fault> {
     if !bytes.starts_with(MARK) {
         let start: Vec<String> = bytes.iter().take(3).map(|it| format!("{it:02x}")).collect();
         let start = start.join(" ");
-        let reason = format!("starts with the bytes [{start}] instead of the mark GDB [47 44 42]");
+        let hint = if is_text(bytes) {
+            "; a text starts with the line `daybook 1`"
+        } else {
+            ""
+        };
+        let reason = format!("starts with [{start}] instead of the mark GDB [47 44 42]{hint}");
         faults.push(header(Field::Mark, reason));
     }
     faults
+}
+
+/// Whether bytes look like a text rather than like a book.
+fn is_text(bytes: &[u8]) -> bool {
+    let start = bytes.get(..64).unwrap_or(bytes);
+    let is_printed = |byte: &u8| byte.is_ascii_graphic() || byte.is_ascii_whitespace();
+    !start.is_empty() && start.iter().all(is_printed)
 }
 
 /// Question 2.
@@ -176,23 +188,6 @@ fn date_and_prices(book: &Book) -> Vec<Fault> {
         }
     }
     faults
-}
-
-/// Why a date is no real Gregorian day of 2020 to 2099.
-pub fn date_fault(date: u32) -> Option<String> {
-    let (year, month, day) = (date / 10_000, date / 100 % 100, date % 100);
-    let shown = words::date(date);
-    if !(2020..=2099).contains(&year) {
-        return Some(format!("date {shown} is not of the years 2020 to 2099"));
-    }
-    let leap = year.is_multiple_of(4);
-    let days = match month {
-        4 | 6 | 9 | 11 => 30,
-        2 => 28 + u32::from(leap),
-        1..=12 => 31,
-        _ => return Some(format!("date {shown} has no month {month}")),
-    };
-    (!(1..=days).contains(&day)).then(|| format!("date {shown} is no day, its month has {days}"))
 }
 
 /// Question 5, but for the zero bytes.

@@ -4,7 +4,7 @@ use std::fmt::{self, Display, Formatter};
 
 use daybook::{Book, Prices, Trade, User, USER_LENGTH};
 
-use crate::words::AREAS;
+use crate::words::{self, AREAS};
 
 /// The mark that a book starts with.
 pub const MARK: &[u8] = b"GDB";
@@ -139,4 +139,21 @@ pub fn two(bytes: &[u8], at: usize) -> Option<u16> {
 pub fn four(bytes: &[u8], at: usize) -> Option<u32> {
     let field = bytes.get(at..)?.first_chunk()?;
     Some(u32::from_le_bytes(*field))
+}
+
+/// Why a date is no real Gregorian day of 2020 to 2099.
+pub fn date_fault(date: u32) -> Option<String> {
+    let (year, month, day) = (date / 10_000, date / 100 % 100, date % 100);
+    let shown = words::date(date);
+    if !(2020..=2099).contains(&year) {
+        return Some(format!("date {shown} is not of the years 2020 to 2099"));
+    }
+    let leap = year.is_multiple_of(4);
+    let days = match month {
+        4 | 6 | 9 | 11 => 30,
+        2 => 28 + u32::from(leap),
+        1..=12 => 31,
+        _ => return Some(format!("date {shown} has no month {month}")),
+    };
+    (!(1..=days).contains(&day)).then(|| format!("date {shown} is no day, its month has {days}"))
 }

@@ -1,7 +1,7 @@
 //! The store of parameter sets in bytes: its sets, the figures that are in force
 //! on a date, shown beside the engine's answers, and why the engine refuses one.
 
-use crate::faults::date_fault;
+use crate::fields::date_fault;
 use crate::words::{counted, date, grouped};
 
 const MARK: &[u8] = b"GPS";

@@ -94,16 +94,15 @@ pub fn user_line(user: &User) -> String {
 
 /// Amounts by area; those of 0 are left out unless all are wanted.
 fn areas(name: &str, amounts: [i32; 3], all: bool) -> String {
-    let mut text = String::new();
-    for (area, amount) in AREAS.iter().zip(amounts) {
-        if all || amount != 0 {
-            let name = if text.is_empty() { name } else { "" };
-            let space = if text.is_empty() { "" } else { " " };
-            let before = if name.is_empty() { "" } else { " " };
-            text.push_str(&format!("{space}{name}{before}{area} {}", grouped(amount)));
-        }
+    let amounts = AREAS.iter().zip(amounts);
+    let wanted = amounts.filter(|(_, amount)| all || *amount != 0);
+    let words: Vec<String> = wanted
+        .map(|(area, amount)| format!("{area} {}", grouped(amount)))
+        .collect();
+    match words.is_empty() {
+        true => String::new(),
+        false => format!("{name} {}", words.join(" ")),
     }
-    text
 }
 
 fn trade_cells(trade: &Trade) -> Cells {
