@@ -10,7 +10,7 @@ use std::fmt::{self, Display, Formatter};
 use daybook::{Book, Trade, User, MOST_TRADES, MOST_USERS, TRADE_LENGTH, USER_LENGTH};
 
 use crate::fields::{date_fault, fields, prices, two, Field, Place, HEADER_LENGTH, MARK, PRICES};
-use crate::words::{self, counted, euros, grouped, AREAS};
+use crate::words::{counted, euros, grouped, AREAS};
 
 const MOST_MONEY: u64 = 1_000_000_000_000;
 const MOST_ENTRY: u32 = 1_000_000;
