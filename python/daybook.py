@@ -37,10 +37,11 @@ from pathlib import Path
 from typing import Callable, NamedTuple, Optional, Sequence, Tuple, Union
 
 __all__ = [
-    "AVB", "BILATERAL", "Book", "CLEARING_HOUSE", "COUNTERPARTY", "GuaranteeCall", "PLATFORM", "PVB", "Posting",
+    "AVB", "BILATERAL", "Book", "CLEARING_HOUSE", "COUNTERPARTY", "Cancellation", "GuaranteeCall", "PLATFORM", "PVB",
+    "Posting", "PostingList",
     "Prices", "QUESTIONS", "Reduction", "Refused", "Return", "Run", "SHIPPER", "Share", "TVB", "Trade", "User",
-    "afternoon_call", "afternoon_level", "level_table", "morning_call", "morning_level", "most_reductions",
-    "over_days", "posting", "read", "reduction", "run", "show", "show_picked", "shrinkage_return", "warning", "write",
+    "afternoon_call", "afternoon_level", "cancellation", "level_table", "morning_call", "morning_level", "most_reductions",
+    "over_days", "posting", "posting_list", "read", "reduction", "run", "show", "show_picked", "shrinkage_return", "warning", "write",
 ]
 
 PVB, TVB, AVB = 0, 1, 2
@@ -67,8 +68,11 @@ QUESTIONS = {
     12: "assigned ≥ level?",
     13: "assigned < level?",
     14: "has the user an eligible trade?",
+    15: "at most 512 lines, columns and places of one count?",
     16: "is the store well formed?",
     17: "has the store a set in force on the book's date?",
+    24: "are all eligible trades together worth the target?",
+    25: "1 to 65,535 tries?",
     27: "every balance within ±500,000,000 kWh?",
     28: "at most 64 users?",
 }
@@ -167,6 +171,23 @@ class Posting(NamedTuple):
     """An accepted posting: the book after it."""
 
     book: bytes
+
+
+class PostingList(NamedTuple):
+    """An accepted list of postings: the number of each line, 0 where it was posted; the book after it."""
+
+    numbers: Tuple[int, ...]
+    book: bytes
+
+
+class Cancellation(NamedTuple):
+    """Whole trades to cancel, by their places in the book from 0; by how much their worth exceeds
+    the target, the tries made, and whether no other set has a smaller excess."""
+
+    trades: Tuple[int, ...]
+    excess: int
+    tries: int
+    complete: bool
 
 
 class GuaranteeCall(NamedTuple):
@@ -347,6 +368,23 @@ def posting(book: Bytes, id: int, area: int, amount: int, store: Optional[Bytes]
     return Posting(after)
 
 
+def posting_list(
+    book: Bytes, lines: Sequence[Tuple[int, int, int]], store: Optional[Bytes] = None
+) -> PostingList:
+    """Makes the postings of a list of id, area and amount one after another, at most 512."""
+    ids = [_in_range("id", line[0], 0, 2**32 - 1) for line in lines]
+    areas = [_in_range("area", line[1], 0, 2**32 - 1) for line in lines]
+    amounts = [_in_range("amount", line[2], -(2**63), 2**63 - 1) for line in lines]
+    count, room = ctypes.c_size_t(len(lines)), max(len(lines), 1)
+    places = (ctypes.c_uint32 * room)()
+    arguments = (
+        (ctypes.c_uint32 * room)(*ids), count, (ctypes.c_uint32 * room)(*areas), count,
+        (ctypes.c_int64 * room)(*amounts), count, places, count,
+    )
+    _, after = _called(_library.daybook_list, book, store, arguments, 0)
+    return PostingList(tuple(places[: len(lines)]), after)
+
+
 def morning_level(book: Bytes, id: int, store: Optional[Bytes] = None) -> int:
     """The morning level of a shipper, in cents."""
     (level,), _ = _called(_library.daybook_morning_level, book, store, (_id(id),), 1)
@@ -387,6 +425,16 @@ def reduction(book: Bytes, id: int, store: Optional[Bytes] = None) -> Reduction:
     """Cuts a shipper's bilateral sales of the day until the level is covered."""
     numbers, after = _called(_library.daybook_reduction, book, store, (_id(id),), 5)
     return Reduction(*numbers, after)
+
+
+def cancellation(book: Bytes, id: int, tries: int = 65_535, store: Optional[Bytes] = None) -> Cancellation:
+    """Whole trades of a shipper that cover what a reduction would be asked for."""
+    marks = (ctypes.c_uint8 * _MOST_TRADES)()
+    number = ctypes.c_uint32(_in_range("tries", tries, 0, 2**32 - 1))
+    arguments = (_id(id), number, marks, ctypes.c_size_t(_MOST_TRADES))
+    (excess, made, complete), _ = _called(_library.daybook_cancellation, book, store, arguments, 3)
+    trades = tuple(place for place, mark in enumerate(marks) if mark)
+    return Cancellation(trades, excess, made, complete != 0)
 
 
 def run(book: Bytes, store: Optional[Bytes] = None) -> Run:

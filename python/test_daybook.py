@@ -208,6 +208,25 @@ class Books(unittest.TestCase):
                 daybook.afternoon_level(self.book, 102, given)
             self.assertEqual(caught.exception.number, number)
 
+    def test_lists(self) -> None:
+        lines = [(101, 0, 500), (7, 0, 1), (102, 3, 1), (102, 2, -20)]
+        posted = daybook.posting_list(self.book, lines)
+        self.assertEqual(posted.numbers, (0, 8, 10, 0))
+        after = daybook.posting(self.book, 101, 0, 500).book
+        self.assertEqual(posted.book, daybook.posting(after, 102, 2, -20).book)
+        self.assertEqual(daybook.posting_list(self.book, []), ((), self.book))
+        with self.assertRaises(daybook.Refused) as caught:
+            daybook.posting_list(self.book, lines * 129)
+        self.assertEqual(caught.exception.number, 15)
+
+    def test_cancellations(self) -> None:
+        self.assertEqual(daybook.cancellation(self.book, 101), ((0,), 30_000_000, 2, True))
+        self.assertEqual(daybook.cancellation(self.book, 101, 1), ((0,), 30_000_000, 1, False))
+        for id, tries, number in [(102, 1, 11), (101, 0, 25), (101, 65_536, 25)]:
+            with self.assertRaises(daybook.Refused) as caught:
+                daybook.cancellation(self.book, id, tries)
+            self.assertEqual(caught.exception.number, number)
+
     def test_arguments_are_not_cut_off(self) -> None:
         for call in (
             lambda: daybook.show(self.book, 2**32 + 101),

@@ -15,14 +15,14 @@ use crate::text;
 use crate::words::{code, euros, grouped, word, AREAS, ROLES};
 
 /// What every call is given.
-struct Call {
-    source: Source,
-    store: Store,
-    json: bool,
+pub struct Call {
+    pub source: Source,
+    pub store: Store,
+    pub json: bool,
 }
 
 impl Call {
-    fn new(arguments: &Arguments) -> Result<Call, Failure> {
+    pub fn new(arguments: &Arguments) -> Result<Call, Failure> {
         keeping(arguments)?;
         let store = Store::open(arguments.path("--store").as_deref())?;
         Ok(Call {
@@ -63,7 +63,8 @@ impl Call {
         Ok(outcome)
     }
 
-    fn tell(&self, outcome: &mut Outcome, line: String, object: Object) {
+    /// An answer in words, or as an object.
+    pub fn tell(&self, outcome: &mut Outcome, line: String, object: Object) {
         match self.json {
             true => outcome.line(object.end()),
             false => outcome.line(line),
@@ -71,14 +72,14 @@ impl Call {
     }
 
     /// A refusal: in words on standard error, or as an object.
-    fn refuse(&self, outcome: &mut Outcome, id: Option<u32>, asked: Asked, refusal: Refusal) {
+    pub fn refuse(&self, outcome: &mut Outcome, id: Option<u32>, asked: Asked, refusal: Refusal) {
         let failure = refusals::of_call(&self.source, &self.store, id, asked, refusal);
         outcome.fail(&failure, self.json);
     }
 }
 
 /// An answer starts with its number, and the user that it is about.
-fn answer(id: u32) -> Object {
+pub fn answer(id: u32) -> Object {
     Object::new().put("number", 0).put("id", id)
 }
 
@@ -333,7 +334,7 @@ fn keeping(arguments: &Arguments) -> Result<(), Failure> {
 }
 
 /// Keeps the changed book where it is asked for.
-fn keep(
+pub fn keep(
     arguments: &Arguments,
     source: &Source,
     bytes: &[u8],

@@ -4,7 +4,7 @@ use std::ffi::OsString;
 
 use crate::arguments::{Arguments, Known};
 use crate::outcome::{Failure, Outcome};
-use crate::{calls, check, convert, explain, parameters, report, shrinkage};
+use crate::{calls, cancel, check, convert, explain, list, parameters, report, shrinkage};
 
 /// A command of the program.
 pub struct Command {
@@ -106,11 +106,25 @@ pub const COMMANDS: &[Command] = &[
         run: calls::post,
     },
     Command {
+        name: "list",
+        about: "the corrections of a CSV file posted one after another",
+        page: include_str!("../help/list.txt"),
+        options: CHANGING,
+        run: list::list,
+    },
+    Command {
         name: "reduce",
         about: "one shipper's sales cut until the level is covered",
         page: include_str!("../help/reduce.txt"),
         options: CHANGING,
         run: calls::reduce,
+    },
+    Command {
+        name: "cancel",
+        about: "whole trades to cancel in place of a reduction",
+        page: include_str!("../help/cancel.txt"),
+        options: &[Known::Value("--tries"), STORE, JSON],
+        run: cancel::cancel,
     },
     Command {
         name: "run",

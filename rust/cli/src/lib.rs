@@ -9,6 +9,7 @@
 
 pub mod arguments;
 pub mod calls;
+pub mod cancel;
 pub mod check;
 pub mod commands;
 pub mod convert;
@@ -20,6 +21,7 @@ pub mod faults;
 pub mod fields;
 pub mod files;
 pub mod json;
+pub mod list;
 pub mod outcome;
 pub mod parameters;
 pub mod picture;

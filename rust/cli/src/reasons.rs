@@ -3,6 +3,7 @@
 
 use daybook::{Book, Level, Refusal, Request, Trade, User};
 
+use crate::cancel::worth;
 use crate::source::Store;
 use crate::store;
 use crate::words::{counted, euros, grouped, wide, word, AREAS};
@@ -19,6 +20,12 @@ pub enum Asked {
     MorningCall,
     AfternoonCall,
     Reduction,
+    Cancellation {
+        tries: u32,
+    },
+    List {
+        lines: usize,
+    },
 }
 
 /// The reason of a refusal for a user of an accepted book.
@@ -35,6 +42,14 @@ pub fn reason(book: &[u8], store: &Store, id: u32, asked: Asked, refusal: Refusa
             let bytes = store.bytes.as_deref().unwrap_or(&[]);
             format!("store: {}", store::not_in_force(bytes, fields.date))
         }
+        (Refusal::Lines, _) => match asked {
+            Asked::List { lines } => format!("the list has {}", counted(lines, "line")),
+            _ => String::new(),
+        },
+        (Refusal::Tries, _) => match asked {
+            Asked::Cancellation { tries } => format!("{} tries", grouped(tries)),
+            _ => String::new(),
+        },
         (Refusal::Id, _) => not_in_the_book(&fields, id),
         (_, Some(user)) => of_user(book, &fields, store, user, asked, refusal),
         (_, None) => String::new(),
@@ -80,6 +95,16 @@ fn of_user(
         }
         Refusal::AssignedBelowLevel => {
             format!("assigned {assigned} EUR covers the level {shown} EUR")
+        }
+        Refusal::WorthOfTrades => {
+            let is_eligible = |place: &usize| {
+                let trade = &book.trades[*place];
+                trade.seller == user.id && trade.can_be_cut()
+            };
+            let places: Vec<usize> = (0..book.trades.len()).filter(is_eligible).collect();
+            let worth = euros(worth(book, &places));
+            let target = euros(i128::from(level) - i128::from(user.assigned));
+            format!("its eligible trades are worth {worth} EUR, below the target {target} EUR")
         }
         Refusal::EligibleTrade => "has no bilateral sale for d that stands above 0".to_string(),
         _ => return String::new(),

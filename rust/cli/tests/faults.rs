@@ -33,7 +33,7 @@ fn agree(book: &[u8]) -> u32 {
 fn the_damaged_books_of_the_engine() {
     let file = concat!(
         env!("CARGO_MANIFEST_DIR"),
-        "/../../crates/damaged/data/books"
+        "/../../crates/try_books/data/books"
     );
     let bytes = std::fs::read(file).expect("books");
     let mut rest = bytes.as_slice();

@@ -7,7 +7,7 @@
 
 mod table;
 
-use daybook::{Book, Trade, User};
+use daybook::{Book, Line, Trade, User};
 
 use self::table::{read_file, Row};
 use crate::draft::{Draft, Mistake, Spot, Spots};
@@ -188,4 +188,29 @@ fn read_trade(row: &Row) -> Result<(Trade, Spots), Mistake> {
             .map(|(place, field)| (field, row.spot(place)))
             .collect(),
     ))
+}
+
+/// The columns of a file of corrections.
+const CORRECTION: [&str; 3] = ["id", "area", "MWh"];
+
+/// The corrections of a CSV file, each with its line in the file; an area is
+/// written by its name or its number.
+pub fn read_corrections(bytes: &[u8]) -> Result<Vec<(usize, Line)>, Vec<Mistake>> {
+    let (mut lines, mut mistakes) = (Vec::new(), Vec::new());
+    read_file("", bytes, &CORRECTION, &[], &mut mistakes, |row| {
+        let line = Line {
+            id: row.whole(0)?,
+            area: match row.code(1, &AREAS) {
+                Ok(area) => u32::from(area),
+                Err(mistake) => row.whole(1).map_err(|_| mistake)?,
+            },
+            amount: row.whole(2)?,
+        };
+        lines.push((row.spot(0).line, line));
+        Ok(())
+    });
+    match mistakes.is_empty() {
+        true => Ok(lines),
+        false => Err(mistakes),
+    }
 }

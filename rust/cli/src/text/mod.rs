@@ -62,7 +62,7 @@ pub fn write(book: &Book, positions: bool) -> String {
 
 /// The cells of a line; amounts, which stand at the right of their column, are
 /// told from words by their first character.
-type Cells = Vec<String>;
+pub type Cells = Vec<String>;
 
 fn user_cells(user: &User, positions: bool) -> Cells {
     let charges = match user.charges {
@@ -105,7 +105,8 @@ fn areas(name: &str, amounts: [i32; 3], all: bool) -> String {
     }
 }
 
-fn trade_cells(trade: &Trade) -> Cells {
+/// The words of a trade's line.
+pub fn trade_cells(trade: &Trade) -> Cells {
     let standing = match trade.standing == trade.notified {
         true => String::new(),
         false => format!("standing {}", grouped(trade.standing)),
