@@ -1,0 +1,482 @@
+"""The proved engine's calls on a gas day's book, for analysts.
+
+A book is its bytes. A call answers what documents 01 and 02 say, or raises
+`Refused` with the number of the first question that is answered by no. Calls
+that change a book leave the one they are given and hand back the book after
+them. Money is in cents, gas in MWh; the return of shrinkage is in kWh.
+
+>>> import daybook
+>>> with open("../samples/day.gdb", "rb") as file:
+...     book = file.read()
+>>> daybook.afternoon_level(book, 101)
+80000000
+>>> day = daybook.run(book)
+>>> day.reductions, day.mwh, day.worth
+(1, 15000, 30000000)
+>>> [user.position for user in daybook.read(day.book).users]
+[(-25000, 0, 0), (15000, 0, 0)]
+>>> daybook.level_table(day.book)
+[(101, 50000000, 50000000), (102, 10000000, 10000000)]
+>>> daybook.posting(book, 103, daybook.PVB, -500)
+Traceback (most recent call last):
+    ...
+daybook.Refused: refused by question 8: id in the book?
+
+Every call but `read` and `write` takes a store of parameter sets in bytes as
+`store=`, or none. `python/build` makes the shared object that is called, from
+the engine's archive; DAYBOOK_LIBRARY names another one.
+"""
+
+from __future__ import annotations
+
+import ctypes
+import os
+import struct
+from dataclasses import dataclass, field
+from pathlib import Path
+from typing import Callable, NamedTuple, Optional, Sequence, Tuple, Union
+
+__all__ = [
+    "AVB", "BILATERAL", "Book", "CLEARING_HOUSE", "COUNTERPARTY", "Cancellation", "GuaranteeCall", "PLATFORM", "PVB",
+    "Posting", "PostingList",
+    "Prices", "QUESTIONS", "Reduction", "Refused", "Return", "Run", "SHIPPER", "Share", "TVB", "Trade", "User",
+    "afternoon_call", "afternoon_level", "cancellation", "level_table", "morning_call", "morning_level", "most_reductions",
+    "over_days", "posting", "posting_list", "read", "reduction", "run", "show", "show_picked", "shrinkage_return", "warning", "write",
+]
+
+PVB, TVB, AVB = 0, 1, 2
+"""The areas."""
+
+SHIPPER, CLEARING_HOUSE = 0, 1
+"""The roles of a user."""
+
+BILATERAL, PLATFORM, COUNTERPARTY = 0, 1, 2
+"""The kinds of a trade."""
+
+QUESTIONS = {
+    1: "at least 32 bytes, starting with the mark?",
+    2: "version 1?",
+    3: "counts in range and length exactly 32 + 56 × users + 20 × trades?",
+    4: "date, prices and tolls in range?",
+    5: "every user field valid, positions apart?",
+    6: "every trade valid?",
+    7: "every position as defined?",
+    8: "id in the book?",
+    9: "a shipper?",
+    10: "area 0 to 2, and the new physical entry within ±1,000,000?",
+    11: "level − blocked > 1,000,000, and, but for the morning call, user called in?",
+    12: "assigned ≥ level?",
+    13: "assigned < level?",
+    14: "has the user an eligible trade?",
+    15: "at most 512 lines, columns and places of one count?",
+    16: "is the store well formed?",
+    17: "has the store a set in force on the book's date?",
+    24: "are all eligible trades together worth the target?",
+    25: "1 to 65,535 tries?",
+    27: "every balance within ±500,000,000 kWh?",
+    28: "at most 64 users?",
+}
+"""The questions by their numbers."""
+
+Bytes = Union[bytes, bytearray, memoryview]
+Areas = Tuple[int, int, int]
+
+_INTERFACE = 2
+_HEADER = struct.Struct("<3sHBH6I")
+_USER = struct.Struct("<IB3x6iqQQ")
+_TRADE = struct.Struct("<IIBBBxII")
+_MOST_USERS = 64
+_MOST_TRADES = 256
+_TRADES_AT = _HEADER.size + _MOST_USERS * _USER.size
+_IMAGE = _TRADES_AT + _MOST_TRADES * _TRADE.size
+
+
+class Refused(Exception):
+    """A refusal: the number of the first question that is answered by no."""
+
+    def __init__(self, number: int) -> None:
+        self.number = number
+        self.question = QUESTIONS.get(number, "")
+        super().__init__(f"refused by question {number}: {self.question}")
+
+
+@dataclass(frozen=True)
+class Prices:
+    """Prices in cents per MWh: the tariffs P and Q, the tolls L, X and I."""
+
+    p: int
+    q: int
+    l: int = 0
+    x: int = 0
+    i: int = 0
+
+
+@dataclass(frozen=True)
+class User:
+    """A user's record. Amounts by area stand in the order PVB, TVB, AVB."""
+
+    id: int
+    role: int = SHIPPER
+    physical: Areas = (0, 0, 0)
+    position: Areas = (0, 0, 0)
+    charges: int = 0
+    assigned: int = 0
+    blocked: int = 0
+
+    @classmethod
+    def _unpacked(cls, record: Bytes) -> User:
+        id_, role, a, b, c, d, e, f, charges, assigned, blocked = _USER.unpack(record)
+        return cls(id_, role, (a, b, c), (d, e, f), charges, assigned, blocked)
+
+    def _packed(self) -> bytes:
+        return _USER.pack(
+            self.id, self.role, *self.physical, *self.position, self.charges, self.assigned, self.blocked
+        )
+
+
+@dataclass(frozen=True)
+class Trade:
+    """A trade's record. `day` is 0 for the gas day d, 1 for d+1."""
+
+    seller: int
+    buyer: int
+    area: int
+    kind: int
+    day: int
+    notified: int
+    standing: int
+
+    @classmethod
+    def _unpacked(cls, record: Bytes) -> Trade:
+        return cls(*_TRADE.unpack(record))
+
+    def _packed(self) -> bytes:
+        return _TRADE.pack(
+            self.seller, self.buyer, self.area, self.kind, self.day, self.notified, self.standing
+        )
+
+
+@dataclass(frozen=True)
+class Book:
+    """The fields of a book. The date is year × 10,000 + month × 100 + day."""
+
+    date: int
+    prices: Prices
+    users: Tuple[User, ...] = field(default=())
+    trades: Tuple[Trade, ...] = field(default=())
+    version: int = 1
+
+
+class Posting(NamedTuple):
+    """An accepted posting: the book after it."""
+
+    book: bytes
+
+
+class PostingList(NamedTuple):
+    """An accepted list of postings: the number of each line, 0 where it was posted; the book after it."""
+
+    numbers: Tuple[int, ...]
+    book: bytes
+
+
+class Cancellation(NamedTuple):
+    """Whole trades to cancel, by their places in the book from 0; by how much their worth exceeds
+    the target, the tries made, and whether no other set has a smaller excess."""
+
+    trades: Tuple[int, ...]
+    excess: int
+    tries: int
+    complete: bool
+
+
+class GuaranteeCall(NamedTuple):
+    """An accepted guarantee call: the level, what was added to blocked, the book after it."""
+
+    level: int
+    added: int
+    book: bytes
+
+
+class Reduction(NamedTuple):
+    """An accepted reduction: MWh cut, their worth, the target T, by how much the worth is
+    short of it or over it, the book after it."""
+
+    mwh: int
+    worth: int
+    target: int
+    short: int
+    over: int
+    book: bytes
+
+
+class Run(NamedTuple):
+    """A finished run: reductions, MWh cut, their worth, the book after it."""
+
+    reductions: int
+    mwh: int
+    worth: int
+    book: bytes
+
+
+class Share(NamedTuple):
+    """What a user gets of a return in kWh, and the remainder of its division."""
+
+    kwh: int
+    remainder: int
+
+
+class Return(NamedTuple):
+    """A return of shrinkage in kWh: H, the odd kWh, each user's share, the rest."""
+
+    half: int
+    odd: int
+    shares: Tuple[Share, ...]
+    rest: int
+
+
+def _opened() -> ctypes.CDLL:
+    """The shared object, whose interface has to be the one that this module is written for."""
+    beside = Path(__file__).resolve().parent.parent / "target" / "python" / "libdaybook.so"
+    path = os.environ.get("DAYBOOK_LIBRARY") or str(beside)
+    if not os.path.exists(path):
+        raise ImportError(f"no {path}: run python/build, or name the shared object in DAYBOOK_LIBRARY")
+    library = ctypes.CDLL(os.path.abspath(path))
+    if library.daybook_interface() != _INTERFACE:
+        raise ImportError(f"{path} has another interface than {_INTERFACE}: run python/build")
+    return library
+
+
+_library = _opened()
+
+
+class _Part:
+    """Bytes as the engine takes them: a copy of its own that is never null, with its length."""
+
+    def __init__(self, data: Bytes) -> None:
+        self.length = len(data)
+        self.memory = ctypes.create_string_buffer(bytes(data), max(self.length, 1))
+
+    @property
+    def bytes(self) -> bytes:
+        return self.memory.raw[: self.length]
+
+    @property
+    def arguments(self) -> tuple[object, ...]:
+        return (self.memory, ctypes.c_size_t(self.length))
+
+
+def _store(store: Optional[Bytes]) -> tuple[object, ...]:
+    """A store, or none, as the three arguments of a C function."""
+    return (ctypes.c_uint32(store is not None), *_Part(b"" if store is None else store).arguments)
+
+
+def _in_range(name: str, number: int, least: int, most: int) -> int:
+    """A number that its argument can hold; nothing is cut off."""
+    if not least <= number <= most:
+        raise ValueError(f"{name} {number} is not within {least} to {most}")
+    return number
+
+
+def _id(number: int) -> ctypes.c_uint32:
+    return ctypes.c_uint32(_in_range("id", number, 0, 2**32 - 1))
+
+
+def _answered(number: int) -> None:
+    if number != 0:
+        raise Refused(number)
+
+
+def _called(
+    function: Callable[..., int], book: Bytes, store: Optional[Bytes], arguments: Sequence[object], numbers: int
+) -> tuple[list[int], bytes]:
+    """Makes a call on a copy of the book: the numbers of its answer, and the book after it."""
+    part = _Part(book)
+    answer = (ctypes.c_uint64 * max(numbers, 1))()
+    lent = (answer, ctypes.c_size_t(numbers)) if numbers else ()
+    _answered(function(*part.arguments, *_store(store), *arguments, *lent))
+    return list(answer)[:numbers], part.bytes
+
+
+def read(book: Bytes) -> Book:
+    """The fields of a book."""
+    image = _Part(bytes(_IMAGE))
+    _answered(_library.daybook_read(*_Part(book).arguments, *image.arguments))
+    data = image.bytes
+    _, version, users, trades, date, p, q, l, x, i = _HEADER.unpack_from(data)
+    user_records = (data[_HEADER.size + _USER.size * place :][: _USER.size] for place in range(users))
+    trade_records = (data[_TRADES_AT + _TRADE.size * place :][: _TRADE.size] for place in range(trades))
+    return Book(
+        date,
+        Prices(p, q, l, x, i),
+        tuple(User._unpacked(record) for record in user_records),
+        tuple(Trade._unpacked(record) for record in trade_records),
+        version,
+    )
+
+
+def write(book: Book) -> bytes:
+    """The bytes of a book's fields. A number that its field cannot hold raises `struct.error`."""
+    users, trades = len(book.users), len(book.trades)
+    prices = book.prices
+    header = _HEADER.pack(
+        b"GDB", book.version, min(users, 255), min(trades, 65535), book.date,
+        prices.p, prices.q, prices.l, prices.x, prices.i,
+    )
+    image = bytearray(_IMAGE)
+    image[: _HEADER.size] = header
+    for place, user in enumerate(book.users[:_MOST_USERS]):
+        at = _HEADER.size + _USER.size * place
+        image[at : at + _USER.size] = user._packed()
+    for place, trade in enumerate(book.trades[:_MOST_TRADES]):
+        at = _TRADES_AT + _TRADE.size * place
+        image[at : at + _TRADE.size] = trade._packed()
+    part = _Part(bytes(_HEADER.size + _USER.size * users + _TRADE.size * trades))
+    _answered(_library.daybook_write(*_Part(image).arguments, *part.arguments))
+    return part.bytes
+
+
+def show(book: Bytes, id: int, store: Optional[Bytes] = None) -> User:
+    """The record of a user."""
+    record = _Part(bytes(_USER.size))
+    _answered(_library.daybook_show(*_Part(book).arguments, *_store(store), _id(id), *record.arguments))
+    return User._unpacked(record.bytes)
+
+
+def show_picked(
+    morning: Bytes, afternoon: Bytes, afternoon_picked: bool, id: int, store: Optional[Bytes] = None
+) -> User:
+    """The record of a user of the picked one of two books; only that one is questioned."""
+    record = _Part(bytes(_USER.size))
+    _answered(
+        _library.daybook_show_picked(
+            *_Part(morning).arguments, *_Part(afternoon).arguments, *_store(store),
+            ctypes.c_uint32(afternoon_picked), _id(id), *record.arguments,
+        )
+    )
+    return User._unpacked(record.bytes)
+
+
+def posting(book: Bytes, id: int, area: int, amount: int, store: Optional[Bytes] = None) -> Posting:
+    """Adds a signed amount of MWh to a user's physical entry and position in an area."""
+    arguments = (
+        _id(id),
+        ctypes.c_uint32(_in_range("area", area, 0, 2**32 - 1)),
+        ctypes.c_int64(_in_range("amount", amount, -(2**63), 2**63 - 1)),
+    )
+    _, after = _called(_library.daybook_posting, book, store, arguments, 0)
+    return Posting(after)
+
+
+def posting_list(
+    book: Bytes, lines: Sequence[Tuple[int, int, int]], store: Optional[Bytes] = None
+) -> PostingList:
+    """Makes the postings of a list of id, area and amount one after another, at most 512."""
+    ids = [_in_range("id", line[0], 0, 2**32 - 1) for line in lines]
+    areas = [_in_range("area", line[1], 0, 2**32 - 1) for line in lines]
+    amounts = [_in_range("amount", line[2], -(2**63), 2**63 - 1) for line in lines]
+    count, room = ctypes.c_size_t(len(lines)), max(len(lines), 1)
+    places = (ctypes.c_uint32 * room)()
+    arguments = (
+        (ctypes.c_uint32 * room)(*ids), count, (ctypes.c_uint32 * room)(*areas), count,
+        (ctypes.c_int64 * room)(*amounts), count, places, count,
+    )
+    _, after = _called(_library.daybook_list, book, store, arguments, 0)
+    return PostingList(tuple(places[: len(lines)]), after)
+
+
+def morning_level(book: Bytes, id: int, store: Optional[Bytes] = None) -> int:
+    """The morning level of a shipper, in cents."""
+    (level,), _ = _called(_library.daybook_morning_level, book, store, (_id(id),), 1)
+    return level
+
+
+def afternoon_level(book: Bytes, id: int, store: Optional[Bytes] = None) -> int:
+    """The afternoon level of a shipper, in cents."""
+    (level,), _ = _called(_library.daybook_afternoon_level, book, store, (_id(id),), 1)
+    return level
+
+
+def level_table(book: Bytes, store: Optional[Bytes] = None) -> list[tuple[int, int, int]]:
+    """Id, morning and afternoon level of every shipper of the book."""
+    shippers = [user.id for user in read(book).users if user.role == SHIPPER]
+    return [(id, morning_level(book, id, store), afternoon_level(book, id, store)) for id in shippers]
+
+
+def morning_call(book: Bytes, id: int, store: Optional[Bytes] = None) -> GuaranteeCall:
+    """Raises a shipper's blocked guarantee to the morning level."""
+    (level, added), after = _called(_library.daybook_morning_call, book, store, (_id(id),), 2)
+    return GuaranteeCall(level, added, after)
+
+
+def afternoon_call(book: Bytes, id: int, store: Optional[Bytes] = None) -> GuaranteeCall:
+    """Raises a shipper's blocked guarantee to the afternoon level."""
+    (level, added), after = _called(_library.daybook_afternoon_call, book, store, (_id(id),), 2)
+    return GuaranteeCall(level, added, after)
+
+
+def warning(book: Bytes, id: int, store: Optional[Bytes] = None) -> bool:
+    """Whether a shipper is warned at midday."""
+    (warned,), _ = _called(_library.daybook_warning, book, store, (_id(id),), 1)
+    return warned != 0
+
+
+def reduction(book: Bytes, id: int, store: Optional[Bytes] = None) -> Reduction:
+    """Cuts a shipper's bilateral sales of the day until the level is covered."""
+    numbers, after = _called(_library.daybook_reduction, book, store, (_id(id),), 5)
+    return Reduction(*numbers, after)
+
+
+def cancellation(book: Bytes, id: int, tries: int = 65_535, store: Optional[Bytes] = None) -> Cancellation:
+    """Whole trades of a shipper that cover what a reduction would be asked for."""
+    marks = (ctypes.c_uint8 * _MOST_TRADES)()
+    number = ctypes.c_uint32(_in_range("tries", tries, 0, 2**32 - 1))
+    arguments = (_id(id), number, marks, ctypes.c_size_t(_MOST_TRADES))
+    (excess, made, complete), _ = _called(_library.daybook_cancellation, book, store, arguments, 3)
+    trades = tuple(place for place, mark in enumerate(marks) if mark)
+    return Cancellation(trades, excess, made, complete != 0)
+
+
+def run(book: Bytes, store: Optional[Bytes] = None) -> Run:
+    """Reduces the lowest id that is short of cover and has an eligible trade, while there is one."""
+    numbers, after = _called(_library.daybook_run, book, store, (), 3)
+    return Run(*numbers, after)
+
+
+def most_reductions(book: Bytes) -> int:
+    """The most reductions that a run of this book can report: the MWh standing in its bilateral
+    trades for d."""
+    trades = read(book).trades
+    return sum(trade.standing for trade in trades if (trade.kind, trade.day) == (BILATERAL, 0))
+
+
+def shrinkage_return(balances: Sequence[int]) -> Return:
+    """The return of retained shrinkage for the users' balances in kWh.
+
+    >>> shrinkage_return([-100, 50, -25])
+    Return(half=37, odd=1, shares=(Share(kwh=29, remainder=75), Share(kwh=0, remainder=0), Share(kwh=7, remainder=50)), rest=1)
+    """
+    for balance in balances:
+        _in_range("balance", balance, -(2**63), 2**63 - 1)
+    lent = (ctypes.c_int64 * max(len(balances), 1))(*balances)
+    answer = (ctypes.c_uint64 * (3 + 2 * _MOST_USERS))()
+    _answered(
+        _library.daybook_shrinkage_return(
+            lent, ctypes.c_size_t(len(balances)), answer, ctypes.c_size_t(len(answer))
+        )
+    )
+    half, odd, rest, *users = answer
+    shares = zip(users[: len(balances)], users[_MOST_USERS:])
+    return Return(half, odd, tuple(Share(*share) for share in shares), rest)
+
+
+def over_days(share: int) -> list[int]:
+    """A share over 30 days.
+
+    >>> over_days(31)[:3]
+    [2, 1, 1]
+    """
+    days = (ctypes.c_uint64 * 30)()
+    whole = ctypes.c_uint64(_in_range("share", share, 0, 2**64 - 1))
+    _answered(_library.daybook_shrinkage_days(whole, days, ctypes.c_size_t(len(days))))
+    return list(days)

@@ -1,0 +1,61 @@
+//! `daybook check`: the verdict on each book, and where it fails.
+
+use std::path::Path;
+
+use daybook::Refusal;
+
+use crate::arguments::Arguments;
+use crate::files;
+use crate::json::Object;
+use crate::outcome::{Failure, Outcome};
+use crate::reasons::{reason, Asked};
+use crate::refusals;
+use crate::source::{accepted, Source, Store};
+use crate::words::{counted, date};
+
+pub fn check(arguments: &Arguments) -> Result<Outcome, Failure> {
+    arguments.expect(1, usize::MAX, "check BOOK.. [--store FILE] [--json]")?;
+    let store = Store::open(arguments.path("--store").as_deref())?;
+    let json = arguments.has("--json");
+    let mut outcome = Outcome::default();
+    for file in arguments.rest(0) {
+        let path = Path::new(file);
+        let name = files::shown(path);
+        let verdict = files::read(path)
+            .and_then(|bytes| accepted(&name, bytes))
+            .and_then(|source| with_store(source, &store));
+        match verdict {
+            Err(failure) => outcome.fail(&failure, json),
+            Ok(source) => outcome.line(told(&source, json)),
+        }
+    }
+    Ok(outcome)
+}
+
+/// An accepted book whose store is not refused: 0 is the id of no user, so that a
+/// shown record asks all the questions before the eighth, and is refused by it.
+fn with_store(source: Source, store: &Store) -> Result<Source, Failure> {
+    match store.request().show(&source.bytes, 0) {
+        Err(refusal) if refusal != Refusal::Id => {
+            let reason = reason(&source.bytes, store, 0, Asked::Plain, refusal);
+            Err(refusals::of_store(&source.name, refusal, &reason))
+        }
+        _ => Ok(source),
+    }
+}
+
+/// An accepted book in a line.
+fn told(source: &Source, json: bool) -> String {
+    let name = &source.name;
+    let (day, users, trades) = match daybook::read(&source.bytes) {
+        Ok(book) => (date(book.date), book.users.len(), book.trades.len()),
+        Err(_) => (String::new(), 0, 0),
+    };
+    if json {
+        let object = Object::new().string("book", name).put("accepted", true);
+        let object = object.put("number", 0).string("date", &day);
+        return object.put("users", users).put("trades", trades).end();
+    }
+    let (users, trades) = (counted(users, "user"), counted(trades, "trade"));
+    format!("{name}: accepted: {day}, {users}, {trades}")
+}

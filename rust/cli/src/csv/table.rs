@@ -1,0 +1,258 @@
+//! A CSV file row by row, its fields asked for by the names over the columns.
+
+use crate::draft::{Mistake, Spot, MOST_MISTAKES};
+use crate::text::short;
+use crate::words::{code, read_date, read_euros, read_whole};
+
+/// Reads a file row by row; names that are optional may be missing.
+pub fn read_file(
+    file: &'static str,
+    bytes: &[u8],
+    names: &[&str],
+    optional: &[&str],
+    mistakes: &mut Vec<Mistake>,
+    mut take: impl FnMut(&Row) -> Result<(), Mistake>,
+) {
+    let bytes = bytes.strip_prefix(b"\xef\xbb\xbf").unwrap_or(bytes);
+    let at = |line: usize| Spot {
+        file,
+        line,
+        column: 1,
+    };
+    let text = match std::str::from_utf8(bytes) {
+        Ok(text) => text,
+        Err(error) => {
+            let before = &bytes[..error.valid_up_to()];
+            let line = before.iter().filter(|byte| **byte == b'\n').count() + 1;
+            let reason = "the file is not in UTF-8 here".to_string();
+            mistakes.push(Mistake {
+                spot: at(line),
+                reason,
+            });
+            return;
+        }
+    };
+    let semicolons = text.lines().next().is_some_and(|line| line.contains(';'));
+    let separator = if semicolons { ';' } else { ',' };
+    let mut columns: Option<Vec<Option<usize>>> = None;
+    for (place, line) in text.lines().enumerate() {
+        if line.trim().trim_matches(separator).is_empty() {
+            continue;
+        }
+        let read = cells(file, place + 1, line, separator).and_then(|cells| match &columns {
+            None => {
+                columns = Some(columns_of(&cells, names, optional, at(place + 1))?);
+                Ok(())
+            }
+            Some(columns) => {
+                let row = Row {
+                    names,
+                    columns,
+                    cells: &cells,
+                    end: at(place + 1),
+                    decimal_comma: semicolons,
+                };
+                row.count()?;
+                take(&row)
+            }
+        });
+        if let Err(mistake) = read {
+            mistakes.push(mistake);
+            if mistakes.len() >= MOST_MISTAKES || columns.is_none() {
+                return;
+            }
+        }
+    }
+    if columns.is_none() {
+        let reason = format!("the first line has the names {}", names.join(","));
+        mistakes.push(Mistake {
+            spot: at(1),
+            reason,
+        });
+    }
+}
+
+/// For each name the column that it stands over.
+fn columns_of(
+    cells: &[Cell],
+    names: &[&str],
+    optional: &[&str],
+    start: Spot,
+) -> Result<Vec<Option<usize>>, Mistake> {
+    for (place, cell) in cells.iter().enumerate() {
+        let same = |it: &str| it.eq_ignore_ascii_case(&cell.text);
+        let reason = if !names.iter().any(|name| same(name)) {
+            format!(
+                "`{}` is none of the names {}",
+                short(&cell.text),
+                names.join(",")
+            )
+        } else if cells[..place].iter().any(|before| same(&before.text)) {
+            format!("a second column {}", short(&cell.text))
+        } else {
+            continue;
+        };
+        return Err(Mistake {
+            spot: cell.spot,
+            reason,
+        });
+    }
+    let mut columns = Vec::new();
+    for name in names {
+        let column = cells
+            .iter()
+            .position(|cell| cell.text.eq_ignore_ascii_case(name));
+        if column.is_none() && !optional.contains(name) {
+            let reason = format!("the column {name} is missing");
+            return Err(Mistake {
+                spot: start,
+                reason,
+            });
+        }
+        columns.push(column);
+    }
+    Ok(columns)
+}
+
+/// A field of a row, without its quotes and the blanks around it.
+#[derive(Clone, Debug)]
+struct Cell {
+    text: String,
+    spot: Spot,
+}
+
+/// The fields of a line. A field in quotes may have the separator in it, and a
+/// quote written twice.
+fn cells(
+    file: &'static str,
+    line: usize,
+    text: &str,
+    separator: char,
+) -> Result<Vec<Cell>, Mistake> {
+    let mut cells = Vec::new();
+    let mut cell = String::new();
+    let (mut start, mut quoted) = (1, false);
+    let spot = |column: usize| Spot { file, line, column };
+    let mut characters = text.chars().enumerate().peekable();
+    while let Some((place, character)) = characters.next() {
+        match character {
+            '"' if quoted && characters.peek().is_some_and(|(_, next)| *next == '"') => {
+                characters.next();
+                cell.push('"');
+            }
+            '"' => quoted = !quoted,
+            _ if character == separator && !quoted => {
+                cells.push(Cell {
+                    text: cell.trim().to_string(),
+                    spot: spot(start),
+                });
+                cell.clear();
+                start = place + 2;
+            }
+            _ => cell.push(character),
+        }
+    }
+    if quoted {
+        return Err(Mistake {
+            spot: spot(start),
+            reason: "the field's closing quote is missing".to_string(),
+        });
+    }
+    cells.push(Cell {
+        text: cell.trim().to_string(),
+        spot: spot(start),
+    });
+    Ok(cells)
+}
+
+/// A row, asked for by the places of the names.
+pub struct Row<'a> {
+    names: &'a [&'a str],
+    columns: &'a [Option<usize>],
+    cells: &'a [Cell],
+    /// Where the row is, for a field that it lacks.
+    end: Spot,
+    decimal_comma: bool,
+}
+
+impl Row<'_> {
+    fn cell(&self, name: usize) -> Option<&Cell> {
+        let column = self.columns.get(name).copied().flatten()?;
+        self.cells.get(column)
+    }
+
+    fn text(&self, name: usize) -> &str {
+        self.cell(name).map_or("", |cell| cell.text.as_str())
+    }
+
+    pub fn spot(&self, name: usize) -> Spot {
+        self.cell(name).map_or(self.end, |cell| cell.spot)
+    }
+
+    pub fn is_empty(&self, name: usize) -> bool {
+        self.text(name).is_empty()
+    }
+
+    pub fn mistake(&self, name: usize, reason: String) -> Mistake {
+        Mistake {
+            spot: self.spot(name),
+            reason,
+        }
+    }
+
+    /// No field stands past the last column.
+    fn count(&self) -> Result<(), Mistake> {
+        let columns = self.columns.iter().flatten().count();
+        match self.cells.get(columns..) {
+            Some(rest) if rest.iter().any(|cell| !cell.text.is_empty()) => {
+                let reason = format!("{} fields in {columns} columns", self.cells.len());
+                Err(Mistake {
+                    spot: rest[0].spot,
+                    reason,
+                })
+            }
+            _ => Ok(()),
+        }
+    }
+
+    fn wrong(&self, name: usize, what: &str) -> Mistake {
+        let text = short(self.text(name));
+        self.mistake(name, format!("{} {what}, not `{text}`", self.names[name]))
+    }
+
+    pub fn whole<T: TryFrom<i128>>(&self, name: usize) -> Result<T, Mistake> {
+        let text = self.text(name);
+        let number = (!text.contains(',')).then(|| read_whole(text)).flatten();
+        let number = number.ok_or_else(|| self.wrong(name, "is a whole number"))?;
+        T::try_from(number).map_err(|_| self.wrong(name, "has to fit its field"))
+    }
+
+    /// Euros with at most two decimals; spreadsheets drop zeros at the end.
+    pub fn money<T: TryFrom<i128>>(&self, name: usize) -> Result<T, Mistake> {
+        let text = self.text(name);
+        let point = match self.decimal_comma {
+            true => text.replace(',', "."),
+            false => text.to_string(),
+        };
+        let padded = match point.split_once('.') {
+            None => format!("{point}.00"),
+            Some((_, decimals)) if decimals.len() == 1 => format!("{point}0"),
+            Some(_) => point,
+        };
+        let cents = (!padded.contains(','))
+            .then(|| read_euros(&padded))
+            .flatten();
+        let cents = cents.ok_or_else(|| self.wrong(name, "is euros, as 1234.50"))?;
+        T::try_from(cents).map_err(|_| self.wrong(name, "has to fit its field"))
+    }
+
+    pub fn date(&self, name: usize) -> Result<u32, Mistake> {
+        let wrong = || self.wrong(name, "is written as 2026-03-18");
+        read_date(self.text(name)).ok_or_else(wrong)
+    }
+
+    pub fn code(&self, name: usize, among: &[&str]) -> Result<u8, Mistake> {
+        let one_of = format!("is one of {}", among.join(", "));
+        code(among, self.text(name)).ok_or_else(|| self.wrong(name, &one_of))
+    }
+}

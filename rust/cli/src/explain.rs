@@ -1,0 +1,260 @@
+//! `daybook explain`: a run in words, reduction by reduction.
+
+use crate::arguments::Arguments;
+use crate::calls::{reduction_object, run_line};
+use crate::json::{list, Object};
+use crate::outcome::{Failure, Outcome};
+use crate::reasons::Asked;
+use crate::refusals::of_call;
+use crate::source::{open, Store};
+use crate::store::{figures, Figures};
+use crate::text::aligned;
+use crate::trace::{reference_prices, trace, Extent, Sale, Step, Tier, Trace};
+use crate::words::{counted, euros, grouped, word, AREAS};
+
+/// How many reductions are shown of a long run.
+const FIRST: usize = 5;
+const LAST: usize = 3;
+
+/// How many are made one by one unless another number is asked for.
+pub const MOST: u64 = 1_000_000;
+
+pub fn explain(arguments: &Arguments) -> Result<Outcome, Failure> {
+    let usage = "explain BOOK [--all] [--steps N] [--store FILE] [--json]";
+    arguments.expect(1, 1, usage)?;
+    let source = open(arguments.file(0))?;
+    let store = Store::open(arguments.path("--store").as_deref())?;
+    let most = arguments.number("--steps")?.unwrap_or(MOST);
+    let extent = match arguments.has("--all") {
+        true => Extent {
+            first: usize::try_from(most).unwrap_or(usize::MAX),
+            last: 0,
+            chapters: (0, 0),
+            most,
+        },
+        false => Extent {
+            first: FIRST,
+            last: LAST,
+            chapters: (0, 0),
+            most,
+        },
+    };
+    let figures = match daybook::read(&source.bytes) {
+        Ok(book) => figures(store.bytes.as_deref(), book.date),
+        Err(refusal) => return Err(of_call(&source, &store, None, Asked::Plain, refusal)),
+    };
+    let trace = trace(store.request(), &figures, &source.bytes, extent)
+        .map_err(|refusal| of_call(&source, &store, None, Asked::Plain, refusal))?;
+    let mut outcome = Outcome::default();
+    match arguments.has("--json") {
+        true => objects(&mut outcome, &trace),
+        false => words(&mut outcome, &trace, &figures),
+    }
+    Ok(outcome)
+}
+
+fn objects(outcome: &mut Outcome, trace: &Trace) {
+    for step in trace.first.iter().chain(&trace.last) {
+        outcome.line(step_object(step));
+    }
+    let run = &trace.run;
+    let object = Object::new()
+        .put("reductions", run.reductions)
+        .put("taken_apart", trace.taken)
+        .put("mwh", run.mwh)
+        .put("worth_cents", run.worth);
+    outcome.line(object.end());
+}
+
+fn step_object(step: &Step) -> String {
+    let object = Object::new()
+        .put("reduction", step.number)
+        .put("id", step.user.id)
+        .put("level_cents", step.level)
+        .put("assigned_cents", step.user.assigned)
+        .put("blocked_cents", step.user.blocked)
+        .put("flagged", step.called_in.is_flagged())
+        .put("party_to_cut", step.called_in.party);
+    let moves = step.moves.iter().map(|it| {
+        Object::new()
+            .put("id", it.id)
+            .string("area", AREAS[it.area])
+            .put("before_mwh", it.before)
+            .put("after_mwh", it.after)
+            .end()
+    });
+    let next = step
+        .next
+        .map_or_else(|| "null".to_string(), |id| id.to_string());
+    reduction_object(object, &step.answer)
+        .put("tiers", list(step.tiers.iter().map(tier_object)))
+        .put("moves", list(moves))
+        .put("next", next)
+        .end()
+}
+
+fn tier_object(tier: &Tier) -> String {
+    let sales = tier.sales.iter().map(|sale| {
+        Object::new()
+            .put("trade", sale.place + 1)
+            .put("buyer", sale.trade.buyer)
+            .string("area", &word(&AREAS, sale.trade.area))
+            .put("standing_mwh", sale.trade.standing)
+            .put("share_mwh", sale.share)
+            .put("remainder", sale.remainder)
+            .put("cut_mwh", sale.cut)
+            .end()
+    });
+    Object::new()
+        .put("asked_cents", tier.asked)
+        .put("worth_cents", tier.worth)
+        .put("sales", list(sales))
+        .end()
+}
+
+fn words(outcome: &mut Outcome, trace: &Trace, figures: &Figures) {
+    let least = reference_prices(&trace.opening.prices).into_iter().min();
+    let least = least.unwrap_or(0);
+    for step in &trace.first {
+        outcome.text(&step_words(step, figures, least));
+    }
+    let shown = trace.first.len() + trace.last.len();
+    let shown = u64::try_from(shown).unwrap_or(u64::MAX);
+    let unshown = trace.run.reductions.saturating_sub(shown);
+    if unshown > 0 {
+        let ending = if unshown == 1 { "" } else { "s" };
+        outcome.line(format!(
+            "... {} reduction{ending} more ...\n",
+            grouped(unshown)
+        ));
+    }
+    for step in &trace.last {
+        outcome.text(&step_words(step, figures, least));
+    }
+    outcome.line(format!("run: {}", run_line(&trace.run)));
+    let rows: Vec<Vec<String>> = reduced(trace);
+    outcome.text(&aligned(&rows));
+    if trace.taken < trace.run.reductions {
+        let taken = grouped(trace.taken);
+        let reason = "the users' reductions are counted up to there, and the last are not shown";
+        outcome.line(format!(
+            "taken apart up to reduction {taken} (--steps N): {reason}"
+        ));
+    }
+}
+
+/// A line for each user that was reduced: how often, and what it lost. The MWh
+/// are what its sales stand lower after the run than before.
+fn reduced(trace: &Trace) -> Vec<Vec<String>> {
+    let mut rows = Vec::new();
+    for (id, count) in trace.counts.iter().filter(|(_, count)| *count > 0) {
+        let trades = trace.opening.trades.iter().zip(&trace.closing.trades);
+        let lost = trades.filter(|(trade, _)| trade.seller == *id);
+        let lost: u64 = lost
+            .map(|(a, b)| u64::from(a.standing.saturating_sub(b.standing)))
+            .sum();
+        let count = counted(usize::try_from(*count).unwrap_or(usize::MAX), "reduction");
+        rows.push(vec![
+            "  user".to_string(),
+            format!("{id}:"),
+            format!("{count},"),
+            grouped(lost),
+            "MWh cut".to_string(),
+        ]);
+    }
+    rows
+}
+
+fn step_words(step: &Step, figures: &Figures, least: u64) -> String {
+    let user = &step.user;
+    let mut text = format!(
+        "reduction {}: user {} is short of cover\n",
+        grouped(step.number),
+        user.id
+    );
+    let (level, assigned) = (euros(step.level), euros(user.assigned));
+    let target = euros(step.answer.target);
+    text.push_str(&format!(
+        "  afternoon level {level} - assigned {assigned} = target T {target} EUR\n"
+    ));
+    let lacking = euros(i128::from(step.level) - i128::from(user.blocked));
+    let (blocked, margin) = (euros(user.blocked), euros(figures.margin));
+    text.push_str(&format!(
+        "  level - blocked {blocked} = {lacking} EUR, above {margin} EUR\n"
+    ));
+    text.push_str(&called_in_words(step, figures, least));
+    for (name, tier) in ["one, where its position is negative", "two, elsewhere"]
+        .iter()
+        .zip(&step.tiers)
+    {
+        text.push_str(&tier_words(name, tier));
+    }
+    let (mwh, worth) = (grouped(step.answer.mwh), euros(step.answer.worth));
+    let left = match (step.answer.short, step.answer.over) {
+        (0, 0) => "T is met exactly".to_string(),
+        (0, over) => format!("{} EUR over T", euros(over)),
+        (short, _) => format!("{} EUR short of T", euros(short)),
+    };
+    text.push_str(&format!("  cut: {mwh} MWh worth {worth} EUR, {left}\n"));
+    let moves = step.moves.iter().map(|it| {
+        let (before, after) = (grouped(it.before), grouped(it.after));
+        format!("{} {} {before} to {after}", it.id, AREAS[it.area])
+    });
+    let moves: Vec<String> = moves.collect();
+    text.push_str(&format!("  positions: {}\n", moves.join("; ")));
+    text.push_str(&match step.next {
+        Some(id) => format!("  next: {id}\n\n"),
+        None => "  next: nobody\n\n".to_string(),
+    });
+    text
+}
+
+fn called_in_words(step: &Step, figures: &Figures, least: u64) -> String {
+    let called_in = &step.called_in;
+    let mut reasons = Vec::new();
+    if called_in.is_flagged() {
+        let (worth, limit) = (euros(called_in.short_worth), euros(called_in.limit));
+        let (mwh, price) = (grouped(figures.flag_mwh), euros(least));
+        reasons.push(format!(
+            "flagged, its short positions less blocked are worth {worth} EUR, above {limit} EUR \
+             ({mwh} MWh at {price})"
+        ));
+    }
+    if called_in.party {
+        reasons.push("party to a trade standing below notified".to_string());
+    }
+    format!("  called in: {}\n", reasons.join("; "))
+}
+
+fn tier_words(name: &str, tier: &Tier) -> String {
+    if tier.sales.is_empty() {
+        return format!("  tier {name}: no sale to cut\n");
+    }
+    let (asked, worth) = (euros(tier.asked), euros(tier.worth));
+    let how = match tier.asked {
+        0 => "is asked for nothing".to_string(),
+        _ if tier.asked >= tier.worth => format!("asked for {asked}, worth {worth} EUR: cut whole"),
+        _ => format!("asked for A {asked} of V {worth} EUR: shares of standing x A / V"),
+    };
+    let rows: Vec<Vec<String>> = tier.sales.iter().map(sale_cells).collect();
+    format!("  tier {name}: {how}\n{}", aligned(&rows))
+}
+
+fn sale_cells(sale: &Sale) -> Vec<String> {
+    let trade = &sale.trade;
+    vec![
+        "    trade".to_string(),
+        (sale.place + 1).to_string(),
+        "to".to_string(),
+        trade.buyer.to_string(),
+        word(&AREAS, trade.area),
+        "standing".to_string(),
+        grouped(trade.standing),
+        "share".to_string(),
+        grouped(sale.share),
+        "remainder".to_string(),
+        i128::try_from(sale.remainder).map_or_else(|_| sale.remainder.to_string(), grouped),
+        "cut".to_string(),
+        grouped(sale.cut),
+    ]
+}

@@ -1,0 +1,159 @@
+//! The fields of a book by name, and where they stand in its bytes.
+
+use std::fmt::{self, Display, Formatter};
+
+use daybook::{Book, Prices, Trade, User, USER_LENGTH};
+
+use crate::words::{self, AREAS};
+
+/// The mark that a book starts with.
+pub const MARK: &[u8] = b"GDB";
+
+/// Bytes of the header.
+pub const HEADER_LENGTH: usize = 32;
+
+/// A record of a book; places count from 0.
+#[derive(Clone, Copy, Debug, PartialEq, Eq, PartialOrd, Ord)]
+pub enum Place {
+    Header,
+    User(usize),
+    Trade(usize),
+}
+
+/// A field of a record. Areas and prices are told by their places.
+#[derive(Clone, Copy, Debug, PartialEq, Eq, PartialOrd, Ord)]
+pub enum Field {
+    Mark,
+    Length,
+    Version,
+    UserCount,
+    TradeCount,
+    Date,
+    Price(usize),
+    Id,
+    Role,
+    ZeroBytes,
+    Physical(usize),
+    Position(usize),
+    Charges,
+    Assigned,
+    Blocked,
+    Seller,
+    Buyer,
+    Area,
+    Kind,
+    Day,
+    Notified,
+    Standing,
+}
+
+/// The names of the prices, in the order of the header.
+pub const PRICES: [&str; 5] = ["P", "Q", "L", "X", "I"];
+
+impl Display for Field {
+    fn fmt(&self, formatter: &mut Formatter<'_>) -> fmt::Result {
+        let name = match self {
+            Field::Mark => "mark",
+            Field::Length => "length",
+            Field::Version => "version",
+            Field::UserCount => "user count",
+            Field::TradeCount => "trade count",
+            Field::Date => "date",
+            Field::Price(place) => PRICES.get(*place).copied().unwrap_or("price"),
+            Field::Id => "id",
+            Field::Role => "role",
+            Field::ZeroBytes => "zero bytes",
+            Field::Physical(area) => return write!(formatter, "physical {}", area_name(*area)),
+            Field::Position(area) => return write!(formatter, "position {}", area_name(*area)),
+            Field::Charges => "charges",
+            Field::Assigned => "assigned",
+            Field::Blocked => "blocked",
+            Field::Seller => "seller",
+            Field::Buyer => "buyer",
+            Field::Area => "area",
+            Field::Kind => "kind",
+            Field::Day => "day",
+            Field::Notified => "notified",
+            Field::Standing => "standing",
+        };
+        formatter.write_str(name)
+    }
+}
+
+fn area_name(area: usize) -> &'static str {
+    AREAS.get(area).copied().unwrap_or("area")
+}
+
+/// P, Q, L, X, I.
+pub fn prices(prices: &Prices) -> [u32; 5] {
+    [
+        prices.pvb_tariff,
+        prices.tank_and_store_tariff,
+        prices.liquefaction_toll,
+        prices.exit_toll,
+        prices.injection_toll,
+    ]
+}
+
+/// Sets a price by its place in the header.
+pub fn put_price(book: &mut Book, place: usize, price: u32) {
+    let prices = &mut book.prices;
+    match place {
+        0 => prices.pvb_tariff = price,
+        1 => prices.tank_and_store_tariff = price,
+        2 => prices.liquefaction_toll = price,
+        3 => prices.exit_toll = price,
+        _ => prices.injection_toll = price,
+    }
+}
+
+/// The fields of bytes that are long enough for their user count, accepted or
+/// not; none of other bytes.
+pub fn fields(bytes: &[u8]) -> Option<Book> {
+    let users = usize::from(*bytes.get(5)?);
+    let records = bytes.get(HEADER_LENGTH..)?;
+    let (users, trades) = records.split_at_checked(USER_LENGTH * users)?;
+    let price = |place: usize| four(bytes, 12 + 4 * place);
+    Some(Book {
+        version: two(bytes, 3)?,
+        date: four(bytes, 8)?,
+        prices: Prices {
+            pvb_tariff: price(0)?,
+            tank_and_store_tariff: price(1)?,
+            liquefaction_toll: price(2)?,
+            exit_toll: price(3)?,
+            injection_toll: price(4)?,
+        },
+        users: users.as_chunks().0.iter().map(User::from_bytes).collect(),
+        trades: trades.as_chunks().0.iter().map(Trade::from_bytes).collect(),
+    })
+}
+
+/// Two bytes at a place as a number.
+pub fn two(bytes: &[u8], at: usize) -> Option<u16> {
+    let field = bytes.get(at..)?.first_chunk()?;
+    Some(u16::from_le_bytes(*field))
+}
+
+/// Four bytes at a place as a number.
+pub fn four(bytes: &[u8], at: usize) -> Option<u32> {
+    let field = bytes.get(at..)?.first_chunk()?;
+    Some(u32::from_le_bytes(*field))
+}
+
+/// Why a date is no real Gregorian day of 2020 to 2099.
+pub fn date_fault(date: u32) -> Option<String> {
+    let (year, month, day) = (date / 10_000, date / 100 % 100, date % 100);
+    let shown = words::date(date);
+    if !(2020..=2099).contains(&year) {
+        return Some(format!("date {shown} is not of the years 2020 to 2099"));
+    }
+    let leap = year.is_multiple_of(4);
+    let days = match month {
+        4 | 6 | 9 | 11 => 30,
+        2 => 28 + u32::from(leap),
+        1..=12 => 31,
+        _ => return Some(format!("date {shown} has no month {month}")),
+    };
+    (!(1..=days).contains(&day)).then(|| format!("date {shown} is no day, its month has {days}"))
+}

@@ -1,0 +1,37 @@
+//! Program `daybook`: books as text and spreadsheet files, the engine's calls,
+//! refusals told in words and places, a run explained cut by cut.
+//!
+//! Every figure comes from the proved engine by the package `daybook`. What is
+//! found beside it (the field at fault, the shares of a tier) is tested against
+//! the engine.
+
+#![forbid(unsafe_code)]
+
+pub mod arguments;
+pub mod calls;
+pub mod cancel;
+pub mod check;
+pub mod commands;
+pub mod convert;
+pub mod csv;
+pub mod draft;
+pub mod ends;
+pub mod explain;
+pub mod faults;
+pub mod fields;
+pub mod files;
+pub mod json;
+pub mod list;
+pub mod outcome;
+pub mod parameters;
+pub mod picture;
+pub mod reasons;
+pub mod refusals;
+pub mod report;
+pub mod shrinkage;
+pub mod source;
+pub mod state;
+pub mod store;
+pub mod text;
+pub mod trace;
+pub mod words;

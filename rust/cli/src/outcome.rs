@@ -1,0 +1,113 @@
+//! How a command ends: what it prints, what it says on standard error, and its
+//! exit status.
+
+use std::fmt::Display;
+
+/// The exit status.
+#[derive(Clone, Copy, Debug, Default, PartialEq, Eq, PartialOrd, Ord)]
+pub enum Status {
+    /// 0: accepted, done.
+    #[default]
+    Accepted,
+    /// 1: a book, a store or a text was refused.
+    Refused,
+    /// 2: the command cannot be done as it was given.
+    Misuse,
+}
+
+impl Status {
+    pub fn code(self) -> u8 {
+        match self {
+            Status::Accepted => 0,
+            Status::Refused => 1,
+            Status::Misuse => 2,
+        }
+    }
+}
+
+/// What a command gives back.
+#[derive(Clone, Debug, Default, PartialEq, Eq)]
+pub struct Outcome {
+    /// For standard output.
+    pub out: Vec<u8>,
+    /// For standard error.
+    pub messages: String,
+    pub status: Status,
+}
+
+impl Outcome {
+    /// Adds a line to standard output.
+    pub fn line(&mut self, line: impl Display) {
+        self.out.extend(format!("{line}\n").into_bytes());
+    }
+
+    /// Adds text to standard output as it is.
+    pub fn text(&mut self, text: &str) {
+        self.out.extend(text.as_bytes());
+    }
+
+    /// Adds a line to standard error.
+    pub fn message(&mut self, line: impl Display) {
+        self.messages.push_str(&format!("{line}\n"));
+    }
+
+    /// Takes in a failure: its message, or its object where that is wanted, and its
+    /// status where it is the worse.
+    pub fn fail(&mut self, failure: &Failure, json: bool) {
+        match failure {
+            Failure::Refused(Told { object, .. }) if json => self.line(object),
+            _ => self.message(failure.message()),
+        }
+        self.status = self.status.max(failure.status());
+    }
+}
+
+/// A refusal in words, and as an object.
+#[derive(Clone, Debug, PartialEq, Eq)]
+pub struct Told {
+    pub message: String,
+    pub object: String,
+}
+
+/// Why a command stops.
+#[derive(Clone, Debug, PartialEq, Eq)]
+pub enum Failure {
+    /// A book, a store or a text is refused.
+    Refused(Told),
+    /// The arguments are not what the command takes.
+    Misuse(String),
+    /// A file cannot be read or written.
+    File(String),
+}
+
+impl Failure {
+    pub fn misuse(message: impl Display) -> Failure {
+        Failure::Misuse(message.to_string())
+    }
+
+    pub fn file(message: impl Display) -> Failure {
+        Failure::File(message.to_string())
+    }
+
+    pub fn message(&self) -> &str {
+        match self {
+            Failure::Refused(Told { message, .. }) => message,
+            Failure::Misuse(message) | Failure::File(message) => message,
+        }
+    }
+
+    pub fn status(&self) -> Status {
+        match self {
+            Failure::Refused(_) => Status::Refused,
+            Failure::Misuse(_) | Failure::File(_) => Status::Misuse,
+        }
+    }
+}
+
+impl From<Failure> for Outcome {
+    fn from(failure: Failure) -> Outcome {
+        let mut outcome = Outcome::default();
+        outcome.fail(&failure, false);
+        outcome
+    }
+}

@@ -1,0 +1,223 @@
+//! The chains of cuts as pictures (SVG): a line down for each user who sold or
+//! bought what was cut, and an arrow for each cut, from the seller to the buyer,
+//! in the order of the reductions. A long run has several, each of a size that a
+//! page or a phone can show, with the users that it needs.
+
+use crate::trace::{Chapter, Trace};
+use crate::words::{grouped, AREAS};
+
+/// Between two users, by how many there are.
+const NARROW: usize = 132;
+const WIDE: usize = 170;
+const FULL: usize = 760;
+
+/// Beside the first and the last user.
+const SIDE: usize = 80;
+
+/// Heights: of the users' names, of an arrow, of what stands between reductions.
+const TOP: usize = 64;
+const ARROW: usize = 30;
+const BETWEEN: usize = 12;
+
+/// The most users of a picture and its greatest height, but for a chapter that
+/// has more by itself.
+const MOST_USERS: usize = 7;
+const MOST_HEIGHT: usize = 640;
+
+/// The pictures of the chapters that a trace shows; none where nothing was cut.
+/// The states are those after the run, by id.
+pub fn pictures(trace: &Trace, states: &[(u32, &'static str)]) -> Vec<String> {
+    let ids: Vec<u32> = trace.opening.users.iter().map(|user| user.id).collect();
+    let (first, last) = &trace.chapters;
+    let mut parts: Vec<Part> = Vec::new();
+    let mut shown = 0;
+    for chapter in first.iter().chain(last) {
+        let before = chapter.first - shown - 1;
+        shown = chapter.last;
+        match parts.last_mut() {
+            Some(part) if part.has_room(chapter) => part.add(before, chapter),
+            _ => {
+                let mut part = Part::default();
+                part.add(before, chapter);
+                parts.push(part);
+            }
+        }
+    }
+    if let Some(part) = parts.last_mut() {
+        part.after = trace.run.reductions.saturating_sub(shown);
+    }
+    parts
+        .iter()
+        .map(|part| part.picture(&ids, states))
+        .collect()
+}
+
+/// Chapters that stand in one picture, each with how many reductions before it are
+/// not shown.
+#[derive(Default)]
+struct Part<'a> {
+    chapters: Vec<(u64, &'a Chapter)>,
+    /// The reductions after the last chapter that are not shown.
+    after: u64,
+    ids: Vec<u32>,
+    height: usize,
+}
+
+impl<'a> Part<'a> {
+    fn has_room(&self, chapter: &Chapter) -> bool {
+        let new = involved(chapter)
+            .filter(|id| !self.ids.contains(id))
+            .count();
+        let height = self.height + chapter_height(chapter);
+        self.ids.len() + new <= MOST_USERS && height <= MOST_HEIGHT
+    }
+
+    fn add(&mut self, before: u64, chapter: &'a Chapter) {
+        for id in involved(chapter) {
+            if !self.ids.contains(&id) {
+                self.ids.push(id);
+            }
+        }
+        self.height += chapter_height(chapter);
+        self.chapters.push((before, chapter));
+    }
+
+    /// The picture, with the users in the order of the book.
+    fn picture(&self, book: &[u32], states: &[(u32, &'static str)]) -> String {
+        let ids: Vec<u32> = book
+            .iter()
+            .copied()
+            .filter(|id| self.ids.contains(id))
+            .collect();
+        let between = (FULL / ids.len().max(1)).clamp(NARROW, WIDE);
+        let at = |id: u32| {
+            let place = ids.iter().position(|it| *it == id).unwrap_or(0);
+            SIDE + between * place
+        };
+        let width = 2 * SIDE + between * ids.len().saturating_sub(1);
+        let (mut rows, mut y) = (String::new(), TOP);
+        for (before, chapter) in &self.chapters {
+            if *before > 0 {
+                rows.push_str(&gap(width, y, *before));
+                y += ARROW + BETWEEN;
+            }
+            let (from, number) = (at(chapter.id), number(chapter));
+            let mut beside = mark_width(&number) / 2;
+            let top = y + ARROW / 2;
+            for (buyer, area, mwh) in &chapter.cuts {
+                rows.push_str(&arrow(
+                    (from, at(*buyer)),
+                    beside,
+                    y + ARROW / 2,
+                    (*area, *mwh),
+                ));
+                // The first arrow leaves from the mark, the others from the line.
+                beside = 0;
+                y += ARROW;
+            }
+            rows.push_str(&mark(from, top, y - ARROW / 2, &number));
+            y += BETWEEN;
+        }
+        if self.after > 0 {
+            rows.push_str(&gap(width, y, self.after));
+            y += ARROW + BETWEEN;
+        }
+        let lines: String = ids.iter().map(|id| user(*id, at(*id), y, states)).collect();
+        let (height, least) = (y + BETWEEN, width * 4 / 5);
+        let label = "Who cut whom, from the first reduction down to the last";
+        format!(
+            "<svg viewBox=\"0 0 {width} {height}\" style=\"max-width:{width}px;min-width:{least}px\" \
+             role=\"img\" aria-label=\"{label}\">\n{}{lines}{rows}</svg>\n",
+            heads()
+        )
+    }
+}
+
+/// The height of a chapter, with a line for what is not shown before it.
+fn chapter_height(chapter: &Chapter) -> usize {
+    ARROW * (chapter.cuts.len() + 1) + BETWEEN
+}
+
+/// The user who was reduced, and those who lost a purchase.
+fn involved(chapter: &Chapter) -> impl Iterator<Item = u32> + '_ {
+    let buyers = chapter.cuts.iter().map(|(buyer, _, _)| *buyer);
+    std::iter::once(chapter.id).chain(buyers)
+}
+
+/// The number of a chapter's reduction, or of the first and the last.
+fn number(chapter: &Chapter) -> String {
+    match chapter.first == chapter.last {
+        true => grouped(chapter.first),
+        false => format!("{}–{}", grouped(chapter.first), grouped(chapter.last)),
+    }
+}
+
+/// The heads of the arrows, one for each area's colour.
+fn heads() -> String {
+    let head = |area: &str| {
+        format!(
+            "<marker id=\"head-{area}\" viewBox=\"0 0 8 8\" refX=\"7\" refY=\"4\" \
+             markerWidth=\"7\" markerHeight=\"7\" orient=\"auto-start-reverse\">\
+             <path d=\"M0 0L8 4L0 8z\" class=\"{area} head\"/></marker>"
+        )
+    };
+    let heads: String = AREAS.map(head).concat();
+    format!("<defs>{heads}</defs>\n")
+}
+
+/// A user's name, the state after the run below it, and the line down.
+fn user(id: u32, x: usize, end: usize, states: &[(u32, &'static str)]) -> String {
+    let state = states
+        .iter()
+        .find(|(it, _)| *it == id)
+        .map_or("", |it| it.1);
+    let left = x - 40;
+    format!(
+        "<line class=\"life\" x1=\"{x}\" y1=\"44\" x2=\"{x}\" y2=\"{end}\"/>\
+         <rect class=\"name\" x=\"{left}\" y=\"4\" width=\"80\" height=\"40\" rx=\"6\"/>\
+         <text class=\"id\" x=\"{x}\" y=\"21\">{id}</text>\
+         <text class=\"state\" x=\"{x}\" y=\"37\">{state}</text>\n"
+    )
+}
+
+/// How wide the mark with a number is.
+fn mark_width(number: &str) -> usize {
+    14 + 8 * number.chars().count()
+}
+
+/// The number of a reduction on the line of the user who was reduced, and a bar
+/// down to its last arrow.
+fn mark(x: usize, y: usize, last: usize, number: &str) -> String {
+    let width = mark_width(number);
+    let (left, top, base) = (x.saturating_sub(width / 2), y - 11, y + 4);
+    format!(
+        "<line class=\"bar\" x1=\"{x}\" y1=\"{y}\" x2=\"{x}\" y2=\"{last}\"/>\
+         <rect class=\"mark\" x=\"{left}\" y=\"{top}\" width=\"{width}\" height=\"22\" rx=\"11\"/>\
+         <text class=\"number\" x=\"{x}\" y=\"{base}\">{number}</text>\n"
+    )
+}
+
+/// A cut: from the seller's line, or beside it, to the buyer's.
+fn arrow((from, to): (usize, usize), beside: usize, y: usize, (area, mwh): (usize, u64)) -> String {
+    let area = AREAS[area];
+    let (start, end) = match from < to {
+        true => (from + beside, to - 2),
+        false => (from.saturating_sub(beside), to + 2),
+    };
+    let (middle, above) = (start.midpoint(end), y - 5);
+    let mwh = grouped(mwh);
+    format!(
+        "<line class=\"cut {area}\" x1=\"{start}\" y1=\"{y}\" x2=\"{end}\" y2=\"{y}\" \
+         marker-end=\"url(#head-{area})\"/>\
+         <text class=\"mwh\" x=\"{middle}\" y=\"{above}\">{mwh} MWh {area}</text>\n"
+    )
+}
+
+/// What stands for the reductions that are not shown.
+fn gap(width: usize, y: usize, unshown: u64) -> String {
+    let (middle, base) = (width / 2, y + ARROW / 2 + 4);
+    let unshown = grouped(unshown);
+    format!(
+        "<text class=\"gap\" x=\"{middle}\" y=\"{base}\">… {unshown} reductions more …</text>\n"
+    )
+}

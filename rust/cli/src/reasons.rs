@@ -1,0 +1,149 @@
+//! Why a call is refused by a question after the seventh, in words. Levels are
+//! the engine's; what else is said stands in the book's fields.
+
+use daybook::{Book, Level, Refusal, Request, Trade, User};
+
+use crate::cancel::worth;
+use crate::source::Store;
+use crate::store;
+use crate::words::{counted, euros, grouped, wide, word, AREAS};
+
+/// What was asked for.
+#[derive(Clone, Copy, Debug, PartialEq, Eq)]
+pub enum Asked {
+    /// A shown record, a level, a warning: nothing that has a question of its own.
+    Plain,
+    Posting {
+        area: u32,
+        amount: i64,
+    },
+    MorningCall,
+    AfternoonCall,
+    Reduction,
+    Cancellation {
+        tries: u32,
+    },
+    List {
+        lines: usize,
+    },
+}
+
+/// The reason of a refusal for a user of an accepted book.
+pub fn reason(book: &[u8], store: &Store, id: u32, asked: Asked, refusal: Refusal) -> String {
+    let Ok(fields) = daybook::read(book) else {
+        return String::new();
+    };
+    match (refusal, fields.users.iter().find(|user| user.id == id)) {
+        (Refusal::StoreForm, _) => {
+            let bytes = store.bytes.as_deref().unwrap_or(&[]);
+            format!("store: {}", store::malformed(bytes).unwrap_or_default())
+        }
+        (Refusal::SetInForce, _) => {
+            let bytes = store.bytes.as_deref().unwrap_or(&[]);
+            format!("store: {}", store::not_in_force(bytes, fields.date))
+        }
+        (Refusal::Lines, _) => match asked {
+            Asked::List { lines } => format!("the list has {}", counted(lines, "line")),
+            _ => String::new(),
+        },
+        (Refusal::Tries, _) => match asked {
+            Asked::Cancellation { tries } => format!("{} tries", grouped(tries)),
+            _ => String::new(),
+        },
+        (Refusal::Id, _) => not_in_the_book(&fields, id),
+        (_, Some(user)) => of_user(book, &fields, store, user, asked, refusal),
+        (_, None) => String::new(),
+    }
+}
+
+fn not_in_the_book(book: &Book, id: u32) -> String {
+    let ids: Vec<String> = book.users.iter().map(|user| user.id.to_string()).collect();
+    format!(
+        "{id} is none of its {}: {}",
+        counted(ids.len(), "id"),
+        ids.join(", ")
+    )
+}
+
+fn of_user(
+    bytes: &[u8],
+    book: &Book,
+    store: &Store,
+    user: &User,
+    asked: Asked,
+    refusal: Refusal,
+) -> String {
+    let level = level(bytes, store.request(), user.id, asked).map_or(0, |Level(cents)| cents);
+    let (shown, assigned, blocked) = (euros(level), euros(user.assigned), euros(user.blocked));
+    let reason = match refusal {
+        Refusal::Shipper => "is a clearing house".to_string(),
+        Refusal::Entry => entry(user, asked),
+        Refusal::CalledIn => {
+            let figures = store::figures(store.bytes.as_deref(), book.date);
+            let margin = euros(figures.margin);
+            let lacking = i128::from(level) - i128::from(user.blocked);
+            if lacking > i128::from(figures.margin) {
+                let flag = "it is not flagged, and party to no trade standing below notified";
+                format!("is not called in: {flag}")
+            } else {
+                let lacking = euros(lacking);
+                format!("level {shown} - blocked {blocked} = {lacking} EUR, not above {margin} EUR")
+            }
+        }
+        Refusal::AssignedCoversLevel => {
+            format!("assigned {assigned} EUR is below the level {shown} EUR")
+        }
+        Refusal::AssignedBelowLevel => {
+            format!("assigned {assigned} EUR covers the level {shown} EUR")
+        }
+        Refusal::WorthOfTrades => {
+            let is_eligible = |place: &usize| {
+                let trade = &book.trades[*place];
+                trade.seller == user.id && trade.can_be_cut()
+            };
+            let places: Vec<usize> = (0..book.trades.len()).filter(is_eligible).collect();
+            let worth = euros(worth(book, &places));
+            let target = euros(i128::from(level) - i128::from(user.assigned));
+            format!("its eligible trades are worth {worth} EUR, below the target {target} EUR")
+        }
+        Refusal::EligibleTrade => "has no bilateral sale for d that stands above 0".to_string(),
+        _ => return String::new(),
+    };
+    format!("user {}, id {}: {reason}", place(book, user.id), user.id)
+}
+
+/// The place of a user, from 1.
+fn place(book: &Book, id: u32) -> String {
+    let place = book.users.iter().position(|user| user.id == id);
+    place.map_or_else(String::new, |place| grouped(wide(place) + 1))
+}
+
+fn level(book: &[u8], request: Request, id: u32, asked: Asked) -> Result<Level, Refusal> {
+    match asked {
+        Asked::MorningCall => request.morning_level(book, id),
+        _ => request.afternoon_level(book, id),
+    }
+}
+
+fn entry(user: &User, asked: Asked) -> String {
+    let Asked::Posting { area, amount } = asked else {
+        return String::new();
+    };
+    let entry = usize::try_from(area)
+        .ok()
+        .and_then(|area| user.physical.get(area));
+    let (Some(entry), Ok(code)) = (entry, u8::try_from(area)) else {
+        return format!("area {area} is none of 0 (PVB), 1 (TVB), 2 (AVB)");
+    };
+    let sum = i128::from(*entry) + i128::from(amount);
+    let (area, entry) = (word(&AREAS, code), grouped(*entry));
+    let (amount, sum) = (grouped(amount), grouped(sum));
+    format!("physical {area} {entry} + {amount} = {sum} MWh is not within ±1,000,000 MWh")
+}
+
+/// Whether the user is party to a trade standing below notified.
+pub fn is_party_to_cut(book: &Book, id: u32) -> bool {
+    let party = |trade: &&Trade| trade.seller == id || trade.buyer == id;
+    let mut trades = book.trades.iter().filter(party);
+    trades.any(|trade| trade.standing < trade.notified)
+}

@@ -1,0 +1,122 @@
+//! Refusals as they are told: in words for people, as an object for programs.
+
+use daybook::Refusal;
+
+use crate::draft::{Mistake, Spot};
+use crate::faults::Fault;
+use crate::fields::Place;
+use crate::json::{list, Object};
+use crate::outcome::{Failure, Told};
+use crate::reasons::{reason, Asked};
+use crate::source::{Source, Store};
+
+/// How many faults of a book are told in words.
+const MOST_FAULTS: usize = 20;
+
+/// A refused book: the question, then the fields at fault, a line each.
+pub fn of_book(name: &str, refusal: Refusal, faults: &[(Option<Spot>, Fault)]) -> Failure {
+    let mut lines = vec![format!("{name}: {refusal}")];
+    for (spot, fault) in faults.iter().take(MOST_FAULTS) {
+        let spot = spot.map_or_else(String::new, |spot| spot.to_string());
+        lines.push(format!("{name}{spot}: {fault}"));
+    }
+    if faults.len() > MOST_FAULTS {
+        lines.push(format!("{name}: and {} more", faults.len() - MOST_FAULTS));
+    }
+    let object = Object::new()
+        .string("book", name)
+        .put("accepted", false)
+        .put("number", refusal.number())
+        .string("question", refusal.question())
+        .put("faults", list(faults.iter().map(fault_object)));
+    told(lines.join("\n"), object)
+}
+
+/// A text or a table that cannot be read: its mistakes, a line each.
+pub fn of_text(name: &str, mistakes: &[Mistake]) -> Failure {
+    let line = |mistake: &Mistake| format!("{name}{}: {}", mistake.spot, mistake.reason);
+    let lines: Vec<String> = mistakes.iter().map(line).collect();
+    let object = Object::new()
+        .string("book", name)
+        .put("accepted", false)
+        .put("mistakes", list(mistakes.iter().map(mistake_object)));
+    told(lines.join("\n"), object)
+}
+
+/// A refused call on a user, or on the book: the question, then the reason.
+pub fn of_call(
+    source: &Source,
+    store: &Store,
+    id: Option<u32>,
+    asked: Asked,
+    refusal: Refusal,
+) -> Failure {
+    let reason = reason(&source.bytes, store, id.unwrap_or(0), asked, refusal);
+    let mut object = Object::new().put("number", refusal.number());
+    if let Some(id) = id {
+        object = object.put("id", id);
+    }
+    let object = object.string("question", refusal.question());
+    with_reason(&source.name, refusal, &reason, object)
+}
+
+/// A refused store.
+pub fn of_store(name: &str, refusal: Refusal, reason: &str) -> Failure {
+    let object = Object::new()
+        .string("book", name)
+        .put("accepted", false)
+        .put("number", refusal.number())
+        .string("question", refusal.question());
+    with_reason(name, refusal, reason, object)
+}
+
+fn with_reason(name: &str, refusal: Refusal, reason: &str, object: Object) -> Failure {
+    let line = match reason.is_empty() {
+        true => String::new(),
+        false => format!("\n{name}: {reason}"),
+    };
+    told(
+        format!("{name}: {refusal}{line}"),
+        object.string("reason", reason),
+    )
+}
+
+fn told(message: String, object: Object) -> Failure {
+    Failure::Refused(Told {
+        message,
+        object: object.end(),
+    })
+}
+
+fn fault_object((spot, fault): &(Option<Spot>, Fault)) -> String {
+    let (record, place) = match fault.place {
+        Place::Header => ("header", None),
+        Place::User(place) => ("user", Some(place + 1)),
+        Place::Trade(place) => ("trade", Some(place + 1)),
+    };
+    let mut object = Object::new().string("record", record);
+    if let Some(place) = place {
+        object = object.put("place", place);
+    }
+    if let Some(spot) = spot {
+        object = written(object, spot);
+    }
+    object
+        .string("field", &fault.field.to_string())
+        .string("reason", &fault.to_string())
+        .end()
+}
+
+fn mistake_object(mistake: &Mistake) -> String {
+    let object = written(Object::new(), &mistake.spot);
+    object.string("reason", &mistake.reason).end()
+}
+
+/// Where something is written; the file's name for one of a folder.
+fn written(object: Object, spot: &Spot) -> Object {
+    let object = match spot.file {
+        "" => object,
+        file => object.string("file", file),
+    };
+    object.put("line", spot.line).put("column", spot.column)
+}

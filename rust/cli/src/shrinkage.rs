@@ -1,0 +1,125 @@
+//! `daybook shrinkage`: the return of retained shrinkage, from a file of
+//! balances in kWh.
+
+use daybook::shrinkage::{over_days, shrinkage_return, Kwh};
+
+use crate::arguments::Arguments;
+use crate::draft::{Mistake, Spot};
+use crate::files;
+use crate::json::{list, Object};
+use crate::outcome::{Failure, Outcome, Told};
+use crate::refusals;
+use crate::text::{aligned, short};
+use crate::words::{grouped, read_whole};
+
+/// A line of the file: a name, or none, and a balance.
+pub struct Balance {
+    pub name: String,
+    pub kwh: i64,
+}
+
+pub fn shrinkage(arguments: &Arguments) -> Result<Outcome, Failure> {
+    arguments.expect(1, 1, "shrinkage FILE [--days] [--json]")?;
+    let path = arguments.file(0);
+    let bytes = files::read(path)?;
+    let name = files::shown(path);
+    let balances = read(&name, &bytes)?;
+    let kwh: Vec<i64> = balances.iter().map(|balance| balance.kwh).collect();
+    let json = arguments.has("--json");
+    let mut outcome = Outcome::default();
+    let returned = match shrinkage_return(&kwh) {
+        Ok(returned) => returned,
+        Err(refusal) => {
+            let (number, question) = (refusal.number(), refusal.question());
+            let object = Object::new()
+                .put("number", number)
+                .string("question", question);
+            return Err(Failure::Refused(Told {
+                message: format!("{name}: {refusal}{}", why(&balances)),
+                object: object.end(),
+            }));
+        }
+    };
+    let (half, odd, rest) = (returned.half.0, returned.odd.0, returned.rest.0);
+    if json {
+        let object = Object::new().put("number", 0).put("half_kwh", half);
+        outcome.line(object.put("odd_kwh", odd).put("rest_kwh", rest).end());
+    } else {
+        let (half, odd, rest) = (grouped(half), grouped(odd), grouped(rest));
+        outcome.line(format!(
+            "H {half} kWh returned, as much kept, odd kWh {odd}, rest {rest} kWh"
+        ));
+    }
+    let mut rows = Vec::new();
+    for (balance, share) in balances.iter().zip(&returned.shares) {
+        let days = over_days(share.kwh).map(|Kwh(day)| day);
+        if json {
+            let object = Object::new()
+                .string("name", &balance.name)
+                .put("balance_kwh", balance.kwh)
+                .put("share_kwh", share.kwh.0)
+                .put("remainder", share.remainder);
+            let object = match arguments.has("--days") {
+                true => object.put("days_kwh", list(days)),
+                false => object,
+            };
+            outcome.line(object.end());
+            continue;
+        }
+        let mut row = vec![
+            balance.name.clone(),
+            grouped(balance.kwh),
+            "share".to_string(),
+            grouped(share.kwh.0),
+            "remainder".to_string(),
+            grouped(share.remainder),
+        ];
+        if arguments.has("--days") {
+            row.push("days".to_string());
+            row.extend(days.map(grouped));
+        }
+        rows.push(row);
+    }
+    outcome.text(&aligned(&rows));
+    Ok(outcome)
+}
+
+/// Which balance is out of range, where one is.
+fn why(balances: &[Balance]) -> String {
+    let beyond = |balance: &&Balance| balance.kwh.unsigned_abs() > 500_000_000;
+    match balances.iter().find(beyond) {
+        Some(balance) if balances.len() <= 64 => {
+            format!("\n{}: {} kWh", balance.name, grouped(balance.kwh))
+        }
+        _ => format!(" there are {}", balances.len()),
+    }
+}
+
+/// A balance a line, a name before it or not; comments after #.
+pub fn read(file: &str, bytes: &[u8]) -> Result<Vec<Balance>, Failure> {
+    let text = String::from_utf8_lossy(bytes);
+    let mut balances = Vec::new();
+    for (place, line) in text.lines().enumerate() {
+        let line = line.split('#').next().unwrap_or("").trim_end();
+        if line.is_empty() {
+            continue;
+        }
+        let (name, word) = line.rsplit_once(char::is_whitespace).unwrap_or(("", line));
+        let kwh = read_whole(word).and_then(|number| i64::try_from(number).ok());
+        let Some(kwh) = kwh else {
+            let spot = Spot {
+                file: "",
+                line: place + 1,
+                column: line[..line.len() - word.len()].chars().count() + 1,
+            };
+            let reason = format!("a balance is a whole number of kWh, not `{}`", short(word));
+            return Err(refusals::of_text(file, &[Mistake { spot, reason }]));
+        };
+        let name = match name.trim() {
+            "" => (balances.len() + 1).to_string(),
+            name => name.to_string(),
+        };
+        balances.push(Balance { name, kwh });
+    }
+    Ok(balances)
+}
