@@ -6,23 +6,23 @@ use Prim.Native.Nat.{_-_}
 use native.Mathlib.Omega.{arith}
 use borrow.Author.Needs.{needs}
 use lib.ListN.{getD, length-map, List·getD-map}
+use Rattle.base.proofs.Storing.{Storing, storing-start, storing-next, storing-all}
 use Rattle.exports_answers.specs.Numbers.{bit}
-use Rattle.exports_answers.proofs.Stores.{Stored, stored-none, stored-more, stored-all}
 use Rattle.exports_cancellation.proofs.Bits.{byte-bit}
 use Rattle.exports_cancellation.proofs.store_marks.Statement.{statement}
 use Rattle.exports_cancellation.proofs.store_marks.Tie as tie
 
 abbrev Inv-loop : tie.InvT-loop
-Inv-loop part₀ marks i₀ part i = Stored (map bit marks) part i
+Inv-loop part₀ marks i₀ part i = Storing (map bit marks) 0 part₀ part i
 
 abbrev μ-loop : tie.MeasureT-loop
 μ-loop part₀ marks i₀ part i = 256 - i
 
 loop-holds : tie.Need-loop-holds Inv-loop μ-loop
-loop-holds c = stored-none _ _ (omega (arith, c .pre, c .good, length-map (c .args .t2) bit))
+loop-holds c = storing-start _ 0 (c .args .part .now)
 
 slice-write-part : tie.Need-slice-write-part Inv-loop μ-loop
-slice-write-part c = let s = c .before .before in omega (arith, c .before .loop .inv .long, s .good, length-map (s .args .t2) bit)
+slice-write-part c = omega (arith, c .before .loop .inv .long, c .before .before .pre)
 
 loop-again : tie.Need-loop-again Inv-loop μ-loop
 unfolding bit
@@ -30,16 +30,17 @@ loop-again c =
     let l = c .before .loop in
     let s = c .before .before in
     let marks = s .args .t2 in
-    stored-more (map bit marks) (l .part) (l .i) _ (omega (arith, s .good, length-map marks bit, c .loop-test .taken))
-    (byte-bit (getD marks (l .i) false) ∙ sym (List·getD-map bit marks (l .i) false)) (l .inv)
+    storing-next (l .inv) _ 0 (omega (arith, s .good, length-map marks bit, c .loop-test .taken))
+    (byte-bit (getD marks (l .i) false) ∙ sym (List·getD-map bit marks (l .i) false))
 
 same-length : tie.Need-same-length Inv-loop μ-loop
-same-length c = let s = c .before .before in omega (arith, c .before .loop .inv .long, s .pre, s .good, length-map (s .args .t2) bit)
+same-length c = c .before .loop .inv .long
 
 returns : tie.Need-returns Inv-loop μ-loop
 returns c =
     let s = c .before .before in
-    stored-all _ _ (c .before .loop .i) (omega (arith, s .good, length-map (s .args .t2) bit, c .loop-test .left)) (c .before .loop .inv)
+    let long = length-map (s .args .t2) bit in
+    storing-all (c .before .loop .inv) (omega (arith, s .pre, s .good, long)) (omega (arith, s .good, long, c .loop-test .left))
 
 pub store-marks-spec : {M : Type 1} → statement M
 store-marks-spec =
