@@ -66,7 +66,8 @@ returns-2 c =
     let p = c .before .before in
     let e = entered (p .before) in
     let s = start e in
-    at-out-of-range (now (s .args .book)) (s .args .place) (s .args .area) (s .args .amount) (s .pre .0) (s .pre .1) (area-low e) (p .before .before .before .get-u32 .ensures ∙ entry-at (found (p .before))) (p .before .get-u322 .ensures ∙ position-at (found (p .before))) (told p) (not-true (p .post .result .accepted) (c .if2 .taken))
+    at-out-of-range (now (s .args .book)) (s .args .place) (s .args .area) (s .args .amount) (s .pre .0) (s .pre .1) (area-low e)
+    (p .before .before .before .get-u32 .ensures ∙ entry-at (found (p .before))) (p .before .get-u322 .ensures ∙ position-at (found (p .before))) (told p) (not-true (p .post .result .accepted) (c .if2 .taken))
 
 put-u32-requires-2 : tie.Need-put-u32-requires-2
 put-u32-requires-2 c κs =
@@ -88,7 +89,8 @@ returns-3 c =
     let i = o .result + (8 + 4 * a .area) in
     subst⁻¹ (PostedAt (a .place) (a .area) (a .amount) (now (a .book)) 0) (x .put-u322 .ensures ∙ ap (setField 4 (i + 12) (p .post .result .position)) (w .put-u32 .ensures)
     ∙ ap (λ (n : ℕ). setField 4 (n + (8 + 4 * a .area) + 12) (p .post .result .position) (setField 4 (n + (8 + 4 * a .area)) (p .post .result .entry) (now (a .book)))) (o .ensures .0))
-    (at-accepted (now (a .book)) (a .place) (a .area) (a .amount) (s .pre .0) (s .pre .1) (area-low e) (p .before .before .before .get-u32 .ensures ∙ entry-at (found (p .before))) (p .before .get-u322 .ensures ∙ position-at (found (p .before))) (told p) (λ j. e .before .slice-known .given j .fits) (not-false (p .post .result .accepted) (n .if2 .left)))
+    (at-accepted (now (a .book)) (a .place) (a .area) (a .amount) (s .pre .0) (s .pre .1) (area-low e)
+    (p .before .before .before .get-u32 .ensures ∙ entry-at (found (p .before))) (p .before .get-u322 .ensures ∙ position-at (found (p .before))) (told p) (λ j. e .before .slice-known .given j .fits) (not-false (p .post .result .accepted) (n .if2 .left)))
 
 pub post-at-spec : {M : Type 1} → statement M
 post-at-spec =
