@@ -103,11 +103,12 @@ pub fn read_book(s: &[u8]) -> Book
     requires { ⌜ Formed (now s) ⌝ }
     ensures { λ r. ⌜ BookRead (now (s .entry)) r ⌝ }
 {
-    let user_count = fields::get_u8(s, 5);
-    let trade_count = fields::get_u16(s, 6);
+    let user_count = book_format::user_count(s);
+    let trade_count = book_format::trade_count(s);
     let prices = book_form::read_prices(s);
-    let users = read_users(s, 32, user_count as usize);
-    let trades = read_trades(s, 32 + 56 * (user_count as usize), trade_count as usize);
+    let n = user_count as usize;
+    let users = read_users(s, book_format::users_offset(s), n);
+    let trades = read_trades(s, book_format::trades_offset(s, n), trade_count as usize);
     Book {
         version: fields::get_u16(s, 3),
         user_count: user_count,
