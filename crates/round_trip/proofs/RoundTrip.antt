@@ -7,8 +7,8 @@ use Prim.Native.Nat.{ℕ, _*_, _+_}
 use native.Mathlib.Omega.{arith}
 use lib.Dec.{eqb, eqb→eq, leb, le→leb}
 use lib.ListN.{length, replicate}
-use Rattle.book_value.specs.Book.{asBook}
-use Rattle.book_value.specs.declared.Book.{Book}
+use Rattle.book_tables.specs.Book.{asBook}
+use Rattle.book_tables.specs.declared.Book.{Book}
 use Rattle.exports.specs.Answers.{ReadInto, WrittenFrom}
 use Rattle.exports.specs.Lent.{byLength}
 use Rattle.fields.specs.Field.{AllBytes}

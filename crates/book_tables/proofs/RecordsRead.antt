@@ -9,7 +9,7 @@ use lib.ListN.{length, take, drop, set, replicate, length-set, length-replicate}
 use lib.Seq.{take-suc-set, drop-set-lt, drop-drop}
 use Rattle.fields.specs.Layout.{recordsOf}
 use Rattle.fields.proofs.Sets.{drop-replicate}
-use Rattle.book_value.specs.Filled.{Filled}
+use Rattle.book_tables.specs.Filled.{Filled}
 
 -- where i of n records are read: the next one stands at a, what was read and what is left are what the bytes hold, and the rest of the array is blank
 pub record Reading {R M : Type 0} (face : R → M) (len : ℕ) (one : List ℕ → M) (room : ℕ) (blank : R) (s : List ℕ) (at n : ℕ) (rs : List R) (i a : ℕ) : Type 0 where

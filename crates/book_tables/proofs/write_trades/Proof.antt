@@ -5,9 +5,9 @@ use lib.ListN.{length-take, length-drop}
 use borrow.Author.Needs.{needs}
 use Rattle.book_records.specs.Trade.{tradeBytes, asTrade}
 use Rattle.book_records.proofs.Trades.{length-tradeBytes}
-use Rattle.book_value.proofs.RecordsWritten.{Writing, writing-start, writing-turn, writing-end}
-use Rattle.book_value.proofs.write_trades.Statement.{statement}
-use Rattle.book_value.proofs.write_trades.Tie as tie
+use Rattle.book_tables.proofs.RecordsWritten.{Writing, writing-start, writing-turn, writing-end}
+use Rattle.book_tables.proofs.write_trades.Statement.{statement}
+use Rattle.book_tables.proofs.write_trades.Tie as tie
 
 abbrev Inv-loop : tie.InvT-loop
 Inv-loop out₀ at n trades i₀ a₀ out i a = Writing (λ t. tradeBytes (asTrade t)) 20 trades out₀ at n out i a

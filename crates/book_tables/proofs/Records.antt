@@ -5,8 +5,8 @@ use Prim.Native.Nat.{_<_, _≤_, ℕ}
 use native.Mathlib.Omega.{arith}
 use lib.ListN.{getD, length, take}
 use Rattle.base.proofs.Fronts.{front-at, front-length, getD-inside}
-use Rattle.book_value.specs.Book.{BookRead, asBook}
-use Rattle.book_value.specs.declared.Book.{Book}
+use Rattle.book_tables.specs.Book.{BookRead, asBook}
+use Rattle.book_tables.specs.declared.Book.{Book}
 use Rattle.book_format.specs.Book.{bookOf, userCount, usersOf}
 use Rattle.book_records.specs.User.{asUser}
 use Rattle.book_records.specs.declared.User.{User}

@@ -1,7 +1,7 @@
 -- `no_book` fills both arrays with what `no_user` and `no_trade` give, and every other field with 0. Assumes nothing.
 use borrow.Author.Needs.{needs}
-use Rattle.book_value.proofs.no_book.Statement.{statement}
-use Rattle.book_value.proofs.no_book.Tie as tie
+use Rattle.book_tables.proofs.no_book.Statement.{statement}
+use Rattle.book_tables.proofs.no_book.Tie as tie
 
 no-user-requires : tie.Need-no-user-requires
 no-user-requires c κs = search needs

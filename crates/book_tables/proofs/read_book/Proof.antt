@@ -4,9 +4,9 @@ use borrow.Author.Needs.{needs}
 use denote.Ref.{now}
 use Rattle.book_format.proofs.Offsets.{trades-there, users-end, users-there}
 use Rattle.book_format.specs.Book.{bookOf, versionOf}
-use Rattle.book_value.specs.Book.{asBook}
-use Rattle.book_value.proofs.read_book.Statement.{statement}
-use Rattle.book_value.proofs.read_book.Tie as tie
+use Rattle.book_tables.specs.Book.{asBook}
+use Rattle.book_tables.proofs.read_book.Statement.{statement}
+use Rattle.book_tables.proofs.read_book.Tie as tie
 
 user-count-requires : tie.Need-user-count-requires
 user-count-requires c κs = search needs

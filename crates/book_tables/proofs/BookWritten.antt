@@ -13,8 +13,8 @@ use Rattle.book_records.specs.User.{userBytes, asUser}
 use Rattle.book_records.specs.Trade.{tradeBytes, asTrade}
 use Rattle.book_format.specs.Book.{mark, bytesOf}
 use Rattle.book_format.proofs.Written.{header-written, parts-written}
-use Rattle.book_value.specs.declared.Book.{Book}
-use Rattle.book_value.specs.Book.{asBook}
+use Rattle.book_tables.specs.declared.Book.{Book}
+use Rattle.book_tables.specs.Book.{asBook}
 
 -- the bytes of structs are those of what they are in the rules
 bytesOfRecords-map : {R M : Type 0} (face : R → M) (bytes : M → List ℕ) (rs : List R) → bytesOfRecords (λ r. bytes (face r)) rs ≡ bytesOfRecords bytes (map face rs)

@@ -3,9 +3,9 @@ use mathlib.Core.Path.{_∙_}
 use native.Mathlib.Omega.{arith}
 use denote.Ref.{now}
 use borrow.Author.Needs.{needs}
-use Rattle.book_value.proofs.BookWritten.{book-written}
-use Rattle.book_value.proofs.write_book.Statement.{statement}
-use Rattle.book_value.proofs.write_book.Tie as tie
+use Rattle.book_tables.proofs.BookWritten.{book-written}
+use Rattle.book_tables.proofs.write_book.Statement.{statement}
+use Rattle.book_tables.proofs.write_book.Tie as tie
 
 cast-n : tie.Need-cast-n
 cast-n c = search needs

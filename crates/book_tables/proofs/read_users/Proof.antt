@@ -4,9 +4,9 @@ use native.Mathlib.Omega.{arith}
 use lib.ListN.{length-take, length-drop}
 use borrow.Author.Needs.{needs}
 use Rattle.book_records.specs.User.{userOf, asUser, blankUser}
-use Rattle.book_value.proofs.RecordsRead.{Reading, reading-start, reading-turn, reading-end}
-use Rattle.book_value.proofs.read_users.Statement.{statement}
-use Rattle.book_value.proofs.read_users.Tie as tie
+use Rattle.book_tables.proofs.RecordsRead.{Reading, reading-start, reading-turn, reading-end}
+use Rattle.book_tables.proofs.read_users.Statement.{statement}
+use Rattle.book_tables.proofs.read_users.Tie as tie
 
 abbrev Inv-loop : tie.InvT-loop
 Inv-loop s at n users₀ i₀ a₀ users i a = Reading asUser 56 userOf 64 blankUser s at n users i a

@@ -5,9 +5,9 @@ use lib.ListN.{length-take, length-drop}
 use borrow.Author.Needs.{needs}
 use Rattle.book_records.specs.User.{userBytes, asUser}
 use Rattle.book_records.proofs.Users.{length-userBytes}
-use Rattle.book_value.proofs.RecordsWritten.{Writing, writing-start, writing-turn, writing-end}
-use Rattle.book_value.proofs.write_users.Statement.{statement}
-use Rattle.book_value.proofs.write_users.Tie as tie
+use Rattle.book_tables.proofs.RecordsWritten.{Writing, writing-start, writing-turn, writing-end}
+use Rattle.book_tables.proofs.write_users.Statement.{statement}
+use Rattle.book_tables.proofs.write_users.Tie as tie
 
 abbrev Inv-loop : tie.InvT-loop
 Inv-loop out₀ at n users i₀ a₀ out i a = Writing (λ u. userBytes (asUser u)) 56 users out₀ at n out i a

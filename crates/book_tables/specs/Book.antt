@@ -8,7 +8,7 @@ use Rattle.units.specs.Prices.{asPrices}
 use Rattle.book_records.specs.User.{asUser, blankUser}
 use Rattle.book_records.specs.Trade.{asTrade, blankTrade}
 use Rattle.book_format.specs.Book.{bookOf, bytesOf, userCount, tradeCount}
-use Rattle.book_value.specs.declared.Book.{Book}
+use Rattle.book_tables.specs.declared.Book.{Book}
 
 -- a struct's header, and its records up to the counts
 unfoldable pub asBook : Book → model.Book

@@ -4,9 +4,9 @@ use native.Mathlib.Omega.{arith}
 use lib.ListN.{length-take, length-drop}
 use borrow.Author.Needs.{needs}
 use Rattle.book_records.specs.Trade.{tradeOf, asTrade, blankTrade}
-use Rattle.book_value.proofs.RecordsRead.{Reading, reading-start, reading-turn, reading-end}
-use Rattle.book_value.proofs.read_trades.Statement.{statement}
-use Rattle.book_value.proofs.read_trades.Tie as tie
+use Rattle.book_tables.proofs.RecordsRead.{Reading, reading-start, reading-turn, reading-end}
+use Rattle.book_tables.proofs.read_trades.Statement.{statement}
+use Rattle.book_tables.proofs.read_trades.Tie as tie
 
 abbrev Inv-loop : tie.InvT-loop
 Inv-loop s at n trades₀ i₀ a₀ trades i a = Reading asTrade 20 tradeOf 256 blankTrade s at n trades i a
