@@ -16,7 +16,7 @@
  *    6  every trade valid?
  *    7  every position as defined?
  *    8  id in the book?
- *    9  a shipper? (not asked for a posting or a shown record)
+ *    9  a shipper? (not asked for a posting, a list or a shown record)
  *   10  posting: area 0 to 2, and the new physical entry within 1,000,000 either way?
  *   11  call, reduction, cancellation: level - blocked > 1,000,000 (with a store, its figure), and, but for the morning call, user called in?
  *   12  call: assigned >= level?
@@ -151,7 +151,7 @@ uint32_t daybook_reduction(uint8_t *book, size_t book_len, uint32_t with_store, 
    changed. A set of trades is read as a binary number, the earliest trade its highest bit, and sets are tried counting down from all trades to the empty set, until the tries
    are spent, an excess of 0 is met or none is left. `marks`, of DAYBOOK_MARKS bytes by trade place, has 1 for each trade of the first tried set with the smallest excess over
    the target, else 0. DAYBOOK_CANCELLATION_NUMBERS: that excess, the tries made, and 1 where the search is complete, which is where the excess is 0 or every set was tried,
-   so that no set has a smaller one. More tries never give a larger excess (proved: crates/requests/specs/Cancellation.antt). */
+   so that no other set that reaches the target has a smaller one. More tries never give a larger excess (proved: crates/requests/specs/Cancellation.antt). */
 uint32_t daybook_cancellation(const uint8_t *book, size_t book_len, uint32_t with_store, const uint8_t *store,
                               size_t store_len, uint32_t id, uint32_t tries, uint8_t *marks, size_t marks_len,
                               uint64_t *answer, size_t answer_len);

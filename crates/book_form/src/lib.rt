@@ -40,9 +40,9 @@ fn is_sized(s: &[u8]) -> bool
     requires { ⌜ 32 ≤ length (now s) ⌝ }
     ensures { λ r. ⌜ r ≡ sized (now (s .entry)) ⌝ }
 {
-    let n = fields::get_u8(s, 5) as usize;
-    let m = fields::get_u16(s, 6) as usize;
-    ((1 <= n) & (n <= 64)) & ((m <= 256) & (s.len() == 32 + 56 * n + 20 * m))
+    let n = book_format::user_count(s) as usize;
+    let m = book_format::trade_count(s) as usize;
+    ((1 <= n) & (n <= 64)) & ((m <= 256) & (s.len() == book_format::book_length(s, n, m)))
 }
 
 // The number of the first of the questions 1 to 3 that is answered by no, 0 where there is none.
@@ -99,12 +99,12 @@ fn zeros_valid(s: &[u8], at: usize, n: usize, size: usize, offset: usize, width:
     true
 }
 
-// Are the zero bytes of the n users from byte 32 on 0?
-pub fn user_zeros_valid(s: &[u8], n: usize) -> bool
-    requires { ⌜ 32 + 56 * n ≤ length (now s) ⌝ }
-    ensures { λ r. ⌜ r ≡ zerosIn (λ c. field 3 5 c) 56 n (drop 32 (now (s .entry))) ⌝ }
+// Are the zero bytes of the n users from byte `at` on 0?
+pub fn user_zeros_valid(s: &[u8], at: usize, n: usize) -> bool
+    requires { ⌜ at + 56 * n ≤ length (now s) ⌝ }
+    ensures { λ r. ⌜ r ≡ zerosIn (λ c. field 3 5 c) 56 n (drop at (now (s .entry))) ⌝ }
 {
-    zeros_valid(s, 32, n, 56, 5, 3)
+    zeros_valid(s, at, n, 56, 5, 3)
 }
 
 // Are the zero bytes of the m trades from byte `at` on 0?

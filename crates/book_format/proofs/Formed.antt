@@ -5,7 +5,7 @@ use mathlib.Core.Path.{_≡_, ap, sym}
 use Prim.Native.Nat.{_*_, _+_, _≤_, ℕ}
 use lib.Dec.{T, eqb, eqb→eq, leb, leb→le}
 use lib.ListN.{length}
-use Rattle.book_format.specs.Book.{mark, lengthOf, markOf, tradeCount, tradesAt, userAt, userCount, versionOf}
+use Rattle.book_format.specs.Book.{mark, lengthOf, markOf, tradeCount, tradesAt, userAt, userCount, versionOf, headerSize, userSize}
 use Rattle.book_format.specs.Questions.{aboutBytes, aboutFields, aboutForm, bookNumber, formNumber, marked, sized, versioned, Formed}
 use Rattle.laws.proofs.Refusals.{first-yes, number-none, number-some, numbered, refusal-first, refusal-next}
 use Rattle.base.proofs.Tests.{and-l, and-r}
@@ -17,7 +17,7 @@ unfolding marked
 marked-head s t = leb→le 32 (length s) (and-l (leb 32 (length s)) (eqb (markOf s) mark) t)
 
 pub formed-of : (s : List ℕ) → refusal (aboutForm s) ≡ none → Formed s
-unfolding aboutForm marked versioned sized lengthOf tradesAt userAt
+unfolding aboutForm marked versioned sized lengthOf tradesAt userAt headerSize userSize
 formed-of s h =
     let q1 = first-yes _ _ h in
     let q2 = first-yes _ _ (q1 .1) in

@@ -12,10 +12,11 @@ use Rattle.fields.proofs.Records.{length-bytesOfRecords}
 use Rattle.fields.proofs.Sets.{drop-sets, drop-sets-add, sets-whole, take-sets}
 use Rattle.fields.specs.Field.{AllBytes, field}
 use Rattle.fields.specs.Layout.{bytesOfRecords, pack}
+use Rattle.book_format.proofs.Offsets.{same-begin}
 use Rattle.book_format.proofs.Passed.{length-tradesOf, length-usersOf, passed}
 use Rattle.book_format.proofs.Round.{bytesOf-bookOf}
 use Rattle.book_format.proofs.Written.{all-bytes-bytesOf, formed-bytesOf, length-header}
-use Rattle.book_format.specs.Book.{bookOf, bytesOf, headerValues, headerWidths, pricesAt, tradeCount, tradesAt, tradesOf, userAt, userCount, usersOf, versionOf}
+use Rattle.book_format.specs.Book.{bookOf, bytesOf, headerValues, headerWidths, pricesAt, tradeCount, tradesAt, tradesOf, userAt, userCount, usersOf, versionOf, headerSize, userSize}
 use Rattle.book_format.specs.Questions.{Formed, bookNumber}
 use Rattle.book_format.proofs.Fits.{userOf-fits}
 use Rattle.book_format.proofs.Parts.{record-at, records-before, records-part, records-set}
@@ -98,13 +99,18 @@ module _ {b : Book} {s : List ℕ} (h : HeldAs b s) where
   pub held-tradeCount : length (b .trades) ≡ tradeCount s
   held-tradeCount = ap length (sym held-trades) ∙ length-tradesOf s
 
+  -- the version
+  held-version : versionOf s ≡ b .header .version
+  unfolding bookOf
+  held-version = ap (λ (x : Book). x .header .version) (h .book)
+
   -- every element is a byte
   pub held-bytes : AllBytes s
   held-bytes = subst AllBytes (sym (h .bytes)) (all-bytes-bytesOf b)
 
   -- the user at a place stands in its 56 bytes
   held-user : (i : ℕ) (d : User) → i < length (b .users) → userOf (take 56 (drop (32 + 56 * i) s)) ≡ getD (b .users) i d
-  unfolding usersOf
+  unfolding usersOf headerSize userSize tradesAt userAt
   held-user i d k = record-at 56 userOf (userCount s) i 32 s d (omega (arith, held-userCount)) ∙ ap (λ (us : List User). getD us i d) held-users
 
   -- and fits them
@@ -172,14 +178,14 @@ module _ {b : Book} {s : List ℕ} (h : HeldAs b s) where
 
     -- that user is read anew, and the trades stay
     user-users : usersOf with-user ≡ set (b .users) i u
-    unfolding usersOf with-user
+    unfolding usersOf with-user headerSize userSize tradesAt userAt
     user-users =
         rw (same-userCount s with-user user-front)
         (records-set 56 userOf (userCount s) i 32 s (userBytes u) (omega (arith, held-userCount)) (omega (arith, h .form .whole)) (length-userBytes u)
         ∙ ap₂ (λ (us : List User) (x : User). set us i x) held-users f)
 
     user-trades : tradesOf with-user ≡ b .trades
-    unfolding tradesOf tradesAt userAt with-user
+    unfolding tradesOf tradesAt userAt with-user headerSize userSize
     user-trades =
         rw (same-tradeCount s with-user user-front, same-userCount s with-user user-front, drop-sets (userBytes u) s (32 + 56 * i) (32 + 56 * userCount s) (omega (arith, held-userCount, length-userBytes u)))
         held-trades
@@ -196,7 +202,7 @@ module _ {b : Book} {s : List ℕ} (h : HeldAs b s) where
     -- a part of one user's bytes is set
     pub held-user-part : (j a : ℕ) (d : User) (vs : List ℕ) → a ≡ userAt s i + j → j + length vs ≤ 56 → userBytes u ≡ sets (userBytes (getD (b .users) i d)) j vs
         → HeldAs (withUsers b (set (b .users) i u)) (sets s a vs)
-    unfolding userAt
+    unfolding userAt headerSize userSize tradesAt
     held-user-part j a d vs at l e =
         subst (HeldAs (withUsers b (set (b .users) i u))) (held-user-set .bytes ∙ sym (user-bytes i j a u d vs k at l e)) held-user-set
 
@@ -213,13 +219,13 @@ module _ {b : Book} {s : List ℕ} (h : HeldAs b s) where
 
     -- the users stay, and that trade is read anew
     trade-users : usersOf with-trade ≡ b .users
-    unfolding usersOf with-trade
+    unfolding usersOf with-trade headerSize userSize tradesAt userAt
     trade-users =
         let n : 32 + 56 * length (b .users) + 20 * i ≡ 32 + (56 * userCount s + 20 * i) = omega (arith, held-userCount) in
         rw (same-userCount s with-trade trade-front, n, drop-sets-add, records-before 56 userOf (userCount s) (20 * i) (drop 32 s) (tradeBytes r)) held-users
 
     trade-trades : tradesOf with-trade ≡ set (b .trades) i r
-    unfolding tradesOf tradesAt userAt with-trade
+    unfolding tradesOf tradesAt userAt with-trade headerSize userSize
     trade-trades =
         rw (same-tradeCount s with-trade trade-front, same-userCount s with-trade trade-front, held-userCount)
         (records-set 20 tradeOf (tradeCount s) i (32 + 56 * userCount s) s (tradeBytes r) (omega (arith, held-tradeCount)) (omega (arith, h .form .whole)) (length-tradeBytes r)
@@ -233,3 +239,7 @@ module _ {b : Book} {s : List ℕ} (h : HeldAs b s) where
         let whole : tradeBytes r ≡ sets (tradeBytes x) 0 (tradeBytes r) = sym (sets-whole (tradeBytes r) (tradeBytes x) (length-tradeBytes x ∙ sym (length-tradeBytes r))) in
         held-changed (tradesReplaced b (set (b .trades) i r)) with-trade trade-front refl refl (length-set (b .trades) i r)
         (trade-bytes i 0 (32 + 56 * length (b .users) + 20 * i) r r (tradeBytes r) k (omega arith) (omega (arith, length-tradeBytes r)) whole) trade-users trade-trades
+
+-- the trades of two books of one version, with as many users, begin at one offset
+pub held-begin : {b c : Book} {s t : List ℕ} → HeldAs b s → HeldAs c t → b .header .version ≡ c .header .version → length (b .users) ≡ length (c .users) → tradesAt s ≡ tradesAt t
+held-begin {s = s} {t = t} h k v n = same-begin s t (held-version h ∙ v ∙ sym (held-version k)) (sym (held-userCount h) ∙ n ∙ held-userCount k)

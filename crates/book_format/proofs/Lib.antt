@@ -13,5 +13,6 @@ pub mod Parts
 pub mod Positions
 pub mod Fits
 pub mod Held
--- Laws of a user and of a trade by their places.
+-- Laws of where users and trades begin, and of a user and of a trade by their places.
+pub mod Offsets
 pub mod Places

@@ -16,7 +16,7 @@ use Rattle.fields.specs.Layout.{bytesOfRecords, pack}
 use Rattle.book_format.proofs.Passed.{Passed, length-usersOf}
 use Rattle.book_format.proofs.Round.{bytesOf-bookOf}
 use Rattle.book_format.proofs.Written.{length-header}
-use Rattle.book_format.specs.Book.{bookOf, bytesOf, headerValues, headerWidths, tradesOf, userAt, userCount, usersOf}
+use Rattle.book_format.specs.Book.{bookOf, bytesOf, headerValues, headerWidths, tradesOf, userAt, userCount, usersOf, headerSize, userSize, tradesAt}
 use Rattle.book_format.specs.Steps.{placeOf}
 use Rattle.base.proofs.Tests.{and-r}
 use Rattle.laws.proofs.Users.{change-absent}
@@ -73,7 +73,7 @@ module _ (s : List ℕ) (id : ℕ) where
 
 pub changed-bytes : (s : List ℕ) → AllBytes s → Passed s → (id : ℕ) (f : User → User) → placeOf (usersOf s) id < userCount s
     → bytesOf (withUsers (bookOf s) (change id f (usersOf s))) ≡ sets s (userAt s (placeOf (usersOf s) id)) (userBytes (f (find (usersOf s) id)))
-unfolding bytesOf withUsers headerValues bookOf userAt
+unfolding bytesOf withUsers headerValues bookOf userAt headerSize userSize tradesAt
 changed-bytes s b p id f k =
     let us = usersOf s in
     let i = placeOf us id in

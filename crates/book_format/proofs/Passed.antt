@@ -9,7 +9,7 @@ use lib.ListN.{drop, length, take}
 use Rattle.fields.proofs.Records.{length-recordsOf}
 use Rattle.fields.specs.Layout.{EveryPart, recordsOf}
 use Rattle.book_format.proofs.Formed.{book-passed, formed-of}
-use Rattle.book_format.specs.Book.{bookOf, tradeCount, tradesAt, tradesOf, userCount, usersOf, versionOf}
+use Rattle.book_format.specs.Book.{bookOf, tradeCount, tradesAt, tradesOf, userCount, usersOf, versionOf, headerSize, userSize, userAt}
 use Rattle.book_format.specs.Questions.{Formed, aboutBytes, aboutFields, aboutForm, bookNumber, partsOf, tradeZerosValid, userZerosValid}
 use Rattle.laws.proofs.Refusals.{append-yes, first-yes}
 use Rattle.laws.proofs.Sound.{sound}
@@ -35,11 +35,11 @@ each-zero z len (suc n) s h =
     (eqb→eq (z (take len s)) 0 (and-l a b h), each-zero z len n (drop len s) (and-r a b h))
 
 pub length-usersOf : (s : List ℕ) → length (usersOf s) ≡ userCount s
-unfolding usersOf
+unfolding usersOf headerSize userSize tradesAt userAt
 length-usersOf s = length-recordsOf 56 userOf (userCount s) (drop 32 s)
 
 pub length-tradesOf : (s : List ℕ) → length (tradesOf s) ≡ tradeCount s
-unfolding tradesOf
+unfolding tradesOf headerSize userSize tradesAt userAt
 length-tradesOf s = length-recordsOf 20 tradeOf (tradeCount s) (drop (tradesAt s) s)
 
 counts-valid : (s : List ℕ) → Formed s → T (countsValid (bookOf s))
@@ -55,7 +55,7 @@ unfolding versionValid bookOf
 version-valid s f = eqb-of (versionOf s) 1 (f .version)
 
 pub passed-of : (s : List ℕ) → refusal (aboutBytes s) ≡ none → Passed s
-unfolding aboutBytes aboutFields userZerosValid tradeZerosValid usersValid bookOf
+unfolding aboutBytes aboutFields userZerosValid tradeZerosValid usersValid bookOf headerSize userSize tradesAt userAt
 passed-of s h =
     let e = append-yes (aboutForm s) (aboutFields s) h in
     let f = formed-of s (e .0) in

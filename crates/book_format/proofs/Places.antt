@@ -4,22 +4,23 @@ use mathlib.Core.Path.{_≡_, sym, ap, _∙_}
 use Prim.Native.Nat.{ℕ, _+_, _-_, _*_, _≤_, _<_}
 use native.Mathlib.Omega.{arith}
 use lib.ListN.{length, take, drop, getD, set}
-use lib.Seq.{sets}
+use lib.Seq.{drop-drop, sets}
 use borrow.Rule.Slice.PartMut.{putMid}
-use Rattle.fields.proofs.Field.{field-part}
-use Rattle.fields.proofs.Sets.{part-sets}
-use Rattle.fields.specs.Field.{field}
+use Rattle.fields.proofs.Field.{all-bytes-part, field-part}
+use Rattle.fields.proofs.Records.{every-part-at}
+use Rattle.fields.proofs.Sets.{length-part, part-sets}
+use Rattle.fields.specs.Field.{AllBytes, field}
 use Rattle.book_format.proofs.Held.{held-trade-set, held-userCount}
 use Rattle.book_format.proofs.Parts.{record-at}
-use Rattle.book_format.proofs.Passed.{length-tradesOf}
+use Rattle.book_format.proofs.Passed.{Passed, length-tradesOf}
 use Rattle.book_format.proofs.Positions.{position-bytes}
-use Rattle.book_format.specs.Book.{bookOf, tradeCount, tradesAt, tradesOf, userAt, userCount, usersOf}
+use Rattle.book_format.specs.Book.{bookOf, tradeCount, tradesAt, tradesOf, userAt, userCount, usersOf, headerSize, userSize}
 use Rattle.book_format.specs.Held.{HeldAs, tradesReplaced}
 use Rattle.book_format.specs.Places.{TradeIn, UserIn, positionAt}
 use Rattle.book_records.proofs.Trades.{length-tradeBytes, trade-of-bytes}
-use Rattle.book_records.proofs.Users.{length-userBytes}
+use Rattle.book_records.proofs.Users.{length-userBytes, user-bytes-of}
 use Rattle.book_records.specs.Trade.{FitsTrade, tradeBytes, tradeOf}
-use Rattle.book_records.specs.User.{userBytes, userOf}
+use Rattle.book_records.specs.User.{userBytes, userOf, userZeros}
 use Rattle.rules.specs.Book.{Trade, User, at, noTrade, nobody}
 use Rattle.rules.specs.Signed.{signedOf}
 
@@ -32,11 +33,11 @@ module _ {s : List ℕ} {place : ℕ} (p : UserIn s place) where
 
   -- its bytes
   pub user-lies : userAt s place + 56 ≤ length s
-  unfolding userAt
+  unfolding userAt headerSize userSize tradesAt
   user-lies = omega (arith, p .form .whole, p .inside)
 
   user-is : userOf (take 56 (drop (userAt s place) s)) ≡ getD (usersOf s) place nobody
-  unfolding usersOf userAt
+  unfolding usersOf userAt headerSize userSize tradesAt
   user-is = record-at 56 userOf (userCount s) place 32 s nobody (p .inside)
 
   -- the user is read from them
@@ -57,6 +58,15 @@ module _ {s : List ℕ} {place : ℕ} (p : UserIn s place) where
   position-read {area} k =
       user-field 4 (20 + 4 * area) (λ u. at (u .position) area) (signedOf 32) (omega arith) (λ c. sym (position-bytes c area k))
 
+  -- its bytes are those that it was read from
+  pub user-part : AllBytes s → Passed s → userBytes (getD (usersOf s) place nobody) ≡ take 56 (drop (userAt s place) s)
+  unfolding userZeros userAt headerSize userSize
+  user-part b q =
+      let zeros = every-part-at (λ c. userZeros c ≡ 0) 56 (userCount s) (drop 32 s) place (q .user-zeros) (p .inside) in
+      ap userBytes (sym user-is)
+      ∙ user-bytes-of (take 56 (drop (32 + 56 * place) s)) (length-part s (32 + 56 * place) 56 user-lies) (all-bytes-part (32 + 56 * place) 56 s b)
+      (ap (λ (x : List ℕ). userZeros (take 56 x)) (sym (drop-drop (56 * place) 32 s)) ∙ zeros)
+
   -- another user's bytes in their place
   pub user-put : {a : ℕ} {part : List ℕ} (u : User) → a ≡ userAt s place → part ≡ userBytes u → putMid a (a + 56 - a) s part ≡ sets s (userAt s place) (userBytes u)
   user-put {a} u e f =
@@ -72,12 +82,12 @@ module _ {s : List ℕ} {at place : ℕ} (p : TradeIn s at place) where
 
   -- its bytes
   pub trade-lies : at + 20 * place + 20 ≤ length s
-  unfolding tradesAt userAt
+  unfolding tradesAt userAt headerSize userSize
   trade-lies = omega (arith, p .form .whole, p .begin, p .inside)
 
   -- the trade is read from them
   pub trade-read : {a : ℕ} {t : Trade} → a ≡ at + 20 * place → t ≡ tradeOf (take (a + 20 - a) (drop a s)) → t ≡ getD (tradesOf s) place noTrade
-  unfolding tradesOf
+  unfolding tradesOf headerSize userSize tradesAt userAt
   trade-read {a} e f =
       let l : a + 20 - a ≡ 20 = omega arith in
       let b : a ≡ tradesAt s + 20 * place = omega (arith, p .begin) in
@@ -86,7 +96,7 @@ module _ {s : List ℕ} {at place : ℕ} (p : TradeIn s at place) where
   -- another trade's bytes in their place
   pub trade-put : HeldAs (bookOf s) s → {a : ℕ} {part : List ℕ} (t : Trade) → a ≡ at + 20 * place → FitsTrade t → part ≡ tradeBytes t
       → HeldAs (tradesReplaced (bookOf s) (set (tradesOf s) place t)) (putMid a (a + 20 - a) s part)
-  unfolding bookOf tradesAt userAt
+  unfolding bookOf tradesAt userAt headerSize userSize
   trade-put h {a} t e fits f =
       let m : a ≡ 32 + 56 * length (usersOf s) + 20 * place = omega (arith, p .begin, held-userCount h) in
       let l : a + 20 - a ≡ 20 = omega arith in

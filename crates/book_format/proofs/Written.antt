@@ -15,7 +15,7 @@ use Rattle.fields.proofs.Records.{all-bytes-records, length-bytesOfRecords, rec
 use Rattle.fields.proofs.Sets.{sets-three}
 use Rattle.fields.specs.Field.{AllBytes, field, toBytes}
 use Rattle.fields.specs.Layout.{Every, bytesOfRecords, pack, recordsOf, size, FitAll, fieldsAt, setFields}
-use Rattle.book_format.specs.Book.{bytesOf, headerValues, headerWidths, bookOf, lengthOf, mark, markOf, tradeCount, tradesAt, tradesOf, userAt, userCount, usersOf, versionOf, pricesAt}
+use Rattle.book_format.specs.Book.{bytesOf, headerValues, headerWidths, bookOf, lengthOf, mark, markOf, tradeCount, tradesAt, tradesOf, userAt, userCount, usersOf, versionOf, pricesAt, headerSize, userSize}
 use Rattle.book_format.specs.Questions.{partsOf, aboutBytes, aboutFields, aboutForm, bookNumber, marked, sized, tradeZerosValid, userZerosValid, versioned, Formed}
 use Rattle.laws.proofs.Bounds.{entry-le, position-bound, within-le, prices-le}
 use Rattle.laws.proofs.Refusals.{yes-first}
@@ -173,7 +173,7 @@ module _ (b : Book) where
 
   module _ (v : b .header .version ≡ 1) (some : 1 ≤ length (b .users)) (users : length (b .users) ≤ 64) (trades : length (b .trades) ≤ 256) where
     pub formed-bytesOf : Formed (bytesOf b)
-    unfolding markOf versionOf userCount tradeCount mark
+    unfolding markOf versionOf userCount tradeCount mark tradesAt userAt headerSize userSize
     formed-bytesOf =
         let n = length (b .users) in
         let m = length (b .trades) in
@@ -252,7 +252,7 @@ module _ (b : Book) (f : FitsBook b) where
       drop-at (pack headerWidths (headerValues b)) (bytesOfRecords userBytes (b .users) ++ bytesOfRecords tradeBytes (b .trades)) 32 (length-header b)
 
   trades-part : drop (tradesAt (bytesOf b)) (bytesOf b) ≡ bytesOfRecords tradeBytes (b .trades)
-  unfolding tradesAt userAt
+  unfolding tradesAt userAt headerSize userSize
   trades-part =
       let n = length (b .users) in
       let e : drop (56 * n) (drop 32 (bytesOf b)) ≡ drop (32 + 56 * n) (bytesOf b) = drop-drop (56 * n) 32 (bytesOf b) in
@@ -260,13 +260,13 @@ module _ (b : Book) (f : FitsBook b) where
       (drop-at (bytesOfRecords userBytes (b .users)) (bytesOfRecords tradeBytes (b .trades)) (56 * n) (length-bytesOfRecords userBytes 56 length-userBytes (b .users)))
 
   users-written : usersOf (bytesOf b) ≡ b .users
-  unfolding usersOf
+  unfolding usersOf headerSize userSize tradesAt userAt
   users-written =
       rw (header .users, users-part)
       (recordsOf-bytesOfRecords 56 userOf userBytes (b .users) (bytesOfRecords tradeBytes (b .trades)) (every-map user-back (b .users) (f .users)))
 
   trades-written : tradesOf (bytesOf b) ≡ b .trades
-  unfolding tradesOf
+  unfolding tradesOf headerSize userSize tradesAt userAt
   trades-written =
       rw (trades-part, header .trades, ← append-nil (bytesOfRecords tradeBytes (b .trades)))
       (recordsOf-bytesOfRecords 20 tradeOf tradeBytes (b .trades) [] (every-map trade-back (b .trades) (f .trades)))
@@ -278,12 +278,12 @@ module _ (b : Book) (f : FitsBook b) where
       rw (header .version, header .date, header .p, header .q, header .l, header .x, header .i, users-written, trades-written)
 
   user-zeros-written : T (userZerosValid (bytesOf b))
-  unfolding userZerosValid
+  unfolding userZerosValid headerSize userSize tradesAt userAt
   user-zeros-written =
       rw (header .users, users-part) (written-zeros userZeros 56 userBytes length-userBytes userZeros-userBytes (b .users) (bytesOfRecords tradeBytes (b .trades)))
 
   trade-zeros-written : T (tradeZerosValid (bytesOf b))
-  unfolding tradeZerosValid
+  unfolding tradeZerosValid headerSize userSize tradesAt userAt
   trade-zeros-written =
       rw (header .trades, trades-part, ← append-nil (bytesOfRecords tradeBytes (b .trades)))
       (written-zeros tradeZeros 20 tradeBytes length-tradeBytes tradeZeros-tradeBytes (b .trades) [])
@@ -360,7 +360,7 @@ module _ (b : Book) (s : Sound b) where
   versioned-written = eqb-of (versionOf (bytesOf b)) 1 (header b sound-fits .version ∙ version-one)
 
   sized-written : T (sized (bytesOf b))
-  unfolding sized lengthOf tradesAt userAt
+  unfolding sized lengthOf tradesAt userAt headerSize userSize
   sized-written =
       let c = counted in
       let n = length (b .users) in

@@ -11,10 +11,10 @@ use Rattle.book_records.specs.Trade.{tradeOf, tradeBytes}
 
 -- ---- sizes in bytes, by the version of the book
 
-abbrev pub headerSize : ℕ → ℕ
+unfoldable pub headerSize : ℕ → ℕ
 headerSize version = 32
 
-abbrev pub userSize : ℕ → ℕ
+unfoldable pub userSize : ℕ → ℕ
 userSize version = 56
 
 abbrev pub tradeSize : ℕ → ℕ

@@ -72,4 +72,4 @@ pub record Formed (s : List ℕ) : Type 0 where
   pub some : 1 ≤ userCount s
   pub users : userCount s ≤ 64
   pub trades : tradeCount s ≤ 256
-  pub whole : length s ≡ 32 + 56 * userCount s + 20 * tradeCount s
+  pub whole : length s ≡ tradesAt s + tradeSize (versionOf s) * tradeCount s

@@ -8,14 +8,49 @@ ghost use lib.Seq.{sets};
 ghost use Rattle.rules.specs.Book.{nobody, noTrade};
 ghost use Rattle.book_records.specs.User.{asUser, userBytes};
 ghost use Rattle.book_records.specs.Trade.{asTrade};
-ghost use Rattle.book_format.specs.Book.{bookOf, userCount, userAt, usersOf, tradesAt, tradesOf};
+ghost use Rattle.book_format.specs.Book.{bookOf, headerSize, versionOf, userCount, tradeCount, lengthOf};
+ghost use Rattle.book_format.specs.Book.{userAt, usersOf, tradesAt, tradesOf};
 ghost use Rattle.book_format.specs.Questions.{Formed};
 ghost use Rattle.book_format.specs.Held.{HeldAs, tradesReplaced};
 ghost use Rattle.book_format.specs.Places.{UserIn, TradeIn, positionAt};
 use book_records::Trade;
 use book_records::User;
 
+// ---- the counts of the header
+
+// The number of users.
+pub fn user_count(s: &[u8]) -> u8
+    requires { ⌜ 32 ≤ length (now s) ⌝ }
+    ensures { λ r. ⌜ r ≡ userCount (now (s .entry)) ⌝ }
+{
+    fields::get_u8(s, 5)
+}
+
+// The number of trades.
+pub fn trade_count(s: &[u8]) -> u16
+    requires { ⌜ 32 ≤ length (now s) ⌝ }
+    ensures { λ r. ⌜ r ≡ tradeCount (now (s .entry)) ⌝ }
+{
+    fields::get_u16(s, 6)
+}
+
+// The length of a book of n users and m trades.
+pub fn book_length(s: &[u8], n: usize, m: usize) -> usize
+    requires { ⌜ (32 ≤ length (now s)) × (n ≡ userCount (now s)) × (m ≡ tradeCount (now s)) × (n ≤ 255) × (m ≤ 65535) ⌝ }
+    ensures { λ r. ⌜ r ≡ lengthOf (now (s .entry)) ⌝ }
+{
+    32 + 56 * n + 20 * m
+}
+
 // ---- users
+
+// Where the users begin, behind the header.
+pub fn users_offset(s: &[u8]) -> usize
+    requires { ⌜ Formed (now s) ⌝ }
+    ensures { λ r. ⌜ r ≡ headerSize (versionOf (now (s .entry))) ⌝ }
+{
+    32
+}
 
 // Where the 56 bytes of the user at a place begin.
 pub fn user_offset(s: &[u8], place: usize) -> usize

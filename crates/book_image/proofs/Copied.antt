@@ -8,7 +8,7 @@ use lib.ListN.{length, take, drop, replicate, length-append, length-take, length
 use lib.Seq.{sets, take-all, take-length, take-at, drop-at, length-take-le}
 use borrow.Rule.Slice.PartMut.{putMid}
 use Rattle.fields.proofs.Sets.{part-sets, sets-three, length-part}
-use Rattle.book_format.specs.Book.{userCount, tradesAt, userAt}
+use Rattle.book_format.specs.Book.{userCount, tradesAt, userAt, headerSize, userSize}
 use Rattle.book_format.specs.Questions.{Formed}
 use Rattle.book_image.specs.Image.{padded, imageOf}
 
@@ -46,7 +46,7 @@ part-filled l a k vs front inside fits e =
 -- header, users and trades, each in its room, over the whole of an image
 copied : (s l : List ℕ) → Formed s → length l ≡ 8736
     → sets (sets (sets l 0 (padded 32 (take 32 s))) 32 (padded 3584 (take (56 * userCount s) (drop 32 s)))) 3616 (padded 5120 (drop (tradesAt s) s)) ≡ imageOf s
-unfolding imageOf tradesAt userAt
+unfolding imageOf tradesAt userAt headerSize userSize
 copied s l f e =
     let h : length (take 32 s) ≡ 32 = length-take-le 32 s (f .head) in
     let header : padded 32 (take 32 s) ≡ take 32 s = ap (λ (n : ℕ). padded n (take 32 s)) (sym h) ∙ padded-full (take 32 s) in
@@ -57,7 +57,7 @@ copied s l f e =
 -- the same of the parts of a book of n users, as they are lent
 pub all-filled : (s l : List ℕ) (n : ℕ) → Formed s → n ≡ userCount s → length l ≡ 8736
     → sets (sets (sets l 0 (padded 32 (take 32 s))) 32 (padded 3584 (take (32 + 56 * n - 32) (drop 32 s)))) 3616 (padded 5120 (take (length s - (32 + 56 * n)) (drop (32 + 56 * n) s))) ≡ imageOf s
-unfolding tradesAt userAt
+unfolding tradesAt userAt headerSize userSize
 all-filled s l n f users whole =
     let k : 32 + 56 * n - 32 ≡ 56 * userCount s = omega (arith, users) in
     let rest : take (length s - (32 + 56 * n)) (drop (32 + 56 * n) s) ≡ drop (32 + 56 * userCount s) s = take-all (length s - (32 + 56 * n)) (drop (32 + 56 * n) s) (rw length-drop (omega arith)) ∙ ap (λ (m : ℕ). drop (32 + 56 * m) s) users in

@@ -11,7 +11,7 @@ use Rattle.fields.specs.Layout.{recordsOf}
 use Rattle.fields.proofs.Field.{field-part}
 use Rattle.book_records.specs.User.{userOf}
 use Rattle.book_records.specs.Trade.{tradeOf}
-use Rattle.book_format.specs.Book.{userCount, tradeCount, versionOf, tradesAt, userAt, usersOf, tradesOf, pricesAt, bookOf, bytesOf}
+use Rattle.book_format.specs.Book.{userCount, tradeCount, versionOf, tradesAt, userAt, usersOf, tradesOf, pricesAt, bookOf, bytesOf, headerSize, userSize}
 use Rattle.book_format.specs.Questions.{Formed}
 use Rattle.book_format.proofs.Passed.{Passed}
 use Rattle.book_format.proofs.Round.{bytesOf-bookOf}
@@ -39,7 +39,7 @@ module _ (s : List ℕ) (f : Formed s) where
       rw (zero-add at) at (sym (field-part w at 0 32 (imageOf s) h) ∙ ap (field w at) e ∙ field-part w at 0 32 s h)
 
   users-back : take (userCount s) (recordsOf 56 userOf 64 (drop 32 (imageOf s))) ≡ usersOf s
-  unfolding imageOf usersOf
+  unfolding imageOf usersOf tradesAt userAt headerSize userSize
   users-back =
       let n = userCount s in
       let all = take (56 * n) (drop 32 s) in
@@ -51,7 +51,7 @@ module _ (s : List ℕ) (f : Formed s) where
       ∙ ap (recordsOf 56 userOf n) (take-append-drop (56 * n) (drop 32 s))
 
   trades-back : take (tradeCount s) (recordsOf 20 tradeOf 256 (drop 3616 (imageOf s))) ≡ tradesOf s
-  unfolding imageOf tradesOf tradesAt userAt padded
+  unfolding imageOf tradesOf tradesAt userAt padded headerSize userSize
   trades-back =
       let m = tradeCount s in
       let users = padded 3584 (take (56 * userCount s) (drop 32 s)) in
@@ -65,7 +65,7 @@ module _ (s : List ℕ) (f : Formed s) where
 
   -- an image has one length, whatever the counts
   pub image-length : length (imageOf s) ≡ 8736
-  unfolding imageOf tradesAt userAt
+  unfolding imageOf tradesAt userAt headerSize userSize
   image-length =
       let users = take (56 * userCount s) (drop 32 s) in
       let trades = drop (32 + 56 * userCount s) s in

@@ -70,7 +70,7 @@ pub fn read(book: &[u8], image: &mut [u8]) -> u32
         clear(image);
         return number;
     }
-    let n = fields::get_u8(book, 5) as usize;
+    let n = book_format::user_count(book) as usize;
     copy_book(image, book, n);
     0
 }
@@ -169,8 +169,8 @@ pub fn write(image: &[u8], out: &mut [u8]) -> u32
     ensures { λ r. ⌜ WrittenAs (userCount (now (image .entry))) (tradeCount (now (image .entry))) (imageBook (now (image .entry))) (now (out .entry)) r (now (out .exit)) ⌝ }
 {
     let version = fields::get_u16(image, 3);
-    let n = fields::get_u8(image, 5) as usize;
-    let m = fields::get_u16(image, 6) as usize;
+    let n = book_format::user_count(image) as usize;
+    let m = book_format::trade_count(image) as usize;
     if version != 1 {
         return 2;
     }

@@ -16,7 +16,8 @@ use Rattle.base.proofs.Tests.{and-r}
 use Rattle.fields.specs.Field.{field}
 use Rattle.book_records.specs.Trade.{tradeZeros}
 use Rattle.book_records.specs.User.{userZeros}
-use Rattle.book_format.specs.Book.{bookOf, pricesAt, tradeCount, tradesAt, tradesOf, userAt, userCount, usersOf}
+use Rattle.book_format.proofs.Offsets.{trades-there, users-end, users-there}
+use Rattle.book_format.specs.Book.{bookOf, headerSize, pricesAt, tradeCount, tradesAt, tradesOf, userCount, userSize, usersOf, versionOf}
 use Rattle.book_format.specs.Questions.{Formed, aboutFields, aboutForm, formNumber, marked, sized, tradeZerosValid, userZerosValid, versioned}
 use Rattle.book_parties.specs.Ids.{usersFrom, tradesFrom, idsOf}
 use Rattle.book_form.specs.Zeros.{zerosIn}
@@ -106,14 +107,13 @@ module _ {us : List User} {ts : List Trade} {n : ℕ} {valid : Bool} {ids seller
 -- ---- 4 to 7 of bytes
 
 -- users and trades of bytes of the right form stand in them
-pub formed-bytes : {s : List ℕ} {n m : ℕ} → Formed s → n ≡ field 1 5 s → m ≡ field 2 6 s → RecordsIn 32 n (32 + 56 * n) m s
-unfolding userCount tradeCount
-formed-bytes form e f =
+pub formed-bytes : {s : List ℕ} {n m at to : ℕ} → Formed s → n ≡ userCount s → m ≡ tradeCount s → at ≡ headerSize (versionOf s) → to ≡ tradesAt s → RecordsIn at n to m s
+formed-bytes {s} form e f begin behind =
     record {
       few = omega (arith, form .users);
       many = omega (arith, form .trades);
-      users = omega (arith, form .whole);
-      trades = omega (arith, form .whole);
+      users = omega (arith, form .whole, users-end s begin e);
+      trades = omega (arith, form .whole, behind);
     }
 
 module _ (s : List ℕ) {date : ℕ} {prices : Prices} {valid : Bool} (d : date ≡ field 4 8 s) (p : prices ≡ pricesAt 12 s) (e : valid ≡ (realDay date && pricesValid prices)) where
@@ -128,21 +128,20 @@ module _ (s : List ℕ) {date : ℕ} {prices : Prices} {valid : Bool} (d : date 
   fields-4 h = record { asked = rw (sym header-answer ∙ h); placed = λ f. absurd (omega arith) }
 
   -- it is yes: the number is that of the users and trades
-  pub fields-rest : {n m r : ℕ} {userZeros tradeZeros : Bool} {sellers buyers : List ℕ} → valid ≡ true → n ≡ field 1 5 s → m ≡ field 2 6 s
-      → userZeros ≡ zerosIn (λ c. field 3 5 c) 56 n (drop 32 s) → tradeZeros ≡ zerosIn (λ c. field 1 11 c) 20 m (drop (32 + 56 * n) s)
-      → RecordsAsked userZeros tradeZeros (usersFrom 32 n s) (tradesFrom (32 + 56 * n) m s) r sellers buyers → FieldsPlaced s r sellers buyers
-  unfolding fieldsNumber aboutFields refusal numberOf recordsNumber zerosIn userZerosValid tradeZerosValid userZeros tradeZeros usersOf tradesOf tradesAt userAt userCount tradeCount
-  fields-rest h f g uz tz asked =
+  pub fields-rest : {n m at to r : ℕ} {userZeros tradeZeros : Bool} {sellers buyers : List ℕ} → valid ≡ true → n ≡ userCount s → m ≡ tradeCount s → at ≡ headerSize (versionOf s) → to ≡ tradesAt s
+      → userZeros ≡ zerosIn (λ c. field 3 5 c) 56 n (drop at s) → tradeZeros ≡ zerosIn (λ c. field 1 11 c) 20 m (drop to s)
+      → RecordsAsked userZeros tradeZeros (usersFrom at n s) (tradesFrom to m s) r sellers buyers → FieldsPlaced s r sellers buyers
+  unfolding fieldsNumber aboutFields refusal numberOf recordsNumber zerosIn userZerosValid tradeZerosValid userZeros tradeZeros usersOf tradesOf userSize
+  fields-rest h f g begin behind uz tz asked =
       record {
-        asked = asked .asked ∙ rw (uz, tz, f, g, sym header-answer ∙ h);
-        placed = λ k. rw (← f, ← g) (asked .placed k);
+        asked = asked .asked ∙ rw (uz, tz, f, g, begin, behind, sym header-answer ∙ h);
+        placed = λ k. rw (← f, ← g, ← begin, ← behind) (asked .placed k);
       }
 
 -- so are the sums
-pub fields-summed : (s : List ℕ) {n m r read : ℕ} {sums : List ℕ} → n ≡ field 1 5 s → m ≡ field 2 6 s
-    → Summed (usersFrom 32 n s) (tradesFrom (32 + 56 * n) m s) m r read sums → Summed (usersOf s) (tradesOf s) (tradeCount s) r read sums
-unfolding usersOf tradesOf tradesAt userAt userCount tradeCount
-fields-summed s f g w = rw (← f, ← g) w
+pub fields-summed : (s : List ℕ) {n m at to r read : ℕ} {sums : List ℕ} → n ≡ userCount s → m ≡ tradeCount s → at ≡ headerSize (versionOf s) → to ≡ tradesAt s
+    → Summed (usersFrom at n s) (tradesFrom to m s) m r read sums → Summed (usersOf s) (tradesOf s) (tradeCount s) r read sums
+fields-summed s f g begin behind w = rw (← users-there s begin f, ← trades-there s behind g, ← g) w
 
 -- the number of a form that is refused is below 4
 pub form-before : (s : List ℕ) {k : ℕ} → k ≡ formNumber s → (k ≡ 0 → ⊥) → T (pastSix k) → ⊥

@@ -134,18 +134,19 @@ pub fn ask_fields(s: &[u8], sellers: &mut [u8], buyers: &mut [u8], sums: &mut [u
     ensures { λ r. ⌜ FieldsPlaced (now (s .entry)) (r .number) (now (sellers .exit)) (now (buyers .exit)) ⌝ }
     ensures { λ r. ⌜ Summed (usersOf (now (s .entry))) (tradesOf (now (s .entry))) (tradeCount (now (s .entry))) (r .number) (r .read) (now (sums .exit)) ⌝ }
 {
-    let n = fields::get_u8(s, 5) as usize;
-    let m = fields::get_u16(s, 6) as usize;
+    let n = book_format::user_count(s) as usize;
+    let m = book_format::trade_count(s) as usize;
     let prices = book_form::read_prices(s);
     if !book_form::header_valid(fields::get_u32(s, 8), prices) {
         return Answer { number: 4, read: 0 };
     }
-    let trades_at = 32 + 56 * n;
-    let user_zeros = book_form::user_zeros_valid(s, n);
+    let users_at = book_format::users_offset(s);
+    let trades_at = book_format::trades_offset(s, n);
+    let user_zeros = book_form::user_zeros_valid(s, users_at, n);
     let trade_zeros = book_form::trade_zeros_valid(s, trades_at, m);
     ask_records(
         s,
-        32,
+        users_at,
         n,
         trades_at,
         m,

@@ -8,8 +8,8 @@ use native.Mathlib.Omega.{arith}
 use lib.Dec.{T, eqb, leb, leb→le}
 use lib.ListN.{length, length-map, length-take, take}
 use borrow.Author.Tests.{eqb-true}
-use Rattle.book_value.specs.Book.{asBook}
-use Rattle.book_value.specs.declared.Book.{Book}
+use Rattle.book_tables.specs.Book.{asBook}
+use Rattle.book_tables.specs.declared.Book.{Book}
 use Rattle.book_format.proofs.Written.{formed-bytesOf, length-bytesOf}
 use Rattle.book_format.specs.Book.{bytesOf}
 use Rattle.book_format.specs.Questions.{Formed, aboutFields}

@@ -3,8 +3,8 @@ use mathlib.Core.Path.{_≡_}
 use mathlib.Core.List.{List}
 use Prim.Native.Nat.{ℕ}
 use Rattle.book_format.specs.Questions.{bookNumber}
-use Rattle.book_value.specs.declared.Book.{Book}
-use Rattle.book_value.specs.Book.{BookRead, blankBook}
+use Rattle.book_tables.specs.declared.Book.{Book}
+use Rattle.book_tables.specs.Book.{BookRead, blankBook}
 use Rattle.book_questions.specs.Asked.{fieldsNumber}
 
 -- bytes that were asked the questions 4 to 7: the number, and the book, or a blank one where a question refuses

@@ -10,8 +10,8 @@ use Rattle.rules.specs.Book as model
 use Rattle.rules.specs.Questions.{Question, refusal, numberOf, decided}
 use Rattle.book_format.specs.Book.{bytesOf}
 use Rattle.book_format.specs.Questions.{aboutFields}
-use Rattle.book_value.specs.declared.Book.{Book}
-use Rattle.book_value.specs.Book.{asBook}
+use Rattle.book_tables.specs.declared.Book.{Book}
+use Rattle.book_tables.specs.Book.{asBook}
 
 -- counts in range: 1 to 64 users, at most 256 trades
 unfoldable pub countsInRange : ℕ → ℕ → Bool

@@ -202,8 +202,8 @@ fn cancel_sales(
     requires { ⌜ (0 < tries) × (tries < 65536) ⌝ }
     ensures { λ r. ⌜ cancellationOf r ≡ onSales (bookOf (now (book .entry))) (getD (usersOf (now (book .entry))) place nobody) (asked .0) tries ⌝ }
 {
-    let n = fields::get_u8(book, 5) as usize;
-    let m = fields::get_u16(book, 6) as usize;
+    let n = book_format::user_count(book) as usize;
+    let m = book_format::trade_count(book) as usize;
     let at = book_format::trades_offset(book, n);
     let mut worths = [0u64; 256];
     cancel_among(

@@ -12,24 +12,24 @@ use borrow.Author.Tests.{eq-eqb, ne-eqb}
 use Rattle.fields.proofs.Field.{field-part}
 use Rattle.fields.specs.Field.{field}
 use Rattle.fields.specs.Layout.{recordsOf}
-use Rattle.book_format.specs.Book.{userCount, usersOf}
+use Rattle.book_format.proofs.Offsets.{user-next, user-there, users-there}
+use Rattle.book_format.specs.Book.{headerSize, userAt, userCount, usersOf, versionOf}
 use Rattle.book_format.specs.Steps.{placeOf}
 use Rattle.book_records.specs.User.{userOf}
 
 -- where i of n users have another id: the next one stands at a, and the place among those left, behind i, is the place among all
 pub record Seeking (s : List ℕ) (id n i a : ℕ) : Type 0 where
-  pub place : a ≡ 32 + 56 * i
+  pub place : a ≡ userAt s i
   pub within : i ≤ n
   pub count : n ≡ userCount s
   pub answer : placeOf (usersOf s) id ≡ i + placeOf (recordsOf 56 userOf (n - i) (drop a s)) id
 
 module _ {s : List ℕ} {id n : ℕ} where
   -- before the first
-  pub seeking-start : n ≡ userCount s → Seeking s id n 0 32
-  unfolding usersOf
-  seeking-start e =
-      let k : placeOf (recordsOf 56 userOf (userCount s) (drop 32 s)) id ≡ placeOf (recordsOf 56 userOf (n - 0) (drop 32 s)) id = rw (sub-zero, e) in
-      record { place = omega arith; within = omega arith; count = e; answer = omega (arith, k) }
+  pub seeking-start : {a : ℕ} → a ≡ headerSize (versionOf s) → n ≡ userCount s → Seeking s id n 0 a
+  seeking-start {a} begin e =
+      let k : placeOf (usersOf s) id ≡ placeOf (recordsOf 56 userOf (n - 0) (drop a s)) id = rw (sub-zero, users-there s begin e) in
+      record { place = omega (arith, user-there s 0 begin); within = omega arith; count = e; answer = omega (arith, k) }
 
   -- by the test of the next one
   seeking-next : {i a : ℕ} {b : Bool} → Seeking s id n i a → i < n → eqb (field 4 a s) id ≡ b
@@ -46,9 +46,9 @@ module _ {s : List ℕ} {id n : ℕ} where
 
   -- it has another
   pub seeking-turn : {i a : ℕ} (x : ℕ) → Seeking s id n i a → i < n → x ≡ field 4 a s → (x ≡ id → ⊥) → Seeking s id n (i + 1) (a + 56)
-  seeking-turn x before h e k =
+  seeking-turn {i} x before h e k =
       record {
-        place = omega (arith, before .place);
+        place = omega (arith, before .place, user-next s i);
         within = omega arith;
         count = before .count;
         answer = omega (arith, seeking-next before h (ap (λ (y : ℕ). eqb y id) (sym e) ∙ ne-eqb x id k));

@@ -11,9 +11,9 @@ pub fn place_of(s: &[u8], id: u32) -> usize
     requires { ⌜ Formed (now s) ⌝ }
     ensures { λ r. ⌜ (r ≡ placeOf (usersOf (now (s .entry))) id) × (r ≤ userCount (now (s .entry))) ⌝ }
 {
-    let n = fields::get_u8(s, 5) as usize;
+    let n = book_format::user_count(s) as usize;
     let mut i = 0;
-    let mut a = 32;
+    let mut a = book_format::users_offset(s);
     while i < n {
         if fields::get_u32(s, a) == id {
             return i;
@@ -43,7 +43,7 @@ pub fn seek(s: &[u8], number: u32, id: u32) -> Entry
         };
     }
     let place = place_of(s, id);
-    let n = fields::get_u8(s, 5) as usize;
+    let n = book_format::user_count(s) as usize;
     if n <= place {
         return Entry {
             number: 8,

@@ -4,12 +4,13 @@ use mathlib.Core.Path.{_≡_, _∙_, ap, refl, sym}
 use Prim.Native.Nat.{ℕ, suc, _+_, _*_, _-_, _<_, _≤_}
 use native.Mathlib.Omega.{arith}
 use lib.ListN.{length, take, drop, getD, set, replicate, length-replicate}
-use Rattle.fields.proofs.Field.{field-part}
 use Rattle.fields.specs.Field.{field}
 use Rattle.book_format.proofs.Passed.{length-usersOf, passed}
-use Rattle.book_format.specs.Book.{bookOf, userCount, usersOf}
-use Rattle.book_format.specs.Questions.{bookNumber}
-use Rattle.book_format.proofs.Parts.{record-at}
+use Rattle.book_format.proofs.Offsets.{user-next, user-there}
+use Rattle.book_format.proofs.Places.{user-field}
+use Rattle.book_format.specs.Book.{bookOf, headerSize, userAt, userCount, usersOf, versionOf}
+use Rattle.book_format.specs.Places.{UserIn}
+use Rattle.book_format.specs.Questions.{Formed, bookNumber}
 use Rattle.book_parties.proofs.Rising.{rising-ids}
 use Rattle.book_parties.specs.Ids.{idsOf}
 use Rattle.book_questions.proofs.Loops.{Listed, listed-end, listed-start, listed-turn, rest-set}
@@ -22,28 +23,27 @@ use Rattle.call_list.specs.Lines.{Known}
 
 -- the ids of the first i users are listed, of which the next stands at a; the rest is as it was
 pub record Filling (s : List ℕ) (n : ℕ) (known : List ℕ) (i a : ℕ) : Type 0 where
-  pub place : a ≡ 32 + 56 * i
+  pub place : a ≡ userAt s i
   pub within : i ≤ n
   pub listed : Listed (λ u. u .party .id) (usersOf s) 64 known i
   pub rest : drop i known ≡ replicate (64 - i) 4294967295
 
 module _ {s : List ℕ} {n : ℕ} where
-  pub filling-start : {known : List ℕ} → known ≡ replicate 64 4294967295 → Filling s n known 0 32
-  filling-start e =
-      record { place = omega arith; within = omega arith; listed = listed-start (ap length e ∙ length-replicate {A = ℕ} 64 4294967295); rest = e }
+  pub filling-start : {known : List ℕ} {a : ℕ} → known ≡ replicate 64 4294967295 → a ≡ headerSize (versionOf s) → Filling s n known 0 a
+  filling-start e begin =
+      record { place = omega (arith, user-there s 0 begin); within = omega arith; listed = listed-start (ap length e ∙ length-replicate {A = ℕ} 64 4294967295); rest = e }
 
   -- the id of the next user is the first field of its record
-  pub filling-turn : {known : List ℕ} {i a x : ℕ} → Filling s n known i a → i < n → n ≡ userCount s → n ≤ 64 → x ≡ field 4 a s → Filling s n (set known i x) (i + 1) (a + 56)
-  unfolding usersOf userOf
-  filling-turn {known} {i} {a} {x} before h count few e =
-      let at : a ≡ 32 + 56 * i + 0 = omega (arith, before .place) in
-      let user : userOf (take 56 (drop (32 + 56 * i) s)) ≡ getD (usersOf s) i nobody = record-at 56 userOf (userCount s) i 32 s nobody (omega arith) in
-      let id : x ≡ getD (usersOf s) i nobody .party .id
-      = e ∙ ap (λ (m : ℕ). field 4 m s) at ∙ sym (field-part 4 0 (32 + 56 * i) 56 s (omega arith)) ∙ ap (λ (u : User). u .party .id) user in
+  pub filling-turn : {known : List ℕ} {i a x : ℕ} → Filling s n known i a → i < n → n ≡ userCount s → Formed s → x ≡ field 4 a s → Filling s n (set known i x) (i + 1) (a + 56)
+  unfolding userOf
+  filling-turn {known} {i} {a} {x} before h count form e =
+      let at : a ≡ userAt s i + 0 = omega (arith, before .place) in
+      let there : UserIn s i = record { form = form; inside = omega arith } in
+      let id : x ≡ getD (usersOf s) i nobody .party .id = e ∙ ap (λ (m : ℕ). field 4 m s) at ∙ user-field there 4 0 (λ u. u .party .id) (λ y. y) (omega arith) (λ c. refl) in
       record {
-        place = omega (arith, before .place);
+        place = omega (arith, before .place, user-next s i);
         within = omega arith;
-        listed = listed-turn nobody (before .listed) (omega (arith, length-usersOf s)) (omega arith) id;
+        listed = listed-turn nobody (before .listed) (omega (arith, length-usersOf s)) (omega (arith, form .users)) id;
         rest = rest-set 64 i 4294967295 x known (before .rest);
       }
 

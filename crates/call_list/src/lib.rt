@@ -28,7 +28,7 @@ fn fill_ids(book: &[u8], n: usize, known: &mut [u32])
     ensures { λ _. ⌜ Known (now (known .exit)) n (now (book .entry)) ⌝ }
 {
     let mut i = 0;
-    let mut a = 32;
+    let mut a = book_format::users_offset(book);
     while i < n {
         known[i] = fields::get_u32(book, a);
         a += 56;
@@ -96,7 +96,7 @@ pub fn list(
     if number != 0 {
         return number;
     }
-    let n = fields::get_u8(book, 5) as usize;
+    let n = book_format::user_count(book) as usize;
     let mut known = [0xffff_ffffu32; 64];
     let mut guesses = [0u8; 1024];
     fill_ids(book, n, &mut known);

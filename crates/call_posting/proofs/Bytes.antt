@@ -5,17 +5,17 @@ use Prim.Native.Nat.{ℕ, zero, suc, _+_, _*_, _<_, _≤_}
 use native.Mathlib.Omega.{arith}
 use lib.IntN.{ℤ, _+ℤ_}
 use lib.ListN.{length, getD, take, drop, set}
-use lib.Seq.{drop-drop, length-sets, sets}
-use Rattle.fields.proofs.Field.{all-bytes-part, field-part, length-toBytes}
-use Rattle.fields.proofs.Records.{every-part-at}
+use lib.Seq.{length-sets, sets}
+use Rattle.fields.proofs.Field.{length-toBytes}
 use Rattle.fields.proofs.Sets.{length-part, part-sets, sets-left, sets-part, sets-right}
 use Rattle.fields.specs.Field.{AllBytes, field, setField, toBytes}
 use Rattle.fields.specs.Layout.{size}
 use Rattle.book_format.proofs.Passed.{Passed}
-use Rattle.book_format.specs.Book.{userCount, usersOf}
-use Rattle.book_format.proofs.Parts.{pack-set, record-at}
-use Rattle.book_records.proofs.Users.{user-bytes-of}
-use Rattle.book_records.specs.User.{amountsAt, amountValues, amountWidths, userBytes, userOf, userValues, userWidths, userZeros}
+use Rattle.book_format.specs.Book.{userAt, usersOf}
+use Rattle.book_format.specs.Places.{UserIn}
+use Rattle.book_format.proofs.Parts.{pack-set}
+use Rattle.book_format.proofs.Places.{user-field, user-lies, user-part}
+use Rattle.book_records.specs.User.{amountsAt, amountValues, amountWidths, userBytes, userOf, userValues, userWidths}
 use Rattle.rules.specs.Book.{User, at, nobody}
 use Rattle.rules.specs.Changes.{add, posted}
 use Rattle.rules.specs.Signed.{bitsOf, signedOf}
@@ -54,62 +54,41 @@ bytes-posted u z (suc (suc zero)) h =
     ∙ ap (setField 4 28 (bitsOf 32 (u .position .avb +ℤ z))) (pack-set userWidths (userValues u) 5 (bitsOf 32 (u .physical .avb +ℤ z)) (omega arith) refl)
 bytes-posted u z (suc (suc (suc area))) h = absurd (omega arith)
 
-module _ (s : List ℕ) (place area : ℕ) (h : place < userCount s) (k : area < 3) where
+module _ {s : List ℕ} {place : ℕ} (area : ℕ) (there : UserIn s place) (k : area < 3) where
   -- the user at the place, and its bytes
   abbrev user : User
   user = getD (usersOf s) place nobody
 
   abbrev part : List ℕ
-  part = take 56 (drop (32 + 56 * place) s)
+  part = take 56 (drop (userAt s place) s)
 
-  user-is : userOf part ≡ user
-  unfolding usersOf
-  user-is = record-at 56 userOf (userCount s) place 32 s nobody h
-
-  pub entry-bytes : signedOf 32 (field 4 (40 + 56 * place + 4 * area) s) ≡ at (getD (usersOf s) place nobody .physical) area
+  pub entry-bytes : signedOf 32 (field 4 (userAt s place + (8 + 4 * area)) s) ≡ at (getD (usersOf s) place nobody .physical) area
   unfolding userOf
-  entry-bytes =
-      ap (λ (n : ℕ). signedOf 32 (field 4 n s)) (let e : 40 + 56 * place + 4 * area ≡ 32 + 56 * place + (8 + 4 * area) = omega arith in e)
-      ∙ ap (signedOf 32) (sym (field-part 4 (8 + 4 * area) (32 + 56 * place) 56 s (omega arith)))
-      ∙ sym (amount-bytes 8 part area k)
-      ∙ ap (λ (u : User). at (u .physical) area) user-is
+  entry-bytes = user-field there 4 (8 + 4 * area) (λ u. at (u .physical) area) (signedOf 32) (omega arith) (λ c. sym (amount-bytes 8 c area k))
 
-  pub position-bytes : signedOf 32 (field 4 (40 + 56 * place + 4 * area + 12) s) ≡ at (getD (usersOf s) place nobody .position) area
+  pub position-bytes : signedOf 32 (field 4 (userAt s place + (8 + 4 * area) + 12) s) ≡ at (getD (usersOf s) place nobody .position) area
   unfolding userOf
   position-bytes =
-      ap (λ (n : ℕ). signedOf 32 (field 4 n s)) (let e : 40 + 56 * place + 4 * area + 12 ≡ 32 + 56 * place + (20 + 4 * area) = omega arith in e)
-      ∙ ap (signedOf 32) (sym (field-part 4 (20 + 4 * area) (32 + 56 * place) 56 s (omega arith)))
-      ∙ sym (amount-bytes 20 part area k)
-      ∙ ap (λ (u : User). at (u .position) area) user-is
+      ap (λ (n : ℕ). signedOf 32 (field 4 n s)) (let e : userAt s place + (8 + 4 * area) + 12 ≡ userAt s place + (20 + 4 * area) = omega arith in e)
+      ∙ user-field there 4 (20 + 4 * area) (λ u. at (u .position) area) (signedOf 32) (omega arith) (λ c. sym (amount-bytes 20 c area k))
 
   module _ (b : AllBytes s) (p : Passed s) where
-    inside : 32 + 56 * place + 56 ≤ length s
-    inside = omega (arith, p .form .whole)
-
-    -- the user's bytes are those that it was read from
-    user-bytes : userBytes user ≡ part
-    unfolding userZeros
-    user-bytes =
-        ap userBytes (sym user-is)
-        ∙ user-bytes-of part (length-part s (32 + 56 * place) 56 inside) (all-bytes-part (32 + 56 * place) 56 s b)
-        (ap (λ (x : List ℕ). field 3 5 (take 56 x)) (sym (drop-drop (56 * place) 32 s)) ∙ every-part-at (λ c. field 3 5 c ≡ 0) 56 (userCount s) (drop 32 s) place (p .user-zeros) h)
-
     -- both fields set are the record of the posted user
     pub posted-bytes : (z : ℤ)
-        → setField 4 (40 + 56 * place + 4 * area + 12) (bitsOf 32 (at (getD (usersOf s) place nobody .position) area +ℤ z))
-        (setField 4 (40 + 56 * place + 4 * area) (bitsOf 32 (at (getD (usersOf s) place nobody .physical) area +ℤ z)) s)
-        ≡ sets s (32 + 56 * place) (userBytes (posted area z (getD (usersOf s) place nobody)))
+        → setField 4 (userAt s place + (8 + 4 * area) + 12) (bitsOf 32 (at (getD (usersOf s) place nobody .position) area +ℤ z))
+        (setField 4 (userAt s place + (8 + 4 * area)) (bitsOf 32 (at (getD (usersOf s) place nobody .physical) area +ℤ z)) s)
+        ≡ sets s (userAt s place) (userBytes (posted area z (getD (usersOf s) place nobody)))
     unfolding setField
     posted-bytes z =
-        let a = 32 + 56 * place in
+        let a = userAt s place in
         let x = toBytes 4 (bitsOf 32 (at (user .physical) area +ℤ z)) in
         let y = toBytes 4 (bitsOf 32 (at (user .position) area +ℤ z)) in
-        let n : length part ≡ 56 = length-part s a 56 inside in
+        let n : length part ≡ 56 = length-part s a 56 (user-lies there) in
         let one = sets part (8 + 4 * area) x in
         let m : length one ≡ 56 = length-sets part (8 + 4 * area) x ∙ n in
-        sym (ap (sets s a) (bytes-posted user z area k ∙ ap (λ (c : List ℕ). sets (sets c (8 + 4 * area) x) (20 + 4 * area) y) user-bytes)
-        ∙ sets-within s one y a (20 + 4 * area) (omega (arith, inside)) (omega (arith, length-toBytes 4 (bitsOf 32 (at (user .position) area +ℤ z))))
+        sym (ap (sets s a) (bytes-posted user z area k ∙ ap (λ (c : List ℕ). sets (sets c (8 + 4 * area) x) (20 + 4 * area) y) (user-part there b p))
+        ∙ sets-within s one y a (20 + 4 * area) (omega (arith, user-lies there)) (omega (arith, length-toBytes 4 (bitsOf 32 (at (user .position) area +ℤ z))))
         ∙ ap (λ (l : List ℕ). sets l (a + (20 + 4 * area)) y)
-        (sets-within s part x a (8 + 4 * area) (omega (arith, inside)) (omega (arith, length-toBytes 4 (bitsOf 32 (at (user .physical) area +ℤ z)))) ∙ ap (λ (l : List ℕ). sets l (a + (8 + 4 * area)) x) (sets-part s a 56 inside))
-        ∙ ap (λ (i : ℕ). sets (sets s (a + (8 + 4 * area)) x) i y) (let e : a + (20 + 4 * area) ≡ 40 + 56 * place + 4 * area + 12 = omega arith in e)
-        ∙ ap (λ (i : ℕ). sets (sets s i x) (40 + 56 * place + 4 * area + 12) y) (let e : a + (8 + 4 * area) ≡ 40 + 56 * place + 4 * area = omega arith in e))
+        (sets-within s part x a (8 + 4 * area) (omega (arith, user-lies there)) (omega (arith, length-toBytes 4 (bitsOf 32 (at (user .physical) area +ℤ z)))) ∙ ap (λ (l : List ℕ). sets l (a + (8 + 4 * area)) x) (sets-part s a 56 (user-lies there)))
+        ∙ ap (λ (i : ℕ). sets (sets s (a + (8 + 4 * area)) x) i y) (let e : a + (20 + 4 * area) ≡ userAt s place + (8 + 4 * area) + 12 = omega arith in e)
+        ∙ ap (λ (i : ℕ). sets (sets s i x) (userAt s place + (8 + 4 * area) + 12) y) (let e : a + (8 + 4 * area) ≡ userAt s place + (8 + 4 * area) = omega arith in e))

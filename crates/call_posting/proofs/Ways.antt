@@ -15,6 +15,7 @@ use Rattle.fields.specs.Field.{AllBytes, field, setField}
 use Rattle.book_format.proofs.OneUser.{changed-bytes, find-place}
 use Rattle.book_format.proofs.Passed.{length-usersOf, passed}
 use Rattle.book_format.specs.Book.{bookOf, tradesOf, userAt, userCount, usersOf}
+use Rattle.book_format.specs.Places.{UserIn}
 use Rattle.book_format.specs.Questions.{bookNumber}
 use Rattle.book_format.specs.Steps.{inBytes, placeOf}
 use Rattle.book_format.specs.After.{CalledAfter, stepAfter}
@@ -87,6 +88,9 @@ module _ (s : List ℕ) (place area : ℕ) (z : ℤ) (h : bookNumber s ≡ 0) (l
   user = getD (usersOf s) place nobody
 
   -- whoever stands there is found
+  there : UserIn s place
+  there = record { form = passed s h .form; inside = l }
+
   found-there : (id : ℕ) → place ≡ placeOf (usersOf s) id → Found s id place
   found-there id e = record { passes = h; stands = e; known = l }
 
@@ -98,7 +102,7 @@ module _ (s : List ℕ) (place area : ℕ) (z : ℤ) (h : bookNumber s ≡ 0) (l
 
   module _ (k : area < 3) where
     -- the entry and the position may be posted to
-    pub at-ready : {entry position : ℕ} → entry ≡ field 4 (40 + 56 * place + 4 * area) s → position ≡ field 4 (40 + 56 * place + 4 * area + 12) s → Ready entry position
+    pub at-ready : {entry position : ℕ} → entry ≡ field 4 (userAt s place + (8 + 4 * area)) s → position ≡ field 4 (userAt s place + (8 + 4 * area) + 12) s → Ready entry position
     unfolding bookOf
     at-ready e d =
         let q = passed s h in
@@ -106,17 +110,17 @@ module _ (s : List ℕ) (place area : ℕ) (z : ℤ) (h : bookNumber s ≡ 0) (l
         let x = entry-le user area k v in
         let y = position-bound (bookOf s) (q .sound) user v (all-at (positionsValid (tradesOf s)) (usersOf s) (q .sound .positions) place nobody (rw (length-usersOf s) l)) area k in
         record {
-          entered = ap (λ (n : ℕ). within 1000000 (signedOf 32 n)) e ∙ ap (within 1000000) (entry-bytes s place area l k) ∙ parts-within 1000000 (at (user .physical) area) (x .0) (x .1);
-          held = ap (λ (n : ℕ). within 26600000 (signedOf 32 n)) d ∙ ap (within 26600000) (position-bytes s place area l k) ∙ parts-within 26600000 (at (user .position) area) (y .0) (y .1);
+          entered = ap (λ (n : ℕ). within 1000000 (signedOf 32 n)) e ∙ ap (within 1000000) (entry-bytes area there k) ∙ parts-within 1000000 (at (user .physical) area) (x .0) (x .1);
+          held = ap (λ (n : ℕ). within 26600000 (signedOf 32 n)) d ∙ ap (within 26600000) (position-bytes area there k) ∙ parts-within 26600000 (at (user .position) area) (y .0) (y .1);
         }
 
-    module _ {entry position newEntry newPosition : ℕ} {ok : Bool} (e : entry ≡ field 4 (40 + 56 * place + 4 * area) s) (d : position ≡ field 4 (40 + 56 * place + 4 * area + 12) s)
+    module _ {entry position newEntry newPosition : ℕ} {ok : Bool} (e : entry ≡ field 4 (userAt s place + (8 + 4 * area)) s) (d : position ≡ field 4 (userAt s place + (8 + 4 * area) + 12) s)
         (p : PostedTo entry position z ok newEntry newPosition) where
       entry-is : signedOf 32 entry +ℤ z ≡ at (user .physical) area +ℤ z
-      entry-is = ap (λ (n : ℕ). signedOf 32 n +ℤ z) e ∙ ap (λ (x : ℤ). x +ℤ z) (entry-bytes s place area l k)
+      entry-is = ap (λ (n : ℕ). signedOf 32 n +ℤ z) e ∙ ap (λ (x : ℤ). x +ℤ z) (entry-bytes area there k)
 
       position-is : signedOf 32 position +ℤ z ≡ at (user .position) area +ℤ z
-      position-is = ap (λ (n : ℕ). signedOf 32 n +ℤ z) d ∙ ap (λ (x : ℤ). x +ℤ z) (position-bytes s place area l k)
+      position-is = ap (λ (n : ℕ). signedOf 32 n +ℤ z) d ∙ ap (λ (x : ℤ). x +ℤ z) (position-bytes area there k)
 
       tested : (id : ℕ) → place ≡ placeOf (usersOf s) id → within 1000000 (at (find (usersOf s) id .physical) area +ℤ z) ≡ ok
       tested id i = ap (λ (u : User). within 1000000 (at (u .physical) area +ℤ z)) (user-there id i) ∙ ap (within 1000000) (sym entry-is) ∙ sym (p .test)
@@ -124,14 +128,13 @@ module _ (s : List ℕ) (place area : ℕ) (z : ℤ) (h : bookNumber s ≡ 0) (l
       pub at-out-of-range : ok ≡ false → PostedAt place area z s 10 s
       at-out-of-range n = record { posts = λ id i limits. out-of-range 0 limits s id area z refl (found-there id i) k (tested id i ∙ n) }
 
-      pub at-accepted : AllBytes s → ok ≡ true → PostedAt place area z s 0 (setField 4 (40 + 56 * place + 4 * area + 12) newPosition (setField 4 (40 + 56 * place + 4 * area) newEntry s))
-      unfolding userAt
+      pub at-accepted : AllBytes s → ok ≡ true → PostedAt place area z s 0 (setField 4 (userAt s place + (8 + 4 * area) + 12) newPosition (setField 4 (userAt s place + (8 + 4 * area)) newEntry s))
       at-accepted b y =
-          let stored = ap (λ (n : ℕ). setField 4 (40 + 56 * place + 4 * area + 12) n (setField 4 (40 + 56 * place + 4 * area) newEntry s)) (p .held y ∙ ap (bitsOf 32) position-is)
-          ∙ ap (λ (n : ℕ). setField 4 (40 + 56 * place + 4 * area + 12) (bitsOf 32 (at (user .position) area +ℤ z)) (setField 4 (40 + 56 * place + 4 * area) n s)) (p .entered y ∙ ap (bitsOf 32) entry-is)
-          ∙ posted-bytes s place area l k b (passed s h) z in
+          let stored = ap (λ (n : ℕ). setField 4 (userAt s place + (8 + 4 * area) + 12) n (setField 4 (userAt s place + (8 + 4 * area)) newEntry s)) (p .held y ∙ ap (bitsOf 32) position-is)
+          ∙ ap (λ (n : ℕ). setField 4 (userAt s place + (8 + 4 * area) + 12) (bitsOf 32 (at (user .position) area +ℤ z)) (setField 4 (userAt s place + (8 + 4 * area)) n s)) (p .entered y ∙ ap (bitsOf 32) entry-is)
+          ∙ posted-bytes area there k b (passed s h) z in
           record {
             posts = λ id i limits.
-                subst⁻¹ (CalledAfter 0 limits s (postingOf id area z) (only 0)) (stored ∙ ap (λ (u : User). sets s (32 + 56 * place) (userBytes (posted area z u))) (sym (user-there id i)))
+                subst⁻¹ (CalledAfter 0 limits s (postingOf id area z) (only 0)) (stored ∙ ap (λ (u : User). sets s (userAt s place) (userBytes (posted area z u))) (sym (user-there id i)))
                 (accepted 0 limits s id area z refl (found-there id i) b k (tested id i ∙ y));
           }

@@ -50,7 +50,7 @@ pub fn post_at(book: &mut [u8], place: usize, area: u32, amount: i64) -> u32
     if 2 < area {
         return 10;
     }
-    let a = 40 + 56 * place + 4 * area as usize;
+    let a = book_format::user_offset(book, place) + (8 + 4 * area as usize);
     let entry = fields::get_u32(book, a);
     let position = fields::get_u32(book, a + 12);
     let change = post(entry, position, amount);

@@ -48,8 +48,8 @@ pub fn shortfall_at(
     ensures { λ r. ⌜ ShortfallOf (asLimits (day .limits)) (bookOf (now (book .entry))) (getD (usersOf (now (book .entry))) place nobody) (r .number) (r .target .0) ⌝ }
     ensures { λ _. ⌜ PositionsOf (usersOf (now (book .entry))) (now (positions .exit)) × (length (now (positions .exit)) ≡ 192) ⌝ }
 {
-    let n = fields::get_u8(book, 5) as usize;
-    let m = fields::get_u16(book, 6) as usize;
+    let n = book_format::user_count(book) as usize;
+    let m = book_format::trade_count(book) as usize;
     run_positions::fill_positions(book, n, positions);
     let cut = run_targets::cut_at(book, n, m, sellers, parties, place);
     let called = risk_user::called_at(book, positions, place, cut, day);

@@ -61,7 +61,7 @@ fn reduce_listed(
         from,
         to,
     );
-    let n = fields::get_u8(book, 5) as usize;
+    let n = book_format::user_count(book) as usize;
     cut_apply::apply(book, n, sellers, parties, origins, &cuts, from, to);
     ReductionAnswer::of_cuts(asked, tally)
 }
@@ -79,8 +79,8 @@ fn reduce_sales(
     requires { ⌜ UserOf (asPrices prices) (now book) place (now sellers) (now parties) (now positions) ⌝ }
     ensures { λ r. ⌜ Gives (onSales (now (book .entry)) (getD (usersOf (now (book .entry))) place nobody) (asked .0)) (answerOf r) (now (book .exit)) ⌝ }
 {
-    let n = fields::get_u8(book, 5) as usize;
-    let m = fields::get_u16(book, 6) as usize;
+    let n = book_format::user_count(book) as usize;
+    let m = book_format::trade_count(book) as usize;
     let mut starts = [0usize; 65];
     let mut origins = [0u8; 256];
     let mut standing = [0u64; 256];

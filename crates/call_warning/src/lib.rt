@@ -21,7 +21,7 @@ fn is_flagged_shipper(book: &[u8], prices: Prices, id: u32, limits: Limits) -> b
     ensures { λ r. ⌜ r ≡ flaggedShipper (asLimits limits) (bookOf (now (book .entry))) (find (bookOf (now (book .entry)) .users) id) ⌝ }
 {
     let place = call_entry::place_of(book, id);
-    let n = fields::get_u8(book, 5) as usize;
+    let n = book_format::user_count(book) as usize;
     if n <= place {
         return false;
     }
@@ -57,10 +57,11 @@ fn any_warns(book: &[u8], prices: Prices, id: u32, limits: Limits) -> bool
     requires { ⌜ LimitsInRange (asLimits limits) ⌝ }
     ensures { λ r. ⌜ r ≡ any (warnsBuyer (asLimits limits) (bookOf (now (book .entry))) id) (bookOf (now (book .entry)) .trades) ⌝ }
 {
-    let n = fields::get_u8(book, 5) as usize;
-    let m = fields::get_u16(book, 6) as usize;
+    let n = book_format::user_count(book) as usize;
+    let m = book_format::trade_count(book) as usize;
+    let at = book_format::trades_offset(book, n);
     let mut i = 0;
-    let mut a = 32 + 56 * n;
+    let mut a = at;
     while i < m {
         let t = book_records::read_trade(&book[a..a + 20]);
         if warns_buyer(book, prices, t, id, limits) {

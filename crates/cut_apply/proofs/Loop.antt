@@ -7,8 +7,8 @@ use lib.ListN.{getD, length, length-replicate, replicate, take}
 use lib.Seq.{length-take-le}
 use Rattle.book_parties.specs.Ids.{BookIn}
 use Rattle.cut_records.specs.Places.{LoweredIn, PlacesIn}
-use Rattle.book_format.specs.Book.{bookOf, tradeCount, tradesAt, tradesOf, userAt, userCount}
-use Rattle.book_format.proofs.Held.{held-itself, held-tradeCount, held-trades, held-userCount}
+use Rattle.book_format.specs.Book.{bookOf, tradeCount, tradesAt, tradesOf}
+use Rattle.book_format.proofs.Held.{held-itself, held-tradeCount, held-trades, held-begin}
 use Rattle.book_format.specs.Held.{HeldAs, tradesReplaced}
 use Rattle.rules.specs.Book.{Book, Trade}
 use Rattle.rules.specs.Changes.{withUsers}
@@ -106,14 +106,14 @@ module _ {s₀ sellers parties : List ℕ} (a : BookIn s₀ sellers parties) {or
   users-long ts = same-length (bookOf s₀ .users) (settle (bookOf s₀ .trades) ts (bookOf s₀ .users)) (settle-parties (bookOf s₀ .trades) ts (bookOf s₀ .users))
 
   module _ (ts : List Trade) {s : List ℕ} (h : HeldAs (withUsers (bookOf s₀) (withTrades (bookOf s₀) ts .users)) s) where
-    -- as many users, and as many bytes
-    users-stay : userCount s ≡ userCount s₀
+    -- the trades begin where they did, and there are as many bytes
+    begin-stays : tradesAt s ≡ tradesAt s₀
     unfolding withUsers
-    users-stay = sym (held-userCount h) ∙ users-long ts ∙ held-userCount (a .accepted .held)
+    begin-stays = held-begin h (a .accepted .held) refl (users-long ts)
 
     bytes-stay : length s ≡ length s₀
     unfolding withUsers
-    bytes-stay = omega (arith, h .form .whole, a .accepted .held .form .whole, users-stay, held-tradeCount h, held-tradeCount (a .accepted .held))
+    bytes-stay = omega (arith, h .form .whole, a .accepted .held .form .whole, begin-stays, held-tradeCount h, held-tradeCount (a .accepted .held))
 
   pub loop-bytes : {places amounts s : List ℕ} {lost k : ℕ} → MovedTo (bookOf s₀) origins cuts from to places amounts s lost k → length s ≡ length s₀
   loop-bytes {k = k} q = bytes-stay (loweredTo (part from to origins) (part from to cuts) (bookOf s₀ .trades) (k - from)) (q .so .held)
@@ -123,11 +123,11 @@ module _ {s₀ sellers parties : List ℕ} (a : BookIn s₀ sellers parties) {or
   module _ {places amounts s : List ℕ} (q : MovedBy (bookOf s₀) (part from to origins) (part from to cuts) places amounts s) where
     -- the noted ones can be lowered
     pub noted-places : {begin : ℕ} → begin ≡ tradesAt s₀ → PlacesIn 256 s begin places
-    unfolding tradesAt userAt withUsers
+    unfolding withUsers
     noted-places starts =
         record {
           held = held-itself (q .held);
-          begin = omega (arith, starts, users-stay (loweredAt (part from to origins) (part from to cuts) (bookOf s₀ .trades)) (q .held));
+          begin = omega (arith, starts, begin-stays (loweredAt (part from to origins) (part from to cuts) (bookOf s₀ .trades)) (q .held));
           inside = λ i l. omega (arith, q .inside i l, held-tradeCount (q .held));
           few = omega (arith, q .count, losing-le (part from to cuts), p .cuttable .same, long, p .few);
         }

@@ -13,8 +13,8 @@ use Rattle.base.proofs.Tests.{by-case}
 use Rattle.cut_lists.proofs.Trades.{party-inside, party-is}
 use Rattle.book_parties.specs.Ids.{BookIn, PlacedOn, idAt}
 use Rattle.book_format.proofs.Passed.{length-tradesOf, length-usersOf}
-use Rattle.book_format.specs.Book.{bookOf, tradeCount, tradesAt, tradesOf, userAt, userCount, usersOf}
-use Rattle.book_format.proofs.Held.{held-itself, held-tradeCount, held-trades, held-userCount, held-users}
+use Rattle.book_format.specs.Book.{bookOf, tradeCount, tradesAt, tradesOf, userCount, usersOf}
+use Rattle.book_format.proofs.Held.{held-itself, held-tradeCount, held-trades, held-userCount, held-users, held-begin}
 use Rattle.book_format.specs.Held.{HeldAs}
 use Rattle.base.specs.Parts.{negPart, posPart}
 use Rattle.laws.proofs.Bounds.{position-bound, standing-le}
@@ -158,6 +158,10 @@ module _ {s₀ sellers parties : List ℕ} (a : BookIn s₀ sellers parties) {is
         unfolding withUsers
         count-here = users-are ∙ sym (users-many j) ∙ held-userCount (q .held)
 
+        begin-here : tradesAt s ≡ tradesAt s₀
+        unfolding withUsers
+        begin-here = held-begin (q .held) (a .accepted .held) refl (users-many j)
+
         trade-here : getD (tradesOf s) place noTrade ≡ sale
         unfolding withUsers
         trade-here = ap (λ (ts : List Trade). getD ts place noTrade) (held-trades (q .held))
@@ -174,13 +178,13 @@ module _ {s₀ sellers parties : List ℕ} (a : BookIn s₀ sellers parties) {is
 
         -- the sale can be cut
         pub sale-here : {begin : ℕ} → begin ≡ tradesAt s₀ → SaleIn s begin seller buyer place cut
-        unfolding withUsers tradesAt userAt
+        unfolding withUsers
         sale-here starts =
             let area-is : sale .terms .area ≡ getD (tradesOf s) place noTrade .terms .area = ap (λ (t : Trade). t .terms .area) (sym trade-here) in
             let area = area-lt (bookOf s₀ .users) sale sale-valid in
             record {
               held = held-itself (q .held);
-              trade = record { form = q .held .form; begin = omega (arith, starts, count-here); inside = omega (arith, p .inside j h, held-tradeCount (q .held)) };
+              trade = record { form = q .held .form; begin = omega (arith, starts, begin-here); inside = omega (arith, p .inside j h, held-tradeCount (q .held)) };
               parties = subst (λ (x : ℕ). PartiesIn s seller buyer x cut) area-is
                   (record {
                     sold = record { held = held-itself (q .held); user-inside = omega (arith, seller-low, count-here); area-inside = area };

@@ -101,8 +101,8 @@ fn lines(book: &[u8])
         limits: Limits::today(),
         prices: book_form::read_prices(book),
     };
-    let n = fields::get_u8(book, 5) as usize;
-    let m = fields::get_u16(book, 6) as usize;
+    let n = book_format::user_count(book) as usize;
+    let m = book_format::trade_count(book) as usize;
     let mut positions = [0u32; 192];
     run_positions::fill_positions(book, n, &mut positions);
     let mut cut = [false; 64];

@@ -23,7 +23,7 @@ ghost use Rattle.call_run.specs.Call.{runCall};
 ghost use Rattle.book_value.specs.Opened.{Opened};
 ghost use Rattle.book_value.specs.Written.{Written};
 ghost use Rattle.call_show.specs.Shown.{picked, pickedAt};
-use book_value::Book;
+use book_tables::Book;
 use book_value::Opening;
 use call_answers::CallAnswer;
 use call_answers::LevelAnswer;

@@ -4,6 +4,7 @@ use mathlib.Core.List.{List, []}
 use Prim.Native.Nat.{ℕ, _≤_, suc, zero}
 use native.Mathlib.Omega.{arith}
 use lib.ListN.{length, take, drop, length-take}
+use Rattle.book_format.proofs.Offsets.{user-size}
 use Rattle.book_format.specs.After.{after}
 use Rattle.book_format.specs.Book.{userAt, bookOf}
 use Rattle.book_format.specs.Steps.{placeOf}
@@ -15,7 +16,7 @@ use Rattle.exports.proofs.Lent.{stored}
 
 pub shown-length : (number : ℕ) (s : List ℕ) (id : ℕ) → length (partShown number s id) ≤ 56
 unfolding partShown after
-shown-length number s id = either number (drop (userAt s (placeOf (bookOf s .users) id)) s)
+shown-length number s id = rw user-size (either number (drop (userAt s (placeOf (bookOf s .users) id)) s))
   where
     either : (n : ℕ) (l : List ℕ) → length (after {R = List ℕ} n (λ m. []) (take 56 l)) ≤ 56
     either zero l = rw length-take (omega arith)

@@ -13,16 +13,11 @@ use Rattle.book_records.specs.User.{asUser}
 use Rattle.book_records.specs.declared.User as code
 use Rattle.base.proofs.Fronts.{all-at}
 use Rattle.book_format.proofs.Passed.{length-usersOf, passed}
-use Rattle.book_format.specs.Book.{bookOf, tradeCount, tradesAt, tradesOf, userAt, userCount, usersOf}
+use Rattle.book_format.specs.Book.{bookOf, tradeCount, tradesAt, tradesOf, userCount, usersOf}
 use Rattle.book_format.specs.Questions.{bookNumber}
 
 module _ (s : List ℕ) where
-  -- the trades stand behind the users
-  pub trades-from : {n m : ℕ} → n ≡ userCount s → m ≡ tradeCount s → recordsOf 20 tradeOf m (drop (32 + 56 * n) s) ≡ bookOf s .trades
-  unfolding bookOf tradesOf tradesAt userAt
-  trades-from e k = rw (e, k)
-
-  -- from where they begin
+  -- the trades, from where they begin
   pub trades-there : {at m : ℕ} → at ≡ tradesAt s → m ≡ tradeCount s → recordsOf 20 tradeOf m (drop at s) ≡ bookOf s .trades
   unfolding bookOf tradesOf
   trades-there e k = rw (e, k)

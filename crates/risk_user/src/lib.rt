@@ -66,8 +66,8 @@ pub fn cut_before(s: &[u8], id: u32) -> bool
     requires { ⌜ Formed (now s) ⌝ }
     ensures { λ r. ⌜ r ≡ cutBefore id (bookOf (now (s .entry)) .trades) ⌝ }
 {
-    let n = fields::get_u8(s, 5) as usize;
-    let m = fields::get_u16(s, 6) as usize;
+    let n = book_format::user_count(s) as usize;
+    let m = book_format::trade_count(s) as usize;
     let at = book_format::trades_offset(s, n);
     cut_in(s, at, m, id)
 }

@@ -7,15 +7,15 @@ use Prim.Native.Nat.{ℕ, _*_, _+_}
 use native.Mathlib.Omega.{arith}
 use lib.Dec.{eqb, eqb→eq, leb, le→leb}
 use lib.ListN.{length, replicate}
-use Rattle.book_value.specs.Book.{asBook}
-use Rattle.book_value.specs.declared.Book.{Book}
+use Rattle.book_tables.specs.Book.{asBook}
+use Rattle.book_tables.specs.declared.Book.{Book}
 use Rattle.exports.specs.Answers.{ReadInto, WrittenFrom}
 use Rattle.exports.specs.Lent.{byLength}
 use Rattle.fields.specs.Field.{AllBytes}
 use Rattle.book_format.proofs.Formed.{book-passed}
 use Rattle.book_format.proofs.Passed.{Passed, passed}
 use Rattle.book_format.proofs.Round.{bytesOf-bookOf}
-use Rattle.book_format.specs.Book.{bookOf, bytesOf, tradeCount, userCount, versionOf}
+use Rattle.book_format.specs.Book.{bookOf, bytesOf, headerSize, tradeCount, tradesAt, userAt, userCount, userSize, versionOf}
 use Rattle.book_format.specs.Questions.{aboutBytes, aboutFields, aboutForm, bookNumber}
 use Rattle.book_image.proofs.RoundTrip.{image-book, image-length, same-counts}
 use Rattle.book_image.specs.ImageBook.{imageBook}
@@ -33,7 +33,7 @@ use Rattle.round_trip.specs.RoundTrip.{ImageReadAndWritten, ReadAndWritt
 module _ (s : List ℕ) (bytes : AllBytes s) (h : bookNumber s ≡ 0) where
   -- the book that the bytes hold passes the questions of writing
   none-refuses : refusal (aboutWriting (userCount s) (tradeCount s) (bookOf s) (length s)) ≡ none
-  unfolding aboutWriting countsInRange bookOf aboutBytes
+  unfolding aboutWriting countsInRange bookOf aboutBytes tradesAt userAt headerSize userSize
   none-refuses =
       let p = passed s h in
       let f = p .form in

@@ -4,7 +4,7 @@ use mathlib.Core.List.{List}
 use Prim.Native.Nat.{ℕ}
 use lib.ListN.{length}
 use Rattle.fields.specs.Field.{AllBytes}
-use Rattle.book_value.specs.declared.Book.{Book}
+use Rattle.book_tables.specs.declared.Book.{Book}
 use Rattle.book_value.specs.Opened.{Opened}
 use Rattle.book_value.specs.Written.{Written}
 use Rattle.exports.specs.Answers.{ReadInto, WrittenFrom}

@@ -58,8 +58,8 @@ fn run_listed(
     requires { ⌜ Listed (bookOf (now book)) (now starts) (now origins) (now standing) (now areas) (now buyers) count ⌝ }
     ensures { λ r. ⌜ RanIn (asLimits (day .limits)) (bookOf (now (book .entry))) (now (book .exit)) r ⌝ }
 {
-    let n = fields::get_u8(book, 5) as usize;
-    let m = fields::get_u16(book, 6) as usize;
+    let n = book_format::user_count(book) as usize;
+    let m = book_format::trade_count(book) as usize;
     let mut positions = [0u32; 192];
     run_positions::fill_positions(book, n, &mut positions);
     let mut cut = [false; 64];
@@ -110,8 +110,8 @@ pub fn run_book(
     requires { ⌜ Runnable (asLimits (day .limits)) (asPrices (day .prices)) (now book) (now sellers) (now parties) (now sums) ⌝ }
     ensures { λ r. ⌜ RanIn (asLimits (day .limits)) (bookOf (now (book .entry))) (now (book .exit)) r ⌝ }
 {
-    let n = fields::get_u8(book, 5) as usize;
-    let m = fields::get_u16(book, 6) as usize;
+    let n = book_format::user_count(book) as usize;
+    let m = book_format::trade_count(book) as usize;
     let mut starts = [0usize; 65];
     let mut origins = [0u8; 256];
     let mut standing = [0u64; 256];

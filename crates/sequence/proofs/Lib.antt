@@ -1,6 +1,8 @@
--- The theorem over any finite sequence of requests with one store, and its parts: one call and one act by the rules, one on bytes, the trades' bytes.
+-- The theorem over any finite sequence of requests with one store, and its parts: one call and one act by the rules, one on bytes, the trades' bytes. That the contracts of
+-- the public functions give its links. How long a run can be.
 pub mod Step
 pub mod Acts
 pub mod TradeBytes
 pub mod Sequence
+pub mod Contracts
 pub mod RunLength

@@ -14,11 +14,12 @@ use Rattle.fields.specs.Field.{AllBytes, toBytes}
 use Rattle.fields.specs.Layout.{pack, recordsOf, size}
 use Rattle.book_format.proofs.Passed.{Passed, length-tradesOf, length-usersOf}
 use Rattle.book_format.proofs.Round.{header-back}
-use Rattle.book_format.specs.Book.{bookOf, headerValues, headerWidths, tradeCount, tradesAt, tradesOf, userAt, userCount, usersOf}
+use Rattle.book_format.proofs.Offsets.{same-begin}
+use Rattle.book_format.specs.Book.{bookOf, headerSize, headerValues, headerWidths, tradeCount, tradesAt, tradesOf, userCount, usersOf, versionOf}
 use Rattle.laws.specs.Trades.{ended, then, Framed, Pairwise}
 use Rattle.book_records.proofs.Trades.{trade-bytes-of}
 use Rattle.book_records.specs.Trade.{tradeBytes, tradeOf, tradeValues, tradeWidths, tradeZeros}
-use Rattle.rules.specs.Book.{Book, Terms, Trade, at, noTrade}
+use Rattle.rules.specs.Book.{Book, Header, Terms, Trade, at, noTrade}
 use Rattle.sequence.specs.Claim.{TradeBytes, tradeBytesAt}
 
 -- all but the last field of a trade's bytes are those of its terms
@@ -37,10 +38,6 @@ pairs-at (then p ps) (suc i) d h = pairs-at ps i d (le-of-suc-le-suc h)
 
 -- ---- books in bytes
 
-trades-at : (s : List ℕ) → tradesAt s ≡ 32 + 56 * userCount s
-unfolding tradesAt userAt
-trades-at s = refl
-
 module _ (s : List ℕ) (b : AllBytes s) (p : Passed s) where
   -- the bytes of the trade at a place are those of the trade that they hold
   trade-at : (i : ℕ) → i < tradeCount s → tradeBytesAt s i ≡ tradeBytes (getD (tradesOf s) i noTrade)
@@ -52,11 +49,8 @@ module _ (s : List ℕ) (b : AllBytes s) (p : Passed s) where
       let g : getD (recordsOf 20 tradeOf (tradeCount s) (drop a s)) i noTrade ≡ tradeOf c = getD-recordsOf 20 tradeOf (tradeCount s) i (drop a s) noTrade h in
       sym e ∙ sym (ap tradeBytes g ∙ trade-bytes-of c (length-part (drop a s) (20 * i) 20 (fits i h)) (all-bytes-part (20 * i) 20 (drop a s) (all-bytes-drop a s b)) (zeros-at i h))
     where
-      at-users : tradesAt s ≡ 32 + 56 * userCount s
-      at-users = trades-at s
-
       fits : (i : ℕ) → i < tradeCount s → 20 * i + 20 ≤ length (drop (tradesAt s) s)
-      fits i h = rw length-drop (omega (arith, p .form .whole, at-users))
+      fits i h = rw length-drop (omega (arith, p .form .whole))
 
       zeros-at : (i : ℕ) → i < tradeCount s → tradeZeros (take 20 (drop (20 * i) (drop (tradesAt s) s))) ≡ 0
       zeros-at i h = every-part-at (λ c. tradeZeros c ≡ 0) 20 (tradeCount s) (drop (tradesAt s) s) i (p .trade-zeros) h
@@ -73,10 +67,14 @@ same-values b n e u m = rw (e, u, m)
 
 -- the header's bytes are those of its fields and of the counts
 header-bytes : (s t : List ℕ) → AllBytes s → Passed s → AllBytes t → Passed t
-    → bookOf t .header ≡ bookOf s .header → length (usersOf t) ≡ length (usersOf s) → length (tradesOf t) ≡ length (tradesOf s) → take 32 t ≡ take 32 s
+    → bookOf t .header ≡ bookOf s .header → length (usersOf t) ≡ length (usersOf s) → length (tradesOf t) ≡ length (tradesOf s) → take (headerSize (versionOf s)) t ≡ take (headerSize (versionOf s)) s
 unfolding bookOf
 header-bytes s t b p c q e u m =
-    sym (header-back t c (q .form)) ∙ ap (pack headerWidths) (same-values (bookOf t) (bookOf s) e u m) ∙ header-back s b (p .form)
+    ap (λ (h : Header). take (headerSize (h .version)) t) (sym e) ∙ sym (header-back t c (q .form)) ∙ ap (pack headerWidths) (same-values (bookOf t) (bookOf s) e u m) ∙ header-back s b (p .form)
+
+same-version : (s t : List ℕ) → bookOf t .header ≡ bookOf s .header → versionOf t ≡ versionOf s
+unfolding bookOf
+same-version s t e = ap (λ (h : Header). h .version) e
 
 -- two books in bytes of which only what stands of trades differs, of kind 0 and day 0, and users in any way
 pub trade-bytes : (s t : List ℕ) → AllBytes s → Passed s → AllBytes t → Passed t
@@ -85,7 +83,7 @@ trade-bytes s t b p c q e u f =
     let n : userCount t ≡ userCount s = sym (length-usersOf t) ∙ u ∙ length-usersOf s in
     let m : tradeCount t ≡ tradeCount s = sym (length-tradesOf t) ∙ pairs-length f ∙ length-tradesOf s in
     record {
-      size = omega (arith, p .form .whole, q .form .whole);
+      size = omega (arith, p .form .whole, q .form .whole, same-begin t s (same-version s t e) n);
       header = header-bytes s t b p c q e u (pairs-length f);
       terms = λ i h.
           rw (trade-at t c q i (omega arith), trade-at s b p i h)

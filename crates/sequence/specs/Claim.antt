@@ -7,7 +7,7 @@ use Prim.Native.Nat.{ℕ, _+_, _*_, _<_}
 use lib.Dec.{T}
 use lib.IntN.{_+ℤ_}
 use lib.ListN.{length, take, drop}
-use Rattle.book_format.specs.Book.{tradesAt, tradeCount, usersOf, tradesOf, bookOf, bytesOf}
+use Rattle.book_format.specs.Book.{headerSize, tradeSize, versionOf, tradesAt, tradeCount, usersOf, tradesOf, bookOf, bytesOf}
 use Rattle.book_format.specs.Questions.{bookNumber}
 use Rattle.base.specs.Sums.{sumℤ}
 use Rattle.laws.specs.Statements.{AllCovered}
@@ -40,13 +40,13 @@ pub data AsDefined : List Link → List Event → Type 0 where
 
 -- ---- "Every trade byte is as in the opening book, except standing where kind and day are 0."
 
--- the 20 bytes of the trade at a place
+-- the bytes of the trade at a place
 unfoldable pub tradeBytesAt : List ℕ → ℕ → List ℕ
-tradeBytesAt s place = take 20 (drop (tradesAt s + 20 * place) s)
+tradeBytesAt s place = take (tradeSize (versionOf s)) (drop (tradesAt s + tradeSize (versionOf s) * place) s)
 
 pub record TradeBytes (s t : List ℕ) : Type 0 where
   pub size : length t ≡ length s
-  pub header : take 32 t ≡ take 32 s
+  pub header : take (headerSize (versionOf s)) t ≡ take (headerSize (versionOf s)) s
   -- all but standing, which is the last field of four bytes
   pub terms : (i : ℕ) → i < tradeCount s → take 16 (tradeBytesAt t i) ≡ take 16 (tradeBytesAt s i)
   pub others : (i : ℕ) → i < tradeCount s → T (not (bilateralForDay (tradeOf (tradeBytesAt s i)))) → tradeBytesAt t i ≡ tradeBytesAt s i

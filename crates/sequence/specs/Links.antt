@@ -23,7 +23,7 @@ unfoldable pub requestsOf : List Link → List Request
 requestsOf ls = map (λ l. l .asked) ls
 
 -- From bytes s to bytes t, all requests given one store, or none: each is as the contract of its public function says, with the numbers of a list's lines, and is given
--- the bytes that the last one left.
+-- the bytes that the last one left. The contracts give such links: Contracts.antt.
 pub data Linked (store : Option (List ℕ)) : List ℕ → List Link → List ℕ → Type 0 where
   ended : {s : List ℕ} → Linked store s [] s
   then : {s t : List ℕ} {l : Link} {ls : List Link} → l .given ≡ s → l .asked .setting .store ≡ store

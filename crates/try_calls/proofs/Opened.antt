@@ -4,7 +4,7 @@ use mathlib.Core.List.{List}
 use Prim.Native.Nat.{ℕ, zero, suc, _≤_}
 use native.Mathlib.Omega.{arith}
 use Rattle.book_format.proofs.Passed.{passed}
-use Rattle.book_value.specs.declared.Book.{Book}
+use Rattle.book_tables.specs.declared.Book.{Book}
 use Rattle.book_value.specs.Opened.{Opened}
 
 pub opened-trades : {s : List ℕ} (n : ℕ) {b : Book} → Opened s n b → b .«trade_count» ≤ 256

@@ -7,7 +7,7 @@
 // that the one before it left.
 ghost use Prim.Native.Nat.{_≤_, max};
 use book_records::User;
-use book_value::Book;
+use book_tables::Book;
 use call_answers::CallAnswer;
 use call_answers::LevelAnswer;
 use call_answers::ReductionAnswer;

@@ -1,6 +1,7 @@
 -- `copy_book` fills header, users and trades one after the other. Assumes nothing.
 use mathlib.Core.Path.{_∙_}
 use denote.Ref.{now}
+use Rattle.book_format.specs.Book.{headerSize, tradesAt, userAt, userSize}
 use Rattle.book_image.proofs.Copied.{all-filled}
 use borrow.Author.Needs.{needs}
 use Rattle.book_image.proofs.copy_book.Statement.{statement}
@@ -31,21 +32,25 @@ part-fill-part-start-2 : tie.Need-part-fill-part-start-2
 part-fill-part-start-2 c = search needs
 
 part-fill-part-end-2 : tie.Need-part-fill-part-end-2
+unfolding tradesAt userAt headerSize userSize
 part-fill-part-end-2 c = search needs
 
 fill-part-requires-2 : tie.Need-fill-part-requires-2
 fill-part-requires-2 c κs = search needs
 
 sub-fill-part-3 : tie.Need-sub-fill-part-3
+unfolding tradesAt userAt headerSize userSize
 sub-fill-part-3 c = search needs
 
 part-fill-part-start-3 : tie.Need-part-fill-part-start-3
+unfolding tradesAt userAt headerSize userSize
 part-fill-part-start-3 c = search needs
 
 part-fill-part-end-3 : tie.Need-part-fill-part-end-3
 part-fill-part-end-3 c = search needs
 
 fill-part-requires-3 : tie.Need-fill-part-requires-3
+unfolding tradesAt userAt headerSize userSize
 fill-part-requires-3 c κs = search needs
 
 same-length : tie.Need-same-length

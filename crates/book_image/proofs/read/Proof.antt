@@ -37,15 +37,14 @@ accepted c = sym (c .before .number .ensures) ∙ c .if1 .left
 formed : (c : tie.Else1) → Formed (now (c .before .before .before .before .args .book))
 formed c = passed (now (c .before .before .before .before .args .book)) (accepted c) .form
 
-get-u8-requires : tie.Need-get-u8-requires
-get-u8-requires c κs = omega (arith, formed c .head)
+user-count-requires : tie.Need-user-count-requires
+user-count-requires c κs = omega (arith, formed c .head)
 
 cast-n : tie.Need-cast-n
 cast-n c = search needs
 
 copy-book-requires : tie.Need-copy-book-requires
-unfolding userCount
-copy-book-requires c κs = (formed (c .before .before), c .before .get-u8 .ensures, c .before .before .before .before .before .before .pre)
+copy-book-requires c κs = (formed (c .before .before), c .before .user-count .ensures, c .before .before .before .before .before .before .pre)
 
 same-length-2 : tie.Need-same-length-2
 same-length-2 c = search needs
@@ -64,7 +63,7 @@ read-spec =
     clear-requires
     same-length
     returns
-    get-u8-requires
+    user-count-requires
     cast-n
     copy-book-requires
     same-length-2

@@ -18,50 +18,49 @@ use Rattle.book_image.proofs.write.Tie as tie
 get-u16-requires : tie.Need-get-u16-requires
 get-u16-requires c κs = search needs
 
-get-u8-requires : tie.Need-get-u8-requires
-get-u8-requires c κs = search needs
+user-count-requires : tie.Need-user-count-requires
+user-count-requires c κs = search needs
 
 cast-n : tie.Need-cast-n
 cast-n c = search needs
 
-get-u16-requires-2 : tie.Need-get-u16-requires-2
-get-u16-requires-2 c κs = search needs
+trade-count-requires : tie.Need-trade-count-requires
+trade-count-requires c κs = search needs
 
 cast-m : tie.Need-cast-m
 cast-m c = search needs
 
 -- ---- what was asked of the numbers that were read is asked of the image
 
-module _ {answer : Bool} (c : tie.After-get-u162) where
+module _ {answer : Bool} (c : tie.After-trade-count) where
   of-version : eqb (c .before .before .get-u16 .result) 1 ≡ answer → eqb (imageBook (now (c .before .before .before .before .before .args .image)) .header .version) 1 ≡ answer
   unfolding imageBook bookOf versionOf
   of-version e = ap (λ (v : ℕ). eqb v 1) (sym (c .before .before .get-u16 .ensures)) ∙ e
 
-  of-size : (countsInRange (c .before .get-u8 .result) (c .get-u162 .result) && eqb (length (now (c .before .before .before .before .before .args .out))) (32 + 56 * c .before .get-u8 .result + 20 * c .get-u162 .result)) ≡ answer
+  of-size : (countsInRange (c .before .user-count .result) (c .trade-count .result) && eqb (length (now (c .before .before .before .before .before .args .out))) (32 + 56 * c .before .user-count .result + 20 * c .trade-count .result)) ≡ answer
       → (countsInRange (userCount (now (c .before .before .before .before .before .args .image)))
       (tradeCount (now (c .before .before .before .before .before .args .image))) && eqb
       (length (now (c .before .before .before .before .before .args .out)))
       (32 + 56 * userCount (now (c .before .before .before .before .before .args .image)) + 20 * tradeCount
       (now (c .before .before .before .before .before .args .image)))) ≡ answer
-  unfolding userCount tradeCount
   of-size e =
-      ap₂ (λ (n m : ℕ). countsInRange n m && eqb (length (now (c .before .before .before .before .before .args .out))) (32 + 56 * n + 20 * m)) (sym (c .before .get-u8 .ensures)) (sym (c .get-u162 .ensures)) ∙ e
+      ap₂ (λ (n m : ℕ). countsInRange n m && eqb (length (now (c .before .before .before .before .before .args .out))) (32 + 56 * n + 20 * m)) (sym (c .before .user-count .ensures)) (sym (c .trade-count .ensures)) ∙ e
 
 version : (c : tie.Else1) → eqb (imageBook (now (c .before .before .before .before .before .before .args .image)) .header .version) 1 ≡ true
 version c = of-version (c .before) (eq-eqb (c .before .before .before .get-u16 .result) 1 (c .if1 .left))
 
-in-range : (c : tie.Else2) → countsInRange (c .before .before .before .get-u8 .result) (c .before .before .get-u162 .result) ≡ true
+in-range : (c : tie.Else2) → countsInRange (c .before .before .before .user-count .result) (c .before .before .trade-count .result) ≡ true
 unfolding countsInRange
 in-range c = not-false _ (c .if2 .left)
 
-out-of-range : (c : tie.Then2) → countsInRange (c .before .before .before .get-u8 .result) (c .before .before .get-u162 .result) ≡ false
+out-of-range : (c : tie.Then2) → countsInRange (c .before .before .before .user-count .result) (c .before .before .trade-count .result) ≡ false
 unfolding countsInRange
 out-of-range c = not-true _ (c .if2 .taken)
 
-counts : (c : tie.Else2) → CountsOf (now (c .before .before .before .before .before .before .before .args .image)) (c .before .before .before .get-u8 .result) (c .before .before .get-u162 .result)
-unfolding versionOf userCount tradeCount
+counts : (c : tie.Else2) → CountsOf (now (c .before .before .before .before .before .before .before .args .image)) (c .before .before .before .user-count .result) (c .before .before .trade-count .result)
+unfolding versionOf
 counts c =
-    counts-of (c .before .before .before .before .before .before .before .pre) (sym (c .before .before .before .before .get-u16 .ensures) ∙ c .before .if1 .left) (c .before .before .before .get-u8 .ensures) (c .before .before .get-u162 .ensures) (in-range c)
+    counts-of (c .before .before .before .before .before .before .before .pre) (sym (c .before .before .before .before .get-u16 .ensures) ∙ c .before .if1 .left) (c .before .before .before .user-count .ensures) (c .before .before .trade-count .ensures) (in-range c)
 
 sized : (c : tie.Else3) → (countsInRange (userCount (now (c .before .before .before .before .before .before .before .before .args .image)))
     (tradeCount (now (c .before .before .before .before .before .before .before .before .args .image))) && eqb
@@ -71,7 +70,7 @@ sized : (c : tie.Else3) → (countsInRange (userCount (now (c .before .before .b
 sized c =
     of-size (c .before .before .before) (ap₂ (λ (x y : Bool). x && y) (in-range (c .before))
     (eq-eqb (length (now (c .before .before .before .before .before .before .before .before .args .out)))
-    (32 + 56 * c .before .before .before .before .get-u8 .result + 20 * c .before .before .before .get-u162 .result) (c .if3 .left)))
+    (32 + 56 * c .before .before .before .before .user-count .result + 20 * c .before .before .before .trade-count .result) (c .if3 .left)))
 
 -- ---- the ways out
 
@@ -87,7 +86,7 @@ returns-2 c =
     (tradeCount (now (c .before .before .before .before .before .before .before .args .image)))
     (imageBook (now (c .before .before .before .before .before .before .before .args .image)))
     (now (c .before .before .before .before .before .before .before .args .out)) (version (c .before))
-    (of-size (c .before .before) (ap (λ (x : Bool). x && eqb (length (now (c .before .before .before .before .before .before .before .args .out))) (32 + 56 * c .before .before .before .get-u8 .result + 20 * c .before .before .get-u162 .result)) (out-of-range c)))
+    (of-size (c .before .before) (ap (λ (x : Bool). x && eqb (length (now (c .before .before .before .before .before .before .before .args .out))) (32 + 56 * c .before .before .before .user-count .result + 20 * c .before .before .trade-count .result)) (out-of-range c)))
 
 mul-if3 : tie.Need-mul-if3
 mul-if3 c = search needs
@@ -109,7 +108,7 @@ returns-3 c =
     (now (c .before .before .before .before .before .before .before .before .args .out)) (version (c .before .before))
     (of-size (c .before .before .before) (ap₂ (λ (x y : Bool). x && y) (in-range (c .before))
     (ne-eqb (length (now (c .before .before .before .before .before .before .before .before .args .out)))
-    (32 + 56 * c .before .before .before .before .get-u8 .result + 20 * c .before .before .before .get-u162 .result) (c .if3 .taken))))
+    (32 + 56 * c .before .before .before .before .user-count .result + 20 * c .before .before .before .trade-count .result) (c .if3 .taken))))
 
 fields-number-requires : tie.Need-fields-number-requires
 fields-number-requires c κs = counts (c .before)
@@ -142,9 +141,9 @@ write-spec =
     tie.close
     (tie.spec
     get-u16-requires
-    get-u8-requires
+    user-count-requires
     cast-n
-    get-u16-requires-2
+    trade-count-requires
     cast-m
     returns
     returns-2

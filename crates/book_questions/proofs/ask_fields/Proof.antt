@@ -1,20 +1,20 @@
 -- `ask_fields` asks question 4, and then those of the users and trades. Assumes nothing.
 use denote.Ref.{now}
 use borrow.Author.Tests.{not-true, not-false}
-use Rattle.book_questions.specs.Asked.{pastSix}
+use Rattle.book_questions.specs.Asked.{pastSix, RecordsIn}
 use Rattle.book_questions.proofs.Asked.{formed-bytes, fields-4, fields-rest, fields-summed, summed-none}
 use borrow.Author.Needs.{needs}
 use Rattle.book_questions.proofs.ask_fields.Statement.{statement}
 use Rattle.book_questions.proofs.ask_fields.Tie as tie
 
-get-u8-requires : tie.Need-get-u8-requires
-get-u8-requires c κs = search needs
+user-count-requires : tie.Need-user-count-requires
+user-count-requires c κs = search needs
 
 cast-n : tie.Need-cast-n
 cast-n c = search needs
 
-get-u16-requires : tie.Need-get-u16-requires
-get-u16-requires c κs = search needs
+trade-count-requires : tie.Need-trade-count-requires
+trade-count-requires c κs = search needs
 
 cast-m : tie.Need-cast-m
 cast-m c = search needs
@@ -36,26 +36,21 @@ returns c =
     let start = prices .before .before .before .before .before .before in
     (fields-4 (now (start .args .s)) (header .before .get-u32 .ensures) (prices .read-prices .ensures) (header .header-valid .ensures) (not-true _ (c .if1 .taken)), summed-none 4 (λ p. p))
 
-mul-trades-at : tie.Need-mul-trades-at
-mul-trades-at c = search needs
-
-add-trades-at : tie.Need-add-trades-at
-add-trades-at c = search needs
+-- where the records stand
+placed : (c : tie.After-trades-offset) → let counts = c .before .before .before .before .before .before in
+    RecordsIn (c .before .users-offset .result) (counts .before .user-count .result) (c .trades-offset .result) (counts .trade-count .result) (now (counts .before .before .before .before .before .args .s))
+placed c =
+    let counts = c .before .before .before .before .before .before in
+    formed-bytes (counts .before .before .before .before .before .pre .0) (counts .before .user-count .ensures) (counts .trade-count .ensures) (c .before .users-offset .ensures) (c .trades-offset .ensures)
 
 user-zeros-valid-requires : tie.Need-user-zeros-valid-requires
-user-zeros-valid-requires c κs =
-    let counts = c .before .before .before .before in
-    formed-bytes (counts .before .before .before .before .before .pre .0) (counts .before .get-u8 .ensures) (counts .get-u16 .ensures) .users
+user-zeros-valid-requires c κs = placed c .users
 
 trade-zeros-valid-requires : tie.Need-trade-zeros-valid-requires
-trade-zeros-valid-requires c κs =
-    let counts = c .before .before .before .before .before in
-    formed-bytes (counts .before .before .before .before .before .pre .0) (counts .before .get-u8 .ensures) (counts .get-u16 .ensures) .trades
+trade-zeros-valid-requires c κs = placed (c .before) .trades
 
 ask-records-requires : tie.Need-ask-records-requires
-ask-records-requires c κs =
-    let counts = c .before .before .before .before .before .before .before .before .before in
-    (formed-bytes (counts .before .before .before .before .before .pre .0) (counts .before .get-u8 .ensures) (counts .get-u16 .ensures), search needs)
+ask-records-requires c κs = (placed (c .before .before .before .before .before), search needs)
 
 same-length : tie.Need-same-length
 same-length c = search needs
@@ -67,30 +62,31 @@ returns-2 : tie.Need-returns-2
 returns-2 c =
     let records = c .before .before .before .before in
     let zeros = records .before .before .before .before in
-    let passed = zeros .before .before in
+    let offsets = zeros .before .before in
+    let passed = offsets .before .before in
     let header = passed .before in
     let prices = header .before .before in
     let counts = prices .before in
     let start = counts .before .before .before .before .before in (
       fields-rest (now (start .args .s)) (header .before .get-u32 .ensures) (prices .read-prices .ensures) (header .header-valid .ensures) (not-false _ (passed .if1 .left))
-          (counts .before .get-u8 .ensures) (counts .get-u16 .ensures) (zeros .before .user-zeros-valid .ensures) (zeros .trade-zeros-valid .ensures) (records .ask-records .ensures .0),
-      fields-summed (now (start .args .s)) (counts .before .get-u8 .ensures) (counts .get-u16 .ensures) (records .ask-records .ensures .1),
+          (counts .before .user-count .ensures) (counts .trade-count .ensures) (offsets .before .users-offset .ensures) (offsets .trades-offset .ensures) (zeros .before .user-zeros-valid .ensures) (zeros .trade-zeros-valid .ensures) (records .ask-records .ensures .0),
+      fields-summed (now (start .args .s)) (counts .before .user-count .ensures) (counts .trade-count .ensures) (offsets .before .users-offset .ensures) (offsets .trades-offset .ensures) (records .ask-records .ensures .1),
     )
 
 pub ask-fields-spec : {M : Type 1} → statement M
 ask-fields-spec =
     tie.close
     (tie.spec
-    get-u8-requires
+    user-count-requires
     cast-n
-    get-u16-requires
+    trade-count-requires
     cast-m
     read-prices-requires
     get-u32-requires
     header-valid-requires
     returns
-    mul-trades-at
-    add-trades-at
+    (λ c κs. search needs)
+    (λ c κs. search needs)
     user-zeros-valid-requires
     trade-zeros-valid-requires
     ask-records-requires

@@ -6,7 +6,7 @@ use lib.ListN.{length, take, drop, length-take}
 use lib.Seq.{take-at}
 use borrow.Author.Needs.{needs}
 use denote.Ref.{now}
-use Rattle.book_value.specs.Book.{asBook}
+use Rattle.book_tables.specs.Book.{asBook}
 use Rattle.book_format.specs.Book.{bytesOf}
 use Rattle.book_questions.specs.Asked.{fieldsNumber}
 use Rattle.book_value.proofs.PartWritten.{formed-written, length-written}

@@ -7,7 +7,7 @@ use lib.ListN.{length}
 use borrow.Author.Needs.{needs}
 use borrow.Author.Tests.{eq-eqb, ne-eqb, not-true, not-false}
 use denote.Ref.{now}
-use Rattle.book_value.specs.Book.{asBook}
+use Rattle.book_tables.specs.Book.{asBook}
 use Rattle.book_value.proofs.PartWritten.{written-2, written-3, written-refused, written-0, in-counts}
 use Rattle.book_value.proofs.write.Statement.{statement}
 use Rattle.book_value.specs.Written.{countsInRange}

@@ -1,8 +1,11 @@
 -- `place_of`: the place among the users that are left, behind those passed, is the place among all, until one has the id or none is left. Assumes nothing.
-use Prim.Native.Nat.{_-_}
+use Prim.Native.Nat.{_+_, _-_, _≤_}
 use native.Mathlib.Omega.{arith}
 use borrow.Author.Needs.{needs}
-use Rattle.book_format.specs.Book.{userCount}
+use denote.Ref.{now}
+use lib.ListN.{length}
+use Rattle.book_format.proofs.Places.{user-lies}
+use Rattle.book_format.specs.Places.{UserIn}
 use Rattle.call_entry.proofs.Seeking.{Seeking, seeking-start, seeking-here, seeking-turn, seeking-end}
 use Rattle.call_entry.proofs.place_of.Statement.{statement}
 use Rattle.call_entry.proofs.place_of.Tie as tie
@@ -13,18 +16,24 @@ Inv-loop s id n i₀ a₀ i a = Seeking s id n i a
 abbrev μ-loop : tie.MeasureT-loop
 μ-loop s id n i₀ a₀ i a = n - i
 
-get-u8-requires : tie.Need-get-u8-requires Inv-loop μ-loop
-get-u8-requires c κs = search needs
+user-count-requires : tie.Need-user-count-requires Inv-loop μ-loop
+user-count-requires c κs = search needs
 
 cast-n : tie.Need-cast-n Inv-loop μ-loop
 cast-n c = search needs
 
 loop-holds : tie.Need-loop-holds Inv-loop μ-loop
-unfolding userCount
-loop-holds c = seeking-start (c .get-u8 .ensures)
+loop-holds c = seeking-start (c .users-offset .ensures) (c .before .user-count .ensures)
+
+-- the next record lies in the book
+lies : (c : tie.In-loop Inv-loop μ-loop) → c .before .loop .a + 56 ≤ length (now (c .before .before .before .before .before .args .s))
+lies c =
+    let l = c .before in
+    let there : UserIn (now (l .before .before .before .before .args .s)) (l .loop .i) = record { form = l .before .before .before .before .pre; inside = omega (arith, c .loop-test .taken, l .loop .inv .count) } in
+    omega (arith, l .loop .inv .place, user-lies there)
 
 get-u32-requires : tie.Need-get-u32-requires Inv-loop μ-loop
-get-u32-requires c κs = search needs
+get-u32-requires c κs = omega (arith, lies c)
 
 returns : tie.Need-returns Inv-loop μ-loop
 returns c =
@@ -32,7 +41,7 @@ returns c =
     (seeking-here (c .before .get-u32 .result) (l .inv) (omega arith) (c .before .get-u32 .ensures) (c .if1 .taken), omega (arith, l .inv .within, l .inv .count))
 
 add-a : tie.Need-add-a Inv-loop μ-loop
-add-a c = search needs
+add-a c = omega (arith, lies (c .before .before))
 
 add-i : tie.Need-add-i Inv-loop μ-loop
 add-i c = search needs
@@ -54,8 +63,9 @@ place-of-spec =
     (tie.spec
     Inv-loop
     μ-loop
-    get-u8-requires
+    user-count-requires
     cast-n
+    (λ c κs. search needs)
     loop-holds
     get-u32-requires
     returns

@@ -42,31 +42,29 @@ returns c =
 place-of-requires : tie.Need-place-of-requires
 place-of-requires c κs = passed (bytes (c .before .before)) (passes c) .form
 
-get-u8-requires : tie.Need-get-u8-requires
-get-u8-requires c κs = let e = c .before in omega (arith, passed (bytes (e .before .before)) (passes e) .form .head)
+user-count-requires : tie.Need-user-count-requires
+user-count-requires c κs = let e = c .before in omega (arith, passed (bytes (e .before .before)) (passes e) .form .head)
 
 cast-n : tie.Need-cast-n
 cast-n c = search needs
 
 returns-2 : tie.Need-returns-2
-unfolding userCount
 returns-2 c =
     let p = c .before .before in
     let e = p .before in
     let o = e .before .before in
     record {
-      asked = entry-unknown (bytes o) (o .args .id) (omega (arith, c .if2 .taken, p .place-of .ensures .0, c .before .get-u8 .ensures)) ∙ goes (o .args .number) _ (e .if1 .left);
+      asked = entry-unknown (bytes o) (o .args .id) (omega (arith, c .if2 .taken, p .place-of .ensures .0, c .before .user-count .ensures)) ∙ goes (o .args .number) _ (e .if1 .left);
       start = λ z. absurd (omega arith);
       found = λ z. absurd (omega arith);
     }
 
 returns-3 : tie.Need-returns-3
-unfolding userCount
 returns-3 c =
     let p = c .before .before in
     let e = p .before in
     let o = e .before .before in
-    let f : Found (bytes o) (o .args .id) (p .place-of .result) = record { passes = passes e; stands = p .place-of .ensures .0; known = omega (arith, c .if2 .left, c .before .get-u8 .ensures) } in
+    let f : Found (bytes o) (o .args .id) (p .place-of .result) = record { passes = passes e; stands = p .place-of .ensures .0; known = omega (arith, c .if2 .left, c .before .user-count .ensures) } in
     record {
       asked = entry-known (bytes o) (o .args .id) f ∙ goes (o .args .number) _ (e .if1 .left);
       start = λ z. e .if1 .left;
@@ -79,7 +77,7 @@ seek-spec =
     (tie.spec
     returns
     place-of-requires
-    get-u8-requires
+    user-count-requires
     cast-n
     returns-2
     returns-3)

@@ -1,11 +1,13 @@
 -- `fill_ids`: the ids of the users passed are listed, until none is left. Assumes nothing.
 use mathlib.Core.Path.{_≡_}
-use Prim.Native.Nat.{_+_, _*_, _-_, _<_, _≤_}
+use Prim.Native.Nat.{_+_, _-_, _<_, _≤_}
 use native.Mathlib.Omega.{arith}
 use borrow.Author.Needs.{needs}
 use denote.Ref.{now}
 use lib.ListN.{length}
 use Rattle.book_format.proofs.Passed.{passed}
+use Rattle.book_format.proofs.Places.{user-lies}
+use Rattle.book_format.specs.Places.{UserIn}
 use Rattle.call_list.proofs.Ids.{Filling, filling-end, filling-start, filling-turn}
 use Rattle.call_list.proofs.fill_ids.Statement.{statement}
 use Rattle.call_list.proofs.fill_ids.Tie as tie
@@ -17,35 +19,37 @@ abbrev μ-loop : tie.MeasureT-loop
 μ-loop book n known₀ i₀ a₀ known i a = n - i
 
 loop-holds : tie.Need-loop-holds Inv-loop μ-loop
-loop-holds c = filling-start (c .before .before .pre .2)
+loop-holds c = filling-start (c .before .before .before .pre .2) (c .users-offset .ensures)
 
 -- the next record lies in the book, and there is room for its id
-inside : (c : tie.In-loop Inv-loop μ-loop) → let l = c .before in let s = l .before .before .before in
-    (l .loop .a + 56 ≤ length (now (s .args .book))) × (l .loop .i < 64) × (length (l .loop .known) ≡ 64) × (l .loop .a ≤ 32 + 56 * 64)
+inside : (c : tie.In-loop Inv-loop μ-loop) → let l = c .before in let s = l .before .before .before .before in
+    (l .loop .a + 56 ≤ length (now (s .args .book))) × (l .loop .i < 64) × (length (l .loop .known) ≡ 64)
 inside c =
     let l = c .before in
-    let s = l .before .before .before in
+    let s = l .before .before .before .before in
     let f = passed (now (s .args .book)) (s .pre .0) .form in
     let q = l .loop .inv .place in
     let t = c .loop-test .taken in
-    (omega (arith, q, t, s .pre .1, f .whole), omega (arith, t, s .pre .1, f .users), l .loop .inv .listed .full, omega (arith, q, t, s .pre .1, f .users))
+    let there : UserIn (now (s .args .book)) (l .loop .i) = record { form = f; inside = omega (arith, t, s .pre .1) } in
+    (omega (arith, q, user-lies there), omega (arith, t, s .pre .1, f .users), l .loop .inv .listed .full)
 
 loop-again : tie.Need-loop-again Inv-loop μ-loop
 loop-again c =
     let l = c .before .before in
-    let s = l .before .before .before in
-    let f = passed (now (s .args .book)) (s .pre .0) .form in
-    filling-turn (l .loop .inv) (c .before .loop-test .taken) (s .pre .1) (omega (arith, s .pre .1, f .users)) (c .get-u32 .ensures)
+    let s = l .before .before .before .before in
+    filling-turn (l .loop .inv) (c .before .loop-test .taken) (s .pre .1) (passed (now (s .args .book)) (s .pre .0) .form) (c .get-u32 .ensures)
 
 returns : tie.Need-returns Inv-loop μ-loop
 returns c =
-    let s = c .before .before .before .before in
+    let s = c .before .before .before .before .before in
     filling-end (c .before .loop .inv) (c .loop-test .left) (s .pre .1) (s .pre .0)
 
 pub fill-ids-spec : {M : Type 1} → statement M
 fill-ids-spec =
     tie.close
-    (tie.spec Inv-loop μ-loop loop-holds
+    (tie.spec Inv-loop μ-loop
+    (λ c κs. passed (now (c .before .before .args .book)) (c .before .before .pre .0) .form)
+    loop-holds
     (λ c κs. omega (arith, inside c))
     (λ c. omega (arith, inside (c .before)))
     (λ c. omega (arith, inside (c .before)))

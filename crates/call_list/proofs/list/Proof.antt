@@ -15,19 +15,18 @@ start c = c .before .before .before .before .before
 returns : tie.Need-returns
 returns c = let s = c .before .before .before .before .before in listed-refused (s .args .number) (c .if1 .taken)
 
-get-u8-requires : tie.Need-get-u8-requires
-get-u8-requires c κs =
+user-count-requires : tie.Need-user-count-requires
+user-count-requires c κs =
     let e = c .before in
     let s = start e in
     omega (arith, passed (now (s .args .book)) (s .pre .0 (e .if1 .left)) .form .head)
 
 fill-ids-requires : tie.Need-fill-ids-requires
-unfolding userCount
 fill-ids-requires c κs =
     let g = c .before .before in
     let e = g .before .before in
     let s = start e in
-    (s .pre .0 (e .if1 .left), g .get-u8 .ensures, refl)
+    (s .pre .0 (e .if1 .left), g .user-count .ensures, refl)
 
 fill-guesses-requires : tie.Need-fill-guesses-requires
 fill-guesses-requires c κs = c .before .before .before .fill-ids .ensures .padded .few
@@ -49,5 +48,5 @@ returns-2 c =
 pub list-spec : {M : Type 1} → statement M
 list-spec =
     tie.close
-    (tie.spec returns get-u8-requires (λ c. search needs) (λ c. search needs) fill-ids-requires fill-guesses-requires (λ c. search needs) post-lines-requires
+    (tie.spec returns user-count-requires (λ c. search needs) (λ c. search needs) fill-ids-requires fill-guesses-requires (λ c. search needs) post-lines-requires
     (λ c. search needs) (λ c. search needs) returns-2)

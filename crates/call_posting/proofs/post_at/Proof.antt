@@ -1,6 +1,6 @@
 -- `post_at` leaves by one of three ways: no such area, out of range, or the two fields of the record set. Assumes nothing.
-use mathlib.Core.Path.{_∙_, ap, subst⁻¹}
-use Prim.Native.Nat.{_*_, _+_, _<_, _≤_}
+use mathlib.Core.Path.{_≡_, _∙_, ap, subst⁻¹}
+use Prim.Native.Nat.{ℕ, _*_, _+_, _<_, _≤_}
 use native.Mathlib.Omega.{arith}
 use borrow.Author.Needs.{needs}
 use borrow.Author.Tests.{not-false, not-true}
@@ -9,8 +9,10 @@ use lib.ListN.{length}
 use mir.Syntax.{w64}
 use mir.ValLaws.{toZ-ofZ}
 use Rattle.fields.proofs.Field.{length-setField}
-use Rattle.fields.specs.Field.{setField}
+use Rattle.fields.specs.Field.{field, setField}
 use Rattle.book_format.proofs.Passed.{passed}
+use Rattle.book_format.specs.Book.{userAt}
+use Rattle.book_format.specs.Places.{UserIn}
 use Rattle.call_posting.proofs.Ways.{at-accepted, at-no-area, at-out-of-range, at-ready}
 use Rattle.call_posting.proofs.post_at.Statement.{statement}
 use Rattle.call_posting.proofs.post_at.Tie as tie
@@ -19,15 +21,30 @@ use Rattle.call_posting.specs.Posting.{PostedAt, PostedTo}
 abbrev start : tie.Else1 → tie.Start
 start c = c .before .before
 
+user-in : (c : tie.Else1) → UserIn (now (start c .args .book)) (start c .args .place)
+user-in c = let p = start c .pre in record { form = passed (now (start c .args .book)) (p .0) .form; inside = p .1 }
+
+area-low : (c : tie.Else1) → start c .args .area < 3
+area-low c = omega (arith, c .if1 .left)
+
 -- the record lies in the book
-inside : (c : tie.Else1) → let a = start c .args in (32 + 56 * a .place + 56 ≤ length (now (a .book))) × (a .place < 64) × (a .area < 3)
-inside c =
-    let p = start c .pre in
-    let f = passed (now (start c .args .book)) (p .0) .form in
-    (omega (arith, p .1, f .whole), omega (arith, p .1, f .users), omega (arith, c .if1 .left))
+inside : (c : tie.After-user-offset) → let a = start (c .before .before) .args in (c .user-offset .result + 56 ≤ length (now (a .book))) × (a .area < 3)
+inside c = (c .user-offset .ensures .1, area-low (c .before .before))
+
+abbrev found : tie.After-get-u322 → tie.After-user-offset
+found c = c .before .before .before .before
 
 abbrev entered : tie.After-get-u322 → tie.Else1
-entered c = c .before .before .before .before
+entered c = found c .before .before
+
+-- the two fields stand in the record of the user at the place
+entry-at : (c : tie.After-user-offset) → let a = start (c .before .before) .args in
+    field 4 (c .user-offset .result + (8 + 4 * a .area)) (now (a .book)) ≡ field 4 (userAt (now (a .book)) (a .place) + (8 + 4 * a .area)) (now (a .book))
+entry-at c = let a = start (c .before .before) .args in ap (λ (n : ℕ). field 4 (n + (8 + 4 * a .area)) (now (a .book))) (c .user-offset .ensures .0)
+
+position-at : (c : tie.After-user-offset) → let a = start (c .before .before) .args in
+    field 4 (c .user-offset .result + (8 + 4 * a .area) + 12) (now (a .book)) ≡ field 4 (userAt (now (a .book)) (a .place) + (8 + 4 * a .area) + 12) (now (a .book))
+position-at c = let a = start (c .before .before) .args in ap (λ (n : ℕ). field 4 (n + (8 + 4 * a .area) + 12) (now (a .book))) (c .user-offset .ensures .0)
 
 -- what the posting tells of the two fields
 told : (c : tie.After-post) → PostedTo (c .before .before .before .get-u32 .result) (c .before .get-u322 .result) (start (entered (c .before)) .args .amount) (c .post .result .accepted) (c .post .result .entry) (c .post .result .position)
@@ -42,20 +59,22 @@ post-requires : tie.Need-post-requires
 post-requires c κs =
     let e = entered c in
     let s = start e in
-    at-ready (now (s .args .book)) (s .args .place) (s .args .area) (s .args .amount) (s .pre .0) (s .pre .1) (inside e .2) (c .before .before .get-u32 .ensures) (c .get-u322 .ensures)
+    at-ready (now (s .args .book)) (s .args .place) (s .args .area) (s .args .amount) (s .pre .0) (s .pre .1) (area-low e) (c .before .before .get-u32 .ensures ∙ entry-at (found c)) (c .get-u322 .ensures ∙ position-at (found c))
 
 returns-2 : tie.Need-returns-2
 returns-2 c =
     let p = c .before .before in
     let e = entered (p .before) in
     let s = start e in
-    at-out-of-range (now (s .args .book)) (s .args .place) (s .args .area) (s .args .amount) (s .pre .0) (s .pre .1) (inside e .2) (p .before .before .before .get-u32 .ensures) (p .before .get-u322 .ensures) (told p) (not-true (p .post .result .accepted) (c .if2 .taken))
+    at-out-of-range (now (s .args .book)) (s .args .place) (s .args .area) (s .args .amount) (s .pre .0) (s .pre .1) (area-low e)
+    (p .before .before .before .get-u32 .ensures ∙ entry-at (found (p .before))) (p .before .get-u322 .ensures ∙ position-at (found (p .before))) (told p) (not-true (p .post .result .accepted) (c .if2 .taken))
 
 put-u32-requires-2 : tie.Need-put-u32-requires-2
 put-u32-requires-2 c κs =
     let w = c .before .before .before in
-    let e = entered (w .before .before .before .before .before) in
-    omega (arith, inside e, ap length (w .put-u32 .ensures), length-setField 4 (40 + 56 * start e .args .place + 4 * start e .args .area) (w .before .before .before .before .post .result .entry) (now (start e .args .book)))
+    let f = found (w .before .before .before .before .before) in
+    let a = start (f .before .before) .args in
+    omega (arith, inside f, ap length (w .put-u32 .ensures), length-setField 4 (f .user-offset .result + (8 + 4 * a .area)) (w .before .before .before .before .post .result .entry) (now (a .book)))
 
 returns-3 : tie.Need-returns-3
 returns-3 c =
@@ -66,14 +85,18 @@ returns-3 c =
     let e = entered (p .before) in
     let s = start e in
     let a = s .args in
-    subst⁻¹ (PostedAt (a .place) (a .area) (a .amount) (now (a .book)) 0) (x .put-u322 .ensures ∙ ap (setField 4 (40 + 56 * a .place + 4 * a .area + 12) (p .post .result .position)) (w .put-u32 .ensures))
-    (at-accepted (now (a .book)) (a .place) (a .area) (a .amount) (s .pre .0) (s .pre .1) (inside e .2) (p .before .before .before .get-u32 .ensures) (p .before .get-u322 .ensures) (told p) (λ j. e .before .slice-known .given j .fits) (not-false (p .post .result .accepted) (n .if2 .left)))
+    let o = found (p .before) .user-offset in
+    let i = o .result + (8 + 4 * a .area) in
+    subst⁻¹ (PostedAt (a .place) (a .area) (a .amount) (now (a .book)) 0) (x .put-u322 .ensures ∙ ap (setField 4 (i + 12) (p .post .result .position)) (w .put-u32 .ensures)
+    ∙ ap (λ (n : ℕ). setField 4 (n + (8 + 4 * a .area) + 12) (p .post .result .position) (setField 4 (n + (8 + 4 * a .area)) (p .post .result .entry) (now (a .book)))) (o .ensures .0))
+    (at-accepted (now (a .book)) (a .place) (a .area) (a .amount) (s .pre .0) (s .pre .1) (area-low e)
+    (p .before .before .before .get-u32 .ensures ∙ entry-at (found (p .before))) (p .before .get-u322 .ensures ∙ position-at (found (p .before))) (told p) (λ j. e .before .slice-known .given j .fits) (not-false (p .post .result .accepted) (n .if2 .left)))
 
 pub post-at-spec : {M : Type 1} → statement M
 post-at-spec =
     tie.close
     (tie.spec returns
-    (λ c. omega (arith, inside c))
+    (λ c κs. user-in (c .before))
     (λ c. omega (arith, inside c))
     (λ c. omega (arith, inside c))
     (λ c. omega (arith, inside c))
@@ -83,8 +106,8 @@ post-at-spec =
     post-requires
     (λ c. search needs)
     returns-2
-    (λ c κs. omega (arith, inside (entered (c .before .before .before .before))))
-    (λ c. omega (arith, inside (entered (c .before .before .before .before .before .before .before .before))))
+    (λ c κs. omega (arith, inside (found (c .before .before .before .before))))
+    (λ c. omega (arith, inside (found (c .before .before .before .before .before .before .before .before))))
     put-u32-requires-2
     (λ c. search needs)
     returns-3)

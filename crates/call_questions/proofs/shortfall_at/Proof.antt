@@ -16,7 +16,7 @@ use Rattle.call_questions.proofs.Asked.{asked-called, asked-level, owed
 use Rattle.call_questions.proofs.shortfall_at.Statement.{statement}
 use Rattle.call_questions.proofs.shortfall_at.Tie as tie
 
-abbrev counted : tie.After-fill-positions → tie.After-get-u16
+abbrev counted : tie.After-fill-positions → tie.After-trade-count
 counted c = c .before .before
 
 abbrev start : tie.After-fill-positions → tie.Start
@@ -27,13 +27,11 @@ abbrev filled : tie.After-level-at → tie.After-fill-positions
 filled c = c .before .before .before .before .before
 
 -- the counts of the book
-users-are : (c : tie.After-get-u8) → c .get-u8 .result ≡ userCount (now (c .before .before .args .book))
-unfolding userCount
-users-are c = c .get-u8 .ensures
+users-are : (c : tie.After-user-count) → c .user-count .result ≡ userCount (now (c .before .before .args .book))
+users-are c = c .user-count .ensures
 
-trades-are : (c : tie.After-get-u16) → c .get-u16 .result ≡ tradeCount (now (c .before .before .before .args .book))
-unfolding tradeCount
-trades-are c = c .get-u16 .ensures
+trades-are : (c : tie.After-trade-count) → c .trade-count .result ≡ tradeCount (now (c .before .before .before .args .book))
+trades-are c = c .trade-count .ensures
 
 -- what can be asked of the user
 day-is : (s : tie.Start) → let a = s .args in DayOf (asLimits (a .day .limits)) (asPrices (a .day .prices)) (now (a .book))

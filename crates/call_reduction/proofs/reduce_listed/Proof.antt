@@ -12,9 +12,8 @@ use Rattle.call_reduction.proofs.reduce_listed.Statement.{statement}
 use Rattle.call_reduction.proofs.reduce_listed.Tie as tie
 
 -- the number of users
-users-are : (c : tie.After-get-u8) → c .get-u8 .result ≡ userCount (now (c .before .before .before .before .before .before .before .before .before .before .before .before .before .args .book))
-unfolding userCount
-users-are c = c .get-u8 .ensures
+users-are : (c : tie.After-user-count) → c .user-count .result ≡ userCount (now (c .before .before .before .before .before .before .before .before .before .before .before .before .before .args .book))
+users-are c = c .user-count .ensures
 
 any-left-requires : tie.Need-any-left-requires
 any-left-requires c κs =
@@ -35,8 +34,8 @@ reduce-requires c κs =
     let k = s .pre .0 .inside in
     ((run-prices q, sales-in q k h, reducible q k h), (no-cuts _ _ (part-rises q k) (part-few q k), refl))
 
-get-u8-requires : tie.Need-get-u8-requires
-get-u8-requires c κs = omega (arith, c .before .before .before .before .before .before .before .before .before .before .before .before .pre .0 .book .book .accepted .held .form .head)
+user-count-requires : tie.Need-user-count-requires
+user-count-requires c κs = omega (arith, c .before .before .before .before .before .before .before .before .before .before .before .before .pre .0 .book .book .accepted .held .form .head)
 
 apply-requires : tie.Need-apply-requires
 apply-requires c κs =
@@ -56,4 +55,4 @@ pub reduce-listed-spec : {M : Type 1} → statement M
 reduce-listed-spec =
     tie.close
     (tie.spec (λ c. search needs) (λ c. search needs) (λ c. search needs) (λ c. search needs) (λ c. search needs) any-left-requires (λ c κs. search needs)
-    returns reduce-requires get-u8-requires (λ c. search needs) apply-requires (λ c κs. search needs) (λ c. search needs) returns-2)
+    returns reduce-requires user-count-requires (λ c. search needs) apply-requires (λ c κs. search needs) (λ c. search needs) returns-2)

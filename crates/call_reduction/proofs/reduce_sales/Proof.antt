@@ -8,13 +8,11 @@ use Rattle.call_reduction.proofs.reduce_sales.Statement.{statement}
 use Rattle.call_reduction.proofs.reduce_sales.Tie as tie
 
 -- the counts of the book
-users-are : (c : tie.After-get-u8) → c .get-u8 .result ≡ userCount (now (c .before .before .before .args .book))
-unfolding userCount
-users-are c = c .get-u8 .ensures
+users-are : (c : tie.After-user-count) → c .user-count .result ≡ userCount (now (c .before .before .before .args .book))
+users-are c = c .user-count .ensures
 
-trades-are : (c : tie.After-get-u16) → c .get-u16 .result ≡ tradeCount (now (c .before .before .before .before .before .args .book))
-unfolding tradeCount
-trades-are c = c .get-u16 .ensures
+trades-are : (c : tie.After-trade-count) → c .trade-count .result ≡ tradeCount (now (c .before .before .before .before .before .args .book))
+trades-are c = c .trade-count .ensures
 
 fill-lists-requires : tie.Need-fill-lists-requires
 fill-lists-requires c κs = (

@@ -5,6 +5,7 @@ use Prim.Native.Nat.{ℕ, _+_, _-_}
 use native.Mathlib.Omega.{arith}
 use denote.Ref.{now}
 use Rattle.rules.specs.Queries.{aboutQuery}
+use Rattle.book_format.proofs.Offsets.{user-size}
 use Rattle.book_format.specs.Book.{bookOf}
 use Rattle.call_entry.specs.Entered.{Found}
 use Rattle.call_entry.proofs.Calls.{found-user}
@@ -53,7 +54,7 @@ returns-2 c =
     let a = u .user-offset .result in
     let k : a + 56 - a ≡ 56 = omega arith in
     let o = u .user-offset .ensures .0 in (
-      record { asked = e .seek .ensures .asked; shows = rw (show-found (bytes e) (asked e) (λ n. []) _ z f, ← f .stands, k, o) },
+      record { asked = e .seek .ensures .asked; shows = rw (show-found (bytes e) (asked e) (λ n. []) _ z f, ← f .stands, k, o, user-size) },
       record { block = refl; offset = rw (show-found (bytes e) (asked e) {R = ℕ} (λ n. 0) _ z f, ← f .stands) (omega (arith, o)) },
     )
 

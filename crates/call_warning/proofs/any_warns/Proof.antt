@@ -10,10 +10,10 @@ use Rattle.base.specs.Lists.{any}
 use Rattle.units.specs.Limits.{asLimits}
 use Rattle.fields.specs.Layout.{recordsOf}
 use Rattle.book_records.specs.Trade.{tradeOf}
-use Rattle.book_format.specs.Book.{bookOf, tradeCount, userCount}
+use Rattle.book_format.specs.Book.{bookOf}
 use Rattle.book_format.specs.Questions.{Formed}
 use Rattle.book_format.proofs.Passed.{passed}
-use Rattle.risk_user.proofs.Accepted.{trades-from}
+use Rattle.risk_user.proofs.Accepted.{trades-there}
 use Rattle.risk_user.proofs.Walks.{Searching, searching-start, searching-found, searching-turn, searching-end}
 use Rattle.call_warning.specs.Warned.{warnsBuyer}
 use borrow.Author.Needs.{needs}
@@ -21,48 +21,43 @@ use Rattle.call_warning.proofs.any_warns.Statement.{statement}
 use Rattle.call_warning.proofs.any_warns.Tie as tie
 
 abbrev Inv-loop : tie.InvT-loop
-Inv-loop book prices id limits n m i₀ a₀ i a = Searching (warnsBuyer (asLimits limits) (bookOf book) id) book (32 + 56 * n) m i a
+Inv-loop book prices id limits n m at i₀ a₀ i a = Searching (warnsBuyer (asLimits limits) (bookOf book) id) book at m i a
 
 abbrev μ-loop : tie.MeasureT-loop
-μ-loop book prices id limits n m i₀ a₀ i a = m - i
+μ-loop book prices id limits n m at i₀ a₀ i a = m - i
 
 form : (c : tie.Start Inv-loop μ-loop) → Formed (now (c .args .book))
 form c = passed (now (c .args .book)) (c .pre .0 .passes) .form
 
-get-u8-requires : tie.Need-get-u8-requires Inv-loop μ-loop
-get-u8-requires c κs = omega (arith, form (c .before) .head)
+user-count-requires : tie.Need-user-count-requires Inv-loop μ-loop
+user-count-requires c κs = omega (arith, form (c .before) .head)
 
 cast-n : tie.Need-cast-n Inv-loop μ-loop
 cast-n c = search needs
 
-get-u16-requires : tie.Need-get-u16-requires Inv-loop μ-loop
-get-u16-requires c κs = omega (arith, form (c .before .before) .head)
+trade-count-requires : tie.Need-trade-count-requires Inv-loop μ-loop
+trade-count-requires c κs = omega (arith, form (c .before .before) .head)
 
 cast-m : tie.Need-cast-m Inv-loop μ-loop
 cast-m c = search needs
 
-mul-a : tie.Need-mul-a Inv-loop μ-loop
-mul-a c = search needs
-
-add-a : tie.Need-add-a Inv-loop μ-loop
-add-a c = search needs
+trades-offset-requires : tie.Need-trades-offset-requires Inv-loop μ-loop
+trades-offset-requires c κs = (form (c .before .before .before), c .before .user-count .ensures)
 
 loop-holds : tie.Need-loop-holds Inv-loop μ-loop
 loop-holds c = searching-start
 
 -- ---- the trades stand in the bytes to their end, and are the book's
 
-room : (c : tie.After-get-u16 Inv-loop μ-loop) → 32 + 56 * c .before .get-u8 .result + 20 * c .get-u16 .result ≡ length (now (c .before .before .before .args .book))
-unfolding userCount tradeCount
-room c = omega (arith, form (c .before .before .before) .whole, c .before .get-u8 .ensures, c .get-u16 .ensures)
+room : (c : tie.After-trades-offset Inv-loop μ-loop) → c .trades-offset .result + 20 * c .before .trade-count .result ≡ length (now (c .before .before .before .before .args .book))
+room c = omega (arith, form (c .before .before .before .before) .whole, c .trades-offset .ensures, c .before .trade-count .ensures)
 
-lies : (c : tie.In-loop Inv-loop μ-loop) → c .before .loop .a + 20 ≤ length (now (c .before .before .before .before .before .args .book))
+lies : (c : tie.In-loop Inv-loop μ-loop) → c .before .loop .a + 20 ≤ length (now (c .before .before .before .before .before .before .args .book))
 lies c = omega (arith, room (c .before .before), c .before .loop .inv .place)
 
-by-trades : (c : tie.After-get-u16 Inv-loop μ-loop) → (p : Trade → Bool)
-    → any p (recordsOf 20 tradeOf (c .get-u16 .result) (drop (32 + 56 * c .before .get-u8 .result) (now (c .before .before .before .args .book)))) ≡ any p (bookOf (now (c .before .before .before .args .book)) .trades)
-unfolding userCount tradeCount
-by-trades c p = ap (any p) (trades-from (now (c .before .before .before .args .book)) (c .before .get-u8 .ensures) (c .get-u16 .ensures))
+by-trades : (c : tie.After-trades-offset Inv-loop μ-loop) → (p : Trade → Bool)
+    → any p (recordsOf 20 tradeOf (c .before .trade-count .result) (drop (c .trades-offset .result) (now (c .before .before .before .before .args .book)))) ≡ any p (bookOf (now (c .before .before .before .before .args .book)) .trades)
+by-trades c p = ap (any p) (trades-there (now (c .before .before .before .before .args .book)) (c .trades-offset .ensures) (c .before .trade-count .ensures))
 
 add-read-trade : tie.Need-add-read-trade Inv-loop μ-loop
 add-read-trade c = omega (arith, lies c)
@@ -83,10 +78,10 @@ warns-buyer-requires : tie.Need-warns-buyer-requires Inv-loop μ-loop
 warns-buyer-requires c κs = search needs
 
 -- the test of the next trade
-told : (c : tie.After-warns-buyer Inv-loop μ-loop) → let l = c .before .before .before .before in let s = l .before .before .before .before .args in
+told : (c : tie.After-warns-buyer Inv-loop μ-loop) → let l = c .before .before .before .before in let s = l .before .before .before .before .before .args in
     c .warns-buyer .result ≡ warnsBuyer (asLimits (s .limits)) (bookOf (now (s .book))) (s .id) (tradeOf (take (l .loop .a + 20 - l .loop .a) (drop (l .loop .a) (now (s .book)))))
 told c =
-    let s = c .before .before .before .before .before .before .before .before .args in
+    let s = c .before .before .before .before .before .before .before .before .before .args in
     c .warns-buyer .ensures ∙ ap (warnsBuyer (asLimits (s .limits)) (bookOf (now (s .book))) (s .id)) (c .before .read-trade .ensures)
 
 returns : tie.Need-returns Inv-loop μ-loop
@@ -94,8 +89,8 @@ returns c =
     let l = c .before .before .before .before .before in
     searching-found (l .loop .inv) (omega arith) (told (c .before)) (c .if1 .taken) ∙ by-trades (l .before) _
 
-add-a-2 : tie.Need-add-a-2 Inv-loop μ-loop
-add-a-2 c = omega (arith, lies (c .before .before .before .before))
+add-a : tie.Need-add-a Inv-loop μ-loop
+add-a c = omega (arith, lies (c .before .before .before .before))
 
 add-i : tie.Need-add-i Inv-loop μ-loop
 add-i c = search needs
@@ -115,12 +110,11 @@ any-warns-spec =
     (tie.spec
     Inv-loop
     μ-loop
-    get-u8-requires
+    user-count-requires
     cast-n
-    get-u16-requires
+    trade-count-requires
     cast-m
-    mul-a
-    add-a
+    trades-offset-requires
     loop-holds
     add-read-trade
     sub-read-trade
@@ -129,7 +123,7 @@ any-warns-spec =
     read-trade-requires
     warns-buyer-requires
     returns
-    add-a-2
+    add-a
     add-i
     loop-less
     loop-again

@@ -24,25 +24,24 @@ bytes c = now (c .before .before .args .book)
 place-of-requires : tie.Need-place-of-requires
 place-of-requires c κs = let o = c .before in passed (now (o .args .book)) (o .pre .0 .passes) .form
 
-get-u8-requires : tie.Need-get-u8-requires
-get-u8-requires c κs = let o = c .before .before in omega (arith, passed (now (o .args .book)) (o .pre .0 .passes) .form .head)
+user-count-requires : tie.Need-user-count-requires
+user-count-requires c κs = let o = c .before .before in omega (arith, passed (now (o .args .book)) (o .pre .0 .passes) .form .head)
 
 cast-n : tie.Need-cast-n
 cast-n c = search needs
 
 returns : tie.Need-returns
-unfolding bookOf userCount
+unfolding bookOf
 returns c =
     let p = c .before .before in
     let a = p .before .before .args in
-    shipper-unknown (asLimits (a .limits)) (bookOf (bytes p)) (a .id) (omega (arith, length-usersOf (bytes p), c .before .get-u8 .ensures, p .place-of .ensures .0, c .if1 .taken))
+    shipper-unknown (asLimits (a .limits)) (bookOf (bytes p)) (a .id) (omega (arith, length-usersOf (bytes p), c .before .user-count .ensures, p .place-of .ensures .0, c .if1 .taken))
 
 -- the user at the place
 found : (c : tie.Else1) → let p = c .before .before in Found (bytes p) (p .before .before .args .id) (p .place-of .result)
-unfolding userCount
 found c =
     let p = c .before .before in
-    record { passes = p .before .before .pre .0 .passes; stands = p .place-of .ensures .0; known = omega (arith, c .if1 .left, c .before .get-u8 .ensures) }
+    record { passes = p .before .before .pre .0 .passes; stands = p .place-of .ensures .0; known = omega (arith, c .if1 .left, c .before .user-count .ensures) }
 
 user-at-requires : tie.Need-user-at-requires
 user-at-requires c κs = found-user (found c)
@@ -83,7 +82,7 @@ is-flagged-shipper-spec =
     tie.close
     (tie.spec
     place-of-requires
-    get-u8-requires
+    user-count-requires
     cast-n
     returns
     user-at-requires

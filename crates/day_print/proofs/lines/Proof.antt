@@ -11,13 +11,11 @@ use Rattle.day_print.proofs.lines.Statement.{statement}
 use Rattle.day_print.proofs.lines.Tie as tie
 
 -- the counts of the book
-users-are : (c : tie.After-get-u8) → c .get-u8 .result ≡ userCount (now (c .before .before .before .before .before .before .before .before .before .before .args .book))
-unfolding userCount
-users-are c = c .get-u8 .ensures
+users-are : (c : tie.After-user-count) → c .user-count .result ≡ userCount (now (c .before .before .before .before .before .before .before .before .before .before .args .book))
+users-are c = c .user-count .ensures
 
-trades-are : (c : tie.After-get-u16) → c .get-u16 .result ≡ tradeCount (now (c .before .before .before .before .before .before .before .before .before .before .before .args .book))
-unfolding tradeCount
-trades-are c = c .get-u16 .ensures
+trades-are : (c : tie.After-trade-count) → c .trade-count .result ≡ tradeCount (now (c .before .before .before .before .before .before .before .before .before .before .before .args .book))
+trades-are c = c .trade-count .ensures
 
 slice-aggregate-ask : tie.Need-slice-aggregate-ask
 slice-aggregate-ask c = search needs
@@ -34,14 +32,14 @@ today-requires c κs = search needs
 read-prices-requires : tie.Need-read-prices-requires
 read-prices-requires c κs = let s = c .before .before .before .before .before .before .before .before in passed (now (s .args .book)) (s .pre) .form .head
 
-get-u8-requires : tie.Need-get-u8-requires
-get-u8-requires c κs = let s = c .before .before .before .before .before .before .before .before .before in omega (arith, passed (now (s .args .book)) (s .pre) .form .head)
+user-count-requires : tie.Need-user-count-requires
+user-count-requires c κs = let s = c .before .before .before .before .before .before .before .before .before in omega (arith, passed (now (s .args .book)) (s .pre) .form .head)
 
 cast-n : tie.Need-cast-n
 cast-n c = search needs
 
-get-u16-requires : tie.Need-get-u16-requires
-get-u16-requires c κs = let s = c .before .before .before .before .before .before .before .before .before .before in omega (arith, passed (now (s .args .book)) (s .pre) .form .head)
+trade-count-requires : tie.Need-trade-count-requires
+trade-count-requires c κs = let s = c .before .before .before .before .before .before .before .before .before .before in omega (arith, passed (now (s .args .book)) (s .pre) .form .head)
 
 cast-m : tie.Need-cast-m
 cast-m c = search needs
@@ -80,9 +78,9 @@ lines-spec =
     ask-requires
     today-requires
     read-prices-requires
-    get-u8-requires
+    user-count-requires
     cast-n
-    get-u16-requires
+    trade-count-requires
     cast-m
     fill-positions-requires
     fill-cut-requires

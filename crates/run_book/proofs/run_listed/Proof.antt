@@ -12,13 +12,11 @@ use Rattle.run_book.proofs.run_listed.Statement.{statement}
 use Rattle.run_book.proofs.run_listed.Tie as tie
 
 -- the counts of the book
-users-are : (c : tie.After-get-u8) → c .get-u8 .result ≡ userCount (now (c .before .before .before .args .book))
-unfolding userCount
-users-are c = c .get-u8 .ensures
+users-are : (c : tie.After-user-count) → c .user-count .result ≡ userCount (now (c .before .before .before .args .book))
+users-are c = c .user-count .ensures
 
-trades-are : (c : tie.After-get-u16) → c .get-u16 .result ≡ tradeCount (now (c .before .before .before .before .before .args .book))
-unfolding tradeCount
-trades-are c = c .get-u16 .ensures
+trades-are : (c : tie.After-trade-count) → c .trade-count .result ≡ tradeCount (now (c .before .before .before .before .before .args .book))
+trades-are c = c .trade-count .ensures
 
 fill-positions-requires : tie.Need-fill-positions-requires
 fill-positions-requires c κs = (c .before .before .before .before .before .before .before .pre .0 .book .accepted .held .form, users-are (c .before .before .before .before), refl)

@@ -1,0 +1,45 @@
+-- Where the users and the trades of a book in bytes begin, and what is read from there. Assumes nothing.
+use mathlib.Core.List.{List}
+use mathlib.Core.Path.{_≡_, refl}
+use Prim.Native.Nat.{ℕ, _+_, _*_}
+use native.Mathlib.Omega.{arith}
+use lib.ListN.{drop}
+use Rattle.fields.specs.Layout.{recordsOf}
+use Rattle.book_format.specs.Book.{headerSize, tradeCount, tradesAt, tradesOf, userAt, userCount, userSize, usersOf, versionOf}
+use Rattle.book_records.specs.Trade.{tradeOf}
+use Rattle.book_records.specs.User.{userOf}
+
+-- a user's record has 56 bytes
+pub user-size : (version : ℕ) → userSize version ≡ 56
+unfolding userSize
+user-size version = refl
+
+module _ (s : List ℕ) where
+  module _ {at n : ℕ} (begin : at ≡ headerSize (versionOf s)) (count : n ≡ userCount s) where
+    -- the users stand behind the header, the trades behind the users
+    pub users-there : recordsOf 56 userOf n (drop at s) ≡ usersOf s
+    unfolding usersOf userSize
+    users-there = rw (begin, count)
+
+    pub users-end : at + 56 * n ≡ tradesAt s
+    unfolding tradesAt userAt userSize
+    users-end = rw (begin, count)
+
+  -- a user's place
+  pub user-there : {at : ℕ} (i : ℕ) → at ≡ headerSize (versionOf s) → at + 56 * i ≡ userAt s i
+  unfolding userAt userSize
+  user-there i begin = rw begin
+
+  -- and the next one's
+  pub user-next : (i : ℕ) → userAt s i + 56 ≡ userAt s (i + 1)
+  unfolding userAt userSize
+  user-next i = omega arith
+
+  pub trades-there : {at m : ℕ} → at ≡ tradesAt s → m ≡ tradeCount s → recordsOf 20 tradeOf m (drop at s) ≡ tradesOf s
+  unfolding tradesOf
+  trades-there begin count = rw (begin, count)
+
+-- the trades of two books of one version, with as many users, begin at one offset
+pub same-begin : (s t : List ℕ) → versionOf s ≡ versionOf t → userCount s ≡ userCount t → tradesAt s ≡ tradesAt t
+unfolding tradesAt userAt
+same-begin s t v n = rw (v, n)

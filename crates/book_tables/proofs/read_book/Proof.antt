@@ -1,0 +1,84 @@
+-- `read_book` reads the counts, then the records where they say these stand, and each other field of the header from its own offset. Assumes nothing.
+use native.Mathlib.Omega.{arith}
+use borrow.Author.Needs.{needs}
+use denote.Ref.{now}
+use Rattle.book_format.proofs.Offsets.{trades-there, users-end, users-there}
+use Rattle.book_format.specs.Book.{bookOf, versionOf}
+use Rattle.book_tables.specs.Book.{asBook}
+use Rattle.book_tables.proofs.read_book.Statement.{statement}
+use Rattle.book_tables.proofs.read_book.Tie as tie
+
+user-count-requires : tie.Need-user-count-requires
+user-count-requires c κs = search needs
+
+trade-count-requires : tie.Need-trade-count-requires
+trade-count-requires c κs = search needs
+
+read-prices-requires : tie.Need-read-prices-requires
+read-prices-requires c κs = search needs
+
+read-users-requires : tie.Need-read-users-requires
+read-users-requires c κs =
+    let u = c .before .before .before in
+    let s = u .before .before in
+    let h = s .pre in
+    (omega (arith, h .users, u .user-count .ensures), omega (arith, h .whole, users-end (now (s .args .s)) (c .users-offset .ensures) (u .user-count .ensures)))
+
+read-trades-requires : tie.Need-read-trades-requires
+read-trades-requires c κs =
+    let m = c .before .before .before .before in
+    let h = m .before .before .before .pre in
+    (omega (arith, h .trades, m .trade-count .ensures), omega (arith, h .whole, c .trades-offset .ensures, m .trade-count .ensures))
+
+get-u16-requires : tie.Need-get-u16-requires
+get-u16-requires c κs = search needs
+
+get-u32-requires : tie.Need-get-u32-requires
+get-u32-requires c κs = search needs
+
+returns : tie.Need-returns
+unfolding asBook bookOf versionOf
+returns c =
+    let version = c .before in
+    let trades = version .before in
+    let behind = trades .before in
+    let users = behind .before in
+    let begin = users .before in
+    let prices = begin .before in
+    let m = prices .before in
+    let n = m .before in
+    let s = now (n .before .before .args .s) in
+    record {
+      book = rw (
+        version .get-u16 .ensures,
+        c .get-u32 .ensures,
+        prices .read-prices .ensures,
+        users .read-users .ensures .records,
+        trades .read-trades .ensures .records,
+        users-there s (begin .users-offset .ensures) (n .user-count .ensures),
+        trades-there s (behind .trades-offset .ensures) (m .trade-count .ensures),
+      );
+      users = n .user-count .ensures;
+      trades = m .trade-count .ensures;
+      user-room = users .read-users .ensures .full;
+      trade-room = trades .read-trades .ensures .full;
+      user-rest = users .read-users .ensures .rest;
+      trade-rest = trades .read-trades .ensures .rest;
+    }
+
+pub read-book-spec : {M : Type 1} → statement M
+read-book-spec =
+    tie.close
+    (tie.spec
+    user-count-requires
+    trade-count-requires
+    read-prices-requires
+    (λ c. search needs)
+    (λ c κs. search needs)
+    read-users-requires
+    (λ c κs. search needs)
+    (λ c. search needs)
+    read-trades-requires
+    get-u16-requires
+    get-u32-requires
+    returns)

@@ -1,0 +1,49 @@
+-- The book of the rules that a struct is, and what a struct holds into which bytes were read. Assumes nothing.
+use mathlib.Core.Path.{_≡_}
+use mathlib.Core.List.{List, map}
+use Prim.Native.Nat.{ℕ, _-_}
+use lib.ListN.{length, take, drop, replicate}
+use Rattle.rules.specs.Book as model
+use Rattle.units.specs.Prices.{asPrices}
+use Rattle.book_records.specs.User.{asUser, blankUser}
+use Rattle.book_records.specs.Trade.{asTrade, blankTrade}
+use Rattle.book_format.specs.Book.{bookOf, bytesOf, userCount, tradeCount}
+use Rattle.book_tables.specs.declared.Book.{Book}
+
+-- a struct's header, and its records up to the counts
+unfoldable pub asBook : Book → model.Book
+asBook b =
+    record {
+      header = record { version = b .version; date = b .date; prices = asPrices (b .prices) };
+      users = map asUser (take (b .«user_count») (b .users));
+      trades = map asTrade (take (b .«trade_count») (b .trades));
+    }
+
+-- the struct whose every field is 0
+abbrev pub blankBook : Book
+blankBook =
+    record {
+      version = 0;
+      «user_count» = 0;
+      «trade_count» = 0;
+      date = 0;
+      prices = record { p = 0; q = 0; l = 0; x = 0; i = 0 };
+      users = replicate 64 blankUser;
+      trades = replicate 256 blankTrade;
+    }
+
+-- a struct into which a book was read: the book that the bytes hold, their counts, and blank records past these
+pub record BookRead (s : List ℕ) (b : Book) : Type 0 where
+  pub book : asBook b ≡ bookOf s
+  pub users : b .«user_count» ≡ userCount s
+  pub trades : b .«trade_count» ≡ tradeCount s
+  pub user-room : length (b .users) ≡ 64
+  pub trade-room : length (b .trades) ≡ 256
+  pub user-rest : drop (b .«user_count») (b .users) ≡ replicate (64 - b .«user_count») blankUser
+  pub trade-rest : drop (b .«trade_count») (b .trades) ≡ replicate (256 - b .«trade_count») blankTrade
+
+-- bytes to which a struct was written: those of the book that it is; and the room of its arrays
+pub record BookWritten (b : Book) (s : List ℕ) : Type 0 where
+  pub bytes : s ≡ bytesOf (asBook b)
+  pub user-room : length (b .users) ≡ 64
+  pub trade-room : length (b .trades) ≡ 256

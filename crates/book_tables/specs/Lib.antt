@@ -1,0 +1,4 @@
+-- Arrays of records.
+pub mod Filled
+-- The book as the code's struct, and the book of the rules that it is.
+pub mod Book
