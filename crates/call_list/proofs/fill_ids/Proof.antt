@@ -19,7 +19,7 @@ abbrev μ-loop : tie.MeasureT-loop
 μ-loop book n known₀ i₀ a₀ known i a = n - i
 
 loop-holds : tie.Need-loop-holds Inv-loop μ-loop
-loop-holds c = filling-start (c .before .before .before .pre .2) (c .users-offset .ensures)
+loop-holds c = filling-start (c .before .before .before .pre .2) (c .users-offset .ensures .0)
 
 -- the next record lies in the book, and there is room for its id
 inside : (c : tie.In-loop Inv-loop μ-loop) → let l = c .before in let s = l .before .before .before .before in
