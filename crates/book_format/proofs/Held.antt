@@ -154,6 +154,7 @@ module _ {b : Book} {s : List ℕ} (h : HeldAs b s) where
     where
       version : bookOf s .header ≡ c .header → c .header .version ≡ versionOf s
       version g = ap (λ (x : Header). x .version) (sym g)
+
       version-lt : bookOf s .header ≡ c .header → c .header .version < 2 ^ 16
       version-lt g = rw (version g) (field-lt 2 3 s held-bytes)
 

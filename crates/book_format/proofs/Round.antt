@@ -41,9 +41,9 @@ header-back s b f =
     by-case (sellingIn (versionOf s))
     (λ e. ap₂ (λ (x y : List ℕ). x ++ y) (start-back s b f) (selling-back s b f e) ∙ sym (take-add 32 8 s) ∙ ap (λ (n : ℕ). take n s) (sym (header-selling (versionOf s) e)))
     (λ e.
-      ap₂ (λ (x y : List ℕ). x ++ y) (start-back s b f) (selling-none (versionOf s) (pricesOf s) e)
-      ∙ append-nil (take 32 s)
-      ∙ ap (λ (n : ℕ). take n s) (sym (header-plain (versionOf s) e)))
+    ap₂ (λ (x y : List ℕ). x ++ y) (start-back s b f) (selling-none (versionOf s) (pricesOf s) e)
+    ∙ append-nil (take 32 s)
+    ∙ ap (λ (n : ℕ). take n s) (sym (header-plain (versionOf s) e)))
 
 users-back : (s : List ℕ) → AllBytes s → Passed s → bytesOfRecords userBytes (usersOf s) ≡ take (56 * userCount s) (drop (headerSize (versionOf s)) s)
 unfolding usersOf userSize tradesAt userAt
