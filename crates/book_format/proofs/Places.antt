@@ -16,13 +16,21 @@ use Rattle.book_format.proofs.Passed.{Passed, length-tradesOf}
 use Rattle.book_format.proofs.Positions.{position-bytes}
 use Rattle.book_format.specs.Book.{bookOf, tradeCount, tradesAt, tradesOf, userAt, userCount, usersOf, headerSize, userSize, versionOf}
 use Rattle.book_format.specs.Held.{HeldAs, tradesReplaced}
-use Rattle.book_format.specs.Places.{TradeIn, UserIn, positionAt}
+use Rattle.book_format.specs.Questions.{Formed}
+use Rattle.book_format.specs.Places.{HeaderIn, TradeIn, UserIn, positionAt}
 use Rattle.book_records.proofs.Trades.{length-tradeBytes, trade-of-bytes}
 use Rattle.book_records.proofs.Users.{length-userBytes, user-bytes-of}
 use Rattle.book_records.specs.Trade.{FitsTrade, tradeBytes, tradeOf}
 use Rattle.book_records.specs.User.{userBytes, userOf, userZeros}
 use Rattle.rules.specs.Book.{Trade, User, at, noTrade, nobody}
 use Rattle.rules.specs.Signed.{signedOf}
+
+-- ---- the header
+
+-- it lies in bytes of the right form
+pub header-lies : {s : List ℕ} → Formed s → HeaderIn s
+unfolding tradesAt userAt
+header-lies f = record { start = f .head; whole = omega (arith, f .whole) }
 
 -- ---- a user
 

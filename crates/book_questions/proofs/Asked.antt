@@ -9,15 +9,14 @@ use lib.Dec.{T}
 use lib.ListN.{drop, take}
 use Rattle.rules.specs.Areas.{Prices}
 use Rattle.rules.specs.Book.{User, Trade}
-use Rattle.rules.specs.Calendar.{realDay}
 use Rattle.base.specs.Lists.{all}
-use Rattle.rules.specs.Questions.{headerValid, numberOf, positionsValid, pricesValid, refusal, tradeValid}
+use Rattle.rules.specs.Questions.{headerValid, numberOf, positionsValid, refusal, tradeValid}
 use Rattle.base.proofs.Tests.{and-r}
 use Rattle.fields.specs.Field.{field}
 use Rattle.book_records.specs.Trade.{tradeZeros}
 use Rattle.book_records.specs.User.{userZeros}
 use Rattle.book_format.proofs.Offsets.{trades-there, users-end, users-there}
-use Rattle.book_format.specs.Book.{bookOf, headerSize, pricesAt, tradeCount, tradesAt, tradesOf, userCount, userSize, usersOf, versionOf}
+use Rattle.book_format.specs.Book.{bookOf, headerSize, pricesOf, tradeCount, tradesAt, tradesOf, userCount, userSize, usersOf, versionOf}
 use Rattle.book_format.specs.Questions.{Formed, aboutFields, aboutForm, formNumber, marked, sized, tradeZerosValid, userZerosValid, versioned}
 use Rattle.book_parties.specs.Ids.{usersFrom, tradesFrom, idsOf}
 use Rattle.book_form.specs.Zeros.{zerosIn}
@@ -116,11 +115,11 @@ formed-bytes {s} form e f begin behind =
       trades = omega (arith, form .whole, behind);
     }
 
-module _ (s : List ℕ) {date : ℕ} {prices : Prices} {valid : Bool} (d : date ≡ field 4 8 s) (p : prices ≡ pricesAt 12 s) (e : valid ≡ (realDay date && pricesValid prices)) where
+module _ (s : List ℕ) {version date : ℕ} {prices : Prices} {valid : Bool} (v : version ≡ versionOf s) (d : date ≡ field 4 8 s) (p : prices ≡ pricesOf s) (e : valid ≡ headerValid (record { version = version; date = date; prices = prices })) where
   -- the answer to question 4
   header-answer : valid ≡ headerValid (bookOf s .header)
-  unfolding headerValid bookOf
-  header-answer = rw (← d, ← p) e
+  unfolding bookOf
+  header-answer = rw (← v, ← d, ← p) e
 
   -- it is no
   pub fields-4 : {sellers buyers : List ℕ} → valid ≡ false → FieldsPlaced s 4 sellers buyers

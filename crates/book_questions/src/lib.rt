@@ -137,7 +137,7 @@ pub fn ask_fields(s: &[u8], sellers: &mut [u8], buyers: &mut [u8], sums: &mut [u
     let n = book_format::user_count(s) as usize;
     let m = book_format::trade_count(s) as usize;
     let prices = book_form::read_prices(s);
-    if !book_form::header_valid(fields::get_u32(s, 8), prices) {
+    if !book_form::header_valid(book_format::version(s), fields::get_u32(s, 8), prices) {
         return Answer { number: 4, read: 0 };
     }
     let users_at = book_format::users_offset(s);

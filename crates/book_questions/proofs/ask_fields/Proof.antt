@@ -1,6 +1,7 @@
 -- `ask_fields` asks question 4, and then those of the users and trades. Assumes nothing.
 use denote.Ref.{now}
 use borrow.Author.Tests.{not-true, not-false}
+use Rattle.book_format.proofs.Places.{header-lies}
 use Rattle.book_questions.specs.Asked.{pastSix, RecordsIn}
 use Rattle.book_questions.proofs.Asked.{formed-bytes, fields-4, fields-rest, fields-summed, summed-none}
 use borrow.Author.Needs.{needs}
@@ -20,7 +21,10 @@ cast-m : tie.Need-cast-m
 cast-m c = search needs
 
 read-prices-requires : tie.Need-read-prices-requires
-read-prices-requires c κs = search needs
+read-prices-requires c κs = header-lies (c .before .before .before .before .before .pre .0)
+
+version-requires : tie.Need-version-requires
+version-requires c κs = search needs
 
 get-u32-requires : tie.Need-get-u32-requires
 get-u32-requires c κs = search needs
@@ -32,16 +36,16 @@ returns : tie.Need-returns
 unfolding pastSix
 returns c =
     let header = c .before in
-    let prices = header .before .before in
+    let prices = header .before .before .before in
     let start = prices .before .before .before .before .before .before in
-    (fields-4 (now (start .args .s)) (header .before .get-u32 .ensures) (prices .read-prices .ensures) (header .header-valid .ensures) (not-true _ (c .if1 .taken)), summed-none 4 (λ p. p))
+    (fields-4 (now (start .args .s)) (header .before .before .version .ensures) (header .before .get-u32 .ensures) (prices .read-prices .ensures) (header .header-valid .ensures) (not-true _ (c .if1 .taken)), summed-none 4 (λ p. p))
 
 -- where the records stand
-placed : (c : tie.After-trades-offset) → let counts = c .before .before .before .before .before .before in
+placed : (c : tie.After-trades-offset) → let counts = c .before .before .before .before .before .before .before in
     RecordsIn (c .before .users-offset .result) (counts .before .user-count .result) (c .trades-offset .result) (counts .trade-count .result) (now (counts .before .before .before .before .before .args .s))
 placed c =
-    let counts = c .before .before .before .before .before .before in
-    formed-bytes (counts .before .before .before .before .before .pre .0) (counts .before .user-count .ensures) (counts .trade-count .ensures) (c .before .users-offset .ensures) (c .trades-offset .ensures)
+    let counts = c .before .before .before .before .before .before .before in
+    formed-bytes (counts .before .before .before .before .before .pre .0) (counts .before .user-count .ensures) (counts .trade-count .ensures) (c .before .users-offset .ensures .0) (c .trades-offset .ensures)
 
 user-zeros-valid-requires : tie.Need-user-zeros-valid-requires
 user-zeros-valid-requires c κs = placed c .users
@@ -65,12 +69,12 @@ returns-2 c =
     let offsets = zeros .before .before in
     let passed = offsets .before .before in
     let header = passed .before in
-    let prices = header .before .before in
+    let prices = header .before .before .before in
     let counts = prices .before in
     let start = counts .before .before .before .before .before in (
-      fields-rest (now (start .args .s)) (header .before .get-u32 .ensures) (prices .read-prices .ensures) (header .header-valid .ensures) (not-false _ (passed .if1 .left))
-          (counts .before .user-count .ensures) (counts .trade-count .ensures) (offsets .before .users-offset .ensures) (offsets .trades-offset .ensures) (zeros .before .user-zeros-valid .ensures) (zeros .trade-zeros-valid .ensures) (records .ask-records .ensures .0),
-      fields-summed (now (start .args .s)) (counts .before .user-count .ensures) (counts .trade-count .ensures) (offsets .before .users-offset .ensures) (offsets .trades-offset .ensures) (records .ask-records .ensures .1),
+      fields-rest (now (start .args .s)) (header .before .before .version .ensures) (header .before .get-u32 .ensures) (prices .read-prices .ensures) (header .header-valid .ensures) (not-false _ (passed .if1 .left))
+          (counts .before .user-count .ensures) (counts .trade-count .ensures) (offsets .before .users-offset .ensures .0) (offsets .trades-offset .ensures) (zeros .before .user-zeros-valid .ensures) (zeros .trade-zeros-valid .ensures) (records .ask-records .ensures .0),
+      fields-summed (now (start .args .s)) (counts .before .user-count .ensures) (counts .trade-count .ensures) (offsets .before .users-offset .ensures .0) (offsets .trades-offset .ensures) (records .ask-records .ensures .1),
     )
 
 pub ask-fields-spec : {M : Type 1} → statement M
@@ -82,6 +86,7 @@ ask-fields-spec =
     trade-count-requires
     cast-m
     read-prices-requires
+    version-requires
     get-u32-requires
     header-valid-requires
     returns
