@@ -19,7 +19,7 @@ abbrev μ-loop : tie.MeasureT-loop
 μ-loop book n known₀ i₀ a₀ known i a = n - i
 
 loop-holds : tie.Need-loop-holds Inv-loop μ-loop
-loop-holds c = filling-start (c .before .before .before .pre .2) (c .users-offset .ensures)
+loop-holds c = filling-start (c .before .before .before .pre .2) (c .users-offset .ensures .0)
 
 -- the next record lies in the book, and there is room for its id
 inside : (c : tie.In-loop Inv-loop μ-loop) → let l = c .before in let s = l .before .before .before .before in
@@ -48,7 +48,7 @@ pub fill-ids-spec : {M : Type 1} → statement M
 fill-ids-spec =
     tie.close
     (tie.spec Inv-loop μ-loop
-    (λ c κs. passed (now (c .before .before .args .book)) (c .before .before .pre .0) .form)
+    (λ c κs. passed (now (c .before .before .args .book)) (c .before .before .pre .0) .form .head)
     loop-holds
     (λ c κs. omega (arith, inside c))
     (λ c. omega (arith, inside (c .before)))
