@@ -1,13 +1,13 @@
 -- A book held in bytes: accepted bytes hold theirs; its records are read where they stand; with one record set, or a part of it, the bytes hold the book with that record. Assumes nothing.
 use mathlib.Core.List.{List, [], _++_, append-assoc, append-nil}
 use mathlib.Core.Path.{_≡_, refl, sym, ap, ap₂, subst, _∙_}
-use Prim.Native.Nat.{ℕ, _+_, _*_, _^_, _<_, _≤_}
+use Prim.Native.Nat.{ℕ, _+_, _*_, _<_, _≤_}
 use native.Mathlib.Nat.{zero-add}
 use native.Mathlib.Omega.{arith}
 use lib.Dec.{T}
 use lib.ListN.{length, take, drop, getD, set, length-append, length-set}
 use lib.Seq.{sets}
-use Rattle.fields.proofs.Field.{all-bytes-part, field-lt, field-part}
+use Rattle.fields.proofs.Field.{all-bytes-part, field-part}
 use Rattle.fields.proofs.Records.{length-bytesOfRecords}
 use Rattle.fields.proofs.Sets.{drop-sets, drop-sets-add, sets-whole, take-sets}
 use Rattle.fields.specs.Field.{AllBytes, field}
@@ -142,21 +142,18 @@ module _ {b : Book} {s : List ℕ} (h : HeldAs b s) where
   -- bytes with the same header hold a book as large, where they are its bytes and its records are read from them
   held-changed : (c : Book) (t : List ℕ) → take (headerSize (versionOf s)) t ≡ take (headerSize (versionOf s)) s → c .header ≡ b .header → length (c .users) ≡ length (b .users) → length (c .trades) ≡ length (b .trades)
       → t ≡ bytesOf c → usersOf t ≡ c .users → tradesOf t ≡ c .trades → HeldAs c t
-  unfolding bookOf versionOf
+  unfolding bookOf
   held-changed c t e same users trades bytes u r =
       let f = h .form in
       let g : bookOf s .header ≡ c .header = ap (λ (x : Book). x .header) (h .book) ∙ sym same in
       record {
         book = book-of t c (same-header s t e ∙ g) u r;
         bytes = bytes;
-        form = subst Formed (sym bytes) (formed-bytesOf c (version-lt g) (rw (version g) (f .version)) (omega (arith, held-userCount, f .some)) (omega (arith, held-userCount, f .users)) (omega (arith, held-tradeCount, f .trades)));
+        form = subst Formed (sym bytes) (formed-bytesOf c (rw (version g) (f .version)) (omega (arith, held-userCount, f .some)) (omega (arith, held-userCount, f .users)) (omega (arith, held-tradeCount, f .trades)));
       }
     where
       version : bookOf s .header ≡ c .header → c .header .version ≡ versionOf s
       version g = ap (λ (x : Header). x .version) (sym g)
-
-      version-lt : bookOf s .header ≡ c .header → c .header .version < 2 ^ 16
-      version-lt g = rw (version g) (field-lt 2 3 s held-bytes)
 
   -- a part of a user's bytes is set: the bytes of the book with the user that has these
   user-bytes : (i j a : ℕ) (u d : User) (vs : List ℕ) → i < length (b .users) → a ≡ headerSize (versionOf s) + 56 * i + j → j + length vs ≤ 56

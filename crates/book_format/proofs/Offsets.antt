@@ -2,15 +2,24 @@
 use mathlib.Core.Bool.{true, false}
 use mathlib.Core.List.{List, [], _∷_}
 use mathlib.Core.Path.{_≡_, refl}
-use Prim.Native.Nat.{ℕ, _+_, _*_, _≤_}
+use Prim.Native.Nat.{ℕ, _+_, _*_, _^_, _<_, _≤_}
 use native.Mathlib.Omega.{arith}
+use lib.Dec.{T, eqb, eqb→eq}
 use lib.ListN.{drop}
-use Rattle.base.proofs.Tests.{by-case}
+use borrow.Author.Tests.{eqb-true}
+use Rattle.base.proofs.Tests.{by-case, fails, or-second}
 use Rattle.fields.specs.Layout.{pack, recordsOf}
 use Rattle.book_format.specs.Book.{headerSize, lengthBy, sellingBytes, sellingWidths, tradeCount, tradesAt, tradesOf, userAt, userCount, userSize, usersOf, versionOf}
 use Rattle.book_records.specs.Trade.{tradeOf}
 use Rattle.book_records.specs.User.{userOf}
 use Rattle.rules.specs.Areas.{Prices, sellingIn}
+use Rattle.rules.specs.Questions.{versionKnown}
+
+-- a version that is known fits its two bytes
+pub known-lt : (version : ℕ) → T (versionKnown version) → version < 2 ^ 16
+unfolding versionKnown
+known-lt version h =
+    by-case (eqb version 1) (λ e. omega (arith, eqb-true version 1 e)) (λ e. omega (arith, eqb→eq version 2 (or-second (eqb version 1) (eqb version 2) (fails e) h)))
 
 -- a header has 32 bytes, and 40 in a version with selling tariffs
 pub header-plain : (version : ℕ) → sellingIn version ≡ false → headerSize version ≡ 32

@@ -7,7 +7,6 @@ use Prim.Native.Nat.{_*_, _+_, _<_, _^_, ℕ, _/_, _≤_}
 use native.Mathlib.Nat.{zero-add}
 use native.Mathlib.Omega.{arith}
 use lib.Dec.{T, eqb, leb→le, eqb-refl, eqb→eq, leb, le→leb}
-use borrow.Author.Tests.{eqb-true}
 use lib.ListN.{length, length-append, drop, getD}
 use lib.Seq.{sets, drop-at, take-at, drop-drop}
 use Rattle.fields.proofs.Field.{all-bytes-append, field-append, length-toBytes}
@@ -18,12 +17,12 @@ use Rattle.fields.specs.Field.{AllBytes, field, toBytes}
 use Rattle.fields.specs.Layout.{Every, bytesOfRecords, pack, recordsOf, size, FitAll, fieldsAt, setFields}
 use Rattle.book_format.specs.Book.{bytesOf, headerBytes, headerSize, headerValues, headerWidths, bookOf, lengthBy, lengthOf, mark, markOf, pricesOf, sellingAt, sellingBytes, sellingWidths, tradeCount, tradesAt, tradesOf, userAt, userCount, userSize, usersOf, versionOf}
 use Rattle.book_format.specs.Questions.{partsOf, aboutBytes, aboutFields, aboutForm, bookNumber, marked, sized, tradeZerosValid, userZerosValid, versioned, Formed}
-use Rattle.book_format.proofs.Offsets.{header-plain, header-range, header-selling, length-by}
+use Rattle.book_format.proofs.Offsets.{header-plain, header-range, header-selling, known-lt, length-by}
 use Rattle.book_format.proofs.Fits.{every-trade, every-user}
 use Rattle.laws.proofs.Bounds.{prices-le, selling-le, selling-most}
 use Rattle.laws.proofs.Refusals.{yes-first}
 use Rattle.laws.specs.Sound.{Sound}
-use Rattle.base.proofs.Tests.{and-l, and-r, and-i, by-case, eqb-of, fails, or-second, same-test}
+use Rattle.base.proofs.Tests.{and-l, and-r, and-i, by-case, eqb-of, same-test}
 use Rattle.book_records.proofs.Trades.{all-bytes-tradeBytes, length-tradeBytes, trade-of-bytes, tradeZeros-tradeBytes}
 use Rattle.book_records.proofs.Users.{all-bytes-userBytes, length-userBytes, user-of-bytes, userZeros-userBytes}
 use Rattle.book_records.specs.Trade.{FitsTrade, tradeBytes, tradeOf, tradeZeros}
@@ -134,12 +133,13 @@ module _ (b : Book) where
   unfolding bytesOf headerBytes headerWidths headerValues pack from-trades
   start-bytes = simp append-assoc
 
-  module _ (fits : b .header .version < 2 ^ 16) (known : T (versionKnown (b .header .version))) (some : 1 ≤ length (b .users)) (users : length (b .users) ≤ 64) (trades : length (b .trades) ≤ 256) where
+  module _ (known : T (versionKnown (b .header .version))) (some : 1 ≤ length (b .users)) (users : length (b .users) ≤ 64) (trades : length (b .trades) ≤ 256) where
     pub formed-bytesOf : Formed (bytesOf b)
     unfolding markOf versionOf userCount tradeCount mark tradesAt userAt lengthBy
     formed-bytesOf =
         let n = length (b .users) in
         let m = length (b .trades) in
+        let fits = known-lt (b .header .version) known in
         let rest = toBytes 2 m ++ from-trades in
         let e = start-bytes in
         let k : markOf (bytesOf b) ≡ mark = rw e (field-append 3 0 mark [] (toBytes 2 (b .header .version) ++ (toBytes 1 n ++ rest)) refl (omega arith)) in
@@ -318,13 +318,6 @@ module _ (b : Book) (s : Sound b) where
       let y = leb→le (b .header .date / 10000) 2099 (search (and-l, and-r)) in
       omega arith
 
-  -- versions are small numbers
-  version-lt : b .header .version < 2 ^ 16
-  unfolding versionValid versionKnown
-  version-lt =
-      by-case (eqb (b .header .version) 1) (λ e. omega (arith, eqb-true (b .header .version) 1 e))
-      (λ e. omega (arith, eqb→eq (b .header .version) 2 (or-second (eqb (b .header .version) 1) (eqb (b .header .version) 2) (fails e) (s .version))))
-
   selling-fits : FitsSelling (b .header .version) (b .header .prices)
   unfolding sellingMost
   selling-fits =
@@ -334,13 +327,13 @@ module _ (b : Book) (s : Sound b) where
 
   -- every field of an accepted book fits
   sound-fits : FitsBook b
-  unfolding headerWidths headerValues mark
+  unfolding headerWidths headerValues mark versionValid
   sound-fits =
       let c = counted in
       let u = c .users in
       let t = c .trades in
       let f = prices-le b s in
-      let v = version-lt in
+      let v = known-lt (b .header .version) (s .version) in
       let d = date-lt in
       record {
         header = (omega arith, (omega arith, (omega arith, (omega arith, (omega arith, (omega arith, (omega arith, (omega arith, (omega arith, (omega arith, tt))))))))));
