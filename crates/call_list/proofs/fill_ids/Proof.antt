@@ -48,7 +48,7 @@ pub fill-ids-spec : {M : Type 1} → statement M
 fill-ids-spec =
     tie.close
     (tie.spec Inv-loop μ-loop
-    (λ c κs. passed (now (c .before .before .args .book)) (c .before .before .pre .0) .form)
+    (λ c κs. passed (now (c .before .before .args .book)) (c .before .before .pre .0) .form .head)
     loop-holds
     (λ c κs. omega (arith, inside c))
     (λ c. omega (arith, inside (c .before)))
