@@ -15,6 +15,7 @@ use books::written::{
 };
 use books::Random;
 use reference::book::{Book, Trade, LONGEST};
+use reference::units::Price;
 use std::path::Path;
 
 /// A book, what it shows, and the first words of its day.
@@ -57,7 +58,10 @@ fn refused() -> Vec<Shown> {
         altered("no input", "refused 1", Vec::clear),
         altered("31 bytes", "refused 1", |bytes| bytes.truncate(31)),
         altered("another mark", "refused 1", |bytes| bytes[2] = b'b'),
-        changed("version 2", "refused 2", |book| book.version = 2),
+        changed("version 3", "refused 2", |book| book.version = 3),
+        altered("version 2 without S and U", "refused 3", |bytes| {
+            bytes[3] = 2;
+        }),
         altered("one byte more", "refused 3", |bytes| bytes.push(0)),
         altered("one byte less", "refused 3", |bytes| {
             bytes.pop();
@@ -72,6 +76,18 @@ fn refused() -> Vec<Shown> {
             first: "refused 3",
             bytes: over,
         },
+        altered("version 2 of 39 bytes", "refused 3", |bytes| {
+            bytes.truncate(39);
+            bytes[3] = 2;
+        }),
+        changed("S above 100,000", "refused 4", |book| {
+            book.version = 2;
+            book.prices.s.0 = 100_001;
+        }),
+        changed("U above 100,000", "refused 4", |book| {
+            book.version = 2;
+            book.prices.u.0 = 100_001;
+        }),
         changed("30 February", "refused 4", |book| book.date = 20_240_230),
         changed("P is 0", "refused 4", |book| book.prices.p.0 = 0),
         changed("blocked above assigned", "refused 5", |book| {
@@ -188,6 +204,45 @@ fn runs() -> Vec<Shown> {
     ]
 }
 
+/// Books of version 2.
+fn credits() -> Vec<Shown> {
+    let priced = |book: Book| {
+        let mut book = book;
+        book.version = 2;
+        (book.prices.s, book.prices.u) = (Price(1_500), Price(700));
+        book
+    };
+    // Long by 3,000 MWh in PVB, 200 in TVB and 10 in AVB: a credit of 4,647,000.
+    let long = |charges| {
+        let user = shipper(1, [3_000, 200, 10], charges, 0, 0);
+        priced(book(vec![user], vec![]))
+    };
+    // Short by 40,000 MWh in PVB: a credit for AVB, of 7,000,000, lessens the target
+    // of 10,000,000 to 3,000,000.
+    let seller = shipper(1, [-10_000, 0, 10_000], 0, 70_000_000, 0);
+    let buyer = shipper(2, [0; 3], 55_000_000, 12_000_000, 0);
+    let sold = priced(book(vec![seller, buyer], vec![sale(1, 2, 0, 30_000)]));
+    let mut no_credit = sold.clone();
+    (no_credit.prices.s, no_credit.prices.u) = (Price(0), Price(0));
+    vec![
+        shown(
+            "version 2, the example",
+            "run 1 15000 30000000",
+            priced(printed_example()),
+        ),
+        shown("a credit down to the floor", "run 0 0 0", long(14_647_000)),
+        shown("a cent above the floor", "run 0 0 0", long(14_647_001)),
+        shown("the floor above the rest", "run 0 0 0", long(0)),
+        shown("a credit lessens the target", "run 1 1500 3000000", sold),
+        shown("S and U are 0", "run 1 5000 10000000", no_credit),
+        shown(
+            "the largest amounts and a credit for each area",
+            "run ",
+            priced(largest_amounts(2, [1_000_000; 3], MOST_CENTS)),
+        ),
+    ]
+}
+
 /// The test data in the order of their names: name, book, what to print.
 fn vectors(folder: &Path) -> std::io::Result<Vec<(String, Vec<u8>, String)>> {
     let mut names = Vec::new();
@@ -237,7 +292,7 @@ fn main() -> std::io::Result<()> {
         assert_eq!(&reference::day(book), day, "{name}");
         given.push(place, name, book, day);
     }
-    let books = [refused(), states(), runs()];
+    let books = [refused(), states(), runs(), credits()];
     for (place, book) in books.iter().flatten().enumerate() {
         let day = reference::day(&book.bytes);
         assert!(day.starts_with(book.first), "{}: {day}", book.shows);
