@@ -351,7 +351,9 @@ module _ (b : Book) (s : Sound b) where
   marked-written : T (marked (bytesOf b))
   unfolding marked
   marked-written =
-      and-i (leb 32 (length (bytesOf b))) (eqb (markOf (bytesOf b)) mark) (le→leb 32 (length (bytesOf b)) (omega (arith, length-bytesOf b, length-by (b .header .version) (length (b .users)) (length (b .trades)), header-range (b .header .version)))) (eqb-of (markOf (bytesOf b)) mark (header b sound-fits .mark))
+      let n = length-by (b .header .version) (length (b .users)) (length (b .trades)) in
+      let l = le→leb 32 (length (bytesOf b)) (omega (arith, length-bytesOf b, header-range (b .header .version))) in
+      and-i (leb 32 (length (bytesOf b))) (eqb (markOf (bytesOf b)) mark) l (eqb-of (markOf (bytesOf b)) mark (header b sound-fits .mark))
 
   versioned-written : T (versioned (bytesOf b))
   unfolding versioned versionValid

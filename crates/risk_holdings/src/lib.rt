@@ -1,5 +1,5 @@
-// What a user holds in an area, the need that this leaves, and what the need, a short or a long position is worth. Only a price turns energy
-// into money.
+// What a user holds in an area, the need that this leaves, and what the need, a short or a long position is worth. Only a price turns
+// energy into money.
 ghost use mathlib.Core.List.{[], _∷_};
 ghost use mathlib.Core.Path.{_≡_};
 ghost use Prim.Native.Nat.{_≤_, _*_, _<_, _^_};
