@@ -66,18 +66,17 @@ fn post_part(
     post(place, &mut part[start..], ids, areas, amounts, places);
 }
 
-// How many ids, areas, amounts and places a list has.
-struct Counts {
-    ids: usize,
-    areas: usize,
-    amounts: usize,
-    places: usize,
-}
-
-// The list that a part of the file holds.
-fn make_list(place: u64, part: &mut [u8], counts: Counts)
-    requires { ⌜ (counts .ids ≤ 513) × (counts .areas ≤ 513) × (counts .amounts ≤ 513) × (counts .places ≤ 513) ⌝ }
-    requires { ⌜ 4 * counts .ids + 4 * counts .areas + 8 * counts .amounts ≤ length (now part) ⌝ }
+// The list that a part of the file holds, with as many ids, areas, amounts and places.
+fn make_list(
+    place: u64,
+    part: &mut [u8],
+    id_count: usize,
+    area_count: usize,
+    amount_count: usize,
+    place_count: usize,
+)
+    requires { ⌜ («id_count» ≤ 513) × («area_count» ≤ 513) × («amount_count» ≤ 513) × («place_count» ≤ 513) ⌝ }
+    requires { ⌜ 4 * «id_count» + 4 * «area_count» + 8 * «amount_count» ≤ length (now part) ⌝ }
 {
     let mut ids = [0u32; 513];
     let mut areas = [0u32; 513];
@@ -86,10 +85,10 @@ fn make_list(place: u64, part: &mut [u8], counts: Counts)
     post_part(
         place,
         part,
-        &mut ids[..counts.ids],
-        &mut areas[..counts.areas],
-        &mut amounts[..counts.amounts],
-        &mut places[..counts.places],
+        &mut ids[..id_count],
+        &mut areas[..area_count],
+        &mut amounts[..amount_count],
+        &mut places[..place_count],
     );
 }
 
@@ -110,20 +109,18 @@ pub fn make_lists(file: &mut [u8]) {
     let mut at = 0;
     let mut place = 0;
     while 10 <= file.len() - at {
-        let counts = Counts {
-            ids: count_at(file, at),
-            areas: count_at(file, at + 2),
-            amounts: count_at(file, at + 4),
-            places: count_at(file, at + 6),
-        };
+        let ids = count_at(file, at);
+        let areas = count_at(file, at + 2);
+        let amounts = count_at(file, at + 4);
+        let places = count_at(file, at + 6);
         let len = fields::get_u16(file, at + 8) as usize;
         let start = at + 10;
-        let size = 4 * counts.ids + 4 * counts.areas + 8 * counts.amounts + len;
+        let size = 4 * ids + 4 * areas + 8 * amounts + len;
         if file.len() - start < size {
             return;
         }
         let end = start + size;
-        make_list(place, &mut file[start..end], counts);
+        make_list(place, &mut file[start..end], ids, areas, amounts, places);
         at = end;
         place += 1;
     }

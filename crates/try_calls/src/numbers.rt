@@ -24,11 +24,16 @@ pub fn print_bytes(part: &[u8]) {
     }
 }
 
-// Numbers in a line.
+// A space and a number.
+fn print_number(number: u32) {
+    day_print::number(number as u64);
+}
+
+// Numbers, a space before each.
 pub fn print_numbers(numbers: &[u32]) {
     let mut i = 0;
     while i < numbers.len() {
-        day_print::number(numbers[i] as u64);
+        print_number(numbers[i]);
         i += 1;
     }
 }
