@@ -5,6 +5,7 @@ use daybook::{Book, Request, User};
 use crate::arguments::Arguments;
 use crate::convert::output;
 use crate::explain::MOST;
+use crate::fields::{prices, PRICES};
 use crate::outcome::{Failure, Outcome};
 use crate::picture::pictures;
 use crate::reasons::Asked;
@@ -205,8 +206,11 @@ impl Day<'_> {
     }
 
     fn terms(&self) -> String {
-        let prices = crate::fields::prices(&self.trace.opening.prices).map(euros);
-        let [p, q, l, x, i] = prices;
+        let priced = PRICES.iter().zip(prices(&self.trace.opening));
+        let priced: Vec<String> = priced
+            .map(|(name, price)| format!("{name} {}", euros(price)))
+            .collect();
+        let priced = priced.join(", ");
         let Figures {
             flag_mwh,
             margin,
@@ -221,8 +225,8 @@ impl Day<'_> {
             false => String::new(),
         };
         format!(
-            "<h2>Terms</h2>\n<p>MWh, euros; prices in euros a MWh: P {p}, Q {q}, L {l}, X {x}, \
-             I {i}. Level: the afternoon level, at least {least}. Flagged above {mwh} MWh at the \
+            "<h2>Terms</h2>\n<p>MWh, euros; prices in euros a MWh: {priced}. Level: the \
+             afternoon level, at least {least}. Flagged above {mwh} MWh at the \
              least reference price; called where the level exceeds blocked by more than \
              {margin}.</p>\n<p><i>short</i>: short of cover, with no sale left to cut after the \
              run. <i>call</i>: called in, and its assigned guarantee covers the level. \
