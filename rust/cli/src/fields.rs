@@ -9,8 +9,10 @@ use crate::words::{self, AREAS};
 /// The mark that a book starts with.
 pub const MARK: &[u8] = b"GDB";
 
-/// Bytes of the shortest header, and of one with the selling tariffs.
+/// Bytes of the shortest header, that of version 1.
 pub const SHORT_HEADER: usize = 32;
+
+/// Bytes of a header with the selling tariffs.
 const LONG_HEADER: usize = 40;
 
 /// The versions that the engine knows.
