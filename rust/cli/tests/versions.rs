@@ -13,6 +13,7 @@ use cli::credit::{by_area, credited};
 use cli::draft::{Draft, Mistake};
 use cli::faults::faults;
 use cli::store::{figures, TODAY};
+use cli::words::euros;
 use cli::{csv, text};
 use daybook::{Level, Refusal, Request};
 
@@ -302,15 +303,17 @@ fn no_credit_and_the_floor() {
         told.contains("  no credit: it is long in no area\n"),
         "{told}"
     );
-    let told = explained("physical AVB 90,000 charges -10,000.00");
-    let floor = format!(
-        "  level without credit 790,000.00 EUR\n  \
-         credit AVB 90,000 MWh long x U 19.00 = 1,710,000.00 EUR\n  \
-         a level is at least {} EUR\n  \
-         afternoon level 100,000.00 - assigned 0.00",
-        cli::words::euros(TODAY.least_level)
-    );
-    assert!(told.contains(&floor), "{told}");
+    let least = euros(TODAY.least_level);
+    for (mwh, credit) in [("90,000", "1,710,000.00"), ("40,000", "760,000.00")] {
+        let told = explained(&format!("physical AVB {mwh} charges -10,000.00"));
+        let floor = format!(
+            "  level without credit 790,000.00 EUR\n  \
+             credit AVB {mwh} MWh long x U 19.00 = {credit} EUR\n  \
+             a level is at least {least} EUR\n  \
+             afternoon level {least} - assigned 0.00"
+        );
+        assert!(told.contains(&floor), "{told}");
+    }
 }
 
 /// The engine refuses by the number, whatever the version is.
