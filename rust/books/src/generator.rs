@@ -130,6 +130,16 @@ impl Generator {
         }
     }
 
+    /// A book of this kind and version.
+    pub fn book_of(&mut self, version: u16, kind: Kind) -> Vec<u8> {
+        loop {
+            let book = self.book(kind);
+            if version_of(&book) == version {
+                return book;
+            }
+        }
+    }
+
     /// An accepted book of this version, of this many users, 1 to 64, and trades,
     /// at most 256; a single user trades with nobody. Its run takes at most 400
     /// reductions.
