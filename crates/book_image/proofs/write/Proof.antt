@@ -28,7 +28,7 @@ cast-m c = search needs
 known : {answer : Bool} (c : tie.After-is-known)
     → c .is-known .result ≡ answer → versionKnown (imageBook (now (c .before .before .before .before .before .before .args .image)) .header .version) ≡ answer
 unfolding imageBook bookOf
-known c e = ap versionKnown (sym (c .before .before .before .version .ensures)) ∙ sym (c .is-known .ensures) ∙ e
+known {answer} c e = ap versionKnown (sym (c .before .before .before .version .ensures)) ∙ sym (c .is-known .ensures) ∙ e
 
 version : (c : tie.Else1) → versionKnown (imageBook (now (c .before .before .before .before .before .before .before .args .image)) .header .version) ≡ true
 version c = known (c .before) (not-false _ (c .if1 .left))
@@ -42,7 +42,7 @@ sizes : {answer : Bool} (c : tie.After-is-known)
     → (countsInRange (userCount (now (a .image))) (tradeCount (now (a .image))) && eqb (length (now (a .out)))
     (lengthBy (imageBook (now (a .image)) .header .version) (userCount (now (a .image))) (tradeCount (now (a .image))))) ≡ answer
 unfolding imageBook bookOf
-sizes c e =
+sizes {answer} c e =
     rw (← c .before .before .before .version .ensures, ← c .before .before .user-count .ensures, ← c .before .trade-count .ensures) e
 
 counted : (c : tie.Else2)
