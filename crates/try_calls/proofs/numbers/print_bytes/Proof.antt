@@ -1,10 +1,10 @@
--- `try_calls::print_bytes` is safe and ends: `i` is at most the length, and counts up to it.
+-- `try_calls::numbers::print_bytes` is safe and ends: `i` is at most the length, and counts up to it.
 -- Assumes nothing.
 use Prim.Native.Nat.{_≤_, _-_}
 use lib.ListN.{length}
 use borrow.Author.Needs.{needs}
-use Rattle.try_calls.proofs.print_bytes.Statement.{statement}
-use Rattle.try_calls.proofs.print_bytes.Tie as tie
+use Rattle.try_calls.proofs.numbers.print_bytes.Statement.{statement}
+use Rattle.try_calls.proofs.numbers.print_bytes.Tie as tie
 
 abbrev Inv-loop : tie.InvT-loop
 Inv-loop part i₀ i = i ≤ length part
