@@ -10,19 +10,18 @@ use lib.ListN.{length, take, drop}
 use lib.Seq.{sets, length-take-le, take-add}
 use Rattle.rules.specs.Areas.{Prices, sellingIn}
 use Rattle.rules.specs.Questions.{headerValid, refusal, numberOf}
-use Rattle.rules.specs.Signed.{signedOf}
 use Rattle.base.proofs.Tests.{and-l, and-r, by-case}
-use Rattle.units.proofs.TwosComplement.{posPart-signedOf-lt, negPart-signedOf-le}
 use Rattle.fields.specs.Field.{field, toBytes, setField, AllBytes}
 use Rattle.fields.specs.Layout.{recordsOf, bytesOfRecords, fieldsAt, pack, size, Every}
 use Rattle.fields.proofs.Field.{field-lt, length-toBytes, all-bytes-take, all-bytes-drop}
 use Rattle.fields.proofs.Pack.{fit-fieldsAt, pack-fieldsAt}
 use Rattle.fields.proofs.Records.{length-recordsOf}
 use Rattle.fields.proofs.Sets.{part-sets, sets-left, take-of-drop}
-use Rattle.book_records.specs.User.{amountsAt, userOf, userBytes, FitsSigned, FitsAmounts, FitsUser}
+use Rattle.book_records.specs.User.{userOf, userBytes, FitsUser}
 use Rattle.book_records.specs.Trade.{tradeOf, tradeBytes, FitsTrade}
 use Rattle.book_format.specs.Book.{mark, headerWidths, headerValues, headerBytes, headerSize, lengthBy, sellingWidths, sellingBytes, sellingAt, versionOf, userCount, tradeCount, pricesOf, bookOf, bytesOf}
 use Rattle.book_format.specs.Places.{HeaderIn}
+use Rattle.book_format.proofs.Fits.{userOf-fits}
 use Rattle.book_format.proofs.Offsets.{header-plain, header-range, header-selling, selling-none}
 use Rattle.book_format.proofs.Written.{FitsBook, FitsSelling, fields-written, parts-written}
 use Rattle.book_parties.specs.Ids.{usersFrom, tradesFrom}
@@ -33,44 +32,18 @@ use Rattle.book_image.specs.ImageBook.{imageBook, CountsOf}
 
 -- ---- what is read from bytes fits them
 
-signed-fits : (w u : ℕ) → u < 2 ^ w → FitsSigned w (signedOf w u)
-signed-fits w u h = record { above = posPart-signedOf-lt w u h; below = negPart-signedOf-le w u }
-
-module _ (c : List ℕ) (bytes : AllBytes c) where
-  amounts-fit : (at : ℕ) → FitsAmounts (amountsAt at c)
-  unfolding amountsAt
-  amounts-fit at =
-      record {
-        pvb = signed-fits 32 (field 4 at c) (field-lt 4 at c bytes);
-        tvb = signed-fits 32 (field 4 (at + 4) c) (field-lt 4 (at + 4) c bytes);
-        avb = signed-fits 32 (field 4 (at + 8) c) (field-lt 4 (at + 8) c bytes);
-      }
-
-  user-fits : FitsUser (userOf c)
-  unfolding userOf
-  user-fits =
-      record {
-        id = field-lt 4 0 c bytes;
-        role = field-lt 1 4 c bytes;
-        physical = amounts-fit 8;
-        position = amounts-fit 20;
-        charges = signed-fits 64 (field 8 32 c) (field-lt 8 32 c bytes);
-        assigned = field-lt 8 40 c bytes;
-        blocked = field-lt 8 48 c bytes;
-      }
-
-  trade-fits : FitsTrade (tradeOf c)
-  unfolding tradeOf
-  trade-fits =
-      record {
-        seller = field-lt 4 0 c bytes;
-        buyer = field-lt 4 4 c bytes;
-        area = field-lt 1 8 c bytes;
-        kind = field-lt 1 9 c bytes;
-        day = field-lt 1 10 c bytes;
-        notified = field-lt 4 12 c bytes;
-        standing = field-lt 4 16 c bytes;
-      }
+trade-fits : (c : List ℕ) → AllBytes c → FitsTrade (tradeOf c)
+unfolding tradeOf
+trade-fits c bytes =
+    record {
+      seller = field-lt 4 0 c bytes;
+      buyer = field-lt 4 4 c bytes;
+      area = field-lt 1 8 c bytes;
+      kind = field-lt 1 9 c bytes;
+      day = field-lt 1 10 c bytes;
+      notified = field-lt 4 12 c bytes;
+      standing = field-lt 4 16 c bytes;
+    }
 
 module _ {R : Type 0} (len : ℕ) (one : List ℕ → R) where
   every-record : (P : R → Type 0) → ((c : List ℕ) → AllBytes c → P (one c)) → (n : ℕ) (s : List ℕ) → AllBytes s → Every P (recordsOf len one n s)
@@ -102,11 +75,12 @@ counts-of {n = n} {m = m} whole users trades k =
       many = leb→le m 256 (search (and-l, and-r));
     }
 
--- selling tariffs that are read fit, and are 0 in a version that has none
+-- selling tariffs that are read fit
 selling-lt : (at : ℕ) (s : List ℕ) → AllBytes s → sellingAt at s < 2 ^ 32
 unfolding sellingAt
 selling-lt at s bytes = by-case (sellingIn (versionOf s)) (λ e. rw e (field-lt 4 at s bytes)) (λ e. rw e (omega arith))
 
+-- and are 0 in a version that has none
 selling-zero : (at : ℕ) (s : List ℕ) → sellingIn (versionOf s) ≡ false → sellingAt at s ≡ 0
 unfolding sellingAt
 selling-zero at s e = rw e
@@ -190,7 +164,7 @@ module _ {s : List ℕ} {n m : ℕ} (counts : CountsOf s n m) where
         record {
           header = rw values-are (omega arith, fit-fieldsAt (2 ∷ 1 ∷ 2 ∷ 4 ∷ 4 ∷ 4 ∷ 4 ∷ 4 ∷ 4 ∷ []) 3 s bytes);
           selling = selling-fits s bytes;
-          users = rw users-are (every-record 56 userOf FitsUser user-fits n (drop imageUsersAt s) (all-bytes-drop imageUsersAt s bytes));
+          users = rw users-are (every-record 56 userOf FitsUser userOf-fits n (drop imageUsersAt s) (all-bytes-drop imageUsersAt s bytes));
           trades = rw trades-are (every-record 20 tradeOf FitsTrade trade-fits m (drop imageTradesAt s) (all-bytes-drop imageTradesAt s bytes));
         }
 

@@ -101,22 +101,27 @@ module _ (s : List ℕ) (f : Formed s) where
   unfolding userCount tradeCount
   same-counts = (start-field 1 5 (omega arith), start-field 2 6 (omega arith))
 
+  same-prices : pricesOf (imageOf s) ≡ pricesOf s
+  unfolding pricesOf
+  same-prices =
+      rw
+      (start-field 4 12 (omega arith), start-field 4 16 (omega arith), start-field 4 20 (omega arith), start-field 4 24 (omega arith), start-field 4 28 (omega arith), same-selling 32 (omega arith), same-selling 36 (omega arith))
+
   -- the book of the image of a book's bytes
   pub image-book : imageBook (imageOf s) ≡ bookOf s
-  unfolding imageBook bookOf pricesOf
-  image-book =
-      rw
-      (same-counts .0, same-counts .1, users-back, trades-back, same-selling 32 (omega arith), same-selling 36 (omega arith), same-version, start-field 4 8 (omega arith), start-field 4 12 (omega arith), start-field 4 16 (omega arith), start-field 4 20 (omega arith), start-field 4 24 (omega arith), start-field 4 28 (omega arith))
+  unfolding imageBook bookOf
+  image-book = rw (same-counts .0, same-counts .1, users-back, trades-back, same-version, start-field 4 8 (omega arith), same-prices)
 
 -- an accepted book that is read into an image is written from it as the same bytes
 pub image-bytes : (s : List ℕ) → AllBytes s → Passed s → bytesOf (imageBook (imageOf s)) ≡ s
 image-bytes s bytes p = ap bytesOf (image-book s (p .form)) ∙ bytesOf-bookOf s bytes p
 
--- the fields of an image of a known version that are written as bytes, and read into an image, are its fields: of S and U in a version without them none is kept
+-- what is written from an image of a known version, and read into an image again, has the fields of the first
 pub image-back : {s : List ℕ} {n m : ℕ} → CountsOf s n m → AllBytes s → T (versionKnown (versionOf s)) → imageBook (imageOf (bytesOf (imageBook s))) ≡ imageBook s
 unfolding imageBook bookOf
 image-back {s} counts bytes known =
     let b = imageBook s in
     let n = user-count counts in
     let m = trade-count counts in
-    image-book (bytesOf b) (formed-bytesOf b known (omega (arith, n, counts .some)) (omega (arith, n, counts .few)) (omega (arith, m, counts .many))) ∙ bookOf-fits b (book-fits counts bytes)
+    image-book (bytesOf b) (formed-bytesOf b known (omega (arith, n, counts .some)) (omega (arith, n, counts .few)) (omega (arith, m, counts .many)))
+    ∙ bookOf-fits b (book-fits counts bytes)

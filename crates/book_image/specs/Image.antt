@@ -1,5 +1,5 @@
--- An image is the fields of a book in 8,744 bytes, whatever its version and counts: a header of 40 bytes, then always 64 users and 256 trades in the book's format.
--- Only this file knows where the parts of an image stand. Assumes nothing.
+-- An image is the fields of a book in 8,744 bytes, whatever its version and counts: a header of 40 bytes, then 64 users and 256 trades in
+-- the book's format. Where the parts of an image stand is said here alone. Assumes nothing.
 use mathlib.Core.Path.{_≡_}
 use mathlib.Core.List.{List, _++_}
 use Prim.Native.Nat.{ℕ, _+_, _-_, _*_}
@@ -28,17 +28,18 @@ imageSize = imageTradesAt + 20 * 256
 unfoldable pub padded : ℕ → List ℕ → List ℕ
 padded room s = s ++ replicate (room - length s) 0
 
--- the header: "always a 40-byte header", where the selling tariffs of a version that has none are 0
+-- the header of the book's version; the fields that it lacks are 0
 abbrev pub imageHeader : List ℕ → List ℕ
 imageHeader s = padded imageUsersAt (take (headerSize (versionOf s)) s)
 
--- "records past the counts are 0"
+-- users and trades: "records past the counts are 0"
 abbrev pub imageUsers : List ℕ → List ℕ
 imageUsers s = padded (imageTradesAt - imageUsersAt) (take (56 * userCount s) (drop (headerSize (versionOf s)) s))
 
 abbrev pub imageTrades : List ℕ → List ℕ
 imageTrades s = padded (imageSize - imageTradesAt) (drop (tradesAt s) s)
 
+-- the whole
 unfoldable pub imageOf : List ℕ → List ℕ
 imageOf s = imageHeader s ++ (imageUsers s ++ imageTrades s)
 

@@ -154,11 +154,8 @@ fn fields_number(image: &[u8], n: usize, m: usize) -> u32
     ensures { λ r. ⌜ r ≡ fieldsNumber (bytesOf (imageBook (now (image .entry)))) ⌝ }
 {
     let prices = book_form::read_prices(image);
-    if !book_form::header_valid(
-        book_format::version(image),
-        fields::get_u32(image, 8),
-        prices,
-    ) {
+    let version = book_format::version(image);
+    if !book_form::header_valid(version, fields::get_u32(image, 8), prices) {
         return 4;
     }
     // The zero bytes of an image are not looked at: they are taken for 0, as they are written.

@@ -1,11 +1,10 @@
-// Calls of documents 01 and 02, run and printed, of the files `calls`, `reductions` and `lists` (lists.rt). NAME.index says what each call of
-// the file NAME shows.
-// File `calls`: each call is made on its book, and its place, its kind, its number and its fields are printed, a line each; after a call
-// that may change the book, the user's record too, in hexadecimal; of a whole cancellation the places of the marked trades. In the file a
-// call is its kind (1 byte), id (4), area or number of tries (4), amount (8, two's complement), the length of its book (2), and the book.
-// File `reductions`: for each are printed a line of its place, its number, MWh, worth, target, short and over; a line of what stands of
-// every trade of the book afterwards; and a line of id and positions for each user. In the file a reduction is an id (4 bytes), the length
-// of its book (2), and the book; where the length is 0, it is made on the book that the one before it left.
+// Calls of documents 01 and 02, run and printed, of the files `calls`, `reductions` and `lists` (lists.rt). NAME.index says what each call
+// of the file NAME shows. File `calls`: each call is made on its book, and its place, its kind, its number and its fields are printed, a
+// line each; after a call that may change the book, the user's record too, in hexadecimal; of a whole cancellation the places of the
+// marked trades. In the file a call is its kind (1 byte), id (4), area or number of tries (4), amount (8, two's complement), the length of
+// its book (2), and the book. File `reductions`: for each are printed a line of its place, its number, MWh, worth, target, short and over;
+// a line of what stands of every trade of the book afterwards; and a line of id and positions for each user. In the file a reduction is an
+// id (4 bytes), the length of its book (2), and the book; where the length is 0, it is made on the book that the one before it left.
 mod lists;
 mod numbers;
 

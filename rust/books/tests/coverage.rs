@@ -3,19 +3,18 @@
 
 #![forbid(unsafe_code)]
 
+mod credit;
+
 use std::collections::BTreeMap;
 
-use books::versions::{in_version_1, sum_before_floor};
+use books::versions::in_version_1;
 use books::{answer, Answer, Call, Generator};
-use reference::book::{Book, Header, User, MOST_TRADES, MOST_USERS};
-use reference::credit::credit;
+use reference::book::{Book, User, MOST_TRADES, MOST_USERS};
 use reference::levels::{
     afternoon_level_of, flag_limit, flagged, morning_level_of, party_to_cut_trade, short_positions,
 };
 use reference::questions::questions_1_to_7;
-use reference::reduction::{
-    cuts, has_eligible_trade, reduce, sales, target, tier_worth, tiers, Sale,
-};
+use reference::reduction::{cuts, reduce, sales, target, tier_worth, tiers, Sale};
 use reference::run::{next_reduction, short_of_cover};
 use reference::store::Limits;
 use reference::units::{Area, Cents, Mwh};
@@ -169,7 +168,7 @@ fn every_number_and_branch_is_reached() {
             counts.add(&format!("{}: {}", call.name(), answer.number));
             counts.add(&format!("number {}", answer.number));
             if let (Call::Write { image, .. }, 0) = (&call, answer.number) {
-                count_write(&mut counts, &image[..]);
+                credit::count_write(&mut counts, &image[..]);
             }
             if let (Some(before), 0) = (before, answer.number) {
                 count_call(&mut counts, &before, &call, &answer);
@@ -228,82 +227,10 @@ fn count_book(counts: &mut Counts, bytes: &[u8]) {
     counts.add_if(pvb < tvb.min(avb), "book: least w in area 0");
     counts.add_if(tvb < pvb.min(avb), "book: least w in area 1");
     counts.add_if(avb < pvb.min(tvb), "book: least w in area 2");
-    count_version(counts, &book);
+    credit::count_version(counts, &book);
     for user in &book.users {
         count_user(counts, &book, user);
     }
-}
-
-fn count_version(counts: &mut Counts, book: &Book) {
-    counts.add(&format!("book: version {}", book.version));
-    if book.version != 2 {
-        return;
-    }
-    let full = (book.users.len(), book.trades.len()) == (MOST_USERS, MOST_TRADES);
-    counts.add_if(full, "book: 64 users, 256 trades, version 2");
-    for (name, tariff) in [("S", book.prices.s.0), ("U", book.prices.u.0)] {
-        for (end, word) in [(0, "0"), (1, "1"), (99_999, "99,999"), (100_000, "100,000")] {
-            counts.add_if(tariff == end, &format!("book: {name} {word}"));
-        }
-    }
-    counts.add_if(book.prices.s > book.prices.p, "book: S above P");
-    counts.add_if(book.prices.u > book.prices.q, "book: U above Q");
-}
-
-/// Counts what the credit of a shipper decides: what would be otherwise in
-/// version 1.
-fn count_credit(counts: &mut Counts, book: &Book, user: &User) {
-    let credited = credit(book, user);
-    if credited == Cents::ZERO {
-        return;
-    }
-    for area in 0..3 {
-        let tariff = [book.prices.s, book.prices.u][area.min(1)];
-        counts.add_if(
-            (user.position[area].or_zero() * tariff).0 > 0,
-            &format!("credit: in area {area}"),
-        );
-    }
-    let limits = Limits::TODAY;
-    let level = afternoon_level_of(&limits, book, user);
-    let without = afternoon_level_of(&limits, &in_version_1(book), user);
-    counts.add_if(
-        sum_before_floor(book, user).0 < 0,
-        "credit: more than the rest of the sum",
-    );
-    counts.add_if(
-        level == limits.least_level && without > level,
-        "credit: takes the level to the floor",
-    );
-    counts.add_if(
-        level == limits.least_level + Cents(1),
-        "credit: leaves the level one above the floor",
-    );
-    counts.add_if(flagged(&limits, book, user), "credit: a flagged user");
-    let margin = user.blocked + limits.margin;
-    counts.add_if(
-        level <= margin && margin < without,
-        "credit: covers the margin (question 11)",
-    );
-    counts.add_if(
-        level <= user.assigned && user.assigned < without,
-        "credit: covers the level (questions 12 and 13)",
-    );
-    counts.add_if(
-        (1..=1_000).contains(&(level - user.assigned).0),
-        "credit: leaves a target of 1 to 1,000",
-    );
-}
-
-/// Counts an accepted write of this image.
-fn count_write(counts: &mut Counts, image: &[u8]) {
-    let header = Header::from_bytes(image);
-    let tariffs = image[32..40].iter().any(|byte| *byte != 0);
-    counts.add_if(header.version == 2, "write: version 2");
-    counts.add_if(
-        header.version == 1 && tariffs,
-        "write: version 1, S or U not 0",
-    );
 }
 
 fn count_user(counts: &mut Counts, book: &Book, user: &User) {
@@ -329,7 +256,7 @@ fn count_user(counts: &mut Counts, book: &Book, user: &User) {
         "user: short positions - blocked one above the limit of the flag",
     );
     count_levels(counts, book, user);
-    count_credit(counts, book, user);
+    credit::count_credit(counts, book, user);
 }
 
 fn count_levels(counts: &mut Counts, book: &Book, user: &User) {
@@ -440,7 +367,7 @@ fn count_reduction(counts: &mut Counts, book: &Book, place: usize, answer: &Answ
     );
     count_tier(counts, &one, asked);
     count_tier(counts, &two, rest);
-    if credit(book, user) > Cents::ZERO {
+    if credit::has(book, user) {
         counts.add("reduction: by a seller with a credit");
         let asked_without = target(&Limits::TODAY, &in_version_1(book), user);
         let worth = tier_worth(&one) + tier_worth(&two);
@@ -513,7 +440,7 @@ fn count_cancellation(counts: &mut Counts, book: &Book, place: usize, tries: u32
         "cancellation: the last try is the empty set",
     );
     counts.add_if(
-        credit(book, user) > Cents::ZERO,
+        credit::has(book, user),
         "cancellation: by a seller with a credit",
     );
     let (one, two) = tiers(book, user);
@@ -583,7 +510,7 @@ fn count_run(counts: &mut Counts, book: &Book, answer: &Answer) {
         times[*place] > 0 && !short_of_cover(&Limits::TODAY, book, &book.users[*place])
     };
     if book.version == 2 {
-        count_run_with_credit(counts, (book, &after), &times);
+        credit::count_run_with_credit(counts, (book, &after), &times);
     }
     let any = (0..times.len()).any(|place| made_short(&place));
     counts.add_if(any, "run: a cut makes the buyer short and reduced");
@@ -592,30 +519,6 @@ fn count_run(counts: &mut Counts, book: &Book, answer: &Answer) {
         .iter()
         .any(|user| short_of_cover(&Limits::TODAY, &after, user));
     counts.add_if(short, "run: a user short of cover at the end");
-}
-
-/// Counts a run of version 2, by the book before and after and how often each
-/// user was reduced.
-fn count_run_with_credit(counts: &mut Counts, (before, after): (&Book, &Book), times: &[i128]) {
-    counts.add_if(
-        times.iter().sum::<i128>() >= 3,
-        "run: version 2, 3 or more reductions",
-    );
-    let first = in_version_1(before);
-    for (place, times) in times.iter().enumerate() {
-        let [opening, closing] = [before, after].map(|book| &book.users[place]);
-        let short = |book: &Book| short_of_cover(&Limits::TODAY, book, opening);
-        let eligible = has_eligible_trade(before, opening);
-        counts.add_if(
-            *times == 0 && eligible && short(&first) && !short(before),
-            "run: the credit saves a user from a reduction",
-        );
-        let lessened = credit(after, closing) < credit(before, opening);
-        counts.add_if(
-            lessened && !short(before) && short_of_cover(&Limits::TODAY, after, closing),
-            "run: a cut lessens the buyer's credit and makes it short",
-        );
-    }
 }
 
 fn count_day(counts: &mut Counts, text: &[u8]) {

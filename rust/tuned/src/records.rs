@@ -113,6 +113,7 @@ impl Header {
     }
 
     /// The questions 2 to 4, of a book of this many bytes.
+    #[inline]
     pub fn ask(&self, bytes: usize) -> Result<(), u32> {
         let (users, trades) = (usize::from(self.users), usize::from(self.trades));
         ask(2, self.has_known_version())?;

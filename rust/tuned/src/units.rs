@@ -122,8 +122,9 @@ pub struct Rates {
     pub tariff: [Price; 3],
     /// Reference price w.
     pub reference: [Price; 3],
-    /// The selling tariffs, where there are any.
-    pub selling: Option<[Price; 3]>,
+    /// The selling tariffs of PVB, and of the other two areas; 0 where there are
+    /// none.
+    pub selling: [Price; 2],
     /// 30,000, or the MWh figure of the store, × the least w.
     pub flag_limit: Cents,
     pub margin: Cents,

@@ -38,6 +38,7 @@ impl Header {
     }
 
     /// Writes the header to the start of a part.
+    #[inline]
     pub fn put_into(self, part: &mut [u8]) {
         put(part, 0, self.to_bytes());
         if self.version == 2 {
@@ -71,11 +72,10 @@ impl Prices {
         }
     }
 
-    /// The selling tariff of each area; none where no position earns a credit.
+    /// The selling tariffs S and U, both 0 in version 1.
     #[inline]
-    pub fn selling(&self) -> Option<[Price; 3]> {
-        let [s, u] = [self.s, self.u].map(|price| Price(i64::from(price)));
-        (self.s != 0 || self.u != 0).then_some([s, u, u])
+    pub fn selling(&self) -> [Price; 2] {
+        [self.s, self.u].map(|price| Price(i64::from(price)))
     }
 }
 
@@ -84,10 +84,8 @@ impl Account {
     /// for each area."
     #[inline]
     pub fn credit(&self, rates: &Rates) -> Cents {
-        let Some(selling) = rates.selling else {
-            return Cents::ZERO;
-        };
-        let credit = |area: usize| self.position[area].or_zero() * selling[area];
-        credit(0) + credit(1) + credit(2)
+        let [s, u] = rates.selling;
+        let [pvb, tvb, avb] = self.position.map(|position| position.or_zero());
+        pvb * s + (tvb + avb) * u
     }
 }

@@ -63,7 +63,8 @@ returns c =
     let offset = header .before .before .before in
     let start = offset .before .before .before in
     trades .fill-part3 .ensures
-    ∙ rw (users .fill-part2 .ensures, header .fill-part .ensures) (all-filled (now (start .args .s)) (now (start .args .image)) (start .pre .0) (offset .users-offset .ensures .0) (start .pre .1) (start .pre .2))
+    ∙ rw (users .fill-part2 .ensures, header .fill-part .ensures)
+    (all-filled (now (start .args .s)) (now (start .args .image)) (start .pre .0) (offset .users-offset .ensures .0) (start .pre .1) (start .pre .2))
 
 pub copy-book-spec : {M : Type 1} → statement M
 copy-book-spec =

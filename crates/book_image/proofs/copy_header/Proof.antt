@@ -37,7 +37,8 @@ returns c =
     let start = c .before .before .before .before .before .before .before in
     let size = start .args .size in
     let front = take size (now (start .args .s)) in
-    front-set size (now (start .args .out)) (setField 3 0 mark front) (length-setField 3 0 mark front ∙ length-take-le size (now (start .args .s)) (start .pre .1)) (start .pre .2) (c .before .before .copy-marked .ensures)
+    let l = length-setField 3 0 mark front ∙ length-take-le size (now (start .args .s)) (start .pre .1) in
+    front-set size (now (start .args .out)) (setField 3 0 mark front) l (start .pre .2) (c .before .before .copy-marked .ensures)
 
 pub copy-header-spec : {M : Type 1} → statement M
 copy-header-spec =

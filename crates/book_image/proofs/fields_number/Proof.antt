@@ -1,6 +1,5 @@
 -- `fields_number` asks the header, and then the users and the trades where they stand in the image. Assumes nothing.
 use borrow.Author.Tests.{not-true, not-false}
-use denote.Ref.{now}
 use Rattle.book_image.proofs.Fields.{header-in, fields-4, fields-rest}
 use borrow.Author.Needs.{needs}
 use Rattle.book_image.proofs.fields_number.Statement.{statement}
@@ -14,7 +13,9 @@ returns c =
     let header = c .before in
     let prices = header .before .before .before in
     let known = prices .before in
-    fields-4 (known .before .pre) (λ i. known .shared-slice-known .given i .fits) (header .before .before .version .ensures) (header .before .get-u32 .ensures) (prices .read-prices .ensures) (header .header-valid .ensures) (not-true _ (c .if1 .taken))
+    fields-4 (known .before .pre) (λ i. known .shared-slice-known .given i .fits)
+    (header .before .before .version .ensures) (header .before .get-u32 .ensures) (prices .read-prices .ensures) (header .header-valid .ensures)
+    (not-true _ (c .if1 .taken))
 
 slice-aggregate-records-number : tie.Need-slice-aggregate-records-number
 slice-aggregate-records-number c = search needs
@@ -32,7 +33,9 @@ returns-2 c =
     let header = passed .before in
     let prices = header .before .before .before in
     let known = prices .before in
-    fields-rest (known .before .pre) (λ i. known .shared-slice-known .given i .fits) (header .before .before .version .ensures) (header .before .get-u32 .ensures) (prices .read-prices .ensures) (header .header-valid .ensures) (not-false _ (passed .if1 .left)) (records .records-number .ensures .asked)
+    fields-rest (known .before .pre) (λ i. known .shared-slice-known .given i .fits)
+    (header .before .before .version .ensures) (header .before .get-u32 .ensures) (prices .read-prices .ensures) (header .header-valid .ensures)
+    (not-false _ (passed .if1 .left)) (records .records-number .ensures .asked)
 
 pub fields-number-spec : {M : Type 1} → statement M
 fields-number-spec =

@@ -7,7 +7,7 @@ use lib.ListN.{length}
 use borrow.Author.Tests.{eq-eqb, ne-eqb, not-true, not-false}
 use denote.Ref.{now}
 use Rattle.rules.specs.Questions.{versionKnown}
-use Rattle.book_format.specs.Book.{versionOf, userCount, tradeCount, bookOf, lengthBy}
+use Rattle.book_format.specs.Book.{userCount, tradeCount, bookOf, lengthBy}
 use Rattle.book_value.specs.Written.{countsInRange}
 use Rattle.book_value.proofs.PartWritten.{written-2, written-3, written-refused, written-0}
 use Rattle.book_image.specs.ImageBook.{imageBook, CountsOf}
@@ -25,9 +25,10 @@ cast-m c = search needs
 -- ---- what was asked of the numbers that were read is asked of the image
 
 -- the version
-known : {answer : Bool} (c : tie.After-is-known) → c .is-known .result ≡ answer → versionKnown (imageBook (now (c .before .before .before .before .before .before .args .image)) .header .version) ≡ answer
+known : {answer : Bool} (c : tie.After-is-known)
+    → c .is-known .result ≡ answer → versionKnown (imageBook (now (c .before .before .before .before .before .before .args .image)) .header .version) ≡ answer
 unfolding imageBook bookOf
-known c e = ap versionKnown (sym (c .before .before .before .version .ensures)) ∙ sym (c .is-known .ensures) ∙ e
+known {answer} c e = ap versionKnown (sym (c .before .before .before .version .ensures)) ∙ sym (c .is-known .ensures) ∙ e
 
 version : (c : tie.Else1) → versionKnown (imageBook (now (c .before .before .before .before .before .before .before .args .image)) .header .version) ≡ true
 version c = known (c .before) (not-false _ (c .if1 .left))
@@ -41,29 +42,41 @@ sizes : {answer : Bool} (c : tie.After-is-known)
     → (countsInRange (userCount (now (a .image))) (tradeCount (now (a .image))) && eqb (length (now (a .out)))
     (lengthBy (imageBook (now (a .image)) .header .version) (userCount (now (a .image))) (tradeCount (now (a .image))))) ≡ answer
 unfolding imageBook bookOf
-sizes c e =
+sizes {answer} c e =
     rw (← c .before .before .before .version .ensures, ← c .before .before .user-count .ensures, ← c .before .trade-count .ensures) e
 
-counted : (c : tie.Else2) → countsInRange (c .before .before .before .before .user-count .result) (c .before .before .before .trade-count .result) ≡ true
+counted : (c : tie.Else2)
+    → let i = c .before .before in
+    countsInRange (i .before .before .user-count .result) (i .before .trade-count .result) ≡ true
 unfolding countsInRange
 counted c = not-false _ (c .if2 .left)
 
-uncounted : (c : tie.Then2) → countsInRange (c .before .before .before .before .user-count .result) (c .before .before .before .trade-count .result) ≡ false
+uncounted : (c : tie.Then2)
+    → let i = c .before .before in
+    countsInRange (i .before .before .user-count .result) (i .before .trade-count .result) ≡ false
 unfolding countsInRange
 uncounted c = not-true _ (c .if2 .taken)
 
-counts : (c : tie.Else2) → CountsOf (now (c .before .before .before .before .before .before .before .before .args .image)) (c .before .before .before .before .user-count .result) (c .before .before .before .trade-count .result)
-counts c = counts-of (c .before .before .before .before .before .before .before .before .pre) (c .before .before .before .before .user-count .ensures) (c .before .before .before .trade-count .ensures) (counted c)
+counts : (c : tie.Else2)
+    → let i = c .before .before in
+    CountsOf (now (i .before .before .before .before .before .before .args .image)) (i .before .before .user-count .result) (i .before .trade-count .result)
+counts c =
+    let i = c .before .before in
+    counts-of (i .before .before .before .before .before .before .pre) (i .before .before .user-count .ensures) (i .before .trade-count .ensures) (counted c)
 
 -- the part is of the length that version and counts ask for
-whole : (c : tie.Else3) → length (now (c .before .before .before .before .before .before .before .before .before .before .args .out)) ≡ lengthBy (c .before .before .before .before .before .before .before .version .result) (c .before .before .before .before .before .before .user-count .result) (c .before .before .before .before .before .trade-count .result)
+whole : (c : tie.Else3)
+    → let i = c .before .before .before .before in
+    length (now (i .before .before .before .before .before .before .args .out)) ≡ lengthBy (i .before .before .before .version .result) (i .before .before .user-count .result) (i .before .trade-count .result)
 whole c = c .if3 .left ∙ c .before .book-length .ensures
 
 sized : (c : tie.Else3)
     → let a = c .before .before .before .before .before .before .before .before .before .before .args in
     (countsInRange (userCount (now (a .image))) (tradeCount (now (a .image))) && eqb (length (now (a .out)))
     (lengthBy (imageBook (now (a .image)) .header .version) (userCount (now (a .image))) (tradeCount (now (a .image))))) ≡ true
-sized c = sizes (c .before .before .before .before) (ap₂ (λ (x y : Bool). x && y) (counted (c .before .before)) (eq-eqb (length (now (c .before .before .before .before .before .before .before .before .before .before .args .out))) _ (whole c)))
+sized c =
+    let i = c .before .before .before .before in
+    sizes i (ap₂ (λ (x y : Bool). x && y) (counted (c .before .before)) (eq-eqb (length (now (i .before .before .before .before .before .before .args .out))) _ (whole c)))
 
 -- ---- the ways out
 
@@ -74,9 +87,11 @@ returns c =
 
 returns-2 : tie.Need-returns-2
 returns-2 c =
-    let a = c .before .before .before .before .before .before .before .before .args in
+    let i = c .before .before in
+    let a = i .before .before .before .before .before .before .args in
+    let length-asked = lengthBy (i .before .before .before .version .result) (i .before .before .user-count .result) (i .before .trade-count .result) in
     written-3 (userCount (now (a .image))) (tradeCount (now (a .image))) (imageBook (now (a .image))) (now (a .out)) (version (c .before))
-    (sizes (c .before .before) (ap (λ (x : Bool). x && eqb (length (now (a .out))) (lengthBy (c .before .before .before .before .before .version .result) (c .before .before .before .before .user-count .result) (c .before .before .before .trade-count .result))) (uncounted c)))
+    (sizes i (ap (λ (x : Bool). x && eqb (length (now (a .out))) length-asked) (uncounted c)))
 
 returns-3 : tie.Need-returns-3
 returns-3 c =
@@ -92,12 +107,16 @@ returns-4 : tie.Need-returns-4
 returns-4 c =
     let e = c .before .before in
     let a = e .before .before .before .before .before .before .before .before .before .before .args in
-    written-refused (userCount (now (a .image))) (tradeCount (now (a .image))) (imageBook (now (a .image))) (now (a .out)) (version (e .before .before .before)) (sized e) (c .before .fields-number .result) (c .before .fields-number .ensures) (c .if4 .taken)
+    written-refused (userCount (now (a .image))) (tradeCount (now (a .image))) (imageBook (now (a .image))) (now (a .out)) (version (e .before .before .before)) (sized e)
+    (c .before .fields-number .result) (c .before .fields-number .ensures) (c .if4 .taken)
 
 write-fields-requires : tie.Need-write-fields-requires
 write-fields-requires c κs =
     let e = c .before .before .before in
-    (counts (e .before .before), whole e ∙ ap (λ (v : ℕ). lengthBy v (e .before .before .before .before .before .before .user-count .result) (e .before .before .before .before .before .trade-count .result)) (e .before .before .before .before .before .before .before .version .ensures))
+    let i = e .before .before .before .before in
+    let n = i .before .before .user-count .result in
+    let m = i .before .trade-count .result in
+    (counts (e .before .before), whole e ∙ ap (λ (v : ℕ). lengthBy v n m) (i .before .before .before .version .ensures))
 
 same-length : tie.Need-same-length
 same-length c = search needs
@@ -108,7 +127,8 @@ returns-5 c =
     let g = w .before .before in
     let e = g .before .before in
     let a = e .before .before .before .before .before .before .before .before .before .before .args in
-    written-0 (userCount (now (a .image))) (tradeCount (now (a .image))) (imageBook (now (a .image))) (now (a .out)) (version (e .before .before .before)) (sized e) (sym (g .before .fields-number .ensures) ∙ g .if4 .left) _ (w .write-fields .ensures)
+    written-0 (userCount (now (a .image))) (tradeCount (now (a .image))) (imageBook (now (a .image))) (now (a .out)) (version (e .before .before .before)) (sized e)
+    (sym (g .before .fields-number .ensures) ∙ g .if4 .left) _ (w .write-fields .ensures)
 
 pub write-spec : {M : Type 1} → statement M
 write-spec =
