@@ -1,9 +1,8 @@
 //! Writes the books that the program `try_days` of the engine runs, and prints
 //! what it has to print. The arguments are the folder of the test data and the
 //! folder for the files `vectors`, `books`, `versions` and `index`: the test data
-//! of document 01, by the numbers of their names; books written out and drawn, of
-//! version 1 and then of version 2; and books of version 2 that are refused, and
-//! the test data of document 02.
+//! of document 01, by the numbers of their names; books written out and drawn; and
+//! books of version 2 that are refused, and the test data of document 02.
 //!
 //! Of the test data (NAME.gdb, NAME.out), what has to be printed is what
 //! NAME.out says, and the reference has to say the same; of the other books,
