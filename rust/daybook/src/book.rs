@@ -188,6 +188,7 @@ impl Book {
 
 impl User {
     /// The fields of a record. The three zero bytes are not looked at.
+    #[inline]
     pub fn from_bytes(bytes: &[u8; USER_LENGTH]) -> User {
         User {
             id: u32::from_le_bytes(field(bytes, 0)),
@@ -223,6 +224,7 @@ impl Trade {
     }
 
     /// The fields of a record. The zero byte is not looked at.
+    #[inline]
     pub fn from_bytes(bytes: &[u8; TRADE_LENGTH]) -> Trade {
         Trade {
             seller: u32::from_le_bytes(field(bytes, 0)),
