@@ -1,9 +1,12 @@
 -- `ask_fields` asks question 4, and then those of the users and trades. Assumes nothing.
+use Prim.Native.Nat.{_≤_}
+use native.Mathlib.Omega.{arith}
 use denote.Ref.{now}
+use Rattle.book_format.proofs.Offsets.{users-end}
 use borrow.Author.Tests.{not-true, not-false}
 use Rattle.book_format.proofs.Places.{header-lies}
 use Rattle.book_questions.specs.Asked.{pastSix, RecordsIn}
-use Rattle.book_questions.proofs.Asked.{formed-bytes, fields-4, fields-rest, fields-summed, summed-none}
+use Rattle.book_questions.proofs.Asked.{formed-bytes, fields-4, fields-rest, fields-summed, records-from, records-within, summed-from, summed-none}
 use borrow.Author.Needs.{needs}
 use Rattle.book_questions.proofs.ask_fields.Statement.{statement}
 use Rattle.book_questions.proofs.ask_fields.Tie as tie
@@ -53,8 +56,29 @@ user-zeros-valid-requires c κs = placed c .users
 trade-zeros-valid-requires : tie.Need-trade-zeros-valid-requires
 trade-zeros-valid-requires c κs = placed (c .before) .trades
 
+-- the users lie in the bytes, and the trades behind them
+behind : (c : tie.After-trades-offset) → c .before .users-offset .result ≤ c .trades-offset .result
+behind c =
+    let counts = c .before .before .before .before .before .before .before in
+    omega (arith, users-end _ (c .before .users-offset .ensures .0) (counts .before .user-count .ensures), c .trades-offset .ensures)
+
+sub-ask-records : tie.Need-sub-ask-records
+sub-ask-records c = omega (arith, placed (c .before .before) .users)
+
+part-ask-records-start : tie.Need-part-ask-records-start
+part-ask-records-start c = let l = sub-ask-records c in search needs
+
+part-ask-records-end : tie.Need-part-ask-records-end
+part-ask-records-end c = let l = sub-ask-records c in search needs
+
+sub-ask-records-2 : tie.Need-sub-ask-records-2
+sub-ask-records-2 c = behind (c .before .before .before)
+
 ask-records-requires : tie.Need-ask-records-requires
-ask-records-requires c κs = (placed (c .before .before .before .before .before), search needs)
+ask-records-requires c κs =
+    let offsets = c .before .before .before .before .before .before in
+    let p = offsets .before .before .before .before .before .before .before .before .before .before .before .before .pre in
+    (records-within _ _ _ (behind offsets) (placed offsets), (p .1, p .2, p .3))
 
 same-length : tie.Need-same-length
 same-length c = search needs
@@ -65,7 +89,7 @@ same-length-2 c = search needs
 returns-2 : tie.Need-returns-2
 returns-2 c =
     let records = c .before .before .before .before in
-    let zeros = records .before .before .before .before in
+    let zeros = records .before .before .before .before .before in
     let offsets = zeros .before .before in
     let passed = offsets .before .before in
     let header = passed .before in
@@ -73,8 +97,8 @@ returns-2 c =
     let counts = prices .before in
     let start = counts .before .before .before .before .before in (
       fields-rest (now (start .args .s)) (header .before .before .version .ensures) (header .before .get-u32 .ensures) (prices .read-prices .ensures) (header .header-valid .ensures) (not-false _ (passed .if1 .left))
-          (counts .before .user-count .ensures) (counts .trade-count .ensures) (offsets .before .users-offset .ensures .0) (offsets .trades-offset .ensures) (zeros .before .user-zeros-valid .ensures) (zeros .trade-zeros-valid .ensures) (records .ask-records .ensures .0),
-      fields-summed (now (start .args .s)) (counts .before .user-count .ensures) (counts .trade-count .ensures) (offsets .before .users-offset .ensures .0) (offsets .trades-offset .ensures) (records .ask-records .ensures .1),
+          (counts .before .user-count .ensures) (counts .trade-count .ensures) (offsets .before .users-offset .ensures .0) (offsets .trades-offset .ensures) (zeros .before .user-zeros-valid .ensures) (zeros .trade-zeros-valid .ensures) (records-from _ _ _ (behind offsets) _ _ (records .ask-records .ensures .0)),
+      fields-summed (now (start .args .s)) (counts .before .user-count .ensures) (counts .trade-count .ensures) (offsets .before .users-offset .ensures .0) (offsets .trades-offset .ensures) (summed-from _ _ _ (behind offsets) _ _ (records .ask-records .ensures .1)),
     )
 
 pub ask-fields-spec : {M : Type 1} → statement M
@@ -94,6 +118,10 @@ ask-fields-spec =
     (λ c κs. search needs)
     user-zeros-valid-requires
     trade-zeros-valid-requires
+    sub-ask-records
+    part-ask-records-start
+    part-ask-records-end
+    sub-ask-records-2
     ask-records-requires
     same-length
     same-length-2
