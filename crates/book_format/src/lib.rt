@@ -90,12 +90,20 @@ pub fn users_offset(s: &[u8]) -> usize
     header_size(version(s))
 }
 
-// Where the 56 bytes of the user at a place begin.
+// Where the 56 bytes of the user at a place begin, of those that begin at `at`.
+pub fn user_offset_from(s: &[u8], at: usize, place: usize) -> usize
+    requires { ⌜ UserIn (now s) place × (at ≡ headerSize (versionOf (now s))) ⌝ }
+    ensures { λ r. ⌜ (r ≡ userAt (now (s .entry)) place) × (r + 56 ≤ length (now (s .entry))) ⌝ }
+{
+    at + 56 * place
+}
+
+// The same, where nobody has read yet where the users begin.
 pub fn user_offset(s: &[u8], place: usize) -> usize
     requires { ⌜ UserIn (now s) place ⌝ }
     ensures { λ r. ⌜ (r ≡ userAt (now (s .entry)) place) × (r + 56 ≤ length (now (s .entry))) ⌝ }
 {
-    users_offset(s) + 56 * place
+    user_offset_from(s, users_offset(s), place)
 }
 
 // The user at a place.
