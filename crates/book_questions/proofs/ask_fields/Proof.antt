@@ -95,10 +95,12 @@ returns-2 c =
     let header = passed .before in
     let prices = header .before .before .before in
     let counts = prices .before in
+    let begin = offsets .before .users-offset .ensures .0 in
+    let end = offsets .trades-offset .ensures in
     let start = counts .before .before .before .before .before in (
       fields-rest (now (start .args .s)) (header .before .before .version .ensures) (header .before .get-u32 .ensures) (prices .read-prices .ensures) (header .header-valid .ensures) (not-false _ (passed .if1 .left))
-          (counts .before .user-count .ensures) (counts .trade-count .ensures) (offsets .before .users-offset .ensures .0) (offsets .trades-offset .ensures) (zeros .before .user-zeros-valid .ensures) (zeros .trade-zeros-valid .ensures) (records-from _ _ _ (behind offsets) _ _ (records .ask-records .ensures .0)),
-      fields-summed (now (start .args .s)) (counts .before .user-count .ensures) (counts .trade-count .ensures) (offsets .before .users-offset .ensures .0) (offsets .trades-offset .ensures) (summed-from _ _ _ (behind offsets) _ _ (records .ask-records .ensures .1)),
+          (counts .before .user-count .ensures) (counts .trade-count .ensures) begin end (zeros .before .user-zeros-valid .ensures) (zeros .trade-zeros-valid .ensures) (records-from _ _ _ (behind offsets) _ _ (records .ask-records .ensures .0)),
+      fields-summed (now (start .args .s)) (counts .before .user-count .ensures) (counts .trade-count .ensures) begin end (summed-from _ _ _ (behind offsets) _ _ (records .ask-records .ensures .1)),
     )
 
 pub ask-fields-spec : {M : Type 1} → statement M
