@@ -40,7 +40,7 @@ SearchClaim = (ws : List ℕ) (asked tries : ℕ) → asked ≤ sum (λ w. w) ws
 abbrev pub MoreTriesClaim : Type 0
 MoreTriesClaim = (ws : List ℕ) (asked tries more : ℕ) → tries ≤ more → wholeSearch ws asked more .choice .excess ≤ wholeSearch ws asked tries .choice .excess
 
--- "A set is read as a binary number": where n trades are eligible, the sets are the numbers below 2 ^ n. So "every set was tried" when each of these was, and what holds of them all holds of every set
+-- "A set is read as a binary number": of n eligible trades the sets are the numbers below 2 ^ n, so that what holds of these holds of every set
 pub record EverySet {A : Type 0} (eligible : A → Bool) (ts : List A) : Type 0 where
   -- every set is one of the numbers
   pub inside : (marks : List Bool) → T (isSet eligible ts marks) → setNumber eligible ts marks < 2 ^ countOf eligible ts

@@ -40,7 +40,7 @@ notCancelled n = record { number = n; marks = replicate 256 false; excess = 0; t
 unfoldable pub wholeWorth : Book → Trade → ℕ
 wholeWorth b t = t .standing * tariff (b .header .prices) (t .terms .area)
 
--- the worth at tariff of a set, told by one mark for each trade
+-- a set's "worth at tariff", where it is told by one mark for each trade
 unfoldable pub setWorth : Book → List Bool → ℕ
 setWorth b marks = markedWorth marks (map (wholeWorth b) (b .trades))
 
