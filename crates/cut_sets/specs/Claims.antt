@@ -1,19 +1,20 @@
 -- Document 02, ask 8: what is claimed of a search. Assumes nothing.
-use mathlib.Core.Bool.{true, _||_}
+use mathlib.Core.Bool.{Bool, true, _||_}
 use mathlib.Core.List.{List}
 use mathlib.Core.Logic.{_⊎_}
 use mathlib.Core.Path.{_≡_}
 use Prim.Native.Nat.{ℕ, _+_, _-_, _^_, _≤_, _<_}
-use lib.Dec.{eqb}
+use lib.Dec.{T, eqb}
 use lib.ListN.{length}
 use Rattle.base.specs.Sums.{sum}
 use Rattle.cut_sets.specs.Sets.{worthOf}
 use Rattle.cut_sets.specs.Search.{Search, wholeSearch}
+use Rattle.cut_sets.specs.Places.{countOf, isSet, marksAt, setNumber}
 
 module _ (worth : ℕ → ℕ) (asked all tries : ℕ) where
-  -- what a search with so many tries among the sets below `all` gives. The sets tried are the last s .tries below `all`.
+  -- what a search with so many tries among the sets below `all` gives: "sets are tried counting down", so that those tried are the last s .tries below `all`
   pub record Claim (s : Search) : Type 0 where
-    -- the answer is a tried set that reaches the target
+    -- "The answer is the tried set that reaches T"
     pub tried : all ≤ s .choice .set + s .tries
     pub inside : s .choice .set < all
     pub reaches : worth (s .choice .set) ≡ asked + s .choice .excess
@@ -31,10 +32,19 @@ module _ (worth : ℕ → ℕ) (asked all tries : ℕ) where
     -- "then every other set that reaches T has at least this excess"
     pub least : s .complete ≡ true → (j : ℕ) → j < all → asked ≤ worth j → s .choice .excess ≤ worth j - asked
 
--- the claim of every search whose target is reached by all trades together
+-- of every search whose target is reached by all trades together: "If all eligible trades together are worth less than T it is refused"
 abbrev pub SearchClaim : Type 0
 SearchClaim = (ws : List ℕ) (asked tries : ℕ) → asked ≤ sum (λ w. w) ws → 0 < tries → Claim (worthOf ws) asked (2 ^ length ws) tries (wholeSearch ws asked tries)
 
 -- "More tries never give a larger excess."
 abbrev pub MoreTriesClaim : Type 0
 MoreTriesClaim = (ws : List ℕ) (asked tries more : ℕ) → tries ≤ more → wholeSearch ws asked more .choice .excess ≤ wholeSearch ws asked tries .choice .excess
+
+-- "A set is read as a binary number": of n eligible trades the sets are the numbers below 2 ^ n, so that what holds of these holds of every set
+pub record EverySet {A : Type 0} (eligible : A → Bool) (ts : List A) : Type 0 where
+  -- every set is one of the numbers
+  pub inside : (marks : List Bool) → T (isSet eligible ts marks) → setNumber eligible ts marks < 2 ^ countOf eligible ts
+  pub told : (marks : List Bool) → T (isSet eligible ts marks) → marksAt eligible ts (setNumber eligible ts marks) ≡ marks
+  -- every number is a set, and no two are the same
+  pub set : (m : ℕ) → T (isSet eligible ts (marksAt eligible ts m))
+  pub read : (m : ℕ) → m < 2 ^ countOf eligible ts → setNumber eligible ts (marksAt eligible ts m) ≡ m

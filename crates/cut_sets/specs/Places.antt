@@ -1,7 +1,7 @@
 -- Document 02, ask 8: "a set of whole eligible trades" among all trades, by trade place, and the search among these sets. Assumes nothing.
-use mathlib.Core.Bool.{Bool, true, false, cond}
+use mathlib.Core.Bool.{Bool, true, false, not, cond, _&&_, _||_}
 use mathlib.Core.List.{List, [], _∷_, map}
-use Prim.Native.Nat.{ℕ, _-_, _^_}
+use Prim.Native.Nat.{ℕ, _+_, _-_, _^_}
 use lib.Dec.{leb}
 use Rattle.base.specs.Sums.{sum}
 use Rattle.cut_sets.specs.Sets.{markedWorth}
@@ -19,8 +19,21 @@ module _ {A : Type 0} (eligible : A → Bool) where
       let bit = 2 ^ countOf ts in
       cond (eligible t) (cond (leb bit m) (true ∷ marksAt ts (m - bit)) (false ∷ marksAt ts m)) (false ∷ marksAt ts m)
 
+  -- "a set of whole eligible trades", told by marks: one for each trade, true only where the trade is eligible
+  unfoldable pub isSet : List A → List Bool → Bool
+  isSet [] [] = true
+  isSet [] (x ∷ xs) = false
+  isSet (t ∷ ts) [] = false
+  isSet (t ∷ ts) (x ∷ xs) = (not x || eligible t) && isSet ts xs
+
+  -- "A set is read as a binary number, the earliest trade its highest bit": the number of a set
+  unfoldable pub setNumber : List A → List Bool → ℕ
+  setNumber [] xs = 0
+  setNumber (t ∷ ts) [] = 0
+  setNumber (t ∷ ts) (x ∷ xs) = cond x (2 ^ countOf ts) 0 + setNumber ts xs
+
   module _ (worth : A → ℕ) where
-    -- the worth of a set
+    -- "whose worth at tariff is at least the target T": the worth of a set, by its number
     unfoldable pub worthIn : List A → ℕ → ℕ
     worthIn ts m = markedWorth (marksAt ts m) (map worth ts)
 

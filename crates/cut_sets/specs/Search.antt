@@ -19,11 +19,11 @@ pub record Search : Type 0 where
   pub complete : Bool
 
 module _ (worth : ℕ → ℕ) (asked : ℕ) where
-  -- one more set is tried: taken where it reaches the target with a smaller excess
+  -- "the tried set that reaches T with the smallest excess, the first such": one more set is taken where it reaches the target with a smaller excess
   unfoldable pub better : Choice → ℕ → Choice
   better best m = cond (leb asked (worth m) && ltb (worth m - asked) (best .excess)) (record { set = m; excess = worth m - asked }) best
 
-  -- `left` tries are left, and the sets below m; so many were made
+  -- "counting down .. until the tries are spent, an excess of 0 is met or none is left": `left` tries are left, and the sets below m; so many were made
   unfoldable pub searched : ℕ → ℕ → ℕ → Choice → Search
   searched left zero made best = record { choice = best; tries = made; complete = true }
   searched zero (suc m) made best = record { choice = best; tries = made; complete = eqb (best .excess) 0 }
@@ -31,7 +31,7 @@ module _ (worth : ℕ → ℕ) (asked : ℕ) where
       let rest = searched left m (suc made) (better best m) in
       cond (eqb (best .excess) 0) (record { choice = best; tries = made; complete = true }) rest
 
--- the first try is all trades
+-- "from all trades to the empty set": the first try is all trades
 unfoldable pub wholeSearch : List ℕ → ℕ → ℕ → Search
 wholeSearch ws asked tries =
     let all = 2 ^ length ws - 1 in

@@ -1,13 +1,14 @@
 -- A whole cancellation after its opening questions, and what is claimed of an accepted one. Assumes nothing.
+use mathlib.Core.Bool.{Bool}
 use mathlib.Core.List.{List, _++_}
 use mathlib.Core.Option.{Option, none, some}
 use mathlib.Core.Path.{_≡_, _∙_, ap, refl, subst, sym}
-use Prim.Native.Nat.{ℕ, suc, zero, _≤_}
+use Prim.Native.Nat.{ℕ, suc, zero, _-_, _≤_}
 use native.Mathlib.Omega.{arith}
 use lib.Dec.{T, leb, leb→le, ltb, ltb→lt}
 use Rattle.laws.proofs.Refusals.{append-yes, first-yes, numbered, refusal-is}
 use Rattle.base.proofs.Tests.{all-append, and-l}
-use Rattle.rules.specs.Book.{find}
+use Rattle.rules.specs.Book.{Book, User, find}
 use Rattle.rules.specs.Calls.{about, assignedFallsShort, calledInBeyondMargin, eligibleTrade, idKnown, isShipper, reduction}
 use Rattle.rules.specs.Levels.{Limits}
 use Rattle.base.specs.Lists.{all}
@@ -16,9 +17,11 @@ use Rattle.rules.specs.Reduction.{eligible, target}
 use Rattle.book_format.proofs.After.{asked-after}
 use Rattle.book_format.specs.After.{after}
 use Rattle.book_format.specs.Book.{bookOf}
+use Rattle.cut_sets.specs.Places.{marksAt, setNumber, worthIn}
 use Rattle.cut_sets.proofs.Places.{place-claim, place-more-tries}
+use Rattle.cut_sets.proofs.Reading.{every-set}
 use Rattle.requests.proofs.Opened.{opening-numbered}
-use Rattle.requests.specs.Cancellation.{Cancellation, CancellationClaim, Cancels, MoreTries, aboutCancellation, cancellation, cancellationAfter, cancelled, cancelledFor, notCancelled, searchFor, triesInRange, wholeWorth, worthSuffices}
+use Rattle.requests.specs.Cancellation.{Cancellation, CancellationClaim, CancelledSet, CancelledSetClaim, Cancels, MoreTries, aboutCancellation, cancellation, cancellationAfter, cancelled, cancelledFor, marksOf, notCancelled, searchFor, setWorth, triesInRange, wholeWorth, worthSuffices}
 use Rattle.requests.specs.Carried.{Admitted}
 use Rattle.requests.specs.Request.{Setting, limitsOn, opening, openingNumber}
 
@@ -91,6 +94,25 @@ cancellation-claim g s id tries h =
       marked = refl;
       claim = place-claim (eligible b u) (wholeWorth b) (b .trades) (target l b u) tries (leb→le _ _ (reached g s id tries h)) (some-tries g s id tries h);
     })
+
+-- every set is one of the numbers that are claimed of
+set-told : {limits : Limits} {b : Book} {u : User} {tries : ℕ} {a : Cancellation} → Cancels limits b u tries a → CancelledSet limits b u a
+unfolding marksOf setWorth worthIn
+set-told {limits} {b} {u} {tries} {a} c =
+    let sets = every-set (eligible b u) (b .trades) in
+    record {
+      own = marksAt (eligible b u) (b .trades) (c .set);
+      marked = c .marked;
+      among = sets .set (c .set);
+      reaches = c .claim .reaches;
+      least =
+          λ complete other h.
+          subst (λ (marks : List Bool). target limits b u ≤ setWorth b marks → a .excess ≤ setWorth b marks - target limits b u) (sets .told other h)
+          (c .claim .least complete (setNumber (eligible b u) (b .trades) other) (sets .inside other h));
+    }
+
+pub cancelled-set-claim : CancelledSetClaim
+cancelled-set-claim g s id tries h = set-told (cancellation-claim g s id tries h)
 
 pub more-tries-claim : MoreTries
 unfolding cancelled cancelledFor searchFor

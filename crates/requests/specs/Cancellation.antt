@@ -1,9 +1,9 @@
 -- Document 02, ask 8: a whole cancellation in its setting. It asks and changes no book; what it gives on a book in bytes, and what is claimed of it. Assumes nothing.
-use mathlib.Core.Bool.{Bool, false, cond, _&&_}
-use mathlib.Core.List.{List, [], _∷_, _++_}
+use mathlib.Core.Bool.{Bool, true, false, cond, _&&_}
+use mathlib.Core.List.{List, [], _∷_, _++_, map}
 use mathlib.Core.Path.{_≡_}
-use Prim.Native.Nat.{ℕ, _*_, _-_, _^_, _≤_}
-use lib.Dec.{leb}
+use Prim.Native.Nat.{ℕ, _+_, _*_, _-_, _^_, _≤_}
+use lib.Dec.{T, leb}
 use lib.ListN.{length, replicate}
 use Rattle.base.specs.Sums.{sum}
 use Rattle.rules.specs.Areas.{tariff}
@@ -14,8 +14,9 @@ use Rattle.rules.specs.Questions.{Question, decided, refusal}
 use Rattle.rules.specs.Reduction.{eligible, target}
 use Rattle.book_format.specs.After.{after}
 use Rattle.book_format.specs.Book.{bookOf}
+use Rattle.cut_sets.specs.Sets.{markedWorth}
 use Rattle.cut_sets.specs.Search.{Search}
-use Rattle.cut_sets.specs.Places.{countOf, marksAt, placeSearch, worthIn}
+use Rattle.cut_sets.specs.Places.{countOf, isSet, marksAt, placeSearch, worthIn}
 use Rattle.cut_sets.specs.Claims.{Claim}
 use Rattle.requests.specs.Request.{Setting, limitsOn, opening}
 
@@ -39,7 +40,11 @@ notCancelled n = record { number = n; marks = replicate 256 false; excess = 0; t
 unfoldable pub wholeWorth : Book → Trade → ℕ
 wholeWorth b t = t .standing * tariff (b .header .prices) (t .terms .area)
 
--- the marks of a set of the user's eligible trades, of both tiers; places past the trades have none
+-- a set's "worth at tariff", where it is told by one mark for each trade
+unfoldable pub setWorth : Book → List Bool → ℕ
+setWorth b marks = markedWorth marks (map (wholeWorth b) (b .trades))
+
+-- "told as 256 marks by trade place": the marks of a set of the user's eligible trades, of both tiers; places past the trades have none
 unfoldable pub marksOf : Book → User → ℕ → List Bool
 marksOf b u m = marksAt (eligible b u) (b .trades) m ++ replicate (256 - length (b .trades)) false
 
@@ -89,18 +94,36 @@ cancellation g s id tries =
 
 -- ---- what is claimed
 
--- an answer tells a set of the user's eligible trades of which all holds that is claimed of a search for the user's target
+-- "we want a set of whole eligible trades": an answer tells one, by its number, of which all holds that is claimed of a search for the user's target
 pub record Cancels (limits : Limits) (b : Book) (u : User) (tries : ℕ) (a : Cancellation) : Type 0 where
   pub set : ℕ
   pub marked : a .marks ≡ marksOf b u set
   pub claim : Claim (worthIn (eligible b u) (wholeWorth b) (b .trades)) (target limits b u) (2 ^ countOf (eligible b u) (b .trades)) tries
       (record { choice = record { set = set; excess = a .excess }; tries = a .tries; complete = a .complete })
 
--- every accepted cancellation
+-- the answer's set beside every other, each told by one mark for each trade: what holds of all choices among the user's eligible trades
+pub record CancelledSet (limits : Limits) (b : Book) (u : User) (a : Cancellation) : Type 0 where
+  -- "a set of whole eligible trades .. told as 256 marks by trade place"
+  pub own : List Bool
+  pub marked : a .marks ≡ own ++ replicate (256 - length (b .trades)) false
+  pub among : T (isSet (eligible b u) (b .trades) own)
+  -- "whose worth at tariff is at least the target T", "with that excess"
+  pub reaches : setWorth b own ≡ target limits b u + a .excess
+  -- "It says complete ..; then every other set that reaches T has at least this excess"
+  pub least : a .complete ≡ true → (other : List Bool) → T (isSet (eligible b u) (b .trades) other) → target limits b u ≤ setWorth b other
+      → a .excess ≤ setWorth b other - target limits b u
+
+-- every accepted cancellation: "The answer is the tried set that reaches T with the smallest excess", "complete exactly when the excess is 0 or every set was tried"
 abbrev pub CancellationClaim : Type 0
 CancellationClaim =
     (g : Setting) (s : List ℕ) (id tries : ℕ) → cancellation g s id tries .number ≡ 0
     → Cancels (limitsOn g (bookOf s)) (bookOf s) (find (bookOf s .users) id) tries (cancellation g s id tries)
+
+-- and beside every other set: "then every other set that reaches T has at least this excess"
+abbrev pub CancelledSetClaim : Type 0
+CancelledSetClaim =
+    (g : Setting) (s : List ℕ) (id tries : ℕ) → cancellation g s id tries .number ≡ 0
+    → CancelledSet (limitsOn g (bookOf s)) (bookOf s) (find (bookOf s .users) id) (cancellation g s id tries)
 
 -- "More tries never give a larger excess."
 abbrev pub MoreTries : Type 0

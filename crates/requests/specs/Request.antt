@@ -114,11 +114,11 @@ actGiven g b (postings v) =
 
 -- ---- on a book in bytes
 
--- the questions before those of the call, in their order
+-- the questions before those of the call, "Asked in this order": those of the book, then 16 and 17, "both asked after question 7"
 unfoldable pub opening : Setting → List ℕ → List Question
 opening g s = aboutBytes s ++ aboutSetting g (bookOf s)
 
--- the number of the first that is answered by no, 0 where there is none
+-- "the first "no" gives the number", 0 where there is none
 unfoldable pub openingNumber : Setting → List ℕ → ℕ
 openingNumber g s = numberOf (refusal (opening g s))
 
@@ -142,7 +142,7 @@ stepIn g s c =
     let limits = limitsOn g (bookOf s) in
     decided (refusal (opening g s ++ about limits (bookOf s) c)) (refused s) (carriedOut (effect limits (bookOf s) c))
 
--- the opening questions of a list
+-- the opening questions of a list: 15 "asked after question 7", 16 and 17 "both asked after question 7 and 15"
 unfoldable pub openingLines : Setting → Lines → List ℕ → List Question
 openingLines g v s = aboutBytes s ++ (aboutLines v ++ aboutSetting g (bookOf s))
 
