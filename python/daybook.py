@@ -22,6 +22,16 @@ Traceback (most recent call last):
     ...
 daybook.Refused: refused by question 8: id in the book?
 
+A book of version 2 has the selling tariffs S and U, and its afternoon levels
+have credit for long positions:
+
+>>> with open("../samples/credit.gdb", "rb") as file:
+...     credit = file.read()
+>>> daybook.read(credit).prices.u
+1900
+>>> daybook.level_table(credit)[0]
+(201, 126000000, 116500000)
+
 Every call but `read` and `write` takes a store of parameter sets in bytes as
 `store=`, or none. `python/build` makes the shared object that is called, from
 the engine's archive; DAYBOOK_LIBRARY names another one.
@@ -55,16 +65,16 @@ BILATERAL, PLATFORM, COUNTERPARTY = 0, 1, 2
 
 QUESTIONS = {
     1: "at least 32 bytes, starting with the mark?",
-    2: "version 1?",
-    3: "counts in range and length exactly 32 + 56 × users + 20 × trades?",
-    4: "date, prices and tolls in range?",
+    2: "version 1 or 2?",
+    3: "counts in range and length exactly 32 (version 2: 40) + 56 × users + 20 × trades?",
+    4: "date, prices, tolls and selling tariffs in range?",
     5: "every user field valid, positions apart?",
     6: "every trade valid?",
     7: "every position as defined?",
     8: "id in the book?",
     9: "a shipper?",
     10: "area 0 to 2, and the new physical entry within ±1,000,000?",
-    11: "level − blocked > 1,000,000, and, but for the morning call, user called in?",
+    11: "level − blocked > 1,000,000 (with a store, its figure), and, but for the morning call, user called in?",
     12: "assigned ≥ level?",
     13: "assigned < level?",
     14: "has the user an eligible trade?",
@@ -81,8 +91,9 @@ QUESTIONS = {
 Bytes = Union[bytes, bytearray, memoryview]
 Areas = Tuple[int, int, int]
 
-_INTERFACE = 2
-_HEADER = struct.Struct("<3sHBH6I")
+_INTERFACE = 3
+_HEADER = struct.Struct("<3sHBH8I")
+_HEADER_SIZES = {1: 32, 2: _HEADER.size}
 _USER = struct.Struct("<IB3x6iqQQ")
 _TRADE = struct.Struct("<IIBBBxII")
 _MOST_USERS = 64
@@ -102,13 +113,17 @@ class Refused(Exception):
 
 @dataclass(frozen=True)
 class Prices:
-    """Prices in cents per MWh: the tariffs P and Q, the tolls L, X and I."""
+    """Prices in cents per MWh: the tariffs P and Q, the tolls L, X and I, and the selling tariffs
+    S of PVB and U of TVB and AVB, which version 2 has; version 1 reads them as 0 and has no bytes
+    for them."""
 
     p: int
     q: int
     l: int = 0
     x: int = 0
     i: int = 0
+    s: int = 0
+    u: int = 0
 
 
 @dataclass(frozen=True)
@@ -158,7 +173,7 @@ class Trade:
 
 @dataclass(frozen=True)
 class Book:
-    """The fields of a book. The date is year × 10,000 + month × 100 + day."""
+    """The fields of a book of version 1 or 2. The date is year × 10,000 + month × 100 + day."""
 
     date: int
     prices: Prices
@@ -303,12 +318,12 @@ def read(book: Bytes) -> Book:
     image = _Part(bytes(_IMAGE))
     _answered(_library.daybook_read(*_Part(book).arguments, *image.arguments))
     data = image.bytes
-    _, version, users, trades, date, p, q, l, x, i = _HEADER.unpack_from(data)
+    _, version, users, trades, date, *prices = _HEADER.unpack_from(data)
     user_records = (data[_HEADER.size + _USER.size * place :][: _USER.size] for place in range(users))
     trade_records = (data[_TRADES_AT + _TRADE.size * place :][: _TRADE.size] for place in range(trades))
     return Book(
         date,
-        Prices(p, q, l, x, i),
+        Prices(*prices),
         tuple(User._unpacked(record) for record in user_records),
         tuple(Trade._unpacked(record) for record in trade_records),
         version,
@@ -321,7 +336,7 @@ def write(book: Book) -> bytes:
     prices = book.prices
     header = _HEADER.pack(
         b"GDB", book.version, min(users, 255), min(trades, 65535), book.date,
-        prices.p, prices.q, prices.l, prices.x, prices.i,
+        prices.p, prices.q, prices.l, prices.x, prices.i, prices.s, prices.u,
     )
     image = bytearray(_IMAGE)
     image[: _HEADER.size] = header
@@ -331,7 +346,8 @@ def write(book: Book) -> bytes:
     for place, trade in enumerate(book.trades[:_MOST_TRADES]):
         at = _TRADES_AT + _TRADE.size * place
         image[at : at + _TRADE.size] = trade._packed()
-    part = _Part(bytes(_HEADER.size + _USER.size * users + _TRADE.size * trades))
+    start = _HEADER_SIZES.get(book.version, 0)
+    part = _Part(bytes(start + _USER.size * users + _TRADE.size * trades))
     _answered(_library.daybook_write(*_Part(image).arguments, *part.arguments))
     return part.bytes
 
@@ -392,7 +408,7 @@ def morning_level(book: Bytes, id: int, store: Optional[Bytes] = None) -> int:
 
 
 def afternoon_level(book: Bytes, id: int, store: Optional[Bytes] = None) -> int:
-    """The afternoon level of a shipper, in cents."""
+    """The afternoon level of a shipper, in cents; in version 2 less the credit for long positions."""
     (level,), _ = _called(_library.daybook_afternoon_level, book, store, (_id(id),), 1)
     return level
 

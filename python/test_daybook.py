@@ -27,6 +27,12 @@ def sha(data: bytes) -> str:
     return hashlib.sha256(data).hexdigest()
 
 
+def printed_books() -> list[Path]:
+    """The books of both versions that have a printed day."""
+    folders = [VECTORS, VECTORS / "version-1", VECTORS / "version-2"]
+    return [file for folder in folders for file in sorted(folder.glob("*.gdb"))]
+
+
 def answered(call: Callable[[], tuple[list[str], bytes]], book: bytes, fields: list[str]) -> tuple[list[str], bytes]:
     """The number, the fields in words and the book after a call; a refusal has every field 0."""
     try:
@@ -100,22 +106,29 @@ class Vectors(unittest.TestCase):
                 got, book = calls(name, words, book)
                 self.assertEqual((got, sha(book)), (answer, after))
             count += 1
-        self.assertGreaterEqual(count, 1977)
+        self.assertGreaterEqual(count, 1974)
 
     def test_calls_with_stores(self) -> None:
+        self.assertGreaterEqual(self.calls_of("version-1"), 2906)
+
+    def test_calls_of_version_2(self) -> None:
+        self.assertGreaterEqual(self.calls_of("version-2"), 2253)
+
+    def calls_of(self, folder: str) -> int:
+        """Makes the calls of a folder of vectors; how many there were."""
         names = {
             "posting": "post", "show": "show", "morning_level": "mlevel", "afternoon_level": "alevel",
             "morning_call": "mcall", "afternoon_call": "acall", "midday_warning": "warn", "reduction": "reduce",
             "run": "run",
         }
         count = 0
-        for line in (VECTORS / "version-1" / "calls.txt").read_text().splitlines():
+        for line in (VECTORS / folder / "calls.txt").read_text().splitlines():
             asked, told = line.split(" -> ")
             name, *pairs = asked.split()
             if name not in names:
                 continue
             given = dict(pair.split("=", 1) for pair in pairs)
-            book = (VECTORS / "version-1" / given.pop("book")).read_bytes()
+            book = (VECTORS / folder / given.pop("book")).read_bytes()
             bytes_of_store = given.pop("store")
             store = None if bytes_of_store == "-" else bytes.fromhex(bytes_of_store[2:])
             with self.subTest(asked[:90]):
@@ -123,10 +136,10 @@ class Vectors(unittest.TestCase):
                 got, book = calls(names[name], list(given.values()), book, store)
                 self.assertEqual((got, sha(book)), (answer, after))
             count += 1
-        self.assertGreaterEqual(count, 2906)
+        return count
 
     def test_printed_days(self) -> None:
-        for file in sorted(VECTORS.glob("*.gdb")):
+        for file in printed_books():
             printed = file.with_suffix(".out").read_text()
             with self.subTest(file.name):
                 self.assertEqual(self.day(file.read_bytes()), printed.split("\n")[0])
@@ -165,7 +178,7 @@ class Books(unittest.TestCase):
         self.book = (VECTORS / "00000-document-example.gdb").read_bytes()
 
     def test_read_and_write(self) -> None:
-        for file in VECTORS.glob("*.gdb"):
+        for file in printed_books():
             book = file.read_bytes()
             try:
                 fields = daybook.read(book)
@@ -184,6 +197,37 @@ class Books(unittest.TestCase):
             self.assertEqual(caught.exception.number, number)
         with self.assertRaises(struct.error):
             daybook.write(replace(fields, date=2**32))
+
+    def test_books_of_version_2(self) -> None:
+        """The credit of 102, long by 30,000 MWh in PVB, which its morning level has not; the fields
+        of both versions there and back, version 1 without the selling tariffs."""
+        fields = daybook.read(self.book)
+        first, second = fields.users
+        owing = replace(second, charges=80_000_000)
+        tariffs = replace(fields.prices, s=1_500, u=1_900)
+        one = replace(fields, users=(first, owing), prices=tariffs)
+        two = replace(one, version=2)
+        old, new = daybook.write(one), daybook.write(two)
+        self.assertEqual((len(old), len(new)), (len(self.book), len(self.book) + 8))
+        self.assertEqual(new[32:40], struct.pack("<II", 1_500, 1_900))
+        self.assertEqual(daybook.read(new), two)
+        self.assertEqual(daybook.read(old), replace(one, prices=fields.prices))
+        self.assertEqual(old, daybook.write(replace(one, prices=fields.prices)))
+        self.assertEqual(daybook.level_table(old)[1], (102, 80_000_000, 80_000_000))
+        self.assertEqual(daybook.level_table(new)[1], (102, 80_000_000, 80_000_000 - 30_000 * 1_500))
+        self.assertEqual(daybook.level_table(old)[0], daybook.level_table(new)[0])
+        for wrong, number in [
+            (replace(two, prices=replace(tariffs, s=100_001)), 4),
+            (replace(two, prices=replace(tariffs, u=100_001)), 4),
+            (replace(two, version=3), 2),
+        ]:
+            with self.assertRaises(daybook.Refused) as caught:
+                daybook.write(wrong)
+            self.assertEqual(caught.exception.number, number)
+        for cut in (new[:39], new[:-1], new[:32] + new[40:]):
+            with self.assertRaises(daybook.Refused) as caught:
+                daybook.read(cut)
+            self.assertEqual(caught.exception.number, 3)
 
     def test_the_book_that_is_given_stays(self) -> None:
         for kind in (bytes, bytearray, memoryview):

@@ -236,17 +236,18 @@ static void shrinkage_returns(void)
 /* Random bytes of every length; at every fourth with the sample's header, and the counts that the length allows, so that the fields are asked too. */
 static void random_bytes(const uint8_t *sample)
 {
+    const size_t header = DAYBOOK_HEADER_SIZE(sample);
     for (size_t size = 0; size <= LONGEST; size++) {
         uint8_t *bytes = block(size);
         for (size_t i = 0; i < size; i++)
             bytes[i] = (uint8_t)next();
-        if (size % 4 == 0 && size >= DAYBOOK_HEADER_SIZE + DAYBOOK_USER_SIZE) {
-            memcpy(bytes, sample, DAYBOOK_HEADER_SIZE);
-            size_t users = (size - DAYBOOK_HEADER_SIZE) / DAYBOOK_USER_SIZE;
+        if (size % 4 == 0 && size >= header + DAYBOOK_USER_SIZE) {
+            memcpy(bytes, sample, header);
+            size_t users = (size - header) / DAYBOOK_USER_SIZE;
             users = users > DAYBOOK_MAX_USERS ? DAYBOOK_MAX_USERS : users;
-            while (users > 1 && (size - DAYBOOK_HEADER_SIZE - users * DAYBOOK_USER_SIZE) % DAYBOOK_TRADE_SIZE != 0)
+            while (users > 1 && (size - header - users * DAYBOOK_USER_SIZE) % DAYBOOK_TRADE_SIZE != 0)
                 users--;
-            size_t trades = (size - DAYBOOK_HEADER_SIZE - users * DAYBOOK_USER_SIZE) / DAYBOOK_TRADE_SIZE;
+            size_t trades = (size - header - users * DAYBOOK_USER_SIZE) / DAYBOOK_TRADE_SIZE;
             bytes[5] = (uint8_t)users;
             bytes[6] = (uint8_t)trades;
             bytes[7] = (uint8_t)(trades >> 8);
@@ -309,7 +310,7 @@ static void wrong_lengths(const uint8_t *sample, size_t size, uint32_t id)
             ask(which, sample, size, id, count);
     for (size_t lent = 0; lent <= 2 * DAYBOOK_RECORD_SIZE; lent++)
         show(sample, size, id, lent);
-    const size_t lengths[] = {0, 1, 31, 32, 8735, 8736, 8737, 2 * 8736};
+    const size_t lengths[] = {0, 1, 31, 32, 40, DAYBOOK_IMAGE_SIZE - 8, DAYBOOK_IMAGE_SIZE - 1, DAYBOOK_IMAGE_SIZE, DAYBOOK_IMAGE_SIZE + 1, 2 * DAYBOOK_IMAGE_SIZE};
     uint8_t *zeros = calloc(2, DAYBOOK_IMAGE_SIZE);
     for (size_t i = 0; i < sizeof lengths / sizeof lengths[0]; i++) {
         read_book(sample, size, lengths[i]);
@@ -319,33 +320,36 @@ static void wrong_lengths(const uint8_t *sample, size_t size, uint32_t id)
     free(zeros);
 }
 
-/* The largest book: 64 users with the ids 1 to 64, and 256 sales of 1 MWh from the first to the second. */
+/* The largest book of the sample's version: 64 users with the ids 1 to 64, and 256 sales of 1 MWh from the first to the second. */
 static void largest_book(const uint8_t *sample)
 {
-    uint8_t *book = calloc(1, DAYBOOK_IMAGE_SIZE);
-    memcpy(book, sample, DAYBOOK_HEADER_SIZE);
+    const size_t users = DAYBOOK_HEADER_SIZE(sample);
+    const size_t trades = users + DAYBOOK_USER_SIZE * DAYBOOK_MAX_USERS;
+    const size_t size = trades + DAYBOOK_TRADE_SIZE * DAYBOOK_MAX_TRADES;
+    uint8_t *book = calloc(1, size);
+    memcpy(book, sample, users);
     book[5] = DAYBOOK_MAX_USERS;
     book[6] = 0;
     book[7] = 1;
     for (size_t i = 0; i < DAYBOOK_MAX_USERS; i++)
-        book[DAYBOOK_HEADER_SIZE + DAYBOOK_USER_SIZE * i] = (uint8_t)(i + 1);
+        book[users + DAYBOOK_USER_SIZE * i] = (uint8_t)(i + 1);
     const int32_t sold = -256, bought = 256;
     for (size_t k = 0; k < 4; k++) {
-        book[DAYBOOK_HEADER_SIZE + 20 + k] = (uint8_t)((uint32_t)sold >> (8 * k));
-        book[DAYBOOK_HEADER_SIZE + DAYBOOK_USER_SIZE + 20 + k] = (uint8_t)((uint32_t)bought >> (8 * k));
+        book[users + 20 + k] = (uint8_t)((uint32_t)sold >> (8 * k));
+        book[users + DAYBOOK_USER_SIZE + 20 + k] = (uint8_t)((uint32_t)bought >> (8 * k));
     }
     for (size_t i = 0; i < DAYBOOK_MAX_TRADES; i++) {
-        uint8_t *trade = book + DAYBOOK_HEADER_SIZE + DAYBOOK_USER_SIZE * DAYBOOK_MAX_USERS + DAYBOOK_TRADE_SIZE * i;
+        uint8_t *trade = book + trades + DAYBOOK_TRADE_SIZE * i;
         trade[0] = 1;
         trade[4] = 2;
         trade[12] = 1;
         trade[16] = 1;
     }
     uint8_t *image = block(DAYBOOK_IMAGE_SIZE);
-    uint32_t number = daybook_read(book, DAYBOOK_IMAGE_SIZE, image, DAYBOOK_IMAGE_SIZE);
+    uint32_t number = daybook_read(book, size, image, DAYBOOK_IMAGE_SIZE);
     expect(number == 0, "read", "the largest book is refused", number);
     for (uint32_t id = 0; id <= DAYBOOK_MAX_USERS + 1; id += 13)
-        every(book, DAYBOOK_IMAGE_SIZE, id);
+        every(book, size, id);
     free(image);
     free(book);
 }

@@ -104,11 +104,12 @@ static size_t read_sample(int argc, char **argv, uint8_t *sample, uint32_t *id)
     }
     size_t size = fread(sample, 1, DAYBOOK_IMAGE_SIZE, file);
     fclose(file);
-    if (size < DAYBOOK_HEADER_SIZE + DAYBOOK_USER_SIZE) {
+    if (size < DAYBOOK_HEADER_SIZE_2 + DAYBOOK_USER_SIZE) {
         fprintf(stderr, "%s: no book\n", argv[1]);
         exit(2);
     }
-    *id = sample[32] | (uint32_t)sample[33] << 8 | (uint32_t)sample[34] << 16 | (uint32_t)sample[35] << 24;
+    const uint8_t *user = sample + DAYBOOK_HEADER_SIZE(sample);
+    *id = user[0] | (uint32_t)user[1] << 8 | (uint32_t)user[2] << 16 | (uint32_t)user[3] << 24;
     return size;
 }
 

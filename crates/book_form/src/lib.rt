@@ -1,18 +1,18 @@
 // The form of a book in bytes: the questions 1 to 3 of any bytes, the question 4 of a header's fields, the zero bytes that the questions 5
 // and 6 ask for; and the header's prices read and its fields written.
 ghost use mathlib.Core.Path.{_≡_};
-ghost use mathlib.Core.Bool.{_&&_};
 ghost use Prim.Native.Nat.{_+_, _*_, _≤_};
 ghost use lib.ListN.{length, drop};
-ghost use Rattle.rules.specs.Calendar.{realDay};
-ghost use Rattle.rules.specs.Questions.{pricesValid};
+ghost use lib.Seq.{sets};
+ghost use Rattle.rules.specs.Questions.{pricesValid, sellingMost, sellingValid, headerValid};
 ghost use Rattle.units.specs.Prices.{asPrices};
 ghost use Rattle.fields.specs.Field.{field};
 ghost use Rattle.book_format.specs.Questions.{marked, versioned, sized, formNumber};
 ghost use Rattle.book_form.specs.Zeros.{zerosIn};
 ghost use mathlib.Core.List.{_∷_, []};
 ghost use Rattle.fields.specs.Layout.{setFields};
-ghost use Rattle.book_format.specs.Book.{mark, pricesAt};
+ghost use Rattle.book_format.specs.Book.{mark, headerSize, pricesOf, sellingAt, sellingBytes};
+ghost use Rattle.book_format.specs.Places.{HeaderIn};
 use units::Prices;
 
 // ---- 1 to 3
@@ -27,12 +27,12 @@ fn is_marked(s: &[u8]) -> bool
     fields::get(s, 0, 3) == 0x42_44_47
 }
 
-// Is it version 1?
+// Is its version known?
 fn is_versioned(s: &[u8]) -> bool
     requires { ⌜ 32 ≤ length (now s) ⌝ }
     ensures { λ r. ⌜ r ≡ versioned (now (s .entry)) ⌝ }
 {
-    fields::get_u16(s, 3) == 1
+    book_format::is_known(book_format::version(s))
 }
 
 // Are the counts in range, and are there exactly as many bytes as they ask for?
@@ -42,7 +42,8 @@ fn is_sized(s: &[u8]) -> bool
 {
     let n = book_format::user_count(s) as usize;
     let m = book_format::trade_count(s) as usize;
-    ((1 <= n) & (n <= 64)) & ((m <= 256) & (s.len() == book_format::book_length(s, n, m)))
+    ((1 <= n) & (n <= 64))
+        & ((m <= 256) & (s.len() == book_format::book_length(book_format::version(s), n, m)))
 }
 
 // The number of the first of the questions 1 to 3 that is answered by no, 0 where there is none.
@@ -71,13 +72,32 @@ fn prices_valid(f: Prices) -> bool
         & ((f.l <= 100000) & ((f.x <= 100000) & (f.i <= 100000)))
 }
 
-// Are date, prices and tolls in range?
-pub fn header_valid(date: u32, f: Prices) -> bool
-    ensures { λ r. ⌜ r ≡ (realDay date && pricesValid (asPrices f)) ⌝ }
+// The highest selling tariff of a version, 0 where it has none.
+fn selling_most(version: u16) -> u32
+    ensures { λ r. ⌜ r ≡ sellingMost version ⌝ }
+{
+    if book_format::has_selling(version) {
+        return 100000;
+    }
+    0
+}
+
+// Are the selling tariffs in the range of their version?
+fn selling_valid(version: u16, f: Prices) -> bool
+    ensures { λ r. ⌜ r ≡ sellingValid version (asPrices f) ⌝ }
+{
+    let most = selling_most(version);
+    (f.s <= most) & (f.u <= most)
+}
+
+// Are date, prices and tolls in range, and the selling tariffs of the version?
+pub fn header_valid(version: u16, date: u32, f: Prices) -> bool
+    ensures { λ r. ⌜ r ≡ headerValid (record { version = version; date = date; prices = asPrices f }) ⌝ }
 {
     let day = calendar::is_real_day(date);
     let prices = prices_valid(f);
-    day & prices
+    let selling = selling_valid(version, f);
+    day & (prices & selling)
 }
 
 // ---- zero bytes
@@ -117,10 +137,21 @@ pub fn trade_zeros_valid(s: &[u8], at: usize, m: usize) -> bool
 
 // ---- the header
 
-// The prices and tolls of the header.
+// The selling tariff at an offset of the header, 0 in a version that has none.
+fn selling_at(s: &[u8], at: usize) -> u32
+    requires { ⌜ HeaderIn (now s) × (at + 4 ≤ 40) ⌝ }
+    ensures { λ r. ⌜ r ≡ sellingAt at (now (s .entry)) ⌝ }
+{
+    if book_format::has_selling(book_format::version(s)) {
+        return fields::get_u32(s, at);
+    }
+    0
+}
+
+// The prices and tolls of the header, selling tariffs with them.
 pub fn read_prices(s: &[u8]) -> Prices
-    requires { ⌜ 32 ≤ length (now s) ⌝ }
-    ensures { λ r. ⌜ asPrices r ≡ pricesAt 12 (now (s .entry)) ⌝ }
+    requires { ⌜ HeaderIn (now s) ⌝ }
+    ensures { λ r. ⌜ asPrices r ≡ pricesOf (now (s .entry)) ⌝ }
 {
     Prices {
         p: fields::get_u32(s, 12),
@@ -128,6 +159,8 @@ pub fn read_prices(s: &[u8]) -> Prices
         l: fields::get_u32(s, 20),
         x: fields::get_u32(s, 24),
         i: fields::get_u32(s, 28),
+        s: selling_at(s, 32),
+        u: selling_at(s, 36),
     }
 }
 
@@ -153,4 +186,15 @@ pub fn write_prices(out: &mut [u8], prices: Prices)
     fields::put_u32(out, 20, prices.l);
     fields::put_u32(out, 24, prices.x);
     fields::put_u32(out, 28, prices.i);
+}
+
+// Writes the selling tariffs, in a version that has them.
+pub fn write_selling(out: &mut [u8], version: u16, prices: Prices)
+    requires { ⌜ headerSize version ≤ length (now out) ⌝ }
+    ensures { λ _. ⌜ now (out .exit) ≡ sets (now (out .entry)) 32 (sellingBytes version (asPrices prices)) ⌝ }
+{
+    if book_format::has_selling(version) {
+        fields::put_u32(out, 32, prices.s);
+        fields::put_u32(out, 36, prices.u);
+    }
 }

@@ -1,10 +1,22 @@
--- A user and a trade that are read from bytes fit them. Assumes nothing.
-use mathlib.Core.List.{List}
-use Prim.Native.Nat.{ℕ, _<_, _^_}
+-- A user that is read from bytes fits them, and so do the users and trades of an accepted book. Assumes nothing.
+use mathlib.Core.List.{List, [], _∷_}
+use Prim.Native.Nat.{ℕ, _*_, _<_, _^_}
+use native.Mathlib.Omega.{arith}
+use lib.Dec.{T, leb→le, ltb→lt}
+use lib.IntN.{ℤ}
+use Rattle.base.proofs.Tests.{and-l, and-r}
+use Rattle.base.specs.Lists.{all}
 use Rattle.fields.proofs.Field.{field-lt}
 use Rattle.fields.specs.Field.{AllBytes}
+use Rattle.fields.specs.Layout.{Every}
+use Rattle.book_records.specs.Trade.{FitsTrade}
 use Rattle.book_records.specs.User.{FitsAmounts, FitsSigned, FitsUser, amountsAt, userOf}
-use Rattle.rules.specs.Signed.{signedOf}
+use Rattle.laws.proofs.Bounds.{entry-le, position-bound, within-le}
+use Rattle.laws.proofs.Users.{all-find, known-id}
+use Rattle.laws.specs.Sound.{Sound}
+use Rattle.rules.specs.Book.{Book, Trade, User, at, find}
+use Rattle.rules.specs.Questions.{amountsValid, codesValid, guaranteesValid, known, partiesValid, positionsValid, tradeValid, userValid}
+use Rattle.rules.specs.Signed.{signedOf, within}
 use Rattle.units.proofs.TwosComplement.{posPart-signedOf-lt, negPart-signedOf-le}
 
 -- a number of w bits stands for an integer of w bits
@@ -30,3 +42,65 @@ userOf-fits c b =
       assigned = field-lt 8 40 c b;
       blocked = field-lt 8 48 c b;
     }
+
+-- ---- every field of an accepted book fits its bytes
+
+signed-within : (w n : ℕ) (z : ℤ) → 2 * n < 2 ^ w → T (within n z) → FitsSigned w z
+signed-within w n z h t = let l = within-le n z t in record { above = omega (arith, l .0); below = omega (arith, l .1) }
+
+entry-fits : (u : User) (a : ℕ) → a < 3 → T (userValid u) → FitsSigned 32 (at (u .physical) a)
+entry-fits u a k h = let l = entry-le u a k h in record { above = omega (arith, l .0); below = omega (arith, l .1) }
+
+user-fits : (b : Book) → Sound b → (u : User) → T (userValid u) → T (positionsValid (b .trades) u) → FitsUser u
+unfolding userValid guaranteesValid at
+user-fits b s u h p =
+    let d = ltb→lt (u .party .id) (2 ^ 32) (search (and-l, and-r)) in
+    let r = ltb→lt (u .party .role) 2 (search (and-l, and-r)) in
+    let g = leb→le (u .blocked) (u .party .assigned) (search (and-l, and-r)) in
+    let a = leb→le (u .party .assigned) 1000000000000 (search (and-l, and-r)) in
+    let position : (i : ℕ) → i < 3 → FitsSigned 32 (at (u .position) i) = λ i k. let l = position-bound b s u h p i k in record { above = omega (arith, l .0); below = omega (arith, l .1) } in
+    record {
+      id = d;
+      role = omega arith;
+      physical = record { pvb = entry-fits u 0 (omega arith) h; tvb = entry-fits u 1 (omega arith) h; avb = entry-fits u 2 (omega arith) h };
+      position = record { pvb = position 0 (omega arith); tvb = position 1 (omega arith); avb = position 2 (omega arith) };
+      charges = signed-within 64 1000000000000 (u .party .charges) (omega arith) (search (and-l, and-r));
+      assigned = omega arith;
+      blocked = omega arith;
+    }
+
+pub every-user : (b : Book) → Sound b → (us : List User) → T (all userValid us) → T (all (positionsValid (b .trades)) us) → Every FitsUser us
+unfolding all
+every-user b s [] h p = tt
+every-user b s (u ∷ us) h p =
+    let v = positionsValid (b .trades) in
+    (user-fits b s u (and-l (userValid u) (all userValid us) h) (and-l (v u) (all v us) p), every-user b s us (and-r (userValid u) (all userValid us) h) (and-r (v u) (all v us) p))
+
+id-lt : (u : User) → T (userValid u) → u .party .id < 2 ^ 32
+unfolding userValid
+id-lt u h = ltb→lt (u .party .id) (2 ^ 32) (search (and-l, and-r))
+
+-- a party of a trade is a user, so its id fits
+known-lt : (us : List User) (id : ℕ) → T (all userValid us) → T (known us id) → id < 2 ^ 32
+known-lt us id h k =
+    let v = all-find userValid us id h k in
+    let e = known-id us id k in
+    omega (arith, id-lt (find us id) v)
+
+trade-fits : (us : List User) (t : Trade) → T (all userValid us) → T (tradeValid us t) → FitsTrade t
+unfolding tradeValid partiesValid codesValid amountsValid
+trade-fits us t h k =
+    let s = known-lt us (t .terms .seller) h (search (and-l, and-r)) in
+    let b = known-lt us (t .terms .buyer) h (search (and-l, and-r)) in
+    let a = ltb→lt (t .terms .area) 3 (search (and-l, and-r)) in
+    let d = ltb→lt (t .terms .kind) 3 (search (and-l, and-r)) in
+    let e = ltb→lt (t .terms .day) 2 (search (and-l, and-r)) in
+    let n = leb→le (t .terms .notified) 100000 (search (and-l, and-r)) in
+    let g = leb→le (t .standing) (t .terms .notified) (search (and-l, and-r)) in
+    record { seller = s; buyer = b; area = omega arith; kind = omega arith; day = omega arith; notified = omega arith; standing = omega arith }
+
+pub every-trade : (us : List User) (ts : List Trade) → T (all userValid us) → T (all (tradeValid us) ts) → Every FitsTrade ts
+unfolding all
+every-trade us [] h k = tt
+every-trade us (t ∷ ts) h k =
+    (trade-fits us t h (and-l (tradeValid us t) (all (tradeValid us) ts) k), every-trade us ts h (and-r (tradeValid us t) (all (tradeValid us) ts) k))

@@ -2,10 +2,10 @@
 use mathlib.Core.List.{List}
 use mathlib.Core.Option.{none, some}
 use mathlib.Core.Path.{_≡_, ap, sym}
-use Prim.Native.Nat.{_*_, _+_, _≤_, ℕ}
+use Prim.Native.Nat.{_≤_, ℕ}
 use lib.Dec.{T, eqb, eqb→eq, leb, leb→le}
 use lib.ListN.{length}
-use Rattle.book_format.specs.Book.{mark, lengthOf, markOf, tradeCount, tradesAt, userAt, userCount, versionOf, headerSize, userSize}
+use Rattle.book_format.specs.Book.{mark, lengthBy, lengthOf, markOf, tradeCount, tradesAt, userAt, userCount}
 use Rattle.book_format.specs.Questions.{aboutBytes, aboutFields, aboutForm, bookNumber, formNumber, marked, sized, versioned, Formed}
 use Rattle.laws.proofs.Refusals.{first-yes, number-none, number-some, numbered, refusal-first, refusal-next}
 use Rattle.base.proofs.Tests.{and-l, and-r}
@@ -17,7 +17,7 @@ unfolding marked
 marked-head s t = leb→le 32 (length s) (and-l (leb 32 (length s)) (eqb (markOf s) mark) t)
 
 pub formed-of : (s : List ℕ) → refusal (aboutForm s) ≡ none → Formed s
-unfolding aboutForm marked versioned sized lengthOf tradesAt userAt headerSize userSize
+unfolding aboutForm marked versioned sized lengthOf lengthBy tradesAt userAt
 formed-of s h =
     let q1 = first-yes _ _ h in
     let q2 = first-yes _ _ (q1 .1) in
@@ -28,11 +28,11 @@ formed-of s h =
     record {
       head = marked-head s (q1 .0);
       mark = eqb→eq (markOf s) mark (search (and-l, and-r));
-      version = eqb→eq (versionOf s) 1 t2;
+      version = t2;
       some = leb→le 1 (userCount s) (search (and-l, and-r));
       users = leb→le (userCount s) 64 (search (and-l, and-r));
       trades = leb→le (tradeCount s) 256 (search (and-l, and-r));
-      whole = eqb→eq (length s) (32 + 56 * userCount s + 20 * tradeCount s) (search (and-l, and-r));
+      whole = eqb→eq (length s) (lengthOf s) (search (and-l, and-r));
     }
 
 -- ---- the numbers

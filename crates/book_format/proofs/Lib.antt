@@ -16,3 +16,5 @@ pub mod Held
 -- Laws of where users and trades begin, and of a user and of a trade by their places.
 pub mod Offsets
 pub mod Places
+-- The questions 1 to 3 of short books.
+pub mod Examples

@@ -12,11 +12,11 @@ use borrow.Author.Tests.{le-ltb, lt-ltb}
 use Rattle.fields.proofs.Records.{bytesOfRecords-set, length-bytesOfRecords}
 use Rattle.fields.proofs.Sets.{sets-left, sets-right}
 use Rattle.fields.specs.Field.{AllBytes}
-use Rattle.fields.specs.Layout.{bytesOfRecords, pack}
+use Rattle.fields.specs.Layout.{bytesOfRecords}
 use Rattle.book_format.proofs.Passed.{Passed, length-usersOf}
 use Rattle.book_format.proofs.Round.{bytesOf-bookOf}
 use Rattle.book_format.proofs.Written.{length-header}
-use Rattle.book_format.specs.Book.{bookOf, bytesOf, headerValues, headerWidths, tradesOf, userAt, userCount, usersOf, headerSize, userSize, tradesAt}
+use Rattle.book_format.specs.Book.{bookOf, bytesOf, headerBytes, headerSize, headerValues, tradesOf, userAt, userCount, userSize, usersOf, versionOf}
 use Rattle.book_format.specs.Steps.{placeOf}
 use Rattle.base.proofs.Tests.{and-r}
 use Rattle.laws.proofs.Users.{change-absent}
@@ -73,12 +73,12 @@ module _ (s : List ℕ) (id : ℕ) where
 
 pub changed-bytes : (s : List ℕ) → AllBytes s → Passed s → (id : ℕ) (f : User → User) → placeOf (usersOf s) id < userCount s
     → bytesOf (withUsers (bookOf s) (change id f (usersOf s))) ≡ sets s (userAt s (placeOf (usersOf s) id)) (userBytes (f (find (usersOf s) id)))
-unfolding bytesOf withUsers headerValues bookOf userAt headerSize userSize tradesAt
+unfolding bytesOf headerBytes withUsers headerValues bookOf userAt userSize
 changed-bytes s b p id f k =
     let us = usersOf s in
     let i = placeOf us id in
     let v = f (find us id) in
-    let H = pack headerWidths (headerValues (bookOf s)) in
+    let H = headerBytes (bookOf s) in
     let U = bytesOfRecords userBytes us in
     let Q = bytesOfRecords tradeBytes (tradesOf s) in
     let n : length us ≡ userCount s = length-usersOf s in
@@ -86,9 +86,9 @@ changed-bytes s b p id f k =
     let e : change id f us ≡ set us i v = change-place f us 0 id (p .sound .ids) in
     let l : length U ≡ 56 * length us = length-bytesOfRecords userBytes 56 length-userBytes us in
     let m : 56 * i + length (userBytes v) ≤ length U = omega (arith, length-userBytes v) in
-    let h : length H ≡ 32 = length-header (bookOf s) in
+    let h : length H ≡ headerSize (versionOf s) = length-header (bookOf s) in
     rw (e, length-set, bytesOfRecords-set userBytes 56 length-userBytes us i v g)
-    (sym (ap (λ (x : List ℕ). sets x (32 + 56 * i) (userBytes v)) (sym (bytesOf-bookOf s b p))
+    (sym (ap (λ (x : List ℕ). sets x (headerSize (versionOf s) + 56 * i) (userBytes v)) (sym (bytesOf-bookOf s b p))
     ∙ ap (λ (x : ℕ). sets (H ++ (U ++ Q)) (x + 56 * i) (userBytes v)) (sym h)
     ∙ sets-right (userBytes v) H (U ++ Q) (56 * i)
     ∙ ap (λ (x : List ℕ). H ++ x) (sets-left (userBytes v) U Q (56 * i) m)))

@@ -9,12 +9,12 @@ use lib.ListN.{drop, length, take}
 use Rattle.fields.proofs.Records.{length-recordsOf}
 use Rattle.fields.specs.Layout.{EveryPart, recordsOf}
 use Rattle.book_format.proofs.Formed.{book-passed, formed-of}
-use Rattle.book_format.specs.Book.{bookOf, tradeCount, tradesAt, tradesOf, userCount, usersOf, versionOf, headerSize, userSize, userAt}
+use Rattle.book_format.specs.Book.{bookOf, tradeCount, tradesAt, tradesOf, userCount, usersOf, versionOf, headerSize, userSize}
 use Rattle.book_format.specs.Questions.{Formed, aboutBytes, aboutFields, aboutForm, bookNumber, partsOf, tradeZerosValid, userZerosValid}
 use Rattle.laws.proofs.Refusals.{append-yes, first-yes}
 use Rattle.laws.proofs.Sound.{sound}
 use Rattle.laws.specs.Sound.{Sound}
-use Rattle.base.proofs.Tests.{and-i, and-l, and-r, eqb-of}
+use Rattle.base.proofs.Tests.{and-i, and-l, and-r}
 use Rattle.book_records.specs.Trade.{tradeOf, tradeZeros}
 use Rattle.book_records.specs.User.{userOf, userZeros}
 use Rattle.base.specs.Lists.{all}
@@ -22,7 +22,7 @@ use Rattle.rules.specs.Questions.{countsValid, idsRise, refusal, tradeValid, us
 
 pub record Passed (s : List ℕ) : Type 0 where
   pub form : Formed s
-  pub user-zeros : EveryPart (λ c. userZeros c ≡ 0) 56 (userCount s) (drop 32 s)
+  pub user-zeros : EveryPart (λ c. userZeros c ≡ 0) 56 (userCount s) (drop (headerSize (versionOf s)) s)
   pub trade-zeros : EveryPart (λ c. tradeZeros c ≡ 0) 20 (tradeCount s) (drop (tradesAt s) s)
   pub sound : Sound (bookOf s)
 
@@ -35,11 +35,11 @@ each-zero z len (suc n) s h =
     (eqb→eq (z (take len s)) 0 (and-l a b h), each-zero z len n (drop len s) (and-r a b h))
 
 pub length-usersOf : (s : List ℕ) → length (usersOf s) ≡ userCount s
-unfolding usersOf headerSize userSize tradesAt userAt
-length-usersOf s = length-recordsOf 56 userOf (userCount s) (drop 32 s)
+unfolding usersOf userSize
+length-usersOf s = length-recordsOf 56 userOf (userCount s) (drop (headerSize (versionOf s)) s)
 
 pub length-tradesOf : (s : List ℕ) → length (tradesOf s) ≡ tradeCount s
-unfolding tradesOf headerSize userSize tradesAt userAt
+unfolding tradesOf
 length-tradesOf s = length-recordsOf 20 tradeOf (tradeCount s) (drop (tradesAt s) s)
 
 counts-valid : (s : List ℕ) → Formed s → T (countsValid (bookOf s))
@@ -52,10 +52,10 @@ counts-valid s f =
 
 version-valid : (s : List ℕ) → Formed s → T (versionValid (bookOf s))
 unfolding versionValid bookOf
-version-valid s f = eqb-of (versionOf s) 1 (f .version)
+version-valid s f = f .version
 
 pub passed-of : (s : List ℕ) → refusal (aboutBytes s) ≡ none → Passed s
-unfolding aboutBytes aboutFields userZerosValid tradeZerosValid usersValid bookOf headerSize userSize tradesAt userAt
+unfolding aboutBytes aboutFields userZerosValid tradeZerosValid usersValid bookOf userSize
 passed-of s h =
     let e = append-yes (aboutForm s) (aboutFields s) h in
     let f = formed-of s (e .0) in
@@ -70,7 +70,7 @@ passed-of s h =
     let tv = all (tradeValid (usersOf s)) (tradesOf s) in
     record {
       form = f;
-      user-zeros = each-zero userZeros 56 (userCount s) (drop 32 s) (and-l uz (ur && uv) (q5 .0));
+      user-zeros = each-zero userZeros 56 (userCount s) (drop (headerSize (versionOf s)) s) (and-l uz (ur && uv) (q5 .0));
       trade-zeros = each-zero tradeZeros 20 (tradeCount s) (drop (tradesAt s) s) (and-l tz tv (q6 .0));
       sound = record {
         version = version-valid s f;

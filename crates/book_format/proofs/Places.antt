@@ -14,15 +14,23 @@ use Rattle.book_format.proofs.Held.{held-trade-set, held-userCount}
 use Rattle.book_format.proofs.Parts.{record-at}
 use Rattle.book_format.proofs.Passed.{Passed, length-tradesOf}
 use Rattle.book_format.proofs.Positions.{position-bytes}
-use Rattle.book_format.specs.Book.{bookOf, tradeCount, tradesAt, tradesOf, userAt, userCount, usersOf, headerSize, userSize}
+use Rattle.book_format.specs.Book.{bookOf, tradeCount, tradesAt, tradesOf, userAt, userCount, usersOf, headerSize, userSize, versionOf}
 use Rattle.book_format.specs.Held.{HeldAs, tradesReplaced}
-use Rattle.book_format.specs.Places.{TradeIn, UserIn, positionAt}
+use Rattle.book_format.specs.Questions.{Formed}
+use Rattle.book_format.specs.Places.{HeaderIn, TradeIn, UserIn, positionAt}
 use Rattle.book_records.proofs.Trades.{length-tradeBytes, trade-of-bytes}
 use Rattle.book_records.proofs.Users.{length-userBytes, user-bytes-of}
 use Rattle.book_records.specs.Trade.{FitsTrade, tradeBytes, tradeOf}
 use Rattle.book_records.specs.User.{userBytes, userOf, userZeros}
 use Rattle.rules.specs.Book.{Trade, User, at, noTrade, nobody}
 use Rattle.rules.specs.Signed.{signedOf}
+
+-- ---- the header
+
+-- it lies in bytes of the right form
+pub header-lies : {s : List ℕ} → Formed s → HeaderIn s
+unfolding tradesAt userAt
+header-lies f = record { start = f .head; whole = omega (arith, f .whole) }
 
 -- ---- a user
 
@@ -33,12 +41,12 @@ module _ {s : List ℕ} {place : ℕ} (p : UserIn s place) where
 
   -- its bytes
   pub user-lies : userAt s place + 56 ≤ length s
-  unfolding userAt headerSize userSize tradesAt
+  unfolding userAt userSize tradesAt
   user-lies = omega (arith, p .form .whole, p .inside)
 
   user-is : userOf (take 56 (drop (userAt s place) s)) ≡ getD (usersOf s) place nobody
-  unfolding usersOf userAt headerSize userSize tradesAt
-  user-is = record-at 56 userOf (userCount s) place 32 s nobody (p .inside)
+  unfolding usersOf userAt userSize
+  user-is = record-at 56 userOf (userCount s) place (headerSize (versionOf s)) s nobody (p .inside)
 
   -- the user is read from them
   pub user-read : {a : ℕ} {u : User} → a ≡ userAt s place → u ≡ userOf (take (a + 56 - a) (drop a s)) → u ≡ getD (usersOf s) place nobody
@@ -60,12 +68,13 @@ module _ {s : List ℕ} {place : ℕ} (p : UserIn s place) where
 
   -- its bytes are those that it was read from
   pub user-part : AllBytes s → Passed s → userBytes (getD (usersOf s) place nobody) ≡ take 56 (drop (userAt s place) s)
-  unfolding userZeros userAt headerSize userSize
+  unfolding userZeros userAt userSize
   user-part b q =
-      let zeros = every-part-at (λ c. userZeros c ≡ 0) 56 (userCount s) (drop 32 s) place (q .user-zeros) (p .inside) in
+      let H = headerSize (versionOf s) in
+      let zeros = every-part-at (λ c. userZeros c ≡ 0) 56 (userCount s) (drop H s) place (q .user-zeros) (p .inside) in
       ap userBytes (sym user-is)
-      ∙ user-bytes-of (take 56 (drop (32 + 56 * place) s)) (length-part s (32 + 56 * place) 56 user-lies) (all-bytes-part (32 + 56 * place) 56 s b)
-      (ap (λ (x : List ℕ). userZeros (take 56 x)) (sym (drop-drop (56 * place) 32 s)) ∙ zeros)
+      ∙ user-bytes-of (take 56 (drop (H + 56 * place) s)) (length-part s (H + 56 * place) 56 user-lies) (all-bytes-part (H + 56 * place) 56 s b)
+      (ap (λ (x : List ℕ). userZeros (take 56 x)) (sym (drop-drop (56 * place) H s)) ∙ zeros)
 
   -- another user's bytes in their place
   pub user-put : {a : ℕ} {part : List ℕ} (u : User) → a ≡ userAt s place → part ≡ userBytes u → putMid a (a + 56 - a) s part ≡ sets s (userAt s place) (userBytes u)
@@ -82,12 +91,11 @@ module _ {s : List ℕ} {at place : ℕ} (p : TradeIn s at place) where
 
   -- its bytes
   pub trade-lies : at + 20 * place + 20 ≤ length s
-  unfolding tradesAt userAt headerSize userSize
   trade-lies = omega (arith, p .form .whole, p .begin, p .inside)
 
   -- the trade is read from them
   pub trade-read : {a : ℕ} {t : Trade} → a ≡ at + 20 * place → t ≡ tradeOf (take (a + 20 - a) (drop a s)) → t ≡ getD (tradesOf s) place noTrade
-  unfolding tradesOf headerSize userSize tradesAt userAt
+  unfolding tradesOf
   trade-read {a} e f =
       let l : a + 20 - a ≡ 20 = omega arith in
       let b : a ≡ tradesAt s + 20 * place = omega (arith, p .begin) in
@@ -96,9 +104,9 @@ module _ {s : List ℕ} {at place : ℕ} (p : TradeIn s at place) where
   -- another trade's bytes in their place
   pub trade-put : HeldAs (bookOf s) s → {a : ℕ} {part : List ℕ} (t : Trade) → a ≡ at + 20 * place → FitsTrade t → part ≡ tradeBytes t
       → HeldAs (tradesReplaced (bookOf s) (set (tradesOf s) place t)) (putMid a (a + 20 - a) s part)
-  unfolding bookOf tradesAt userAt headerSize userSize
+  unfolding bookOf tradesAt userAt userSize
   trade-put h {a} t e fits f =
-      let m : a ≡ 32 + 56 * length (usersOf s) + 20 * place = omega (arith, p .begin, held-userCount h) in
+      let m : a ≡ headerSize (versionOf s) + 56 * length (usersOf s) + 20 * place = omega (arith, p .begin, held-userCount h) in
       let l : a + 20 - a ≡ 20 = omega arith in
       rw (l, f, part-sets s (tradeBytes t) a 20 (length-tradeBytes t) (omega (arith, trade-lies)), m)
       (held-trade-set h place t (omega (arith, length-tradesOf s, p .inside)) (trade-of-bytes t fits))

@@ -1,53 +1,71 @@
 -- A book that is read and written again: the same bytes. Assumes nothing.
-use mathlib.Core.List.{List}
-use mathlib.Core.Path.{_≡_}
+use mathlib.Core.Bool.{true}
+use mathlib.Core.List.{List, _++_, append-nil}
+use mathlib.Core.Path.{_≡_, refl, sym, ap, ap₂, _∙_}
 use Prim.Native.Nat.{_*_, _+_, ℕ}
 use native.Mathlib.Omega.{arith}
 use lib.ListN.{drop, length-drop, take, take-append-drop}
-use lib.Seq.{drop-drop, take-all}
+use lib.Seq.{drop-drop, take-add, take-all}
+use Rattle.base.proofs.Tests.{by-case}
 use Rattle.fields.proofs.Field.{all-bytes-drop}
 use Rattle.fields.proofs.Pack.{pack-fieldsAt}
 use Rattle.fields.proofs.Records.{bytesOfRecords-recordsOf, every-part-map}
 use Rattle.fields.specs.Field.{AllBytes}
 use Rattle.fields.specs.Layout.{bytesOfRecords, fieldsAt, pack, size}
+use Rattle.book_format.proofs.Offsets.{header-plain, header-selling, selling-none, users-end}
 use Rattle.book_format.proofs.Passed.{Passed, length-tradesOf, length-usersOf}
-use Rattle.book_format.specs.Book.{bookOf, bytesOf, headerValues, headerWidths, markOf, tradeCount, tradesAt, tradesOf, userAt, userCount, usersOf, versionOf, pricesAt, headerSize, userSize}
+use Rattle.book_format.specs.Book.{bookOf, bytesOf, headerBytes, headerSize, headerValues, headerWidths, markOf, pricesOf, sellingAt, sellingBytes, sellingWidths, tradeCount, tradesAt, tradesOf, userAt, userCount, userSize, usersOf, versionOf}
 use Rattle.book_format.specs.Questions.{Formed}
 use Rattle.book_records.proofs.Trades.{trade-bytes-of}
 use Rattle.book_records.proofs.Users.{user-bytes-of}
 use Rattle.book_records.specs.Trade.{tradeBytes, tradeOf, tradeZeros}
 use Rattle.book_records.specs.User.{userBytes, userOf, userZeros}
-use Rattle.rules.specs.Book.{at}
+use Rattle.rules.specs.Areas.{sellingIn}
 
-header-32 : (s : List ℕ) → AllBytes s → Formed s → pack headerWidths (headerValues (bookOf s)) ≡ take 32 s
-unfolding headerWidths headerValues bookOf pricesAt size fieldsAt markOf versionOf userCount tradeCount
-header-32 s b f =
+-- the fields that every version has
+start-back : (s : List ℕ) → AllBytes s → Formed s → pack headerWidths (headerValues (bookOf s)) ≡ take 32 s
+unfolding headerWidths headerValues bookOf pricesOf size fieldsAt markOf versionOf userCount tradeCount
+start-back s b f =
     let e : pack headerWidths (fieldsAt headerWidths 0 s) ≡ take 32 s = pack-fieldsAt headerWidths 0 s (omega (arith, f .head)) b in
     rw (length-usersOf s, length-tradesOf s) (rw (f .mark) at e)
 
-pub header-back : (s : List ℕ) → AllBytes s → Formed s → pack headerWidths (headerValues (bookOf s)) ≡ take (headerSize (versionOf s)) s
-unfolding headerSize
-header-back s b f = header-32 s b f
+-- the selling tariffs, in a version that has them
+selling-back : (s : List ℕ) → AllBytes s → Formed s → sellingIn (versionOf s) ≡ true → sellingBytes (versionOf s) (pricesOf s) ≡ take 8 (drop 32 s)
+unfolding sellingBytes pricesOf sellingAt sellingWidths size fieldsAt
+selling-back s b f e =
+    rw e (pack-fieldsAt sellingWidths 32 s (omega (arith, f .whole, users-end s (sym (header-selling (versionOf s) e)) refl)) b)
 
-users-back : (s : List ℕ) → AllBytes s → Passed s → bytesOfRecords userBytes (usersOf s) ≡ take (56 * userCount s) (drop 32 s)
-unfolding usersOf headerSize userSize tradesAt userAt
+pub header-back : (s : List ℕ) → AllBytes s → Formed s → headerBytes (bookOf s) ≡ take (headerSize (versionOf s)) s
+unfolding headerBytes bookOf
+header-back s b f =
+    by-case (sellingIn (versionOf s))
+    (λ e. ap₂ (λ (x y : List ℕ). x ++ y) (start-back s b f) (selling-back s b f e) ∙ sym (take-add 32 8 s) ∙ ap (λ (n : ℕ). take n s) (sym (header-selling (versionOf s) e)))
+    (λ e.
+    ap₂ (λ (x y : List ℕ). x ++ y) (start-back s b f) (selling-none (versionOf s) (pricesOf s) e)
+    ∙ append-nil (take 32 s)
+    ∙ ap (λ (n : ℕ). take n s) (sym (header-plain (versionOf s) e)))
+
+users-back : (s : List ℕ) → AllBytes s → Passed s → bytesOfRecords userBytes (usersOf s) ≡ take (56 * userCount s) (drop (headerSize (versionOf s)) s)
+unfolding usersOf userSize tradesAt userAt
 users-back s b h =
-    bytesOfRecords-recordsOf 56 userOf userBytes (userCount s) (drop 32 s)
-    (every-part-map (λ c. userZeros c ≡ 0) (λ c. userBytes (userOf c) ≡ c) 56 (userCount s) (drop 32 s) user-bytes-of (rw length-drop (omega (arith, h .form .whole))) (all-bytes-drop 32 s b) (h .user-zeros))
+    let H = headerSize (versionOf s) in
+    bytesOfRecords-recordsOf 56 userOf userBytes (userCount s) (drop H s)
+    (every-part-map (λ c. userZeros c ≡ 0) (λ c. userBytes (userOf c) ≡ c) 56 (userCount s) (drop H s) user-bytes-of (rw length-drop (omega (arith, h .form .whole))) (all-bytes-drop H s b) (h .user-zeros))
 
 trades-back : (s : List ℕ) → AllBytes s → Passed s → bytesOfRecords tradeBytes (tradesOf s) ≡ take (20 * tradeCount s) (drop (tradesAt s) s)
-unfolding tradesOf tradesAt userAt headerSize userSize
+unfolding tradesOf
 trades-back s b h =
-    let a = 32 + 56 * userCount s in
+    let a = tradesAt s in
     bytesOfRecords-recordsOf 20 tradeOf tradeBytes (tradeCount s) (drop a s)
     (every-part-map (λ c. tradeZeros c ≡ 0) (λ c. tradeBytes (tradeOf c) ≡ c) 20 (tradeCount s) (drop a s) trade-bytes-of (rw length-drop (omega (arith, h .form .whole))) (all-bytes-drop a s b) (h .trade-zeros))
 
 pub bytesOf-bookOf : (s : List ℕ) → AllBytes s → Passed s → bytesOf (bookOf s) ≡ s
-unfolding bytesOf bookOf tradesAt userAt headerSize userSize
+unfolding bytesOf bookOf tradesAt userAt userSize
 bytesOf-bookOf s b h =
+    let H = headerSize (versionOf s) in
     let n = userCount s in
     let m = tradeCount s in
-    let a = 32 + 56 * n in
-    let q : drop (56 * n) (drop 32 s) ≡ drop a s = drop-drop (56 * n) 32 s in
+    let a = H + 56 * n in
+    let q : drop (56 * n) (drop H s) ≡ drop a s = drop-drop (56 * n) H s in
     let k : take (20 * m) (drop a s) ≡ drop a s = take-all (20 * m) (drop a s) (rw length-drop (omega (arith, h .form .whole))) in
-    rw (header-32 s b (h .form), users-back s b h, trades-back s b h, k, ← q, take-append-drop, take-append-drop)
+    rw (header-back s b (h .form), users-back s b h, trades-back s b h, k, ← q, take-append-drop, take-append-drop)

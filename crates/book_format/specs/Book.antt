@@ -1,8 +1,9 @@
--- Document 01, "The book in bytes": the book that bytes hold, and the bytes of a book. Only this file and the records' know offsets and sizes. Assumes nothing.
+-- Document 01, "The book in bytes", and version 2 of document 02's ask 3: the book that bytes hold, and the bytes of a book. Only this file and the records' know offsets and sizes. Assumes nothing.
+use mathlib.Core.Bool.{cond}
 use mathlib.Core.List.{List, [], _∷_, _++_}
 use Prim.Native.Nat.{ℕ, _+_, _*_}
 use lib.ListN.{length, drop}
-use Rattle.rules.specs.Areas.{Prices}
+use Rattle.rules.specs.Areas.{Prices, sellingIn}
 use Rattle.rules.specs.Book.{User, Trade, Book}
 use Rattle.fields.specs.Field.{field}
 use Rattle.fields.specs.Layout.{pack, recordsOf, bytesOfRecords}
@@ -11,8 +12,9 @@ use Rattle.book_records.specs.Trade.{tradeOf, tradeBytes}
 
 -- ---- sizes in bytes, by the version of the book
 
+-- "Version 2 of the book has a 40-byte header"
 unfoldable pub headerSize : ℕ → ℕ
-headerSize version = 32
+headerSize version = cond (sellingIn version) 40 32
 
 unfoldable pub userSize : ℕ → ℕ
 userSize version = 56
@@ -20,10 +22,18 @@ userSize version = 56
 abbrev pub tradeSize : ℕ → ℕ
 tradeSize version = 20
 
--- ---- the header: mark `GDB`, version, user count, trade count, date, P, Q, L, X, I
+-- the length of a book: "exactly 32 + 56 × users + 20 × trades", of version 2 with its header
+unfoldable pub lengthBy : ℕ → ℕ → ℕ → ℕ
+lengthBy version users trades = headerSize version + userSize version * users + tradeSize version * trades
+
+-- ---- the header: mark `GDB`, version, user count, trade count, date, P, Q, L, X, I; in version 2 also S and U
 
 unfoldable pub headerWidths : List ℕ
 headerWidths = 3 ∷ 2 ∷ 1 ∷ 2 ∷ 4 ∷ 4 ∷ 4 ∷ 4 ∷ 4 ∷ 4 ∷ []
+
+-- "after I come the daily selling tariffs, S for PVB and U for the other two areas, 32 bits each"
+unfoldable pub sellingWidths : List ℕ
+sellingWidths = 4 ∷ 4 ∷ []
 
 -- the mark `GDB` as a number of three bytes
 unfoldable pub mark : ℕ
@@ -51,9 +61,9 @@ userAt s place = headerSize (versionOf s) + userSize (versionOf s) * place
 unfoldable pub tradesAt : List ℕ → ℕ
 tradesAt s = userAt s (userCount s)
 
--- "length exactly 32 + 56 × users + 20 × trades"
+-- the length that version and counts ask for
 unfoldable pub lengthOf : List ℕ → ℕ
-lengthOf s = tradesAt s + tradeSize (versionOf s) * tradeCount s
+lengthOf s = lengthBy (versionOf s) (userCount s) (tradeCount s)
 
 unfoldable pub usersOf : List ℕ → List User
 usersOf s = recordsOf (userSize (versionOf s)) userOf (userCount s) (drop (headerSize (versionOf s)) s)
@@ -61,15 +71,27 @@ usersOf s = recordsOf (userSize (versionOf s)) userOf (userCount s) (drop (heade
 unfoldable pub tradesOf : List ℕ → List Trade
 tradesOf s = recordsOf (tradeSize (versionOf s)) tradeOf (tradeCount s) (drop (tradesAt s) s)
 
--- P, Q, L, X, I from an offset
-unfoldable pub pricesAt : ℕ → List ℕ → Prices
-pricesAt at s =
-    record { p = field 4 at s; q = field 4 (at + 4) s; l = field 4 (at + 8) s; x = field 4 (at + 12) s; i = field 4 (at + 16) s }
+-- a selling tariff at an offset; 0 in a version that has none
+unfoldable pub sellingAt : ℕ → List ℕ → ℕ
+sellingAt at s = cond (sellingIn (versionOf s)) (field 4 at s) 0
+
+-- P, Q, L, X, I, S, U
+unfoldable pub pricesOf : List ℕ → Prices
+pricesOf s =
+    record {
+      p = field 4 12 s;
+      q = field 4 16 s;
+      l = field 4 20 s;
+      x = field 4 24 s;
+      i = field 4 28 s;
+      s = sellingAt 32 s;
+      u = sellingAt 36 s;
+    }
 
 unfoldable pub bookOf : List ℕ → Book
 bookOf s =
     record {
-      header = record { version = versionOf s; date = field 4 8 s; prices = pricesAt 12 s };
+      header = record { version = versionOf s; date = field 4 8 s; prices = pricesOf s };
       users = usersOf s;
       trades = tradesOf s;
     }
@@ -91,6 +113,12 @@ headerValues b =
     ∷ h .prices .i
     ∷ []
 
+-- a version without selling tariffs has no bytes for them
+unfoldable pub sellingBytes : ℕ → Prices → List ℕ
+sellingBytes version f = cond (sellingIn version) (pack sellingWidths (f .s ∷ f .u ∷ [])) []
+
+unfoldable pub headerBytes : Book → List ℕ
+headerBytes b = pack headerWidths (headerValues b) ++ sellingBytes (b .header .version) (b .header .prices)
+
 unfoldable pub bytesOf : Book → List ℕ
-bytesOf b =
-    pack headerWidths (headerValues b) ++ (bytesOfRecords userBytes (b .users) ++ bytesOfRecords tradeBytes (b .trades))
+bytesOf b = headerBytes b ++ (bytesOfRecords userBytes (b .users) ++ bytesOfRecords tradeBytes (b .trades))

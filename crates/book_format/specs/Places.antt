@@ -1,9 +1,15 @@
--- Bytes with a user, or a trade, at a place. Assumes nothing.
+-- Bytes with a header, and with a user, or a trade, at a place. Assumes nothing.
 use mathlib.Core.List.{List}
 use mathlib.Core.Path.{_≡_}
-use Prim.Native.Nat.{ℕ, _+_, _*_, _<_}
-use Rattle.book_format.specs.Book.{tradeCount, tradesAt, userAt, userCount}
+use Prim.Native.Nat.{ℕ, _+_, _*_, _<_, _≤_}
+use lib.ListN.{length}
+use Rattle.book_format.specs.Book.{headerSize, tradeCount, tradesAt, userAt, userCount, versionOf}
 use Rattle.book_format.specs.Questions.{Formed}
+
+-- bytes are long enough for the header of their version
+pub record HeaderIn (s : List ℕ) : Type 0 where
+  pub start : 32 ≤ length s
+  pub whole : headerSize (versionOf s) ≤ length s
 
 -- bytes hold a book with a user at a place
 pub record UserIn (s : List ℕ) (place : ℕ) : Type 0 where

@@ -3,24 +3,24 @@ use mathlib.Core.Bool.{Bool, _&&_}
 use mathlib.Core.List.{List, [], _∷_, _++_}
 use mathlib.Core.Path.{_≡_}
 use Prim.Native.Nat.{ℕ, _*_, _+_, _≤_}
-use lib.Dec.{leb, eqb}
+use lib.Dec.{T, leb, eqb}
 use lib.ListN.{length, drop}
 use Rattle.fields.specs.Layout.{recordsOf}
 use Rattle.book_format.specs.Book.{headerSize, userSize, tradeSize, mark, markOf, versionOf, userCount, tradeCount, tradesAt, lengthOf, usersOf, tradesOf, bookOf}
 use Rattle.book_records.specs.Trade.{tradeZeros}
 use Rattle.book_records.specs.User.{userZeros}
 use Rattle.base.specs.Lists.{all}
-use Rattle.rules.specs.Questions.{Question, refusal, numberOf, headerValid, usersValid, tradeValid, positionsValid}
+use Rattle.rules.specs.Questions.{Question, refusal, numberOf, versionKnown, headerValid, usersValid, tradeValid, positionsValid}
 
 -- 1: "At least 32 bytes, starting with the mark?"
 unfoldable pub marked : List ℕ → Bool
 marked s = leb 32 (length s) && eqb (markOf s) mark
 
--- 2: "Version 1?"
+-- 2: "Version 1?", or version 2
 unfoldable pub versioned : List ℕ → Bool
-versioned s = eqb (versionOf s) 1
+versioned s = versionKnown (versionOf s)
 
--- 3: "Counts in range and length exactly 32 + 56 × users + 20 × trades?"
+-- 3: "Counts in range and length exactly 32 + 56 × users + 20 × trades?", with 40 for 32 in version 2
 unfoldable pub sized : List ℕ → Bool
 sized s =
     (leb 1 (userCount s) && leb (userCount s) 64) && (leb (tradeCount s) 256 && eqb (length s) (lengthOf s))
@@ -68,7 +68,7 @@ bookNumber s = numberOf (refusal (aboutBytes s))
 pub record Formed (s : List ℕ) : Type 0 where
   pub head : 32 ≤ length s
   pub mark : markOf s ≡ mark
-  pub version : versionOf s ≡ 1
+  pub version : T (versionKnown (versionOf s))
   pub some : 1 ≤ userCount s
   pub users : userCount s ≤ 64
   pub trades : tradeCount s ≤ 256

@@ -8,7 +8,9 @@ ghost use lib.Seq.{sets};
 ghost use Rattle.rules.specs.Book.{nobody, noTrade};
 ghost use Rattle.book_records.specs.User.{asUser, userBytes};
 ghost use Rattle.book_records.specs.Trade.{asTrade};
-ghost use Rattle.book_format.specs.Book.{bookOf, headerSize, versionOf, userCount, tradeCount, lengthOf};
+ghost use Rattle.rules.specs.Areas.{sellingIn};
+ghost use Rattle.rules.specs.Questions.{versionKnown};
+ghost use Rattle.book_format.specs.Book.{bookOf, headerSize, lengthBy, versionOf, userCount, tradeCount};
 ghost use Rattle.book_format.specs.Book.{userAt, usersOf, tradesAt, tradesOf};
 ghost use Rattle.book_format.specs.Questions.{Formed};
 ghost use Rattle.book_format.specs.Held.{HeldAs, tradesReplaced};
@@ -16,7 +18,50 @@ ghost use Rattle.book_format.specs.Places.{UserIn, TradeIn, positionAt};
 use book_records::Trade;
 use book_records::User;
 
-// ---- the counts of the header
+// ---- versions and their sizes
+
+// Is a book of this version read?
+pub fn is_known(version: u16) -> bool
+    ensures { λ r. ⌜ r ≡ versionKnown version ⌝ }
+{
+    (version == 1) | (version == 2)
+}
+
+// Has a version selling tariffs?
+pub fn has_selling(version: u16) -> bool
+    ensures { λ r. ⌜ r ≡ sellingIn version ⌝ }
+{
+    version == 2
+}
+
+// The bytes of a header.
+pub fn header_size(version: u16) -> usize
+    ensures { λ r. ⌜ r ≡ headerSize version ⌝ }
+    ensures { λ r. ⌜ (32 ≤ r) × (r ≤ 40) ⌝ }
+{
+    if has_selling(version) {
+        return 40;
+    }
+    32
+}
+
+// The length of a book of n users and m trades.
+pub fn book_length(version: u16, n: usize, m: usize) -> usize
+    requires { ⌜ (n ≤ 255) × (m ≤ 65535) ⌝ }
+    ensures { λ r. ⌜ r ≡ lengthBy version n m ⌝ }
+{
+    header_size(version) + 56 * n + 20 * m
+}
+
+// ---- the version and the counts of a header
+
+// The version.
+pub fn version(s: &[u8]) -> u16
+    requires { ⌜ 32 ≤ length (now s) ⌝ }
+    ensures { λ r. ⌜ r ≡ versionOf (now (s .entry)) ⌝ }
+{
+    fields::get_u16(s, 3)
+}
 
 // The number of users.
 pub fn user_count(s: &[u8]) -> u8
@@ -34,30 +79,31 @@ pub fn trade_count(s: &[u8]) -> u16
     fields::get_u16(s, 6)
 }
 
-// The length of a book of n users and m trades.
-pub fn book_length(s: &[u8], n: usize, m: usize) -> usize
-    requires { ⌜ (32 ≤ length (now s)) × (n ≡ userCount (now s)) × (m ≡ tradeCount (now s)) × (n ≤ 255) × (m ≤ 65535) ⌝ }
-    ensures { λ r. ⌜ r ≡ lengthOf (now (s .entry)) ⌝ }
-{
-    32 + 56 * n + 20 * m
-}
-
 // ---- users
 
 // Where the users begin, behind the header.
 pub fn users_offset(s: &[u8]) -> usize
-    requires { ⌜ Formed (now s) ⌝ }
+    requires { ⌜ 32 ≤ length (now s) ⌝ }
     ensures { λ r. ⌜ r ≡ headerSize (versionOf (now (s .entry))) ⌝ }
+    ensures { λ r. ⌜ (32 ≤ r) × (r ≤ 40) ⌝ }
 {
-    32
+    header_size(version(s))
 }
 
-// Where the 56 bytes of the user at a place begin.
+// Where the 56 bytes of the user at a place begin, of those that begin at `at`.
+pub fn user_offset_from(s: &[u8], at: usize, place: usize) -> usize
+    requires { ⌜ UserIn (now s) place × (at ≡ headerSize (versionOf (now s))) ⌝ }
+    ensures { λ r. ⌜ (r ≡ userAt (now (s .entry)) place) × (r + 56 ≤ length (now (s .entry))) ⌝ }
+{
+    at + 56 * place
+}
+
+// The same, where nobody has read yet where the users begin.
 pub fn user_offset(s: &[u8], place: usize) -> usize
     requires { ⌜ UserIn (now s) place ⌝ }
     ensures { λ r. ⌜ (r ≡ userAt (now (s .entry)) place) × (r + 56 ≤ length (now (s .entry))) ⌝ }
 {
-    32 + 56 * place
+    user_offset_from(s, users_offset(s), place)
 }
 
 // The user at a place.
@@ -93,7 +139,7 @@ pub fn trades_offset(s: &[u8], n: usize) -> usize
     requires { ⌜ Formed (now s) × (n ≡ userCount (now s)) ⌝ }
     ensures { λ r. ⌜ r ≡ tradesAt (now (s .entry)) ⌝ }
 {
-    32 + 56 * n
+    users_offset(s) + 56 * n
 }
 
 // Where the 20 bytes of the trade at a place begin, of those that begin at `at`.

@@ -1,16 +1,16 @@
 -- Three parts filled one after the other make the image of a book. Assumes nothing.
-use mathlib.Core.Path.{_≡_, refl, sym, ap, _∙_}
+use mathlib.Core.Path.{_≡_, refl, ap, _∙_}
 use mathlib.Core.List.{List, _++_, append-nil}
 use Prim.Native.Nat.{ℕ, _+_, _-_, _*_, _≤_}
 use native.Mathlib.Omega.{arith}
-use native.Mathlib.Nat.{sub-self}
 use lib.ListN.{length, take, drop, replicate, length-append, length-take, length-drop, length-replicate, drop-of-length-le}
-use lib.Seq.{sets, take-all, take-length, take-at, drop-at, length-take-le}
+use lib.Seq.{sets, take-all, take-length, take-at, drop-at}
 use borrow.Rule.Slice.PartMut.{putMid}
 use Rattle.fields.proofs.Sets.{part-sets, sets-three, length-part}
-use Rattle.book_format.specs.Book.{userCount, tradesAt, userAt, headerSize, userSize}
+use Rattle.book_format.specs.Book.{versionOf, userCount, headerSize, tradesAt}
 use Rattle.book_format.specs.Questions.{Formed}
-use Rattle.book_image.specs.Image.{padded, imageOf}
+use Rattle.book_format.proofs.Offsets.{header-range, users-end}
+use Rattle.book_image.specs.Image.{imageUsersAt, imageTradesAt, imageSize, padded, imageHeader, imageUsers, imageTrades, imageOf}
 
 -- bytes copied to the front of a list, with 0 in the place of all that is behind them
 pub front-filled : (front l copied rest : List ℕ) → length front ≤ length l
@@ -33,9 +33,22 @@ pub length-padded : (room : ℕ) (s : List ℕ) → length s ≤ room → length
 unfolding padded
 length-padded room s h = rw (length-append, length-replicate) (omega (arith, h))
 
-padded-full : (s : List ℕ) → padded (length s) s ≡ s
-unfolding padded
-padded-full s = rw (sub-self, append-nil)
+-- ---- the parts of a book fill their rooms in an image
+
+pub length-header : (s : List ℕ) → length (imageHeader s) ≡ imageUsersAt
+length-header s =
+    length-padded imageUsersAt (take (headerSize (versionOf s)) s) (rw length-take (omega (arith, header-range (versionOf s))))
+
+module _ (s : List ℕ) (f : Formed s) where
+  pub length-users : length (imageUsers s) ≡ imageTradesAt - imageUsersAt
+  length-users =
+      length-padded (imageTradesAt - imageUsersAt) (take (56 * userCount s) (drop (headerSize (versionOf s)) s)) (rw length-take (omega (arith, f .users)))
+
+  pub length-trades : length (imageTrades s) ≡ imageSize - imageTradesAt
+  length-trades =
+      length-padded (imageSize - imageTradesAt) (drop (tradesAt s) s) (rw length-drop (omega (arith, f .trades, f .whole)))
+
+-- ---- filled one after the other
 
 -- a part of k bytes that was lent and came back filled
 pub part-filled : (l : List ℕ) (a k : ℕ) (vs front : List ℕ) → a + k ≤ length l → length front ≤ k → vs ≡ padded (length (take k (drop a l))) front → take a l ++ (vs ++ drop k (drop a l)) ≡ sets l a (padded k front)
@@ -43,22 +56,18 @@ part-filled l a k vs front inside fits e =
     let v : vs ≡ padded k front = e ∙ ap (λ (n : ℕ). padded n front) (length-part l a k inside) in
     rw v (part-sets l (padded k front) a k (length-padded k front fits) inside)
 
--- header, users and trades, each in its room, over the whole of an image
-copied : (s l : List ℕ) → Formed s → length l ≡ 8736
-    → sets (sets (sets l 0 (padded 32 (take 32 s))) 32 (padded 3584 (take (56 * userCount s) (drop 32 s)))) 3616 (padded 5120 (drop (tradesAt s) s)) ≡ imageOf s
-unfolding imageOf tradesAt userAt headerSize userSize
+-- header, users and trades, over the whole of an image
+copied : (s l : List ℕ) → Formed s → length l ≡ imageSize → sets (sets (sets l 0 (imageHeader s)) imageUsersAt (imageUsers s)) imageTradesAt (imageTrades s) ≡ imageOf s
+unfolding imageOf
 copied s l f e =
-    let h : length (take 32 s) ≡ 32 = length-take-le 32 s (f .head) in
-    let header : padded 32 (take 32 s) ≡ take 32 s = ap (λ (n : ℕ). padded n (take 32 s)) (sym h) ∙ padded-full (take 32 s) in
-    let u : length (padded 3584 (take (56 * userCount s) (drop 32 s))) ≡ 3584 = length-padded 3584 (take (56 * userCount s) (drop 32 s)) (rw (length-take, length-drop) (omega (arith, f .users))) in
-    let t : length (padded 5120 (drop (32 + 56 * userCount s) s)) ≡ 5120 = length-padded 5120 (drop (32 + 56 * userCount s) s) (rw length-drop (omega (arith, f .trades, f .whole))) in
-    rw header (sets-three (take 32 s) (padded 3584 (take (56 * userCount s) (drop 32 s))) (padded 5120 (drop (32 + 56 * userCount s) s)) l 32 3616 h (omega (arith, u)) (omega (arith, e, t)))
+    sets-three (imageHeader s) (imageUsers s) (imageTrades s) l imageUsersAt imageTradesAt (length-header s) (omega (arith, length-users s f)) (omega (arith, e, length-trades s f))
 
 -- the same of the parts of a book of n users, as they are lent
-pub all-filled : (s l : List ℕ) (n : ℕ) → Formed s → n ≡ userCount s → length l ≡ 8736
-    → sets (sets (sets l 0 (padded 32 (take 32 s))) 32 (padded 3584 (take (32 + 56 * n - 32) (drop 32 s)))) 3616 (padded 5120 (take (length s - (32 + 56 * n)) (drop (32 + 56 * n) s))) ≡ imageOf s
-unfolding tradesAt userAt headerSize userSize
-all-filled s l n f users whole =
-    let k : 32 + 56 * n - 32 ≡ 56 * userCount s = omega (arith, users) in
-    let rest : take (length s - (32 + 56 * n)) (drop (32 + 56 * n) s) ≡ drop (32 + 56 * userCount s) s = take-all (length s - (32 + 56 * n)) (drop (32 + 56 * n) s) (rw length-drop (omega arith)) ∙ ap (λ (m : ℕ). drop (32 + 56 * m) s) users in
-    rw (rest, k) (copied s l f whole)
+pub all-filled : (s l : List ℕ) {from n : ℕ} → Formed s → from ≡ headerSize (versionOf s) → n ≡ userCount s → length l ≡ imageSize
+    → sets (sets (sets l 0 (padded imageUsersAt (take from s))) imageUsersAt (padded (imageTradesAt - imageUsersAt) (take (from + 56 * n - from) (drop from s)))) imageTradesAt
+    (padded (imageSize - imageTradesAt) (take (length s - (from + 56 * n)) (drop (from + 56 * n) s))) ≡ imageOf s
+all-filled s l {from} {n} f begin users whole =
+    let at = from + 56 * n in
+    let k : at - from ≡ 56 * userCount s = omega (arith, users) in
+    let rest : take (length s - at) (drop at s) ≡ drop (tradesAt s) s = take-all (length s - at) (drop at s) (rw length-drop (omega arith)) ∙ ap (λ (i : ℕ). drop i s) (users-end s begin users) in
+    rw (rest, k, begin) (copied s l f whole)

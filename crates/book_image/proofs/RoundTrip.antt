@@ -1,9 +1,10 @@
--- The image of a book's bytes has that book's fields: what `read` writes to an image, `write` reads from it. Assumes nothing.
-use mathlib.Core.Path.{_≡_, sym, ap, _∙_}
+-- The image of a book's bytes has that book's fields: what `read` writes to an image, `write` reads from it, and the other way round. Assumes nothing.
+use mathlib.Core.Path.{_≡_, refl, sym, ap, _∙_}
 use mathlib.Core.List.{List, _++_, append-assoc}
-use Prim.Native.Nat.{ℕ, _+_, _*_, _≤_}
+use Prim.Native.Nat.{ℕ, _+_, _-_, _*_, _≤_}
 use native.Mathlib.Nat.{zero-add}
 use native.Mathlib.Omega.{arith}
+use lib.Dec.{T}
 use lib.ListN.{length, take, drop, length-append, length-take, length-drop, take-append-drop}
 use lib.Seq.{length-take-le, take-at, drop-at}
 use Rattle.fields.specs.Field.{field, AllBytes}
@@ -11,15 +12,21 @@ use Rattle.fields.specs.Layout.{recordsOf}
 use Rattle.fields.proofs.Field.{field-part}
 use Rattle.book_records.specs.User.{userOf}
 use Rattle.book_records.specs.Trade.{tradeOf}
-use Rattle.book_format.specs.Book.{userCount, tradeCount, versionOf, tradesAt, userAt, usersOf, tradesOf, pricesAt, bookOf, bytesOf, headerSize, userSize}
+use Rattle.rules.specs.Areas.{sellingIn}
+use Rattle.rules.specs.Questions.{versionKnown}
+use Rattle.base.proofs.Tests.{by-case}
+use Rattle.book_format.specs.Book.{userCount, tradeCount, versionOf, tradesAt, usersOf, tradesOf, sellingAt, pricesOf, bookOf, bytesOf, headerSize}
 use Rattle.book_format.specs.Questions.{Formed}
+use Rattle.book_format.proofs.Offsets.{header-range, header-selling, users-end, users-there, trades-there}
 use Rattle.book_format.proofs.Passed.{Passed}
+use Rattle.book_format.proofs.Places.{header-lies}
 use Rattle.book_format.proofs.Round.{bytesOf-bookOf}
+use Rattle.book_format.proofs.Written.{bookOf-fits, formed-bytesOf}
 use Rattle.book_image.proofs.Turns.{records-front}
-use Rattle.book_image.specs.Image.{padded, imageOf}
-use Rattle.book_image.proofs.Copied.{length-padded}
-use Rattle.book_image.specs.ImageBook.{imageBook}
-use Rattle.book_image.proofs.Fields.{take-records}
+use Rattle.book_image.specs.Image.{imageUsersAt, imageTradesAt, imageSize, padded, imageHeader, imageUsers, imageTrades, imageOf}
+use Rattle.book_image.proofs.Copied.{length-header, length-users, length-trades}
+use Rattle.book_image.specs.ImageBook.{imageBook, CountsOf}
+use Rattle.book_image.proofs.Fields.{take-records, user-count, trade-count, book-fits}
 
 module _ {R : Type 0} (len : ℕ) (one : List ℕ → R) where
   -- records that fill the front of a list do not depend on what they are padded with
@@ -28,64 +35,93 @@ module _ {R : Type 0} (len : ℕ) (one : List ℕ → R) where
   records-padded n room p q h = rw append-assoc (records-front len one n p _ h)
 
 module _ (s : List ℕ) (f : Formed s) where
-  header-length : length (take 32 s) ≡ 32
-  header-length = length-take-le 32 s (f .head)
+  -- the header of the book's version
+  header-front : take (headerSize (versionOf s)) (imageOf s) ≡ take (headerSize (versionOf s)) s
+  unfolding imageOf padded
+  header-front =
+      let H = headerSize (versionOf s) in
+      ap (take H) (append-assoc (take H s) _ _) ∙ take-at (take H s) _ H (length-take-le H s (header-lies f .whole))
 
-  -- the header's fields
-  same-field : (w at : ℕ) → at + w ≤ 32 → field w at (imageOf s) ≡ field w at s
-  unfolding imageOf
+  -- its fields
+  same-field : (w at : ℕ) → at + w ≤ headerSize (versionOf s) → field w at (imageOf s) ≡ field w at s
   same-field w at h =
-      let e : take 32 (imageOf s) ≡ take 32 s = take-at (take 32 s) _ 32 header-length in
-      rw (zero-add at) at (sym (field-part w at 0 32 (imageOf s) h) ∙ ap (field w at) e ∙ field-part w at 0 32 s h)
+      let H = headerSize (versionOf s) in
+      rw (zero-add at) at (sym (field-part w at 0 H (imageOf s) h) ∙ ap (field w at) header-front ∙ field-part w at 0 H s h)
 
-  users-back : take (userCount s) (recordsOf 56 userOf 64 (drop 32 (imageOf s))) ≡ usersOf s
-  unfolding imageOf usersOf tradesAt userAt headerSize userSize
+  -- those that every version has
+  start-field : (w at : ℕ) → at + w ≤ 32 → field w at (imageOf s) ≡ field w at s
+  start-field w at h = same-field w at (omega (arith, h, header-range (versionOf s)))
+
+  same-version : versionOf (imageOf s) ≡ versionOf s
+  unfolding versionOf
+  same-version = start-field 2 3 (omega arith)
+
+  -- the selling tariffs, 0 in a version that has none
+  same-selling : (at : ℕ) → at + 4 ≤ 40 → sellingAt at (imageOf s) ≡ sellingAt at s
+  unfolding sellingAt
+  same-selling at h =
+      by-case (sellingIn (versionOf s)) (λ e. rw (same-version, e) (same-field 4 at (omega (arith, h, header-selling (versionOf s) e)))) (λ e. rw (same-version, e))
+
+  users-back : take (userCount s) (recordsOf 56 userOf 64 (drop imageUsersAt (imageOf s))) ≡ usersOf s
+  unfolding imageOf
   users-back =
       let n = userCount s in
-      let all = take (56 * n) (drop 32 s) in
-      let k : length all ≡ 56 * n = rw (length-take, length-drop) (omega (arith, f .whole)) in
-      take-records 56 userOf n 64 (drop 32 (imageOf s)) (f .users)
-      ∙ ap (recordsOf 56 userOf n) (drop-at (take 32 s) _ 32 header-length)
-      ∙ records-padded 56 userOf n 3584 all _ k
-      ∙ sym (records-front 56 userOf n all (drop (56 * n) (drop 32 s)) k)
-      ∙ ap (recordsOf 56 userOf n) (take-append-drop (56 * n) (drop 32 s))
+      let H = headerSize (versionOf s) in
+      let all = take (56 * n) (drop H s) in
+      let k : length all ≡ 56 * n = rw (length-take, length-drop) (omega (arith, f .whole, users-end s {at = H} refl refl)) in
+      take-records 56 userOf n 64 (drop imageUsersAt (imageOf s)) (f .users)
+      ∙ ap (recordsOf 56 userOf n) (drop-at (imageHeader s) (imageUsers s ++ imageTrades s) imageUsersAt (length-header s))
+      ∙ records-padded 56 userOf n (imageTradesAt - imageUsersAt) all (imageTrades s) k
+      ∙ sym (records-front 56 userOf n all (drop (56 * n) (drop H s)) k)
+      ∙ ap (recordsOf 56 userOf n) (take-append-drop (56 * n) (drop H s))
+      ∙ users-there s refl refl
 
-  trades-back : take (tradeCount s) (recordsOf 20 tradeOf 256 (drop 3616 (imageOf s))) ≡ tradesOf s
-  unfolding imageOf tradesOf tradesAt userAt padded headerSize userSize
+  trades-back : take (tradeCount s) (recordsOf 20 tradeOf 256 (drop imageTradesAt (imageOf s))) ≡ tradesOf s
+  unfolding imageOf padded
   trades-back =
       let m = tradeCount s in
-      let users = padded 3584 (take (56 * userCount s) (drop 32 s)) in
-      let all = drop (32 + 56 * userCount s) s in
+      let front = imageHeader s ++ imageUsers s in
+      let all = drop (tradesAt s) s in
       let k : length all ≡ 20 * m = rw length-drop (omega (arith, f .whole)) in
-      let u : length users ≡ 3584 = length-padded 3584 (take (56 * userCount s) (drop 32 s)) (rw (length-take, length-drop) (omega (arith, f .users))) in
-      let front : length (take 32 s ++ users) ≡ 3616 = length-append (take 32 s) users ∙ omega (arith, header-length, u) in
-      take-records 20 tradeOf m 256 (drop 3616 (imageOf s)) (f .trades)
-      ∙ ap (recordsOf 20 tradeOf m) (ap (drop 3616) (sym (append-assoc (take 32 s) users (padded 5120 all))) ∙ drop-at (take 32 s ++ users) (padded 5120 all) 3616 front)
+      let l : length front ≡ imageTradesAt = length-append (imageHeader s) (imageUsers s) ∙ omega (arith, length-header s, length-users s f) in
+      take-records 20 tradeOf m 256 (drop imageTradesAt (imageOf s)) (f .trades)
+      ∙ ap (recordsOf 20 tradeOf m) (ap (drop imageTradesAt) (sym (append-assoc (imageHeader s) (imageUsers s) (imageTrades s))) ∙ drop-at front (imageTrades s) imageTradesAt l)
       ∙ records-front 20 tradeOf m all _ k
+      ∙ trades-there s refl refl
 
-  -- an image has one length, whatever the counts
-  pub image-length : length (imageOf s) ≡ 8736
-  unfolding imageOf tradesAt userAt headerSize userSize
+  -- an image has one length, whatever version and counts
+  pub image-length : length (imageOf s) ≡ imageSize
+  unfolding imageOf
   image-length =
-      let users = take (56 * userCount s) (drop 32 s) in
-      let trades = drop (32 + 56 * userCount s) s in
-      let u : length (padded 3584 users) ≡ 3584 = length-padded 3584 users (rw (length-take, length-drop) (omega (arith, f .users))) in
-      let t : length (padded 5120 trades) ≡ 5120 = length-padded 5120 trades (rw length-drop (omega (arith, f .whole, f .trades))) in
-      length-append (take 32 s) (padded 3584 users ++ padded 5120 trades)
-      ∙ omega (arith, header-length, u, t, length-append (padded 3584 users) (padded 5120 trades))
+      length-append (imageHeader s) (imageUsers s ++ imageTrades s)
+      ∙ omega (arith, length-header s, length-users s f, length-trades s f, length-append (imageUsers s) (imageTrades s))
 
   -- the counts of the image are the book's
   pub same-counts : (userCount (imageOf s) ≡ userCount s) × (tradeCount (imageOf s) ≡ tradeCount s)
   unfolding userCount tradeCount
-  same-counts = (same-field 1 5 (omega arith), same-field 2 6 (omega arith))
+  same-counts = (start-field 1 5 (omega arith), start-field 2 6 (omega arith))
+
+  same-prices : pricesOf (imageOf s) ≡ pricesOf s
+  unfolding pricesOf
+  same-prices =
+      rw
+      (start-field 4 12 (omega arith), start-field 4 16 (omega arith), start-field 4 20 (omega arith), start-field 4 24 (omega arith), start-field 4 28 (omega arith), same-selling 32 (omega arith), same-selling 36 (omega arith))
 
   -- the book of the image of a book's bytes
   pub image-book : imageBook (imageOf s) ≡ bookOf s
-  unfolding imageBook bookOf versionOf pricesAt
-  image-book =
-      rw
-      (same-counts .0, same-counts .1, users-back, trades-back, same-field 2 3 (omega arith), same-field 4 8 (omega arith), same-field 4 12 (omega arith), same-field 4 16 (omega arith), same-field 4 20 (omega arith), same-field 4 24 (omega arith), same-field 4 28 (omega arith))
+  unfolding imageBook bookOf
+  image-book = rw (same-counts .0, same-counts .1, users-back, trades-back, same-version, start-field 4 8 (omega arith), same-prices)
 
 -- an accepted book that is read into an image is written from it as the same bytes
 pub image-bytes : (s : List ℕ) → AllBytes s → Passed s → bytesOf (imageBook (imageOf s)) ≡ s
 image-bytes s bytes p = ap bytesOf (image-book s (p .form)) ∙ bytesOf-bookOf s bytes p
+
+-- what is written from an image of a known version, and read into an image again, has the fields of the first
+pub image-back : {s : List ℕ} {n m : ℕ} → CountsOf s n m → AllBytes s → T (versionKnown (versionOf s)) → imageBook (imageOf (bytesOf (imageBook s))) ≡ imageBook s
+unfolding imageBook bookOf
+image-back {s} counts bytes known =
+    let b = imageBook s in
+    let n = user-count counts in
+    let m = trade-count counts in
+    image-book (bytesOf b) (formed-bytesOf b known (omega (arith, n, counts .some)) (omega (arith, n, counts .few)) (omega (arith, m, counts .many)))
+    ∙ bookOf-fits b (book-fits counts bytes)

@@ -1,23 +1,51 @@
--- An image is the fields of a book in 8,736 bytes, whatever its counts: the header, then always 64 users and 256 trades in the book's format. Assumes nothing.
+-- An image is the fields of a book in 8,744 bytes, whatever its version and counts: a header of 40 bytes, then 64 users and 256 trades in
+-- the book's format. Where the parts of an image stand is said here alone. Assumes nothing.
 use mathlib.Core.Path.{_≡_}
 use mathlib.Core.List.{List, _++_}
-use Prim.Native.Nat.{ℕ, _-_, _*_}
+use Prim.Native.Nat.{ℕ, _+_, _-_, _*_}
 use lib.ListN.{length, take, drop, replicate}
 use Rattle.rules.specs.Questions.{refusal, decided}
-use Rattle.book_format.specs.Book.{userCount, tradesAt}
+use Rattle.book_format.specs.Book.{versionOf, userCount, headerSize, tradesAt}
 use Rattle.book_format.specs.Questions.{aboutBytes, bookNumber}
+
+-- ---- where the parts stand (abbreviations, so that arithmetic knows the numbers)
+
+-- the users, behind the longest header
+abbrev pub imageUsersAt : ℕ
+imageUsersAt = 40
+
+-- the trades, behind the room for 64 users
+abbrev pub imageTradesAt : ℕ
+imageTradesAt = imageUsersAt + 56 * 64
+
+-- the length, with the room for 256 trades
+abbrev pub imageSize : ℕ
+imageSize = imageTradesAt + 20 * 256
+
+-- ---- a book as an image
 
 -- bytes with 0 behind them, up to a length
 unfoldable pub padded : ℕ → List ℕ → List ℕ
 padded room s = s ++ replicate (room - length s) 0
 
--- "records past the counts are 0": 64 × 56 bytes of users, 256 × 20 of trades
+-- the header of the book's version; the fields that it lacks are 0
+abbrev pub imageHeader : List ℕ → List ℕ
+imageHeader s = padded imageUsersAt (take (headerSize (versionOf s)) s)
+
+-- users and trades: "records past the counts are 0"
+abbrev pub imageUsers : List ℕ → List ℕ
+imageUsers s = padded (imageTradesAt - imageUsersAt) (take (56 * userCount s) (drop (headerSize (versionOf s)) s))
+
+abbrev pub imageTrades : List ℕ → List ℕ
+imageTrades s = padded (imageSize - imageTradesAt) (drop (tradesAt s) s)
+
+-- the whole
 unfoldable pub imageOf : List ℕ → List ℕ
-imageOf s = take 32 s ++ (padded 3584 (take (56 * userCount s) (drop 32 s)) ++ padded 5120 (drop (tradesAt s) s))
+imageOf s = imageHeader s ++ (imageUsers s ++ imageTrades s)
 
 -- a refusal returns "every other field 0"
 unfoldable pub readImage : List ℕ → List ℕ
-readImage s = decided (refusal (aboutBytes s)) (λ n. replicate 8736 0) (imageOf s)
+readImage s = decided (refusal (aboutBytes s)) (λ n. replicate imageSize 0) (imageOf s)
 
 -- bytes that were asked the questions 1 to 7: the number, and the whole image
 pub record ImageRead (s : List ℕ) (number : ℕ) (image : List ℕ) : Type 0 where

@@ -1,4 +1,4 @@
--- The book of an image's fields: of 8,736 bytes with a header, 64 users and 256 trades, the records up to the counts. Assumes nothing.
+-- The book of an image's fields: of its header those that its version has, of its 64 users and 256 trades those up to the counts. Assumes nothing.
 use mathlib.Core.Path.{_≡_}
 use mathlib.Core.List.{List}
 use Prim.Native.Nat.{ℕ, _≤_}
@@ -7,21 +7,21 @@ use Rattle.rules.specs.Book as model
 use Rattle.fields.specs.Layout.{recordsOf}
 use Rattle.book_records.specs.User.{userOf}
 use Rattle.book_records.specs.Trade.{tradeOf}
-use Rattle.book_format.specs.Book.{versionOf, userCount, tradeCount, bookOf}
+use Rattle.book_format.specs.Book.{userCount, tradeCount, bookOf}
+use Rattle.book_image.specs.Image.{imageUsersAt, imageTradesAt, imageSize}
 
--- the book that an image's fields are: its header, and its records up to the counts
+-- the book that an image's fields are: its header, where what a version lacks is 0 whatever stands there, and its records up to the counts
 unfoldable pub imageBook : List ℕ → model.Book
 imageBook s =
     record {
       header = bookOf s .header;
-      users = take (userCount s) (recordsOf 56 userOf 64 (drop 32 s));
-      trades = take (tradeCount s) (recordsOf 20 tradeOf 256 (drop 3616 s));
+      users = take (userCount s) (recordsOf 56 userOf 64 (drop imageUsersAt s));
+      trades = take (tradeCount s) (recordsOf 20 tradeOf 256 (drop imageTradesAt s));
     }
 
--- an image of version 1 whose counts are n users and m trades, in range
+-- an image whose counts are n users and m trades, in range
 pub record CountsOf (s : List ℕ) (n m : ℕ) : Type 0 where
-  pub whole : length s ≡ 8736
-  pub version : versionOf s ≡ 1
+  pub whole : length s ≡ imageSize
   pub users : n ≡ userCount s
   pub trades : m ≡ tradeCount s
   pub some : 1 ≤ n

@@ -1,13 +1,13 @@
-// The fields of a book as an image of 8,736 bytes, for callers that have no struct `Book`: header, 64 users and 256 trades in the book's
-// format, 0 past the counts. A book is read into an image, and written from the fields of one: the image is asked what the bytes of that
-// book would be asked.
+// The fields of a book as an image of 8,744 bytes, for callers that have no struct `Book`: a header of 40 bytes, 64 users and 256 trades in
+// the book's format, 0 past the header of the book's version and past the counts. A book is read into an image, and written from the fields
+// of one: the image is asked what the bytes of that book would be asked.
 ghost use mathlib.Core.Path.{_≡_};
 ghost use Prim.Native.Nat.{_-_, _≤_, _+_, _*_};
 ghost use lib.ListN.{length, replicate, take, drop};
 ghost use lib.Seq.{sets};
-ghost use Rattle.book_format.specs.Book.{userCount, mark, tradeCount, bytesOf};
+ghost use Rattle.book_format.specs.Book.{lengthBy, versionOf, userCount, mark, tradeCount, bytesOf};
 ghost use Rattle.book_format.specs.Questions.{Formed};
-ghost use Rattle.book_image.specs.Image.{padded, imageOf, ImageRead};
+ghost use Rattle.book_image.specs.Image.{padded, imageSize, imageOf, ImageRead};
 ghost use Rattle.fields.specs.Field.{setField};
 ghost use Rattle.fields.specs.Layout.{recordsOf, bytesOfRecords};
 ghost use Rattle.book_records.specs.User.{userOf, userBytes};
@@ -16,6 +16,15 @@ ghost use Rattle.book_image.specs.Zeroed.{zeroedRecords};
 ghost use Rattle.book_questions.specs.Asked.{fieldsNumber};
 ghost use Rattle.book_value.specs.Written.{WrittenAs};
 ghost use Rattle.book_image.specs.ImageBook.{imageBook, CountsOf};
+
+// ---- the parts of an image, the same in every version
+
+// Where the room for 64 users begins, behind a header of 40 bytes.
+const USERS_AT: usize = 40;
+// Where the room for 256 trades begins, behind 64 users.
+const TRADES_AT: usize = 3624;
+// The length of an image, with 256 trades.
+const SIZE: usize = 8744;
 
 // ---- a book read into an image
 
@@ -50,19 +59,20 @@ fn fill_part(image: &mut [u8], at: usize, end: usize, front: &[u8])
 
 // Copies the bytes of a book of n users to an image.
 fn copy_book(image: &mut [u8], s: &[u8], n: usize)
-    requires { ⌜ Formed (now s) × (n ≡ userCount (now s)) × (length (now image) ≡ 8736) ⌝ }
+    requires { ⌜ Formed (now s) × (n ≡ userCount (now s)) × (length (now image) ≡ imageSize) ⌝ }
     ensures { λ _. ⌜ now (image .exit) ≡ imageOf (now (s .entry)) ⌝ }
 {
-    let at = 32 + 56 * n;
-    fill_part(image, 0, 32, &s[0..32]);
-    fill_part(image, 32, 3616, &s[32..at]);
-    fill_part(image, 3616, 8736, &s[at..]);
+    let from = book_format::users_offset(s);
+    let at = from + 56 * n;
+    fill_part(image, 0, USERS_AT, &s[..from]);
+    fill_part(image, USERS_AT, TRADES_AT, &s[from..at]);
+    fill_part(image, TRADES_AT, SIZE, &s[at..]);
 }
 
 // The number of the first of the questions 1 to 7 that the bytes of a book fail, and an image of 0; or 0 and the image of the book's
 // fields.
 pub fn read(book: &[u8], image: &mut [u8]) -> u32
-    requires { ⌜ length (now image) ≡ 8736 ⌝ }
+    requires { ⌜ length (now image) ≡ imageSize ⌝ }
     ensures { λ r. ⌜ ImageRead (now (book .entry)) r (now (image .exit)) ⌝ }
 {
     let number = book_questions::number(book);
@@ -86,12 +96,12 @@ fn copy_marked(s: &[u8], out: &mut [u8])
     fields::put(out, 0, 3, 0x42_44_47);
 }
 
-// Writes the header that bytes begin with to the front of another part, with the mark of a book.
-pub fn copy_header(s: &[u8], out: &mut [u8])
-    requires { ⌜ (32 ≤ length (now s)) × (32 ≤ length (now out)) ⌝ }
-    ensures { λ _. ⌜ now (out .exit) ≡ sets (now (out .entry)) 0 (setField 3 0 mark (take 32 (now (s .entry)))) ⌝ }
+// Writes the header of a size that bytes begin with to the front of another part, with the mark of a book.
+pub fn copy_header(s: &[u8], size: usize, out: &mut [u8])
+    requires { ⌜ (3 ≤ size) × (size ≤ length (now s)) × (size ≤ length (now out)) ⌝ }
+    ensures { λ _. ⌜ now (out .exit) ≡ sets (now (out .entry)) 0 (setField 3 0 mark (take size (now (s .entry)))) ⌝ }
 {
-    copy_marked(&s[0..32], &mut out[0..32]);
+    copy_marked(&s[..size], &mut out[..size]);
 }
 
 // Makes the field of `width` bytes at an offset 0 in each of n records of a size, which are all that stands there.
@@ -144,41 +154,55 @@ fn fields_number(image: &[u8], n: usize, m: usize) -> u32
     ensures { λ r. ⌜ r ≡ fieldsNumber (bytesOf (imageBook (now (image .entry)))) ⌝ }
 {
     let prices = book_form::read_prices(image);
-    if !book_form::header_valid(fields::get_u32(image, 8), prices) {
+    let version = book_format::version(image);
+    if !book_form::header_valid(version, fields::get_u32(image, 8), prices) {
         return 4;
     }
+    // The zero bytes of an image are not looked at: they are taken for 0, as they are written.
+    let zeros = true;
     let mut sellers = [0u8; 256];
     let mut buyers = [0u8; 256];
-    book_questions::records_number(image, 32, n, 3616, m, true, true, &mut sellers, &mut buyers)
+    book_questions::records_number(
+        image,
+        USERS_AT,
+        n,
+        TRADES_AT,
+        m,
+        zeros,
+        zeros,
+        &mut sellers,
+        &mut buyers,
+    )
 }
 
 // Writes the book of an image's fields to a part of its length.
 fn write_fields(image: &[u8], n: usize, m: usize, out: &mut [u8])
-    requires { ⌜ CountsOf (now image) n m × (length (now out) ≡ 32 + 56 * n + 20 * m) ⌝ }
+    requires { ⌜ CountsOf (now image) n m × (length (now out) ≡ lengthBy (versionOf (now image)) n m) ⌝ }
     ensures { λ _. ⌜ now (out .exit) ≡ bytesOf (imageBook (now (image .entry))) ⌝ }
 {
-    copy_header(image, out);
-    copy_users(image, 32, n, out, 32);
-    copy_trades(image, 3616, m, out, 32 + 56 * n);
+    let at = book_format::users_offset(image);
+    copy_header(image, at, out);
+    copy_users(image, USERS_AT, n, out, at);
+    copy_trades(image, TRADES_AT, m, out, at + 56 * n);
 }
 
 // Writes the book that an image's fields are to a part of exactly its length, and answers 0; or leaves the part and answers the first
 // question that the bytes would fail.
 pub fn write(image: &[u8], out: &mut [u8]) -> u32
-    requires { ⌜ length (now image) ≡ 8736 ⌝ }
+    requires { ⌜ length (now image) ≡ imageSize ⌝ }
     ensures { λ r. ⌜ WrittenAs (userCount (now (image .entry))) (tradeCount (now (image .entry))) (imageBook (now (image .entry))) (now (out .entry)) r (now (out .exit)) ⌝ }
 {
-    let version = fields::get_u16(image, 3);
+    let version = book_format::version(image);
     let n = book_format::user_count(image) as usize;
     let m = book_format::trade_count(image) as usize;
-    if version != 1 {
+    if !book_format::is_known(version) {
         return 2;
     }
     let counted = ((1 <= n) & (n <= 64)) & (m <= 256);
     if !counted {
         return 3;
     }
-    if out.len() != 32 + 56 * n + 20 * m {
+    if out.len() != book_format::book_length(version, n, m) {
         return 3;
     }
     let question = fields_number(image, n, m);

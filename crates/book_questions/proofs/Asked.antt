@@ -3,21 +3,22 @@ use mathlib.Core.Bool.{Bool, false, true, cond, _&&_}
 use mathlib.Core.Option.{none, some}
 use mathlib.Core.List.{List}
 use mathlib.Core.Path.{_≡_, refl, sym, ap, subst, _∙_}
-use Prim.Native.Nat.{ℕ, _*_, _+_}
+use Prim.Native.Nat.{ℕ, _*_, _+_, _-_, _≤_}
 use native.Mathlib.Omega.{arith}
 use lib.Dec.{T}
-use lib.ListN.{drop, take}
+use lib.ListN.{drop, length, length-drop, take}
+use lib.Seq.{drop-drop, take-all}
 use Rattle.rules.specs.Areas.{Prices}
 use Rattle.rules.specs.Book.{User, Trade}
-use Rattle.rules.specs.Calendar.{realDay}
 use Rattle.base.specs.Lists.{all}
-use Rattle.rules.specs.Questions.{headerValid, numberOf, positionsValid, pricesValid, refusal, tradeValid}
+use Rattle.rules.specs.Questions.{headerValid, numberOf, positionsValid, refusal, tradeValid}
 use Rattle.base.proofs.Tests.{and-r}
 use Rattle.fields.specs.Field.{field}
-use Rattle.book_records.specs.Trade.{tradeZeros}
-use Rattle.book_records.specs.User.{userZeros}
+use Rattle.fields.specs.Layout.{recordsOf}
+use Rattle.book_records.specs.Trade.{tradeOf, tradeZeros}
+use Rattle.book_records.specs.User.{userOf, userZeros}
 use Rattle.book_format.proofs.Offsets.{trades-there, users-end, users-there}
-use Rattle.book_format.specs.Book.{bookOf, headerSize, pricesAt, tradeCount, tradesAt, tradesOf, userCount, userSize, usersOf, versionOf}
+use Rattle.book_format.specs.Book.{bookOf, headerSize, pricesOf, tradeCount, tradesAt, tradesOf, userCount, userSize, usersOf, versionOf}
 use Rattle.book_format.specs.Questions.{Formed, aboutFields, aboutForm, formNumber, marked, sized, tradeZerosValid, userZerosValid, versioned}
 use Rattle.book_parties.specs.Ids.{usersFrom, tradesFrom, idsOf}
 use Rattle.book_form.specs.Zeros.{zerosIn}
@@ -104,6 +105,44 @@ module _ {us : List User} {ts : List Trade} {n : ℕ} {valid : Bool} {ids seller
               placed = λ f. trades .placed (second-yes tradeZeros allowed t) us (sym (users .listed (second-yes userZeros valid u)));
             }
 
+-- ---- the bytes from the users on
+
+module _ (s : List ℕ) (at : ℕ) where
+  -- a part up to the end is what is left
+  part-all : take (length s - at) (drop at s) ≡ drop at s
+  part-all = take-all (length s - at) (drop at s) (rw length-drop (omega arith))
+
+  -- the users that it begins with
+  same-users : (n : ℕ) → usersFrom 0 n (take (length s - at) (drop at s)) ≡ usersFrom at n s
+  same-users n = ap (recordsOf 56 userOf n) part-all
+
+  module _ (to : ℕ) (behind : at ≤ to) where
+    -- and the trades in it
+    same-trades : (m : ℕ) → tradesFrom (to - at) m (take (length s - at) (drop at s)) ≡ tradesFrom to m s
+    same-trades m =
+        let k : at + (to - at) ≡ to = omega arith in
+        ap (recordsOf 20 tradeOf m) (ap (drop (to - at)) part-all ∙ drop-drop (to - at) at s ∙ ap (λ (i : ℕ). drop i s) k)
+
+    pub records-within : {n m : ℕ} → RecordsIn at n to m s → RecordsIn 0 n (to - at) m (take (length s - at) (drop at s))
+    records-within r =
+        record {
+          few = r .few;
+          many = r .many;
+          users = rw (part-all, length-drop) (omega (arith, r .users));
+          trades = rw (part-all, length-drop) (omega (arith, r .trades));
+        }
+
+    -- so what is asked of it is asked of them
+    pub records-from : (n m : ℕ) {u t : Bool} {r : ℕ} {sellers buyers : List ℕ}
+        → RecordsAsked u t (usersFrom 0 n (take (length s - at) (drop at s))) (tradesFrom (to - at) m (take (length s - at) (drop at s))) r sellers buyers
+        → RecordsAsked u t (usersFrom at n s) (tradesFrom to m s) r sellers buyers
+    records-from n m h = rw (← same-users n, ← same-trades m) h
+
+    pub summed-from : (n m : ℕ) {r read : ℕ} {sums : List ℕ}
+        → Summed (usersFrom 0 n (take (length s - at) (drop at s))) (tradesFrom (to - at) m (take (length s - at) (drop at s))) m r read sums
+        → Summed (usersFrom at n s) (tradesFrom to m s) m r read sums
+    summed-from n m h = rw (← same-users n, ← same-trades m) h
+
 -- ---- 4 to 7 of bytes
 
 -- users and trades of bytes of the right form stand in them
@@ -116,11 +155,11 @@ formed-bytes {s} form e f begin behind =
       trades = omega (arith, form .whole, behind);
     }
 
-module _ (s : List ℕ) {date : ℕ} {prices : Prices} {valid : Bool} (d : date ≡ field 4 8 s) (p : prices ≡ pricesAt 12 s) (e : valid ≡ (realDay date && pricesValid prices)) where
+module _ (s : List ℕ) {version date : ℕ} {prices : Prices} {valid : Bool} (v : version ≡ versionOf s) (d : date ≡ field 4 8 s) (p : prices ≡ pricesOf s) (e : valid ≡ headerValid (record { version = version; date = date; prices = prices })) where
   -- the answer to question 4
   header-answer : valid ≡ headerValid (bookOf s .header)
-  unfolding headerValid bookOf
-  header-answer = rw (← d, ← p) e
+  unfolding bookOf
+  header-answer = rw (← v, ← d, ← p) e
 
   -- it is no
   pub fields-4 : {sellers buyers : List ℕ} → valid ≡ false → FieldsPlaced s 4 sellers buyers

@@ -82,11 +82,11 @@ fn valid_trades(
 
 // ---- 5 to 7
 
-// Asks the questions 5 to 7 of the n users and the m trades from these offsets, given whether their zero bytes are 0. The places of the
-// trades' parties are listed where they fail none, and the sums of the users told where they fail none before 7.
-pub fn ask_records(
+// Asks the questions 5 to 7 of the n users that bytes begin with and of the m trades from an offset, given whether their zero bytes are 0.
+// The places of the trades' parties are listed where they fail none, and the sums of the users told where they fail none before 7. The
+// bytes begin with the users, whatever stands before them in a book: so the walks have one offset less to keep.
+fn ask_records(
     s: &[u8],
-    users_at: usize,
     n: usize,
     trades_at: usize,
     m: usize,
@@ -96,13 +96,13 @@ pub fn ask_records(
     buyers: &mut [u8],
     sums: &mut [u32; 768],
 ) -> Answer
-    requires { ⌜ RecordsIn «users_at» n «trades_at» m (now s) ⌝ }
+    requires { ⌜ RecordsIn 0 n «trades_at» m (now s) ⌝ }
     requires { ⌜ (length (now sellers) ≡ 256) × (length (now buyers) ≡ 256) × (now sums ≡ replicate 768 0) ⌝ }
-    ensures { λ r. ⌜ RecordsAsked «user_zeros» «trade_zeros» (usersFrom «users_at» n (now (s .entry))) (tradesFrom «trades_at» m (now (s .entry))) (r .number) (now (sellers .exit)) (now (buyers .exit)) ⌝ }
-    ensures { λ r. ⌜ Summed (usersFrom «users_at» n (now (s .entry))) (tradesFrom «trades_at» m (now (s .entry))) m (r .number) (r .read) (now (sums .exit)) ⌝ }
+    ensures { λ r. ⌜ RecordsAsked «user_zeros» «trade_zeros» (usersFrom 0 n (now (s .entry))) (tradesFrom «trades_at» m (now (s .entry))) (r .number) (now (sellers .exit)) (now (buyers .exit)) ⌝ }
+    ensures { λ r. ⌜ Summed (usersFrom 0 n (now (s .entry))) (tradesFrom «trades_at» m (now (s .entry))) m (r .number) (r .read) (now (sums .exit)) ⌝ }
 {
     let mut ids = [0xffff_ffffu32; 64];
-    if !(user_zeros & users_valid(s, users_at, n, &mut ids)) {
+    if !(user_zeros & users_valid(s, 0, n, &mut ids)) {
         return Answer { number: 5, read: 0 };
     }
     let mut guesses = [0u8; 1024];
@@ -114,7 +114,7 @@ pub fn ask_records(
             read: read,
         };
     }
-    if !book_sums::positions_valid(s, users_at, n, sums) {
+    if !book_sums::positions_valid(s, 0, n, sums) {
         return Answer {
             number: 7,
             read: read,
@@ -137,7 +137,7 @@ pub fn ask_fields(s: &[u8], sellers: &mut [u8], buyers: &mut [u8], sums: &mut [u
     let n = book_format::user_count(s) as usize;
     let m = book_format::trade_count(s) as usize;
     let prices = book_form::read_prices(s);
-    if !book_form::header_valid(fields::get_u32(s, 8), prices) {
+    if !book_form::header_valid(book_format::version(s), fields::get_u32(s, 8), prices) {
         return Answer { number: 4, read: 0 };
     }
     let users_at = book_format::users_offset(s);
@@ -145,10 +145,9 @@ pub fn ask_fields(s: &[u8], sellers: &mut [u8], buyers: &mut [u8], sums: &mut [u
     let user_zeros = book_form::user_zeros_valid(s, users_at, n);
     let trade_zeros = book_form::trade_zeros_valid(s, trades_at, m);
     ask_records(
-        s,
-        users_at,
+        &s[users_at..],
         n,
-        trades_at,
+        trades_at - users_at,
         m,
         user_zeros,
         trade_zeros,
@@ -187,16 +186,15 @@ pub fn records_number(
     sellers: &mut [u8],
     buyers: &mut [u8],
 ) -> u32
-    requires { ⌜ RecordsIn «users_at» n «trades_at» m (now s) ⌝ }
+    requires { ⌜ RecordsIn «users_at» n «trades_at» m (now s) × («users_at» ≤ «trades_at») ⌝ }
     requires { ⌜ (length (now sellers) ≡ 256) × (length (now buyers) ≡ 256) ⌝ }
     ensures { λ r. ⌜ RecordsAsked «user_zeros» «trade_zeros» (usersFrom «users_at» n (now (s .entry))) (tradesFrom «trades_at» m (now (s .entry))) r (now (sellers .exit)) (now (buyers .exit)) ⌝ }
 {
     let mut sums = [0u32; 768];
     let answer = ask_records(
-        s,
-        users_at,
+        &s[users_at..],
         n,
-        trades_at,
+        trades_at - users_at,
         m,
         user_zeros,
         trade_zeros,

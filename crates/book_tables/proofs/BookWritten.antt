@@ -1,26 +1,48 @@
 -- Laws of a book whose parts are written one after the other. Assumes nothing.
 use Prim.Native.Nat.{ℕ, _+_, _*_, _≤_}
-use mathlib.Core.Path.{_≡_, refl, ap}
+use mathlib.Core.Path.{_≡_, refl, sym, ap, _∙_}
 use mathlib.Core.List.{List, [], _∷_, _++_, map}
 use native.Mathlib.Omega.{arith}
 use lib.ListN.{length, take}
 use lib.Seq.{sets}
 use Rattle.base.proofs.Fronts.{front-length}
-use Rattle.fields.specs.Layout.{setFields, bytesOfRecords}
+use mathlib.Core.Bool.{true}
+use Rattle.fields.specs.Layout.{setFields, bytesOfRecords, pack}
 use Rattle.book_records.specs.declared.User.{User}
 use Rattle.book_records.specs.declared.Trade.{Trade}
 use Rattle.book_records.specs.User.{userBytes, asUser}
 use Rattle.book_records.specs.Trade.{tradeBytes, asTrade}
-use Rattle.book_format.specs.Book.{mark, bytesOf}
+use Rattle.base.proofs.Tests.{by-case}
+use Rattle.rules.specs.Areas.{Prices, sellingIn}
+use Rattle.units.specs.Prices.{asPrices}
+use Rattle.book_format.specs.Book.{mark, bytesOf, headerSize, lengthBy, pricesOf, sellingAt, sellingBytes, sellingWidths, versionOf}
+use Rattle.book_format.proofs.Offsets.{selling-none, selling-some}
 use Rattle.book_format.proofs.Written.{header-written, parts-written}
 use Rattle.book_tables.specs.declared.Book.{Book}
-use Rattle.book_tables.specs.Book.{asBook}
+use Rattle.book_tables.specs.Book.{asBook, keptPrices}
 
 -- the bytes of structs are those of what they are in the rules
 bytesOfRecords-map : {R M : Type 0} (face : R → M) (bytes : M → List ℕ) (rs : List R) → bytesOfRecords (λ r. bytes (face r)) rs ≡ bytesOfRecords bytes (map face rs)
 unfolding bytesOfRecords
 bytesOfRecords-map face bytes [] = refl
 bytesOfRecords-map face bytes (r ∷ rs) = ap (λ (l : List ℕ). bytes (face r) ++ l) (bytesOfRecords-map face bytes rs)
+
+-- a version with selling tariffs keeps both
+kept-some : (version : ℕ) (f : Prices) → sellingIn version ≡ true → pack sellingWidths (keptPrices version f .s ∷ keptPrices version f .u ∷ []) ≡ pack sellingWidths (f .s ∷ f .u ∷ [])
+unfolding keptPrices
+kept-some version f e = rw e
+
+-- the prices that a version keeps have the bytes of all
+kept-selling : (version : ℕ) (f : Prices) → sellingBytes version (keptPrices version f) ≡ sellingBytes version f
+kept-selling version f =
+    by-case (sellingIn version)
+    (λ e. selling-some version (keptPrices version f) e ∙ kept-some version f e ∙ sym (selling-some version f e))
+    (λ e. selling-none version (keptPrices version f) e ∙ sym (selling-none version f e))
+
+-- of a version's own prices it keeps all
+pub kept-read : (s : List ℕ) → keptPrices (versionOf s) (pricesOf s) ≡ pricesOf s
+unfolding keptPrices pricesOf sellingAt
+kept-read s = by-case (sellingIn (versionOf s)) (λ e. rw e) (λ e. rw e)
 
 module _ (b : Book) where
   -- the bytes of the users and of the trades
@@ -30,20 +52,20 @@ module _ (b : Book) where
   abbrev pub tradePart : List ℕ
   tradePart = bytesOfRecords (λ (t : Trade). tradeBytes (asTrade t)) (take (b .«trade_count») (b .trades))
 
-  -- the fields of the header, up to the date and from the prices on
+  -- the fields of the header, up to the date, from the prices on, and the selling tariffs
   abbrev pub header : List ℕ → List ℕ
   header out =
-      setFields (4 ∷ 4 ∷ 4 ∷ 4 ∷ 4 ∷ []) 12 (b .prices .p ∷ b .prices .q ∷ b .prices .l ∷ b .prices .x ∷ b .prices .i ∷ []) (setFields (3 ∷ 2 ∷ 1 ∷ 2 ∷ 4 ∷ []) 0 (mark ∷ b .version ∷ b .«user_count» ∷ b .«trade_count» ∷ b .date ∷ []) out)
+      sets (setFields (4 ∷ 4 ∷ 4 ∷ 4 ∷ 4 ∷ []) 12 (b .prices .p ∷ b .prices .q ∷ b .prices .l ∷ b .prices .x ∷ b .prices .i ∷ []) (setFields (3 ∷ 2 ∷ 1 ∷ 2 ∷ 4 ∷ []) 0 (mark ∷ b .version ∷ b .«user_count» ∷ b .«trade_count» ∷ b .date ∷ []) out)) 32 (sellingBytes (b .version) (asPrices (b .prices)))
 
   -- header, users and trades, over bytes of the book's length
-  pub book-written : b .«user_count» ≤ length (b .users) → b .«trade_count» ≤ length (b .trades) → (out : List ℕ)
-      → length out ≡ 32 + 56 * b .«user_count» + 20 * b .«trade_count»
-      → sets (sets (header out) 32 userPart) (32 + 56 * b .«user_count») tradePart ≡ bytesOf (asBook b)
-  unfolding asBook
-  book-written users trades out h =
+  pub book-written : b .«user_count» ≤ length (b .users) → b .«trade_count» ≤ length (b .trades) → (out : List ℕ) {at : ℕ} → at ≡ headerSize (b .version)
+      → length out ≡ lengthBy (b .version) (b .«user_count») (b .«trade_count»)
+      → sets (sets (header out) at userPart) (at + 56 * b .«user_count») tradePart ≡ bytesOf (asBook b)
+  unfolding asBook keptPrices
+  book-written users trades out {at} e h =
       let us = take (b .«user_count») (b .users) in
       let ts = take (b .«trade_count») (b .trades) in
       let n = front-length asUser (b .«user_count») (b .users) users in
       let m = front-length asTrade (b .«trade_count») (b .trades) trades in
-      rw (bytesOfRecords-map asUser userBytes us, bytesOfRecords-map asTrade tradeBytes ts)
-      (rw (n, m) at (rw (← header-written (asBook b) out) at (parts-written (asBook b) out (omega arith))))
+      rw (bytesOfRecords-map asUser userBytes us, bytesOfRecords-map asTrade tradeBytes ts, ← kept-selling (b .version) (asPrices (b .prices)))
+      (rw (n, m) at (rw (← header-written (asBook b) out) at (parts-written (asBook b) out e (rw (n, m) h))))

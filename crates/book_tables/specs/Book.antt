@@ -1,20 +1,35 @@
 -- The book of the rules that a struct is, and what a struct holds into which bytes were read. Assumes nothing.
+use mathlib.Core.Bool.{cond}
 use mathlib.Core.Path.{_≡_}
 use mathlib.Core.List.{List, map}
 use Prim.Native.Nat.{ℕ, _-_}
 use lib.ListN.{length, take, drop, replicate}
+use Rattle.rules.specs.Areas.{Prices, sellingIn}
 use Rattle.rules.specs.Book as model
 use Rattle.units.specs.Prices.{asPrices}
 use Rattle.book_records.specs.User.{asUser, blankUser}
 use Rattle.book_records.specs.Trade.{asTrade, blankTrade}
-use Rattle.book_format.specs.Book.{bookOf, bytesOf, userCount, tradeCount}
+use Rattle.book_format.specs.Book.{bookOf, bytesOf, pricesOf, userCount, tradeCount}
 use Rattle.book_tables.specs.declared.Book.{Book}
 
--- a struct's header, and its records up to the counts
+-- the prices that a version has bytes for, the others 0
+unfoldable pub keptPrices : ℕ → Prices → Prices
+keptPrices version f =
+    record {
+      p = f .p;
+      q = f .q;
+      l = f .l;
+      x = f .x;
+      i = f .i;
+      s = cond (sellingIn version) (f .s) 0;
+      u = cond (sellingIn version) (f .u) 0;
+    }
+
+-- a struct's header, and its records up to the counts; of its prices those that its version has bytes for
 unfoldable pub asBook : Book → model.Book
 asBook b =
     record {
-      header = record { version = b .version; date = b .date; prices = asPrices (b .prices) };
+      header = record { version = b .version; date = b .date; prices = keptPrices (b .version) (asPrices (b .prices)) };
       users = map asUser (take (b .«user_count») (b .users));
       trades = map asTrade (take (b .«trade_count») (b .trades));
     }
@@ -27,14 +42,15 @@ blankBook =
       «user_count» = 0;
       «trade_count» = 0;
       date = 0;
-      prices = record { p = 0; q = 0; l = 0; x = 0; i = 0 };
+      prices = record { p = 0; q = 0; l = 0; x = 0; i = 0; s = 0; u = 0 };
       users = replicate 64 blankUser;
       trades = replicate 256 blankTrade;
     }
 
--- a struct into which a book was read: the book that the bytes hold, their counts, and blank records past these
+-- a struct into which a book was read: the book that the bytes hold, its prices with 0 for those that the version lacks, their counts, and blank records past these
 pub record BookRead (s : List ℕ) (b : Book) : Type 0 where
   pub book : asBook b ≡ bookOf s
+  pub prices : asPrices (b .prices) ≡ pricesOf s
   pub users : b .«user_count» ≡ userCount s
   pub trades : b .«trade_count» ≡ tradeCount s
   pub user-room : length (b .users) ≡ 64

@@ -8,6 +8,7 @@ ghost use Rattle.fields.specs.Layout.{bytesOfRecords};
 ghost use Rattle.book_records.specs.User.{userOf, userBytes, asUser, blankUser};
 ghost use Rattle.book_records.specs.Trade.{tradeOf, tradeBytes, asTrade, blankTrade};
 ghost use Rattle.book_tables.specs.Filled.{Filled};
+ghost use Rattle.book_format.specs.Book.{lengthBy};
 ghost use Rattle.book_format.specs.Questions.{Formed};
 ghost use Rattle.book_tables.specs.Book.{BookRead, BookWritten, blankBook};
 use book_records::Trade;
@@ -106,7 +107,7 @@ pub fn read_book(s: &[u8]) -> Book
     let users = read_users(s, book_format::users_offset(s), n);
     let trades = read_trades(s, book_format::trades_offset(s, n), trade_count as usize);
     Book {
-        version: fields::get_u16(s, 3),
+        version: book_format::version(s),
         user_count: user_count,
         trade_count: trade_count,
         date: fields::get_u32(s, 8),
@@ -128,6 +129,8 @@ pub fn no_book() -> Book
         l: 0,
         x: 0,
         i: 0,
+        s: 0,
+        u: 0,
     };
     let users = [user; 64];
     let trades = [trade; 256];
@@ -144,7 +147,7 @@ pub fn no_book() -> Book
 
 // Writes a book over bytes of its length.
 pub fn write_book(out: &mut [u8], b: Book)
-    requires { ⌜ (b .«user_count» ≤ 64) × (b .«trade_count» ≤ 256) × (length (now out) ≡ 32 + 56 * b .«user_count» + 20 * b .«trade_count») ⌝ }
+    requires { ⌜ (b .«user_count» ≤ 64) × (b .«trade_count» ≤ 256) × (length (now out) ≡ lengthBy (b .version) (b .«user_count») (b .«trade_count»)) ⌝ }
     ensures { λ _. ⌜ BookWritten b (now (out .exit)) ⌝ }
 {
     let n = b.user_count as usize;
@@ -152,8 +155,10 @@ pub fn write_book(out: &mut [u8], b: Book)
     let prices = b.prices;
     let users = b.users;
     let trades = b.trades;
+    let at = book_format::header_size(b.version);
     book_form::write_start(out, b.version, b.user_count, b.trade_count, b.date);
     book_form::write_prices(out, prices);
-    write_users(out, 32, users, n);
-    write_trades(out, 32 + 56 * n, trades, m);
+    book_form::write_selling(out, b.version, prices);
+    write_users(out, at, users, n);
+    write_trades(out, at + 56 * n, trades, m);
 }

@@ -3,12 +3,12 @@
 use mathlib.Core.Path.{_≡_}
 use mathlib.Core.Bool.{Bool, _&&_}
 use mathlib.Core.List.{List, _∷_}
-use Prim.Native.Nat.{ℕ, _+_, _*_, _≤_}
-use lib.Dec.{leb, eqb}
+use Prim.Native.Nat.{ℕ, _≤_}
+use lib.Dec.{T, leb, eqb}
 use lib.ListN.{length}
 use Rattle.rules.specs.Book as model
-use Rattle.rules.specs.Questions.{Question, refusal, numberOf, decided}
-use Rattle.book_format.specs.Book.{bytesOf}
+use Rattle.rules.specs.Questions.{Question, refusal, numberOf, decided, versionKnown}
+use Rattle.book_format.specs.Book.{bytesOf, lengthBy}
 use Rattle.book_format.specs.Questions.{aboutFields}
 use Rattle.book_tables.specs.declared.Book.{Book}
 use Rattle.book_tables.specs.Book.{asBook}
@@ -21,8 +21,8 @@ countsInRange users trades = (leb 1 users && leb users 64) && leb trades 256
 -- bytes written.
 unfoldable pub aboutWriting : ℕ → ℕ → model.Book → ℕ → List Question
 aboutWriting users trades b n =
-    record { number = 2; holds = eqb (b .header .version) 1 }
-    ∷ (record { number = 3; holds = countsInRange users trades && eqb n (32 + 56 * users + 20 * trades) }
+    record { number = 2; holds = versionKnown (b .header .version) }
+    ∷ (record { number = 3; holds = countsInRange users trades && eqb n (lengthBy (b .header .version) users trades) }
     ∷ aboutFields (bytesOf b))
 
 -- the number, and the whole of the part afterwards
@@ -34,9 +34,9 @@ pub record WrittenAs (users trades : ℕ) (b : model.Book) (s : List ℕ) (numbe
 abbrev pub Written : Book → List ℕ → ℕ → List ℕ → Type 0
 Written b s number t = WrittenAs (b .«user_count») (b .«trade_count») (asBook b) s number t
 
--- a struct of version 1 whose counts are in range
+-- a struct of a known version whose counts are in range
 pub record InCounts (b : Book) : Type 0 where
-  pub version : b .version ≡ 1
+  pub version : T (versionKnown (b .version))
   pub some : 1 ≤ b .«user_count»
   pub users : b .«user_count» ≤ 64
   pub trades : b .«trade_count» ≤ 256

@@ -6,7 +6,7 @@ ghost use lib.ListN.{length};
 ghost use Rattle.book_format.specs.Questions.{Formed};
 ghost use Rattle.book_tables.specs.Book.{asBook};
 ghost use Rattle.book_value.specs.Opened.{FieldsAsked, Opened};
-ghost use Rattle.book_format.specs.Book.{bytesOf};
+ghost use Rattle.book_format.specs.Book.{bytesOf, lengthBy};
 ghost use Rattle.book_questions.specs.Asked.{fieldsNumber};
 ghost use Rattle.book_value.specs.Written.{InCounts, Written};
 use book_tables::Book;
@@ -58,7 +58,7 @@ pub fn open(s: &[u8]) -> Opening
 // The number of the first of the questions 4 to 7 that the bytes of a book fail, 0 where they fail none; they are written to a part lent
 // for it.
 fn ask_in(scratch: &mut [u8], b: Book, len: usize) -> u32
-    requires { ⌜ InCounts b × (len ≡ 32 + 56 * b .«user_count» + 20 * b .«trade_count») × (len ≤ length (now scratch)) ⌝ }
+    requires { ⌜ InCounts b × (len ≡ lengthBy (b .version) (b .«user_count») (b .«trade_count»)) × (len ≤ length (now scratch)) ⌝ }
     ensures { λ r. ⌜ r ≡ fieldsNumber (bytesOf (asBook b)) ⌝ }
 {
     book_tables::write_book(&mut scratch[..len], b);
@@ -69,10 +69,10 @@ fn ask_in(scratch: &mut [u8], b: Book, len: usize) -> u32
 
 // The same, with a place of its own to write to.
 fn ask_written(b: Book, len: usize) -> u32
-    requires { ⌜ InCounts b × (len ≡ 32 + 56 * b .«user_count» + 20 * b .«trade_count») ⌝ }
+    requires { ⌜ InCounts b × (len ≡ lengthBy (b .version) (b .«user_count») (b .«trade_count»)) ⌝ }
     ensures { λ r. ⌜ r ≡ fieldsNumber (bytesOf (asBook b)) ⌝ }
 {
-    let mut scratch = [0u8; 8736];
+    let mut scratch = [0u8; 8744];
     ask_in(&mut scratch, b, len)
 }
 
@@ -83,14 +83,14 @@ pub fn write(b: Book, out: &mut [u8]) -> u32
 {
     let n = b.user_count as usize;
     let m = b.trade_count as usize;
-    if b.version != 1 {
+    if !book_format::is_known(b.version) {
         return 2;
     }
     let counted = ((1 <= n) & (n <= 64)) & (m <= 256);
     if !counted {
         return 3;
     }
-    let len = 32 + 56 * n + 20 * m;
+    let len = book_format::book_length(b.version, n, m);
     if out.len() != len {
         return 3;
     }

@@ -16,7 +16,7 @@ use Rattle.book_parties.specs.Ids.{idsOf}
 use Rattle.book_questions.proofs.Loops.{Listed, listed-end, listed-start, listed-turn, rest-set}
 use Rattle.book_records.specs.User.{userOf}
 use Rattle.requests.proofs.Lines.{Onward}
-use Rattle.rules.specs.Book.{Party, User, nobody}
+use Rattle.rules.specs.Book.{Header, Party, User, nobody}
 use Rattle.call_list.specs.Lines.{Known}
 
 -- ---- filled in
@@ -47,14 +47,15 @@ module _ {s : List ℕ} {n : ℕ} where
         rest = rest-set 64 i 4294967295 x known (before .rest);
       }
 
-  pub filling-end : {known : List ℕ} {i a : ℕ} → Filling s n known i a → n ≤ i → n ≡ userCount s → bookNumber s ≡ 0 → Known known n s
+  pub filling-end : {known : List ℕ} {i a at : ℕ} → Filling s n known i a → n ≤ i → n ≡ userCount s → at ≡ headerSize (versionOf s) → bookNumber s ≡ 0 → Known known n at s
   unfolding idsOf bookOf
-  filling-end {known} {i} before h count e =
+  filling-end {known} {i} before h count begin e =
       let over : i ≡ n = omega (arith, before .within) in
       let p = passed s e in
       let ids : take n known ≡ idsOf (usersOf s) = rw over at (listed-end (before .listed) (omega (arith, length-usersOf s))) in
       record {
         passes = e;
+        begin = begin;
         count = count;
         listed = ids;
         padded = record {
@@ -77,11 +78,12 @@ count-parties : (us : List User) → length us ≡ length (map (λ u. u .party) 
 count-parties [] = refl
 count-parties (u ∷ us) = ap suc (count-parties us)
 
-pub known-onward : {known : List ℕ} {n : ℕ} {s t : List ℕ} → Onward s t → Known known n s → Known known n t
+pub known-onward : {known : List ℕ} {n at : ℕ} {s t : List ℕ} → Onward s t → Known known n at s → Known known n at t
 unfolding bookOf
 known-onward {s = s} {t = t} w k =
     record {
       passes = w .number;
+      begin = k .begin ∙ ap (λ (h : Header). headerSize (h .version)) (sym (w .header));
       count =
           k .count
           ∙ sym (length-usersOf s)

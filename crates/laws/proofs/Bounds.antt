@@ -15,11 +15,11 @@ use Rattle.base.specs.Sums.{sum}
 use Rattle.laws.proofs.Positions.{parts-defined, position-is}
 use Rattle.laws.specs.Sound.{Sound}
 use Rattle.base.proofs.Tests.{and-l, and-r, by-test}
-use Rattle.rules.specs.Areas.{referencePrice, areas}
+use Rattle.rules.specs.Areas.{referencePrice, areas, sellingIn}
 use Rattle.rules.specs.Book.{Book, Trade, User, Terms, dealt, at, bought, definedPosition, sold}
-use Rattle.rules.specs.Levels.{afternoonNeed, exposure, holding, stock, Limits, afternoonLevel, afternoonSum, floored, morningLevel, morningNeed, morningSum}
+use Rattle.rules.specs.Levels.{afternoonNeed, credit, exposure, holding, stock, Limits, afternoonLevel, afternoonSum, floored, morningLevel, morningNeed, morningSum}
 use Rattle.base.specs.Lists.{all}
-use Rattle.rules.specs.Questions.{amountsValid, countsValid, guaranteesValid, tradeValid, entriesValid, userValid, headerValid, positionsValid, pricesValid, tariffValid, tollValid}
+use Rattle.rules.specs.Questions.{amountsValid, countsValid, guaranteesValid, tradeValid, entriesValid, userValid, headerValid, positionsValid, pricesValid, sellingMost, sellingValid, tariffValid, tollValid}
 use Rattle.rules.specs.Signed.{within}
 
 -- ---- trades: at most 256 of at most 100,000 MWh
@@ -139,6 +139,22 @@ prices-le b s =
       leb→le (f .i) 100000 (search (and-l, and-r)),
     )
 
+-- selling tariffs, and that a version without them has none
+pub selling-le : (b : Book) → Sound b → (b .header .prices .s ≤ sellingMost (b .header .version)) × (b .header .prices .u ≤ sellingMost (b .header .version))
+unfolding headerValid sellingValid
+selling-le b s =
+    let h = s .header in
+    let most = sellingMost (b .header .version) in
+    (leb→le (b .header .prices .s) most (search (and-l, and-r)), leb→le (b .header .prices .u) most (search (and-l, and-r)))
+
+pub selling-most : (version : ℕ) → sellingMost version ≤ 100000
+unfolding sellingMost
+selling-most version = go (sellingIn version)
+  where
+    go : (c : Bool) → cond c 100000 0 ≤ 100000
+    go true = omega arith
+    go false = omega arith
+
 pub tariffs-pos : (b : Book) → Sound b → (0 < b .header .prices .p) × (0 < b .header .prices .q)
 unfolding headerValid pricesValid tariffValid
 tariffs-pos b s =
@@ -249,14 +265,26 @@ module _ (b : Book) (s : Sound b) (u : User) (v : T (userValid u)) (p : T (posit
         let ts = b .trades in
         let needs = sum (λ a. posPart (afternoonNeed a (holding b u a)) * referencePrice (b .header .prices) a) areas in
         let short = exposure (b .header .prices) (holding b u) in
+        let long = credit (b .header .prices) (holding b u) in
         let c = u .party .charges in
         omega (
           arith,
           charges-le u v,
           sold-le,
           exposure-le,
-          posPart-of (c +ℤ pos needs +ℤ pos short) (posPart c + needs + short) (negPart c)
-              (omega (arith, parts-add c (pos needs), parts-add (c +ℤ pos needs) (pos short), posPart-pos needs, negPart-pos needs, posPart-pos short, negPart-pos short)),
+          posPart-of (c +ℤ pos needs +ℤ pos short -ℤ pos long) (posPart c + needs + short) (negPart c + long)
+              (omega (
+                arith,
+                parts-add c (pos needs),
+                parts-add (c +ℤ pos needs) (pos short),
+                parts-sub (c +ℤ pos needs +ℤ pos short) (pos long),
+                posPart-pos needs,
+                negPart-pos needs,
+                posPart-pos short,
+                negPart-pos short,
+                posPart-pos long,
+                negPart-pos long,
+              )),
           worth-le 0 (posPart (afternoonNeed 0 (holding b u 0))) (sold ts id 0 1) (afternoon-need 0),
           worth-le 1 (posPart (afternoonNeed 1 (holding b u 1))) (sold ts id 1 1) (afternoon-need 1),
           worth-le 2 (posPart (afternoonNeed 2 (holding b u 2))) (sold ts id 2 1) (afternoon-need 2),

@@ -19,6 +19,8 @@ pub mod Reduction
 pub mod Run
 -- numeric bounds
 pub mod Bounds
+-- a version without selling tariffs
+pub mod Credit
 -- a run whose fuel suffices
 pub mod Fuel
 -- the main laws, as specs/Statements.antt has them

@@ -1,6 +1,6 @@
 -- The main laws, each as its statement in specs/Statements.antt says it. Assumes nothing.
 use mathlib.Core.Option.{Option, none, some}
-use mathlib.Core.Path.{_≡_, refl}
+use mathlib.Core.Path.{_≡_, refl, ap}
 use Prim.Native.Nat.{max, ℕ}
 use native.Mathlib.Omega.{arith}
 use lib.Dec.{leb→le, le→leb, ltb, ltb→lt}
@@ -8,6 +8,7 @@ use lib.IntN.{_+ℤ_, natAbs}
 use Rattle.base.proofs.Linear.{abs-parts, posPart-of}
 use Rattle.base.specs.Parts.{negPart, posPart}
 use Rattle.laws.proofs.Bounds.{afternoon-level-le, morning-level-le, position-bound, tariffs-pos}
+use Rattle.laws.proofs.Credit.{level-uncredited}
 use Rattle.laws.proofs.Cuts.{cuts-bilateral, cuts-pos, cuts-within, tally-mwh, tally-near, tally-reaches}
 use Rattle.laws.proofs.Guarantee.{guarantee-sound}
 use Rattle.laws.proofs.Positions.{positions-sum}
@@ -21,8 +22,9 @@ use Rattle.laws.specs.Sound.{Sound}
 use Rattle.base.proofs.Tests.{and-l, and-r}
 use Rattle.laws.proofs.Trades.{framed, lowered-refl}
 use Rattle.laws.proofs.Users.{all-find}
-use Rattle.laws.specs.Statements.{Conserved, StaysAccepted, CutsEligible, SomethingCut, TargetMet, SettledAnew, AllCovered, RunEnds, RunCounts, Bounded}
+use Rattle.laws.specs.Statements.{Conserved, StaysAccepted, CutsEligible, SomethingCut, TargetMet, SettledAnew, AllCovered, RunEnds, RunCounts, Bounded, KeepsReading}
 use Rattle.laws.specs.Trades.{Lowered, Pairwise}
+use Rattle.rules.specs.Areas.{sellingIn}
 use Rattle.rules.specs.Book.{Book, at, find}
 use Rattle.rules.specs.Calls.{
   posting,
@@ -183,3 +185,9 @@ module _ (limits : Limits) where
             let u = find (b .users) id in
             omega (arith, afternoon-level-le b s u (all-find userValid (b .users) id (s .users) k) (all-find (positionsValid (b .trades)) (b .users) id (s .positions) k) limits l);
       }
+
+  -- ---- versions
+
+  pub keeps-reading : KeepsReading limits
+  unfolding sellingIn
+  keeps-reading = record { level = λ b u t e. level-uncredited limits b u (sound b t) (ap sellingIn e) }

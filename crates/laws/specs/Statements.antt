@@ -2,14 +2,17 @@
 use mathlib.Core.Bool.{not}
 use mathlib.Core.List.{List·Memᴰ}
 use mathlib.Core.Path.{_≡_}
-use Prim.Native.Nat.{_+_, _<_, _^_, _≤_, max, min, ℕ}
+use Prim.Native.Nat.{_*_, _+_, _<_, _^_, _≤_, max, min, ℕ}
 use lib.Dec.{T}
-use Rattle.base.specs.Sums.{sumℤ}
+use lib.IntN.{pos, _+ℤ_}
+use Rattle.base.specs.Parts.{posPart}
+use Rattle.base.specs.Sums.{sum, sumℤ}
 use Rattle.laws.specs.Books.{anew}
 use Rattle.laws.specs.Trades.{cutsWithin, Lowered, Pairwise, eligibleWorth}
+use Rattle.rules.specs.Areas.{areas, referencePrice}
 use Rattle.rules.specs.Book.{Book, User, at, find}
 use Rattle.rules.specs.Calls.{Call, cuttable, effect, reduced, reducedBy, run, runFor, step}
-use Rattle.rules.specs.Levels.{Limits, afternoonLevel, morningLevel, shortOfCover}
+use Rattle.rules.specs.Levels.{Limits, afternoonLevel, afternoonNeed, exposure, floored, holding, morningLevel, shortOfCover}
 use Rattle.rules.specs.Questions.{accepted, known}
 use Rattle.rules.specs.Reduction.{cutAll, cuts, eligible, hasEligible, target}
 use Rattle.rules.specs.Signed.{within}
@@ -65,3 +68,14 @@ pub record Bounded (limits : Limits) : Type 0 where
       → morningLevel limits b (find (b .users) id) < 2 ^ 44
   pub afternoon : (b : Book) (id : ℕ) → T (accepted b) → T (known (b .users) id) → limits .floor ≤ 9580000000000
       → afternoonLevel limits b (find (b .users) id) < 2 ^ 44
+
+-- document 01's afternoon level: "charges + sum of max(0, need) × w + sum of max(0, −position) × w", with its floor
+unfoldable pub uncreditedLevel : Limits → Book → User → ℕ
+uncreditedLevel limits b u =
+    floored limits
+    (u .party .charges +ℤ pos (sum (λ a. posPart (afternoonNeed a (holding b u a)) * referencePrice (b .header .prices) a) areas)
+    +ℤ pos (exposure (b .header .prices) (holding b u)))
+
+-- Document 02's ask 3, "version 1 keeps its reading": no long position takes anything off an afternoon level of version 1.
+pub record KeepsReading (limits : Limits) : Type 0 where
+  pub level : (b : Book) (u : User) → T (accepted b) → b .header .version ≡ 1 → afternoonLevel limits b u ≡ uncreditedLevel limits b u

@@ -5,7 +5,7 @@ use mathlib.Core.Path.{_≡_, refl, sym, ap, ap₂, fun-ext, _∙_}
 use Prim.Native.Nat.{ℕ, _+_, _-_, _*_, _≤_}
 use native.Mathlib.Omega.{arith}
 use lib.Dec.{T, eqb, ltb, leb, leb→le, eqb→eq, ltb→lt}
-use lib.IntN.{ℤ, pos, _+ℤ_}
+use lib.IntN.{ℤ, pos, _+ℤ_, _-ℤ_}
 use lib.ListN.{length}
 use borrow.Author.Tests.{lt-ltb, le-ltb, ltb-true, ltb-false, ne-eqb}
 use Rattle.risk_holdings.specs.Parties.{isCut, cutBefore}
@@ -14,9 +14,9 @@ use Rattle.base.specs.Sums.{sum}
 use Rattle.laws.proofs.Shares.{eachWithin}
 use Rattle.base.proofs.Tests.{and-l, and-r, or-l, all-by, sum-by, by-case, fails}
 use Rattle.laws.specs.Trades.{Framed, Pairwise, ended, then}
-use Rattle.rules.specs.Areas.{Prices, areas, referencePrice}
+use Rattle.rules.specs.Areas.{Prices, areas, referencePrice, sellingTariff}
 use Rattle.rules.specs.Book.{Party, Terms, Book, User, Trade, bilateralForDay, dealt, sold, bought}
-use Rattle.rules.specs.Levels.{Limits, Holding, holding, sells, buys, partyTo, floored, stock, afternoonNeed, afternoonSum, exposure, leastReferencePrice, levelFrom, flaggedFrom, afternoonLevel, flagged, calledIn, shortOfCover}
+use Rattle.rules.specs.Levels.{Limits, Holding, holding, sells, buys, partyTo, floored, stock, afternoonNeed, afternoonSum, credit, exposure, leastReferencePrice, levelFrom, flaggedFrom, afternoonLevel, flagged, calledIn, shortOfCover}
 use Rattle.base.specs.Lists.{all, any}
 use Rattle.rules.specs.Questions.{tradeValid, amountsValid}
 use Rattle.rules.specs.Reduction.{hasEligible, target, cutBy, cutAll}
@@ -216,6 +216,10 @@ module _ {g h : ℕ → Holding} (same : AllNext g h) where
   unfolding exposure
   exposure-next f = areas-next (λ area x. negPart (x .position) * referencePrice f area) (λ area s. ap (λ (z : ℤ). negPart z * referencePrice f area) (s .position))
 
+  credit-next : (f : Prices) → credit f g ≡ credit f h
+  unfolding credit
+  credit-next f = areas-next (λ area x. posPart (x .position) * sellingTariff f area) (λ area s. ap (λ (z : ℤ). posPart z * sellingTariff f area) (s .position))
+
   need-next : (area : ℕ) → SameNext (g area) (h area) → afternoonNeed area (g area) ≡ afternoonNeed area (h area)
   unfolding afternoonNeed stock
   need-next area s = rw (s .position, s .sold, s .bought)
@@ -223,9 +227,11 @@ module _ {g h : ℕ → Holding} (same : AllNext g h) where
   pub afternoon-next : (f : Prices) (charges : ℤ) → afternoonSum f g charges ≡ afternoonSum f h charges
   unfolding afternoonSum
   afternoon-next f charges =
-      ap₂ (λ (m n : ℕ). charges +ℤ pos m +ℤ pos n)
+      ap₂ (λ (z : ℤ) (n : ℕ). z -ℤ pos n)
+      (ap₂ (λ (m n : ℕ). charges +ℤ pos m +ℤ pos n)
       (areas-next (λ area x. posPart (afternoonNeed area x) * referencePrice f area) (λ area s. ap (λ (z : ℤ). posPart z * referencePrice f area) (need-next area s)))
-      (exposure-next f)
+      (exposure-next f))
+      (credit-next f)
 
   module _ (limits : Limits) (f : Prices) (u : User) where
     pub level-next : levelFrom limits f u g ≡ levelFrom limits f u h

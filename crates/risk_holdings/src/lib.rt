@@ -1,10 +1,10 @@
-// What a user holds in an area, the need that this leaves, and what the need or a short position is worth. Only a price turns energy into
-// money.
+// What a user holds in an area, the need that this leaves, and what the need, a short or a long position is worth. Only a price turns
+// energy into money.
 ghost use mathlib.Core.List.{[], _∷_};
 ghost use mathlib.Core.Path.{_≡_};
 ghost use Prim.Native.Nat.{_≤_, _*_, _<_, _^_};
 ghost use Rattle.base.specs.Parts.{posPart, negPart};
-ghost use Rattle.rules.specs.Areas.{referencePrice};
+ghost use Rattle.rules.specs.Areas.{referencePrice, sellingTariff};
 ghost use Rattle.rules.specs.Levels.{morningNeed, stock, afternoonNeed};
 ghost use Rattle.units.specs.Amounts.{net};
 ghost use Rattle.units.specs.Prices.{asPrices, InRange};
@@ -99,6 +99,15 @@ pub fn short_worth(prices: Prices, area: u8, position: Net) -> Cents
     ensures { λ r. ⌜ r .0 ≤ 300000 * 2 ^ 42 ⌝ }
 {
     worth_in(prices, area, position.short())
+}
+
+// What a long position in an area is worth, at the selling tariff.
+pub fn long_worth(prices: Prices, area: u8, position: Net) -> Cents
+    requires { ⌜ InRange (asPrices prices) ⌝ }
+    ensures { λ r. ⌜ r .0 ≡ posPart (net position) * sellingTariff (asPrices prices) area ⌝ }
+    ensures { λ r. ⌜ r .0 ≤ 300000 * 2 ^ 31 ⌝ }
+{
+    Area(area).selling_tariff(prices).worth(position.long())
 }
 
 // What a user holds in the three areas.

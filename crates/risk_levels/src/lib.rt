@@ -10,9 +10,9 @@ use units::Prices;
 ghost use mathlib.Core.Bool.{_||_};
 ghost use mathlib.Core.Path.{_≡_};
 ghost use Prim.Native.Nat.{_*_, _≤_, _^_, min};
-ghost use lib.IntN.{pos, _+ℤ_};
+ghost use lib.IntN.{pos, _+ℤ_, _-ℤ_};
 ghost use Rattle.rules.specs.Book.{User};
-ghost use Rattle.rules.specs.Levels.{exposure, morningSum, afternoonSum, leastReferencePrice, floored, flaggedFrom, exceedsMargin};
+ghost use Rattle.rules.specs.Levels.{exposure, credit, morningSum, afternoonSum, leastReferencePrice, floored, flaggedFrom, exceedsMargin};
 ghost use Rattle.units.specs.Amounts.{balance};
 ghost use Rattle.units.specs.Prices.{asPrices, InRange};
 ghost use Rattle.units.specs.Limits.{asLimits, LimitsInRange};
@@ -30,20 +30,33 @@ pub fn exposure(prices: Prices, positions: [Net; 3]) -> Cents
     Cents(pvb.0 + tvb.0 + avb.0)
 }
 
-// Charges and a worth together, and never below the floor.
-pub fn floored(limits: Limits, charges: Balance, worth: Cents) -> Cents
+// The sum over the areas of what long positions are worth at the selling tariffs.
+pub fn credit(prices: Prices, positions: [Net; 3]) -> Cents
+    requires { ⌜ InRange (asPrices prices) ⌝ }
+    ensures { λ r. ⌜ r .0 ≡ credit (asPrices prices) (positioned positions) ⌝ }
+    ensures { λ r. ⌜ r .0 ≤ 900000 * 2 ^ 31 ⌝ }
+{
+    let pvb = risk_holdings::long_worth(prices, Area::PVB, positions[0]);
+    let tvb = risk_holdings::long_worth(prices, Area::TVB, positions[1]);
+    let avb = risk_holdings::long_worth(prices, Area::AVB, positions[2]);
+    Cents(pvb.0 + tvb.0 + avb.0)
+}
+
+// Charges and a worth together, less a credit, and never below the floor.
+pub fn floored(limits: Limits, charges: Balance, worth: Cents, credit: Cents) -> Cents
     requires { ⌜ LimitsInRange (asLimits limits) ⌝ }
-    requires { ⌜ worth .0 ≤ 1800000 * 2 ^ 42 ⌝ }
-    ensures { λ r. ⌜ r .0 ≡ floored (asLimits limits) (balance charges +ℤ pos (worth .0)) ⌝ }
+    requires { ⌜ (worth .0 ≤ 1800000 * 2 ^ 42) × (credit .0 ≤ 900000 * 2 ^ 31) ⌝ }
+    ensures { λ r. ⌜ r .0 ≡ floored (asLimits limits) (balance charges +ℤ pos (worth .0) -ℤ pos (credit .0)) ⌝ }
 {
     let floor = limits.floor;
     let owed = charges.owed();
-    let credit = charges.credit();
+    let paid = charges.credit();
     let due = owed.0 + worth.0;
-    if due < credit.0 + floor.0 {
+    let off = paid.0 + credit.0;
+    if due < off + floor.0 {
         return floor;
     }
-    Cents(due - credit.0)
+    Cents(due - off)
 }
 
 // The morning level of a user with these charges and holdings.
@@ -54,7 +67,7 @@ pub fn morning_level(limits: Limits, prices: Prices, charges: Balance, holdings:
     let pvb = risk_holdings::morning_worth(prices, Area::PVB, holdings.pvb);
     let tvb = risk_holdings::morning_worth(prices, Area::TVB, holdings.tvb);
     let avb = risk_holdings::morning_worth(prices, Area::AVB, holdings.avb);
-    floored(limits, charges, Cents(pvb.0 + tvb.0 + avb.0))
+    floored(limits, charges, Cents(pvb.0 + tvb.0 + avb.0), Cents(0))
 }
 
 // The afternoon level of a user with these charges and holdings.
@@ -70,8 +83,15 @@ pub fn afternoon_level(
     let pvb = risk_holdings::afternoon_worth(prices, Area::PVB, holdings.pvb);
     let tvb = risk_holdings::afternoon_worth(prices, Area::TVB, holdings.tvb);
     let avb = risk_holdings::afternoon_worth(prices, Area::AVB, holdings.avb);
-    let short = exposure(prices, holdings.positions());
-    floored(limits, charges, Cents(pvb.0 + tvb.0 + avb.0 + short.0))
+    let positions = holdings.positions();
+    let short = exposure(prices, positions);
+    let long = credit(prices, positions);
+    floored(
+        limits,
+        charges,
+        Cents(pvb.0 + tvb.0 + avb.0 + short.0),
+        long,
+    )
 }
 
 // The lower of two prices.

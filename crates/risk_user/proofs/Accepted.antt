@@ -2,10 +2,12 @@
 use mathlib.Core.List.{List}
 use mathlib.Core.Path.{_≡_, sym, subst}
 use Prim.Native.Nat.{ℕ, _+_, _*_, _<_, _≤_}
+use native.Mathlib.Omega.{arith}
 use lib.ListN.{drop, getD}
-use Rattle.rules.specs.Book.{User, nobody}
+use Rattle.rules.specs.Book.{Book, User, nobody}
 use Rattle.rules.specs.Questions.{userValid}
-use Rattle.laws.proofs.Bounds.{blocked-le, prices-le, tariffs-pos}
+use Rattle.laws.proofs.Bounds.{blocked-le, prices-le, selling-le, selling-most, tariffs-pos}
+use Rattle.laws.specs.Sound.{Sound}
 use Rattle.units.specs.Prices.{InRange}
 use Rattle.fields.specs.Layout.{recordsOf}
 use Rattle.book_records.specs.Trade.{tradeOf}
@@ -22,12 +24,27 @@ module _ (s : List ℕ) where
   unfolding bookOf tradesOf
   trades-there e k = rw (e, k)
 
+pub prices-in : (b : Book) → Sound b → InRange (b .header .prices)
+prices-in b s =
+    let l = prices-le b s in
+    let g = tariffs-pos b s in
+    let m = selling-le b s in
+    let most = selling-most (b .header .version) in
+    record {
+      p-least = g .0;
+      p-most = l .0;
+      q-least = g .1;
+      q-most = l .1;
+      l-most = l .2;
+      x-most = l .3;
+      i-most = l .4;
+      s-most = omega (arith, m .0, most);
+      u-most = omega (arith, m .1, most);
+    }
+
 module _ (s : List ℕ) (h : bookNumber s ≡ 0) where
   pub prices-within : InRange (bookOf s .header .prices)
-  prices-within =
-      let p = prices-le (bookOf s) (passed s h .sound) in
-      let t = tariffs-pos (bookOf s) (passed s h .sound) in
-      record { p-least = t .0; p-most = p .0; q-least = t .1; q-most = p .1; l-most = p .2; x-most = p .3; i-most = p .4 }
+  prices-within = prices-in (bookOf s) (passed s h .sound)
 
   pub blocked-within : {place : ℕ} → place < userCount s → getD (usersOf s) place nobody .blocked ≤ 1000000000000
   unfolding bookOf

@@ -3,7 +3,7 @@ use mathlib.Core.Bool.{Bool, _&&_, cond, true, false}
 use mathlib.Core.List.{List}
 use mathlib.Core.Option.{Option, none}
 use mathlib.Core.Path.{_≡_, ap, refl, sym, _∙_}
-use Prim.Native.Nat.{ℕ, _*_, _+_}
+use Prim.Native.Nat.{ℕ}
 use native.Mathlib.Omega.{arith}
 use lib.Dec.{eqb, eqb→eq, leb, le→leb}
 use lib.ListN.{length, replicate}
@@ -15,7 +15,7 @@ use Rattle.fields.specs.Field.{AllBytes}
 use Rattle.book_format.proofs.Formed.{book-passed}
 use Rattle.book_format.proofs.Passed.{Passed, passed}
 use Rattle.book_format.proofs.Round.{bytesOf-bookOf}
-use Rattle.book_format.specs.Book.{bookOf, bytesOf, headerSize, tradeCount, tradesAt, userAt, userCount, userSize, versionOf}
+use Rattle.book_format.specs.Book.{bookOf, bytesOf, lengthBy, tradeCount, tradesAt, userAt, userCount, versionOf}
 use Rattle.book_format.specs.Questions.{aboutBytes, aboutFields, aboutForm, bookNumber}
 use Rattle.book_image.proofs.RoundTrip.{image-book, image-length, same-counts}
 use Rattle.book_image.specs.ImageBook.{imageBook}
@@ -24,7 +24,7 @@ use Rattle.laws.proofs.Refusals.{append-yes, yes-first}
 use Rattle.base.proofs.Tests.{and-i, eqb-of}
 use Rattle.book_value.specs.Opened.{Opened}
 use Rattle.rules.specs.Book as model
-use Rattle.rules.specs.Questions.{decided, numberOf, refusal}
+use Rattle.rules.specs.Questions.{decided, numberOf, refusal, versionKnown}
 use Rattle.book_value.specs.Written.{Written, aboutWriting, countsInRange}
 use Rattle.round_trip.specs.RoundTrip.{ImageReadAndWritten, ReadAndWritten}
 
@@ -33,18 +33,19 @@ use Rattle.round_trip.specs.RoundTrip.{ImageReadAndWritten, ReadAndWritt
 module _ (s : List ℕ) (bytes : AllBytes s) (h : bookNumber s ≡ 0) where
   -- the book that the bytes hold passes the questions of writing
   none-refuses : refusal (aboutWriting (userCount s) (tradeCount s) (bookOf s) (length s)) ≡ none
-  unfolding aboutWriting countsInRange bookOf aboutBytes tradesAt userAt headerSize userSize
+  unfolding aboutWriting countsInRange bookOf aboutBytes lengthBy tradesAt userAt
   none-refuses =
       let p = passed s h in
       let f = p .form in
       let n = userCount s in
       let m = tradeCount s in
       let q : refusal (aboutFields s) ≡ none = append-yes (aboutForm s) (aboutFields s) (book-passed s h) .1 in
-      yes-first 2 (eqb (versionOf s) 1) _ (eqb-of (versionOf s) 1 (f .version))
-      ∙ yes-first 3 (((leb 1 n && leb n 64) && leb m 256) && eqb (length s) (32 + 56 * n + 20 * m)) _
-      (and-i ((leb 1 n && leb n 64) && leb m 256) (eqb (length s) (32 + 56 * n + 20 * m))
+      let l = lengthBy (versionOf s) n m in
+      yes-first 2 (versionKnown (versionOf s)) _ (f .version)
+      ∙ yes-first 3 (((leb 1 n && leb n 64) && leb m 256) && eqb (length s) l) _
+      (and-i ((leb 1 n && leb n 64) && leb m 256) (eqb (length s) l)
       (and-i (leb 1 n && leb n 64) (leb m 256) (and-i (leb 1 n) (leb n 64) (le→leb 1 n (f .some)) (le→leb n 64 (f .users))) (le→leb m 256 (f .trades)))
-      (eqb-of (length s) (32 + 56 * n + 20 * m) (f .whole)))
+      (eqb-of (length s) l (f .whole)))
       ∙ ap (λ x. refusal (aboutFields x)) (bytesOf-bookOf s bytes p) ∙ q
 
   -- so what is written of that book, with these counts, are the bytes
@@ -74,9 +75,9 @@ read-and-written =
 -- the number 0 tells that the lent part had the length of an image
 lent-whole : (s lent image : List ℕ) (n : ℕ) → ReadInto s lent n image → n ≡ 0 → (n ≡ bookNumber s) × (image ≡ readImage s)
 unfolding byLength
-lent-whole s lent image n o e = go (eqb (length lent) 8736) refl
+lent-whole s lent image n o e = go (eqb (length lent) 8744) refl
   where
-    go : (t : Bool) → eqb (length lent) 8736 ≡ t → (n ≡ bookNumber s) × (image ≡ readImage s)
+    go : (t : Bool) → eqb (length lent) 8744 ≡ t → (n ≡ bookNumber s) × (image ≡ readImage s)
     go true t = (o .number ∙ ap (λ (x : Bool). cond x (bookNumber s) 255) t, o .part ∙ ap (λ (x : Bool). cond x (readImage s) lent) t)
     go false t = absurd (omega (arith, e, o .number ∙ ap (λ (x : Bool). cond x (bookNumber s) 255) t))
 
@@ -87,8 +88,8 @@ image-read-and-written =
       same = λ s lent image out t n r bytes o e l w.
           let h : bookNumber s ≡ 0 = sym (lent-whole s lent image n o e .0) ∙ e in
           let f = passed s h .form in
-          let i : image ≡ imageOf s = lent-whole s lent image n o e .1 ∙ ap (λ (z : Option ℕ). decided z (λ k. replicate 8736 0) (imageOf s)) (book-passed s h) in
-          let whole : eqb (length image) 8736 ≡ true = ap (λ x. eqb (length x) 8736) i ∙ ap (λ x. eqb x 8736) (image-length s f) in
+          let i : image ≡ imageOf s = lent-whole s lent image n o e .1 ∙ ap (λ (z : Option ℕ). decided z (λ k. replicate 8744 0) (imageOf s)) (book-passed s h) in
+          let whole : eqb (length image) 8744 ≡ true = ap (λ x. eqb (length x) 8744) i ∙ ap (λ x. eqb x 8744) (image-length s f) in
           let q = refusal (aboutWriting (userCount image) (tradeCount image) (imageBook image) (length out)) in
           written-back s bytes h (userCount image) (tradeCount image) (imageBook image) out t r
           (ap userCount i ∙ same-counts s f .0) (ap tradeCount i ∙ same-counts s f .1) (ap imageBook i ∙ image-book s f) l

@@ -16,7 +16,7 @@ use Rattle.rules.proofs.Opened.{opened}
 -- ---- books
 
 unfoldable pub prices : Prices
-prices = record { p = 2000; q = 2100; l = 300; x = 100; i = 50 }
+prices = record { p = 2000; q = 2100; l = 300; x = 100; i = 50; s = 0; u = 0 }
 
 -- amounts in PVB and in TVB
 unfoldable pub amounts : ℤ → ℤ → PerArea

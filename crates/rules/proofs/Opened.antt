@@ -2,7 +2,7 @@
 use Prim.Native.Nat.{ℕ}
 use Rattle.base.specs.Parts.{posPart, negPart}
 use Rattle.base.specs.Sums.{sum, sumℤ}
-use Rattle.rules.specs.Areas.{areas, tariff, referencePrice}
+use Rattle.rules.specs.Areas.{areas, tariff, referencePrice, sellingIn, sellingTariff}
 use Rattle.rules.specs.Signed.{signedOf, bitsOf, within}
 use Rattle.rules.specs.Calendar.{leapYear, daysInMonth, yearOf, monthOf, dayOf, realDay}
 use Rattle.base.specs.Lists.{all, any}
@@ -11,11 +11,14 @@ use Rattle.rules.specs.Questions.{
   refusal,
   numberOf,
   decided,
+  versionKnown,
   versionValid,
   countsValid,
   tariffValid,
   tollValid,
   pricesValid,
+  sellingMost,
+  sellingValid,
   headerValid,
   idsRise,
   entriesValid,
@@ -35,7 +38,7 @@ use Rattle.rules.specs.Questions.{
   accepted,
 }
 use Rattle.rules.specs.Changes.{change, withUsers, add, posted, blockedTo, moved}
-use Rattle.rules.specs.Levels.{today, holding, sells, buys, partyTo, sellerOf, morningNeed, stock, afternoonNeed, exposure, morningSum, afternoonSum, leastReferencePrice, shipper, floored, morningLevel, afternoonLevel, flagged, calledIn, exceedsMargin, shortOfCover}
+use Rattle.rules.specs.Levels.{today, holding, sells, buys, partyTo, sellerOf, morningNeed, stock, afternoonNeed, exposure, morningSum, credit, afternoonSum, leastReferencePrice, shipper, floored, morningLevel, afternoonLevel, flagged, calledIn, exceedsMargin, shortOfCover}
 use Rattle.rules.specs.Shares.{tierWorth, shareOf, loss, largestRemainder, oneMore, byTurns, inProportion, tierCuts}
 use Rattle.rules.specs.Reduction.{target, eligible, hasEligible, shortIn, lot, tierOne, tierTwo, together, cuts, cutBy, cutAll, nothing, tallied, tallyAll, lost, settleOne, settle, withTrades}
 use Rattle.rules.specs.Calls.{only, ofLevel, ofCuts, ofRun, guaranteed, reducedBy, cuttable, idKnown, isShipper, entryInRange, assignedSuffices, assignedFallsShort, eligibleTrade, marginExceeded, calledInBeyondMargin, about, questions, reduced, nextReduced, onward, runFor, effect, step}
@@ -43,11 +46,11 @@ use Rattle.rules.specs.Queries.{onlyNumber, aLevel, aWarning, aRecord, a
 use Rattle.rules.specs.Day.{callDue, state, printedLevel, line, lines}
 
 unfoldable pub opened : ℕ
-unfolding posPart negPart sum sumℤ areas tariff referencePrice signedOf bitsOf within leapYear daysInMonth yearOf monthOf dayOf realDay all any at
-    bilateralForDay dealt sold bought definedPosition nobody find refusal numberOf decided versionValid countsValid tariffValid tollValid pricesValid
+unfolding posPart negPart sum sumℤ areas tariff referencePrice sellingIn sellingTariff signedOf bitsOf within leapYear daysInMonth yearOf monthOf dayOf realDay all any at
+    bilateralForDay dealt sold bought definedPosition nobody find refusal numberOf decided versionKnown versionValid countsValid tariffValid tollValid pricesValid sellingMost sellingValid
     headerValid idsRise entriesValid guaranteesValid userValid usersValid known partiesValid codesValid amountsValid tradeValid eqbℤ positionValid
     positionsValid aboutBook isNone accepted change withUsers add posted blockedTo moved today holding sells buys partyTo sellerOf morningNeed stock
-    afternoonNeed exposure morningSum afternoonSum leastReferencePrice shipper floored morningLevel afternoonLevel flagged calledIn exceedsMargin
+    afternoonNeed exposure morningSum credit afternoonSum leastReferencePrice shipper floored morningLevel afternoonLevel flagged calledIn exceedsMargin
     shortOfCover tierWorth shareOf loss largestRemainder oneMore byTurns inProportion tierCuts target eligible hasEligible shortIn lot tierOne tierTwo
     together cuts cutBy cutAll nothing tallied tallyAll lost settleOne settle withTrades only ofLevel ofCuts ofRun guaranteed reducedBy cuttable idKnown
     isShipper entryInRange assignedSuffices assignedFallsShort eligibleTrade marginExceeded calledInBeyondMargin about questions reduced nextReduced onward

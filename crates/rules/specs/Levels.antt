@@ -5,7 +5,7 @@ use lib.Dec.{ltb, leb, eqb}
 use lib.IntN.{ℤ, pos, negℤ, _+ℤ_, _-ℤ_}
 use Rattle.base.specs.Parts.{posPart, negPart}
 use Rattle.base.specs.Sums.{sum}
-use Rattle.rules.specs.Areas.{Prices, areas, referencePrice}
+use Rattle.rules.specs.Areas.{Prices, areas, referencePrice, sellingTariff}
 use Rattle.base.specs.Lists.{any}
 use Rattle.rules.specs.Book.{at, User, Trade, Book, sold, bought, find}
 
@@ -80,11 +80,16 @@ unfoldable pub morningSum : Prices → (ℕ → Holding) → ℤ → ℤ
 morningSum f h charges =
     charges +ℤ pos (sum (λ area. posPart (morningNeed (h area)) * referencePrice f area) areas)
 
--- Afternoon: "Level = charges + sum of max(0, need) × w + sum of max(0, −position) × w", before its floor
+-- "max(0, position) × selling tariff for each area": 0 where the selling tariffs are
+unfoldable pub credit : Prices → (ℕ → Holding) → ℕ
+credit f h = sum (λ area. posPart (h area .position) * sellingTariff f area) areas
+
+-- Afternoon: "Level = charges + sum of max(0, need) × w + sum of max(0, −position) × w"; in version 2 it "loses" the credit; before its floor
 unfoldable pub afternoonSum : Prices → (ℕ → Holding) → ℤ → ℤ
 afternoonSum f h charges =
     charges +ℤ pos (sum (λ area. posPart (afternoonNeed area (h area)) * referencePrice f area) areas)
     +ℤ pos (exposure f h)
+    -ℤ pos (credit f h)
 
 -- "the least w"
 unfoldable pub leastReferencePrice : Prices → ℕ

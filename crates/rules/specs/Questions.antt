@@ -7,7 +7,7 @@ use Prim.Native.Nat.{ℕ, _^_}
 use lib.Dec.{leb, ltb, eqb}
 use lib.IntN.{ℤ, pos, negsuc}
 use lib.ListN.{length}
-use Rattle.rules.specs.Areas.{Prices}
+use Rattle.rules.specs.Areas.{Prices, sellingIn}
 use Rattle.rules.specs.Signed.{within}
 use Rattle.rules.specs.Calendar.{realDay}
 use Rattle.base.specs.Lists.{all, any}
@@ -35,16 +35,19 @@ unfoldable pub decided : {R : Type 0} → Option ℕ → (ℕ → R) → R → R
 decided none refused accepted = accepted
 decided (some n) refused accepted = refused n
 
--- ---- 2 and 3: "Version 1?", "Counts in range?"
+-- ---- 2 and 3: "Version 1?" or, by document 02's ask 3, version 2; "Counts in range?"
+
+unfoldable pub versionKnown : ℕ → Bool
+versionKnown version = eqb version 1 || eqb version 2
 
 unfoldable pub versionValid : Book → Bool
-versionValid b = eqb (b .header .version) 1
+versionValid b = versionKnown (b .header .version)
 
 -- user count 1 to 64; trade count 0 to 256
 unfoldable pub countsValid : Book → Bool
 countsValid b = (leb 1 (length (b .users)) && leb (length (b .users)) 64) && leb (length (b .trades)) 256
 
--- ---- 4: "Date, prices and tolls in range?"
+-- ---- 4: "Date, prices and tolls in range?", selling tariffs with them
 
 -- "P and Q 1 to 100,000; tolls 0 to 100,000."
 unfoldable pub tariffValid : ℕ → Bool
@@ -57,8 +60,15 @@ unfoldable pub pricesValid : Prices → Bool
 pricesValid f =
     (tariffValid (f .p) && tariffValid (f .q)) && (tollValid (f .l) && (tollValid (f .x) && tollValid (f .i)))
 
+-- selling tariffs are "0 to 100,000" in a version that has them
+unfoldable pub sellingMost : ℕ → ℕ
+sellingMost version = cond (sellingIn version) 100000 0
+
+unfoldable pub sellingValid : ℕ → Prices → Bool
+sellingValid version f = leb (f .s) (sellingMost version) && leb (f .u) (sellingMost version)
+
 unfoldable pub headerValid : Header → Bool
-headerValid h = realDay (h .date) && pricesValid (h .prices)
+headerValid h = realDay (h .date) && (pricesValid (h .prices) && sellingValid (h .version) (h .prices))
 
 -- ---- 5: "Every user field valid, positions apart?"
 

@@ -18,7 +18,7 @@ use Rattle.book_format.specs.Book.{bookOf, userCount, usersOf}
 use Rattle.book_format.specs.Steps.{placeOf}
 use Rattle.base.proofs.Linear.{by-order}
 use Rattle.base.specs.Parts.{negPart, posPart}
-use Rattle.laws.proofs.Bounds.{blocked-le, prices-le, tariffs-pos}
+use Rattle.laws.proofs.Bounds.{blocked-le}
 use Rattle.laws.specs.Sound.{Sound}
 use Rattle.base.proofs.Tests.{and-l, and-r}
 use Rattle.rules.specs.Areas.{Prices}
@@ -28,6 +28,7 @@ use Rattle.rules.specs.Questions.{guaranteesValid, userValid}
 use Rattle.run_state.proofs.Own.{own-areas, own-buyers}
 use Rattle.run_state.proofs.Reduced.{place-inside}
 use Rattle.run_state.proofs.Stays.{Stays, stays, users-many}
+use Rattle.risk_user.proofs.Accepted.{prices-in}
 use Rattle.risk_user.specs.UserAt.{positionIn, DayOf}
 use Rattle.run_reduction.specs.Reductions.{Reached, Reducible, RunOf, shortIn}
 use Rattle.laws_sales.proofs.FirstCuts.{first-bound, first-none, own-cut-le, own-cuts-length}
@@ -45,12 +46,6 @@ use Rattle.units.specs.Prices.{InRange}
 use Rattle.units.specs.Limits.{LimitsInRange}
 
 -- ---- an accepted book
-
-prices-in : (b : Book) → Sound b → InRange (b .header .prices)
-prices-in b s =
-    let l = prices-le b s in
-    let g = tariffs-pos b s in
-    record { p-least = g .0; p-most = l .0; q-least = g .1; q-most = l .1; l-most = l .2; x-most = l .3; i-most = l .4 }
 
 module _ {f : Prices} (s : List ℕ) (sound : Sound (bookOf s)) (prices-are : f ≡ bookOf s .header .prices) where
   day-prices : InRange f

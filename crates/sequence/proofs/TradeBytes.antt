@@ -15,7 +15,7 @@ use Rattle.fields.specs.Layout.{pack, recordsOf, size}
 use Rattle.book_format.proofs.Passed.{Passed, length-tradesOf, length-usersOf}
 use Rattle.book_format.proofs.Round.{header-back}
 use Rattle.book_format.proofs.Offsets.{same-begin}
-use Rattle.book_format.specs.Book.{bookOf, headerSize, headerValues, headerWidths, tradeCount, tradesAt, tradesOf, userCount, usersOf, versionOf}
+use Rattle.book_format.specs.Book.{bookOf, headerBytes, headerSize, headerValues, tradeCount, tradesAt, tradesOf, userCount, usersOf, versionOf}
 use Rattle.laws.specs.Trades.{ended, then, Framed, Pairwise}
 use Rattle.book_records.proofs.Trades.{trade-bytes-of}
 use Rattle.book_records.specs.Trade.{tradeBytes, tradeOf, tradeValues, tradeWidths, tradeZeros}
@@ -61,16 +61,16 @@ unfolding tradeBytesAt tradesOf
 held s b p i h =
     sym (getD-recordsOf 20 tradeOf (tradeCount s) i (drop (tradesAt s) s) noTrade h ∙ ap (λ (l : List ℕ). tradeOf (take 20 l)) (drop-drop (20 * i) (tradesAt s) s))
 
-same-values : (b n : Book) → b .header ≡ n .header → length (b .users) ≡ length (n .users) → length (b .trades) ≡ length (n .trades) → headerValues b ≡ headerValues n
-unfolding headerValues
-same-values b n e u m = rw (e, u, m)
+same-start : (b n : Book) → b .header ≡ n .header → length (b .users) ≡ length (n .users) → length (b .trades) ≡ length (n .trades) → headerBytes b ≡ headerBytes n
+unfolding headerBytes headerValues
+same-start b n e u m = rw (e, u, m)
 
 -- the header's bytes are those of its fields and of the counts
 header-bytes : (s t : List ℕ) → AllBytes s → Passed s → AllBytes t → Passed t
     → bookOf t .header ≡ bookOf s .header → length (usersOf t) ≡ length (usersOf s) → length (tradesOf t) ≡ length (tradesOf s) → take (headerSize (versionOf s)) t ≡ take (headerSize (versionOf s)) s
 unfolding bookOf
 header-bytes s t b p c q e u m =
-    ap (λ (h : Header). take (headerSize (h .version)) t) (sym e) ∙ sym (header-back t c (q .form)) ∙ ap (pack headerWidths) (same-values (bookOf t) (bookOf s) e u m) ∙ header-back s b (p .form)
+    ap (λ (h : Header). take (headerSize (h .version)) t) (sym e) ∙ sym (header-back t c (q .form)) ∙ same-start (bookOf t) (bookOf s) e u m ∙ header-back s b (p .form)
 
 same-version : (s t : List ℕ) → bookOf t .header ≡ bookOf s .header → versionOf t ≡ versionOf s
 unfolding bookOf

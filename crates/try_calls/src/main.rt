@@ -1,29 +1,22 @@
-// Calls of document 01, run and printed, of two files; NAME.index says what each call of the file NAME shows.
-// File `calls`: each call is made on its book, and its place, its kind, its number and its fields are printed, a line each; after a call
-// that may change the book, the user's record too, in hexadecimal. In the file a call is its kind (1 byte), id (4), area (4), amount (8,
-// two's complement), the length of its book (2), and the book. File `reductions`: for each are printed a line of its place, its number,
-// MWh, worth, target, short and over; a line of what stands of every trade of the book afterwards; and a line of id and positions for each
-// user. In the file a reduction is an id (4 bytes), the length of its book (2), and the book; where the length is 0, it is made on the book
-// that the one before it left.
+// Calls of documents 01 and 02, run and printed, of the files `calls`, `reductions` and `lists` (lists.rt). NAME.index says what each call
+// of the file NAME shows. File `calls`: each call is made on its book, and its place, its kind, its number and its fields are printed, a
+// line each; after a call that may change the book, the user's record too, in hexadecimal; of a whole cancellation the places of the
+// marked trades. In the file a call is its kind (1 byte), id (4), area or number of tries (4), amount (8, two's complement), the length of
+// its book (2), and the book. File `reductions`: for each are printed a line of its place, its number, MWh, worth, target, short and over;
+// a line of what stands of every trade of the book afterwards; and a line of id and positions for each user. In the file a reduction is an
+// id (4 bytes), the length of its book (2), and the book; where the length is 0, it is made on the book that the one before it left.
+mod lists;
+mod numbers;
+
 ghost use Prim.Native.Nat.{_≤_, max};
 use book_records::User;
 use book_tables::Book;
 use call_answers::CallAnswer;
 use call_answers::LevelAnswer;
 use call_answers::ReductionAnswer;
+use call_answers::RunAnswer;
+use call_cancellation::CancellationAnswer;
 use libc::STDOUT_FILENO;
-
-// The least number whose top bit is set: 2^63.
-const TOP: u64 = 9223372036854775808;
-
-// The amount that 64 bits stand for. Where the top bit is set it is −1 − rest, which is !rest.
-fn amount_of(bits: u64) -> i64 {
-    if bits < TOP {
-        return bits as i64;
-    }
-    let rest = 18446744073709551615 - bits;
-    !(rest as i64)
-}
 
 fn print_level(answer: LevelAnswer) {
     let level = answer.level;
@@ -39,31 +32,58 @@ fn print_call(answer: CallAnswer) {
     day_print::number(added.0);
 }
 
-// A space and bytes in hexadecimal.
-fn print_bytes(part: &[u8]) {
-    io::write_all(STDOUT_FILENO, b" ");
+fn print_run(answer: RunAnswer) {
+    let mwh = answer.mwh;
+    let worth = answer.worth;
+    day_print::number(answer.number as u64);
+    day_print::number(answer.reductions);
+    day_print::number(mwh.0);
+    day_print::number(worth.0);
+}
+
+// The place of a trade that is marked.
+fn print_mark(i: usize, marked: bool) {
+    if marked {
+        day_print::number(i as u64);
+    }
+}
+
+// The places of the marked trades.
+fn print_marks(marks: [bool; 256]) {
     let mut i = 0;
-    while i < part.len() {
-        let byte = fields::get_u8(part, i);
-        io::print_hex(STDOUT_FILENO, byte as u64, 2);
+    while i < 256 {
+        print_mark(i, marks[i]);
         i += 1;
     }
+}
+
+fn print_cancellation(answer: CancellationAnswer) {
+    let marks = answer.marks;
+    day_print::number(answer.number as u64);
+    day_print::number(answer.excess);
+    day_print::number(answer.tries as u64);
+    day_print::number(answer.complete as u64);
+    print_marks(marks);
 }
 
 // The record of a user, nothing where there is none.
 fn print_record(book: &[u8], id: u32) {
     let mut refusal = 0;
-    print_bytes(daybook::show(book, false, b"", id, &mut refusal));
+    numbers::print_bytes(daybook::show(book, false, b"", id, &mut refusal));
 }
 
 // A call that changes no book.
-fn ask(kind: u8, book: &[u8], id: u32) {
+fn ask(kind: u8, book: &[u8], id: u32, tries: u32) {
     if kind == 1 {
         print_level(daybook::morning_level(book, false, b"", id));
         return;
     }
     if kind == 2 {
         print_level(daybook::afternoon_level(book, false, b"", id));
+        return;
+    }
+    if kind == 7 {
+        print_cancellation(daybook::cancellation(book, false, b"", id, tries));
         return;
     }
     let answer = daybook::warning(book, false, b"", id);
@@ -81,13 +101,18 @@ fn change(kind: u8, book: &mut [u8], id: u32, area: u32, amount: i64) {
         print_call(daybook::afternoon_call(book, false, b"", id));
         return;
     }
+    if kind == 6 {
+        print_run(daybook::run(book, false, b""));
+        return;
+    }
     day_print::number(daybook::posting(book, false, b"", id, area, amount) as u64);
 }
 
-// A call: 0 posting, 1 morning level, 2 afternoon level, 3 warning, 4 morning call, 5 afternoon call.
+// A call: 0 posting, 1 morning level, 2 afternoon level, 3 warning, 4 morning call, 5 afternoon call, 6 run, 7 whole cancellation, whose
+// number of tries stands in the place of the area.
 fn call(kind: u8, book: &mut [u8], id: u32, area: u32, amount: i64) {
-    if (1 <= kind) & (kind <= 3) {
-        ask(kind, book, id);
+    if ((1 <= kind) & (kind <= 3)) | (kind == 7) {
+        ask(kind, book, id, area);
         return;
     }
     change(kind, book, id, area, amount);
@@ -123,7 +148,7 @@ fn make_calls(file: &mut [u8]) {
             &mut file[start..end],
             id,
             area,
-            amount_of(bits),
+            numbers::amount_of(bits),
         );
         at = end;
         place += 1;
@@ -240,8 +265,15 @@ fn make_reductions(file: &mut [u8]) {
     }
 }
 
-// The calls of the file of a name: reductions, or calls of the other kinds.
-fn make_file(path: &[u8], reductions: bool) {
+// What is made of the bytes of a file.
+enum Kind {
+    Calls,
+    Reductions,
+    Lists,
+}
+
+// The calls of the file of a name.
+fn make_file(path: &[u8], kind: Kind) {
     let fd = os::open_read(path);
     if fd < 0 {
         os::fail(path);
@@ -250,14 +282,21 @@ fn make_file(path: &[u8], reductions: bool) {
     let mut file = io::large_buffer();
     let n = io::read_full(fd, &mut file);
     libc::close(fd);
-    if reductions {
-        make_reductions(&mut file[..n]);
-        return;
+    match kind {
+        Kind::Calls => {
+            make_calls(&mut file[..n]);
+        }
+        Kind::Reductions => {
+            make_reductions(&mut file[..n]);
+        }
+        Kind::Lists => {
+            lists::make_lists(&mut file[..n]);
+        }
     }
-    make_calls(&mut file[..n]);
 }
 
 fn main() {
-    make_file(b"calls", false);
-    make_file(b"reductions", true);
+    make_file(b"calls", Kind::Calls);
+    make_file(b"reductions", Kind::Reductions);
+    make_file(b"lists", Kind::Lists);
 }

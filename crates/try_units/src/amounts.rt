@@ -58,7 +58,7 @@ fn posting(bits: u32, amount: i64) {
     text::end();
 }
 
-// An area's tariff and reference price on a day with P 2000, Q 2100, L 300, X 100 and I 50.
+// An area's tariff, reference price and selling tariff on a day with P 2000, Q 2100, L 300, X 100, I 50, S 1500 and U 900.
 fn area(code: u8) {
     let prices = Prices {
         p: 2000,
@@ -66,13 +66,17 @@ fn area(code: u8) {
         l: 300,
         x: 100,
         i: 50,
+        s: 1500,
+        u: 900,
     };
     let tariff = Area(code).tariff(prices);
     let reference = Area(code).reference_price(prices);
+    let selling = Area(code).selling_tariff(prices);
     text::write(b"area");
     text::number(code as u64);
     text::number(tariff.0 as u64);
     text::number(reference.0 as u64);
+    text::number(selling.0 as u64);
     text::end();
 }
 

@@ -6,7 +6,7 @@ ghost use mathlib.Core.Bool.{true, cond};
 ghost use Prim.Native.Nat.{_+_, _-_, _*_, _≤_, _<_, _^_};
 ghost use lib.IntN.{pos, _+ℤ_, _-ℤ_};
 ghost use Rattle.base.specs.Parts.{posPart, negPart};
-ghost use Rattle.rules.specs.Areas.{tariff, referencePrice};
+ghost use Rattle.rules.specs.Areas.{tariff, referencePrice, sellingTariff};
 ghost use Rattle.rules.specs.Levels.{today};
 ghost use Rattle.rules.specs.Signed.{signedOf, bitsOf, within};
 ghost use Rattle.units.specs.Amounts.{net, balance};
@@ -253,14 +253,16 @@ impl Posted {
     }
 }
 
-// The prices of a day, in cents per MWh: the tariffs P of PVB and Q of TVB and AVB, and the tolls L for liquefaction, X for PVB exit and I
-// for injection.
+// The prices of a day, in cents per MWh: the tariffs P of PVB and Q of TVB and AVB, the tolls L for liquefaction, X for PVB exit and I for
+// injection, and the selling tariffs S of PVB and U of TVB and AVB, 0 in a version of the book that has none.
 pub struct Prices {
     pub p: u32,
     pub q: u32,
     pub l: u32,
     pub x: u32,
     pub i: u32,
+    pub s: u32,
+    pub u: u32,
 }
 
 // An area of trade, by its code.
@@ -299,6 +301,20 @@ impl Area {
             Area::PVB => Price(prices.p),
             Area::TVB => Price(prices.q + prices.l),
             _ => Price(prices.q + prices.x + prices.i),
+        }
+    }
+
+    // The area's selling tariff, for prices in range.
+    pub fn selling_tariff(self, prices: Prices) -> Price
+        requires { ⌜ InRange (asPrices prices) ⌝ }
+        ensures { λ r. ⌜ r .0 ≡ sellingTariff (asPrices prices) (self .0) ⌝ }
+        ensures { λ r. ⌜ r .0 ≤ 100000 ⌝ }
+    {
+        let code = self.0;
+        if code == Area::PVB {
+            Price(prices.s)
+        } else {
+            Price(prices.u)
         }
     }
 }

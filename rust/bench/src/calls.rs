@@ -11,12 +11,16 @@ use crate::options::Options;
 use crate::subjects::Subject;
 use crate::table::{print_head, print_times};
 
+/// The tries of a cancellation on a usual book.
+pub const FEW_TRIES: u32 = 100;
+
 /// Prints the times of every call on a book.
 pub fn print_table(subject: &Subject, options: &Options) {
     let book = tuned::read(&subject.book).expect("an accepted book");
     println!(
-        "\n{} book: {} users, {} trades, {} bytes; microseconds, {} samples of {} calls",
+        "\n{} book, version {}: {} users, {} trades, {} bytes; microseconds, {} samples of {} calls",
         subject.name,
+        subject.version,
         book.users.len(),
         book.trades.len(),
         subject.book.len(),
@@ -39,6 +43,10 @@ pub fn print_table(subject: &Subject, options: &Options) {
     print_row("afternoon call", call(subject, options));
     print_row("warning", warning(subject, options));
     print_row("reduction", reduction(subject, options));
+    if let Some(id) = subject.cancelled {
+        let times = cancellation(subject, options, id, FEW_TRIES);
+        print_row(&format!("cancellation, tries: {FEW_TRIES}"), times);
+    }
     let name = format!("run, reductions: {}", subject.reductions);
     print_row(&name, run(subject, options));
     print_multiple("a list of 512 lines takes", lines, one, "postings");
@@ -56,8 +64,8 @@ fn print_multiple(start: &str, times: Times, of: Times, end: &str) {
 /// Prints what a reduction takes beyond reading and writing its book.
 pub fn print_beyond(subject: &Subject, options: &Options) {
     println!(
-        "\n{} book: 256 sales of one seller; microseconds, {} samples of {} calls",
-        subject.name, options.samples, options.batch
+        "\n{} book, version {}: 256 sales of one seller; microseconds, {} samples of {} calls",
+        subject.name, subject.version, options.samples, options.batch
     );
     print_head("call");
     let reduction = reduction(subject, options);
@@ -76,12 +84,12 @@ pub fn print_beyond(subject: &Subject, options: &Options) {
 /// with all.
 pub fn print_cancellations(subject: &Subject, options: &Options) {
     println!(
-        "\n{} book: whole cancellations among 256 sales; microseconds, {} samples of {} calls",
-        subject.name, options.samples, options.batch
+        "\n{} book, version {}: whole cancellations among 256 sales; microseconds, {} samples of {} calls",
+        subject.name, subject.version, options.samples, options.batch
     );
     print_head("tries");
     for tries in [1, 100, 4_096, daybook::MOST_TRIES] {
-        let times = cancellation(subject, options, tries);
+        let times = cancellation(subject, options, subject.reduced, tries);
         print_row(&format!("cancellation, {tries}"), times);
     }
 }
@@ -322,9 +330,8 @@ fn refused_reduction(subject: &Subject, options: &Options) -> Times {
     )
 }
 
-/// All tries are made: no set that is tried has an excess of 0.
-fn cancellation(subject: &Subject, options: &Options, tries: u32) -> Times {
-    let id = subject.reduced;
+/// On the wide book all tries are made: no set that is tried has an excess of 0.
+fn cancellation(subject: &Subject, options: &Options, id: u32, tries: u32) -> Times {
     let (mut marks, mut answer) = ([0; 256], [0; 3]);
     let mut found = None;
     let times = both(
@@ -345,10 +352,8 @@ fn cancellation(subject: &Subject, options: &Options, tries: u32) -> Times {
     let found = found.expect("an accepted cancellation");
     assert_eq!(marks.map(|mark| mark == 1), found.marks, "the marks");
     let excess = found.excess.0.unsigned_abs();
-    assert_eq!(
-        answer,
-        [excess, u64::from(tries), u64::from(found.complete)]
-    );
+    let made = u64::from(found.tries);
+    assert_eq!(answer, [excess, made, u64::from(found.complete)]);
     times
 }
 

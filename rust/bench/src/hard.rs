@@ -7,32 +7,41 @@ use reference::book::Book;
 use crate::calls::expect;
 use crate::measure::{sample_time, Time};
 use crate::options::Options;
+use crate::subjects::in_version;
 use crate::table::{print_head, print_times};
 
-/// A hard book by its name, for sales of some MWh.
-type Hard = (&'static str, fn(i128) -> Book);
+/// A hard book by its name, for sales of some MWh, and its last version: a credit
+/// that grows with each cut ends the run of a seller that is long.
+type Hard = (&'static str, fn(i128) -> Book, u16);
 
 const BOOKS: [Hard; 4] = [
-    ("one-seller", one_seller),
-    ("many-sellers", many_sellers),
-    ("chain", chain),
-    ("widest", widest),
+    ("one-seller", one_seller, 1),
+    ("many-sellers", many_sellers, 1),
+    ("chain", chain, 2),
+    ("widest", widest, 2),
 ];
 
-/// Prints the times of the runs of the hard books.
-pub fn print_table(options: &Options) {
-    let chosen = || BOOKS.iter().filter(|(name, _)| options.has_book(name));
-    if chosen().next().is_none() {
-        return;
+/// Prints the times of the runs of the hard books of each version.
+pub fn print_tables(options: &Options) {
+    for version in &options.versions {
+        let books = BOOKS.iter().filter(|(name, _, _)| options.has_book(name));
+        let books: Vec<&Hard> = books.filter(|(_, _, last)| version <= last).collect();
+        if !books.is_empty() {
+            print_table(*version, &books, options);
+        }
     }
+}
+
+fn print_table(version: u16, books: &[&Hard], options: &Options) {
     println!(
-        "\nruns of hard books; microseconds a reduction, {} runs; the engine's where there are at most {} reductions",
+        "\nruns of hard books, version {version}; microseconds a reduction, {} runs; the engine's where there are at most {} reductions",
         options.hard_samples, options.engine_most
     );
     print_head(&format!("{:<12}{:>7}{:>12}", "book", "MWh", "reductions"));
-    for (name, book) in chosen() {
+    for (name, book, _) in books {
         for mwh in &options.hard_mwh {
-            print_row(name, *mwh, &book(*mwh).to_bytes(), options);
+            let book = in_version(version, book(*mwh));
+            print_row(name, *mwh, &book.to_bytes(), options);
         }
     }
 }

@@ -30,12 +30,14 @@ fn main() -> ExitCode {
     for subject in subjects::usual_books(&options) {
         calls::print_table(&subject, &options);
     }
-    if options.has_book("wide") {
-        let wide = subjects::wide();
-        calls::print_beyond(&wide, &options);
-        calls::print_cancellations(&wide, &options);
+    for version in &options.versions {
+        if options.has_book("wide") {
+            let wide = subjects::wide(*version);
+            calls::print_beyond(&wide, &options);
+            calls::print_cancellations(&wide, &options);
+        }
     }
-    hard::print_table(&options);
+    hard::print_tables(&options);
     print_machine("after");
     ExitCode::SUCCESS
 }

@@ -3,12 +3,16 @@
 use std::ops::RangeInclusive;
 use std::str::FromStr;
 
+use books::versions::VERSIONS;
+
 /// What is said by `--help` and after a wrong word.
 const USAGE: &str = "usage: daybook-bench [--quick] [OPTION VALUE]...
 
   --quick                some seconds in all: fewer samples, smaller hard books
   --books NAMES          of small, usual, largest, wide, one-seller, many-sellers,
                          chain, widest; commas between them; all if not said
+  --versions NUMBERS     versions of the books, of 1 and 2; commas between them;
+                         both if not said
   --samples N            samples of each call and side
   --batch N              calls in a sample
   --hard-samples N       runs of each hard book and side
@@ -35,6 +39,7 @@ const OFTEN: RangeInclusive<usize> = 1..=1_000_000;
 /// What is measured, and how often.
 pub struct Options {
     books: Vec<String>,
+    pub versions: Vec<u16>,
     pub samples: usize,
     pub batch: usize,
     pub hard_samples: usize,
@@ -47,6 +52,7 @@ impl Options {
     pub fn parse(mut words: impl Iterator<Item = String>) -> Result<Options, String> {
         let mut options = Options {
             books: NAMES.map(String::from).to_vec(),
+            versions: VERSIONS.to_vec(),
             samples: 2_001,
             batch: 16,
             hard_samples: 3,
@@ -72,6 +78,7 @@ impl Options {
     fn set(&mut self, option: &str, value: &str) -> Result<(), String> {
         match option {
             "--books" => self.books = list(value, name)?,
+            "--versions" => self.versions = list(value, |word| number(word, 1..=2))?,
             "--samples" => self.samples = number(value, OFTEN)?,
             "--batch" => self.batch = number(value, OFTEN)?,
             "--hard-samples" => self.hard_samples = number(value, OFTEN)?,

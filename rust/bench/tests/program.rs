@@ -19,10 +19,17 @@ fn every_book_is_measured() {
     assert!(output.status.success());
     let text = String::from_utf8(output.stdout).expect("text");
     for word in [
-        "small book",
-        "usual book",
-        "largest book",
-        "wide book",
+        "small book, version 1",
+        "usual book, version 1",
+        "largest book, version 1",
+        "wide book, version 1",
+        "small book, version 2",
+        "usual book, version 2",
+        "largest book, version 2",
+        "wide book, version 2",
+        "runs of hard books, version 1",
+        "runs of hard books, version 2",
+        "cancellation, tries: 100",
         "one-seller",
         "many-sellers",
         "chain",
@@ -42,6 +49,7 @@ fn wrong_words_are_refused() {
         &["--books", "none"],
         &["--samples", "0"],
         &["--hard-mwh", "100,100001"],
+        &["--versions", "3"],
         &["--slow", "1"],
     ] {
         let output = bench(arguments);

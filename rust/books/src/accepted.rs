@@ -10,6 +10,7 @@ use reference::store::Limits;
 use reference::units::{Area, Cents, Mwh, Price, Prices};
 
 use crate::random::Random;
+use crate::versions::{draw_charges, draw_selling_tariffs, turn_entries, VERSIONS};
 
 const MONEY_LIMIT: i128 = 1_000_000_000_000;
 const PHYSICAL_LIMIT: i128 = 1_000_000;
@@ -47,23 +48,31 @@ pub fn largest(random: &mut Random) -> Book {
 /// A book that is as it should be, but for one user or one trade too many, or
 /// no user at all.
 pub fn miscounted(random: &mut Random) -> Book {
+    let version = random.pick(&VERSIONS);
     match random.below(3) {
-        0 => drawn(random, MOST_USERS + 1, 3),
-        1 => drawn(random, MOST_USERS, MOST_TRADES + 1),
-        _ => header(random),
+        0 => drawn(random, version, MOST_USERS + 1, 3),
+        1 => drawn(random, version, MOST_USERS, MOST_TRADES + 1),
+        _ => header_of(random, version),
     }
 }
 
-/// A book of this size; its run is kept short. A single user has no trades.
-pub fn general(random: &mut Random, users: usize, trades: usize) -> Book {
+/// A book of this size, of either version.
+fn general(random: &mut Random, users: usize, trades: usize) -> Book {
+    let version = random.pick(&VERSIONS);
+    sized(random, version, users, trades)
+}
+
+/// A book of this version and size; its run is kept short. A single user has no
+/// trades.
+pub fn sized(random: &mut Random, version: u16, users: usize, trades: usize) -> Book {
     for _ in 0..20 {
-        let book = drawn(random, users, trades);
+        let book = drawn(random, version, users, trades);
         if ends_within(&Limits::TODAY, &book, MOST_REDUCTIONS) {
             return book;
         }
     }
     // Users with an ample guarantee are not short of cover.
-    let mut book = drawn(random, users, trades);
+    let mut book = drawn(random, version, users, trades);
     for user in &mut book.users {
         user.charges = user.charges.min(Cents::ZERO);
         user.assigned = Cents(MONEY_LIMIT);
@@ -71,7 +80,7 @@ pub fn general(random: &mut Random, users: usize, trades: usize) -> Book {
     if ends_within(&Limits::TODAY, &book, MOST_REDUCTIONS) {
         return book;
     }
-    drawn(random, users, 0)
+    drawn(random, version, users, 0)
 }
 
 /// Whether the run of an accepted book takes at most `most` reductions.
@@ -86,12 +95,16 @@ pub fn ends_within(limits: &Limits, book: &Book, most: u64) -> bool {
     false
 }
 
-fn drawn(random: &mut Random, users: usize, trades: usize) -> Book {
-    let mut book = header(random);
+fn drawn(random: &mut Random, version: u16, users: usize, trades: usize) -> Book {
+    let mut book = header_of(random, version);
     let energy = energy_scale(random);
     let physical = physical_scale(random);
     for id in ids(random, users) {
-        book.users.push(user(random, id, physical));
+        let mut user = user(random, id, physical);
+        if version == 2 {
+            turn_entries(random, &mut user);
+        }
+        book.users.push(user);
     }
     if users > 1 {
         let bilateral = random.below(4);
@@ -104,7 +117,8 @@ fn drawn(random: &mut Random, users: usize, trades: usize) -> Book {
     book
 }
 
-/// Positions as defined, some of them 0, then guarantees drawn for each user.
+/// Positions as defined, some of them 0, then charges where a credit is due and
+/// guarantees drawn for each user.
 fn finish(random: &mut Random, book: &mut Book) {
     set_positions(book);
     for user in &mut book.users {
@@ -114,6 +128,7 @@ fn finish(random: &mut Random, book: &mut Book) {
             }
         }
     }
+    draw_charges(random, book);
     for place in 0..book.users.len() {
         let (assigned, blocked) = guarantees(random, book, place);
         book.users[place].assigned = assigned;
@@ -140,14 +155,35 @@ pub fn set_positions(book: &mut Book) {
     }
 }
 
+/// A header of either version.
 pub(crate) fn header(random: &mut Random) -> Book {
-    Book {
-        version: 1,
+    let version = random.pick(&VERSIONS);
+    header_of(random, version)
+}
+
+/// A header of this version.
+pub(crate) fn header_of(random: &mut Random, version: u16) -> Book {
+    let mut book = Book {
+        version,
         date: date(random),
         prices: prices(random),
         users: Vec::new(),
         trades: Vec::new(),
+    };
+    if version == 2 {
+        draw_selling_tariffs(random, &mut book);
     }
+    book
+}
+
+/// Gives a book other prices, S and U apart.
+pub(crate) fn reprice(book: &mut Book, prices: [i128; 5]) {
+    let (s, u) = (book.prices.s, book.prices.u);
+    book.prices = Prices {
+        s,
+        u,
+        ..price_list(prices)
+    };
 }
 
 /// A real day of 2020 to 2099, often the last one of a month.
@@ -199,6 +235,7 @@ fn price_list([p, q, l, x, i]: [i128; 5]) -> Prices {
         l: Price(l),
         x: Price(x),
         i: Price(i),
+        ..Prices::default()
     }
 }
 
@@ -273,7 +310,7 @@ fn charges(random: &mut Random) -> i128 {
 
 /// A trade between two users. `bilateral` is how often out of 4 the trade is
 /// bilateral for today in any case.
-fn trade(random: &mut Random, book: &Book, energy: i128, bilateral: usize) -> Trade {
+pub(crate) fn trade(random: &mut Random, book: &Book, energy: i128, bilateral: usize) -> Trade {
     let (seller, buyer) = parties(random, book);
     let today = random.below(4) < bilateral;
     let notified = match random.below(6) {
@@ -372,7 +409,7 @@ fn blocked(random: &mut Random, book: &Book, user: &User, level: i128, assigned:
 /// A chain of sales, in which a cut makes the buyer short of cover in turn.
 pub fn chain(random: &mut Random) -> Book {
     let mut book = header(random);
-    book.prices = price_list([2000, 2100, 300, 100, 50]);
+    reprice(&mut book, [2000, 2100, 300, 100, 50]);
     let count = 3 + random.below(12);
     for id in ids(random, count) {
         book.users.push(User {
@@ -416,7 +453,7 @@ pub fn chain(random: &mut Random) -> Book {
 pub fn shares(random: &mut Random) -> Book {
     let mut book = header(random);
     if random.one_in(2) {
-        book.prices = price_list([2000, 2100, 300, 100, 50]);
+        reprice(&mut book, [2000, 2100, 300, 100, 50]);
     }
     let buyers = 1 + random.below(5);
     for id in ids(random, buyers + 1) {
@@ -482,7 +519,7 @@ fn short_seller(random: &mut Random, book: &mut Book) {
 /// Sales, prices and levels of the largest size, all sold by one user.
 pub fn extreme(random: &mut Random) -> Book {
     let mut book = header(random);
-    book.prices = price_list([100_000; 5]);
+    reprice(&mut book, [100_000; 5]);
     for id in ids(random, MOST_USERS) {
         book.users.push(User {
             id,
@@ -541,7 +578,7 @@ pub fn midday(random: &mut Random) -> Book {
 pub fn long(random: &mut Random) -> Book {
     let mut book = header(random);
     let tariff = random.between(1, 5_000);
-    book.prices = price_list([tariff, tariff, 0, 0, 0]);
+    reprice(&mut book, [tariff, tariff, 0, 0, 0]);
     for id in ids(random, 2) {
         book.users.push(User {
             id,

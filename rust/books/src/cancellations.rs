@@ -128,7 +128,7 @@ fn not_eligible(random: &mut Random, trade: Trade) -> Trade {
 
 /// Makes the first sale stand one MWh below notified, so that its parties are
 /// called in.
-fn call_in(book: &mut Book) {
+pub(crate) fn call_in(book: &mut Book) {
     let mut sales = book.trades.iter_mut();
     if let Some(sale) = sales.find(|trade| trade.is_bilateral_today()) {
         sale.standing = sale.notified;

@@ -1,6 +1,7 @@
 //! Damaged books: one field of an accepted book made invalid.
 
-use reference::book::{length, Header, HEADER_LENGTH, TRADE_LENGTH, USER_LENGTH};
+use reference::book::{length, Header, TRADE_LENGTH, USER_LENGTH};
+use reference::version::{header_length, FIRST_HEADER_LENGTH};
 
 use crate::accepted::miscounted;
 use crate::random::Random;
@@ -10,13 +11,17 @@ pub enum Damage {
     Cut,
     Mark,
     Version,
+    /// The header of version 2 in the length of version 1, or the other way round.
+    OtherVersion,
     NoUsers,
     UserCount,
     TradeCount,
     Longer,
     Shorter,
+    /// Version 2 cut to 32 to 39 bytes.
+    CutHeader,
     Date,
-    /// One of P, Q, L, X, I.
+    /// One of P, Q, L, X, I, and in version 2 of S, U.
     Price(usize),
     IdZero,
     IdNotRising,
@@ -42,21 +47,25 @@ pub enum Damage {
 }
 
 impl Damage {
-    pub const ALL: [Damage; 41] = [
+    pub const ALL: [Damage; 45] = [
         Damage::Cut,
         Damage::Mark,
         Damage::Version,
+        Damage::OtherVersion,
         Damage::NoUsers,
         Damage::UserCount,
         Damage::TradeCount,
         Damage::Longer,
         Damage::Shorter,
+        Damage::CutHeader,
         Damage::Date,
         Damage::Price(0),
         Damage::Price(1),
         Damage::Price(2),
         Damage::Price(3),
         Damage::Price(4),
+        Damage::Price(5),
+        Damage::Price(6),
         Damage::IdZero,
         Damage::IdNotRising,
         Damage::Role,
@@ -91,11 +100,13 @@ impl Damage {
         match self {
             Damage::Cut | Damage::Mark => 1,
             Damage::Version => 2,
-            Damage::NoUsers
+            Damage::OtherVersion
+            | Damage::NoUsers
             | Damage::UserCount
             | Damage::TradeCount
             | Damage::Longer
-            | Damage::Shorter => 3,
+            | Damage::Shorter
+            | Damage::CutHeader => 3,
             Damage::Date | Damage::Price(_) => 4,
             Damage::IdZero
             | Damage::IdNotRising
@@ -127,16 +138,17 @@ impl Damage {
         if self.number() <= 4 {
             return self.apply_to_header(random, bytes);
         }
-        let user = length(random.below(users), 0);
+        let version = version_of(bytes);
+        let user = length(version, random.below(users), 0);
         if let Some(record) = bytes.get_mut(user..user + USER_LENGTH) {
             if self.apply_to_user(random, record) {
                 return true;
             }
         }
         if self == Damage::IdNotRising {
-            return repeat_id(random, bytes, users);
+            return repeat_id(random, bytes, version, users);
         }
-        let trade = length(users, random.below(trades));
+        let trade = length(version, users, random.below(trades));
         match bytes.get_mut(trade..trade + TRADE_LENGTH) {
             Some(record) if trades > 0 => self.apply_to_trade(random, record),
             _ => false,
@@ -145,14 +157,24 @@ impl Damage {
 
     fn apply_to_header(self, random: &mut Random, bytes: &mut Vec<u8>) -> bool {
         match self {
-            Damage::Cut => bytes.truncate(random.below(HEADER_LENGTH)),
+            Damage::Cut => bytes.truncate(random.below(FIRST_HEADER_LENGTH)),
             Damage::Longer => bytes.extend_from_slice(&[0]),
-            Damage::Shorter if bytes.len() > HEADER_LENGTH => bytes.truncate(bytes.len() - 1),
-            _ if bytes.len() < HEADER_LENGTH => return false,
+            Damage::Shorter if bytes.len() > FIRST_HEADER_LENGTH => bytes.truncate(bytes.len() - 1),
+            _ if bytes.len() < FIRST_HEADER_LENGTH => return false,
+            Damage::CutHeader if version_of(bytes) == 2 => {
+                bytes.truncate(FIRST_HEADER_LENGTH + random.below(8));
+            }
+            Damage::Price(5 | 6) if header_length(version_of(bytes)) < 40 || bytes.len() < 40 => {
+                return false;
+            }
             Damage::Mark => change_byte(random, &mut bytes[..3]),
             Damage::Version => {
-                let version: u16 = random.pick(&[0, 2, 3, 255, 256, 257, u16::MAX]);
+                let version: u16 = random.pick(&[0, 3, 4, 255, 256, 257, 258, 512, u16::MAX]);
                 put(bytes, 3, &version.to_le_bytes());
+            }
+            Damage::OtherVersion => {
+                let other: u16 = if version_of(bytes) == 1 { 2 } else { 1 };
+                put(bytes, 3, &other.to_le_bytes());
             }
             Damage::NoUsers => bytes[5] = 0,
             Damage::UserCount => change_byte(random, &mut bytes[5..6]),
@@ -241,9 +263,10 @@ impl Damage {
 }
 
 /// Gives a user the id of another user before.
-fn repeat_id(random: &mut Random, bytes: &mut [u8], users: usize) -> bool {
-    let (first, second) = (random.below(users), random.below(users));
-    let (first, second) = (length(first.min(second), 0), length(first.max(second), 0));
+fn repeat_id(random: &mut Random, bytes: &mut [u8], version: u16, users: usize) -> bool {
+    let (one, other) = (random.below(users), random.below(users));
+    let place = |user: usize| length(version, user, 0);
+    let (first, second) = (place(one.min(other)), place(one.max(other)));
     if first == second || bytes.len() < second + 4 {
         return false;
     }
@@ -287,6 +310,11 @@ pub fn counts(bytes: &[u8]) -> (usize, usize) {
     (header.users, header.trades)
 }
 
+/// The version of a book of at least 32 bytes.
+pub fn version_of(bytes: &[u8]) -> u16 {
+    Header::from_bytes(bytes).version
+}
+
 fn put(bytes: &mut [u8], at: usize, value: &[u8]) {
     bytes[at..at + value.len()].copy_from_slice(value);
 }
@@ -302,7 +330,8 @@ fn u64_at(bytes: &[u8], at: usize) -> u64 {
 /// Bytes that are no book, or a book only by its header.
 pub fn raw(random: &mut Random, accepted: &[u8]) -> Vec<u8> {
     let length = random.pick(&[
-        0, 1, 3, 31, 32, 33, 87, 88, 89, 108, 164, 600, 8736, 8737, 9377,
+        0, 1, 3, 31, 32, 33, 39, 40, 41, 87, 88, 89, 96, 108, 164, 600, 8736, 8737, 8744, 8745,
+        9385,
     ]);
     match random.below(12) {
         0 => Vec::new(),
@@ -327,7 +356,7 @@ fn huge_counts(random: &mut Random, accepted: &[u8]) -> Vec<u8> {
     put(&mut bytes, 6, &trades.to_le_bytes());
     if trades < 1_000 && random.one_in(2) {
         let (users, trades) = counts(&bytes);
-        bytes.resize(length(users, trades), 0);
+        bytes.resize(length(version_of(accepted), users, trades), 0);
     }
     bytes
 }
@@ -351,8 +380,8 @@ fn shifted_counts(accepted: &[u8]) -> Vec<u8> {
 
 /// An accepted header with random bytes for the records.
 fn random_records(random: &mut Random, accepted: &[u8]) -> Vec<u8> {
-    let records = random.bytes(accepted.len() - HEADER_LENGTH);
-    [accepted[..HEADER_LENGTH].to_vec(), records].concat()
+    let (header, records) = accepted.split_at(header_length(version_of(accepted)));
+    [header.to_vec(), random.bytes(records.len())].concat()
 }
 
 /// One byte anywhere with any value.

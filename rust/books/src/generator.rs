@@ -1,17 +1,19 @@
 //! The generator: books of a kind, arguments and calls for a book.
 
-use reference::book::{length, User, HEADER_LENGTH, LONGEST, MOST_USERS, USER_LENGTH};
+use reference::book::{length, Book, User, LONGEST, MOST_USERS, USER_LENGTH};
 use reference::questions::{opening_questions, Opened};
 use reference::run::next_reduction;
 use reference::transfer::Image;
+use reference::version::{self, header_length, FIRST_HEADER_LENGTH, LONGEST_HEADER_LENGTH};
 
 use crate::accepted::{
-    any_size, chain, ends_within, extreme, general, largest, long, midday, shares, small, usual,
+    any_size, chain, ends_within, extreme, largest, long, midday, shares, sized, small, usual,
     MOST_LONG_REDUCTIONS,
 };
 use crate::calls::Call;
 use crate::cancellations::whole;
-use crate::damage::{counts, raw, Damage};
+use crate::credits::credited;
+use crate::damage::{counts, raw, version_of, Damage};
 use crate::random::Random;
 use crate::stores::{any_store, date_of};
 
@@ -33,6 +35,8 @@ pub enum Kind {
     Shares,
     /// A seller asked for what some of its sales are worth.
     Whole,
+    /// Version 2 with a credit that decides.
+    Credit,
     /// Flags around their limit.
     Midday,
     /// A run of up to 3,000 reductions.
@@ -44,7 +48,7 @@ pub enum Kind {
 }
 
 impl Kind {
-    pub const ALL: [Kind; 12] = [
+    pub const ALL: [Kind; 13] = [
         Kind::Small,
         Kind::Usual,
         Kind::AnySize,
@@ -53,6 +57,7 @@ impl Kind {
         Kind::Chain,
         Kind::Shares,
         Kind::Whole,
+        Kind::Credit,
         Kind::Midday,
         Kind::Long,
         Kind::Damaged,
@@ -60,7 +65,7 @@ impl Kind {
     ];
 
     /// The kinds that pass questions 1 to 7.
-    pub const ACCEPTED: [Kind; 10] = [
+    pub const ACCEPTED: [Kind; 11] = [
         Kind::Small,
         Kind::Usual,
         Kind::AnySize,
@@ -69,6 +74,7 @@ impl Kind {
         Kind::Chain,
         Kind::Shares,
         Kind::Whole,
+        Kind::Credit,
         Kind::Midday,
         Kind::Long,
     ];
@@ -113,6 +119,7 @@ impl Generator {
             Kind::Chain => chain(random).to_bytes(),
             Kind::Shares => shares(random).to_bytes(),
             Kind::Whole => whole(random).to_bytes(),
+            Kind::Credit => credited(random).to_bytes(),
             Kind::Midday => midday(random).to_bytes(),
             Kind::Long => long(random).to_bytes(),
             Kind::Damaged => self.damaged(),
@@ -123,15 +130,26 @@ impl Generator {
         }
     }
 
-    /// An accepted book of this many users, 1 to 64, and trades, at most 256;
-    /// a single user trades with nobody. Its run takes at most 400 reductions.
-    pub fn sized(&mut self, users: usize, trades: usize) -> Vec<u8> {
-        general(&mut self.random, users, trades).to_bytes()
+    /// A book of this kind and version.
+    pub fn book_of(&mut self, version: u16, kind: Kind) -> Vec<u8> {
+        loop {
+            let book = self.book(kind);
+            if version_of(&book) == version {
+                return book;
+            }
+        }
+    }
+
+    /// An accepted book of this version, of this many users, 1 to 64, and trades,
+    /// at most 256; a single user trades with nobody. Its run takes at most 400
+    /// reductions.
+    pub fn sized(&mut self, version: u16, users: usize, trades: usize) -> Book {
+        sized(&mut self.random, version, users, trades)
     }
 
     /// A book of any kind, the large ones less often.
     pub fn any_book(&mut self) -> Vec<u8> {
-        let kind = match self.random.below(26) {
+        let kind = match self.random.below(28) {
             0 => self
                 .random
                 .pick(&[Kind::Largest, Kind::Extreme, Kind::AnySize]),
@@ -143,6 +161,7 @@ impl Generator {
             13..=15 => Kind::Midday,
             16..=19 => Kind::Usual,
             20 | 21 => Kind::Whole,
+            22 | 23 => Kind::Credit,
             _ => Kind::Small,
         };
         self.book(kind)
@@ -150,9 +169,13 @@ impl Generator {
 
     /// An accepted book that is not large.
     fn few(&mut self) -> Vec<u8> {
-        let kind = self
-            .random
-            .pick(&[Kind::Small, Kind::Small, Kind::Usual, Kind::Midday]);
+        let kind = self.random.pick(&[
+            Kind::Small,
+            Kind::Small,
+            Kind::Usual,
+            Kind::Midday,
+            Kind::Credit,
+        ]);
         self.book(kind)
     }
 
@@ -161,7 +184,7 @@ impl Generator {
         let mut bytes = self.damaged_by(damage);
         if self.random.one_in(4) {
             let second = self.random.pick(&Damage::ALL);
-            if bytes.len() >= HEADER_LENGTH {
+            if bytes.len() >= FIRST_HEADER_LENGTH {
                 let (users, trades) = counts(&bytes);
                 second.apply(&mut self.random, &mut bytes, (users, trades));
             }
@@ -322,14 +345,18 @@ impl Generator {
         let bytes = self.few();
         let (users, trades) = counts(&bytes);
         let mut image = self.image(bytes, users, trades);
-        let right = length(users, trades);
+        if self.random.one_in(6) {
+            // The same fields as those of the other version.
+            image[3] = 3 - image[3].clamp(1, 2);
+        }
+        let right = length(version_of(&image), users, trades);
         if self.random.one_in(3) {
             self.damage_header(&mut image);
         }
+        let (less, more) = ([right - 1, right - 8], [right + 1, right + 8]);
         let length = match self.random.below(8) {
-            0 => self
-                .random
-                .pick(&[0, 31, 32, right - 1, right + 1, LONGEST, LONGEST + 1]),
+            0 => self.random.pick(&[0, 31, 32, 39, 40, LONGEST, LONGEST + 1]),
+            1 => self.random.pick(&[less, more].concat()),
             _ => right,
         };
         Call::Write {
@@ -339,8 +366,8 @@ impl Generator {
     }
 
     /// The image of these records, one of them perhaps damaged. Records past
-    /// the counts are not always 0, and neither are the zero bytes; the mark may
-    /// be another one. Writing looks at none of these.
+    /// the counts are not always 0, and neither are S and U of version 1 and the
+    /// zero bytes; the mark may be another one. Writing looks at none of these.
     fn image(&mut self, bytes: Vec<u8>, users: usize, trades: usize) -> Image {
         let mut bytes = bytes;
         if self.random.one_in(2) {
@@ -349,20 +376,41 @@ impl Generator {
                 damage.apply(&mut self.random, &mut bytes, (users, trades));
             }
         }
-        let (records, sales) = bytes.split_at(length(users, 0));
+        let version = version_of(&bytes);
+        let (records, sales) = bytes.split_at(length(version, users, 0));
+        let (header, records) = records.split_at(header_length(version));
         let mut image = [0; LONGEST];
-        image[..records.len()].copy_from_slice(records);
-        image[length(MOST_USERS, 0)..][..sales.len()].copy_from_slice(sales);
+        if self.random.one_in(2) {
+            let tariffs = FIRST_HEADER_LENGTH..LONGEST_HEADER_LENGTH;
+            image[tariffs].copy_from_slice(&self.tariffs());
+        }
+        image[..header.len()].copy_from_slice(header);
+        image[LONGEST_HEADER_LENGTH..][..records.len()].copy_from_slice(records);
+        image[length(version::LAST, MOST_USERS, 0)..][..sales.len()].copy_from_slice(sales);
         if users < MOST_USERS && self.random.one_in(3) {
-            image[length(users, 0)] = 7;
+            image[length(version::LAST, users, 0)] = 7;
             image[LONGEST - 1] = 7;
         }
         image
     }
 
+    /// S and U in bytes, in range or not.
+    fn tariffs(&mut self) -> [u8; 8] {
+        let [s, u] = [(); 2].map(|()| {
+            let any = self.random.word();
+            let tariff: u32 = self
+                .random
+                .pick(&[0, 1, 1_900, 99_999, 100_000, 100_001, any]);
+            tariff.to_le_bytes()
+        });
+        let [a, b, c, d] = s;
+        let [e, f, g, h] = u;
+        [a, b, c, d, e, f, g, h]
+    }
+
     fn damage_header(&mut self, image: &mut Image) {
         match self.random.below(4) {
-            0 => image[3 + self.random.below(2)] = self.random.pick(&[0, 2, 255]),
+            0 => image[3 + self.random.below(2)] = self.random.pick(&[0, 1, 2, 3, 255]),
             1 => image[5] = self.random.pick(&[0, 65, 255]),
             2 => image[7] = self.random.pick(&[2, 255]),
             _ => image[6] = self.random.byte(),
@@ -373,11 +421,12 @@ impl Generator {
 /// The users whose records stand in the bytes, up to the count, whether the
 /// bytes are an accepted book or not.
 fn users_in_place(bytes: &[u8]) -> Vec<User> {
-    if bytes.len() < HEADER_LENGTH {
+    if bytes.len() < FIRST_HEADER_LENGTH {
         return Vec::new();
     }
     let (count, _) = counts(bytes);
-    let records = bytes[HEADER_LENGTH..].chunks_exact(USER_LENGTH);
+    let header = header_length(version_of(bytes)).min(bytes.len());
+    let records = bytes[header..].chunks_exact(USER_LENGTH);
     records.take(count).map(User::from_bytes).collect()
 }
 

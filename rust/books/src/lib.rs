@@ -7,6 +7,7 @@
 pub mod accepted;
 pub mod calls;
 pub mod cancellations;
+pub mod credits;
 pub mod damage;
 pub mod generator;
 pub mod hard;
@@ -17,6 +18,7 @@ pub mod shrinkage;
 pub mod stores;
 pub mod tuned;
 pub mod vectors;
+pub mod versions;
 pub mod written;
 
 pub use calls::{answer, Answer, Call};

@@ -1,22 +1,24 @@
-//! The outside vectors of `vectors/` and `vectors/version-1/`: printed days, and
-//! calls with their answers. `vectors/README.md` has both formats.
+//! The outside vectors of `vectors/`, `vectors/version-1/` and
+//! `vectors/version-2/`: printed days, and calls with their answers.
+//! `vectors/README.md` has both formats.
 
 use std::fs;
 use std::path::PathBuf;
 
-use reference::book::LONGEST;
+use reference::transfer::Image;
+use reference::version::{FIRST_HEADER_LENGTH, LONGEST_HEADER_LENGTH};
 
 use crate::calls::{Answer, Call};
 use crate::sha256::{hex, sha256};
 
 /// Lines of `calls.txt` that are calls.
-pub const CALLS: usize = 2_173;
+pub const CALLS: usize = 2_167;
 
-/// Lines of `version-1/calls.txt`.
-pub const REQUESTS: usize = 3_566;
+/// Lines of `version-1/calls.txt` and of `version-2/calls.txt`.
+pub const REQUESTS: usize = 3_566 + 2_773;
 
-/// Books with a printed day, of both folders.
-pub const DAYS: usize = 124;
+/// Books with a printed day, of all three folders.
+pub const DAYS: usize = 155;
 
 /// What answers a call on a book with a store, or none, and changes the book.
 pub type Implementation = fn(&mut [u8], Option<&[u8]>, &Call) -> Answer;
@@ -41,7 +43,7 @@ fn file(name: &str) -> Vec<u8> {
 /// Every printed day, by name.
 pub fn days() -> Vec<Day> {
     let mut days = Vec::new();
-    let folders = [folder(), folder().join("version-1")];
+    let folders = ["", "version-1", "version-2"].map(|name| folder().join(name));
     let entries = folders
         .iter()
         .flat_map(|folder| fs::read_dir(folder).expect("a folder"));
@@ -114,8 +116,23 @@ fn parsed(words: &[&str], left: &[u8]) -> (Vec<u8>, Call) {
     (book, call)
 }
 
-fn image(name: &str) -> [u8; LONGEST] {
-    file(name).try_into().expect("image")
+/// An image of document 01, whose header has 32 bytes, as one of 40, S and U 0.
+fn image(name: &str) -> Image {
+    let mut image = file(name);
+    let places = FIRST_HEADER_LENGTH..FIRST_HEADER_LENGTH;
+    image.splice(places, [0; LONGEST_HEADER_LENGTH - FIRST_HEADER_LENGTH]);
+    image.try_into().expect("image")
+}
+
+/// The image as one of document 01: without S and U, which are 0.
+fn narrowed(image: &[u8]) -> Vec<u8> {
+    let (first, rest) = image.split_at(FIRST_HEADER_LENGTH);
+    let (tariffs, records) = rest.split_at(LONGEST_HEADER_LENGTH - FIRST_HEADER_LENGTH);
+    assert!(
+        tariffs.iter().all(|byte| *byte == 0),
+        "S and U of version 1"
+    );
+    [first, records].concat()
 }
 
 /// The answer and the book afterwards in the words of the file.
@@ -131,7 +148,10 @@ fn printed(book: &[u8], call: &Call, given: &Answer) -> String {
         Call::ShowPicked { afternoon, .. } => {
             format!("{number} {part} {} {}", sha256(book), sha256(afternoon))
         }
-        Call::Read => format!("{number} {} {}", sha256(&given.part), sha256(book)),
+        Call::Read => {
+            let image = narrowed(&given.part);
+            format!("{number} {} {}", sha256(&image), sha256(book))
+        }
         Call::Write { .. } => format!("{number} {}", sha256(&given.part)),
         _ => {
             let fields = given.fields.iter().map(|field| format!(" {field}"));
@@ -151,24 +171,31 @@ fn after(book: Vec<u8>, call: &Call) -> Vec<u8> {
     }
 }
 
-/// Replays every call of `version-1/calls.txt`, with a store or none, and says
-/// how many there were.
+/// Replays every call of `version-1/calls.txt` and of `version-2/calls.txt`, with
+/// a store or none, and says how many there were.
 pub fn replay_requests(implementation: Implementation) -> usize {
-    let text = String::from_utf8(file("version-1/calls.txt")).expect("text");
+    let folders = ["version-1", "version-2"];
+    let replayed = folders.map(|folder| replay_folder(folder, implementation));
+    replayed.iter().sum()
+}
+
+/// The calls of one folder.
+fn replay_folder(folder: &str, implementation: Implementation) -> usize {
+    let text = String::from_utf8(file(&format!("{folder}/calls.txt"))).expect("text");
     let mut replayed = 0;
     for line in text.lines() {
         let (words, expected) = line.split_once(" -> ").expect("a call and its answer");
-        let request = Request::parsed(words);
+        let request = Request::parsed(folder, words);
         let mut book = request.book.clone();
         let given = implementation(&mut book, request.store.as_deref(), &request.call);
         assert_eq!(keyed(&book, &request.call, &given), expected, "{words}");
         replayed += 1;
     }
-    println!("requests replayed: {replayed}");
+    println!("requests of {folder} replayed: {replayed}");
     replayed
 }
 
-/// A line of `version-1/calls.txt`, left of the arrow.
+/// A line of a folder's `calls.txt`, left of the arrow.
 struct Request {
     book: Vec<u8>,
     store: Option<Vec<u8>>,
@@ -176,7 +203,7 @@ struct Request {
 }
 
 impl Request {
-    fn parsed(words: &str) -> Request {
+    fn parsed(folder: &str, words: &str) -> Request {
         let (name, words) = words.split_once(' ').expect("a call and its arguments");
         let value = |key: &str| {
             let mut values = words.split(' ').filter_map(|word| word.split_once('='));
@@ -197,7 +224,7 @@ impl Request {
                 .map(|number| u32::try_from(number).expect(key))
                 .collect()
         };
-        let part = |key: &str| file(&format!("version-1/{}", value(key).expect(key)));
+        let part = |key: &str| file(&format!("{folder}/{}", value(key).expect(key)));
         let call = match name {
             "posting" => Call::Posting {
                 id: id(),
@@ -251,8 +278,8 @@ fn bytes_of(hex: &str) -> Vec<u8> {
     digits.map(byte).collect()
 }
 
-/// The answer and the book afterwards in the words of `version-1/calls.txt`. Of
-/// two books the picked one is told.
+/// The answer and the book afterwards in the words of such a line. Of two books
+/// the picked one is told.
 fn keyed(book: &[u8], call: &Call, given: &Answer) -> String {
     let names: &[&str] = match call {
         Call::MorningLevel { .. } | Call::AfternoonLevel { .. } => &["level"],

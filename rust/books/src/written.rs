@@ -27,6 +27,7 @@ pub fn priced([p, q, l, x, i]: [i128; 5], users: Vec<User>, trades: Vec<Trade>) 
             l: Price(l),
             x: Price(x),
             i: Price(i),
+            ..Prices::default()
         },
         users,
         trades,

@@ -3,8 +3,11 @@
 
 #![forbid(unsafe_code)]
 
+mod credit;
+
 use std::collections::BTreeMap;
 
+use books::versions::in_version_1;
 use books::{answer, Answer, Call, Generator};
 use reference::book::{Book, User, MOST_TRADES, MOST_USERS};
 use reference::levels::{
@@ -49,7 +52,7 @@ fn numbers(name: &str) -> Vec<u32> {
     }
 }
 
-const BRANCHES: [&str; 68] = [
+const BRANCHES: [&str; 99] = [
     "book: one user",
     "book: 64 users, 256 trades",
     "book: no trades",
@@ -59,6 +62,37 @@ const BRANCHES: [&str; 68] = [
     "book: least w in area 0",
     "book: least w in area 1",
     "book: least w in area 2",
+    "book: version 1",
+    "book: version 2",
+    "book: 64 users, 256 trades, version 2",
+    "book: S 0",
+    "book: S 1",
+    "book: S 99,999",
+    "book: S 100,000",
+    "book: U 0",
+    "book: U 1",
+    "book: U 99,999",
+    "book: U 100,000",
+    "book: S above P",
+    "book: U above Q",
+    "credit: in area 0",
+    "credit: in area 1",
+    "credit: in area 2",
+    "credit: more than the rest of the sum",
+    "credit: takes the level to the floor",
+    "credit: leaves the level one above the floor",
+    "credit: a flagged user",
+    "credit: covers the margin (question 11)",
+    "credit: covers the level (questions 12 and 13)",
+    "credit: leaves a target of 1 to 1,000",
+    "reduction: by a seller with a credit",
+    "reduction: the credit lessens the cuts",
+    "cancellation: by a seller with a credit",
+    "run: version 2, 3 or more reductions",
+    "run: the credit saves a user from a reduction",
+    "run: a cut lessens the buyer's credit and makes it short",
+    "write: version 1, S or U not 0",
+    "write: version 2",
     "user: clearing house",
     "user: flagged clearing house",
     "user: called in by flag alone",
@@ -133,6 +167,9 @@ fn every_number_and_branch_is_reached() {
             let answer = answer(&mut bytes, None, &call);
             counts.add(&format!("{}: {}", call.name(), answer.number));
             counts.add(&format!("number {}", answer.number));
+            if let (Call::Write { image, .. }, 0) = (&call, answer.number) {
+                credit::count_write(&mut counts, &image[..]);
+            }
             if let (Some(before), 0) = (before, answer.number) {
                 count_call(&mut counts, &before, &call, &answer);
             }
@@ -190,6 +227,7 @@ fn count_book(counts: &mut Counts, bytes: &[u8]) {
     counts.add_if(pvb < tvb.min(avb), "book: least w in area 0");
     counts.add_if(tvb < pvb.min(avb), "book: least w in area 1");
     counts.add_if(avb < pvb.min(tvb), "book: least w in area 2");
+    credit::count_version(counts, &book);
     for user in &book.users {
         count_user(counts, &book, user);
     }
@@ -218,6 +256,7 @@ fn count_user(counts: &mut Counts, book: &Book, user: &User) {
         "user: short positions - blocked one above the limit of the flag",
     );
     count_levels(counts, book, user);
+    credit::count_credit(counts, book, user);
 }
 
 fn count_levels(counts: &mut Counts, book: &Book, user: &User) {
@@ -328,6 +367,15 @@ fn count_reduction(counts: &mut Counts, book: &Book, place: usize, answer: &Answ
     );
     count_tier(counts, &one, asked);
     count_tier(counts, &two, rest);
+    if credit::has(book, user) {
+        counts.add("reduction: by a seller with a credit");
+        let asked_without = target(&Limits::TODAY, &in_version_1(book), user);
+        let worth = tier_worth(&one) + tier_worth(&two);
+        counts.add_if(
+            asked < asked_without && asked < worth,
+            "reduction: the credit lessens the cuts",
+        );
+    }
     let (short, over) = (answer.fields[3], answer.fields[4]);
     counts.add_if(short > 0, "reduction: short");
     counts.add_if(over > 0, "reduction: over");
@@ -390,6 +438,10 @@ fn count_cancellation(counts: &mut Counts, book: &Book, place: usize, tries: u32
     counts.add_if(
         excess > 0 && complete && spent,
         "cancellation: the last try is the empty set",
+    );
+    counts.add_if(
+        credit::has(book, user),
+        "cancellation: by a seller with a credit",
     );
     let (one, two) = tiers(book, user);
     let marked = |place: &usize| answer.part[*place] == 1;
@@ -457,6 +509,9 @@ fn count_run(counts: &mut Counts, book: &Book, answer: &Answer) {
     let made_short = |place: &usize| {
         times[*place] > 0 && !short_of_cover(&Limits::TODAY, book, &book.users[*place])
     };
+    if book.version == 2 {
+        credit::count_run_with_credit(counts, (book, &after), &times);
+    }
     let any = (0..times.len()).any(|place| made_short(&place));
     counts.add_if(any, "run: a cut makes the buyer short and reduced");
     let short = after

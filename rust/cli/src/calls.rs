@@ -4,6 +4,7 @@
 use daybook::{GuaranteeCall, Level, Reduction, Refusal, Run, User};
 
 use crate::arguments::{amount, id, Arguments};
+use crate::credit::{by_area, credits, has_credit, lines};
 use crate::files;
 use crate::json::{list, Object};
 use crate::outcome::{Failure, Outcome};
@@ -114,7 +115,15 @@ pub fn level(arguments: &Arguments) -> Result<Outcome, Failure> {
         let object = answer(id)
             .put("morning_cents", morning)
             .put("afternoon_cents", afternoon);
-        Ok((line, object))
+        let book = daybook::read(&call.source.bytes)?;
+        if !has_credit(&book) {
+            return Ok((line, object));
+        }
+        let user = request.show(&call.source.bytes, id)?;
+        let credits = credits(&book, &user);
+        let told = format!("{line}\n{}", lines(&credits));
+        let object = object.put("credit_cents", list(by_area(&credits)));
+        Ok((told.trim_end().to_string(), object))
     })
 }
 

@@ -44,18 +44,23 @@ fn with_store(source: Source, store: &Store) -> Result<Source, Failure> {
     }
 }
 
-/// An accepted book in a line.
+/// An accepted book in a line; the version is told in words where it is not the
+/// first.
 fn told(source: &Source, json: bool) -> String {
     let name = &source.name;
-    let (day, users, trades) = match daybook::read(&source.bytes) {
-        Ok(book) => (date(book.date), book.users.len(), book.trades.len()),
-        Err(_) => (String::new(), 0, 0),
-    };
+    let book = daybook::read(&source.bytes).unwrap_or_default();
+    let (version, day) = (book.version, date(book.date));
+    let (users, trades) = (book.users.len(), book.trades.len());
     if json {
         let object = Object::new().string("book", name).put("accepted", true);
-        let object = object.put("number", 0).string("date", &day);
+        let object = object.put("number", 0).put("version", version);
+        let object = object.string("date", &day);
         return object.put("users", users).put("trades", trades).end();
     }
+    let version = match version {
+        1 => String::new(),
+        _ => format!("version {version}, "),
+    };
     let (users, trades) = (counted(users, "user"), counted(trades, "trade"));
-    format!("{name}: accepted: {day}, {users}, {trades}")
+    format!("{name}: accepted: {version}{day}, {users}, {trades}")
 }

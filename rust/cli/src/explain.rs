@@ -2,6 +2,7 @@
 
 use crate::arguments::Arguments;
 use crate::calls::{reduction_object, run_line};
+use crate::credit::{by_area, lines, Credited};
 use crate::json::{list, Object};
 use crate::outcome::{Failure, Outcome};
 use crate::reasons::Asked;
@@ -70,7 +71,14 @@ fn step_object(step: &Step) -> String {
     let object = Object::new()
         .put("reduction", step.number)
         .put("id", step.user.id)
-        .put("level_cents", step.level)
+        .put("level_cents", step.level);
+    let object = match &step.credited {
+        Some(Credited { without, credits }) => object
+            .put("level_without_credit_cents", without)
+            .put("credit_cents", list(by_area(credits))),
+        None => object,
+    };
+    let object = object
         .put("assigned_cents", step.user.assigned)
         .put("blocked_cents", step.user.blocked)
         .put("flagged", step.called_in.is_flagged())
@@ -172,6 +180,7 @@ fn step_words(step: &Step, figures: &Figures, least: u64) -> String {
         grouped(step.number),
         user.id
     );
+    text.push_str(&credit_words(step, figures));
     let (level, assigned) = (euros(step.level), euros(user.assigned));
     let target = euros(step.answer.target);
     text.push_str(&format!(
@@ -207,6 +216,25 @@ fn step_words(step: &Step, figures: &Figures, least: u64) -> String {
         None => "  next: nobody\n\n".to_string(),
     });
     text
+}
+
+/// How the level comes about where it has credit: a line for each area in which
+/// the user is long. The level does not fall below the floor.
+fn credit_words(step: &Step, figures: &Figures) -> String {
+    let Some(Credited { without, credits }) = &step.credited else {
+        return String::new();
+    };
+    if credits.is_empty() {
+        return "  no credit: it is long in no area\n".to_string();
+    }
+    let credit: u64 = by_area(credits).into_iter().sum();
+    let floor = match without.checked_sub(credit) == Some(step.level) {
+        true => String::new(),
+        false => format!("  a level is at least {} EUR\n", euros(figures.least_level)),
+    };
+    let without = euros(*without);
+    let lines = lines(credits);
+    format!("  level without credit {without} EUR\n{lines}{floor}")
 }
 
 fn called_in_words(step: &Step, figures: &Figures, least: u64) -> String {

@@ -9,7 +9,10 @@ use std::fmt::{self, Display, Formatter};
 
 use daybook::{Book, Trade, User, MOST_TRADES, MOST_USERS, TRADE_LENGTH, USER_LENGTH};
 
-use crate::fields::{date_fault, fields, prices, two, Field, Place, HEADER_LENGTH, MARK, PRICES};
+use crate::fields::{
+    date_fault, fields, has_selling_tariffs, header_length, prices, two, Field, Place, MARK,
+    PRICES, SHORT_HEADER, VERSIONS,
+};
 use crate::words::{counted, euros, grouped, AREAS};
 
 const MOST_MONEY: u64 = 1_000_000_000_000;
@@ -96,16 +99,16 @@ fn header(field: Field, reason: String) -> Fault {
 /// Question 1.
 fn mark(bytes: &[u8]) -> Vec<Fault> {
     let mut faults = Vec::new();
-    if bytes.len() < HEADER_LENGTH {
+    if bytes.len() < SHORT_HEADER {
         let length = counted(bytes.len(), "byte");
-        let reason = format!("{length}, a header alone has {HEADER_LENGTH}");
+        let reason = format!("{length}, a header has at least {SHORT_HEADER}");
         faults.push(header(Field::Length, reason));
     }
     if !bytes.starts_with(MARK) {
         let start: Vec<String> = bytes.iter().take(3).map(|it| format!("{it:02x}")).collect();
         let start = start.join(" ");
         let hint = if is_text(bytes) {
-            "; a text starts with the line `daybook 1`"
+            "; a text starts with the line `daybook 1` or `daybook 2`"
         } else {
             ""
         };
@@ -131,28 +134,30 @@ fn version(bytes: &[u8]) -> Vec<Fault> {
 }
 
 fn version_of(version: u16) -> Vec<Fault> {
-    match version {
-        1 => Vec::new(),
-        _ => vec![header(
+    match has_selling_tariffs(version) {
+        Some(_) => Vec::new(),
+        None => vec![header(
             Field::Version,
-            format!("version {version}, the engine knows version 1"),
+            format!("version {version}, the engine knows {VERSIONS}"),
         )],
     }
 }
 
 /// Question 3.
 fn counts_and_length(bytes: &[u8]) -> Vec<Fault> {
-    let (Some(users), Some(trades)) = (bytes.get(5).copied().map(usize::from), two(bytes, 6))
+    let (Some(version), Some(users), Some(trades)) =
+        (two(bytes, 3), bytes.get(5).copied(), two(bytes, 6))
     else {
         return Vec::new();
     };
-    let trades = usize::from(trades);
+    let (users, trades) = (usize::from(users), usize::from(trades));
     let mut faults = counts(users, trades);
-    let length = HEADER_LENGTH + USER_LENGTH * users + TRADE_LENGTH * trades;
+    let length = header_length(version) + USER_LENGTH * users + TRADE_LENGTH * trades;
     if faults.is_empty() && length != bytes.len() {
         let (users, trades) = (counted(users, "user"), counted(trades, "trade"));
         let (has, length) = (counted(bytes.len(), "byte"), counted(length, "byte"));
-        let reason = format!("{has}, but a book of {users} and {trades} has {length}");
+        let book = format!("a version {version} book of {users} and {trades}");
+        let reason = format!("{has}, but {book} has {length}");
         faults.push(header(Field::Length, reason));
     }
     faults
@@ -178,7 +183,7 @@ fn date_and_prices(book: &Book) -> Vec<Fault> {
     if let Some(reason) = date_fault(book.date) {
         faults.push(header(Field::Date, reason));
     }
-    for (place, price) in prices(&book.prices).into_iter().enumerate() {
+    for (place, price) in prices(book).into_iter().enumerate() {
         let least = u32::from(place < 2);
         if !(least..=MOST_PRICE).contains(&price) {
             let (name, price) = (PRICES[place], euros(price));
@@ -355,7 +360,8 @@ pub fn defined_position(book: &Book, user: &User, area: usize) -> i128 {
 
 /// The bytes of a user and of a trade that have to be 0 and are not.
 fn zero_bytes(bytes: &[u8], book: &Book) -> Vec<Fault> {
-    let users = HEADER_LENGTH..HEADER_LENGTH + USER_LENGTH * book.users.len();
+    let header = header_length(book.version);
+    let users = header..header + USER_LENGTH * book.users.len();
     let trades = bytes.get(users.end..).unwrap_or(&[]);
     let users = bytes.get(users).unwrap_or(&[]);
     let mut faults = Vec::new();

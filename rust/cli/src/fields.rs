@@ -9,8 +9,32 @@ use crate::words::{self, AREAS};
 /// The mark that a book starts with.
 pub const MARK: &[u8] = b"GDB";
 
-/// Bytes of the header.
-pub const HEADER_LENGTH: usize = 32;
+/// Bytes of the shortest header, that of version 1.
+pub const SHORT_HEADER: usize = 32;
+
+/// Bytes of a header with the selling tariffs.
+const LONG_HEADER: usize = 40;
+
+/// The versions that the engine knows.
+pub const VERSIONS: &str = "versions 1 and 2";
+
+/// Whether a book of a version has the selling tariffs; nothing is said of a
+/// version that the engine does not know.
+pub fn has_selling_tariffs(version: u16) -> Option<bool> {
+    match version {
+        1 => Some(false),
+        2 => Some(true),
+        _ => None,
+    }
+}
+
+/// Bytes of the header of a book of a version.
+pub fn header_length(version: u16) -> usize {
+    match has_selling_tariffs(version) {
+        Some(true) => LONG_HEADER,
+        _ => SHORT_HEADER,
+    }
+}
 
 /// A record of a book; places count from 0.
 #[derive(Clone, Copy, Debug, PartialEq, Eq, PartialOrd, Ord)]
@@ -47,8 +71,12 @@ pub enum Field {
     Standing,
 }
 
-/// The names of the prices, in the order of the header.
-pub const PRICES: [&str; 5] = ["P", "Q", "L", "X", "I"];
+/// The names of the prices, in the order of the header: those that every version
+/// has, then the selling tariffs.
+pub const PRICES: [&str; 7] = ["P", "Q", "L", "X", "I", "S", "U"];
+
+/// How many of them every version has.
+pub const COMMON_PRICES: usize = 5;
 
 impl Display for Field {
     fn fmt(&self, formatter: &mut Formatter<'_>) -> fmt::Result {
@@ -84,15 +112,21 @@ fn area_name(area: usize) -> &'static str {
     AREAS.get(area).copied().unwrap_or("area")
 }
 
-/// P, Q, L, X, I.
-pub fn prices(prices: &Prices) -> [u32; 5] {
-    [
+/// The prices that a book of its version has, in the order of the header.
+pub fn prices(book: &Book) -> Vec<u32> {
+    let prices = &book.prices;
+    let mut listed = vec![
         prices.pvb_tariff,
         prices.tank_and_store_tariff,
         prices.liquefaction_toll,
         prices.exit_toll,
         prices.injection_toll,
-    ]
+    ];
+    if has_selling_tariffs(book.version) == Some(true) {
+        listed.push(prices.pvb_selling_tariff);
+        listed.push(prices.tank_and_store_selling_tariff);
+    }
+    listed
 }
 
 /// Sets a price by its place in the header.
@@ -103,30 +137,30 @@ pub fn put_price(book: &mut Book, place: usize, price: u32) {
         1 => prices.tank_and_store_tariff = price,
         2 => prices.liquefaction_toll = price,
         3 => prices.exit_toll = price,
-        _ => prices.injection_toll = price,
+        4 => prices.injection_toll = price,
+        5 => prices.pvb_selling_tariff = price,
+        _ => prices.tank_and_store_selling_tariff = price,
     }
 }
 
 /// The fields of bytes that are long enough for their user count, accepted or
 /// not; none of other bytes.
 pub fn fields(bytes: &[u8]) -> Option<Book> {
+    let version = two(bytes, 3)?;
     let users = usize::from(*bytes.get(5)?);
-    let records = bytes.get(HEADER_LENGTH..)?;
+    let records = bytes.get(header_length(version)..)?;
     let (users, trades) = records.split_at_checked(USER_LENGTH * users)?;
-    let price = |place: usize| four(bytes, 12 + 4 * place);
-    Some(Book {
-        version: two(bytes, 3)?,
+    let mut book = Book {
+        version,
         date: four(bytes, 8)?,
-        prices: Prices {
-            pvb_tariff: price(0)?,
-            tank_and_store_tariff: price(1)?,
-            liquefaction_toll: price(2)?,
-            exit_toll: price(3)?,
-            injection_toll: price(4)?,
-        },
+        prices: Prices::default(),
         users: users.as_chunks().0.iter().map(User::from_bytes).collect(),
         trades: trades.as_chunks().0.iter().map(Trade::from_bytes).collect(),
-    })
+    };
+    for place in 0..prices(&book).len() {
+        put_price(&mut book, place, four(bytes, 12 + 4 * place)?);
+    }
+    Some(book)
 }
 
 /// Two bytes at a place as a number.

@@ -13,6 +13,7 @@ pub mod cancel;
 pub mod check;
 pub mod commands;
 pub mod convert;
+pub mod credit;
 pub mod csv;
 pub mod draft;
 pub mod ends;

@@ -4,7 +4,9 @@ use daybook::{Book, Request, User};
 
 use crate::arguments::Arguments;
 use crate::convert::output;
+use crate::credit::{by_area, credits, has_credit};
 use crate::explain::MOST;
+use crate::fields::{prices, PRICES};
 use crate::outcome::{Failure, Outcome};
 use crate::picture::pictures;
 use crate::reasons::Asked;
@@ -153,19 +155,28 @@ impl Day<'_> {
     }
 
     fn users(&self) -> String {
-        let books = self
-            .trace
-            .opening
-            .users
-            .iter()
-            .zip(&self.trace.closing.users);
+        let Trace {
+            opening, closing, ..
+        } = self.trace;
+        let has_credit = has_credit(opening);
+        let books = opening.users.iter().zip(&closing.users);
         let states = self.before.iter().zip(&self.after);
-        let rows: String = books
-            .zip(states)
-            .map(|(users, states)| user(users, states))
-            .collect();
+        let row = |(users, states): ((&User, &User), (&State, &State))| {
+            let credit = has_credit.then(|| {
+                let told = |book: &Book, user: &User, state: &State| match state.level {
+                    Some(_) => euros(by_area(&credits(book, user)).into_iter().sum::<u64>()),
+                    None => "–".to_string(),
+                };
+                let before = told(opening, users.0, states.0);
+                changed(before, told(closing, users.1, states.1))
+            });
+            user(users, states, credit)
+        };
+        let rows: String = books.zip(states).map(row).collect();
         let positions = AREAS.map(|area| format!("position {area}"));
-        let mut names = vec!["user", "role", "state", "level", "assigned", "blocked"];
+        let mut names = vec!["user", "role", "state", "level"];
+        names.extend(has_credit.then_some("credit"));
+        names.extend(["assigned", "blocked"]);
         names.extend(positions.iter().map(String::as_str));
         table("Users before and after", &names, &rows)
     }
@@ -205,8 +216,19 @@ impl Day<'_> {
     }
 
     fn terms(&self) -> String {
-        let prices = crate::fields::prices(&self.trace.opening.prices).map(euros);
-        let [p, q, l, x, i] = prices;
+        let opening = &self.trace.opening;
+        let priced = PRICES.iter().zip(prices(opening));
+        let priced: Vec<String> = priced
+            .map(|(name, price)| format!("{name} {}", euros(price)))
+            .collect();
+        let priced = priced.join(", ");
+        let credit = match has_credit(opening) {
+            true => {
+                ", after the credit for long positions, at S in PVB and at U in TVB and AVB, \
+                 which does not take it below that"
+            }
+            false => "",
+        };
         let Figures {
             flag_mwh,
             margin,
@@ -221,8 +243,8 @@ impl Day<'_> {
             false => String::new(),
         };
         format!(
-            "<h2>Terms</h2>\n<p>MWh, euros; prices in euros a MWh: P {p}, Q {q}, L {l}, X {x}, \
-             I {i}. Level: the afternoon level, at least {least}. Flagged above {mwh} MWh at the \
+            "<h2>Terms</h2>\n<p>MWh, euros; prices in euros a MWh: {priced}. Level: the \
+             afternoon level, at least {least}{credit}. Flagged above {mwh} MWh at the \
              least reference price; called where the level exceeds blocked by more than \
              {margin}.</p>\n<p><i>short</i>: short of cover, with no sale left to cut after the \
              run. <i>call</i>: called in, and its assigned guarantee covers the level. \
@@ -249,16 +271,20 @@ fn reduction(step: &Step) -> String {
     ])
 }
 
-fn user((before, after): (&User, &User), (first, last): (&State, &State)) -> String {
+fn user(
+    (before, after): (&User, &User),
+    (first, last): (&State, &State),
+    credit: Option<String>,
+) -> String {
     let level = |state: &State| state.level.map_or_else(|| "–".to_string(), euros);
     let mut cells = vec![
         before.id.to_string(),
         word(&ROLES, before.role).replace('-', " "),
         changed(first.word.to_string(), last.word.to_string()),
         changed(level(first), level(last)),
-        euros(before.assigned),
-        euros(before.blocked),
     ];
+    cells.extend(credit);
+    cells.extend([euros(before.assigned), euros(before.blocked)]);
     for (first, last) in before.position.iter().zip(after.position) {
         cells.push(changed(grouped(*first), grouped(last)));
     }

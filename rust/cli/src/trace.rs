@@ -6,6 +6,7 @@
 
 use daybook::{Book, Level, Prices, Reduction, Refusal, Request, Run, Trade, User};
 
+use crate::credit::{credited, Credited};
 use crate::ends::Ends;
 use crate::reasons::is_party_to_cut;
 use crate::store::Figures;
@@ -68,6 +69,8 @@ pub struct Step {
     /// The user before it.
     pub user: User,
     pub level: u64,
+    /// The credit in the level, in a version that has it.
+    pub credited: Option<Credited>,
     pub called_in: CalledIn,
     pub answer: Reduction,
     pub tiers: [Tier; 2],
@@ -301,6 +304,7 @@ impl Raw {
             number: self.number,
             user,
             level,
+            credited: credited(request, &before, &user)?,
             called_in: called_in(figures, &before, &user),
             answer: self.answer,
             tiers: tiers(&before, &after, &user, self.answer.target),

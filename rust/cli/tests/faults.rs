@@ -5,7 +5,7 @@
 
 use books::{Damage, Generator, Kind};
 use cli::faults::faults;
-use cli::fields::{Field, Place};
+use cli::fields::{header_length, Field, Place};
 
 /// The engine's number.
 fn number(book: &[u8]) -> u32 {
@@ -43,7 +43,7 @@ fn the_damaged_books_of_the_engine() {
         agree(book);
         (rest, count) = (after, count + 1);
     }
-    assert_eq!(count, 133);
+    assert_eq!(count, 151);
 }
 
 /// The books of the outside vectors, many of them damaged.
@@ -51,7 +51,14 @@ fn the_damaged_books_of_the_engine() {
 fn the_outside_vectors() {
     let vectors = concat!(env!("CARGO_MANIFEST_DIR"), "/../vectors");
     let mut numbers = [0; 8];
-    for folder in ["", "/books", "/version-1", "/version-1/books"] {
+    for folder in [
+        "",
+        "/books",
+        "/version-1",
+        "/version-1/books",
+        "/version-2",
+        "/version-2/books",
+    ] {
         let files = std::fs::read_dir(format!("{vectors}{folder}")).expect("a folder");
         let paths = files.map(|file| file.expect("a file").path());
         for path in paths.filter(|path| path.is_file()) {
@@ -85,7 +92,7 @@ fn every_byte_of_a_book() {
     for _ in 0..4 {
         let book = generator.book(Kind::Small);
         for place in 0..book.len() {
-            for change in [1, 2, 0x80, 0xFF] {
+            for change in [1, 2, 3, 0x80, 0xFF] {
                 let mut changed = book.clone();
                 changed[place] ^= change;
                 agree(&changed);
@@ -127,7 +134,7 @@ fn the_damaged_field_is_the_one_at_fault() {
 
 fn fields(damage: Damage) -> Vec<Field> {
     match damage {
-        Damage::Cut => vec![Field::Length],
+        Damage::Cut | Damage::CutHeader | Damage::OtherVersion => vec![Field::Length],
         Damage::Mark => vec![Field::Mark],
         Damage::Version => vec![Field::Version],
         Damage::NoUsers => vec![Field::UserCount],
@@ -158,10 +165,11 @@ fn fields(damage: Damage) -> Vec<Field> {
 /// The record of the first byte that differs; none where the lengths do.
 fn changed_record(before: &[u8], after: &[u8], users: usize) -> Option<Place> {
     let place = before.iter().zip(after).position(|(a, b)| a != b)?;
-    let trades = 32 + 56 * users;
+    let header = header_length(u16::from_le_bytes([before[3], before[4]]));
+    let trades = header + 56 * users;
     Some(match place {
-        0..32 => Place::Header,
-        _ if place < trades => Place::User((place - 32) / 56),
+        _ if place < header => Place::Header,
+        _ if place < trades => Place::User((place - header) / 56),
         _ => Place::Trade((place - trades) / 20),
     })
 }
@@ -169,7 +177,7 @@ fn changed_record(before: &[u8], after: &[u8], users: usize) -> Option<Place> {
 /// What is said of a fault, word by word.
 #[test]
 fn the_words() {
-    let mut book = Generator::new(24).sized(3, 2);
+    let mut book = Generator::new(24).sized(1, 3, 2).to_bytes();
     book[32 + 56 * 2 + 48..][..8].copy_from_slice(&20_000_000_u64.to_le_bytes());
     book[32 + 56 * 2 + 40..][..8].copy_from_slice(&10_000_000_u64.to_le_bytes());
     book[32 + 56 * 2..][..4].copy_from_slice(&u32::MAX.to_le_bytes());
@@ -181,9 +189,11 @@ fn the_words() {
 
 #[test]
 fn refused_bytes_of_any_length_have_words() {
-    let book = Generator::new(25).sized(4, 4);
-    for length in 0..book.len() {
-        let number = agree(&book[..length]);
-        assert!(number == 1 || number == 3);
+    for version in [1, 2] {
+        let book = Generator::new(25).sized(version, 4, 4).to_bytes();
+        for length in 0..book.len() {
+            let number = agree(&book[..length]);
+            assert_eq!(number, if length < 32 { 1 } else { 3 });
+        }
     }
 }

@@ -3,6 +3,8 @@
 
 #![forbid(unsafe_code)]
 
+use std::collections::BTreeSet;
+
 use books::{Generator, Kind};
 use cli::draft::Mistake;
 use cli::{csv, text};
@@ -24,8 +26,10 @@ fn from_text(text: &str) -> Vec<u8> {
 
 #[test]
 fn book_to_text_to_book_and_back() {
+    let mut versions = BTreeSet::new();
     for bytes in accepted(31, 40) {
         let book = daybook::read(&bytes).expect("an accepted book");
+        versions.insert(book.version);
         for positions in [false, true] {
             let written = text::write(&book, positions);
             assert!(text::is_text(written.as_bytes()));
@@ -35,6 +39,7 @@ fn book_to_text_to_book_and_back() {
             assert_eq!(again, written);
         }
     }
+    assert_eq!(versions, BTreeSet::from([1, 2]));
 }
 
 #[test]
@@ -166,13 +171,13 @@ fn mistakes_are_told_with_line_and_column() {
         ("", ":1:1: the text has no line `daybook`"),
         (
             "user 1 shipper",
-            ":1:1: a text starts with the line `daybook 1`",
+            ":1:1: a text starts with the line `daybook 1` or `daybook 2`",
         ),
         ("daybook 1\nprices P 20.00\n", ":2:15: Q is missing"),
         ("daybook 1\nprices P 20.00 P 1.00\n", ":2:16: a second P"),
         (
-            "daybook 1\nprices S 20.00\n",
-            ":2:8: `S`: a price is one of P, Q, L, X, I",
+            "daybook 1\nprices R 20.00\n",
+            ":2:8: `R`: a price is one of P, Q, L, X, I",
         ),
         (
             "daybook 1\ndate 18.3.2026\n",
@@ -211,7 +216,7 @@ fn refused(text: &str) -> (u32, String) {
 fn refusals_are_told_with_line_and_column() {
     let users = "user 1 shipper assigned 1.00\nuser 2 shipper\n";
     for (text, number, told) in [
-        (START.replace("daybook 1", "daybook 3") + users, 2, ":1:1: header: version 3, the engine knows version 1"),
+        (START.replace("daybook 1", "daybook 3") + users, 2, ":1:1: header: version 3, the engine knows versions 1 and 2"),
         (START.to_string(), 3, ":1:1: header: 0 users, a book has 1 to 64"),
         (START.replace("03-18", "02-30") + users, 4, ":2:1: header: date 2026-02-30 is no day, its month has 28"),
         (START.replace("X 1.00", "X 1000.01") + users, 4, ":3:33: header: X 1,000.01 EUR/MWh is not within 0.00 to 1,000.00 EUR/MWh"),
@@ -228,7 +233,7 @@ fn refusals_are_told_with_line_and_column() {
     assert_eq!(refused(&format!("{START}{many}")), (3, told.to_string()));
 }
 
-/// The six samples: five accepted, one refused, each with a line about it; a
+/// The seven samples: six accepted, one refused, each with a line about it; a
 /// text loses nothing but its comments and blanks.
 #[test]
 fn the_samples() {
@@ -238,6 +243,7 @@ fn the_samples() {
         ("reduction", 0),
         ("chain", 0),
         ("tiers", 0),
+        ("credit", 0),
         ("refused", 5),
     ] {
         let path = format!("{}/../../samples/{name}.txt", env!("CARGO_MANIFEST_DIR"));

@@ -18,7 +18,7 @@ fn setting(name: &str, else_this: u64) -> u64 {
 }
 
 /// Words that a text or a table may have, and some that it may not.
-const WORDS: [&str; 64] = [
+const WORDS: [&str; 67] = [
     "daybook",
     "date",
     "prices",
@@ -46,8 +46,11 @@ const WORDS: [&str; 64] = [
     "L",
     "X",
     "I",
+    "S",
+    "U",
     "0",
     "1",
+    "2",
     "-1",
     "101",
     "4294967295",
@@ -147,7 +150,9 @@ fn swapped_lines(random: &mut Random, bytes: &[u8]) -> Vec<u8> {
 
 /// A text of words and lines without any order.
 fn soup(random: &mut Random) -> Vec<u8> {
-    let mut text = String::from(if random.one_in(2) { "daybook 1\n" } else { "" });
+    let mut text = random
+        .pick(&["daybook 1\n", "daybook 2\n", "", ""])
+        .to_string();
     for _ in 0..random.below(60) {
         text.push_str(random.pick(&WORDS));
         text.push(random.pick(&[' ', ' ', ' ', ',', ';', '\n', '\t']));

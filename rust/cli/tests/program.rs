@@ -231,7 +231,7 @@ fn answers_as_objects() {
         (
             "check day.gdb --json",
             0,
-            r#"{"book":"day.gdb","accepted":true,"number":0,"date":"2026-03-18","users":2,"trades":1}"#,
+            r#"{"book":"day.gdb","accepted":true,"number":0,"version":1,"date":"2026-03-18","users":2,"trades":1}"#,
         ),
         (
             "level day.gdb 101 --json",
@@ -266,7 +266,7 @@ fn answers_as_objects() {
         (
             "reduce day.gdb 102 --json",
             1,
-            r#"{"number":11,"id":102,"question":"level − blocked > 1,000,000, and, but for the morning call, user called in?","reason":"user 2, id 102: level 100,000.00 - blocked 100,000.00 = 0.00 EUR, not above 10,000.00 EUR"}"#,
+            r#"{"number":11,"id":102,"question":"level − blocked > 1,000,000 (with a store, its figure), and, but for the morning call, user called in?","reason":"user 2, id 102: level 100,000.00 - blocked 100,000.00 = 0.00 EUR, not above 10,000.00 EUR"}"#,
         ),
     ] {
         assert_eq!(
@@ -284,7 +284,7 @@ fn answers_as_objects() {
         ),
         (
             "level no.gdb 1 --json",
-            r#"{"book":"no.gdb","accepted":false,"number":1,"question":"at least 32 bytes, starting with the mark?","faults":[{"record":"header","field":"length","reason":"header: 3 bytes, a header alone has 32"}]}"#,
+            r#"{"book":"no.gdb","accepted":false,"number":1,"question":"at least 32 bytes, starting with the mark?","faults":[{"record":"header","field":"length","reason":"header: 3 bytes, a header has at least 32"}]}"#,
         ),
         (
             "run day.gdb --store no.gdb --json",

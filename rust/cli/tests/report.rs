@@ -98,7 +98,7 @@ fn long_marks() {
         id,
         cuts: vec![(buyer, 0, 25_600_000)],
     };
-    let book = daybook::read(&Generator::new(72).sized(2, 1)).expect("a book");
+    let book = daybook::read(&Generator::new(72).sized(2, 2, 1).to_bytes()).expect("a book");
     let (one, two) = (book.users[0].id, book.users[1].id);
     let trace = cli::trace::Trace {
         closing: book.clone(),

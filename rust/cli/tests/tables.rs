@@ -28,7 +28,7 @@ fn mistakes_of_csv_files() {
         (
             0,
             "",
-            "/header.csv:1:1: the first line has the names version,date,P,Q,L,X,I",
+            "/header.csv:1:1: the first line has the names version,date,P,Q,L,X,I,S,U",
         ),
         (
             0,
@@ -43,7 +43,7 @@ fn mistakes_of_csv_files() {
         (
             0,
             "version,day\n",
-            "/header.csv:1:9: `day` is none of the names version,date,P,Q,L,X,I",
+            "/header.csv:1:9: `day` is none of the names version,date,P,Q,L,X,I,S,U",
         ),
         (
             0,

@@ -8,7 +8,7 @@ use std::path::{Path, PathBuf};
 use books::vectors::Implementation;
 use books::{Answer, Call, Generator, Kind};
 
-use crate::counts::Counts;
+use crate::counts::{Counts, Version};
 use crate::{engine, tuned, typed};
 
 /// The most differences that are kept and written to files.
@@ -119,7 +119,8 @@ impl Comparison {
             self.hold(given, (&expected, book), "daybook", typed::answer);
         }
         self.hold(given, (&expected, book), "tuned", tuned::answer);
-        self.counts.add(call, expected.number);
+        let version = Version::of(&before, call);
+        self.counts.add(version, call, expected.number);
     }
 
     /// Holds the engine, called in one way, or the tuned implementation against

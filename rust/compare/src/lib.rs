@@ -16,4 +16,4 @@ pub mod tuned;
 pub mod typed;
 
 pub use comparison::{Comparison, Difference};
-pub use counts::Counts;
+pub use counts::{Counts, Version};

@@ -1,7 +1,7 @@
 //! Compares the proved engine with the reference: `compare CALLS SEED`.
 //!
-//! It prints the seed, how often each call got each number, the time and the
-//! number of differences; the status is 1 if there were any. Books of
+//! It prints the seed, how often each call on books of each version got each
+//! number, the time and the number of differences; the status is 1 if there were any. Books of
 //! differences are written to the folder that it is run in.
 
 #![forbid(unsafe_code)]
@@ -28,8 +28,8 @@ fn main() -> ExitCode {
     comparison.random_calls(calls);
     println!("{}", comparison.counts);
     println!("{} calls compared", comparison.counts.all());
-    for (name, number) in comparison.counts.not_reached() {
-        println!("not reached: {name} with number {number}");
+    for (version, name, number) in comparison.counts.not_reached() {
+        println!("not reached: {name} on {version} with number {number}");
     }
     println!("{} seconds", start.elapsed().as_secs());
     println!("{} differences", comparison.differences);

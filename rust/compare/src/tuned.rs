@@ -73,6 +73,8 @@ fn book_of(image: &[u8; IMAGE_LENGTH]) -> tuned::Book {
             l: engine.prices.liquefaction_toll,
             x: engine.prices.exit_toll,
             i: engine.prices.injection_toll,
+            s: engine.prices.pvb_selling_tariff,
+            u: engine.prices.tank_and_store_selling_tariff,
         },
         users: engine.users.iter().map(user).collect(),
         trades: engine.trades.iter().map(trade).collect(),

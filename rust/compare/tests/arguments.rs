@@ -2,10 +2,14 @@
 
 #![forbid(unsafe_code)]
 
+use books::versions::VERSIONS;
 use books::{Call, Generator, Kind};
 use compare::settings::{comparison, seed};
 use compare::Comparison;
 use daybook::archive::{self, WRONG_LENGTH};
+use daybook::IMAGE_LENGTH;
+use reference::book::Book;
+use reference::units::Price;
 
 const AREAS: [u32; 12] = [
     0,
@@ -121,11 +125,51 @@ fn writes() {
     }
     for _ in 0..500 {
         let random = comparison.generator().random();
-        let image = Box::new(random.bytes(8736).try_into().expect("an image"));
+        let mut image: Vec<u8> = random.bytes(IMAGE_LENGTH);
+        image[3..5].copy_from_slice(&random.pick(&[[1, 0], [2, 0], [3, 0]]));
+        let image = Box::new(image.try_into().expect("an image"));
         let length = random.below(9_000);
         comparison.call(&mut [], &Call::Write { image, length });
     }
     comparison.expect_none();
+}
+
+/// Each end of S and U and the numbers next to them, in the fields of either
+/// version: version 1 neither writes them nor looks at them.
+#[test]
+fn selling_tariffs() {
+    let mut comparison = comparison("selling_tariffs");
+    let ends = [0, 1, 1_900, 99_999, 100_000, 100_001, 1 << 31, u32::MAX];
+    for version in VERSIONS {
+        let book = comparison.generator().sized(version, 5, 9);
+        let bytes = book.to_bytes();
+        for (s, u) in ends.into_iter().flat_map(|s| ends.map(|u| (s, u))) {
+            let (_, mut image) = reference::read(&bytes);
+            image[32..36].copy_from_slice(&s.to_le_bytes());
+            image[36..40].copy_from_slice(&u.to_le_bytes());
+            let ignored = version == 1;
+            let number = if ignored || s.max(u) <= 100_000 { 0 } else { 4 };
+            let mut part = vec![0xAA; bytes.len()];
+            assert_eq!(archive::write(&image, &mut part), number, "{s} {u}");
+            assert_eq!(part == bytes, ignored || (s, u) == tariffs(&book));
+            let length = bytes.len();
+            let image = Box::new(image);
+            comparison.call(&mut [], &Call::Write { image, length });
+            if version == 2 {
+                let mut bytes = bytes.clone();
+                bytes[32..36].copy_from_slice(&s.to_le_bytes());
+                bytes[36..40].copy_from_slice(&u.to_le_bytes());
+                comparison.every_call(&bytes, (book.users[0].id, 0, 1));
+            }
+        }
+    }
+    comparison.expect_none();
+}
+
+/// S and U of a book.
+fn tariffs(book: &Book) -> (u32, u32) {
+    let tariff = |price: Price| u32::try_from(price.0).expect("at most 100,000");
+    (tariff(book.prices.s), tariff(book.prices.u))
 }
 
 /// The two books of a shown record in either order, the one that is not picked
@@ -163,7 +207,7 @@ fn wrong_lengths() {
     for kind in [Kind::Small, Kind::Damaged, Kind::Raw] {
         let mut book = generator.book(kind);
         let before = book.clone();
-        for length in [0, 1, 2, 3, 4, 5, 6, 55, 57, 8735, 8737] {
+        for length in [0, 1, 2, 3, 4, 5, 6, 55, 57, 8736, 8743, 8745] {
             wrong_bytes(&mut book, length);
             wrong_answer(&mut book, length);
             assert_eq!(book, before, "length {length}");

@@ -4,6 +4,7 @@
 #![forbid(unsafe_code)]
 
 use books::hard::{chain, many_sellers, one_seller, widest};
+use books::versions::{in_version_2, VERSIONS};
 use books::{Arguments, Call, Damage, Kind};
 use compare::settings::comparison;
 use compare::Comparison;
@@ -26,10 +27,13 @@ fn every_size() {
     let sizes = (1..=64).map(|users| (users, 4 * users));
     let sizes = sizes.chain((0..=256).map(|trades| (1 + trades % 64, trades)));
     for (users, trades) in sizes {
-        let book = comparison.generator().sized(users, trades);
-        let trades = if users > 1 { trades } else { 0 };
-        assert_eq!(book.len(), length(users, trades), "{users} users");
-        every_call(&mut comparison, &book);
+        for version in VERSIONS {
+            let book = comparison.generator().sized(version, users, trades);
+            let trades = if users > 1 { trades } else { 0 };
+            let bytes = book.to_bytes();
+            assert_eq!(bytes.len(), length(version, users, trades), "{users} users");
+            every_call(&mut comparison, &bytes);
+        }
     }
     comparison.expect_none();
 }
@@ -73,7 +77,9 @@ fn every_date() {
 fn hard_runs() {
     let mut comparison = comparison("hard_runs");
     for book in [one_seller(100), many_sellers(4), chain(4), widest(3)] {
-        comparison.call(&mut book.to_bytes(), &Call::Run);
+        for book in [in_version_2(&book), book] {
+            comparison.call(&mut book.to_bytes(), &Call::Run);
+        }
     }
     comparison.expect_none();
 }
@@ -82,13 +88,15 @@ fn hard_runs() {
 #[test]
 fn every_byte() {
     let mut comparison = comparison("every_byte");
-    let book = comparison.generator().book(Kind::Midday);
-    for place in 0..book.len() {
-        let values = (0..8).map(|bit| book[place] ^ (1 << bit));
-        for value in values.chain([0, 1, 2, 127, 128, 255]) {
-            let mut book = book.clone();
-            book[place] = value;
-            every_call(&mut comparison, &book);
+    for version in VERSIONS {
+        let book = comparison.generator().book_of(version, Kind::Midday);
+        for place in 0..book.len() {
+            let values = (0..8).map(|bit| book[place] ^ (1 << bit));
+            for value in values.chain([0, 1, 2, 127, 128, 255]) {
+                let mut book = book.clone();
+                book[place] = value;
+                every_call(&mut comparison, &book);
+            }
         }
     }
     comparison.expect_none();
@@ -99,8 +107,8 @@ fn every_byte() {
 fn random_bytes() {
     let mut comparison = comparison("random_bytes");
     for length in (0..=400)
-        .chain((401..=8737).step_by(83))
-        .chain([8736, 8737])
+        .chain((401..=8745).step_by(83))
+        .chain([8736, 8737, 8744, 8745])
     {
         let mut bytes = comparison.generator().random().bytes(length);
         every_call(&mut comparison, &bytes);
@@ -108,9 +116,11 @@ fn random_bytes() {
             bytes[..3].copy_from_slice(b"GDB");
             every_call(&mut comparison, &bytes);
         }
-        if length >= 8 {
-            bytes[3..8].copy_from_slice(&[1, 0, 2, 3, 0]);
-            every_call(&mut comparison, &bytes);
+        for version in [1, 2] {
+            if length >= 8 {
+                bytes[3..8].copy_from_slice(&[version, 0, 2, 3, 0]);
+                every_call(&mut comparison, &bytes);
+            }
         }
     }
     comparison.expect_none();
@@ -120,11 +130,13 @@ fn random_bytes() {
 #[test]
 fn every_length() {
     let mut comparison = comparison("every_length");
-    let book = comparison.generator().book(Kind::Small);
-    for length in 0..book.len() + 60 {
-        let mut bytes = book.clone();
-        bytes.resize(length, 0);
-        every_call(&mut comparison, &bytes);
+    for version in VERSIONS {
+        let book = comparison.generator().book_of(version, Kind::Small);
+        for length in 0..book.len() + 60 {
+            let mut bytes = book.clone();
+            bytes.resize(length, 0);
+            every_call(&mut comparison, &bytes);
+        }
     }
     comparison.expect_none();
 }

@@ -155,7 +155,7 @@ unsafe extern "C" {
 }
 
 /// The interface that this module is written for: the archive's must be the same.
-pub const INTERFACE: u32 = 2;
+pub const INTERFACE: u32 = 3;
 
 /// The archive's interface.
 pub fn interface() -> u32 {
@@ -170,14 +170,14 @@ fn lent(store: Option<&[u8]>) -> (u32, *const u8, usize) {
     (u32::from(store.is_some()), bytes.as_ptr(), bytes.len())
 }
 
-/// Reads a book into an image of 8,736 bytes.
+/// Reads a book into an image of 8,744 bytes.
 pub fn read(book: &[u8], image: &mut [u8]) -> u32 {
     // SAFETY: each pointer comes with the length of its slice, both slices live through the call,
     // and the image, lent by &mut, does not overlap the book.
     unsafe { daybook_read(book.as_ptr(), book.len(), image.as_mut_ptr(), image.len()) }
 }
 
-/// Writes an image of 8,736 bytes, up to its counts, into a part.
+/// Writes an image of 8,744 bytes, up to its counts, into a part.
 pub fn write(image: &[u8], part: &mut [u8]) -> u32 {
     // SAFETY: each pointer comes with the length of its slice, both slices live through the call,
     // and the part, lent by &mut, does not overlap the image.

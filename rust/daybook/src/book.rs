@@ -1,7 +1,8 @@
 //! A book's fields, and the image in which they pass the C interface.
 
-/// Bytes of an image: the header, 64 users and 256 trades.
-pub const IMAGE_LENGTH: usize = HEADER_LENGTH + MOST_USERS * USER_LENGTH + TRADES_LENGTH;
+/// Bytes of an image: the longest header, 64 users and 256 trades. The largest
+/// book has as many.
+pub const IMAGE_LENGTH: usize = LONGEST_HEADER + MOST_USERS * USER_LENGTH + TRADES_LENGTH;
 
 /// Bytes of a user's record.
 pub const USER_LENGTH: usize = 56;
@@ -15,19 +16,24 @@ pub const MOST_USERS: usize = 64;
 /// The most trades of an accepted book.
 pub const MOST_TRADES: usize = 256;
 
+/// Bytes of the header of version 1, and of version 2, which has the selling
+/// tariffs too.
 const HEADER_LENGTH: usize = 32;
+const LONGEST_HEADER: usize = 40;
+
 const TRADES_LENGTH: usize = MOST_TRADES * TRADE_LENGTH;
 const TRADES_AT: usize = IMAGE_LENGTH - TRADES_LENGTH;
 
-/// The fields of a book in the book's format, always with places for 64 users
-/// and 256 trades; those past the counts are 0 after reading, and are not
-/// looked at in writing. Mark and zero bytes are not looked at either.
+/// The fields of a book in the book's format, always with a header of 40 bytes
+/// and places for 64 users and 256 trades; those past the counts are 0 after
+/// reading, and are not looked at in writing, and neither are the selling tariffs
+/// of version 1. Mark and zero bytes are not looked at either.
 pub type Image = [u8; IMAGE_LENGTH];
 
 /// The fields of a book. The counts are the lengths of the lists.
 #[derive(Clone, Debug, Default, PartialEq, Eq)]
 pub struct Book {
-    /// 1 in an accepted book.
+    /// 1 or 2 in an accepted book.
     pub version: u16,
     /// Year × 10,000 + month × 100 + day.
     pub date: u32,
@@ -51,6 +57,11 @@ pub struct Prices {
     pub exit_toll: u32,
     /// I.
     pub injection_toll: u32,
+    /// S, the daily selling tariff of PVB. Version 1 has no selling tariffs: they
+    /// are 0 when read, and neither written nor looked at.
+    pub pvb_selling_tariff: u32,
+    /// U, that of TVB and AVB.
+    pub tank_and_store_selling_tariff: u32,
 }
 
 /// A user's record. Amounts per area stand in the order PVB, TVB, AVB.
@@ -91,15 +102,20 @@ pub struct Trade {
 }
 
 impl Book {
-    /// Bytes of this book, written up to its counts.
+    /// Bytes of this book, written up to its counts. The header has 32 bytes, in
+    /// version 2 it has 40.
     pub fn length(&self) -> usize {
-        HEADER_LENGTH + USER_LENGTH * self.users.len() + TRADE_LENGTH * self.trades.len()
+        let header = match self.version {
+            2 => LONGEST_HEADER,
+            _ => HEADER_LENGTH,
+        };
+        header + USER_LENGTH * self.users.len() + TRADE_LENGTH * self.trades.len()
     }
 
     /// The fields of an image. A count above the places of the image gives the
     /// records of all its places.
     pub fn from_image(image: &Image) -> Book {
-        let users = image[HEADER_LENGTH..TRADES_AT].chunks_exact(USER_LENGTH);
+        let users = image[LONGEST_HEADER..TRADES_AT].chunks_exact(USER_LENGTH);
         let trades = image[TRADES_AT..].chunks_exact(TRADE_LENGTH);
         let trade_count = u16::from_le_bytes(field(image, 6));
         Book {
@@ -111,6 +127,8 @@ impl Book {
                 liquefaction_toll: u32::from_le_bytes(field(image, 20)),
                 exit_toll: u32::from_le_bytes(field(image, 24)),
                 injection_toll: u32::from_le_bytes(field(image, 28)),
+                pvb_selling_tariff: u32::from_le_bytes(field(image, 32)),
+                tank_and_store_selling_tariff: u32::from_le_bytes(field(image, 36)),
             },
             users: users
                 .take(usize::from(image[5]))
@@ -144,10 +162,16 @@ impl Book {
         put(&mut image, 20, self.prices.liquefaction_toll.to_le_bytes());
         put(&mut image, 24, self.prices.exit_toll.to_le_bytes());
         put(&mut image, 28, self.prices.injection_toll.to_le_bytes());
+        put(&mut image, 32, self.prices.pvb_selling_tariff.to_le_bytes());
+        put(
+            &mut image,
+            36,
+            self.prices.tank_and_store_selling_tariff.to_le_bytes(),
+        );
         for (place, user) in self.users.iter().take(MOST_USERS).enumerate() {
             put(
                 &mut image,
-                HEADER_LENGTH + USER_LENGTH * place,
+                LONGEST_HEADER + USER_LENGTH * place,
                 user.to_bytes(),
             );
         }
@@ -164,6 +188,7 @@ impl Book {
 
 impl User {
     /// The fields of a record. The three zero bytes are not looked at.
+    #[inline]
     pub fn from_bytes(bytes: &[u8; USER_LENGTH]) -> User {
         User {
             id: u32::from_le_bytes(field(bytes, 0)),
@@ -199,6 +224,7 @@ impl Trade {
     }
 
     /// The fields of a record. The zero byte is not looked at.
+    #[inline]
     pub fn from_bytes(bytes: &[u8; TRADE_LENGTH]) -> Trade {
         Trade {
             seller: u32::from_le_bytes(field(bytes, 0)),

@@ -83,7 +83,8 @@ pub fn morning_level(book: &[u8], id: u32) -> Result<Level, Refusal> {
     Request::new().morning_level(book, id)
 }
 
-/// The afternoon level of a shipper.
+/// The afternoon level of a shipper. In version 2 it is lowered by a credit, each
+/// long position at its selling tariff, down to the least level.
 pub fn afternoon_level(book: &[u8], id: u32) -> Result<Level, Refusal> {
     Request::new().afternoon_level(book, id)
 }

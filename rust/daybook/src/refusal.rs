@@ -68,11 +68,11 @@ impl Refusal {
     pub fn question(self) -> &'static str {
         match self {
             Refusal::Mark => "at least 32 bytes, starting with the mark?",
-            Refusal::Version => "version 1?",
+            Refusal::Version => "version 1 or 2?",
             Refusal::CountsAndLength => {
-                "counts in range and length exactly 32 + 56 × users + 20 × trades?"
+                "counts in range and length exactly 32 (version 2: 40) + 56 × users + 20 × trades?"
             }
-            Refusal::DateAndPrices => "date, prices and tolls in range?",
+            Refusal::DateAndPrices => "date, prices, tolls and selling tariffs in range?",
             Refusal::Users => "every user field valid, positions apart?",
             Refusal::Trades => "every trade valid?",
             Refusal::Positions => "every position as defined?",
@@ -80,7 +80,8 @@ impl Refusal {
             Refusal::Shipper => "a shipper?",
             Refusal::Entry => "area 0 to 2, and the new physical entry within ±1,000,000?",
             Refusal::CalledIn => {
-                "level − blocked > 1,000,000, and, but for the morning call, user called in?"
+                "level − blocked > 1,000,000 (with a store, its figure), and, but for the morning \
+                 call, user called in?"
             }
             Refusal::AssignedCoversLevel => "assigned ≥ level?",
             Refusal::AssignedBelowLevel => "assigned < level?",

@@ -96,7 +96,7 @@ impl<'a> Request<'a> {
         Ok(Level(answer[0]))
     }
 
-    /// The afternoon level of a shipper.
+    /// The afternoon level of a shipper ([`crate::afternoon_level()`]).
     pub fn afternoon_level(self, book: &[u8], id: u32) -> Result<Level, Refusal> {
         let mut answer = [0; 1];
         answered(archive::afternoon_level(book, self.store, id, &mut answer))?;

@@ -18,6 +18,7 @@ fn book() -> Book {
             liquefaction_toll: 300,
             exit_toll: 100,
             injection_toll: 50,
+            ..Prices::default()
         },
         users: vec![
             User {
@@ -108,6 +109,47 @@ fn the_printed_run() {
     assert_eq!(reduced, run);
     let positions = daybook::read(&run).map(|book| [0, 1].map(|place| book.users[place].position));
     assert_eq!(positions, Ok([[-25_000, 0, 0], [15_000, 0, 0]]));
+}
+
+/// The example in version 2, with the buyer's charges such that the credit for its
+/// 30,000 MWh, 45,000,000 cents, leaves it one cent above the least level.
+fn version_2() -> Book {
+    let mut book = book();
+    book.version = 2;
+    book.prices.pvb_selling_tariff = 1_500;
+    book.prices.tank_and_store_selling_tariff = 1_600;
+    book.users[1].charges = 55_000_001;
+    book
+}
+
+#[test]
+fn a_book_of_version_2() {
+    let bytes = bytes(&version_2());
+    assert_eq!((bytes.len(), &bytes[3..5]), (172, &[2, 0][..]));
+    assert_eq!(daybook::read(&bytes), Ok(version_2()));
+    assert_eq!(daybook::show(&bytes, 102), Ok(version_2().users[1]));
+    let level = |id: u32| daybook::afternoon_level(&bytes, id);
+    assert_eq!(
+        [101, 102].map(level),
+        [80_000_000, 10_000_001].map(|level| Ok(Level(level)))
+    );
+    assert_eq!(daybook::morning_level(&bytes, 102), Ok(Level(55_000_001)));
+    let cut = |length: usize| daybook::read(&bytes[..length]);
+    assert_eq!([31, 32, 39, 40].map(|length| cut(length).err()), {
+        let length = Some(Refusal::CountsAndLength);
+        [Some(Refusal::Mark), length, length, length]
+    });
+}
+
+/// Version 1 has no selling tariffs: they are neither written nor looked at, and 0
+/// when read.
+#[test]
+fn selling_tariffs_of_version_1() {
+    let mut book = book();
+    book.prices.pvb_selling_tariff = 1_500;
+    book.prices.tank_and_store_selling_tariff = u32::MAX;
+    assert_eq!(bytes(&book), bytes(&self::book()));
+    assert_eq!(daybook::read(&bytes(&book)), Ok(self::book()));
 }
 
 /// A store of one set from a date on, with today's figures but for the least level.
@@ -254,9 +296,11 @@ fn refused_writes() {
     let mut busy = book();
     busy.trades.resize(70_000, Trade::default());
     let versions = Book {
-        version: 2,
+        version: 3,
         ..book()
     };
+    let mut priced = version_2();
+    priced.prices.tank_and_store_selling_tariff = 100_001;
     let dated = Book {
         date: 20_260_230,
         ..book()
@@ -267,6 +311,7 @@ fn refused_writes() {
         (Book::default(), Refusal::Version),
         (versions, Refusal::Version),
         (dated, Refusal::DateAndPrices),
+        (priced, Refusal::DateAndPrices),
     ] {
         let mut part = vec![7; book.length()];
         assert_eq!(daybook::write(&book, &mut part), Err(refusal));

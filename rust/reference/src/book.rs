@@ -2,16 +2,16 @@
 //! Nothing is judged here; see the module `questions`.
 
 use crate::units::{Area, Cents, Mwh, Price, Prices};
+use crate::version::{self, header_length, selling_tariff_bytes, selling_tariffs};
 
 pub const MARK: &[u8; 3] = b"GDB";
-pub const HEADER_LENGTH: usize = 32;
 pub const USER_LENGTH: usize = 56;
 pub const TRADE_LENGTH: usize = 20;
 pub const MOST_USERS: usize = 64;
 pub const MOST_TRADES: usize = 256;
 
-/// The longest book: 8,736 bytes.
-pub const LONGEST: usize = length(MOST_USERS, MOST_TRADES);
+/// The longest book of any version: 8,744 bytes.
+pub const LONGEST: usize = length(version::LAST, MOST_USERS, MOST_TRADES);
 
 pub const SHIPPER: u8 = 0;
 pub const CLEARING_HOUSE: u8 = 1;
@@ -19,9 +19,9 @@ pub const BILATERAL: u8 = 0;
 pub const TODAY: u8 = 0;
 pub const TOMORROW: u8 = 1;
 
-/// 32 + 56 × users + 20 × trades.
-pub const fn length(users: usize, trades: usize) -> usize {
-    HEADER_LENGTH + USER_LENGTH * users + TRADE_LENGTH * trades
+/// 32 + 56 × users + 20 × trades; in version 2 the header has 40 bytes.
+pub const fn length(version: u16, users: usize, trades: usize) -> usize {
+    header_length(version) + USER_LENGTH * users + TRADE_LENGTH * trades
 }
 
 /// The fields of the header. The mark is no field: every book has the same.
@@ -67,10 +67,13 @@ pub struct Book {
 }
 
 impl Header {
-    /// The first 32 bytes after the mark: version, counts, date, prices.
+    /// The bytes after the mark, 32 with it at least: version, counts, date,
+    /// prices.
     pub fn from_bytes(bytes: &[u8]) -> Header {
+        let version = u16_at(bytes, 3);
+        let [s, u] = selling_tariffs(version, bytes);
         Header {
-            version: u16_at(bytes, 3),
+            version,
             users: usize::from(bytes[5]),
             trades: usize::from(u16_at(bytes, 6)),
             date: u32_at(bytes, 8),
@@ -80,6 +83,8 @@ impl Header {
                 l: Price(unsigned(bytes, 20, 4)),
                 x: Price(unsigned(bytes, 24, 4)),
                 i: Price(unsigned(bytes, 28, 4)),
+                s,
+                u,
             },
         }
     }
@@ -165,8 +170,9 @@ impl Trade {
 impl Book {
     /// The fields of bytes that are as long as the counts of `header` say.
     pub fn from_bytes(header: &Header, bytes: &[u8]) -> Book {
-        let trades_at = length(header.users, 0);
-        Book::from_records(header, &bytes[HEADER_LENGTH..], &bytes[trades_at..])
+        let users_at = header_length(header.version);
+        let trades_at = length(header.version, header.users, 0);
+        Book::from_records(header, &bytes[users_at..], &bytes[trades_at..])
     }
 
     /// The fields of a header, with users and trades from the places lent.
@@ -182,9 +188,9 @@ impl Book {
         }
     }
 
-    /// The 32 bytes of the header.
-    pub fn header_bytes(&self) -> [u8; HEADER_LENGTH] {
-        let mut bytes = [0; HEADER_LENGTH];
+    /// The bytes of the header.
+    pub fn header_bytes(&self) -> Vec<u8> {
+        let mut bytes = vec![0; version::FIRST_HEADER_LENGTH];
         bytes[0..3].copy_from_slice(MARK);
         put(&mut bytes, 3, 2, i128::from(self.version));
         put(&mut bytes, 5, 1, count(self.users.len()));
@@ -195,12 +201,13 @@ impl Book {
         put(&mut bytes, 20, 4, self.prices.l.0);
         put(&mut bytes, 24, 4, self.prices.x.0);
         put(&mut bytes, 28, 4, self.prices.i.0);
+        bytes.extend(selling_tariff_bytes(self.version, &self.prices));
         bytes
     }
 
     /// The book in bytes, up to the counts.
     pub fn to_bytes(&self) -> Vec<u8> {
-        let mut bytes = self.header_bytes().to_vec();
+        let mut bytes = self.header_bytes();
         for user in &self.users {
             bytes.extend_from_slice(&user.to_bytes());
         }
@@ -254,7 +261,7 @@ fn u32_at(bytes: &[u8], at: usize) -> u32 {
 }
 
 /// A little-endian field of `width` bytes without sign.
-fn unsigned(bytes: &[u8], at: usize, width: usize) -> i128 {
+pub fn unsigned(bytes: &[u8], at: usize, width: usize) -> i128 {
     let field = bytes[at..at + width].iter().rev();
     field.fold(0, |value, byte| value * 256 + i128::from(*byte))
 }

@@ -1,6 +1,7 @@
 //! "Levels and calls": the two levels, flagged and called in.
 
 use crate::book::{Book, User, TODAY, TOMORROW};
+use crate::credit::credit;
 use crate::questions::{questions_to_9, Opened, ACCEPTED};
 use crate::store::Limits;
 use crate::units::{Area, Cents, Mwh, Price};
@@ -57,12 +58,12 @@ fn morning_need(book: &Book, user: &User, area: Area) -> Mwh {
 }
 
 /// "Level = charges + sum of max(0, need) × w + sum of max(0, −position) × w",
-/// in the afternoon.
+/// in the afternoon, less the credit that a version may give.
 pub fn afternoon_level_of(limits: &Limits, book: &Book, user: &User) -> Cents {
     let needs = over_areas(book, |area| afternoon_need(book, user, area));
     limits
         .least_level
-        .max(user.charges + needs + short_positions(book, user))
+        .max(user.charges + needs + short_positions(book, user) - credit(book, user))
 }
 
 /// "Need = sold − bought for d+1, minus max(0, position) in areas 1 and 2."

@@ -1,6 +1,7 @@
 //! Reference implementation of document 01: the day book, imbalance risk,
 //! guarantee calls and reduced trades; and of document 02, asks 4 (parameters
-//! with a start date), 1 (a list of postings) and 8 (whole cancellations).
+//! with a start date), 1 (a list of postings), 8 (whole cancellations) and 3
+//! (credit for long positions, version 2 of the book).
 //!
 //! It is plain and slow on purpose. The modules follow the order of the
 //! document, and the comments cite its sections in quotes. Every number is
@@ -18,6 +19,7 @@
 pub mod book;
 pub mod calls;
 pub mod cancellation;
+pub mod credit;
 pub mod day;
 pub mod levels;
 pub mod list;
@@ -30,6 +32,7 @@ pub mod shrinkage;
 pub mod store;
 pub mod transfer;
 pub mod units;
+pub mod version;
 pub mod warning;
 
 pub use calls::{afternoon_call, morning_call, CallAnswer};

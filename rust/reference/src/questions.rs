@@ -1,11 +1,12 @@
 //! "The questions": asked in order, each of the whole book before the next.
 
 use crate::book::{
-    length, Book, Header, Trade, User, CLEARING_HOUSE, HEADER_LENGTH, MARK, MOST_TRADES,
-    MOST_USERS, TOMORROW, TRADE_LENGTH, USER_LENGTH,
+    length, Book, Header, Trade, User, CLEARING_HOUSE, MARK, MOST_TRADES, MOST_USERS, TOMORROW,
+    TRADE_LENGTH, USER_LENGTH,
 };
 use crate::store::{self, Limits};
 use crate::units::{Area, Cents, Mwh, Price, Prices};
+use crate::version::{header_length, is_known, selling_tariffs_in_range, FIRST_HEADER_LENGTH};
 
 /// The number of an accepted call.
 pub const ACCEPTED: u32 = 0;
@@ -34,11 +35,13 @@ pub fn check(bytes: &[u8]) -> u32 {
 pub fn questions_1_to_7(bytes: &[u8]) -> Result<Book, u32> {
     ask(1, starts_with_mark(bytes))?;
     let header = Header::from_bytes(bytes);
-    ask(2, header.version == 1)?;
+    ask(2, is_known(header.version))?;
     ask(3, counts_and_length(&header, bytes.len()))?;
     ask(
         4,
-        date_in_range(header.date) && prices_in_range(&header.prices),
+        date_in_range(header.date)
+            && prices_in_range(&header.prices)
+            && selling_tariffs_in_range(header.version, &header.prices),
     )?;
     let book = Book::from_bytes(&header, bytes);
     ask(5, users_valid(&book) && users_zero_bytes(&header, bytes))?;
@@ -56,16 +59,16 @@ pub fn ask(number: u32, yes: bool) -> Result<(), u32> {
     }
 }
 
-/// Question 1.
+/// Question 1, the same for every version.
 fn starts_with_mark(bytes: &[u8]) -> bool {
-    bytes.len() >= HEADER_LENGTH && bytes.starts_with(MARK)
+    bytes.len() >= FIRST_HEADER_LENGTH && bytes.starts_with(MARK)
 }
 
 /// Question 3.
 pub fn counts_and_length(header: &Header, bytes: usize) -> bool {
     (1..=MOST_USERS).contains(&header.users)
         && header.trades <= MOST_TRADES
-        && bytes == length(header.users, header.trades)
+        && bytes == length(header.version, header.users, header.trades)
 }
 
 /// Question 4, the date: a real Gregorian day of 2020 to 2099.
@@ -118,7 +121,8 @@ fn ids_rising(book: &Book) -> bool {
 
 /// Question 5, the three zero bytes of each user.
 fn users_zero_bytes(header: &Header, bytes: &[u8]) -> bool {
-    let users = &bytes[HEADER_LENGTH..length(header.users, 0)];
+    let users_at = header_length(header.version);
+    let users = &bytes[users_at..length(header.version, header.users, 0)];
     users
         .chunks_exact(USER_LENGTH)
         .all(|user| user[5..8] == [0, 0, 0])
@@ -149,7 +153,7 @@ fn parties_valid(book: &Book, trade: &Trade) -> bool {
 
 /// Question 6, the zero byte of each trade.
 fn trades_zero_bytes(header: &Header, bytes: &[u8]) -> bool {
-    let trades = &bytes[length(header.users, 0)..];
+    let trades = &bytes[length(header.version, header.users, 0)..];
     trades
         .chunks_exact(TRADE_LENGTH)
         .all(|trade| trade[11] == 0)

@@ -7,7 +7,10 @@ use crate::questions::{questions_to_8, ACCEPTED};
 /// refusal.
 pub fn show<'a>(bytes: &'a [u8], store: Option<&[u8]>, id: u32) -> (u32, &'a [u8]) {
     match questions_to_8(bytes, store, id) {
-        Ok((_, place)) => (ACCEPTED, &bytes[length(place, 0)..][..USER_LENGTH]),
+        Ok((opened, place)) => {
+            let at = length(opened.book.version, place, 0);
+            (ACCEPTED, &bytes[at..][..USER_LENGTH])
+        }
         Err(number) => (number, &[]),
     }
 }

@@ -75,7 +75,8 @@ impl Add for Price {
     }
 }
 
-/// The two tariffs and the three tolls of the header.
+/// The two tariffs and the three tolls of the header, and the two selling
+/// tariffs, which version 1 has not: 0.
 #[derive(Clone, Copy, Debug, Default, PartialEq, Eq)]
 pub struct Prices {
     pub p: Price,
@@ -83,6 +84,8 @@ pub struct Prices {
     pub l: Price,
     pub x: Price,
     pub i: Price,
+    pub s: Price,
+    pub u: Price,
 }
 
 #[derive(Clone, Copy, Debug, PartialEq, Eq)]

@@ -14,6 +14,8 @@ const PRICES: Prices = Prices {
     l: Price(300),
     x: Price(100),
     i: Price(50),
+    s: Price(0),
+    u: Price(0),
 };
 
 /// A book of two users, 101 and 102, with these trades between them.

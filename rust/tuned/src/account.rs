@@ -44,7 +44,8 @@ impl Account {
         rates.least_level.max(self.charges + needs)
     }
 
-    /// "Need = sold − bought for d+1, minus max(0, position) in areas 1 and 2."
+    /// "Need = sold − bought for d+1, minus max(0, position) in areas 1 and 2"; a
+    /// version may give a credit.
     #[inline]
     pub fn afternoon_level(&self, rates: &Rates) -> Cents {
         let [_, tvb, avb] = self.position;
@@ -55,7 +56,7 @@ impl Account {
         ]);
         rates
             .least_level
-            .max(self.charges + needs + self.short_positions(rates))
+            .max(self.charges + needs + self.short_positions(rates) - self.credit(rates))
     }
 
     /// Sum of max(0, −position) × w.

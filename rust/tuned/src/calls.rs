@@ -5,6 +5,7 @@ use crate::account::Account;
 use crate::gathered::{records_mut, Gathered, Records};
 use crate::records::{ask, is_entry, length, put, Trade, User, USER_LENGTH};
 use crate::units::Cents;
+use crate::version::header_length_of;
 
 /// A guarantee call that was accepted.
 #[derive(Clone, Copy, Debug, PartialEq, Eq)]
@@ -74,7 +75,8 @@ pub fn blocked(
     level: Cents,
 ) -> Result<GuaranteeCall, u32> {
     ask(12, account.assigned >= level)?;
-    put(bytes, length(place, 0) + 48, level.0.to_le_bytes());
+    let at = length(header_length_of(bytes), place, 0) + 48;
+    put(bytes, at, level.0.to_le_bytes());
     Ok(GuaranteeCall {
         level,
         added: level - account.blocked,

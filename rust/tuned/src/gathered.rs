@@ -2,10 +2,11 @@
 //! calls.
 
 use crate::records::{
-    ask, Header, Trade, TradeBytes, User, UserBytes, HEADER_LENGTH, MARK, MOST_TRADES, MOST_USERS,
-    TRADE_LENGTH, USER_LENGTH,
+    ask, Header, Trade, TradeBytes, User, UserBytes, MARK, MOST_TRADES, MOST_USERS, TRADE_LENGTH,
+    USER_LENGTH,
 };
 use crate::units::{Limits, Mwh, Rates};
+use crate::version::header_length_of;
 
 /// Where the sums of a day begin among those of a user: three areas, and one
 /// place that is not used.
@@ -53,14 +54,15 @@ impl Records<'_> {
     pub fn of(bytes: &[u8]) -> Result<Records<'_>, u32> {
         let (first, rest) = bytes.split_first_chunk().ok_or(1_u32)?;
         ask(1, first.starts_with(MARK))?;
-        let header = Header::from_bytes(first);
+        let header = Header::from_bytes(first).with_selling_tariffs(rest);
         header.ask(bytes.len())?;
-        Ok(Records::at(header, rest))
+        Ok(Records::at(header, bytes))
     }
 
-    /// The records of a book of the right length, of the bytes behind its header.
-    pub fn at(header: Header, rest: &[u8]) -> Records<'_> {
-        let (users, trades) = rest.split_at(USER_LENGTH * usize::from(header.users));
+    /// The records of a book of the right length.
+    pub fn at(header: Header, bytes: &[u8]) -> Records<'_> {
+        let records = &bytes[header.length()..];
+        let (users, trades) = records.split_at(USER_LENGTH * usize::from(header.users));
         Records {
             header,
             users: users.as_chunks().0,
@@ -78,9 +80,10 @@ impl Records<'_> {
     }
 }
 
-/// The records of a book that is changed in place.
+/// The records of a book that is changed in place, its header being there.
 pub fn records_mut(bytes: &mut [u8], users: usize) -> (&mut [UserBytes], &mut [TradeBytes]) {
-    let (users, trades) = bytes[HEADER_LENGTH..].split_at_mut(USER_LENGTH * users);
+    let header = header_length_of(bytes);
+    let (users, trades) = bytes[header..].split_at_mut(USER_LENGTH * users);
     (
         users.as_chunks_mut::<USER_LENGTH>().0,
         trades.as_chunks_mut::<TRADE_LENGTH>().0,

@@ -12,6 +12,7 @@
 //! first question that failed, and leaves the book. The calls of document 01
 //! stand here, those with a store (document 02, ask 4) in [`requests`]; a list of
 //! postings (ask 1) is [`list()`], a whole cancellation (ask 8) [`cancellation()`].
+//! Version 2 of the book (ask 3) is the module `version`.
 
 #![forbid(unsafe_code)]
 
@@ -28,6 +29,7 @@ mod sales;
 mod store;
 mod transfer;
 mod units;
+mod version;
 
 pub use calls::{
     afternoon_call, afternoon_level, morning_call, morning_level, posting, show, show_picked,

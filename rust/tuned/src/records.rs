@@ -2,16 +2,20 @@
 //! what the questions 4 to 6 ask of one record.
 
 use crate::units::Prices;
+use crate::version::LONGEST_HEADER;
 
 pub const MARK: &[u8; 3] = b"GDB";
+
+/// Bytes of the header of version 1, with which that of version 2 begins.
 pub const HEADER_LENGTH: usize = 32;
+
 pub const USER_LENGTH: usize = 56;
 pub const TRADE_LENGTH: usize = 20;
 pub const MOST_USERS: usize = 64;
 pub const MOST_TRADES: usize = 256;
 
-/// Bytes of an image: the header, 64 users and 256 trades.
-pub const IMAGE_LENGTH: usize = length(MOST_USERS, MOST_TRADES);
+/// Bytes of an image: the longest header, 64 users and 256 trades.
+pub const IMAGE_LENGTH: usize = length(LONGEST_HEADER, MOST_USERS, MOST_TRADES);
 
 pub type UserBytes = [u8; USER_LENGTH];
 pub type TradeBytes = [u8; TRADE_LENGTH];
@@ -24,9 +28,9 @@ const MOST_ENTRY: i64 = 1_000_000;
 const MOST_CENTS: i64 = 1_000_000_000_000;
 const MOST_ENERGY: u32 = 100_000;
 
-/// 32 + 56 × users + 20 × trades.
-pub const fn length(users: usize, trades: usize) -> usize {
-    HEADER_LENGTH + USER_LENGTH * users + TRADE_LENGTH * trades
+/// Bytes of the header + 56 × users + 20 × trades.
+pub const fn length(header: usize, users: usize, trades: usize) -> usize {
+    header + USER_LENGTH * users + TRADE_LENGTH * trades
 }
 
 /// The fields of the header, but for the mark.
@@ -72,6 +76,7 @@ pub struct Book {
 }
 
 impl Header {
+    /// The header without S and U.
     #[inline]
     pub fn from_bytes(bytes: &[u8; HEADER_LENGTH]) -> Header {
         Header {
@@ -85,10 +90,12 @@ impl Header {
                 l: u32::from_le_bytes(field(bytes, 20)),
                 x: u32::from_le_bytes(field(bytes, 24)),
                 i: u32::from_le_bytes(field(bytes, 28)),
+                ..Prices::default()
             },
         }
     }
 
+    /// The bytes of the header without S and U.
     #[inline]
     pub fn to_bytes(self) -> [u8; HEADER_LENGTH] {
         let mut bytes = [0; HEADER_LENGTH];
@@ -106,14 +113,15 @@ impl Header {
     }
 
     /// The questions 2 to 4, of a book of this many bytes.
+    #[inline]
     pub fn ask(&self, bytes: usize) -> Result<(), u32> {
         let (users, trades) = (usize::from(self.users), usize::from(self.trades));
-        ask(2, self.version == 1)?;
+        ask(2, self.has_known_version())?;
         ask(
             3,
             (1..=MOST_USERS).contains(&users)
                 && trades <= MOST_TRADES
-                && bytes == length(users, trades),
+                && bytes == length(self.length(), users, trades),
         )?;
         ask(4, is_day(self.date) && prices_in_range(&self.prices))
     }
@@ -234,7 +242,7 @@ impl Book {
             users: u8::try_from(self.users.len()).unwrap_or(u8::MAX),
             trades: u16::try_from(self.trades.len()).unwrap_or(u16::MAX),
             date: self.date,
-            prices: self.prices,
+            prices: self.prices.of_version(self.version),
         }
     }
 }
@@ -267,11 +275,12 @@ pub fn is_day(date: u32) -> bool {
             .is_some_and(|days| (1..=days + leap_day).contains(&day))
 }
 
-/// P and Q 1 to 100,000, tolls 0 to 100,000.
+/// P and Q 1 to 100,000, tolls and selling tariffs 0 to 100,000.
 fn prices_in_range(prices: &Prices) -> bool {
     let tariff = |price: u32| (1..=MOST_PRICE).contains(&price);
     let toll = |price: u32| price <= MOST_PRICE;
-    tariff(prices.p) && tariff(prices.q) && toll(prices.l) && toll(prices.x) && toll(prices.i)
+    let tolls = toll(prices.l) && toll(prices.x) && toll(prices.i);
+    tariff(prices.p) && tariff(prices.q) && tolls && toll(prices.s) && toll(prices.u)
 }
 
 /// The bytes of a field.

@@ -3,7 +3,7 @@
 use crate::account::Account;
 use crate::calls::shipper;
 use crate::gathered::{records_mut, Gathered, Parties, Records};
-use crate::records::{ask, put, Header, Trade, TradeBytes, UserBytes, HEADER_LENGTH, MOST_TRADES};
+use crate::records::{ask, put, Header, Trade, TradeBytes, UserBytes, MOST_TRADES};
 use crate::sales::{Reducer, Sale};
 use crate::units::{Cents, Mwh};
 
@@ -33,7 +33,7 @@ pub fn reduced(
     gathered: &Gathered,
     (place, account): (usize, Account),
 ) -> Result<Reduction, u32> {
-    let records = Records::at(header, &bytes[HEADER_LENGTH..]);
+    let records = Records::at(header, bytes);
     let rates = &gathered.rates;
     let level = account.afternoon_level(rates);
     let called_in = account.is_called_in(rates);

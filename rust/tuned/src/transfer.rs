@@ -2,12 +2,11 @@
 //! either as [`Book`] or as an image of one length.
 
 use crate::gathered::{gather, records_mut, Records};
-use crate::records::{
-    Book, Header, Trade, User, HEADER_LENGTH, IMAGE_LENGTH, MOST_USERS, USER_LENGTH,
-};
+use crate::records::{Book, Header, Trade, User, IMAGE_LENGTH, MOST_USERS, USER_LENGTH};
+use crate::version::LONGEST_HEADER;
 
-/// The fields of a book in the book's format, always with places for 64 users
-/// and 256 trades.
+/// The fields of a book in the book's format, always with the longest header and
+/// places for 64 users and 256 trades.
 pub type Image = [u8; IMAGE_LENGTH];
 
 /// Where the trades of an image start, its header apart.
@@ -35,6 +34,7 @@ pub fn write(book: &Book, part: &mut [u8]) -> Result<(), u32> {
         book.users.iter().copied().map(Some),
         book.trades.iter().copied().map(Some),
     )?;
+    header.put_into(part);
     let (users, trades) = records_mut(part, book.users.len());
     for (bytes, user) in users.iter_mut().zip(&book.users) {
         *bytes = user.to_bytes();
@@ -42,7 +42,6 @@ pub fn write(book: &Book, part: &mut [u8]) -> Result<(), u32> {
     for (bytes, trade) in trades.iter_mut().zip(&book.trades) {
         *bytes = trade.to_bytes();
     }
-    part[..HEADER_LENGTH].copy_from_slice(&header.to_bytes());
     Ok(())
 }
 
@@ -59,15 +58,15 @@ pub fn read_image(bytes: &[u8], image: &mut Image) -> Result<(), u32> {
             return Err(number);
         }
     };
-    let (header, rest) = image.split_at_mut(HEADER_LENGTH);
+    let (header, rest) = image.split_at_mut(LONGEST_HEADER);
     let (users, trades) = rest.split_at_mut(IMAGE_TRADES);
-    header.copy_from_slice(&bytes[..HEADER_LENGTH]);
+    copy(header, &bytes[..records.header.length()]);
     copy(users, records.users.as_flattened());
     copy(trades, records.trades.as_flattened());
     Ok(())
 }
 
-/// Copies the records to the start of a part, the rest of which becomes 0.
+/// Copies a header or records to the start of a part, the rest of which becomes 0.
 fn copy(part: &mut [u8], records: &[u8]) {
     let (first, rest) = part.split_at_mut(records.len());
     first.copy_from_slice(records);
@@ -78,9 +77,9 @@ fn copy(part: &mut [u8], records: &[u8]) {
 /// unchanged. Mark and zero bytes of the image are not looked at.
 pub fn write_image(image: &Image, part: &mut [u8]) -> Result<(), u32> {
     let (first, rest) = image.split_first_chunk().ok_or(1_u32)?;
-    let header = Header::from_bytes(first);
+    let header = Header::from_bytes(first).with_selling_tariffs(rest);
     header.ask(part.len())?;
-    let (users, trades) = rest.split_at(IMAGE_TRADES);
+    let (users, trades) = image[LONGEST_HEADER..].split_at(IMAGE_TRADES);
     let users = &users.as_chunks().0[..usize::from(header.users)];
     let trades = &trades.as_chunks().0[..usize::from(header.trades)];
     gather(
@@ -88,6 +87,7 @@ pub fn write_image(image: &Image, part: &mut [u8]) -> Result<(), u32> {
         users.iter().map(|user| Some(User::from_bytes(user))),
         trades.iter().map(|trade| Some(Trade::from_bytes(trade))),
     )?;
+    header.put_into(part);
     let (to_users, to_trades) = records_mut(part, users.len());
     to_users.copy_from_slice(users);
     to_trades.copy_from_slice(trades);
@@ -97,6 +97,5 @@ pub fn write_image(image: &Image, part: &mut [u8]) -> Result<(), u32> {
     for trade in to_trades {
         trade[11] = 0;
     }
-    part[..HEADER_LENGTH].copy_from_slice(&header.to_bytes());
     Ok(())
 }

@@ -82,7 +82,8 @@ impl Mul<Price> for Mwh {
     }
 }
 
-/// The two tariffs and the three tolls of the header.
+/// The two tariffs and the three tolls of the header, and the two selling
+/// tariffs, 0 in version 1.
 #[derive(Clone, Copy, Debug, Default, PartialEq, Eq)]
 pub struct Prices {
     pub p: u32,
@@ -90,6 +91,8 @@ pub struct Prices {
     pub l: u32,
     pub x: u32,
     pub i: u32,
+    pub s: u32,
+    pub u: u32,
 }
 
 /// The three figures of document 01 that a store can replace.
@@ -119,6 +122,9 @@ pub struct Rates {
     pub tariff: [Price; 3],
     /// Reference price w.
     pub reference: [Price; 3],
+    /// The selling tariffs of PVB, and of the other two areas; 0 where there are
+    /// none.
+    pub selling: [Price; 2],
     /// 30,000, or the MWh figure of the store, × the least w.
     pub flag_limit: Cents,
     pub margin: Cents,
@@ -133,6 +139,7 @@ impl Rates {
         Rates {
             tariff: [Price(p), Price(q), Price(q)],
             reference,
+            selling: prices.selling(),
             flag_limit: limits.flag_energy * least,
             margin: limits.margin,
             least_level: limits.least_level,

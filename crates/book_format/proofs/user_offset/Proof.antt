@@ -1,12 +1,15 @@
--- `user_offset`: the header and the users before. Assumes nothing.
-use borrow.Author.Needs.{needs}
-use Rattle.book_format.specs.Book.{userAt, headerSize, userSize, tradesAt}
+-- `user_offset`: by where the users begin. Assumes nothing.
 use Rattle.book_format.proofs.user_offset.Statement.{statement}
 use Rattle.book_format.proofs.user_offset.Tie as tie
 
+users-offset-requires : tie.Need-users-offset-requires
+users-offset-requires c κs = c .before .pre .form .head
+
+user-offset-from-requires : tie.Need-user-offset-from-requires
+user-offset-from-requires c κs = (c .before .before .pre, c .users-offset .ensures .0)
+
 returns : tie.Need-returns
-unfolding userAt headerSize userSize tradesAt
-returns c = search needs
+returns c = c .user-offset-from .ensures
 
 pub user-offset-spec : {M : Type 1} → statement M
-user-offset-spec = tie.close (tie.spec (λ c. search needs) (λ c. search needs) returns)
+user-offset-spec = tie.close (tie.spec users-offset-requires user-offset-from-requires returns)

@@ -1,5 +1,6 @@
--- `copy_header` copies 32 bytes with the mark over the front of the part. Assumes nothing.
-use mathlib.Core.Path.{_∙_}
+-- `copy_header` copies the header's bytes with the mark over the front of the part. Assumes nothing.
+use mathlib.Core.Path.{sym, _∙_}
+use native.Mathlib.Omega.{arith}
 use denote.Ref.{now}
 use lib.ListN.{take}
 use lib.Seq.{length-take-le}
@@ -11,26 +12,21 @@ use borrow.Author.Needs.{needs}
 use Rattle.book_image.proofs.copy_header.Statement.{statement}
 use Rattle.book_image.proofs.copy_header.Tie as tie
 
-sub-copy-marked : tie.Need-sub-copy-marked
-sub-copy-marked c = search needs
+slice-aggregate-copy-marked : tie.Need-slice-aggregate-copy-marked
+slice-aggregate-copy-marked c = sym (length-take-le _ _ (c .before .before .before .pre .1))
 
-part-copy-marked-start : tie.Need-part-copy-marked-start
-part-copy-marked-start c = search needs
+slice-relend-prefix-copy-marked : tie.Need-slice-relend-prefix-copy-marked
+slice-relend-prefix-copy-marked c = search needs
 
-part-copy-marked-end : tie.Need-part-copy-marked-end
-part-copy-marked-end c = search needs
-
-sub-copy-marked-2 : tie.Need-sub-copy-marked-2
-sub-copy-marked-2 c = search needs
-
-part-copy-marked-start-2 : tie.Need-part-copy-marked-start-2
-part-copy-marked-start-2 c = search needs
-
-part-copy-marked-end-2 : tie.Need-part-copy-marked-end-2
-part-copy-marked-end-2 c = search needs
+slice-aggregate-copy-marked-2 : tie.Need-slice-aggregate-copy-marked-2
+slice-aggregate-copy-marked-2 c = sym (length-take-le _ _ (c .before .before .before .before .pre .2))
 
 copy-marked-requires : tie.Need-copy-marked-requires
-copy-marked-requires c κs = search needs
+copy-marked-requires c κs =
+    let start = c .before .before .before .before in
+    let s = length-take-le (start .args .size) (now (start .args .s)) (start .pre .1) in
+    let out = length-take-le (start .args .size) (now (start .args .out)) (start .pre .2) in
+    (out ∙ sym s, omega (arith, s, start .pre .0))
 
 same-length : tie.Need-same-length
 same-length c = search needs
@@ -39,19 +35,18 @@ returns : tie.Need-returns
 unfolding mark
 returns c =
     let start = c .before .before .before .before .before .before .before in
-    let front = take 32 (now (start .args .s)) in
-    front-set 32 (now (start .args .out)) (setField 3 0 mark front) (length-setField 3 0 mark front ∙ length-take-le 32 (now (start .args .s)) (start .pre .0)) (start .pre .1) (c .before .before .copy-marked .ensures)
+    let size = start .args .size in
+    let front = take size (now (start .args .s)) in
+    let l = length-setField 3 0 mark front ∙ length-take-le size (now (start .args .s)) (start .pre .1) in
+    front-set size (now (start .args .out)) (setField 3 0 mark front) l (start .pre .2) (c .before .before .copy-marked .ensures)
 
 pub copy-header-spec : {M : Type 1} → statement M
 copy-header-spec =
     tie.close
     (tie.spec
-    sub-copy-marked
-    part-copy-marked-start
-    part-copy-marked-end
-    sub-copy-marked-2
-    part-copy-marked-start-2
-    part-copy-marked-end-2
+    slice-aggregate-copy-marked
+    slice-relend-prefix-copy-marked
+    slice-aggregate-copy-marked-2
     copy-marked-requires
     same-length
     returns)

@@ -4,7 +4,6 @@ use native.Mathlib.Omega.{arith}
 use denote.Ref.{now}
 use Rattle.rules.specs.Questions.{refusal, decided}
 use Rattle.laws.proofs.Refusals.{number-some}
-use Rattle.book_format.specs.Book.{userCount}
 use Rattle.book_format.specs.Questions.{Formed, aboutBytes, bookNumber}
 use Rattle.book_format.proofs.Formed.{book-passed}
 use Rattle.book_format.proofs.Passed.{passed}

@@ -1,12 +1,13 @@
 -- `write` asks the version, the counts and the part's length, then the fields of the image, and writes only where all are answered by yes. Assumes nothing.
 use mathlib.Core.Bool.{Bool, true, false, _&&_}
 use mathlib.Core.Path.{_≡_, sym, ap, ap₂, _∙_}
-use Prim.Native.Nat.{ℕ, _+_, _*_}
+use Prim.Native.Nat.{ℕ}
 use lib.Dec.{eqb}
 use lib.ListN.{length}
 use borrow.Author.Tests.{eq-eqb, ne-eqb, not-true, not-false}
 use denote.Ref.{now}
-use Rattle.book_format.specs.Book.{versionOf, userCount, tradeCount, bookOf}
+use Rattle.rules.specs.Questions.{versionKnown}
+use Rattle.book_format.specs.Book.{userCount, tradeCount, bookOf, lengthBy}
 use Rattle.book_value.specs.Written.{countsInRange}
 use Rattle.book_value.proofs.PartWritten.{written-2, written-3, written-refused, written-0}
 use Rattle.book_image.specs.ImageBook.{imageBook, CountsOf}
@@ -15,142 +16,133 @@ use borrow.Author.Needs.{needs}
 use Rattle.book_image.proofs.write.Statement.{statement}
 use Rattle.book_image.proofs.write.Tie as tie
 
-get-u16-requires : tie.Need-get-u16-requires
-get-u16-requires c κs = search needs
-
-user-count-requires : tie.Need-user-count-requires
-user-count-requires c κs = search needs
-
 cast-n : tie.Need-cast-n
 cast-n c = search needs
-
-trade-count-requires : tie.Need-trade-count-requires
-trade-count-requires c κs = search needs
 
 cast-m : tie.Need-cast-m
 cast-m c = search needs
 
 -- ---- what was asked of the numbers that were read is asked of the image
 
-module _ {answer : Bool} (c : tie.After-trade-count) where
-  of-version : eqb (c .before .before .get-u16 .result) 1 ≡ answer → eqb (imageBook (now (c .before .before .before .before .before .args .image)) .header .version) 1 ≡ answer
-  unfolding imageBook bookOf versionOf
-  of-version e = ap (λ (v : ℕ). eqb v 1) (sym (c .before .before .get-u16 .ensures)) ∙ e
+-- the version
+known : {answer : Bool} (c : tie.After-is-known)
+    → c .is-known .result ≡ answer → versionKnown (imageBook (now (c .before .before .before .before .before .before .args .image)) .header .version) ≡ answer
+unfolding imageBook bookOf
+known {answer} c e = ap versionKnown (sym (c .before .before .before .version .ensures)) ∙ sym (c .is-known .ensures) ∙ e
 
-  of-size : (countsInRange (c .before .user-count .result) (c .trade-count .result) && eqb (length (now (c .before .before .before .before .before .args .out))) (32 + 56 * c .before .user-count .result + 20 * c .trade-count .result)) ≡ answer
-      → (countsInRange (userCount (now (c .before .before .before .before .before .args .image)))
-      (tradeCount (now (c .before .before .before .before .before .args .image))) && eqb
-      (length (now (c .before .before .before .before .before .args .out)))
-      (32 + 56 * userCount (now (c .before .before .before .before .before .args .image)) + 20 * tradeCount
-      (now (c .before .before .before .before .before .args .image)))) ≡ answer
-  of-size e =
-      ap₂ (λ (n m : ℕ). countsInRange n m && eqb (length (now (c .before .before .before .before .before .args .out))) (32 + 56 * n + 20 * m)) (sym (c .before .user-count .ensures)) (sym (c .trade-count .ensures)) ∙ e
+version : (c : tie.Else1) → versionKnown (imageBook (now (c .before .before .before .before .before .before .before .args .image)) .header .version) ≡ true
+version c = known (c .before) (not-false _ (c .if1 .left))
 
-version : (c : tie.Else1) → eqb (imageBook (now (c .before .before .before .before .before .before .args .image)) .header .version) 1 ≡ true
-version c = of-version (c .before) (eq-eqb (c .before .before .before .get-u16 .result) 1 (c .if1 .left))
+-- the counts and the length that they ask for
+sizes : {answer : Bool} (c : tie.After-is-known)
+    → let a = c .before .before .before .before .before .before .args in
+    let n = c .before .before .user-count .result in
+    let m = c .before .trade-count .result in
+    (countsInRange n m && eqb (length (now (a .out))) (lengthBy (c .before .before .before .version .result) n m)) ≡ answer
+    → (countsInRange (userCount (now (a .image))) (tradeCount (now (a .image))) && eqb (length (now (a .out)))
+    (lengthBy (imageBook (now (a .image)) .header .version) (userCount (now (a .image))) (tradeCount (now (a .image))))) ≡ answer
+unfolding imageBook bookOf
+sizes {answer} c e =
+    rw (← c .before .before .before .version .ensures, ← c .before .before .user-count .ensures, ← c .before .trade-count .ensures) e
 
-in-range : (c : tie.Else2) → countsInRange (c .before .before .before .user-count .result) (c .before .before .trade-count .result) ≡ true
+counted : (c : tie.Else2)
+    → let i = c .before .before in
+    countsInRange (i .before .before .user-count .result) (i .before .trade-count .result) ≡ true
 unfolding countsInRange
-in-range c = not-false _ (c .if2 .left)
+counted c = not-false _ (c .if2 .left)
 
-out-of-range : (c : tie.Then2) → countsInRange (c .before .before .before .user-count .result) (c .before .before .trade-count .result) ≡ false
+uncounted : (c : tie.Then2)
+    → let i = c .before .before in
+    countsInRange (i .before .before .user-count .result) (i .before .trade-count .result) ≡ false
 unfolding countsInRange
-out-of-range c = not-true _ (c .if2 .taken)
+uncounted c = not-true _ (c .if2 .taken)
 
-counts : (c : tie.Else2) → CountsOf (now (c .before .before .before .before .before .before .before .args .image)) (c .before .before .before .user-count .result) (c .before .before .trade-count .result)
-unfolding versionOf
+counts : (c : tie.Else2)
+    → let i = c .before .before in
+    CountsOf (now (i .before .before .before .before .before .before .args .image)) (i .before .before .user-count .result) (i .before .trade-count .result)
 counts c =
-    counts-of (c .before .before .before .before .before .before .before .pre) (sym (c .before .before .before .before .get-u16 .ensures) ∙ c .before .if1 .left) (c .before .before .before .user-count .ensures) (c .before .before .trade-count .ensures) (in-range c)
+    let i = c .before .before in
+    counts-of (i .before .before .before .before .before .before .pre) (i .before .before .user-count .ensures) (i .before .trade-count .ensures) (counted c)
 
-sized : (c : tie.Else3) → (countsInRange (userCount (now (c .before .before .before .before .before .before .before .before .args .image)))
-    (tradeCount (now (c .before .before .before .before .before .before .before .before .args .image))) && eqb
-    (length (now (c .before .before .before .before .before .before .before .before .args .out)))
-    (32 + 56 * userCount (now (c .before .before .before .before .before .before .before .before .args .image)) + 20 * tradeCount
-    (now (c .before .before .before .before .before .before .before .before .args .image)))) ≡ true
+-- the part is of the length that version and counts ask for
+whole : (c : tie.Else3)
+    → let i = c .before .before .before .before in
+    length (now (i .before .before .before .before .before .before .args .out)) ≡ lengthBy (i .before .before .before .version .result) (i .before .before .user-count .result) (i .before .trade-count .result)
+whole c = c .if3 .left ∙ c .before .book-length .ensures
+
+sized : (c : tie.Else3)
+    → let a = c .before .before .before .before .before .before .before .before .before .before .args in
+    (countsInRange (userCount (now (a .image))) (tradeCount (now (a .image))) && eqb (length (now (a .out)))
+    (lengthBy (imageBook (now (a .image)) .header .version) (userCount (now (a .image))) (tradeCount (now (a .image))))) ≡ true
 sized c =
-    of-size (c .before .before .before) (ap₂ (λ (x y : Bool). x && y) (in-range (c .before))
-    (eq-eqb (length (now (c .before .before .before .before .before .before .before .before .args .out)))
-    (32 + 56 * c .before .before .before .before .user-count .result + 20 * c .before .before .before .trade-count .result) (c .if3 .left)))
+    let i = c .before .before .before .before in
+    sizes i (ap₂ (λ (x y : Bool). x && y) (counted (c .before .before)) (eq-eqb (length (now (i .before .before .before .before .before .before .args .out))) _ (whole c)))
 
 -- ---- the ways out
 
 returns : tie.Need-returns
-returns c = written-2 (userCount (now (c .before .before .before .before .before .before .args .image)))
-    (tradeCount (now (c .before .before .before .before .before .before .args .image)))
-    (imageBook (now (c .before .before .before .before .before .before .args .image))) (now (c .before .before .before .before .before .before .args .out))
-    (of-version (c .before) (ne-eqb (c .before .before .before .get-u16 .result) 1 (c .if1 .taken)))
+returns c =
+    let a = c .before .before .before .before .before .before .before .args in
+    written-2 (userCount (now (a .image))) (tradeCount (now (a .image))) (imageBook (now (a .image))) (now (a .out)) (known (c .before) (not-true _ (c .if1 .taken)))
 
 returns-2 : tie.Need-returns-2
 returns-2 c =
-    written-3 (userCount (now (c .before .before .before .before .before .before .before .args .image)))
-    (tradeCount (now (c .before .before .before .before .before .before .before .args .image)))
-    (imageBook (now (c .before .before .before .before .before .before .before .args .image)))
-    (now (c .before .before .before .before .before .before .before .args .out)) (version (c .before))
-    (of-size (c .before .before) (ap (λ (x : Bool). x && eqb (length (now (c .before .before .before .before .before .before .before .args .out))) (32 + 56 * c .before .before .before .user-count .result + 20 * c .before .before .trade-count .result)) (out-of-range c)))
-
-mul-if3 : tie.Need-mul-if3
-mul-if3 c = search needs
-
-add-if3 : tie.Need-add-if3
-add-if3 c = search needs
-
-mul-if3-2 : tie.Need-mul-if3-2
-mul-if3-2 c = search needs
-
-add-if3-2 : tie.Need-add-if3-2
-add-if3-2 c = search needs
+    let i = c .before .before in
+    let a = i .before .before .before .before .before .before .args in
+    let length-asked = lengthBy (i .before .before .before .version .result) (i .before .before .user-count .result) (i .before .trade-count .result) in
+    written-3 (userCount (now (a .image))) (tradeCount (now (a .image))) (imageBook (now (a .image))) (now (a .out)) (version (c .before))
+    (sizes i (ap (λ (x : Bool). x && eqb (length (now (a .out))) length-asked) (uncounted c)))
 
 returns-3 : tie.Need-returns-3
 returns-3 c =
-    written-3 (userCount (now (c .before .before .before .before .before .before .before .before .args .image)))
-    (tradeCount (now (c .before .before .before .before .before .before .before .before .args .image)))
-    (imageBook (now (c .before .before .before .before .before .before .before .before .args .image)))
-    (now (c .before .before .before .before .before .before .before .before .args .out)) (version (c .before .before))
-    (of-size (c .before .before .before) (ap₂ (λ (x y : Bool). x && y) (in-range (c .before))
-    (ne-eqb (length (now (c .before .before .before .before .before .before .before .before .args .out)))
-    (32 + 56 * c .before .before .before .before .user-count .result + 20 * c .before .before .before .trade-count .result) (c .if3 .taken))))
+    let a = c .before .before .before .before .before .before .before .before .before .before .args in
+    written-3 (userCount (now (a .image))) (tradeCount (now (a .image))) (imageBook (now (a .image))) (now (a .out)) (version (c .before .before .before))
+    (sizes (c .before .before .before .before) (ap₂ (λ (x y : Bool). x && y) (counted (c .before .before))
+    (ne-eqb (length (now (a .out))) _ (λ e. c .if3 .taken (e ∙ sym (c .before .book-length .ensures))))))
 
 fields-number-requires : tie.Need-fields-number-requires
-fields-number-requires c κs = counts (c .before)
+fields-number-requires c κs = counts (c .before .before)
 
 returns-4 : tie.Need-returns-4
 returns-4 c =
-    written-refused (userCount (now (c .before .before .before .before .before .before .before .before .before .before .args .image)))
-    (tradeCount (now (c .before .before .before .before .before .before .before .before .before .before .args .image)))
-    (imageBook (now (c .before .before .before .before .before .before .before .before .before .before .args .image)))
-    (now (c .before .before .before .before .before .before .before .before .before .before .args .out)) (version (c .before .before .before .before))
-    (sized (c .before .before)) (c .before .fields-number .result) (c .before .fields-number .ensures) (c .if4 .taken)
+    let e = c .before .before in
+    let a = e .before .before .before .before .before .before .before .before .before .before .args in
+    written-refused (userCount (now (a .image))) (tradeCount (now (a .image))) (imageBook (now (a .image))) (now (a .out)) (version (e .before .before .before)) (sized e)
+    (c .before .fields-number .result) (c .before .fields-number .ensures) (c .if4 .taken)
 
 write-fields-requires : tie.Need-write-fields-requires
-write-fields-requires c κs = (counts (c .before .before .before .before), c .before .before .before .if3 .left)
+write-fields-requires c κs =
+    let e = c .before .before .before in
+    let i = e .before .before .before .before in
+    let n = i .before .before .user-count .result in
+    let m = i .before .trade-count .result in
+    (counts (e .before .before), whole e ∙ ap (λ (v : ℕ). lengthBy v n m) (i .before .before .before .version .ensures))
 
 same-length : tie.Need-same-length
 same-length c = search needs
 
 returns-5 : tie.Need-returns-5
 returns-5 c =
-    written-0 (userCount (now (c .before .before .before .before .before .before .before .before .before .before .before .before .before .before .args .image)))
-    (tradeCount (now (c .before .before .before .before .before .before .before .before .before .before .before .before .before .before .args .image)))
-    (imageBook (now (c .before .before .before .before .before .before .before .before .before .before .before .before .before .before .args .image)))
-    (now (c .before .before .before .before .before .before .before .before .before .before .before .before .before .before .args .out))
-    (version (c .before .before .before .before .before .before .before .before)) (sized (c .before .before .before .before .before .before))
-    (sym (c .before .before .before .before .before .fields-number .ensures) ∙ c .before .before .before .before .if4 .left) _ (c .before .before .write-fields .ensures)
+    let w = c .before .before in
+    let g = w .before .before in
+    let e = g .before .before in
+    let a = e .before .before .before .before .before .before .before .before .before .before .args in
+    written-0 (userCount (now (a .image))) (tradeCount (now (a .image))) (imageBook (now (a .image))) (now (a .out)) (version (e .before .before .before)) (sized e)
+    (sym (g .before .fields-number .ensures) ∙ g .if4 .left) _ (w .write-fields .ensures)
 
 pub write-spec : {M : Type 1} → statement M
 write-spec =
     tie.close
     (tie.spec
-    get-u16-requires
-    user-count-requires
+    (λ c κs. search needs)
+    (λ c κs. search needs)
     cast-n
-    trade-count-requires
+    (λ c κs. search needs)
     cast-m
+    (λ c κs. search needs)
     returns
     returns-2
-    mul-if3
-    add-if3
-    mul-if3-2
-    add-if3-2
+    (λ c κs. search needs)
     returns-3
     fields-number-requires
     returns-4

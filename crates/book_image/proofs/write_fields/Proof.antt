@@ -1,16 +1,29 @@
 -- `write_fields` copies header, users and trades one after the other, which over bytes of the book's length gives the book's bytes. Assumes nothing.
-use mathlib.Core.Path.{_∙_}
+use mathlib.Core.Path.{_≡_, _∙_}
+use Prim.Native.Nat.{_+_, _*_}
+use native.Mathlib.Omega.{arith}
+use lib.ListN.{length}
 use denote.Ref.{now}
+use Rattle.book_format.specs.Book.{versionOf}
+use Rattle.book_format.proofs.Offsets.{length-by}
 use Rattle.book_image.proofs.Fields.{image-written}
 use borrow.Author.Needs.{needs}
 use Rattle.book_image.proofs.write_fields.Statement.{statement}
 use Rattle.book_image.proofs.write_fields.Tie as tie
 
+-- the part has room for the header, all users and all trades
+room : (c : tie.After-users-offset)
+    → let a = c .before .before .before .args in
+    length (now (a .out)) ≡ c .users-offset .result + 56 * a .n + 20 * a .m
+room c =
+    let start = c .before .before .before in
+    start .pre .1 ∙ length-by (versionOf (now (start .args .image))) (start .args .n) (start .args .m) ∙ omega (arith, c .users-offset .ensures .0)
+
 copy-header-requires : tie.Need-copy-header-requires
-copy-header-requires c κs = search needs
+copy-header-requires c κs = let l = room (c .before) in search needs
 
 copy-users-requires : tie.Need-copy-users-requires
-copy-users-requires c κs = search needs
+copy-users-requires c κs = let l = room (c .before .before .before .before .before) in search needs
 
 mul-copy-trades : tie.Need-mul-copy-trades
 mul-copy-trades c = search needs
@@ -19,22 +32,28 @@ add-copy-trades : tie.Need-add-copy-trades
 add-copy-trades c = search needs
 
 copy-trades-requires : tie.Need-copy-trades-requires
-copy-trades-requires c κs = search needs
+copy-trades-requires c κs = let l = room (c .before .before .before .before .before .before .before .before .before) in search needs
 
 same-length : tie.Need-same-length
 same-length c = search needs
 
 returns : tie.Need-returns
 returns c =
-    let start = c .before .before .before .before .before .before .before .before .before .before .before .before .before .before in
-    c .before .before .copy-trades .ensures
-    ∙ rw (c .before .before .before .before .before .before .copy-users .ensures, c .before .before .before .before .before .before .before .before .before .before .copy-header .ensures)
-    (image-written (start .pre .0) (λ i. c .before .before .before .before .before .before .before .before .before .before .before .before .before .shared-slice-known .given i .fits) (now (start .args .out)) (start .pre .1))
+    let trades = c .before .before in
+    let users = trades .before .before .before .before in
+    let header = users .before .before .before .before in
+    let offset = header .before .before in
+    let known = offset .before .before in
+    let start = known .before in
+    trades .copy-trades .ensures
+    ∙ rw (users .copy-users .ensures, header .copy-header .ensures)
+    (image-written (start .pre .0) (λ i. known .shared-slice-known .given i .fits) (now (start .args .out)) (offset .users-offset .ensures .0) (start .pre .1))
 
 pub write-fields-spec : {M : Type 1} → statement M
 write-fields-spec =
     tie.close
     (tie.spec
+    (λ c κs. search needs)
     copy-header-requires
     copy-users-requires
     mul-copy-trades

@@ -1,8 +1,12 @@
 -- `ask_fields` asks question 4, and then those of the users and trades. Assumes nothing.
+use Prim.Native.Nat.{_≤_}
+use native.Mathlib.Omega.{arith}
 use denote.Ref.{now}
+use Rattle.book_format.proofs.Offsets.{users-end}
 use borrow.Author.Tests.{not-true, not-false}
+use Rattle.book_format.proofs.Places.{header-lies}
 use Rattle.book_questions.specs.Asked.{pastSix, RecordsIn}
-use Rattle.book_questions.proofs.Asked.{formed-bytes, fields-4, fields-rest, fields-summed, summed-none}
+use Rattle.book_questions.proofs.Asked.{formed-bytes, fields-4, fields-rest, fields-summed, records-from, records-within, summed-from, summed-none}
 use borrow.Author.Needs.{needs}
 use Rattle.book_questions.proofs.ask_fields.Statement.{statement}
 use Rattle.book_questions.proofs.ask_fields.Tie as tie
@@ -20,7 +24,10 @@ cast-m : tie.Need-cast-m
 cast-m c = search needs
 
 read-prices-requires : tie.Need-read-prices-requires
-read-prices-requires c κs = search needs
+read-prices-requires c κs = header-lies (c .before .before .before .before .before .pre .0)
+
+version-requires : tie.Need-version-requires
+version-requires c κs = search needs
 
 get-u32-requires : tie.Need-get-u32-requires
 get-u32-requires c κs = search needs
@@ -32,16 +39,16 @@ returns : tie.Need-returns
 unfolding pastSix
 returns c =
     let header = c .before in
-    let prices = header .before .before in
+    let prices = header .before .before .before in
     let start = prices .before .before .before .before .before .before in
-    (fields-4 (now (start .args .s)) (header .before .get-u32 .ensures) (prices .read-prices .ensures) (header .header-valid .ensures) (not-true _ (c .if1 .taken)), summed-none 4 (λ p. p))
+    (fields-4 (now (start .args .s)) (header .before .before .version .ensures) (header .before .get-u32 .ensures) (prices .read-prices .ensures) (header .header-valid .ensures) (not-true _ (c .if1 .taken)), summed-none 4 (λ p. p))
 
 -- where the records stand
-placed : (c : tie.After-trades-offset) → let counts = c .before .before .before .before .before .before in
+placed : (c : tie.After-trades-offset) → let counts = c .before .before .before .before .before .before .before in
     RecordsIn (c .before .users-offset .result) (counts .before .user-count .result) (c .trades-offset .result) (counts .trade-count .result) (now (counts .before .before .before .before .before .args .s))
 placed c =
-    let counts = c .before .before .before .before .before .before in
-    formed-bytes (counts .before .before .before .before .before .pre .0) (counts .before .user-count .ensures) (counts .trade-count .ensures) (c .before .users-offset .ensures) (c .trades-offset .ensures)
+    let counts = c .before .before .before .before .before .before .before in
+    formed-bytes (counts .before .before .before .before .before .pre .0) (counts .before .user-count .ensures) (counts .trade-count .ensures) (c .before .users-offset .ensures .0) (c .trades-offset .ensures)
 
 user-zeros-valid-requires : tie.Need-user-zeros-valid-requires
 user-zeros-valid-requires c κs = placed c .users
@@ -49,8 +56,29 @@ user-zeros-valid-requires c κs = placed c .users
 trade-zeros-valid-requires : tie.Need-trade-zeros-valid-requires
 trade-zeros-valid-requires c κs = placed (c .before) .trades
 
+-- the users lie in the bytes, and the trades behind them
+behind : (c : tie.After-trades-offset) → c .before .users-offset .result ≤ c .trades-offset .result
+behind c =
+    let counts = c .before .before .before .before .before .before .before in
+    omega (arith, users-end _ (c .before .users-offset .ensures .0) (counts .before .user-count .ensures), c .trades-offset .ensures)
+
+sub-ask-records : tie.Need-sub-ask-records
+sub-ask-records c = omega (arith, placed (c .before .before) .users)
+
+part-ask-records-start : tie.Need-part-ask-records-start
+part-ask-records-start c = let l = sub-ask-records c in search needs
+
+part-ask-records-end : tie.Need-part-ask-records-end
+part-ask-records-end c = let l = sub-ask-records c in search needs
+
+sub-ask-records-2 : tie.Need-sub-ask-records-2
+sub-ask-records-2 c = behind (c .before .before .before)
+
 ask-records-requires : tie.Need-ask-records-requires
-ask-records-requires c κs = (placed (c .before .before .before .before .before), search needs)
+ask-records-requires c κs =
+    let offsets = c .before .before .before .before .before .before in
+    let p = offsets .before .before .before .before .before .before .before .before .before .before .before .before .pre in
+    (records-within _ _ _ (behind offsets) (placed offsets), (p .1, p .2, p .3))
 
 same-length : tie.Need-same-length
 same-length c = search needs
@@ -61,16 +89,18 @@ same-length-2 c = search needs
 returns-2 : tie.Need-returns-2
 returns-2 c =
     let records = c .before .before .before .before in
-    let zeros = records .before .before .before .before in
+    let zeros = records .before .before .before .before .before in
     let offsets = zeros .before .before in
     let passed = offsets .before .before in
     let header = passed .before in
-    let prices = header .before .before in
+    let prices = header .before .before .before in
     let counts = prices .before in
+    let begin = offsets .before .users-offset .ensures .0 in
+    let end = offsets .trades-offset .ensures in
     let start = counts .before .before .before .before .before in (
-      fields-rest (now (start .args .s)) (header .before .get-u32 .ensures) (prices .read-prices .ensures) (header .header-valid .ensures) (not-false _ (passed .if1 .left))
-          (counts .before .user-count .ensures) (counts .trade-count .ensures) (offsets .before .users-offset .ensures) (offsets .trades-offset .ensures) (zeros .before .user-zeros-valid .ensures) (zeros .trade-zeros-valid .ensures) (records .ask-records .ensures .0),
-      fields-summed (now (start .args .s)) (counts .before .user-count .ensures) (counts .trade-count .ensures) (offsets .before .users-offset .ensures) (offsets .trades-offset .ensures) (records .ask-records .ensures .1),
+      fields-rest (now (start .args .s)) (header .before .before .version .ensures) (header .before .get-u32 .ensures) (prices .read-prices .ensures) (header .header-valid .ensures) (not-false _ (passed .if1 .left))
+          (counts .before .user-count .ensures) (counts .trade-count .ensures) begin end (zeros .before .user-zeros-valid .ensures) (zeros .trade-zeros-valid .ensures) (records-from _ _ _ (behind offsets) _ _ (records .ask-records .ensures .0)),
+      fields-summed (now (start .args .s)) (counts .before .user-count .ensures) (counts .trade-count .ensures) begin end (summed-from _ _ _ (behind offsets) _ _ (records .ask-records .ensures .1)),
     )
 
 pub ask-fields-spec : {M : Type 1} → statement M
@@ -82,6 +112,7 @@ ask-fields-spec =
     trade-count-requires
     cast-m
     read-prices-requires
+    version-requires
     get-u32-requires
     header-valid-requires
     returns
@@ -89,6 +120,10 @@ ask-fields-spec =
     (λ c κs. search needs)
     user-zeros-valid-requires
     trade-zeros-valid-requires
+    sub-ask-records
+    part-ask-records-start
+    part-ask-records-end
+    sub-ask-records-2
     ask-records-requires
     same-length
     same-length-2

@@ -57,7 +57,7 @@ positions-valid-requires c κs = search needs
 -- the answer to question 7 is that of the rules
 positions-answer : (c : tie.After-positions-valid)
     → let a = c .before .before .before .before .before .before .before .before .before .before .before .before .before .before .before .before .before .before .before .before .before .before .before .args in
-    c .positions-valid .result ≡ all (positionsValid (tradesFrom (a .trades-at) (a .m) (now (a .s)))) (usersFrom (a .users-at) (a .n) (now (a .s)))
+    c .positions-valid .result ≡ all (positionsValid (tradesFrom (a .trades-at) (a .m) (now (a .s)))) (usersFrom 0 (a .n) (now (a .s)))
 positions-answer c =
     let allowed = c .before .before in
     let trades = allowed .before .before .before .before .before in
@@ -72,7 +72,7 @@ positions-answer c =
 summed : (number : ℕ) (c : tie.Else2)
     → let t = c .before .before .before .before .before in
     let a = t .before .before .before .before .before .before .before .before .before .before .before .before .before .before .before .before .args in
-    Summed (usersFrom (a .users-at) (a .n) (now (a .s))) (tradesFrom (a .trades-at) (a .m) (now (a .s))) (a .m) number (t .valid-trades .result) (t .valid-trades .last .1 .1 .1 .1 .1 .1 .1 .1 .0)
+    Summed (usersFrom 0 (a .n) (now (a .s))) (tradesFrom (a .trades-at) (a .m) (now (a .s))) (a .m) number (t .valid-trades .result) (t .valid-trades .last .1 .1 .1 .1 .1 .1 .1 .1 .0)
 summed number c =
     let trades = c .before .before .before .before .before in
     let passed = trades .before .before .before .before .before .before .before .before .before in

@@ -3,7 +3,9 @@ use native.Mathlib.Omega.{arith}
 use borrow.Author.Needs.{needs}
 use denote.Ref.{now}
 use Rattle.book_format.proofs.Offsets.{trades-there, users-end, users-there}
-use Rattle.book_format.specs.Book.{bookOf, versionOf}
+use Rattle.book_format.proofs.Places.{header-lies}
+use Rattle.book_format.specs.Book.{bookOf}
+use Rattle.book_tables.proofs.BookWritten.{kept-read}
 use Rattle.book_tables.specs.Book.{asBook}
 use Rattle.book_tables.proofs.read_book.Statement.{statement}
 use Rattle.book_tables.proofs.read_book.Tie as tie
@@ -15,14 +17,14 @@ trade-count-requires : tie.Need-trade-count-requires
 trade-count-requires c κs = search needs
 
 read-prices-requires : tie.Need-read-prices-requires
-read-prices-requires c κs = search needs
+read-prices-requires c κs = header-lies (c .before .before .before .pre)
 
 read-users-requires : tie.Need-read-users-requires
 read-users-requires c κs =
     let u = c .before .before .before in
     let s = u .before .before in
     let h = s .pre in
-    (omega (arith, h .users, u .user-count .ensures), omega (arith, h .whole, users-end (now (s .args .s)) (c .users-offset .ensures) (u .user-count .ensures)))
+    (omega (arith, h .users, u .user-count .ensures), omega (arith, h .whole, users-end (now (s .args .s)) (c .users-offset .ensures .0) (u .user-count .ensures)))
 
 read-trades-requires : tie.Need-read-trades-requires
 read-trades-requires c κs =
@@ -30,14 +32,14 @@ read-trades-requires c κs =
     let h = m .before .before .before .pre in
     (omega (arith, h .trades, m .trade-count .ensures), omega (arith, h .whole, c .trades-offset .ensures, m .trade-count .ensures))
 
-get-u16-requires : tie.Need-get-u16-requires
-get-u16-requires c κs = search needs
+version-requires : tie.Need-version-requires
+version-requires c κs = search needs
 
 get-u32-requires : tie.Need-get-u32-requires
 get-u32-requires c κs = search needs
 
 returns : tie.Need-returns
-unfolding asBook bookOf versionOf
+unfolding asBook bookOf
 returns c =
     let version = c .before in
     let trades = version .before in
@@ -50,14 +52,16 @@ returns c =
     let s = now (n .before .before .args .s) in
     record {
       book = rw (
-        version .get-u16 .ensures,
+        version .version .ensures,
         c .get-u32 .ensures,
         prices .read-prices .ensures,
+        kept-read s,
         users .read-users .ensures .records,
         trades .read-trades .ensures .records,
-        users-there s (begin .users-offset .ensures) (n .user-count .ensures),
+        users-there s (begin .users-offset .ensures .0) (n .user-count .ensures),
         trades-there s (behind .trades-offset .ensures) (m .trade-count .ensures),
       );
+      prices = prices .read-prices .ensures;
       users = n .user-count .ensures;
       trades = m .trade-count .ensures;
       user-room = users .read-users .ensures .full;
@@ -79,6 +83,6 @@ read-book-spec =
     (λ c κs. search needs)
     (λ c. search needs)
     read-trades-requires
-    get-u16-requires
+    version-requires
     get-u32-requires
     returns)

@@ -4,6 +4,7 @@ use borrow.Author.Needs.{needs}
 use denote.Ref.{now}
 use Rattle.call_entry.specs.Entered.{Found}
 use Rattle.book_format.proofs.Passed.{passed}
+use Rattle.book_format.proofs.Places.{header-lies}
 use Rattle.units.specs.Limits.{asLimits}
 use Rattle.run_reduction.proofs.Asked.{found-runnable}
 use Rattle.call_cancellation.proofs.Ways.{call-entered, call-unentered, tries-passed, triesAsked}
@@ -33,7 +34,7 @@ returns c =
     c .refused .ensures ∙ sym (call-unentered (a .number) (asLimits (a .limits)) (now (a .book)) (a .id) (a .tries) (k .before .ask-tries .ensures) (k .seek .ensures) (c .before .if1 .taken))
 
 read-prices-requires : tie.Need-read-prices-requires
-read-prices-requires c κs = passed (now (start (c .before .before) .args .book)) (found c .passes) .form .head
+read-prices-requires c κs = header-lies (passed (now (start (c .before .before) .args .book)) (found c .passes) .form)
 
 cancel-user-requires : tie.Need-cancel-user-requires
 cancel-user-requires c κs =

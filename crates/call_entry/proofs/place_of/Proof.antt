@@ -23,7 +23,7 @@ cast-n : tie.Need-cast-n Inv-loop μ-loop
 cast-n c = search needs
 
 loop-holds : tie.Need-loop-holds Inv-loop μ-loop
-loop-holds c = seeking-start (c .users-offset .ensures) (c .before .user-count .ensures)
+loop-holds c = seeking-start (c .users-offset .ensures .0) (c .before .user-count .ensures)
 
 -- the next record lies in the book
 lies : (c : tie.In-loop Inv-loop μ-loop) → c .before .loop .a + 56 ≤ length (now (c .before .before .before .before .before .args .s))

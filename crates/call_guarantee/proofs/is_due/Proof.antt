@@ -8,6 +8,7 @@ use Rattle.units.specs.Prices.{InRange, asPrices}
 use Rattle.book_records.specs.User.{asUser}
 use Rattle.book_format.specs.Book.{bookOf}
 use Rattle.book_format.proofs.Passed.{passed}
+use Rattle.book_format.proofs.Places.{header-lies}
 use Rattle.risk_user.proofs.Accepted.{prices-within}
 use Rattle.risk_user.proofs.Held.{called-record}
 use Rattle.call_guarantee.specs.Times.{dueOf}
@@ -31,7 +32,7 @@ returns c =
 read-prices-requires : tie.Need-read-prices-requires
 read-prices-requires c κs =
     let s = c .before .before .before .before .before in
-    passed (now (s .args .book)) (s .pre .0) .form .head
+    header-lies (passed (now (s .args .book)) (s .pre .0) .form)
 
 -- the prices are the book's
 priced : (c : tie.After-read-prices) → asPrices (c .read-prices .result) ≡ bookOf (now (c .before .before .before .before .before .before .args .book)) .header .prices

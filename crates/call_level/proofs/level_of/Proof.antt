@@ -9,6 +9,7 @@ use Rattle.units.specs.Prices.{InRange, asPrices}
 use Rattle.book_records.specs.User.{asUser}
 use Rattle.book_format.specs.Book.{bookOf}
 use Rattle.book_format.proofs.Passed.{length-usersOf, passed}
+use Rattle.book_format.proofs.Places.{header-lies}
 use Rattle.risk_user.proofs.Accepted.{prices-within}
 use Rattle.risk_user.proofs.Held.{afternoon-record, morning-record}
 use Rattle.call_level.specs.Times.{levelOf}
@@ -16,7 +17,7 @@ use Rattle.call_level.proofs.level_of.Statement.{statement}
 use Rattle.call_level.proofs.level_of.Tie as tie
 
 read-prices-requires : tie.Need-read-prices-requires
-read-prices-requires c κs = passed (now (c .before .args .book)) (c .before .pre .0 .passes) .form .head
+read-prices-requires c κs = header-lies (passed (now (c .before .args .book)) (c .before .pre .0 .passes) .form)
 
 -- the prices are the book's
 priced : (c : tie.After-read-prices) → asPrices (c .read-prices .result) ≡ bookOf (now (c .before .before .args .book)) .header .prices

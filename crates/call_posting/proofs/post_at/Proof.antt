@@ -28,23 +28,23 @@ area-low : (c : tie.Else1) → start c .args .area < 3
 area-low c = omega (arith, c .if1 .left)
 
 -- the record lies in the book
-inside : (c : tie.After-user-offset) → let a = start (c .before .before) .args in (c .user-offset .result + 56 ≤ length (now (a .book))) × (a .area < 3)
-inside c = (c .user-offset .ensures .1, area-low (c .before .before))
+inside : (c : tie.After-user-offset-from) → let a = start (c .before .before) .args in (c .user-offset-from .result + 56 ≤ length (now (a .book))) × (a .area < 3)
+inside c = (c .user-offset-from .ensures .1, area-low (c .before .before))
 
-abbrev found : tie.After-get-u322 → tie.After-user-offset
+abbrev found : tie.After-get-u322 → tie.After-user-offset-from
 found c = c .before .before .before .before
 
 abbrev entered : tie.After-get-u322 → tie.Else1
 entered c = found c .before .before
 
 -- the two fields stand in the record of the user at the place
-entry-at : (c : tie.After-user-offset) → let a = start (c .before .before) .args in
-    field 4 (c .user-offset .result + (8 + 4 * a .area)) (now (a .book)) ≡ field 4 (userAt (now (a .book)) (a .place) + (8 + 4 * a .area)) (now (a .book))
-entry-at c = let a = start (c .before .before) .args in ap (λ (n : ℕ). field 4 (n + (8 + 4 * a .area)) (now (a .book))) (c .user-offset .ensures .0)
+entry-at : (c : tie.After-user-offset-from) → let a = start (c .before .before) .args in
+    field 4 (c .user-offset-from .result + (8 + 4 * a .area)) (now (a .book)) ≡ field 4 (userAt (now (a .book)) (a .place) + (8 + 4 * a .area)) (now (a .book))
+entry-at c = let a = start (c .before .before) .args in ap (λ (n : ℕ). field 4 (n + (8 + 4 * a .area)) (now (a .book))) (c .user-offset-from .ensures .0)
 
-position-at : (c : tie.After-user-offset) → let a = start (c .before .before) .args in
-    field 4 (c .user-offset .result + (8 + 4 * a .area) + 12) (now (a .book)) ≡ field 4 (userAt (now (a .book)) (a .place) + (8 + 4 * a .area) + 12) (now (a .book))
-position-at c = let a = start (c .before .before) .args in ap (λ (n : ℕ). field 4 (n + (8 + 4 * a .area) + 12) (now (a .book))) (c .user-offset .ensures .0)
+position-at : (c : tie.After-user-offset-from) → let a = start (c .before .before) .args in
+    field 4 (c .user-offset-from .result + (8 + 4 * a .area) + 12) (now (a .book)) ≡ field 4 (userAt (now (a .book)) (a .place) + (8 + 4 * a .area) + 12) (now (a .book))
+position-at c = let a = start (c .before .before) .args in ap (λ (n : ℕ). field 4 (n + (8 + 4 * a .area) + 12) (now (a .book))) (c .user-offset-from .ensures .0)
 
 -- what the posting tells of the two fields
 told : (c : tie.After-post) → PostedTo (c .before .before .before .get-u32 .result) (c .before .get-u322 .result) (start (entered (c .before)) .args .amount) (c .post .result .accepted) (c .post .result .entry) (c .post .result .position)
@@ -74,7 +74,7 @@ put-u32-requires-2 c κs =
     let w = c .before .before .before in
     let f = found (w .before .before .before .before .before) in
     let a = start (f .before .before) .args in
-    omega (arith, inside f, ap length (w .put-u32 .ensures), length-setField 4 (f .user-offset .result + (8 + 4 * a .area)) (w .before .before .before .before .post .result .entry) (now (a .book)))
+    omega (arith, inside f, ap length (w .put-u32 .ensures), length-setField 4 (f .user-offset-from .result + (8 + 4 * a .area)) (w .before .before .before .before .post .result .entry) (now (a .book)))
 
 returns-3 : tie.Need-returns-3
 returns-3 c =
@@ -85,7 +85,7 @@ returns-3 c =
     let e = entered (p .before) in
     let s = start e in
     let a = s .args in
-    let o = found (p .before) .user-offset in
+    let o = found (p .before) .user-offset-from in
     let i = o .result + (8 + 4 * a .area) in
     subst⁻¹ (PostedAt (a .place) (a .area) (a .amount) (now (a .book)) 0) (x .put-u322 .ensures ∙ ap (setField 4 (i + 12) (p .post .result .position)) (w .put-u32 .ensures)
     ∙ ap (λ (n : ℕ). setField 4 (n + (8 + 4 * a .area) + 12) (p .post .result .position) (setField 4 (n + (8 + 4 * a .area)) (p .post .result .entry) (now (a .book)))) (o .ensures .0))
@@ -96,7 +96,7 @@ pub post-at-spec : {M : Type 1} → statement M
 post-at-spec =
     tie.close
     (tie.spec returns
-    (λ c κs. user-in (c .before))
+    (λ c κs. (user-in (c .before), start (c .before) .pre .2))
     (λ c. omega (arith, inside c))
     (λ c. omega (arith, inside c))
     (λ c. omega (arith, inside c))

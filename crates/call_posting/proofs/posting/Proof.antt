@@ -5,6 +5,7 @@ use borrow.Author.Needs.{needs}
 use denote.Ref.{now}
 use mir.Syntax.{w64}
 use mir.ValLaws.{toZ-ofZ}
+use Rattle.book_format.proofs.Passed.{passed}
 use Rattle.book_format.specs.After.{CalledAfter}
 use Rattle.call_posting.proofs.Ways.{refused}
 use Rattle.call_posting.proofs.posting.Statement.{statement}
@@ -21,16 +22,22 @@ returns c = λ limits.
     let a = start e .args in
     refused (a .number) limits (now (a .book)) (a .id) (a .area) (a .amount) (e .seek .ensures) (c .if1 .taken)
 
+users-offset-requires : tie.Need-users-offset-requires
+users-offset-requires c κs =
+    let e = c .before in
+    passed _ (e .before .seek .ensures .found (e .if1 .left) .passes) .form .head
+
 post-at-requires : tie.Need-post-at-requires
 post-at-requires c κs =
-    let e = c .before in
+    let u = c .before in
+    let e = u .before .before in
     let f = e .before .seek .ensures .found (e .if1 .left) in
-    (f .passes, f .known)
+    (f .passes, f .known, u .users-offset .ensures .0)
 
 returns-2 : tie.Need-returns-2
 returns-2 c = λ limits.
     let p = c .before .before in
-    let e = p .before .before in
+    let e = p .before .before .before .before in
     let s = start (e .before) in
     let a = s .args in
     let k = e .before .seek .ensures in
@@ -38,4 +45,4 @@ returns-2 c = λ limits.
     (rw (toZ-ofZ w64 (a .amount) (s .fits .amount)) at (p .post-at .ensures .posts (a .id) (k .found (e .if1 .left) .stands) limits))
 
 pub posting-spec : {M : Type 1} → statement M
-posting-spec = tie.close (tie.spec (λ c κs. search needs) (λ c. search needs) returns post-at-requires (λ c. search needs) returns-2)
+posting-spec = tie.close (tie.spec (λ c κs. search needs) (λ c. search needs) returns users-offset-requires post-at-requires (λ c. search needs) returns-2)

@@ -5,6 +5,7 @@ use denote.Ref.{now}
 use Rattle.call_entry.proofs.Calls.{called}
 use Rattle.call_entry.specs.Entered.{Found}
 use Rattle.book_format.proofs.Passed.{passed}
+use Rattle.book_format.proofs.Places.{header-lies}
 use Rattle.units.specs.Limits.{asLimits}
 use Rattle.run_reduction.proofs.Asked.{found-runnable}
 use Rattle.call_reduction.specs.Call.{reductionOf}
@@ -38,7 +39,7 @@ returns c =
     called (reductionOf (a .id)) (c .refused .ensures) (call-unentered (a .number) (asLimits (a .limits)) (now (a .book)) (a .id) (e .seek .ensures) (c .before .if1 .taken))
 
 read-prices-requires : tie.Need-read-prices-requires
-read-prices-requires c κs = let e = c .before in passed (now (start (e .before) .args .book)) (found e .passes) .form .head
+read-prices-requires c κs = let e = c .before in header-lies (passed (now (start (e .before) .args .book)) (found e .passes) .form)
 
 reduce-user-requires : tie.Need-reduce-user-requires
 reduce-user-requires c κs =

@@ -3,6 +3,7 @@ use mathlib.Core.Path.{_≡_}
 use borrow.Author.Needs.{needs}
 use denote.Ref.{now}
 use Rattle.book_format.proofs.Passed.{passed}
+use Rattle.book_format.proofs.Places.{header-lies}
 use Rattle.book_format.specs.Questions.{bookNumber}
 use Rattle.units.specs.Limits.{asLimits}
 use Rattle.run_reduction.proofs.Asked.{found-runnable}
@@ -26,7 +27,7 @@ returns c =
     run-refused (asLimits (a .limits)) (now (a .book)) (a .number) (c .before .if1 .taken) (c .refused .ensures)
 
 read-prices-requires : tie.Need-read-prices-requires
-read-prices-requires c κs = let e = c .before in passed (now (start e .args .book)) (passes e) .form .head
+read-prices-requires c κs = let e = c .before in header-lies (passed (now (start e .args .book)) (passes e) .form)
 
 run-book-requires : tie.Need-run-book-requires
 run-book-requires c κs =

@@ -9,6 +9,7 @@ use Rattle.units.specs.Limits.{asLimits}
 use Rattle.book_records.specs.User.{asUser}
 use Rattle.book_format.specs.Book.{bookOf}
 use Rattle.book_format.proofs.Passed.{passed}
+use Rattle.book_format.proofs.Places.{header-lies}
 use Rattle.risk_user.proofs.Held.{flagged-record}
 use Rattle.call_entry.specs.Entered.{Found}
 use Rattle.call_entry.proofs.Calls.{found-user, read-role}
@@ -60,7 +61,7 @@ abbrev user : tie.Else2 → tie.After-user-at
 user c = c .before .before
 
 read-prices-requires : tie.Need-read-prices-requires
-read-prices-requires c κs = let n = user c .before in passed (bytes (n .before)) (found n .passes) .form .head
+read-prices-requires c κs = let n = user c .before in header-lies (passed (bytes (n .before)) (found n .passes) .form)
 
 priced : (c : tie.After-read-prices) → let n = user (c .before) .before in Priced (bytes (n .before)) (c .read-prices .result)
 unfolding bookOf

@@ -4,6 +4,7 @@ use native.Mathlib.Omega.{arith}
 use borrow.Author.Needs.{needs}
 use denote.Ref.{now}
 use Rattle.book_format.proofs.Passed.{passed}
+use Rattle.book_format.proofs.Places.{header-lies}
 use Rattle.book_format.specs.Book.{tradeCount, userCount}
 use Rattle.run_reduction.proofs.Asked.{asked-runnable}
 use Rattle.day_print.proofs.Told.{lines-asked}
@@ -30,7 +31,7 @@ today-requires : tie.Need-today-requires
 today-requires c κs = search needs
 
 read-prices-requires : tie.Need-read-prices-requires
-read-prices-requires c κs = let s = c .before .before .before .before .before .before .before .before in passed (now (s .args .book)) (s .pre) .form .head
+read-prices-requires c κs = let s = c .before .before .before .before .before .before .before .before in header-lies (passed (now (s .args .book)) (s .pre) .form)
 
 user-count-requires : tie.Need-user-count-requires
 user-count-requires c κs = let s = c .before .before .before .before .before .before .before .before .before in omega (arith, passed (now (s .args .book)) (s .pre) .form .head)

@@ -1,8 +1,8 @@
--- `morning_level`: the needs of the three areas are the sum of the definition, and the floor does the rest. Assumes nothing.
+-- `morning_level`: the needs of the three areas are the sum of the definition, no credit is taken off, and the floor does the rest. Assumes nothing.
 use mathlib.Core.Path.{ap, _∙_}
 use Prim.Native.Nat.{ℕ}
 use native.Mathlib.Omega.{arith}
-use lib.IntN.{pos, _+ℤ_}
+use lib.IntN.{ℤ, pos, _+ℤ_, +ℤ-idr}
 use Rattle.base.specs.Sums.{sum}
 use Rattle.rules.specs.Areas.{areas}
 use Rattle.rules.specs.Levels.{morningSum, floored}
@@ -19,8 +19,10 @@ returns c =
     let w = c .before .before .before .before in
     let a = w .before .before .before .args in
     c .floored .ensures
-    ∙ ap (λ (n : ℕ). floored (asLimits (a .limits)) (balance (a .charges) +ℤ pos n))
-    (omega (arith, w .before .before .morning-worth .ensures .0, w .before .morning-worth2 .ensures .0, w .morning-worth3 .ensures .0))
+    ∙ ap (λ (z : ℤ). floored (asLimits (a .limits)) z)
+    (+ℤ-idr _
+    ∙ ap (λ (n : ℕ). balance (a .charges) +ℤ pos n)
+    (omega (arith, w .before .before .morning-worth .ensures .0, w .before .morning-worth2 .ensures .0, w .morning-worth3 .ensures .0)))
 
 pub morning-level-spec : {M : Type 1} → statement M
 morning-level-spec =

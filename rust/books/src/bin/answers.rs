@@ -1,9 +1,10 @@
 //! Prints what the program `try_calls` of the engine has to print for a file of
 //! calls on standard input: the place, the kind, the number and the fields of
-//! each, and after a call that may change the book the user's record.
+//! each, and after a call that may change the book the user's record; of a whole
+//! cancellation the places of the marked trades.
 //!
-//! A call is its kind (1 byte), id (4), area (4), amount (8), the length of its
-//! book (2), and the book.
+//! A call is its kind (1 byte), id (4), area or number of tries (4), amount (8),
+//! the length of its book (2), and the book.
 
 use books::{answer, Call};
 use std::io::Read;
@@ -15,6 +16,8 @@ fn call_of(kind: u8, id: u32, area: u32, amount: i64) -> Call {
         3 => Call::Warning { id },
         4 => Call::MorningCall { id },
         5 => Call::AfternoonCall { id },
+        6 => Call::Run,
+        7 => Call::Cancellation { id, tries: area },
         _ => Call::Posting { id, area, amount },
     }
 }
@@ -42,7 +45,12 @@ fn main() {
         for field in &given.fields {
             print!(" {field}");
         }
-        if !(1..=3).contains(&kind) {
+        if kind == 7 {
+            let marks = given.part.iter().enumerate();
+            for (place, _) in marks.filter(|(_, mark)| **mark == 1) {
+                print!(" {place}");
+            }
+        } else if !(1..=3).contains(&kind) {
             print!(" ");
             for byte in answer(&mut book, None, &Call::Show { id }).part {
                 print!("{byte:02x}");

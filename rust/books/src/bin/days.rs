@@ -1,6 +1,8 @@
 //! Writes the books that the program `try_days` of the engine runs, and prints
 //! what it has to print. The arguments are the folder of the test data and the
-//! folder for the files `vectors`, `books` and `index`.
+//! folder for the files `vectors`, `books`, `versions` and `index`: the test data
+//! of document 01, by the numbers of their names; books written out and drawn; and
+//! books of version 2 that are refused, and the test data of document 02.
 //!
 //! Of the test data (NAME.gdb, NAME.out), what has to be printed is what
 //! NAME.out says, and the reference has to say the same; of the other books,
@@ -14,7 +16,8 @@ use books::written::{
     sale, shipper, standing_at, MOST_CENTS,
 };
 use books::Random;
-use reference::book::{Book, Trade, LONGEST};
+use reference::book::{length, Book, Trade, LONGEST, MOST_TRADES, MOST_USERS};
+use reference::units::Price;
 use std::path::Path;
 
 /// A book, what it shows, and the first words of its day.
@@ -52,12 +55,12 @@ fn changed(shows: &'static str, first: &'static str, change: impl FnOnce(&mut Bo
 
 fn refused() -> Vec<Shown> {
     let mut over = largest_amounts(0, [0; 3], 0).to_bytes();
-    over.resize(LONGEST + 1, 0);
+    over.resize(length(1, MOST_USERS, MOST_TRADES) + 1, 0);
     vec![
         altered("no input", "refused 1", Vec::clear),
         altered("31 bytes", "refused 1", |bytes| bytes.truncate(31)),
         altered("another mark", "refused 1", |bytes| bytes[2] = b'b'),
-        changed("version 2", "refused 2", |book| book.version = 2),
+        changed("version 3", "refused 2", |book| book.version = 3),
         altered("one byte more", "refused 3", |bytes| bytes.push(0)),
         altered("one byte less", "refused 3", |bytes| {
             bytes.pop();
@@ -68,7 +71,7 @@ fn refused() -> Vec<Shown> {
             bytes[6] = 0;
         }),
         Shown {
-            shows: "one byte past the longest book",
+            shows: "one byte past the longest book of version 1",
             first: "refused 3",
             bytes: over,
         },
@@ -188,6 +191,107 @@ fn runs() -> Vec<Shown> {
     ]
 }
 
+/// The book in version 2, with selling tariffs of 1,500 and 700.
+fn selling(book: Book) -> Book {
+    let mut book = book;
+    book.version = 2;
+    (book.prices.s, book.prices.u) = (Price(1_500), Price(700));
+    book
+}
+
+/// Books of version 2 that are refused.
+fn refused_of_version_2() -> Vec<Shown> {
+    let of_version_2 = |shows, first, change: fn(&mut Book)| {
+        let mut book = selling(printed_example());
+        change(&mut book);
+        shown(shows, first, book)
+    };
+    let of_length = |shows, bytes: usize| {
+        let mut over = longest().to_bytes();
+        over.resize(bytes, 0);
+        Shown {
+            shows,
+            first: "refused 3",
+            bytes: over,
+        }
+    };
+    vec![
+        altered("version 2 without S and U", "refused 3", |bytes| {
+            bytes[3] = 2;
+        }),
+        altered("version 2 of 32 bytes", "refused 3", |bytes| {
+            bytes.truncate(32);
+            bytes[3] = 2;
+        }),
+        altered("version 2 of 39 bytes", "refused 3", |bytes| {
+            bytes.truncate(39);
+            bytes[3] = 2;
+        }),
+        of_version_2("S above 100,000", "refused 4", |book| {
+            book.prices.s.0 = 100_001;
+        }),
+        of_version_2("U above 100,000", "refused 4", |book| {
+            book.prices.u.0 = 100_001;
+        }),
+        of_version_2("version 2, an id of 0", "refused 5", |book| {
+            book.users[0].id = 0;
+        }),
+        of_version_2("version 2, a buyer of no user", "refused 6", |book| {
+            book.trades[0].buyer = 103;
+        }),
+        of_version_2("version 2, a position off by one", "refused 7", |book| {
+            book.users[1].position[2].0 += 1;
+        }),
+        of_length("one byte past the longest book", LONGEST + 1),
+        of_length("9,512 bytes", 9_512),
+    ]
+}
+
+/// The longest book: version 2, 64 users and 256 trades.
+fn longest() -> Book {
+    let mut random = Random::new(12);
+    loop {
+        let book = largest(&mut random);
+        if book.version == 2 {
+            return book;
+        }
+    }
+}
+
+/// Books of version 2.
+fn credits() -> Vec<Shown> {
+    // Long by 3,000 MWh in PVB, 200 in TVB and 10 in AVB: a credit of 4,647,000.
+    let long = |charges| {
+        let user = shipper(1, [3_000, 200, 10], charges, 0, 0);
+        selling(book(vec![user], vec![]))
+    };
+    // Short by 40,000 MWh in PVB: a credit for AVB, of 7,000,000, lessens the target
+    // of 10,000,000 to 3,000,000.
+    let seller = shipper(1, [-10_000, 0, 10_000], 0, 70_000_000, 0);
+    let buyer = shipper(2, [0; 3], 55_000_000, 12_000_000, 0);
+    let sold = selling(book(vec![seller, buyer], vec![sale(1, 2, 0, 30_000)]));
+    let mut no_credit = sold.clone();
+    (no_credit.prices.s, no_credit.prices.u) = (Price(0), Price(0));
+    vec![
+        shown(
+            "version 2, the example",
+            "run 1 15000 30000000",
+            selling(printed_example()),
+        ),
+        shown("a credit down to the floor", "run 0 0 0", long(14_647_000)),
+        shown("a cent above the floor", "run 0 0 0", long(14_647_001)),
+        shown("the floor above the rest", "run 0 0 0", long(0)),
+        shown("a credit lessens the target", "run 1 1500 3000000", sold),
+        shown("S and U are 0", "run 1 5000 10000000", no_credit),
+        shown(
+            "the largest amounts and a credit for each area",
+            "run ",
+            selling(largest_amounts(2, [1_000_000; 3], MOST_CENTS)),
+        ),
+        shown("the longest book", "run ", longest()),
+    ]
+}
+
 /// The test data in the order of their names: name, book, what to print.
 fn vectors(folder: &Path) -> std::io::Result<Vec<(String, Vec<u8>, String)>> {
     let mut names = Vec::new();
@@ -225,26 +329,57 @@ impl File {
         self.text.push_str(&format!("day {place}\n{day}"));
         assert!(self.bytes.len() <= 65_536, "more than the program reads");
     }
+
+    fn push_shown(&mut self, place: usize, book: &Shown) {
+        let day = reference::day(&book.bytes);
+        assert!(day.starts_with(book.first), "{}: {day}", book.shows);
+        self.push(place, book.shows, &book.bytes, &day);
+    }
+
+    fn push_vector(&mut self, place: usize, (name, book, day): &(String, Vec<u8>, String)) {
+        assert_eq!(&reference::day(book), day, "{name}");
+        self.push(place, name, book, day);
+    }
+}
+
+/// The number that a name of the test data begins with.
+fn number_of(name: &str) -> usize {
+    let (number, _) = name.split_once('-').expect("a number and a word");
+    number.parse().expect("a number")
 }
 
 fn main() -> std::io::Result<()> {
     let mut arguments = std::env::args().skip(1);
     let data = arguments.next().expect("the folder of the test data");
+    let data = Path::new(&data);
     let folder = arguments.next().expect("a folder");
-    let (mut given, mut own) = (File::default(), File::default());
-    let vectors = vectors(Path::new(&data))?;
-    for (place, (name, book, day)) in vectors.iter().enumerate() {
-        assert_eq!(&reference::day(book), day, "{name}");
-        given.push(place, name, book, day);
+    let [mut given, mut own, mut versions] = [(); 3].map(|()| File::default());
+    let mut next = 0;
+    for vector in &vectors(data)? {
+        let place = number_of(&vector.0);
+        given.push_vector(place, vector);
+        next = place + 1;
     }
-    let books = [refused(), states(), runs()];
-    for (place, book) in books.iter().flatten().enumerate() {
-        let day = reference::day(&book.bytes);
-        assert!(day.starts_with(book.first), "{}: {day}", book.shows);
-        own.push(vectors.len() + place, book.shows, &book.bytes, &day);
+    for book in [refused(), states(), runs(), credits()].iter().flatten() {
+        own.push_shown(next, book);
+        next += 1;
     }
-    print!("{}{}", given.text, own.text);
-    std::fs::write(format!("{folder}/vectors"), given.bytes)?;
-    std::fs::write(format!("{folder}/books"), own.bytes)?;
-    std::fs::write(format!("{folder}/index"), given.index + &own.index)
+    for book in &refused_of_version_2() {
+        versions.push_shown(next, book);
+        next += 1;
+    }
+    for folder in ["version-1", "version-2"] {
+        for vector in &vectors(&data.join(folder))? {
+            versions.push_vector(next, vector);
+            next += 1;
+        }
+    }
+    let files = [("vectors", given), ("books", own), ("versions", versions)];
+    let mut index = String::new();
+    for (name, file) in files {
+        print!("{}", file.text);
+        index.push_str(&file.index);
+        std::fs::write(format!("{folder}/{name}"), file.bytes)?;
+    }
+    std::fs::write(format!("{folder}/index"), index)
 }

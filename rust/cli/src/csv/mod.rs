@@ -11,13 +11,16 @@ use daybook::{Book, Line, Trade, User};
 
 use self::table::{read_file, Row};
 use crate::draft::{Draft, Mistake, Spot, Spots};
-use crate::fields::{prices, put_price, Field, PRICES};
+use crate::fields::{has_selling_tariffs, prices, put_price, Field, COMMON_PRICES, PRICES};
+use crate::text::no_selling_tariff;
 use crate::words::{date, plain_euros, word, AREAS, DAYS, KINDS, ROLES};
 
 /// The files, in the order of a book.
 pub const FILES: [&str; 3] = ["header.csv", "users.csv", "trades.csv"];
 
-const HEADER: [&str; 7] = ["version", "date", "P", "Q", "L", "X", "I"];
+/// The names of the header; a book of version 1 has no selling tariffs, S and U.
+const HEADER: [&str; 9] = ["version", "date", "P", "Q", "L", "X", "I", "S", "U"];
+const PRICES_AT: usize = 2;
 
 const USER: [&str; 11] = [
     "id",
@@ -40,9 +43,9 @@ const TRADE: [&str; 7] = [
 /// The three files of an accepted book.
 pub fn write(book: &Book) -> [String; 3] {
     let mut header = vec![book.version.to_string(), date(book.date)];
-    header.extend(prices(&book.prices).map(plain_euros));
+    header.extend(prices(book).into_iter().map(plain_euros));
     [
-        file(&HEADER, [header]),
+        file(&HEADER[..header.len()], [header]),
         file(&USER, book.users.iter().map(user_row)),
         file(&TRADE, book.trades.iter().map(trade_row)),
     ]
@@ -84,7 +87,8 @@ pub fn read(files: [&[u8]; 3]) -> Result<Draft, Vec<Mistake>> {
     let mut draft = Draft::default();
     let mut mistakes = Vec::new();
     let [header, users, trades] = files;
-    read_file(FILES[0], header, &HEADER, &[], &mut mistakes, |row| {
+    let selling = &HEADER[PRICES_AT + COMMON_PRICES..];
+    read_file(FILES[0], header, &HEADER, selling, &mut mistakes, |row| {
         if draft.has(Field::Version) {
             return Err(row.mistake(0, "a second row; a book has one header".to_string()));
         }
@@ -123,9 +127,25 @@ fn read_header(draft: &mut Draft, row: &Row) -> Result<(), Mistake> {
     draft.book.date = row.date(1)?;
     draft.note(Field::Version, row.spot(0));
     draft.note(Field::Date, row.spot(1));
-    for place in 0..PRICES.len() {
-        put_price(&mut draft.book, place, row.money(2 + place)?);
-        draft.note(Field::Price(place), row.spot(2 + place));
+    let version = draft.book.version;
+    for (place, name) in PRICES.iter().enumerate() {
+        let column = PRICES_AT + place;
+        let is_given = !row.is_empty(column);
+        if place >= COMMON_PRICES {
+            match has_selling_tariffs(version) {
+                Some(false) if is_given => {
+                    return Err(row.mistake(column, no_selling_tariff(name, version)));
+                }
+                Some(true) if !is_given => {
+                    let reason = format!("{name} is missing, which version {version} has");
+                    return Err(row.mistake(column, reason));
+                }
+                _ if !is_given => continue,
+                _ => {}
+            }
+        }
+        put_price(&mut draft.book, place, row.money(column)?);
+        draft.note(Field::Price(place), row.spot(column));
     }
     Ok(())
 }

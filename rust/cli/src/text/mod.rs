@@ -8,6 +8,9 @@
 //! user 102 shipper assigned 100,000.00 blocked 100,000.00
 //! trade 101 to 102 PVB bilateral d 30,000 standing 15,000   # a comment
 //! ```
+//!
+//! A text of version 2 starts with `daybook 2`, and its prices go on with the
+//! selling tariffs: `S 18.00 U 19.00`.
 
 mod line;
 mod read;
@@ -18,7 +21,7 @@ use crate::fields::{prices, PRICES};
 use crate::words::{date, euros, grouped, word, AREAS, DAYS, KINDS, ROLES};
 
 pub use line::{mistake, short, Words};
-pub use read::read;
+pub use read::{no_selling_tariff, read};
 
 /// The word that a text starts with.
 const FIRST: &str = "daybook";
@@ -42,7 +45,7 @@ pub fn starts_with_word(bytes: &[u8], word: &str) -> bool {
 
 /// The text of an accepted book; with the positions, or without.
 pub fn write(book: &Book, positions: bool) -> String {
-    let priced = PRICES.iter().zip(prices(&book.prices));
+    let priced = PRICES.iter().zip(prices(book));
     let priced: Vec<String> = priced
         .map(|(name, price)| format!("{name} {}", euros(price)))
         .collect();

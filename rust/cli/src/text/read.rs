@@ -6,7 +6,7 @@ use daybook::{Trade, User};
 use super::line::{mistake, short, Words};
 use super::FIRST;
 use crate::draft::{Draft, Mistake, Spot, Spots, MOST_MISTAKES};
-use crate::fields::{put_price, Field, PRICES};
+use crate::fields::{has_selling_tariffs, put_price, Field, COMMON_PRICES, PRICES};
 use crate::words::{code, AREAS, DAYS, KINDS, ROLES};
 
 /// The fields of a text, or its mistakes.
@@ -75,7 +75,7 @@ fn statement(draft: &mut Draft, words: &mut Words, first: bool) -> Result<(), Mi
     if first && word != FIRST {
         return Err(mistake(
             spot,
-            format!("a text starts with the line `{FIRST} 1`"),
+            format!("a text starts with the line `{FIRST} 1` or `{FIRST} 2`"),
         ));
     }
     match word {
@@ -118,31 +118,52 @@ fn once(draft: &mut Draft, field: Field, name: &str, spot: Spot) -> Result<(), M
     Ok(())
 }
 
+/// The prices, each once, those that a book of the text's version has. A text of
+/// a version that the engine does not know may have the selling tariffs or not.
 fn read_prices(draft: &mut Draft, words: &mut Words) -> Result<(), Mistake> {
-    let mut read: [Option<u32>; 5] = [None; 5];
+    let version = draft.book.version;
+    let selling = has_selling_tariffs(version);
+    let mut read: [Option<u32>; PRICES.len()] = [None; PRICES.len()];
     while !words.is_done() {
         let (name, spot) = words.next("a price")?;
-        let Some(place) = PRICES.iter().position(|it| *it == name) else {
-            let reason = "a price is one of P, Q, L, X, I";
-            return Err(mistake(spot, format!("`{}`: {reason}", short(name))));
+        let reason = match PRICES.iter().position(|it| *it == name) {
+            None => {
+                let names = match selling {
+                    Some(false) => &PRICES[..COMMON_PRICES],
+                    _ => &PRICES,
+                };
+                let name = short(name);
+                format!("`{name}`: a price is one of {}", names.join(", "))
+            }
+            Some(place) if place >= COMMON_PRICES && selling == Some(false) => {
+                no_selling_tariff(name, version)
+            }
+            Some(place) if read[place].is_some() => format!("a second {name}"),
+            Some(place) => {
+                let (price, at) = words.money(name)?;
+                read[place] = Some(price);
+                draft.note(Field::Price(place), at);
+                continue;
+            }
         };
-        if read[place].is_some() {
-            return Err(mistake(spot, format!("a second {name}")));
-        }
-        let (price, at) = words.money(name)?;
-        read[place] = Some(price);
-        draft.note(Field::Price(place), at);
+        return Err(mistake(spot, reason));
     }
     for (place, price) in read.into_iter().enumerate() {
-        let Some(price) = price else {
-            return Err(mistake(
-                words.spot(),
-                format!("{} is missing", PRICES[place]),
-            ));
-        };
-        put_price(&mut draft.book, place, price);
+        match price {
+            Some(price) => put_price(&mut draft.book, place, price),
+            None if place >= COMMON_PRICES && selling != Some(true) => {}
+            None => {
+                let reason = format!("{} is missing", PRICES[place]);
+                return Err(mistake(words.spot(), reason));
+            }
+        }
     }
     Ok(())
+}
+
+/// What is said of a selling tariff that a version has no bytes for.
+pub fn no_selling_tariff(name: &str, version: u16) -> String {
+    format!("{name}: version {version} has no place for selling tariffs; version 2 has S and U")
 }
 
 fn read_user(words: &mut Words, start: Spot) -> Result<(User, Spots), Mistake> {

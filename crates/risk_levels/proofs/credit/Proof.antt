@@ -1,0 +1,26 @@
+-- `credit` is the sum over the three areas. Assumes nothing.
+use native.Mathlib.Omega.{arith}
+use Rattle.base.specs.Sums.{sum}
+use Rattle.rules.specs.Areas.{areas}
+use Rattle.rules.specs.Book.{at}
+use Rattle.rules.specs.Levels.{credit}
+use Rattle.book_records.specs.User.{asAmounts}
+use Rattle.risk_holdings.specs.Holdings.{positioned}
+use borrow.Author.Needs.{needs}
+use Rattle.risk_levels.proofs.credit.Statement.{statement}
+use Rattle.risk_levels.proofs.credit.Tie as tie
+
+returns : tie.Need-returns
+unfolding credit sum areas positioned at asAmounts
+returns c =
+    let w = c .before .before .before in
+    let pvb = w .before .before .before .before .long-worth .ensures in
+    let tvb = w .before .before .long-worth2 .ensures in
+    let avb = w .long-worth3 .ensures in
+    (omega (arith, pvb .0, tvb .0, avb .0), omega (arith, pvb .1, tvb .1, avb .1))
+
+pub credit-spec : {M : Type 1} → statement M
+credit-spec =
+    tie.close
+    (tie.spec (λ c. search needs) (λ c κs. search needs) (λ c. search needs) (λ c κs. search needs) (λ c. search needs) (λ c κs. search needs)
+    (λ c. search needs) (λ c. search needs) returns)
