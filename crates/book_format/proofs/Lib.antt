@@ -15,6 +15,8 @@ pub mod Fits
 pub mod Held
 -- Laws of where users and trades begin, and of a user and of a trade by their places.
 pub mod Offsets
+-- Version 1 as document 01 has it.
+pub mod Versions
 pub mod Places
 -- The questions 1 to 3 of short books.
 pub mod Examples

@@ -2,9 +2,9 @@
 use mathlib.Core.Bool.{true}
 use mathlib.Core.List.{List, _++_, append-nil}
 use mathlib.Core.Path.{_≡_, refl, sym, ap, ap₂, _∙_}
-use Prim.Native.Nat.{_*_, _+_, ℕ}
+use Prim.Native.Nat.{_*_, _+_, _≤_, ℕ}
 use native.Mathlib.Omega.{arith}
-use lib.ListN.{drop, length-drop, take, take-append-drop}
+use lib.ListN.{drop, length, length-drop, take, take-append-drop}
 use lib.Seq.{drop-drop, take-add, take-all}
 use Rattle.base.proofs.Tests.{by-case}
 use Rattle.fields.proofs.Field.{all-bytes-drop}
@@ -30,16 +30,15 @@ start-back s b f =
     rw (length-usersOf s, length-tradesOf s) (rw (f .mark) at e)
 
 -- the selling tariffs, in a version that has them
-selling-back : (s : List ℕ) → AllBytes s → Formed s → sellingIn (versionOf s) ≡ true → sellingBytes (versionOf s) (pricesOf s) ≡ take 8 (drop 32 s)
+pub selling-back : (s : List ℕ) → AllBytes s → headerSize (versionOf s) ≤ length s → sellingIn (versionOf s) ≡ true → sellingBytes (versionOf s) (pricesOf s) ≡ take 8 (drop 32 s)
 unfolding sellingBytes pricesOf sellingAt sellingWidths size fieldsAt
-selling-back s b f e =
-    rw e (pack-fieldsAt sellingWidths 32 s (omega (arith, f .whole, users-end s (sym (header-selling (versionOf s) e)) refl)) b)
+selling-back s b h e = rw e (pack-fieldsAt sellingWidths 32 s (omega (arith, h, header-selling (versionOf s) e)) b)
 
 pub header-back : (s : List ℕ) → AllBytes s → Formed s → headerBytes (bookOf s) ≡ take (headerSize (versionOf s)) s
 unfolding headerBytes bookOf
 header-back s b f =
     by-case (sellingIn (versionOf s))
-    (λ e. ap₂ (λ (x y : List ℕ). x ++ y) (start-back s b f) (selling-back s b f e) ∙ sym (take-add 32 8 s) ∙ ap (λ (n : ℕ). take n s) (sym (header-selling (versionOf s) e)))
+    (λ e. ap₂ (λ (x y : List ℕ). x ++ y) (start-back s b f) (selling-back s b (omega (arith, f .whole, users-end s refl refl)) e) ∙ sym (take-add 32 8 s) ∙ ap (λ (n : ℕ). take n s) (sym (header-selling (versionOf s) e)))
     (λ e.
     ap₂ (λ (x y : List ℕ). x ++ y) (start-back s b f) (selling-none (versionOf s) (pricesOf s) e)
     ∙ append-nil (take 32 s)

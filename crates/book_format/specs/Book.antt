@@ -1,4 +1,4 @@
--- Document 01, "The book in bytes", and version 2 of document 02's ask 3: the book that bytes hold, and the bytes of a book. Only this file and the records' know offsets and sizes. Assumes nothing.
+-- Document 01, "The book in bytes", and version 2 of document 02's ask 3: the book that bytes hold, and the bytes of a book. The sizes by version are said here, a record's fields in `book_records`. Assumes nothing.
 use mathlib.Core.Bool.{cond}
 use mathlib.Core.List.{List, [], _∷_, _++_}
 use Prim.Native.Nat.{ℕ, _+_, _*_}

@@ -1,5 +1,6 @@
 -- A book in bytes.
 pub mod Book
+pub mod Versions
 pub mod Questions
 pub mod Steps
 pub mod After

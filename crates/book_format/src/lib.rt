@@ -98,7 +98,7 @@ pub fn user_offset_from(s: &[u8], at: usize, place: usize) -> usize
     at + 56 * place
 }
 
-// The same, where nobody has read yet where the users begin.
+// The same, for a caller that does not have where the users begin.
 pub fn user_offset(s: &[u8], place: usize) -> usize
     requires { ⌜ UserIn (now s) place ⌝ }
     ensures { λ r. ⌜ (r ≡ userAt (now (s .entry)) place) × (r + 56 ≤ length (now (s .entry))) ⌝ }

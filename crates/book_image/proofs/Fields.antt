@@ -15,6 +15,7 @@ use Rattle.fields.specs.Field.{field, toBytes, setField, AllBytes}
 use Rattle.fields.specs.Layout.{recordsOf, bytesOfRecords, fieldsAt, pack, size, Every}
 use Rattle.fields.proofs.Field.{field-lt, length-toBytes, all-bytes-take, all-bytes-drop}
 use Rattle.fields.proofs.Pack.{fit-fieldsAt, pack-fieldsAt}
+use Rattle.book_format.proofs.Round.{selling-back}
 use Rattle.fields.proofs.Records.{length-recordsOf}
 use Rattle.fields.proofs.Sets.{part-sets, sets-left, take-of-drop}
 use Rattle.book_records.specs.User.{userOf, userBytes, FitsUser}
@@ -90,11 +91,6 @@ unfolding pricesOf
 selling-fits s bytes =
     record { s = selling-lt 32 s bytes; u = selling-lt 36 s bytes; none = λ e. (selling-zero 32 s e, selling-zero 36 s e) }
 
--- the bytes of selling tariffs that are read
-selling-copied : (s : List ℕ) → AllBytes s → 40 ≤ length s → sellingIn (versionOf s) ≡ true → sellingBytes (versionOf s) (pricesOf s) ≡ take 8 (drop 32 s)
-unfolding sellingBytes pricesOf sellingAt sellingWidths size fieldsAt
-selling-copied s bytes h e = rw e (pack-fieldsAt sellingWidths 32 s (omega (arith, h)) bytes)
-
 module _ {s : List ℕ} {n m : ℕ} (counts : CountsOf s n m) where
   -- a header of any version lies in an image
   pub header-in : HeaderIn s
@@ -143,7 +139,7 @@ module _ {s : List ℕ} {n m : ℕ} (counts : CountsOf s n m) where
     header-copied =
         let v = versionOf s in
         by-case (sellingIn v)
-        (λ e. rw (header-selling v e, selling-copied s bytes (omega (arith, counts .whole)) e, ← start-copied) mark-first)
+        (λ e. rw (header-selling v e, selling-back s bytes (header-in .whole) e, ← start-copied) mark-first)
         (λ e. rw (header-plain v e, selling-none v (pricesOf s) e, append-nil) start-copied)
 
     -- header, users and trades of the image copied one after the other, over bytes of the book's length

@@ -153,9 +153,9 @@ fn fields_number(image: &[u8], n: usize, m: usize) -> u32
     requires { ⌜ CountsOf (now image) n m ⌝ }
     ensures { λ r. ⌜ r ≡ fieldsNumber (bytesOf (imageBook (now (image .entry)))) ⌝ }
 {
-    let prices = book_form::read_prices(image);
+    let prices = book_header::read_prices(image);
     let version = book_format::version(image);
-    if !book_form::header_valid(version, fields::get_u32(image, 8), prices) {
+    if !book_header::header_valid(version, fields::get_u32(image, 8), prices) {
         return 4;
     }
     // The zero bytes of an image are not looked at: they are taken for 0, as they are written.

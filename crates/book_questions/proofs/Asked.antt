@@ -21,7 +21,7 @@ use Rattle.book_format.proofs.Offsets.{trades-there, users-end, users-there}
 use Rattle.book_format.specs.Book.{bookOf, headerSize, pricesOf, tradeCount, tradesAt, tradesOf, userCount, userSize, usersOf, versionOf}
 use Rattle.book_format.specs.Questions.{Formed, aboutFields, aboutForm, formNumber, marked, sized, tradeZerosValid, userZerosValid, versioned}
 use Rattle.book_parties.specs.Ids.{usersFrom, tradesFrom, idsOf}
-use Rattle.book_form.specs.Zeros.{zerosIn}
+use Rattle.book_header.specs.Zeros.{zerosIn}
 use Rattle.book_sums.specs.Sums.{placesOf}
 use Rattle.book_sums.specs.Twelve.{Twelve, TwelveOf, Low}
 use Rattle.book_sums.proofs.Twelve.{twelve-of}

@@ -136,14 +136,14 @@ pub fn ask_fields(s: &[u8], sellers: &mut [u8], buyers: &mut [u8], sums: &mut [u
 {
     let n = book_format::user_count(s) as usize;
     let m = book_format::trade_count(s) as usize;
-    let prices = book_form::read_prices(s);
-    if !book_form::header_valid(book_format::version(s), fields::get_u32(s, 8), prices) {
+    let prices = book_header::read_prices(s);
+    if !book_header::header_valid(book_format::version(s), fields::get_u32(s, 8), prices) {
         return Answer { number: 4, read: 0 };
     }
     let users_at = book_format::users_offset(s);
     let trades_at = book_format::trades_offset(s, n);
-    let user_zeros = book_form::user_zeros_valid(s, users_at, n);
-    let trade_zeros = book_form::trade_zeros_valid(s, trades_at, m);
+    let user_zeros = book_header::user_zeros_valid(s, users_at, n);
+    let trade_zeros = book_header::trade_zeros_valid(s, trades_at, m);
     ask_records(
         &s[users_at..],
         n,
@@ -165,7 +165,7 @@ pub fn ask(s: &[u8], sellers: &mut [u8], buyers: &mut [u8], sums: &mut [u32; 768
     ensures { λ r. ⌜ AskedOf (now (s .entry)) (r .number) (now (sellers .exit)) (now (buyers .exit)) ⌝ }
     ensures { λ r. ⌜ Summed (usersOf (now (s .entry))) (tradesOf (now (s .entry))) (tradeCount (now (s .entry))) (r .number) (r .read) (now (sums .exit)) ⌝ }
 {
-    let k = book_form::form_number(s);
+    let k = book_header::form_number(s);
     if k != 0 {
         return Answer { number: k, read: 0 };
     }

@@ -19,7 +19,7 @@ use Rattle.book_format.specs.Book.{mark, bytesOf, headerSize, lengthBy, pricesO
 use Rattle.book_format.proofs.Offsets.{selling-none, selling-some}
 use Rattle.book_format.proofs.Written.{header-written, parts-written}
 use Rattle.book_tables.specs.declared.Book.{Book}
-use Rattle.book_tables.specs.Book.{asBook, keptPrices}
+use Rattle.book_tables.specs.Book.{asBook, keptPrices, withSelling, Unseen}
 
 -- the bytes of structs are those of what they are in the rules
 bytesOfRecords-map : {R M : Type 0} (face : R → M) (bytes : M → List ℕ) (rs : List R) → bytesOfRecords (λ r. bytes (face r)) rs ≡ bytesOfRecords bytes (map face rs)
@@ -69,3 +69,8 @@ module _ (b : Book) where
       let m = front-length asTrade (b .«trade_count») (b .trades) trades in
       rw (bytesOfRecords-map asUser userBytes us, bytesOfRecords-map asTrade tradeBytes ts, ← kept-selling (b .version) (asPrices (b .prices)))
       (rw (n, m) at (rw (← header-written (asBook b) out) at (parts-written (asBook b) out e (rw (n, m) h))))
+
+-- a version without selling tariffs looks at none
+pub unseen : Unseen
+unfolding asBook keptPrices withSelling sellingIn
+unseen = record { same = λ b s u e. rw e refl }

@@ -34,6 +34,23 @@ asBook b =
       trades = map asTrade (take (b .«trade_count») (b .trades));
     }
 
+-- the struct with other selling tariffs
+unfoldable pub withSelling : Book → ℕ → ℕ → Book
+withSelling b s u =
+    record {
+      version = b .version;
+      «user_count» = b .«user_count»;
+      «trade_count» = b .«trade_count»;
+      date = b .date;
+      prices = record { p = b .prices .p; q = b .prices .q; l = b .prices .l; x = b .prices .x; i = b .prices .i; s = s; u = u };
+      users = b .users;
+      trades = b .trades;
+    }
+
+-- what a version has no bytes for is not looked at when a book is written: a struct of version 1 is the same book with any selling tariffs
+pub record Unseen : Type 0 where
+  pub same : (b : Book) (s u : ℕ) → b .version ≡ 1 → asBook (withSelling b s u) ≡ asBook b
+
 -- the struct whose every field is 0
 abbrev pub blankBook : Book
 blankBook =

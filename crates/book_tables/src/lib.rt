@@ -84,7 +84,7 @@ pub fn write_trades(out: &mut [u8], at: usize, trades: [Trade; 256], n: usize)
 // ---- the book
 
 // A book: the header's fields, the users up to `user_count` and the trades up to `trade_count`; what stands past the counts is not of the
-// book.
+// book. Selling tariffs are 0 when a book of version 1 is read, and not looked at when one is written.
 pub struct Book {
     pub version: u16,
     pub user_count: u8,
@@ -102,7 +102,7 @@ pub fn read_book(s: &[u8]) -> Book
 {
     let user_count = book_format::user_count(s);
     let trade_count = book_format::trade_count(s);
-    let prices = book_form::read_prices(s);
+    let prices = book_header::read_prices(s);
     let n = user_count as usize;
     let users = read_users(s, book_format::users_offset(s), n);
     let trades = read_trades(s, book_format::trades_offset(s, n), trade_count as usize);
@@ -156,9 +156,9 @@ pub fn write_book(out: &mut [u8], b: Book)
     let users = b.users;
     let trades = b.trades;
     let at = book_format::header_size(b.version);
-    book_form::write_start(out, b.version, b.user_count, b.trade_count, b.date);
-    book_form::write_prices(out, prices);
-    book_form::write_selling(out, b.version, prices);
+    book_header::write_start(out, b.version, b.user_count, b.trade_count, b.date);
+    book_header::write_prices(out, prices);
+    book_header::write_selling(out, b.version, prices);
     write_users(out, at, users, n);
     write_trades(out, at + 56 * n, trades, m);
 }

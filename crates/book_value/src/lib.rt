@@ -42,7 +42,7 @@ fn ask_fields(s: &[u8]) -> Opening
 pub fn open(s: &[u8]) -> Opening
     ensures { λ r. ⌜ Opened (now (s .entry)) (r .number) (r .book) ⌝ }
 {
-    let k = book_form::form_number(s);
+    let k = book_header::form_number(s);
     if k != 0 {
         let blank = book_tables::no_book();
         return Opening {

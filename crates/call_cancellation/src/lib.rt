@@ -292,7 +292,7 @@ pub fn cancellation(
     }
     let day = Day {
         limits: limits,
-        prices: book_form::read_prices(book),
+        prices: book_header::read_prices(book),
     };
     cancel_user(book, sellers, parties, sums, place, day, tries)
 }

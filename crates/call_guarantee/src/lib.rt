@@ -28,7 +28,7 @@ fn is_due(book: &[u8], user: User, limits: Limits, level: Cents, afternoon: bool
         return false;
     }
     if afternoon {
-        let prices = book_form::read_prices(book);
+        let prices = book_header::read_prices(book);
         let position = user.position;
         let cut = risk_user::cut_before(book, user.id);
         return risk_levels::called_in(limits, prices, blocked, position, cut);

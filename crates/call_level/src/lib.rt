@@ -26,7 +26,7 @@ pub fn level_of(
     requires { ⌜ UserRead (now book) (now sums) place user × LimitsInRange (asLimits limits) ⌝ }
     ensures { λ r. ⌜ r .0 ≡ levelOf afternoon (asLimits limits) (bookOf (now (book .entry))) (asUser user) ⌝ }
 {
-    let prices = book_form::read_prices(book);
+    let prices = book_header::read_prices(book);
     let physical = user.physical;
     let position = user.position;
     let holdings = risk_user::holdings_at(sums, place, physical, position);

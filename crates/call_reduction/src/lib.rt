@@ -178,7 +178,7 @@ pub fn reduction(
     }
     let day = Day {
         limits: limits,
-        prices: book_form::read_prices(book),
+        prices: book_header::read_prices(book),
     };
     reduce_user(book, sellers, parties, sums, place, day)
 }

@@ -46,7 +46,7 @@ pub fn run(
     }
     let day = Day {
         limits: limits,
-        prices: book_form::read_prices(book),
+        prices: book_header::read_prices(book),
     };
     let totals = run_book::run_book(book, sellers, parties, sums, day);
     accepted(totals)

@@ -95,7 +95,7 @@ pub fn warning(book: &[u8], number: u32, limits: Limits, id: u32) -> WarningAnsw
             warned: false,
         };
     }
-    let prices = book_form::read_prices(book);
+    let prices = book_header::read_prices(book);
     let position = user.position;
     if risk_levels::flagged(limits, prices, user.blocked, position) {
         return WarningAnswer {

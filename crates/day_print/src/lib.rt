@@ -99,7 +99,7 @@ fn lines(book: &[u8])
     book_questions::ask(book, &mut sellers, &mut parties, &mut sums);
     let day = Day {
         limits: Limits::today(),
-        prices: book_form::read_prices(book),
+        prices: book_header::read_prices(book),
     };
     let n = book_format::user_count(book) as usize;
     let m = book_format::trade_count(book) as usize;

@@ -17,7 +17,7 @@ use Rattle.requests.specs.Cancellation.{cancellation}
 use Rattle.requests.specs.Carried.{partShown}
 use Rattle.requests.specs.Request.{Request, Setting, enquiry, request}
 use Rattle.book_value.specs.Written.{aboutWriting}
-use Rattle.book_image.specs.Image.{padded, readImage}
+use Rattle.book_image.specs.Image.{imageSize, padded, readImage}
 use Rattle.book_image.specs.ImageBook.{imageBook}
 use Rattle.shrinkage.specs.Return.{returned}
 use Rattle.shrinkage.specs.Days.{overDays}
@@ -58,13 +58,13 @@ Copied g s id lent result after =
 
 -- a book read into an image
 abbrev pub ReadInto : List ℕ → List ℕ → ℕ → List ℕ → Type 0
-ReadInto s lent result after = Stored 8744 lent (bookNumber s) (readImage s) result after
+ReadInto s lent result after = Stored imageSize lent (bookNumber s) (readImage s) result after
 
 -- an image written as a book to a part s
 abbrev pub WrittenFrom : List ℕ → List ℕ → ℕ → List ℕ → Type 0
 WrittenFrom image s result after =
     let r = refusal (aboutWriting (userCount image) (tradeCount image) (imageBook image) (length s)) in
-    Given 8744 image (numberOf r) (decided r (λ n. s) (bytesOf (imageBook image))) s result after
+    Given imageSize image (numberOf r) (decided r (λ n. s) (bytesOf (imageBook image))) s result after
 
 -- a return of shrinkage: its number, and H, the odd kWh, the rest, the shares and the remainders
 abbrev pub ReturnedInto : List ℤ → List ℕ → ℕ → List ℕ → Type 0

@@ -76,6 +76,6 @@ uncreditedLevel limits b u =
     (u .party .charges +ℤ pos (sum (λ a. posPart (afternoonNeed a (holding b u a)) * referencePrice (b .header .prices) a) areas)
     +ℤ pos (exposure (b .header .prices) (holding b u)))
 
--- Document 02's ask 3, "version 1 keeps its reading": no long position takes anything off an afternoon level of version 1.
+-- Document 02's ask 3, "version 1 keeps its reading": an accepted book of version 1 has document 01's afternoon level, of which no credit is taken off.
 pub record KeepsReading (limits : Limits) : Type 0 where
   pub level : (b : Book) (u : User) → T (accepted b) → b .header .version ≡ 1 → afternoonLevel limits b u ≡ uncreditedLevel limits b u

@@ -92,7 +92,7 @@ pub fn afternoon_worth(prices: Prices, area: u8, holding: Holding) -> Cents
     worth_in(prices, area, holding.afternoon_need(area))
 }
 
-// What a short position in an area is worth.
+// What a short position in an area is worth, at the reference price.
 pub fn short_worth(prices: Prices, area: u8, position: Net) -> Cents
     requires { ⌜ InRange (asPrices prices) ⌝ }
     ensures { λ r. ⌜ r .0 ≡ negPart (net position) * referencePrice (asPrices prices) area ⌝ }

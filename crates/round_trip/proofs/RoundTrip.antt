@@ -19,7 +19,7 @@ use Rattle.book_format.specs.Book.{bookOf, bytesOf, lengthBy, tradeCount, trade
 use Rattle.book_format.specs.Questions.{aboutBytes, aboutFields, aboutForm, bookNumber}
 use Rattle.book_image.proofs.RoundTrip.{image-book, image-length, same-counts}
 use Rattle.book_image.specs.ImageBook.{imageBook}
-use Rattle.book_image.specs.Image.{imageOf, readImage}
+use Rattle.book_image.specs.Image.{imageOf, imageSize, readImage}
 use Rattle.laws.proofs.Refusals.{append-yes, yes-first}
 use Rattle.base.proofs.Tests.{and-i, eqb-of}
 use Rattle.book_value.specs.Opened.{Opened}
@@ -75,9 +75,9 @@ read-and-written =
 -- the number 0 tells that the lent part had the length of an image
 lent-whole : (s lent image : List ℕ) (n : ℕ) → ReadInto s lent n image → n ≡ 0 → (n ≡ bookNumber s) × (image ≡ readImage s)
 unfolding byLength
-lent-whole s lent image n o e = go (eqb (length lent) 8744) refl
+lent-whole s lent image n o e = go (eqb (length lent) imageSize) refl
   where
-    go : (t : Bool) → eqb (length lent) 8744 ≡ t → (n ≡ bookNumber s) × (image ≡ readImage s)
+    go : (t : Bool) → eqb (length lent) imageSize ≡ t → (n ≡ bookNumber s) × (image ≡ readImage s)
     go true t = (o .number ∙ ap (λ (x : Bool). cond x (bookNumber s) 255) t, o .part ∙ ap (λ (x : Bool). cond x (readImage s) lent) t)
     go false t = absurd (omega (arith, e, o .number ∙ ap (λ (x : Bool). cond x (bookNumber s) 255) t))
 
@@ -88,8 +88,8 @@ image-read-and-written =
       same = λ s lent image out t n r bytes o e l w.
           let h : bookNumber s ≡ 0 = sym (lent-whole s lent image n o e .0) ∙ e in
           let f = passed s h .form in
-          let i : image ≡ imageOf s = lent-whole s lent image n o e .1 ∙ ap (λ (z : Option ℕ). decided z (λ k. replicate 8744 0) (imageOf s)) (book-passed s h) in
-          let whole : eqb (length image) 8744 ≡ true = ap (λ x. eqb (length x) 8744) i ∙ ap (λ x. eqb x 8744) (image-length s f) in
+          let i : image ≡ imageOf s = lent-whole s lent image n o e .1 ∙ ap (λ (z : Option ℕ). decided z (λ k. replicate imageSize 0) (imageOf s)) (book-passed s h) in
+          let whole : eqb (length image) imageSize ≡ true = ap (λ x. eqb (length x) imageSize) i ∙ ap (λ x. eqb x imageSize) (image-length s f) in
           let q = refusal (aboutWriting (userCount image) (tradeCount image) (imageBook image) (length out)) in
           written-back s bytes h (userCount image) (tradeCount image) (imageBook image) out t r
           (ap userCount i ∙ same-counts s f .0) (ap tradeCount i ∙ same-counts s f .1) (ap imageBook i ∙ image-book s f) l

@@ -29,6 +29,10 @@ unfoldable pub longInAll : ℤ → Book
 longInAll charges =
     two (user 101 0 charges 100000000 0 (record { pvb = pos 100; tvb = pos 50; avb = pos 7 })) (sale 1 1 80 ∷ [])
 
+-- short of 10,000 MWh in PVB, long of 100 in TVB, with charges below 0
+unfoldable pub shortAndLong : Book
+shortAndLong = bookWith (negℤ (pos 5000000)) 100000000 0 (amounts (negℤ (pos 10000)) (pos 100)) []
+
 -- long of 10 MWh in TVB, worth 9,000, and called in, with the levels and sales of a row
 unfoldable pub longAndSelling : ℤ → Book
 longAndSelling charges =
@@ -42,8 +46,9 @@ pub record Credits : Type 0 where
   -- before the floor: a level is never below it
   pub floor-book : accepted (credited (longInAll (pos 10000000))) ≡ true
   pub floor-level : afternoonLevel today (credited (longInAll (pos 10000000))) (first (longInAll (pos 10000000))) ≡ 10000000
-  -- from the whole sum, charges below 0 included
-  pub negative-level : afternoonLevel today (credited (longInAll (negℤ (pos 5000000)))) (first (longInAll (negℤ (pos 5000000)))) ≡ 10000000
+  -- from the whole sum, charges below 0 and the short position of another area included: −5,000,000 + 10,000 × 2,000 − 100 × 900
+  pub whole-book : accepted (credited shortAndLong) ≡ true
+  pub whole-level : afternoonLevel today (credited shortAndLong) (first shortAndLong) ≡ 14910000
   -- version 1 has the level of document 01
   pub version-1-book : accepted (longInAll (pos 12000000)) ≡ true
   pub version-1-level : afternoonLevel today (longInAll (pos 12000000)) (first (longInAll (pos 12000000))) ≡ 12072000
@@ -70,7 +75,7 @@ pub record Credits : Type 0 where
   pub version-3 : accepted (inVersion 3 prices (longInAll (pos 0))) ≡ false
 
 pub credits : Credits
-unfolding opened prices amounts user positioned trade sale bookOf two first bookWith shortInPvb charged cutBefore selling standingAfter sellingAt inVersion credited longInAll longAndSelling
+unfolding opened prices amounts user positioned trade sale bookOf two first bookWith shortInPvb charged cutBefore selling standingAfter sellingAt inVersion credited longInAll shortAndLong longAndSelling
 credits =
     record {
       long-book = refl;
@@ -78,7 +83,8 @@ credits =
       long-morning = refl;
       floor-book = refl;
       floor-level = refl;
-      negative-level = refl;
+      whole-book = refl;
+      whole-level = refl;
       version-1-book = refl;
       version-1-level = refl;
       flag-book = refl;

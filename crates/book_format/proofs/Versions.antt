@@ -1,0 +1,23 @@
+-- A book of version 1 in bytes is document 01's. Assumes nothing.
+use mathlib.Core.Bool.{false}
+use mathlib.Core.List.{append-nil}
+use mathlib.Core.Path.{_≡_, ap, refl, _∙_}
+use Prim.Native.Nat.{ℕ, _+_, _*_}
+use Rattle.rules.specs.Areas.{sellingIn}
+use Rattle.book_format.specs.Book.{headerBytes, headerSize, lengthBy, pricesOf, sellingAt, userSize}
+use Rattle.book_format.specs.Versions.{KeepsBytes}
+use Rattle.book_format.proofs.Offsets.{selling-none}
+
+-- it has no selling tariffs
+none-in-1 : (version : ℕ) → version ≡ 1 → sellingIn version ≡ false
+unfolding sellingIn
+none-in-1 version e = rw e refl
+
+pub keeps-bytes : KeepsBytes
+unfolding lengthBy headerSize userSize sellingIn headerBytes pricesOf sellingAt
+keeps-bytes =
+    record {
+      size = λ n m. refl;
+      header = λ b e. rw (selling-none (b .header .version) (b .header .prices) (none-in-1 (b .header .version) e)) (append-nil _);
+      prices = λ s e. rw e (refl, refl);
+    }
