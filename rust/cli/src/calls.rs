@@ -5,31 +5,43 @@ use daybook::{GuaranteeCall, Level, Reduction, Refusal, Run, User};
 
 use crate::arguments::{amount, id, Arguments};
 use crate::credit::{by_area, credits, has_credit, lines};
-use crate::files;
+use crate::files::{self, Held};
 use crate::json::{list, Object};
 use crate::outcome::{Failure, Outcome};
 use crate::reasons::Asked;
 use crate::refusals;
-use crate::source::{open, Source, Store};
+use crate::source::{accepted, open, Source, Store};
 use crate::state::{state, State};
 use crate::text;
 use crate::words::{code, euros, grouped, word, AREAS, ROLES};
+use crate::write;
 
 /// What every call is given.
 pub struct Call {
     pub source: Source,
     pub store: Store,
     pub json: bool,
+    /// The book that is changed in place, held until it is.
+    _held: Option<Held>,
 }
 
 impl Call {
     pub fn new(arguments: &Arguments) -> Result<Call, Failure> {
         keeping(arguments)?;
         let store = Store::open(arguments.path("--store").as_deref())?;
+        let path = arguments.file(0);
+        let (held, source) = match arguments.has("--in-place") {
+            true => {
+                let (held, bytes) = files::hold(path)?;
+                (Some(held), accepted(&files::shown(path), bytes)?)
+            }
+            false => (None, open(path)?),
+        };
         Ok(Call {
-            source: open(arguments.file(0))?,
+            source,
             store,
             json: arguments.has("--json"),
+            _held: held,
         })
     }
 
@@ -337,6 +349,9 @@ fn changing(
 fn keeping(arguments: &Arguments) -> Result<(), Failure> {
     match (arguments.has("-o"), arguments.has("--in-place")) {
         (true, true) => Err(Failure::misuse("-o and --in-place: give one of them")),
+        (_, true) if files::is_standard(arguments.file(0)) => {
+            Err(Failure::misuse("--in-place needs a file"))
+        }
         (false, _) if arguments.has("--force") => Err(Failure::misuse("--force goes with -o")),
         _ => Ok(()),
     }
@@ -349,23 +364,33 @@ pub fn keep(
     bytes: &[u8],
     outcome: &mut Outcome,
 ) -> Result<(), Failure> {
-    let file = arguments.file(0);
-    match arguments.path("-o") {
-        Some(path) => files::write(&path, bytes, arguments.has("--force")),
+    let file = match arguments.path("-o") {
+        Some(path) if files::is_standard(&path) => {
+            outcome.book = Some(bytes.to_vec());
+            return Ok(());
+        }
+        Some(path) => {
+            write::write(&path, bytes, arguments.has("--force"))?;
+            path
+        }
         None if !arguments.has("--in-place") => {
             if bytes != source.bytes {
                 outcome.message("the changed book is not kept; -o FILE or --in-place keeps it");
             }
-            Ok(())
+            return Ok(());
         }
         None if source.is_text => {
             let reason = "is text, whose comments would be lost; -o FILE writes the book";
-            Err(Failure::misuse(format!(
+            return Err(Failure::misuse(format!(
                 "--in-place: {} {reason}",
                 source.name
-            )))
+            )));
         }
-        None if files::is_standard(file) => Err(Failure::misuse("--in-place needs a file")),
-        None => files::replace(file, bytes),
-    }
+        None => {
+            write::replace(arguments.file(0), bytes)?;
+            arguments.file(0).to_path_buf()
+        }
+    };
+    outcome.written = Some(files::shown(&file));
+    Ok(())
 }

@@ -3,6 +3,7 @@
 use std::ffi::OsString;
 
 use crate::arguments::{Arguments, Known};
+use crate::files::is_standard;
 use crate::outcome::{Failure, Outcome};
 use crate::{calls, cancel, check, convert, explain, list, parameters, report, shrinkage};
 
@@ -188,11 +189,17 @@ fn done(command: &Command, words: &[OsString]) -> Outcome {
         Ok(arguments) => arguments,
         Err(failure) => return hinted(command, failure).into(),
     };
-    (command.run)(&arguments).unwrap_or_else(|failure| {
+    let mut outcome = (command.run)(&arguments).unwrap_or_else(|failure| {
         let mut outcome = Outcome::default();
         outcome.fail(&hinted(command, failure), arguments.has("--json"));
         outcome
-    })
+    });
+    let output = arguments.path("-o");
+    let is_changing = command.options.contains(&IN_PLACE);
+    if is_changing && output.is_some_and(|path| is_standard(&path)) {
+        outcome.tell_beside();
+    }
+    outcome
 }
 
 /// Misuse is told with the page that says more.

@@ -105,8 +105,9 @@ pub struct Trace {
     /// How often each user was reduced, in the order of the book, as far as the
     /// run was taken apart.
     pub counts: Vec<(u32, u64)>,
-    /// How many reductions were taken apart.
+    /// How many reductions were taken apart, and the book after them.
     pub taken: u64,
+    pub reached: Book,
 }
 
 /// How much of a run is taken apart.
@@ -192,6 +193,7 @@ pub fn trace(
         ),
         counts,
         taken,
+        reached: daybook::read(&walk.bytes)?,
     })
 }
 
