@@ -5,7 +5,10 @@ use std::ffi::OsString;
 use crate::arguments::{Arguments, Known};
 use crate::files::is_standard;
 use crate::outcome::{Failure, Outcome};
-use crate::{calls, cancel, check, convert, explain, list, parameters, report, shrinkage};
+use crate::{
+    calls, cancel, check, compare, convert, due, explain, list, parameters, report, shrinkage,
+    status, table,
+};
 
 /// A command of the program.
 pub struct Command {
@@ -19,6 +22,7 @@ pub struct Command {
 }
 
 const JSON: Known = Known::Flag("--json");
+const CSV: Known = Known::Flag("--csv");
 const STORE: Known = Known::Value("--store");
 const OUTPUT: Known = Known::Value("-o");
 const FORCE: Known = Known::Flag("--force");
@@ -64,6 +68,33 @@ pub const COMMANDS: &[Command] = &[
         run: convert::from_csv,
     },
     Command {
+        name: "status",
+        about: "who is short, who is to be called, what deposits keep every trade",
+        page: include_str!("../help/status.txt"),
+        options: &[
+            Known::Flag("--after"),
+            Known::Value("--why"),
+            CSV,
+            JSON,
+            STORE,
+        ],
+        run: status::status,
+    },
+    Command {
+        name: "table",
+        about: "many books side by side, a row each",
+        page: include_str!("../help/table.txt"),
+        options: &[CSV, JSON, STORE],
+        run: table::table,
+    },
+    Command {
+        name: "compare",
+        about: "what differs between two books, or between their runs",
+        page: include_str!("../help/compare.txt"),
+        options: &[Known::Flag("--run"), CSV, JSON, STORE],
+        run: compare::compare,
+    },
+    Command {
         name: "show",
         about: "the records of users",
         page: include_str!("../help/show.txt"),
@@ -98,6 +129,22 @@ pub const COMMANDS: &[Command] = &[
             IN_PLACE,
         ],
         run: calls::guarantee_call,
+    },
+    Command {
+        name: "calls",
+        about: "every guarantee call that is due, made at once",
+        page: include_str!("../help/calls.txt"),
+        options: &[
+            Known::Flag("--morning"),
+            Known::Flag("--afternoon"),
+            CSV,
+            STORE,
+            JSON,
+            OUTPUT,
+            FORCE,
+            IN_PLACE,
+        ],
+        run: due::calls,
     },
     Command {
         name: "post",

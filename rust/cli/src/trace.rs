@@ -331,7 +331,7 @@ pub fn reference_prices(prices: &Prices) -> [u64; 3] {
     [p, tank, store]
 }
 
-fn called_in(figures: &Figures, book: &Book, user: &User) -> CalledIn {
+pub fn called_in(figures: &Figures, book: &Book, user: &User) -> CalledIn {
     let prices = reference_prices(&book.prices).map(i128::from);
     let short = user.position.iter().zip(prices);
     let short = short.map(|(position, price)| (-i128::from(*position)).max(0) * price);
