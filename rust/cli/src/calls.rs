@@ -1,17 +1,17 @@
-//! The engine's calls on a book: `show`, `level`, `call`, `warn`, `post`,
-//! `reduce` and `run`.
+//! The engine's calls on a book: `show`, `level`, `call`, `warn`, `post` and
+//! `reduce`.
 
-use daybook::{GuaranteeCall, Level, Reduction, Refusal, Run, User};
+use daybook::{GuaranteeCall, Level, Reduction, Refusal, User};
 
 use crate::arguments::{amount, id, Arguments};
 use crate::credit::{by_area, credits, has_credit, lines};
 use crate::files::{self, Held};
+use crate::form::{csv_row, Form};
 use crate::json::{list, Object};
 use crate::outcome::{Failure, Outcome};
 use crate::reasons::Asked;
 use crate::refusals;
 use crate::source::{accepted, open, Source, Store};
-use crate::state::{state, State};
 use crate::text;
 use crate::words::{code, euros, grouped, word, AREAS, ROLES};
 use crate::write;
@@ -21,6 +21,7 @@ pub struct Call {
     pub source: Source,
     pub store: Store,
     pub json: bool,
+    pub csv: bool,
     /// The book that is changed in place, held until it is.
     _held: Option<Held>,
 }
@@ -29,6 +30,7 @@ impl Call {
     pub fn new(arguments: &Arguments) -> Result<Call, Failure> {
         keeping(arguments)?;
         let store = Store::open(arguments.path("--store").as_deref())?;
+        let form = Form::of(arguments)?;
         let path = arguments.file(0);
         let (held, source) = match arguments.has("--in-place") {
             true => {
@@ -40,7 +42,8 @@ impl Call {
         Ok(Call {
             source,
             store,
-            json: arguments.has("--json"),
+            json: form == Form::Json,
+            csv: form == Form::Csv,
             _held: held,
         })
     }
@@ -76,10 +79,19 @@ impl Call {
         Ok(outcome)
     }
 
-    /// An answer in words, or as an object.
+    /// An answer in words, as an object, or as a row, before the first of which
+    /// stand the names of the columns.
     pub fn tell(&self, outcome: &mut Outcome, line: String, object: Object) {
         match self.json {
             true => outcome.line(object.end()),
+            false if self.csv => {
+                let (names, fields): (Vec<String>, Vec<String>) =
+                    object.columns().into_iter().unzip();
+                if outcome.out.is_empty() {
+                    outcome.line(csv_row(names));
+                }
+                outcome.line(csv_row(fields));
+            }
             false => outcome.line(line),
         }
     }
@@ -97,7 +109,11 @@ pub fn answer(id: u32) -> Object {
 }
 
 pub fn show(arguments: &Arguments) -> Result<Outcome, Failure> {
-    arguments.expect(1, usize::MAX, "show BOOK [ID..] [--store FILE] [--json]")?;
+    arguments.expect(
+        1,
+        usize::MAX,
+        "show BOOK [ID..] [--csv|--json] [--store FILE]",
+    )?;
     let call = Call::new(arguments)?;
     call.each(arguments, |id| {
         let user = call.store.request().show(&call.source.bytes, id)?;
@@ -116,7 +132,11 @@ fn user_object(user: &User) -> Object {
 }
 
 pub fn level(arguments: &Arguments) -> Result<Outcome, Failure> {
-    arguments.expect(1, usize::MAX, "level BOOK [ID..] [--store FILE] [--json]")?;
+    arguments.expect(
+        1,
+        usize::MAX,
+        "level BOOK [ID..] [--csv|--json] [--store FILE]",
+    )?;
     let call = Call::new(arguments)?;
     call.each(arguments, |id| {
         let request = call.store.request();
@@ -140,7 +160,11 @@ pub fn level(arguments: &Arguments) -> Result<Outcome, Failure> {
 }
 
 pub fn warn(arguments: &Arguments) -> Result<Outcome, Failure> {
-    arguments.expect(1, usize::MAX, "warn BOOK [ID..] [--store FILE] [--json]")?;
+    arguments.expect(
+        1,
+        usize::MAX,
+        "warn BOOK [ID..] [--csv|--json] [--store FILE]",
+    )?;
     let call = Call::new(arguments)?;
     call.each(arguments, |id| {
         let warned = call.store.request().warning(&call.source.bytes, id)?;
@@ -150,7 +174,8 @@ pub fn warn(arguments: &Arguments) -> Result<Outcome, Failure> {
 }
 
 pub fn guarantee_call(arguments: &Arguments) -> Result<Outcome, Failure> {
-    let usage = "call BOOK ID --morning|--afternoon [-o FILE|--in-place] [--store FILE] [--json]";
+    let usage = "call BOOK ID --morning|--afternoon [-o FILE|--in-place] [--csv|--json] \
+                 [--store FILE]";
     arguments.expect(2, 2, usage)?;
     let morning = arguments.has("--morning");
     if morning == arguments.has("--afternoon") {
@@ -182,7 +207,7 @@ pub fn guarantee_call(arguments: &Arguments) -> Result<Outcome, Failure> {
 }
 
 pub fn post(arguments: &Arguments) -> Result<Outcome, Failure> {
-    let usage = "post BOOK ID AREA MWH [-o FILE|--in-place] [--store FILE] [--json]";
+    let usage = "post BOOK ID AREA MWH [-o FILE|--in-place] [--csv|--json] [--store FILE]";
     arguments.expect(4, 4, usage)?;
     let id = arguments.id(1)?;
     let name = arguments.word(2);
@@ -218,7 +243,7 @@ pub fn post(arguments: &Arguments) -> Result<Outcome, Failure> {
 }
 
 pub fn reduce(arguments: &Arguments) -> Result<Outcome, Failure> {
-    let usage = "reduce BOOK ID [-o FILE|--in-place] [--store FILE] [--json]";
+    let usage = "reduce BOOK ID [-o FILE|--in-place] [--csv|--json] [--store FILE]";
     arguments.expect(2, 2, usage)?;
     let id = arguments.id(1)?;
     changing(arguments, id, Asked::Reduction, |request, book| {
@@ -248,81 +273,6 @@ pub fn reduction_object(object: Object, done: &Reduction) -> Object {
         .put("target_cents", done.target)
         .put("short_cents", done.short)
         .put("over_cents", done.over)
-}
-
-pub fn run(arguments: &Arguments) -> Result<Outcome, Failure> {
-    arguments.expect(
-        1,
-        1,
-        "run BOOK [-o FILE|--in-place] [--store FILE] [--json]",
-    )?;
-    let call = Call::new(arguments)?;
-    let mut bytes = call.source.bytes.clone();
-    let mut outcome = Outcome::default();
-    let done = match call.store.request().run(&mut bytes) {
-        Ok(done) => done,
-        Err(refusal) => {
-            call.refuse(&mut outcome, None, Asked::Plain, refusal);
-            return Ok(outcome);
-        }
-    };
-    let object = run_object(&done);
-    call.tell(&mut outcome, run_line(&done), object);
-    let users = daybook::read(&bytes).map_or_else(|_| Vec::new(), |book| book.users);
-    let states = users
-        .iter()
-        .map(|user| state(call.store.request(), &bytes, user));
-    let states: Vec<(User, State)> = users.iter().copied().zip(states).collect();
-    match call.json {
-        true => states
-            .iter()
-            .for_each(|(user, state)| outcome.line(state_object(user, state))),
-        false => outcome.text(&text::aligned(
-            &states.iter().map(state_cells).collect::<Vec<_>>(),
-        )),
-    }
-    keep(arguments, &call.source, &bytes, &mut outcome)?;
-    Ok(outcome)
-}
-
-/// A run in words.
-pub fn run_line(done: &Run) -> String {
-    let ending = if done.reductions == 1 { "" } else { "s" };
-    let (reductions, mwh) = (grouped(done.reductions), grouped(done.mwh));
-    let worth = euros(done.worth);
-    format!("{reductions} reduction{ending}, {mwh} MWh cut, worth {worth} EUR")
-}
-
-fn run_object(done: &Run) -> Object {
-    Object::new()
-        .put("number", 0)
-        .put("reductions", done.reductions)
-        .put("mwh", done.mwh)
-        .put("worth_cents", done.worth)
-}
-
-fn state_cells((user, state): &(User, State)) -> Vec<String> {
-    let mut cells = vec![user.id.to_string(), state.word.to_string()];
-    cells.push("level".to_string());
-    cells.push(state.level.map_or_else(|| "-".to_string(), euros));
-    cells.push("position".to_string());
-    for (area, position) in AREAS.iter().zip(user.position) {
-        cells.push((*area).to_string());
-        cells.push(grouped(position));
-    }
-    cells
-}
-
-fn state_object(user: &User, state: &State) -> String {
-    let level = state
-        .level
-        .map_or_else(|| "null".to_string(), |level| level.to_string());
-    Object::new()
-        .put("id", user.id)
-        .string("state", state.word)
-        .put("afternoon_cents", level)
-        .put("position_mwh", list(user.position))
-        .end()
 }
 
 /// A call on one user that changes the book.

@@ -6,8 +6,8 @@ use crate::arguments::{Arguments, Known};
 use crate::files::is_standard;
 use crate::outcome::{Failure, Outcome};
 use crate::{
-    calls, cancel, check, compare, convert, due, explain, list, parameters, report, shrinkage,
-    status, table,
+    calls, cancel, change, check, compare, convert, due, explain, list, parameters, report, run,
+    shrinkage, status, table,
 };
 
 /// A command of the program.
@@ -28,7 +28,8 @@ const OUTPUT: Known = Known::Value("-o");
 const FORCE: Known = Known::Flag("--force");
 const IN_PLACE: Known = Known::Flag("--in-place");
 const ASKING: &[Known] = &[STORE, JSON];
-const CHANGING: &[Known] = &[STORE, JSON, OUTPUT, FORCE, IN_PLACE];
+const ANSWERING: &[Known] = &[STORE, CSV, JSON];
+const CHANGING: &[Known] = &[STORE, CSV, JSON, OUTPUT, FORCE, IN_PLACE];
 
 /// Every command, in the order of the help.
 pub const COMMANDS: &[Command] = &[
@@ -95,24 +96,31 @@ pub const COMMANDS: &[Command] = &[
         run: compare::compare,
     },
     Command {
+        name: "change",
+        about: "fields of a book set anew, in the words of the text form",
+        page: include_str!("../help/change.txt"),
+        options: &[OUTPUT, FORCE, IN_PLACE],
+        run: change::change,
+    },
+    Command {
         name: "show",
         about: "the records of users",
         page: include_str!("../help/show.txt"),
-        options: ASKING,
+        options: ANSWERING,
         run: calls::show,
     },
     Command {
         name: "level",
         about: "the morning and the afternoon level of shippers",
         page: include_str!("../help/level.txt"),
-        options: ASKING,
+        options: ANSWERING,
         run: calls::level,
     },
     Command {
         name: "warn",
         about: "which shippers are warned at midday",
         page: include_str!("../help/warn.txt"),
-        options: ASKING,
+        options: ANSWERING,
         run: calls::warn,
     },
     Command {
@@ -122,6 +130,7 @@ pub const COMMANDS: &[Command] = &[
         options: &[
             Known::Flag("--morning"),
             Known::Flag("--afternoon"),
+            CSV,
             STORE,
             JSON,
             OUTPUT,
@@ -171,7 +180,7 @@ pub const COMMANDS: &[Command] = &[
         name: "cancel",
         about: "whole trades to cancel in place of a reduction",
         page: include_str!("../help/cancel.txt"),
-        options: &[Known::Value("--tries"), STORE, JSON],
+        options: &[Known::Value("--tries"), STORE, CSV, JSON],
         run: cancel::cancel,
     },
     Command {
@@ -179,7 +188,7 @@ pub const COMMANDS: &[Command] = &[
         about: "the day's reductions, and each user's state after them",
         page: include_str!("../help/run.txt"),
         options: CHANGING,
-        run: calls::run,
+        run: run::run,
     },
     Command {
         name: "explain",

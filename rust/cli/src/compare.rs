@@ -4,7 +4,6 @@
 use daybook::{Book, Trade, User};
 
 use crate::arguments::Arguments;
-use crate::calls::run_line;
 use crate::day::{of, standings, Standing, Totals};
 use crate::fields::{prices, PRICES};
 use crate::form::{csv_row, Form};
@@ -12,6 +11,7 @@ use crate::json::Object;
 use crate::outcome::{Failure, Outcome};
 use crate::reasons::Asked;
 use crate::refusals::of_call;
+use crate::run::run_line;
 use crate::source::{open, Source, Store};
 use crate::text::trade_cells;
 use crate::words::{date, euros, grouped, wide, word, AREAS, ROLES};

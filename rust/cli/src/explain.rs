@@ -1,12 +1,13 @@
 //! `daybook explain`: a run in words, reduction by reduction.
 
 use crate::arguments::Arguments;
-use crate::calls::{reduction_object, run_line};
+use crate::calls::reduction_object;
 use crate::credit::{by_area, lines, Credited};
 use crate::json::{list, Object};
 use crate::outcome::{Failure, Outcome};
 use crate::reasons::Asked;
 use crate::refusals::of_call;
+use crate::run::run_line;
 use crate::source::{open, Store};
 use crate::store::{figures, Figures};
 use crate::text::aligned;

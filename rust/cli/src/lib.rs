@@ -10,6 +10,7 @@
 pub mod arguments;
 pub mod calls;
 pub mod cancel;
+pub mod change;
 pub mod check;
 pub mod commands;
 pub mod compare;
@@ -34,6 +35,7 @@ pub mod picture;
 pub mod reasons;
 pub mod refusals;
 pub mod report;
+pub mod run;
 pub mod shrinkage;
 pub mod source;
 pub mod state;

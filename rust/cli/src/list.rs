@@ -15,7 +15,7 @@ use crate::text::aligned;
 use crate::words::{grouped, word, AREAS};
 
 pub fn list(arguments: &Arguments) -> Result<Outcome, Failure> {
-    let usage = "list BOOK FILE.csv [-o FILE|--in-place] [--store FILE] [--json]";
+    let usage = "list BOOK FILE.csv [-o FILE|--in-place] [--csv|--json] [--store FILE]";
     arguments.expect(2, 2, usage)?;
     let call = Call::new(arguments)?;
     let path = arguments.file(1);
@@ -39,8 +39,11 @@ pub fn list(arguments: &Arguments) -> Result<Outcome, Failure> {
     let reasons = reasons(&call, &lines, &answers);
     let mut table = Vec::new();
     for (((row, line), answer), reason) in rows.iter().zip(&answers).zip(reasons) {
-        match call.json {
-            true => outcome.line(object(*row, line, *answer, &reason)),
+        match call.json || call.csv {
+            true => {
+                let object = object(*row, line, *answer, &reason, call.csv);
+                call.tell(&mut outcome, String::new(), object);
+            }
             false => table.push(cells(*row, line, *answer, reason)),
         }
         if answer.is_err() {
@@ -96,7 +99,14 @@ fn cells(row: usize, line: &Line, answer: Result<(), Refusal>, reason: String) -
     ]
 }
 
-fn object(row: usize, line: &Line, answer: Result<(), Refusal>, reason: &str) -> String {
+/// A line as an object; a row has its reason even where there is none.
+fn object(
+    row: usize,
+    line: &Line,
+    answer: Result<(), Refusal>,
+    reason: &str,
+    is_row: bool,
+) -> Object {
     let number = answer.map_or_else(Refusal::number, |()| 0);
     let object = Object::new()
         .put("line", row)
@@ -104,8 +114,8 @@ fn object(row: usize, line: &Line, answer: Result<(), Refusal>, reason: &str) ->
         .put("id", line.id)
         .string("area", &area_word(line.area))
         .put("mwh", line.amount);
-    match reason.is_empty() {
-        true => object.end(),
-        false => object.string("reason", reason).end(),
+    match reason.is_empty() && !is_row {
+        true => object,
+        false => object.string("reason", reason),
     }
 }

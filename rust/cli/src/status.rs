@@ -4,13 +4,13 @@
 use daybook::Run;
 
 use crate::arguments::Arguments;
-use crate::calls::run_line;
 use crate::day::{deposits, standings, Confirmed, Deposits, Standing};
 use crate::form::{csv_row, or_null, Form};
 use crate::json::Object;
 use crate::outcome::{Failure, Outcome};
 use crate::reasons::Asked;
 use crate::refusals::of_call;
+use crate::run::run_line;
 use crate::source::{open, Store};
 use crate::store::figures;
 use crate::text::aligned;

@@ -241,3 +241,69 @@ fn a_day_in_words() {
     assert_eq!(outcome.status, Status::Refused);
     assert!(outcome.messages.contains("refused by question 8"));
 }
+
+/// A change in words is the change of the field, positions with it; a change that
+/// changes nothing leaves the bytes.
+#[test]
+fn changes() {
+    let folder = folder("change");
+    let mut kept = 0;
+    for bytes in books(76, 30) {
+        let one = folder.join("one");
+        fs::write(&one, &bytes).expect("a file");
+        let one = one.display().to_string();
+        let mut book = daybook::read(&bytes).expect("a book");
+        let id = book.users[0].id;
+        let nothing = format!("user {id} assigned +0.00 physical PVB +0");
+        assert_eq!(done(&["change", &one, &nothing, "-o", "-"]).out, bytes);
+        let words = [
+            format!("user {id} physical PVB +7 TVB +-3 assigned +2.00"),
+            "prices P +0.01".to_string(),
+        ];
+        let outcome = done(&["change", &one, &words[0], &words[1], "-o", "-"]);
+        let user = &mut book.users[0];
+        for (area, more) in [(0, 7), (1, -3)] {
+            user.physical[area] += more;
+            user.position[area] += more;
+        }
+        user.assigned += 200;
+        book.prices.pvb_tariff += 1;
+        match written(&book) {
+            Ok(wanted) => {
+                assert_eq!(outcome.out, wanted);
+                assert_eq!(outcome.messages.lines().count(), 4, "{}", outcome.messages);
+                kept += 1;
+            }
+            Err(refusal) => {
+                assert_eq!(outcome.status, Status::Refused);
+                let number = format!("refused by question {}", refusal.number());
+                assert!(outcome.messages.contains(&number), "{}", outcome.messages);
+            }
+        }
+    }
+    assert!(kept > 50, "{kept}");
+    let sample = concat!(env!("CARGO_MANIFEST_DIR"), "/../../samples/chain.txt");
+    for (words, told) in [
+        (
+            "trade 9 standing 0",
+            "change:1:7: trade 9 is none of 1 to 5",
+        ),
+        (
+            "user 7 assigned 1.00",
+            "change:1:6: 7 is no user of the book",
+        ),
+        ("user 101 level 1.00", "change:1:10: `level`: a field is"),
+        (
+            "prices S 1.00",
+            "change:1:8: `S`: a price is one of P, Q, L, X, I",
+        ),
+        ("user 101 assigned +-600,000.00", "is not within 0.00 to"),
+        ("date 2026-02-30", "refused by question 4"),
+        ("trade 1 standing 30,001", "refused by question 6"),
+        ("users", "change:1:1: `users`: a change starts with"),
+    ] {
+        let outcome = done(&["change", sample, words]);
+        assert_eq!(outcome.status, Status::Refused, "{words}");
+        assert!(outcome.messages.contains(told), "{}", outcome.messages);
+    }
+}

@@ -226,3 +226,40 @@ fn pictures_of_many_buyers() {
     let cuts = page.matches("class=\"cut PVB\"").count();
     assert_eq!(cuts, 60);
 }
+
+/// Every answer as a table: the names of the columns, then as many fields a row as
+/// there are names, as many rows as objects.
+#[test]
+fn answers_as_tables() {
+    let list = file("list.csv", b"id,area,MWh\n101,PVB,5\n7,PVB,5\n");
+    let list = list.display().to_string();
+    let (chain, credit) = (sample("chain.txt"), sample("credit.txt"));
+    for words in [
+        &["show", &chain][..],
+        &["level", &credit],
+        &["warn", &chain],
+        &["call", &chain, "104", "--morning"],
+        &["post", &chain, "101", "PVB", "5"],
+        &["reduce", &chain, "101"],
+        &["cancel", &chain, "101"],
+        &["list", &chain, &list],
+    ] {
+        let told = |form: &str| out(&daybook(&[words, &[form]].concat()));
+        let (table, objects) = (told("--csv"), told("--json"));
+        let rows: Vec<&str> = table.lines().collect();
+        assert_eq!(rows.len(), 1 + objects.lines().count(), "{words:?}");
+        // A field in quotes may have commas in it.
+        let outside = |row: &str| row.split('"').step_by(2).collect::<String>();
+        let counts = rows.iter().map(|row| outside(row).matches(',').count());
+        let counts: Vec<usize> = counts.collect();
+        assert!(counts.iter().all(|it| *it == counts[0]), "{table}");
+        assert!(rows[0].split(',').all(|name| !name.contains("cents")));
+    }
+    let told = out(&daybook(&["level", &chain, "101", "--csv"]));
+    assert_eq!(
+        told,
+        "number,id,morning,afternoon\n0,101,800000.00,800000.00\n"
+    );
+    let told = out(&daybook(&["run", &chain, "--csv"]));
+    assert_eq!(told.lines().count(), 6);
+}
