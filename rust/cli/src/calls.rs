@@ -3,110 +3,14 @@
 
 use daybook::{GuaranteeCall, Level, Reduction, Refusal, User};
 
-use crate::arguments::{amount, id, Arguments};
+use crate::arguments::{amount, Arguments};
+use crate::call::{answer, Call};
 use crate::credit::{by_area, credits, has_credit, lines};
-use crate::files::{self, Held};
-use crate::form::{csv_row, Form};
 use crate::json::{list, Object};
 use crate::outcome::{Failure, Outcome};
 use crate::reasons::Asked;
-use crate::refusals;
-use crate::source::{accepted, open, Source, Store};
 use crate::text;
 use crate::words::{code, euros, grouped, word, AREAS, ROLES};
-use crate::write;
-
-/// What every call is given.
-pub struct Call {
-    pub source: Source,
-    pub store: Store,
-    pub json: bool,
-    pub csv: bool,
-    /// The book that is changed in place, held until it is.
-    _held: Option<Held>,
-}
-
-impl Call {
-    pub fn new(arguments: &Arguments) -> Result<Call, Failure> {
-        keeping(arguments)?;
-        let store = Store::open(arguments.path("--store").as_deref())?;
-        let form = Form::of(arguments)?;
-        let path = arguments.file(0);
-        let (held, source) = match arguments.has("--in-place") {
-            true => {
-                let (held, bytes) = files::hold(path)?;
-                (Some(held), accepted(&files::shown(path), bytes)?)
-            }
-            false => (None, open(path)?),
-        };
-        Ok(Call {
-            source,
-            store,
-            json: form == Form::Json,
-            csv: form == Form::Csv,
-            _held: held,
-        })
-    }
-
-    /// The ids that are asked for; those of all users where none is.
-    fn ids(&self, arguments: &Arguments) -> Result<Vec<u32>, Failure> {
-        let asked = arguments.rest(1);
-        if !asked.is_empty() {
-            return asked.iter().map(|word| id(word)).collect();
-        }
-        Ok(self.users().iter().map(|user| user.id).collect())
-    }
-
-    fn users(&self) -> Vec<User> {
-        daybook::read(&self.source.bytes).map_or_else(|_| Vec::new(), |book| book.users)
-    }
-
-    /// Answers a question for each user; a refused one does not stop the others.
-    /// Where no id is given, users who cannot be asked are passed over.
-    fn each(
-        &self,
-        arguments: &Arguments,
-        answer: impl Fn(u32) -> Result<(String, Object), Refusal>,
-    ) -> Result<Outcome, Failure> {
-        let mut outcome = Outcome::default();
-        for id in self.ids(arguments)? {
-            match answer(id) {
-                Ok((line, object)) => self.tell(&mut outcome, line, object),
-                Err(Refusal::Shipper) if arguments.count() == 1 => {}
-                Err(refusal) => self.refuse(&mut outcome, Some(id), Asked::Plain, refusal),
-            }
-        }
-        Ok(outcome)
-    }
-
-    /// An answer in words, as an object, or as a row, before the first of which
-    /// stand the names of the columns.
-    pub fn tell(&self, outcome: &mut Outcome, line: String, object: Object) {
-        match self.json {
-            true => outcome.line(object.end()),
-            false if self.csv => {
-                let (names, fields): (Vec<String>, Vec<String>) =
-                    object.columns().into_iter().unzip();
-                if outcome.out.is_empty() {
-                    outcome.line(csv_row(names));
-                }
-                outcome.line(csv_row(fields));
-            }
-            false => outcome.line(line),
-        }
-    }
-
-    /// A refusal: in words on standard error, or as an object.
-    pub fn refuse(&self, outcome: &mut Outcome, id: Option<u32>, asked: Asked, refusal: Refusal) {
-        let failure = refusals::of_call(&self.source, &self.store, id, asked, refusal);
-        outcome.fail(&failure, self.json);
-    }
-}
-
-/// An answer starts with its number, and the user that it is about.
-pub fn answer(id: u32) -> Object {
-    Object::new().put("number", 0).put("id", id)
-}
 
 pub fn show(arguments: &Arguments) -> Result<Outcome, Failure> {
     arguments.expect(
@@ -289,58 +193,8 @@ fn changing(
         Err(refusal) => call.refuse(&mut outcome, Some(id), asked, refusal),
         Ok((line, object)) => {
             call.tell(&mut outcome, line, object);
-            keep(arguments, &call.source, &bytes, &mut outcome)?;
+            call.keep(arguments, &bytes, &mut outcome)?;
         }
     }
     Ok(outcome)
-}
-
-/// The options about the changed book go together.
-fn keeping(arguments: &Arguments) -> Result<(), Failure> {
-    match (arguments.has("-o"), arguments.has("--in-place")) {
-        (true, true) => Err(Failure::misuse("-o and --in-place: give one of them")),
-        (_, true) if files::is_standard(arguments.file(0)) => {
-            Err(Failure::misuse("--in-place needs a file"))
-        }
-        (false, _) if arguments.has("--force") => Err(Failure::misuse("--force goes with -o")),
-        _ => Ok(()),
-    }
-}
-
-/// Keeps the changed book where it is asked for.
-pub fn keep(
-    arguments: &Arguments,
-    source: &Source,
-    bytes: &[u8],
-    outcome: &mut Outcome,
-) -> Result<(), Failure> {
-    let file = match arguments.path("-o") {
-        Some(path) if files::is_standard(&path) => {
-            outcome.book = Some(bytes.to_vec());
-            return Ok(());
-        }
-        Some(path) => {
-            write::write(&path, bytes, arguments.has("--force"))?;
-            path
-        }
-        None if !arguments.has("--in-place") => {
-            if bytes != source.bytes {
-                outcome.message("the changed book is not kept; -o FILE or --in-place keeps it");
-            }
-            return Ok(());
-        }
-        None if source.is_text => {
-            let reason = "is text, whose comments would be lost; -o FILE writes the book";
-            return Err(Failure::misuse(format!(
-                "--in-place: {} {reason}",
-                source.name
-            )));
-        }
-        None => {
-            write::replace(arguments.file(0), bytes)?;
-            arguments.file(0).to_path_buf()
-        }
-    };
-    outcome.written = Some(files::shown(&file));
-    Ok(())
 }

@@ -4,7 +4,8 @@
 use daybook::{Book, Trade};
 
 use crate::arguments::Arguments;
-use crate::calls::{answer, Call};
+use crate::call::{answer, Call};
+use crate::form::Form;
 use crate::json::list;
 use crate::outcome::{Failure, Outcome};
 use crate::reasons::Asked;
@@ -67,7 +68,7 @@ pub fn cancel(arguments: &Arguments) -> Result<Outcome, Failure> {
         .put("tries", found.tries)
         .put("complete", found.complete);
     call.tell(&mut outcome, line, object);
-    if !call.json && !call.csv {
+    if call.form == Form::Words {
         let cells = |place: &usize| {
             let mut cells = book.trades.get(*place).map_or_else(Vec::new, trade_cells);
             cells.insert(0, format!("{}:", place + 1));

@@ -46,7 +46,7 @@ pub fn csv(arguments: &Arguments) -> Result<Outcome, Failure> {
         Err(_) => write::write_folder(folder, &files)?,
         Ok(_) => {
             let files = files.iter().map(|(file, text)| (folder.join(file), *text));
-            write::write_all(&files.collect::<Vec<(PathBuf, &[u8])>>(), over)?;
+            write::write_all(&files.collect::<Vec<(PathBuf, &[u8])>>(), over, &[])?;
         }
     }
     Ok(Outcome::default())

@@ -119,10 +119,7 @@ impl Draft {
         for place in 0..self.book.users.len() {
             for area in 0..3 {
                 if !is_in(&self.users[place], Field::Position(area)) {
-                    let user = &self.book.users[place];
-                    let position = faults::defined_position(&self.book, user, area);
-                    // A position beyond 32 bits comes of amounts that are refused before it.
-                    self.book.users[place].position[area] = i32::try_from(position).unwrap_or(0);
+                    define_position(&mut self.book, place, area);
                 }
             }
         }
@@ -161,6 +158,13 @@ impl Draft {
             |(_, spot)| *spot,
         )
     }
+}
+
+/// Sets the position of a user as document 01 defines it. One beyond 32 bits comes
+/// of amounts that are refused before it.
+pub fn define_position(book: &mut Book, place: usize, area: usize) {
+    let position = faults::defined_position(book, &book.users[place], area);
+    book.users[place].position[area] = i32::try_from(position).unwrap_or(0);
 }
 
 fn is_in(spots: &Spots, field: Field) -> bool {

@@ -5,7 +5,7 @@
 use daybook::{GuaranteeCall, Level, Refusal};
 
 use crate::arguments::Arguments;
-use crate::calls::{answer, keep, Call};
+use crate::call::{answer, Call};
 use crate::form::{csv_row, Form};
 use crate::json::Object;
 use crate::outcome::{Failure, Outcome};
@@ -27,7 +27,6 @@ pub fn calls(arguments: &Arguments) -> Result<Outcome, Failure> {
     let usage = "calls BOOK --morning|--afternoon [-o FILE|--in-place] [--csv|--json] \
                  [--store FILE]";
     arguments.expect(1, 1, usage)?;
-    let form = Form::of(arguments)?;
     let morning = arguments.has("--morning");
     if morning == arguments.has("--afternoon") {
         return Err(Failure::misuse(format!("usage: daybook {usage}")));
@@ -42,12 +41,12 @@ pub fn calls(arguments: &Arguments) -> Result<Outcome, Failure> {
             return Ok(outcome);
         }
     };
-    match form {
+    match call.form {
         Form::Words => words(&mut outcome, &made),
         Form::Csv => table(&mut outcome, &made),
         Form::Json => objects(&mut outcome, &call.source.name, &made),
     }
-    keep(arguments, &call.source, &bytes, &mut outcome)?;
+    call.keep(arguments, &bytes, &mut outcome)?;
     Ok(outcome)
 }
 

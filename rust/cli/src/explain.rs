@@ -3,6 +3,7 @@
 use crate::arguments::Arguments;
 use crate::calls::reduction_object;
 use crate::credit::{by_area, lines, Credited};
+use crate::form::or_null;
 use crate::json::{list, Object};
 use crate::outcome::{Failure, Outcome};
 use crate::reasons::Asked;
@@ -93,13 +94,10 @@ fn step_object(step: &Step) -> String {
             .put("after_mwh", it.after)
             .end()
     });
-    let next = step
-        .next
-        .map_or_else(|| "null".to_string(), |id| id.to_string());
     reduction_object(object, &step.answer)
         .put("tiers", list(step.tiers.iter().map(tier_object)))
         .put("moves", list(moves))
-        .put("next", next)
+        .put("next", or_null(step.next))
         .end()
 }
 

@@ -1,5 +1,5 @@
-//! Files that are read: whole, and held from reading to rename where a book is
-//! changed in place. How files are written is in `write.rs`.
+//! Files that are read: whole, and held from reading to rename where they are
+//! written over. How files are written is in `write.rs`.
 
 use std::fs::{self, File, Metadata};
 use std::io::{self, Read};
@@ -61,46 +61,61 @@ fn bytes(source: impl Read) -> io::Result<Vec<u8>> {
     Ok(bytes)
 }
 
-/// A file that nobody else of the program changes in place while this lives.
+/// A regular file that nobody else of the program writes over while this lives.
 #[derive(Debug)]
 pub struct Held {
     /// The lock goes with the file.
-    _file: File,
+    file: File,
+    identity: Metadata,
 }
 
-/// Holds a regular file and reads it. Who waits for it meets the file that has
-/// taken its name in the meantime: a rename leaves the lock with the old file, so
-/// that the name is looked up again once the lock is there.
-pub fn hold(path: &Path) -> Result<(Held, Vec<u8>), Failure> {
-    loop {
-        let named = fs::metadata(path).map_err(|error| unread(path, &error))?;
-        if !named.is_file() {
-            let reason = "is no regular file; --in-place needs one";
-            return Err(Failure::file(format!("{}: {reason}", shown(path))));
+impl Held {
+    /// Holds a regular file. Who waits for it meets the file that has taken its name
+    /// in the meantime: a rename leaves the lock with the old file, so that the name
+    /// is looked up again once the lock is there.
+    pub fn new(path: &Path) -> Result<Held, Failure> {
+        loop {
+            let named = fs::metadata(path).map_err(|error| unread(path, &error))?;
+            if !named.is_file() {
+                let reason = "is no regular file; --in-place needs one";
+                return Err(Failure::file(format!("{}: {reason}", shown(path))));
+            }
+            let file = File::open(path).map_err(|error| unread(path, &error))?;
+            let locked = file.lock().and_then(|()| file.metadata());
+            let identity = locked.map_err(|error| {
+                let name = shown(path);
+                Failure::file(format!("{name}: cannot be locked: {error}"))
+            })?;
+            let held = Held { file, identity };
+            // Gone while it was waited for: the next turn says so.
+            if held.is_named(path) {
+                return Ok(held);
+            }
         }
-        let mut file = File::open(path).map_err(|error| unread(path, &error))?;
-        let locked = file.lock().and_then(|()| file.metadata());
-        let locked = locked.map_err(|error| {
-            let name = shown(path);
-            Failure::file(format!("{name}: cannot be locked: {error}"))
-        })?;
-        // Gone while it was waited for: the next turn says so.
-        if fs::metadata(path).is_ok_and(|named| is_same(&named, &locked)) {
-            let read = whole(path, bytes(&mut file))?;
-            return Ok((Held { _file: file }, read));
-        }
+    }
+
+    /// Whether a name leads to this file.
+    pub fn is_named(&self, path: &Path) -> bool {
+        fs::metadata(path).is_ok_and(|named| is_same(&named, &self.identity))
+    }
+
+    /// The bytes of the file, which is told by this name.
+    pub fn read(&self, path: &Path) -> Result<Vec<u8>, Failure> {
+        whole(path, bytes(&self.file))
     }
 }
 
+/// Whether both are of one file.
 #[cfg(unix)]
-fn is_same(one: &Metadata, other: &Metadata) -> bool {
+pub fn is_same(one: &Metadata, other: &Metadata) -> bool {
     use std::os::unix::fs::MetadataExt;
 
     (one.dev(), one.ino()) == (other.dev(), other.ino())
 }
 
-/// Elsewhere an open file keeps its name.
+/// Elsewhere a file has no number: its length and its times stand for it.
 #[cfg(not(unix))]
-fn is_same(_one: &Metadata, _other: &Metadata) -> bool {
-    true
+pub fn is_same(one: &Metadata, other: &Metadata) -> bool {
+    let about = |it: &Metadata| (it.len(), it.created().ok(), it.modified().ok());
+    about(one) == about(other)
 }

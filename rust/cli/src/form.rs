@@ -22,10 +22,6 @@ impl Form {
             (false, false) => Ok(Form::Words),
         }
     }
-
-    pub fn is_json(self) -> bool {
-        self == Form::Json
-    }
 }
 
 /// A row of a CSV file; a field that has a mark of the form in it stands in quotes.

@@ -8,6 +8,8 @@
 #![forbid(unsafe_code)]
 
 pub mod arguments;
+pub mod beside;
+pub mod call;
 pub mod calls;
 pub mod cancel;
 pub mod change;

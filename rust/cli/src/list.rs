@@ -4,9 +4,10 @@
 use daybook::{Line, Refusal};
 
 use crate::arguments::Arguments;
-use crate::calls::{keep, Call};
+use crate::call::Call;
 use crate::csv::read_corrections;
 use crate::files;
+use crate::form::Form;
 use crate::json::Object;
 use crate::outcome::{Failure, Outcome, Status};
 use crate::reasons::{reason, Asked};
@@ -39,19 +40,19 @@ pub fn list(arguments: &Arguments) -> Result<Outcome, Failure> {
     let reasons = reasons(&call, &lines, &answers);
     let mut table = Vec::new();
     for (((row, line), answer), reason) in rows.iter().zip(&answers).zip(reasons) {
-        match call.json || call.csv {
-            true => {
-                let object = object(*row, line, *answer, &reason, call.csv);
+        match call.form {
+            Form::Words => table.push(cells(*row, line, *answer, reason)),
+            form => {
+                let object = object(*row, line, *answer, &reason, form == Form::Csv);
                 call.tell(&mut outcome, String::new(), object);
             }
-            false => table.push(cells(*row, line, *answer, reason)),
         }
         if answer.is_err() {
             outcome.status = Status::Refused;
         }
     }
     outcome.text(&aligned(&table));
-    keep(arguments, &call.source, &bytes, &mut outcome)?;
+    call.keep(arguments, &bytes, &mut outcome)?;
     Ok(outcome)
 }
 

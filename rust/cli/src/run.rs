@@ -3,7 +3,8 @@
 use daybook::{Run, User};
 
 use crate::arguments::Arguments;
-use crate::calls::{keep, Call};
+use crate::call::Call;
+use crate::form::{or_null, Form};
 use crate::json::{list, Object};
 use crate::outcome::{Failure, Outcome};
 use crate::reasons::Asked;
@@ -24,24 +25,24 @@ pub fn run(arguments: &Arguments) -> Result<Outcome, Failure> {
             return Ok(outcome);
         }
     };
-    match call.csv {
-        true => outcome.message(run_line(&done)),
-        false => call.tell(&mut outcome, run_line(&done), run_object(&done)),
+    match call.form {
+        Form::Csv => outcome.message(run_line(&done)),
+        _ => call.tell(&mut outcome, run_line(&done), run_object(&done)),
     }
     let users = daybook::read(&bytes).map_or_else(|_| Vec::new(), |book| book.users);
     let states = users
         .iter()
         .map(|user| state(call.store.request(), &bytes, user));
     let states: Vec<(User, State)> = users.iter().copied().zip(states).collect();
-    match call.json || call.csv {
-        true => states
-            .iter()
-            .for_each(|it| call.tell(&mut outcome, String::new(), state_object(it))),
-        false => outcome.text(&text::aligned(
+    match call.form {
+        Form::Words => outcome.text(&text::aligned(
             &states.iter().map(state_cells).collect::<Vec<_>>(),
         )),
+        _ => states
+            .iter()
+            .for_each(|it| call.tell(&mut outcome, String::new(), state_object(it))),
     }
-    keep(arguments, &call.source, &bytes, &mut outcome)?;
+    call.keep(arguments, &bytes, &mut outcome)?;
     Ok(outcome)
 }
 
@@ -74,12 +75,9 @@ fn state_cells((user, state): &(User, State)) -> Vec<String> {
 }
 
 fn state_object((user, state): &(User, State)) -> Object {
-    let level = state
-        .level
-        .map_or_else(|| "null".to_string(), |level| level.to_string());
     Object::new()
         .put("id", user.id)
         .string("state", state.word)
-        .put("afternoon_cents", level)
+        .put("afternoon_cents", or_null(state.level))
         .put("position_mwh", list(user.position))
 }

@@ -161,12 +161,13 @@ fn the_longest_name() {
     assert!(folder.bytes(&name).starts_with(b"GDB"));
 }
 
-/// A file that has the name beside is not touched, and another name is taken.
+/// A file beside that another process holds is not touched, nor one of a name that
+/// is not the program's; another name is taken.
 #[test]
 fn the_name_beside_is_ones_own() {
     let folder = Folder::new("beside");
     let line = "for n in .chain.gdb.$$.new .daybook.$$.0.new; do echo kept > $n; done; \
-                exec daybook run chain.gdb --in-place";
+                exec 9< .daybook.$$.0.new; flock 9; exec daybook run chain.gdb --in-place";
     let (status, _, messages) = folder.shell(line);
     assert_eq!(status, 0, "{messages}");
     let names = folder.names();
@@ -175,6 +176,56 @@ fn the_name_beside_is_ones_own() {
     for name in hidden {
         assert_eq!(folder.bytes(name), b"kept\n");
     }
+}
+
+/// What a killed process has left beside is removed by the next that writes there;
+/// a pipe of such a name is not waited for.
+#[test]
+fn what_a_kill_leaves_is_removed() {
+    let folder = Folder::new("left");
+    let names = folder.names();
+    folder.shell("ulimit -f 0; daybook run chain.gdb --in-place; true");
+    assert_eq!(folder.names().len(), names.len() + 1);
+    let left = "mkdir .daybook.7.1.new; echo x > .daybook.7.1.new/users.csv; \
+                mkfifo .daybook.7.2.new";
+    assert_eq!(folder.shell(left).0, 0);
+    let (status, _, messages) = folder.shell("daybook run chain.gdb -o new.gdb");
+    assert_eq!(status, 0, "{messages}");
+    let hidden: Vec<String> = folder
+        .names()
+        .into_iter()
+        .filter(|it| it.starts_with('.'))
+        .collect();
+    assert_eq!(hidden, [".daybook.7.2.new"]);
+}
+
+/// Killed at any moment: the old book or the new one stands under its name, and the
+/// next call leaves nothing beside it.
+#[test]
+fn killed_at_any_moment() {
+    let folder = Folder::new("killed");
+    let mut book = daybook::read(&folder.bytes("chain.gdb")).expect("a book");
+    let mut changed = 0;
+    for round in 0..60 {
+        let line = format!(
+            "daybook post chain.gdb 101 PVB 1 --in-place & sleep 0.00{}; kill -9 $!; wait $!",
+            round % 10
+        );
+        folder.shell(&line);
+        let now = daybook::read(&folder.bytes("chain.gdb")).expect("a book");
+        let more = now.users[0].physical[0] - book.users[0].physical[0];
+        assert!(more == 0 || more == 1, "{more}");
+        changed += more;
+        book = now;
+    }
+    println!("60 postings killed, {changed} of them made");
+    assert_eq!(
+        folder
+            .shell("daybook post chain.gdb 101 PVB 1 --in-place")
+            .0,
+        0
+    );
+    assert_eq!(folder.names(), ["chain.gdb", "chain.txt"]);
 }
 
 #[test]
@@ -229,16 +280,25 @@ fn tables_all_or_nothing() {
     assert_eq!(inside("two"), 3);
 }
 
-/// Forty postings at once, in place: all of them count.
+/// Forty postings at once, in place or over the book by `-o`, by another name of it
+/// too: all of them count.
 #[test]
 fn postings_at_once() {
     let folder = Folder::new("at-once");
-    let line = "for i in $(seq 40); do daybook post chain.gdb 101 PVB 1 --in-place & done; wait";
-    let (_, out, messages) = folder.shell(line);
-    assert_eq!((out.lines().count(), messages.as_str()), (40, ""));
-    let book = daybook::read(&folder.bytes("chain.gdb")).expect("a book");
-    assert_eq!(book.users[0].physical[0], -10_000 + 40);
-    assert_eq!(folder.names(), ["chain.gdb", "chain.txt"]);
+    symlink("chain.gdb", folder.0.join("link.gdb")).expect("a link");
+    for (round, kept) in ["--in-place", "-o chain.gdb --force", "-o link.gdb --force"]
+        .into_iter()
+        .enumerate()
+    {
+        let post = format!("daybook post chain.gdb 101 PVB 1 {kept}");
+        let line = format!("for i in $(seq 40); do {post} & done; wait");
+        let (_, out, messages) = folder.shell(&line);
+        assert_eq!((out.lines().count(), messages.as_str()), (40, ""), "{kept}");
+        let book = daybook::read(&folder.bytes("chain.gdb")).expect("a book");
+        let posted = 40 * i32::try_from(round + 1).expect("a number");
+        assert_eq!(book.users[0].physical[0], -10_000 + posted, "{kept}");
+    }
+    assert_eq!(folder.names(), ["chain.gdb", "chain.txt", "link.gdb"]);
 }
 
 /// What could not be told of a change has a status of its own.
