@@ -4,7 +4,7 @@
 use daybook::{Book, Trade, User};
 
 use crate::arguments::Arguments;
-use crate::day::{of, standings, Standing, Totals};
+use crate::day::{standings, Standing, Totals};
 use crate::fields::{prices, PRICES};
 use crate::form::{csv_row, Form};
 use crate::json::Object;
@@ -72,7 +72,7 @@ fn side(source: &Source, store: &Store, is_run: bool) -> Result<Side, Failure> {
     let bytes = if is_run { &after } else { &source.bytes };
     let book = daybook::read(bytes).map_err(refused)?;
     let standings = standings(request, bytes, &book);
-    let totals = of(request, &book, &standings, run);
+    let totals = Totals::new(request, &book, &standings, run);
     Ok(Side {
         book,
         standings,
@@ -194,11 +194,9 @@ fn trades(found: &mut Found, one: &[Trade], other: &[Trade]) {
         let whole = |trade: Option<&Trade>| {
             let cells = trade.map_or_else(Vec::new, trade_cells);
             let words: Vec<String> = cells.into_iter().skip(1).collect();
-            let words = words.join(" ").trim_end().to_string();
-            if words.is_empty() {
-                "-".to_string()
-            } else {
-                words
+            match words.join(" ").trim_end() {
+                "" => "-".to_string(),
+                words => words.to_string(),
             }
         };
         let key = |trade: &Trade| (trade.seller, trade.buyer, trade.area, trade.kind, trade.day);

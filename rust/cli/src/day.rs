@@ -119,28 +119,27 @@ pub struct Totals {
     pub deposit: Option<u128>,
 }
 
-/// The totals of an accepted book.
-pub fn totals(request: Request, bytes: &[u8], book: &Book) -> Result<Totals, Refusal> {
-    let mut after = bytes.to_vec();
-    let run = request.run(&mut after)?;
-    let standings = standings(request, bytes, book);
-    Ok(of(request, book, &standings, run))
+impl Totals {
+    /// The totals of a book whose users' standings and run are known.
+    pub fn new(request: Request, book: &Book, standings: &[Standing], run: Run) -> Totals {
+        let deposits = deposits(request, book, standings);
+        let uncovered = standings.iter().map(|it| u128::from(it.uncovered));
+        let called = || standings.iter().filter_map(|it| it.to_call);
+        let short = standings.iter().filter(|it| it.state.word == "short");
+        Totals {
+            run,
+            short: short.count(),
+            uncovered: uncovered.sum(),
+            calls: called().count(),
+            to_call: called().map(u128::from).sum(),
+            deposit: (deposits.confirmed == Confirmed::Yes).then(|| deposits.total()),
+        }
+    }
 }
 
-/// The totals of a book whose users' standings and run are known.
-pub fn of(request: Request, book: &Book, standings: &[Standing], run: Run) -> Totals {
-    let deposits = deposits(request, book, standings);
-    let uncovered = standings.iter().map(|it| u128::from(it.uncovered));
-    let called = || standings.iter().filter_map(|it| it.to_call);
-    Totals {
-        run,
-        short: standings
-            .iter()
-            .filter(|it| it.state.word == "short")
-            .count(),
-        uncovered: uncovered.sum(),
-        calls: called().count(),
-        to_call: called().map(u128::from).sum(),
-        deposit: (deposits.confirmed == Confirmed::Yes).then(|| deposits.total()),
-    }
+/// The totals of an accepted book.
+pub fn totals(request: Request, bytes: &[u8], book: &Book) -> Result<Totals, Refusal> {
+    let run = request.run(&mut bytes.to_vec())?;
+    let standings = standings(request, bytes, book);
+    Ok(Totals::new(request, book, &standings, run))
 }

@@ -10,7 +10,7 @@ use std::thread;
 use crate::arguments::Arguments;
 use crate::day::{totals, Totals};
 use crate::files;
-use crate::form::{csv_row, Form};
+use crate::form::{csv_row, or_null, Form};
 use crate::json::Object;
 use crate::outcome::{Failure, Outcome, Status};
 use crate::source::{verdict, Store, Verdict};
@@ -34,7 +34,7 @@ const COLUMNS: [&str; 13] = [
     "deposit",
 ];
 
-/// What is told of a file.
+/// What is told of a book.
 #[derive(Clone, Debug, PartialEq, Eq)]
 pub enum Found {
     /// An accepted book: date, users, trades, and the day's totals.
@@ -43,8 +43,6 @@ pub enum Found {
     Refused(u32),
     /// A text that is none.
     Unread,
-    /// A file that cannot be read, and why.
-    Missing(String),
 }
 
 /// A row of the table.
@@ -63,21 +61,21 @@ pub fn table(arguments: &Arguments) -> Result<Outcome, Failure> {
     for word in arguments.rest(0) {
         paths.extend(books(Path::new(word))?);
     }
-    let mut rows = rows(&paths, &store);
     let mut outcome = Outcome::default();
-    for row in &rows {
-        let status = match &row.found {
-            Found::Day(..) => Status::Accepted,
-            Found::Refused(_) | Found::Unread => Status::Refused,
-            Found::Missing(message) => {
-                outcome.message(message);
-                Status::Misuse
+    let mut found = Vec::new();
+    for row in rows(&paths, &store) {
+        match row {
+            Ok(row) => {
+                if !matches!(row.found, Found::Day(..)) {
+                    outcome.status = outcome.status.max(Status::Refused);
+                }
+                found.push(row);
             }
-        };
-        outcome.status = outcome.status.max(status);
+            // A file that cannot be read is no book of the table.
+            Err(failure) => outcome.fail(&failure, false),
+        }
     }
-    // A file that cannot be read is no book of the table.
-    rows.retain(|row| !matches!(row.found, Found::Missing(_)));
+    let rows = found;
     match form {
         _ if rows.is_empty() => {}
         Form::Words => words(&mut outcome, &rows),
@@ -108,11 +106,11 @@ fn books(path: &Path) -> Result<Vec<PathBuf>, Failure> {
 }
 
 /// The rows of files, in their order, found by as many threads as there are cores.
-pub fn rows(paths: &[PathBuf], store: &Store) -> Vec<Row> {
+pub fn rows(paths: &[PathBuf], store: &Store) -> Vec<Result<Row, Failure>> {
     let cores = thread::available_parallelism().map_or(1, usize::from);
     let next = AtomicUsize::new(0);
     let (sender, receiver) = mpsc::channel();
-    let mut rows: Vec<Option<Row>> = vec![None; paths.len()];
+    let mut rows: Vec<Option<Result<Row, Failure>>> = vec![None; paths.len()];
     thread::scope(|scope| {
         for _ in 0..cores.min(paths.len()) {
             let (sender, next) = (sender.clone(), &next);
@@ -137,17 +135,14 @@ pub fn rows(paths: &[PathBuf], store: &Store) -> Vec<Row> {
     rows.into_iter().flatten().collect()
 }
 
-fn row(path: &Path, store: &Store) -> Row {
+fn row(path: &Path, store: &Store) -> Result<Row, Failure> {
     let name = files::shown(path);
-    let found = match files::read(path) {
-        Err(failure) => Found::Missing(failure.message().to_string()),
-        Ok(bytes) => match verdict(&name, bytes) {
-            Verdict::Unread(_) => Found::Unread,
-            Verdict::Refused(refusal, _) => Found::Refused(refusal.number()),
-            Verdict::Accepted(source) => day(&source.bytes, store),
-        },
+    let found = match verdict(&name, files::read(path)?) {
+        Verdict::Unread(_) => Found::Unread,
+        Verdict::Refused(refusal, _) => Found::Refused(refusal.number()),
+        Verdict::Accepted(source) => day(&source.bytes, store),
     };
-    Row { name, found }
+    Ok(Row { name, found })
 }
 
 fn day(bytes: &[u8], store: &Store) -> Found {
@@ -218,14 +213,10 @@ fn cells(
             it.deposit
                 .map_or_else(|| none.to_string(), |it| money(cents(it))),
         ]),
-        other => {
-            cells.push(match other {
-                Found::Refused(number) => number.to_string(),
-                _ => "unread".to_string(),
-            });
-            cells.resize(COLUMNS.len(), none.to_string());
-        }
+        Found::Refused(number) => cells.push(number.to_string()),
+        Found::Unread => cells.push("unread".to_string()),
     }
+    cells.resize(COLUMNS.len(), none.to_string());
     cells
 }
 
@@ -267,20 +258,21 @@ fn object(row: &Row) -> String {
     match &row.found {
         Found::Day(day, users, trades, it) => {
             let object = object.put("accepted", true).put("number", 0);
-            let object = object.string("date", &date(*day)).put("users", users);
-            let object = object.put("trades", trades);
-            let object = object.put("reductions", it.run.reductions);
-            let object = object.put("mwh", it.run.mwh);
-            let object = object.put("worth_cents", it.run.worth);
-            let object = object.put("short", it.short);
-            let object = object.put("uncovered_cents", it.uncovered);
-            let object = object.put("calls", it.calls);
-            let object = object.put("to_call_cents", it.to_call);
-            let deposit = crate::form::or_null(it.deposit);
-            object.put("deposit_cents", deposit).end()
+            let object = object.string("date", &date(*day));
+            object
+                .put("users", users)
+                .put("trades", trades)
+                .put("reductions", it.run.reductions)
+                .put("mwh", it.run.mwh)
+                .put("worth_cents", it.run.worth)
+                .put("short", it.short)
+                .put("uncovered_cents", it.uncovered)
+                .put("calls", it.calls)
+                .put("to_call_cents", it.to_call)
+                .put("deposit_cents", or_null(it.deposit))
+                .end()
         }
         Found::Refused(number) => object.put("accepted", false).put("number", number).end(),
         Found::Unread => object.put("accepted", false).put("unread", true).end(),
-        Found::Missing(message) => object.string("reason", message).end(),
     }
 }

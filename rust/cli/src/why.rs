@@ -29,6 +29,10 @@ impl Part {
             _ => cents,
         }
     }
+
+    pub fn area_name(&self) -> &'static str {
+        AREAS[self.area]
+    }
 }
 
 /// An afternoon level in its parts.
@@ -138,9 +142,4 @@ fn tomorrow(book: &Book, id: u32, area: usize) -> i64 {
         }
     }
     need
-}
-
-/// An area's name.
-pub fn area(part: &Part) -> &'static str {
-    AREAS[part.area]
 }

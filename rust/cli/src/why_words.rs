@@ -8,7 +8,7 @@ use crate::json::{list, Object};
 use crate::store::Figures;
 use crate::text::aligned;
 use crate::trace::reference_prices;
-use crate::why::{area, Part, Why};
+use crate::why::{Part, Why};
 use crate::words::{euros, grouped, plain_euros, word, AREAS};
 
 pub fn told(form: Form, name: &str, book: &Book, figures: &Figures, why: &Why) -> String {
@@ -34,42 +34,46 @@ fn words(book: &Book, figures: &Figures, why: &Why) -> String {
     };
     text.push_str(&format!("  together {}{floor} EUR\n", euros(why.sum)));
     text.push_str(&flag(book, figures, why));
-    for place in &why.cut {
+    text.push_str(&cut_trades(book, why));
+    text.push_str(&guarantees(figures, why));
+    text
+}
+
+/// The trades below notified that the user is party to, a line each.
+fn cut_trades(book: &Book, why: &Why) -> String {
+    let line = |place: &usize| {
         let trade = &book.trades[*place];
         let (standing, notified) = (grouped(trade.standing), grouped(trade.notified));
         let (parties, area) = (parties(trade), word(&AREAS, trade.area));
         let stands = format!("stands at {standing} of {notified} MWh");
-        text.push_str(&format!(
-            "  called in: trade {}, {parties} {area}, {stands}\n",
-            place + 1
-        ));
-    }
+        let place = place + 1;
+        format!("  called in: trade {place}, {parties} {area}, {stands}\n")
+    };
+    why.cut.iter().map(line).collect()
+}
+
+/// The level beside what is blocked and what is assigned.
+fn guarantees(figures: &Figures, why: &Why) -> String {
     let (blocked, lacking) = (euros(why.user.blocked), euros(why.lacking()));
     let margin = euros(figures.margin);
     let above = match why.lacking() > i128::from(figures.margin) {
         true => "above",
         false => "not above",
     };
-    text.push_str(&format!(
-        "  level - blocked {blocked} = {lacking} EUR, {above} {margin} EUR\n"
-    ));
     let uncovered = i128::from(why.level) - i128::from(why.user.assigned);
-    let assigned = euros(why.user.assigned);
-    text.push_str(&match uncovered > 0 {
-        true => {
-            let uncovered = euros(uncovered);
-            format!("  level - assigned {assigned} = {uncovered} EUR uncovered\n")
-        }
-        false => format!("  assigned {assigned} EUR covers the level\n"),
-    });
-    text
+    let (assigned, shown) = (euros(why.user.assigned), euros(uncovered));
+    let covered = match uncovered > 0 {
+        true => format!("level - assigned {assigned} = {shown} EUR uncovered"),
+        false => format!("assigned {assigned} EUR covers the level"),
+    };
+    format!("  level - blocked {blocked} = {lacking} EUR, {above} {margin} EUR\n  {covered}\n")
 }
 
 fn part_cells(part: &Part) -> Vec<String> {
     let less = if part.name == "credit" { "less " } else { "" };
     vec![
         format!("  {less}{}", part.name),
-        area(part).to_string(),
+        part.area_name().to_string(),
         grouped(part.mwh),
         "MWh x".to_string(),
         part.price.0.to_string(),
@@ -102,7 +106,7 @@ fn table(why: &Why) -> String {
     for part in &why.parts {
         rows.push(csv_row([
             part.name.to_string(),
-            area(part).to_string(),
+            part.area_name().to_string(),
             part.mwh.to_string(),
             plain_euros(part.price.1),
             plain_euros(part.cents()),
@@ -116,7 +120,7 @@ fn object(name: &str, figures: &Figures, why: &Why) -> String {
     let part = |part: &Part| {
         Object::new()
             .string("part", part.name)
-            .string("area", area(part))
+            .string("area", part.area_name())
             .put("mwh", part.mwh)
             .put("price_cents", part.price.1)
             .put("cents", part.cents())

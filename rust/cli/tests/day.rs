@@ -171,7 +171,9 @@ fn many_books() {
         let book = daybook::read(bytes).expect("a book");
         let totals = totals(Request::new(), bytes, &book).expect("totals");
         let (users, trades) = (book.users.len(), book.trades.len());
-        assert_eq!(row.found, Found::Day(book.date, users, trades, totals));
+        let found = row.as_ref().map(|row| row.found.clone());
+        let day = Found::Day(book.date, users, trades, totals);
+        assert_eq!(found, Ok(day));
     }
     fs::write(folder.join("x.gdb"), b"GDB").expect("a file");
     fs::write(folder.join("y.txt"), b"daybook one\n").expect("a file");
@@ -301,9 +303,19 @@ fn changes() {
         ("date 2026-02-30", "refused by question 4"),
         ("trade 1 standing 30,001", "refused by question 6"),
         ("users", "change:1:1: `users`: a change starts with"),
+        ("", "change:1:1: a change is missing"),
+        ("prices", "change:1:7: a price is missing"),
+        ("user 101", "change:1:9: a field is missing"),
+        ("trade 1 ", "change:1:9: a field is missing"),
+        ("user 101 assigned", "change:1:18: assigned is missing"),
     ] {
         let outcome = done(&["change", sample, words]);
         assert_eq!(outcome.status, Status::Refused, "{words}");
         assert!(outcome.messages.contains(told), "{}", outcome.messages);
     }
+    let outcome = done(&["change", sample, "trade 9 standing 0", "user 101 blocked x"]);
+    let places: Vec<&str> = outcome.messages.lines().map(|line| &line[..11]).collect();
+    assert_eq!(places, ["change:1:7:", "change:2:18"]);
+    let outcome = done(&["change", sample, "date 2026-03-19", "-o", "-"]);
+    assert_eq!(outcome.messages, "date 2026-03-18 -> 2026-03-19\n");
 }

@@ -17,27 +17,9 @@ pub fn read_file(
     mistakes: &mut Vec<Mistake>,
     mut take: impl FnMut(&Row),
 ) {
-    if let Some(mistake) = too_long(file, bytes) {
-        return mistakes.push(mistake);
-    }
-    let bytes = bytes.strip_prefix(b"\xef\xbb\xbf").unwrap_or(bytes);
-    let at = |line: usize| Spot {
-        file,
-        line,
-        column: 1,
-    };
-    let text = match std::str::from_utf8(bytes) {
+    let text = match text_of(file, bytes) {
         Ok(text) => text,
-        Err(error) => {
-            let before = &bytes[..error.valid_up_to()];
-            let line = before.iter().filter(|byte| **byte == b'\n').count() + 1;
-            let reason = "the file is not in UTF-8 here".to_string();
-            mistakes.push(Mistake {
-                spot: at(line),
-                reason,
-            });
-            return;
-        }
+        Err(mistake) => return mistakes.push(mistake),
     };
     let semicolons = text.lines().next().is_some_and(|line| line.contains(';'));
     let separator = if semicolons { ';' } else { ',' };
@@ -47,47 +29,64 @@ pub fn read_file(
         if line.trim().trim_matches(separator).is_empty() {
             continue;
         }
+        let start = start_of(file, place + 1);
         let read = cells(file, place + 1, line, separator);
-        let read = read
-            .map_err(|it| vec![it])
-            .and_then(|cells| match &columns {
-                None => {
-                    let found = columns_of(&cells, names, optional, at(place + 1));
-                    columns = Some(found.map_err(|it| vec![it])?);
-                    Ok(())
+        let some = match (read, &columns) {
+            (Err(mistake), _) => vec![mistake],
+            (Ok(cells), None) => match columns_of(&cells, names, optional, start) {
+                Ok(found) => {
+                    columns = Some(found);
+                    Vec::new()
                 }
-                Some(columns) => {
-                    let row = Row {
-                        names,
-                        columns,
-                        cells: &cells,
-                        end: at(place + 1),
-                        decimal_comma: semicolons,
-                        mistakes: RefCell::default(),
-                    };
-                    row.count().map_err(|it| vec![it])?;
-                    take(&row);
-                    match row.mistakes.into_inner() {
-                        none if none.is_empty() => Ok(()),
-                        some => Err(some),
-                    }
+                Err(mistake) => vec![mistake],
+            },
+            (Ok(cells), Some(columns)) => {
+                let row = Row {
+                    names,
+                    columns,
+                    cells: &cells,
+                    start,
+                    decimal_comma: semicolons,
+                    mistakes: RefCell::default(),
+                };
+                match row.count() {
+                    Ok(()) => take(&row),
+                    Err(mistake) => row.mistakes.borrow_mut().push(mistake),
                 }
-            });
-        if let Err(some) = read {
-            let room = most.saturating_sub(mistakes.len());
-            mistakes.extend(some.into_iter().take(room));
-            if mistakes.len() >= most || columns.is_none() {
-                return;
+                row.mistakes.into_inner()
             }
+        };
+        let room = most.saturating_sub(mistakes.len());
+        mistakes.extend(some.into_iter().take(room));
+        if mistakes.len() >= most || columns.is_none() {
+            return;
         }
     }
     if columns.is_none() {
         let reason = format!("the first line has the names {}", names.join(","));
-        mistakes.push(Mistake {
-            spot: at(1),
-            reason,
-        });
+        let spot = start_of(file, 1);
+        mistakes.push(Mistake { spot, reason });
     }
+}
+
+fn start_of(file: &'static str, line: usize) -> Spot {
+    let column = 1;
+    Spot { file, line, column }
+}
+
+/// The text of a file, without its byte order mark.
+fn text_of<'a>(file: &'static str, bytes: &'a [u8]) -> Result<&'a str, Mistake> {
+    if let Some(mistake) = too_long(file, bytes) {
+        return Err(mistake);
+    }
+    let bytes = bytes.strip_prefix(b"\xef\xbb\xbf").unwrap_or(bytes);
+    std::str::from_utf8(bytes).map_err(|error| {
+        let before = &bytes[..error.valid_up_to()];
+        let line = before.iter().filter(|byte| **byte == b'\n').count() + 1;
+        let reason = "the file is not in UTF-8 here".to_string();
+        let spot = start_of(file, line);
+        Mistake { spot, reason }
+    })
 }
 
 /// For each name the column that it stands over.
@@ -189,7 +188,7 @@ pub struct Row<'a> {
     columns: &'a [Option<usize>],
     cells: &'a [Cell],
     /// Where the row is, for a field that it lacks.
-    end: Spot,
+    start: Spot,
     decimal_comma: bool,
     mistakes: RefCell<Vec<Mistake>>,
 }
@@ -205,7 +204,7 @@ impl Row<'_> {
     }
 
     pub fn spot(&self, name: usize) -> Spot {
-        self.cell(name).map_or(self.end, |cell| cell.spot)
+        self.cell(name).map_or(self.start, |cell| cell.spot)
     }
 
     pub fn is_empty(&self, name: usize) -> bool {
