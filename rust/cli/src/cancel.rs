@@ -4,7 +4,8 @@
 use daybook::{Book, Trade};
 
 use crate::arguments::Arguments;
-use crate::calls::{answer, Call};
+use crate::call::{answer, Call};
+use crate::form::Form;
 use crate::json::list;
 use crate::outcome::{Failure, Outcome};
 use crate::reasons::Asked;
@@ -13,7 +14,11 @@ use crate::trace::tariffs;
 use crate::words::{counted, euros, grouped};
 
 pub fn cancel(arguments: &Arguments) -> Result<Outcome, Failure> {
-    arguments.expect(2, 2, "cancel BOOK ID [--tries N] [--store FILE] [--json]")?;
+    arguments.expect(
+        2,
+        2,
+        "cancel BOOK ID [--tries N] [--csv|--json] [--store FILE]",
+    )?;
     let id = arguments.id(1)?;
     let tries = arguments.number("--tries")?;
     let tries = u32::try_from(tries.unwrap_or(u64::from(daybook::MOST_TRIES)))
@@ -63,7 +68,7 @@ pub fn cancel(arguments: &Arguments) -> Result<Outcome, Failure> {
         .put("tries", found.tries)
         .put("complete", found.complete);
     call.tell(&mut outcome, line, object);
-    if !call.json {
+    if call.form == Form::Words {
         let cells = |place: &usize| {
             let mut cells = book.trades.get(*place).map_or_else(Vec::new, trade_cells);
             cells.insert(0, format!("{}:", place + 1));

@@ -25,7 +25,7 @@ pub fn check(arguments: &Arguments) -> Result<Outcome, Failure> {
             .and_then(|bytes| accepted(&name, bytes))
             .and_then(|source| with_store(source, &store));
         match verdict {
-            Err(failure) => outcome.fail(&failure, json),
+            Err(failure) => outcome.answer(&failure, json),
             Ok(source) => outcome.line(told(&source, json)),
         }
     }

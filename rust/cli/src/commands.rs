@@ -3,8 +3,12 @@
 use std::ffi::OsString;
 
 use crate::arguments::{Arguments, Known};
+use crate::files::is_standard;
 use crate::outcome::{Failure, Outcome};
-use crate::{calls, cancel, check, convert, explain, list, parameters, report, shrinkage};
+use crate::{
+    calls, cancel, change, check, compare, convert, due, explain, list, parameters, report, run,
+    shrinkage, status, table,
+};
 
 /// A command of the program.
 pub struct Command {
@@ -18,12 +22,14 @@ pub struct Command {
 }
 
 const JSON: Known = Known::Flag("--json");
+const CSV: Known = Known::Flag("--csv");
 const STORE: Known = Known::Value("--store");
 const OUTPUT: Known = Known::Value("-o");
 const FORCE: Known = Known::Flag("--force");
 const IN_PLACE: Known = Known::Flag("--in-place");
 const ASKING: &[Known] = &[STORE, JSON];
-const CHANGING: &[Known] = &[STORE, JSON, OUTPUT, FORCE, IN_PLACE];
+const ANSWERING: &[Known] = &[STORE, CSV, JSON];
+const CHANGING: &[Known] = &[STORE, CSV, JSON, OUTPUT, FORCE, IN_PLACE];
 
 /// Every command, in the order of the help.
 pub const COMMANDS: &[Command] = &[
@@ -63,24 +69,58 @@ pub const COMMANDS: &[Command] = &[
         run: convert::from_csv,
     },
     Command {
+        name: "status",
+        about: "who is short, who is to be called, what deposits keep every trade",
+        page: include_str!("../help/status.txt"),
+        options: &[
+            Known::Flag("--after"),
+            Known::Value("--why"),
+            CSV,
+            JSON,
+            STORE,
+        ],
+        run: status::status,
+    },
+    Command {
+        name: "table",
+        about: "many books side by side, a row each",
+        page: include_str!("../help/table.txt"),
+        options: &[CSV, JSON, STORE],
+        run: table::table,
+    },
+    Command {
+        name: "compare",
+        about: "what differs between two books, or between their runs",
+        page: include_str!("../help/compare.txt"),
+        options: &[Known::Flag("--run"), CSV, JSON, STORE],
+        run: compare::compare,
+    },
+    Command {
+        name: "change",
+        about: "fields of a book set anew, in the words of the text form",
+        page: include_str!("../help/change.txt"),
+        options: &[OUTPUT, FORCE, IN_PLACE],
+        run: change::change,
+    },
+    Command {
         name: "show",
         about: "the records of users",
         page: include_str!("../help/show.txt"),
-        options: ASKING,
+        options: ANSWERING,
         run: calls::show,
     },
     Command {
         name: "level",
         about: "the morning and the afternoon level of shippers",
         page: include_str!("../help/level.txt"),
-        options: ASKING,
+        options: ANSWERING,
         run: calls::level,
     },
     Command {
         name: "warn",
         about: "which shippers are warned at midday",
         page: include_str!("../help/warn.txt"),
-        options: ASKING,
+        options: ANSWERING,
         run: calls::warn,
     },
     Command {
@@ -90,6 +130,7 @@ pub const COMMANDS: &[Command] = &[
         options: &[
             Known::Flag("--morning"),
             Known::Flag("--afternoon"),
+            CSV,
             STORE,
             JSON,
             OUTPUT,
@@ -97,6 +138,22 @@ pub const COMMANDS: &[Command] = &[
             IN_PLACE,
         ],
         run: calls::guarantee_call,
+    },
+    Command {
+        name: "calls",
+        about: "every guarantee call that is due, made at once",
+        page: include_str!("../help/calls.txt"),
+        options: &[
+            Known::Flag("--morning"),
+            Known::Flag("--afternoon"),
+            CSV,
+            STORE,
+            JSON,
+            OUTPUT,
+            FORCE,
+            IN_PLACE,
+        ],
+        run: due::calls,
     },
     Command {
         name: "post",
@@ -123,7 +180,7 @@ pub const COMMANDS: &[Command] = &[
         name: "cancel",
         about: "whole trades to cancel in place of a reduction",
         page: include_str!("../help/cancel.txt"),
-        options: &[Known::Value("--tries"), STORE, JSON],
+        options: &[Known::Value("--tries"), STORE, CSV, JSON],
         run: cancel::cancel,
     },
     Command {
@@ -131,7 +188,7 @@ pub const COMMANDS: &[Command] = &[
         about: "the day's reductions, and each user's state after them",
         page: include_str!("../help/run.txt"),
         options: CHANGING,
-        run: calls::run,
+        run: run::run,
     },
     Command {
         name: "explain",
@@ -188,11 +245,17 @@ fn done(command: &Command, words: &[OsString]) -> Outcome {
         Ok(arguments) => arguments,
         Err(failure) => return hinted(command, failure).into(),
     };
-    (command.run)(&arguments).unwrap_or_else(|failure| {
+    let mut outcome = (command.run)(&arguments).unwrap_or_else(|failure| {
         let mut outcome = Outcome::default();
         outcome.fail(&hinted(command, failure), arguments.has("--json"));
         outcome
-    })
+    });
+    let output = arguments.path("-o");
+    let is_changing = command.options.contains(&IN_PLACE);
+    if is_changing && output.is_some_and(|path| is_standard(&path)) {
+        outcome.tell_beside();
+    }
+    outcome
 }
 
 /// Misuse is told with the page that says more.

@@ -1,7 +1,7 @@
 //! `daybook text`, `book`, `csv` and `from-csv`: a book in its other forms.
 
 use std::fs;
-use std::path::Path;
+use std::path::PathBuf;
 
 use crate::arguments::Arguments;
 use crate::csv;
@@ -11,6 +11,7 @@ use crate::outcome::{Failure, Outcome};
 use crate::refusals;
 use crate::source::open;
 use crate::text;
+use crate::write;
 
 pub fn text(arguments: &Arguments) -> Result<Outcome, Failure> {
     arguments.expect(1, 1, "text BOOK [--positions] [-o FILE [--force]]")?;
@@ -38,18 +39,15 @@ pub fn csv(arguments: &Arguments) -> Result<Outcome, Failure> {
         .map_err(|refusal| refusals::of_book(&source.name, refusal, &[]))?;
     let folder = arguments.file(1);
     let over = arguments.has("--force");
-    let there = csv::FILES.iter().find(|file| folder.join(file).exists());
-    if let (Some(file), false) = (there, over) {
-        let hint = "is there already; --force puts the new one over it";
-        return Err(Failure::file(format!(
-            "{}: {hint}",
-            folder.join(file).display()
-        )));
-    }
-    fs::create_dir_all(folder)
-        .map_err(|error| Failure::file(format!("{}: cannot be made: {error}", folder.display())))?;
-    for (file, text) in csv::FILES.iter().zip(csv::write(&book)) {
-        files::write(&folder.join(file), text.as_bytes(), over)?;
+    let texts = csv::write(&book);
+    let files = csv::FILES.iter().zip(&texts);
+    let files: Vec<(&str, &[u8])> = files.map(|(file, text)| (*file, text.as_bytes())).collect();
+    match fs::symlink_metadata(folder) {
+        Err(_) => write::write_folder(folder, &files)?,
+        Ok(_) => {
+            let files = files.iter().map(|(file, text)| (folder.join(file), *text));
+            write::write_all(&files.collect::<Vec<(PathBuf, &[u8])>>(), over, &[])?;
+        }
     }
     Ok(Outcome::default())
 }
@@ -87,7 +85,7 @@ pub fn output(arguments: &Arguments, bytes: &[u8]) -> Result<Outcome, Failure> {
     let mut outcome = Outcome::default();
     match arguments.path("-o") {
         Some(path) if !files::is_standard(&path) => {
-            files::write(Path::new(&path), bytes, arguments.has("--force"))?;
+            write::write(&path, bytes, arguments.has("--force"))?;
         }
         _ => outcome.out.extend(bytes),
     }

@@ -35,6 +35,23 @@ pub struct Mistake {
 /// The mistakes of one input; after the most that are told, reading stops.
 pub const MOST_MISTAKES: usize = 20;
 
+/// The longest text or table that is read, far above the longest that is a book.
+pub const LONGEST: usize = 1 << 20;
+
+/// Why a text is not read at all: it is too long.
+pub fn too_long(file: &'static str, bytes: &[u8]) -> Option<Mistake> {
+    let most = LONGEST >> 20;
+    let reason = format!("the text is longer than {most} MB, and no book, list or store is");
+    (bytes.len() > LONGEST).then_some(Mistake {
+        spot: Spot {
+            file,
+            line: 1,
+            column: 1,
+        },
+        reason,
+    })
+}
+
 /// The fields of a record that were written, and where.
 pub type Spots = Vec<(Field, Spot)>;
 
@@ -85,10 +102,10 @@ impl Draft {
             Ok(()) => Ok(bytes),
             Err(refusal) => {
                 let faults = faults::faults_of(&self.book, refusal.number());
-                let faults = faults.into_iter().map(|fault| (self.spot(&fault), fault));
+                let told = |fault: Fault| (self.spot(&fault), self.with_twin(fault));
                 Err(Refused {
                     refusal,
-                    faults: faults.collect(),
+                    faults: faults.into_iter().map(told).collect(),
                 })
             }
         }
@@ -102,13 +119,23 @@ impl Draft {
         for place in 0..self.book.users.len() {
             for area in 0..3 {
                 if !is_in(&self.users[place], Field::Position(area)) {
-                    let user = &self.book.users[place];
-                    let position = faults::defined_position(&self.book, user, area);
-                    // A position beyond 32 bits comes of amounts that are refused before it.
-                    self.book.users[place].position[area] = i32::try_from(position).unwrap_or(0);
+                    define_position(&mut self.book, place, area);
                 }
             }
         }
+    }
+
+    /// An id that is there twice is told with the line of the first.
+    fn with_twin(&self, mut fault: Fault) -> Fault {
+        let twin = match (fault.place, fault.field) {
+            (Place::User(place), Field::Id) => faults::earlier(&self.book, place),
+            _ => None,
+        };
+        if let Some(spots) = twin.and_then(|twin| self.users.get(twin)) {
+            let line = spots.first().map_or(0, |(_, spot)| spot.line);
+            fault.reason.push_str(&format!(", in line {line}"));
+        }
+        fault
     }
 
     /// Where a fault is written: the field, or else its record.
@@ -131,6 +158,13 @@ impl Draft {
             |(_, spot)| *spot,
         )
     }
+}
+
+/// Sets the position of a user as document 01 defines it. One beyond 32 bits comes
+/// of amounts that are refused before it.
+pub fn define_position(book: &mut Book, place: usize, area: usize) {
+    let position = faults::defined_position(book, &book.users[place], area);
+    book.users[place].position[area] = i32::try_from(position).unwrap_or(0);
 }
 
 fn is_in(spots: &Spots, field: Field) -> bool {

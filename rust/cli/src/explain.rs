@@ -1,12 +1,14 @@
 //! `daybook explain`: a run in words, reduction by reduction.
 
 use crate::arguments::Arguments;
-use crate::calls::{reduction_object, run_line};
+use crate::calls::reduction_object;
 use crate::credit::{by_area, lines, Credited};
+use crate::form::or_null;
 use crate::json::{list, Object};
 use crate::outcome::{Failure, Outcome};
 use crate::reasons::Asked;
 use crate::refusals::of_call;
+use crate::run::run_line;
 use crate::source::{open, Store};
 use crate::store::{figures, Figures};
 use crate::text::aligned;
@@ -61,6 +63,7 @@ fn objects(outcome: &mut Outcome, trace: &Trace) {
     let run = &trace.run;
     let object = Object::new()
         .put("reductions", run.reductions)
+        .put("shown", trace.first.len() + trace.last.len())
         .put("taken_apart", trace.taken)
         .put("mwh", run.mwh)
         .put("worth_cents", run.worth);
@@ -91,13 +94,10 @@ fn step_object(step: &Step) -> String {
             .put("after_mwh", it.after)
             .end()
     });
-    let next = step
-        .next
-        .map_or_else(|| "null".to_string(), |id| id.to_string());
     reduction_object(object, &step.answer)
         .put("tiers", list(step.tiers.iter().map(tier_object)))
         .put("moves", list(moves))
-        .put("next", next)
+        .put("next", or_null(step.next))
         .end()
 }
 
@@ -140,23 +140,27 @@ fn words(outcome: &mut Outcome, trace: &Trace, figures: &Figures) {
         outcome.text(&step_words(step, figures, least));
     }
     outcome.line(format!("run: {}", run_line(&trace.run)));
-    let rows: Vec<Vec<String>> = reduced(trace);
-    outcome.text(&aligned(&rows));
     if trace.taken < trace.run.reductions {
-        let taken = grouped(trace.taken);
-        let reason = "the users' reductions are counted up to there, and the last are not shown";
+        let taken = counted(
+            usize::try_from(trace.taken).unwrap_or(usize::MAX),
+            "reduction",
+        );
+        let unshown = "the last of the run are not shown";
         outcome.line(format!(
-            "taken apart up to reduction {taken} (--steps N): {reason}"
+            "the first {taken} taken apart (--steps N), {unshown}; in these:"
         ));
     }
+    let rows: Vec<Vec<String>> = reduced(trace);
+    outcome.text(&aligned(&rows));
 }
 
-/// A line for each user that was reduced: how often, and what it lost. The MWh
-/// are what its sales stand lower after the run than before.
+/// A line for each user that was reduced: how often, and what it lost, both in
+/// the reductions that were taken apart. The MWh are what its sales stand lower
+/// after these than before.
 fn reduced(trace: &Trace) -> Vec<Vec<String>> {
     let mut rows = Vec::new();
     for (id, count) in trace.counts.iter().filter(|(_, count)| *count > 0) {
-        let trades = trace.opening.trades.iter().zip(&trace.closing.trades);
+        let trades = trace.opening.trades.iter().zip(&trace.reached.trades);
         let lost = trades.filter(|(trade, _)| trade.seller == *id);
         let lost: u64 = lost
             .map(|(a, b)| u64::from(a.standing.saturating_sub(b.standing)))

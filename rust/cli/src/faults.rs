@@ -211,7 +211,9 @@ fn users(book: &Book) -> Vec<Fault> {
         match before {
             _ if user.id == 0 => fault(Field::Id, "an id is not 0".to_string()),
             Some(before) if user.id <= before => {
-                fault(Field::Id, format!("not above the id before it, {before}"));
+                let twin = earlier(book, place).map(|twin| format!("the id of user {}", twin + 1));
+                let unsorted = || format!("not above the id before it, {before}");
+                fault(Field::Id, twin.unwrap_or_else(unsorted));
             }
             _ => {}
         }
@@ -246,6 +248,12 @@ fn users(book: &Book) -> Vec<Fault> {
         }
     }
     faults
+}
+
+/// The user before a place that has its id.
+pub fn earlier(book: &Book, place: usize) -> Option<usize> {
+    let id = book.users.get(place)?.id;
+    book.users[..place].iter().position(|user| user.id == id)
 }
 
 /// Question 6, but for the zero bytes.

@@ -1,14 +1,13 @@
-//! Files: read whole, written anew, or put over an old one by an atomic rename.
+//! Files that are read: whole, and held from reading to rename where they are
+//! written over. How files are written is in `write.rs`.
 
-use std::ffi::OsString;
-use std::fs::{self, File, OpenOptions};
-use std::io::{self, Read, Write};
-use std::path::{Path, PathBuf};
-use std::process;
+use std::fs::{self, File, Metadata};
+use std::io::{self, Read};
+use std::path::Path;
 
 use crate::outcome::Failure;
 
-/// The longest file that is read, far above the longest book in any form.
+/// The longest file that is read, far above the longest book in bytes.
 const LONGEST: u64 = 64 << 20;
 
 /// A file name as it is shown in messages.
@@ -31,16 +30,29 @@ pub fn read(path: &Path) -> Result<Vec<u8>, Failure> {
     } else {
         File::open(path).and_then(bytes)
     };
-    let failed = |reason: &dyn std::fmt::Display| {
-        Failure::file(format!("{}: cannot be read: {reason}", shown(path)))
-    };
+    whole(path, read)
+}
+
+/// What was read of a file, or why it cannot be.
+fn whole(path: &Path, read: io::Result<Vec<u8>>) -> Result<Vec<u8>, Failure> {
+    let name = shown(path);
     match read {
         Ok(bytes) if bytes.len() as u64 > LONGEST => {
-            Err(failed(&format!("it is longer than {} MB", LONGEST >> 20)))
+            let most = LONGEST >> 20;
+            let reason = format!("cannot be read: it is longer than {most} MB");
+            Err(Failure::file(format!("{name}: {reason}")))
         }
         Ok(bytes) => Ok(bytes),
-        Err(error) => Err(failed(&error)),
+        Err(error) if error.kind() == io::ErrorKind::IsADirectory => {
+            let hint = "a book is one file; `daybook from-csv` makes one of a folder's CSV files";
+            Err(Failure::file(format!("{name}: is a folder; {hint}")))
+        }
+        Err(error) => Err(unread(path, &error)),
     }
+}
+
+fn unread(path: &Path, error: &io::Error) -> Failure {
+    Failure::file(format!("{}: cannot be read: {error}", shown(path)))
 }
 
 fn bytes(source: impl Read) -> io::Result<Vec<u8>> {
@@ -49,61 +61,61 @@ fn bytes(source: impl Read) -> io::Result<Vec<u8>> {
     Ok(bytes)
 }
 
-/// Writes a file that is not there yet, or, where that is asked for, puts it
-/// over the old one.
-pub fn write(path: &Path, bytes: &[u8], over: bool) -> Result<(), Failure> {
-    if over {
-        return replace(path, bytes);
+/// A regular file that nobody else of the program writes over while this lives.
+#[derive(Debug)]
+pub struct Held {
+    /// The lock goes with the file.
+    file: File,
+    identity: Metadata,
+}
+
+impl Held {
+    /// Holds a regular file. Who waits for it meets the file that has taken its name
+    /// in the meantime: a rename leaves the lock with the old file, so that the name
+    /// is looked up again once the lock is there.
+    pub fn new(path: &Path) -> Result<Held, Failure> {
+        loop {
+            let named = fs::metadata(path).map_err(|error| unread(path, &error))?;
+            if !named.is_file() {
+                let reason = "is no regular file; --in-place needs one";
+                return Err(Failure::file(format!("{}: {reason}", shown(path))));
+            }
+            let file = File::open(path).map_err(|error| unread(path, &error))?;
+            let locked = file.lock().and_then(|()| file.metadata());
+            let identity = locked.map_err(|error| {
+                let name = shown(path);
+                Failure::file(format!("{name}: cannot be locked: {error}"))
+            })?;
+            let held = Held { file, identity };
+            // Gone while it was waited for: the next turn says so.
+            if held.is_named(path) {
+                return Ok(held);
+            }
+        }
     }
-    let created = OpenOptions::new().write(true).create_new(true).open(path);
-    let written = match created {
-        Ok(mut file) => file.write_all(bytes).and_then(|()| file.sync_all()),
-        Err(error) if error.kind() == io::ErrorKind::AlreadyExists => {
-            let hint = "is there already; --force puts the new one over it";
-            return Err(Failure::file(format!("{}: {hint}", path.display())));
-        }
-        Err(error) => return Err(unwritten(path, &error)),
-    };
-    written.map_err(|error| {
-        // A part of a file is worth nothing.
-        let _ = fs::remove_file(path);
-        unwritten(path, &error)
-    })
+
+    /// Whether a name leads to this file.
+    pub fn is_named(&self, path: &Path) -> bool {
+        fs::metadata(path).is_ok_and(|named| is_same(&named, &self.identity))
+    }
+
+    /// The bytes of the file, which is told by this name.
+    pub fn read(&self, path: &Path) -> Result<Vec<u8>, Failure> {
+        whole(path, bytes(&self.file))
+    }
 }
 
-/// Puts bytes over a file: a new file beside it takes its name and permissions
-/// in one step, so that a reader sees the old bytes or the new ones.
-pub fn replace(path: &Path, bytes: &[u8]) -> Result<(), Failure> {
-    // A link stays a link: the file behind it is replaced.
-    let path = fs::canonicalize(path).unwrap_or_else(|_| path.to_path_buf());
-    let beside = beside(&path);
-    let replaced = (|| {
-        let mut file = OpenOptions::new()
-            .write(true)
-            .create_new(true)
-            .open(&beside)?;
-        file.write_all(bytes)?;
-        if let Ok(old) = fs::metadata(&path) {
-            file.set_permissions(old.permissions())?;
-        }
-        file.sync_all()?;
-        fs::rename(&beside, &path)
-    })();
-    replaced.map_err(|error| {
-        // After a failure nothing is left beside; where it never was, this does nothing.
-        let _ = fs::remove_file(&beside);
-        unwritten(&path, &error)
-    })
+/// Whether both are of one file.
+#[cfg(unix)]
+pub fn is_same(one: &Metadata, other: &Metadata) -> bool {
+    use std::os::unix::fs::MetadataExt;
+
+    (one.dev(), one.ino()) == (other.dev(), other.ino())
 }
 
-/// The name of the new file while it is written.
-fn beside(path: &Path) -> PathBuf {
-    let mut name = OsString::from(".");
-    name.push(path.file_name().unwrap_or_default());
-    name.push(format!(".{}.new", process::id()));
-    path.with_file_name(name)
-}
-
-fn unwritten(path: &Path, error: &io::Error) -> Failure {
-    Failure::file(format!("{}: cannot be written: {error}", path.display()))
+/// Elsewhere a file has no number: its length and its times stand for it.
+#[cfg(not(unix))]
+pub fn is_same(one: &Metadata, other: &Metadata) -> bool {
+    let about = |it: &Metadata| (it.len(), it.created().ok(), it.modified().ok());
+    about(one) == about(other)
 }

@@ -1,11 +1,16 @@
-//! JSON, one object a line. Amounts are whole numbers: cents, MWh, kWh.
+//! JSON, one object a line. Amounts are whole numbers: cents, MWh, kWh. The same
+//! object is a row for a spreadsheet, with its money in euros.
 
 use std::fmt::Display;
+
+use crate::words::{plain_euros, AREAS};
 
 /// An object on its way.
 #[derive(Clone, Debug)]
 pub struct Object {
     text: String,
+    /// The keys and values as they were given.
+    fields: Vec<(String, String)>,
 }
 
 impl Default for Object {
@@ -18,6 +23,7 @@ impl Object {
     pub fn new() -> Object {
         Object {
             text: "{".to_string(),
+            fields: Vec::new(),
         }
     }
 
@@ -32,7 +38,9 @@ impl Object {
     /// Adds a number, or text that is JSON already.
     pub fn put(mut self, key: &str, value: impl Display) -> Object {
         self.key(key);
-        self.text.push_str(&value.to_string());
+        let value = value.to_string();
+        self.text.push_str(&value);
+        self.fields.push((key.to_string(), value));
         self
     }
 
@@ -40,7 +48,36 @@ impl Object {
     pub fn string(mut self, key: &str, value: &str) -> Object {
         self.key(key);
         self.text.push_str(&quoted(value));
+        self.fields.push((key.to_string(), value.to_string()));
         self
+    }
+
+    /// The names and fields of a row: three amounts by area in a column each, cents
+    /// as euros, nothing for null.
+    pub fn columns(&self) -> Vec<(String, String)> {
+        let mut columns = Vec::new();
+        for (key, value) in &self.fields {
+            let listed = value.strip_prefix('[').and_then(|it| it.strip_suffix(']'));
+            let parts: Vec<&str> = listed.map_or_else(Vec::new, |it| it.split(',').collect());
+            let (name, is_money) = match key.strip_suffix("_cents") {
+                Some(name) => (name, true),
+                None => (key.as_str(), false),
+            };
+            let shown = |value: &str| match value.parse::<i128>() {
+                Ok(cents) if is_money => plain_euros(cents),
+                _ if value == "null" => String::new(),
+                _ => value.to_string(),
+            };
+            let by_area = is_money || key.ends_with("_mwh");
+            match by_area && parts.len() == AREAS.len() {
+                true => {
+                    let parts = AREAS.iter().zip(parts);
+                    columns.extend(parts.map(|(area, it)| (format!("{name}_{area}"), shown(it))));
+                }
+                false => columns.push((name.to_string(), shown(value))),
+            }
+        }
+        columns
     }
 
     pub fn end(mut self) -> String {
@@ -87,5 +124,16 @@ mod tests {
             "{\"n\":1,\"s\":\"a\\\"\\\\\\u000a\",\"l\":[1,2]}"
         );
         assert_eq!(Object::new().end(), "{}");
+        let object = Object::new()
+            .put("id", 7)
+            .put("level_cents", -5)
+            .put("position_mwh", list([1, -2, 3]))
+            .put("afternoon_cents", "null");
+        let columns = object.columns();
+        let columns: Vec<String> = columns.iter().map(|(a, b)| format!("{a}={b}")).collect();
+        assert_eq!(
+            columns.join(" "),
+            "id=7 level=-0.05 position_mwh_PVB=1 position_mwh_TVB=-2 position_mwh_AVB=3 afternoon="
+        );
     }
 }

@@ -4,9 +4,10 @@
 use daybook::{Line, Refusal};
 
 use crate::arguments::Arguments;
-use crate::calls::{keep, Call};
+use crate::call::Call;
 use crate::csv::read_corrections;
 use crate::files;
+use crate::form::Form;
 use crate::json::Object;
 use crate::outcome::{Failure, Outcome, Status};
 use crate::reasons::{reason, Asked};
@@ -15,7 +16,7 @@ use crate::text::aligned;
 use crate::words::{grouped, word, AREAS};
 
 pub fn list(arguments: &Arguments) -> Result<Outcome, Failure> {
-    let usage = "list BOOK FILE.csv [-o FILE|--in-place] [--store FILE] [--json]";
+    let usage = "list BOOK FILE.csv [-o FILE|--in-place] [--csv|--json] [--store FILE]";
     arguments.expect(2, 2, usage)?;
     let call = Call::new(arguments)?;
     let path = arguments.file(1);
@@ -39,16 +40,19 @@ pub fn list(arguments: &Arguments) -> Result<Outcome, Failure> {
     let reasons = reasons(&call, &lines, &answers);
     let mut table = Vec::new();
     for (((row, line), answer), reason) in rows.iter().zip(&answers).zip(reasons) {
-        match call.json {
-            true => outcome.line(object(*row, line, *answer, &reason)),
-            false => table.push(cells(*row, line, *answer, reason)),
+        match call.form {
+            Form::Words => table.push(cells(*row, line, *answer, reason)),
+            form => {
+                let object = object(*row, line, *answer, &reason, form == Form::Csv);
+                call.tell(&mut outcome, String::new(), object);
+            }
         }
         if answer.is_err() {
             outcome.status = Status::Refused;
         }
     }
     outcome.text(&aligned(&table));
-    keep(arguments, &call.source, &bytes, &mut outcome)?;
+    call.keep(arguments, &bytes, &mut outcome)?;
     Ok(outcome)
 }
 
@@ -96,7 +100,14 @@ fn cells(row: usize, line: &Line, answer: Result<(), Refusal>, reason: String) -
     ]
 }
 
-fn object(row: usize, line: &Line, answer: Result<(), Refusal>, reason: &str) -> String {
+/// A line as an object; a row has its reason even where there is none.
+fn object(
+    row: usize,
+    line: &Line,
+    answer: Result<(), Refusal>,
+    reason: &str,
+    is_row: bool,
+) -> Object {
     let number = answer.map_or_else(Refusal::number, |()| 0);
     let object = Object::new()
         .put("line", row)
@@ -104,8 +115,8 @@ fn object(row: usize, line: &Line, answer: Result<(), Refusal>, reason: &str) ->
         .put("id", line.id)
         .string("area", &area_word(line.area))
         .put("mwh", line.amount);
-    match reason.is_empty() {
-        true => object.end(),
-        false => object.string("reason", reason).end(),
+    match reason.is_empty() && !is_row {
+        true => object,
+        false => object.string("reason", reason),
     }
 }

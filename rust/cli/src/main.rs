@@ -18,8 +18,13 @@ fn main() -> ExitCode {
     match out.write_all(&outcome.out).and_then(|()| out.flush()) {
         // A reader that has gone away needs no more.
         Err(error) if error.kind() != io::ErrorKind::BrokenPipe => {
-            let _ = writeln!(io::stderr(), "standard output: cannot be written: {error}");
-            ExitCode::from(Status::Misuse.code())
+            let (changed, status) = match &outcome.written {
+                Some(file) => (format!("; {file} is written"), Status::Untold),
+                None => (String::new(), Status::Misuse),
+            };
+            let reason = format!("cannot be written: {error}{changed}");
+            let _ = writeln!(io::stderr(), "standard output: {reason}");
+            ExitCode::from(status.code())
         }
         _ => ExitCode::from(outcome.status.code()),
     }

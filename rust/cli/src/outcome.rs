@@ -13,6 +13,8 @@ pub enum Status {
     Refused,
     /// 2: the command cannot be done as it was given.
     Misuse,
+    /// 3: a file was written, but what is said about it could not be.
+    Untold,
 }
 
 impl Status {
@@ -21,6 +23,7 @@ impl Status {
             Status::Accepted => 0,
             Status::Refused => 1,
             Status::Misuse => 2,
+            Status::Untold => 3,
         }
     }
 }
@@ -33,6 +36,10 @@ pub struct Outcome {
     /// For standard error.
     pub messages: String,
     pub status: Status,
+    /// A changed book for standard output, which then has nothing else.
+    pub book: Option<Vec<u8>>,
+    /// The file that was written, where one was.
+    pub written: Option<String>,
 }
 
 impl Outcome {
@@ -49,6 +56,24 @@ impl Outcome {
     /// Adds a line to standard error.
     pub fn message(&mut self, line: impl Display) {
         self.messages.push_str(&format!("{line}\n"));
+    }
+
+    /// Leaves standard output to the changed book: what is told goes to standard
+    /// error.
+    pub fn tell_beside(&mut self) {
+        let told = std::mem::replace(&mut self.out, self.book.take().unwrap_or_default());
+        let told = String::from_utf8_lossy(&told).to_string();
+        self.messages.insert_str(0, &told);
+    }
+
+    /// Takes in a failure that is an answer where it is a refusal: a verdict, which
+    /// stands on standard output with the others.
+    pub fn answer(&mut self, failure: &Failure, json: bool) {
+        match failure {
+            Failure::Refused(Told { message, .. }) if !json => self.line(message),
+            _ => return self.fail(failure, json),
+        }
+        self.status = self.status.max(failure.status());
     }
 
     /// Takes in a failure: its message, or its object where that is wanted, and its

@@ -9,7 +9,7 @@ use daybook::{Book, Prices, Refusal, Request, User};
 
 use crate::arguments::Arguments;
 use crate::convert::output;
-use crate::draft::{Mistake, MOST_MISTAKES};
+use crate::draft::{too_long, Mistake, MOST_MISTAKES};
 use crate::files;
 use crate::outcome::{Failure, Outcome};
 use crate::refusals;
@@ -101,6 +101,9 @@ pub fn write(store: &[u8]) -> String {
 
 /// The store of a text, or its mistakes. The engine says whether it is well formed.
 pub fn read(bytes: &[u8]) -> Result<Vec<u8>, Vec<Mistake>> {
+    if let Some(mistake) = too_long("", bytes) {
+        return Err(vec![mistake]);
+    }
     let text = String::from_utf8_lossy(bytes);
     let (mut sets, mut mistakes, mut first) = (Vec::new(), Vec::new(), true);
     let mut version: u16 = 1;
@@ -114,8 +117,10 @@ pub fn read(bytes: &[u8]) -> Result<Vec<u8>, Vec<Mistake>> {
             false => set(&mut words).map(|set| sets.push(set)),
         };
         first = false;
+        mistakes.append(&mut words.mistakes);
         mistakes.extend(read.err());
-        if mistakes.len() == MOST_MISTAKES {
+        if mistakes.len() >= MOST_MISTAKES {
+            mistakes.truncate(MOST_MISTAKES);
             break;
         }
     }

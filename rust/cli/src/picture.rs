@@ -19,8 +19,8 @@ const TOP: usize = 64;
 const ARROW: usize = 30;
 const BETWEEN: usize = 12;
 
-/// The most users of a picture and its greatest height, but for a chapter that
-/// has more by itself.
+/// The most users of a picture and its greatest height; a chapter that has more is
+/// shown in several pieces.
 const MOST_USERS: usize = 7;
 const MOST_HEIGHT: usize = 640;
 
@@ -29,16 +29,23 @@ const MOST_HEIGHT: usize = 640;
 pub fn pictures(trace: &Trace, states: &[(u32, &'static str)]) -> Vec<String> {
     let ids: Vec<u32> = trace.opening.users.iter().map(|user| user.id).collect();
     let (first, last) = &trace.chapters;
-    let mut parts: Vec<Part> = Vec::new();
+    let mut pieces: Vec<(u64, Chapter)> = Vec::new();
     let mut shown = 0;
     for chapter in first.iter().chain(last) {
-        let before = chapter.first - shown - 1;
+        let mut before = chapter.first - shown - 1;
         shown = chapter.last;
+        for piece in in_pieces(chapter) {
+            pieces.push((before, piece));
+            before = 0;
+        }
+    }
+    let mut parts: Vec<Part> = Vec::new();
+    for (before, piece) in &pieces {
         match parts.last_mut() {
-            Some(part) if part.has_room(chapter) => part.add(before, chapter),
+            Some(part) if part.has_room(piece) => part.add(*before, piece),
             _ => {
                 let mut part = Part::default();
-                part.add(before, chapter);
+                part.add(*before, piece);
                 parts.push(part);
             }
         }
@@ -46,10 +53,34 @@ pub fn pictures(trace: &Trace, states: &[(u32, &'static str)]) -> Vec<String> {
     if let Some(part) = parts.last_mut() {
         part.after = trace.run.reductions.saturating_sub(shown);
     }
-    parts
-        .iter()
-        .map(|part| part.picture(&ids, states))
-        .collect()
+    let count = parts.len();
+    let picture = |(place, part): (usize, &Part)| part.picture(&ids, states, (place + 1, count));
+    parts.iter().enumerate().map(picture).collect()
+}
+
+/// A chapter in pieces of as many buyers as a picture has room for, all cuts of a
+/// buyer in one.
+fn in_pieces(chapter: &Chapter) -> Vec<Chapter> {
+    let mut buyers: Vec<u32> = Vec::new();
+    for (buyer, _, _) in &chapter.cuts {
+        if !buyers.contains(buyer) {
+            buyers.push(*buyer);
+        }
+    }
+    let piece = |buyers: &[u32]| {
+        let cuts = chapter.cuts.iter();
+        Chapter {
+            cuts: cuts
+                .filter(|cut| buyers.contains(&cut.0))
+                .copied()
+                .collect(),
+            ..chapter.clone()
+        }
+    };
+    match buyers.len() < MOST_USERS {
+        true => vec![chapter.clone()],
+        false => buyers.chunks(MOST_USERS - 1).map(piece).collect(),
+    }
 }
 
 /// Chapters that stand in one picture, each with how many reductions before it are
@@ -83,7 +114,12 @@ impl<'a> Part<'a> {
     }
 
     /// The picture, with the users in the order of the book.
-    fn picture(&self, book: &[u32], states: &[(u32, &'static str)]) -> String {
+    fn picture(
+        &self,
+        book: &[u32],
+        states: &[(u32, &'static str)],
+        (picture, count): (usize, usize),
+    ) -> String {
         let ids: Vec<u32> = book
             .iter()
             .copied()
@@ -110,6 +146,7 @@ impl<'a> Part<'a> {
                     beside,
                     y + ARROW / 2,
                     (*area, *mwh),
+                    picture,
                 ));
                 // The first arrow leaves from the mark, the others from the line.
                 beside = 0;
@@ -124,12 +161,23 @@ impl<'a> Part<'a> {
         }
         let lines: String = ids.iter().map(|id| user(*id, at(*id), y, states)).collect();
         let (height, least) = (y + BETWEEN, width * 4 / 5);
-        let label = "Who cut whom, from the first reduction down to the last";
+        let reductions = self.reductions();
+        let label = format!("Picture {picture} of {count}, who cut whom: {reductions}");
         format!(
             "<svg viewBox=\"0 0 {width} {height}\" style=\"max-width:{width}px;min-width:{least}px\" \
              role=\"img\" aria-label=\"{label}\">\n{}{lines}{rows}</svg>\n",
-            heads()
+            heads(picture)
         )
+    }
+
+    /// The reductions of the picture in words.
+    fn reductions(&self) -> String {
+        let first = self.chapters.first().map_or(0, |(_, it)| it.first);
+        let last = self.chapters.last().map_or(0, |(_, it)| it.last);
+        match first == last {
+            true => format!("reduction {}", grouped(first)),
+            false => format!("reductions {} to {}", grouped(first), grouped(last)),
+        }
     }
 }
 
@@ -152,11 +200,11 @@ fn number(chapter: &Chapter) -> String {
     }
 }
 
-/// The heads of the arrows, one for each area's colour.
-fn heads() -> String {
+/// The heads of a picture's arrows, one for each area's colour.
+fn heads(picture: usize) -> String {
     let head = |area: &str| {
         format!(
-            "<marker id=\"head-{area}\" viewBox=\"0 0 8 8\" refX=\"7\" refY=\"4\" \
+            "<marker id=\"head-{picture}-{area}\" viewBox=\"0 0 8 8\" refX=\"7\" refY=\"4\" \
              markerWidth=\"7\" markerHeight=\"7\" orient=\"auto-start-reverse\">\
              <path d=\"M0 0L8 4L0 8z\" class=\"{area} head\"/></marker>"
         )
@@ -198,7 +246,13 @@ fn mark(x: usize, y: usize, last: usize, number: &str) -> String {
 }
 
 /// A cut: from the seller's line, or beside it, to the buyer's.
-fn arrow((from, to): (usize, usize), beside: usize, y: usize, (area, mwh): (usize, u64)) -> String {
+fn arrow(
+    (from, to): (usize, usize),
+    beside: usize,
+    y: usize,
+    (area, mwh): (usize, u64),
+    picture: usize,
+) -> String {
     let area = AREAS[area];
     let (start, end) = match from < to {
         true => (from + beside, to - 2),
@@ -208,7 +262,7 @@ fn arrow((from, to): (usize, usize), beside: usize, y: usize, (area, mwh): (usiz
     let mwh = grouped(mwh);
     format!(
         "<line class=\"cut {area}\" x1=\"{start}\" y1=\"{y}\" x2=\"{end}\" y2=\"{y}\" \
-         marker-end=\"url(#head-{area})\"/>\
+         marker-end=\"url(#head-{picture}-{area})\"/>\
          <text class=\"mwh\" x=\"{middle}\" y=\"{above}\">{mwh} MWh {area}</text>\n"
     )
 }

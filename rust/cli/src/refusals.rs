@@ -13,9 +13,24 @@ use crate::source::{Source, Store};
 /// How many faults of a book are told in words.
 const MOST_FAULTS: usize = 20;
 
+/// A question, with its money in euros as in everything that is told.
+pub fn question(refusal: Refusal) -> String {
+    let question = refusal.question();
+    match refusal {
+        Refusal::CalledIn => question.replace("> 1,000,000 ", "> 10,000.00 EUR "),
+        _ => question.to_string(),
+    }
+}
+
+/// A refusal in a line.
+pub fn refused(refusal: Refusal) -> String {
+    let number = refusal.number();
+    format!("refused by question {number}: {}", question(refusal))
+}
+
 /// A refused book: the question, then the fields at fault, a line each.
 pub fn of_book(name: &str, refusal: Refusal, faults: &[(Option<Spot>, Fault)]) -> Failure {
-    let mut lines = vec![format!("{name}: {refusal}")];
+    let mut lines = vec![format!("{name}: {}", refused(refusal))];
     for (spot, fault) in faults.iter().take(MOST_FAULTS) {
         let spot = spot.map_or_else(String::new, |spot| spot.to_string());
         lines.push(format!("{name}{spot}: {fault}"));
@@ -27,7 +42,7 @@ pub fn of_book(name: &str, refusal: Refusal, faults: &[(Option<Spot>, Fault)]) -
         .string("book", name)
         .put("accepted", false)
         .put("number", refusal.number())
-        .string("question", refusal.question())
+        .string("question", &question(refusal))
         .put("faults", list(faults.iter().map(fault_object)));
     told(lines.join("\n"), object)
 }
@@ -56,7 +71,7 @@ pub fn of_call(
     if let Some(id) = id {
         object = object.put("id", id);
     }
-    let object = object.string("question", refusal.question());
+    let object = object.string("question", &question(refusal));
     with_reason(&source.name, refusal, &reason, object)
 }
 
@@ -66,7 +81,7 @@ pub fn of_store(name: &str, refusal: Refusal, reason: &str) -> Failure {
         .string("book", name)
         .put("accepted", false)
         .put("number", refusal.number())
-        .string("question", refusal.question());
+        .string("question", &question(refusal));
     with_reason(name, refusal, reason, object)
 }
 
@@ -76,7 +91,7 @@ fn with_reason(name: &str, refusal: Refusal, reason: &str, object: Object) -> Fa
         false => format!("\n{name}: {reason}"),
     };
     told(
-        format!("{name}: {refusal}{line}"),
+        format!("{name}: {}{line}", refused(refusal)),
         object.string("reason", reason),
     )
 }

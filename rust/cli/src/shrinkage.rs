@@ -4,7 +4,7 @@
 use daybook::shrinkage::{over_days, shrinkage_return, Kwh};
 
 use crate::arguments::Arguments;
-use crate::draft::{Mistake, Spot};
+use crate::draft::{too_long, Mistake, Spot};
 use crate::files;
 use crate::json::{list, Object};
 use crate::outcome::{Failure, Outcome, Told};
@@ -95,8 +95,12 @@ fn why(balances: &[Balance]) -> String {
     }
 }
 
-/// A balance a line, a name before it or not; comments after #.
+/// A balance a line, a name before it or not, a colon between them or not;
+/// comments after #.
 pub fn read(file: &str, bytes: &[u8]) -> Result<Vec<Balance>, Failure> {
+    if let Some(mistake) = too_long("", bytes) {
+        return Err(refusals::of_text(file, &[mistake]));
+    }
     let text = String::from_utf8_lossy(bytes);
     let mut balances = Vec::new();
     for (place, line) in text.lines().enumerate() {
@@ -105,21 +109,44 @@ pub fn read(file: &str, bytes: &[u8]) -> Result<Vec<Balance>, Failure> {
             continue;
         }
         let (name, word) = line.rsplit_once(char::is_whitespace).unwrap_or(("", line));
-        let kwh = read_whole(word).and_then(|number| i64::try_from(number).ok());
-        let Some(kwh) = kwh else {
+        let wrong = |from: usize, reason: String| {
             let spot = Spot {
                 file: "",
                 line: place + 1,
-                column: line[..line.len() - word.len()].chars().count() + 1,
+                column: line[..from].chars().count() + 1,
             };
-            let reason = format!("a balance is a whole number of kWh, not `{}`", short(word));
-            return Err(refusals::of_text(file, &[Mistake { spot, reason }]));
+            refusals::of_text(file, &[Mistake { spot, reason }])
         };
-        let name = match name.trim() {
+        let start = line.len() - word.len();
+        if let Some(from) = parted(&line[..start], word) {
+            let number = short(&line[from..]);
+            let hint = "one number with a gap, or a name and a balance?";
+            let advice = "write 1,500 or 1500 for the one, `1: 500` for the other";
+            return Err(wrong(from, format!("`{number}`: {hint} {advice}")));
+        }
+        let kwh = read_whole(word).and_then(|number| i64::try_from(number).ok());
+        let Some(kwh) = kwh else {
+            let reason = format!("a balance is a whole number of kWh, not `{}`", short(word));
+            return Err(wrong(start, reason));
+        };
+        let name = name.trim();
+        let name = match name.strip_suffix(':').unwrap_or(name).trim_end() {
             "" => (balances.len() + 1).to_string(),
             name => name.to_string(),
         };
         balances.push(Balance { name, kwh });
     }
     Ok(balances)
+}
+
+/// Where a number starts that may be written with a gap before its last three
+/// digits. A tab is no such gap.
+fn parted(before: &str, word: &str) -> Option<usize> {
+    let three = word.len() == 3 && word.bytes().all(|byte| byte.is_ascii_digit());
+    let gap = before.chars().next_back()?;
+    let name = before.trim_end();
+    let last = name.rsplit(char::is_whitespace).next().unwrap_or("");
+    let digits = last.trim_start_matches(['-', '\u{2212}', '+']);
+    let few = (1..=3).contains(&digits.len()) && digits.bytes().all(|it| it.is_ascii_digit());
+    (three && few && gap != '\t').then(|| name.len() - last.len())
 }

@@ -105,8 +105,9 @@ pub struct Trace {
     /// How often each user was reduced, in the order of the book, as far as the
     /// run was taken apart.
     pub counts: Vec<(u32, u64)>,
-    /// How many reductions were taken apart.
+    /// How many reductions were taken apart, and the book after them.
     pub taken: u64,
+    pub reached: Book,
 }
 
 /// How much of a run is taken apart.
@@ -192,6 +193,7 @@ pub fn trace(
         ),
         counts,
         taken,
+        reached: daybook::read(&walk.bytes)?,
     })
 }
 
@@ -329,7 +331,7 @@ pub fn reference_prices(prices: &Prices) -> [u64; 3] {
     [p, tank, store]
 }
 
-fn called_in(figures: &Figures, book: &Book, user: &User) -> CalledIn {
+pub fn called_in(figures: &Figures, book: &Book, user: &User) -> CalledIn {
     let prices = reference_prices(&book.prices).map(i128::from);
     let short = user.position.iter().zip(prices);
     let short = short.map(|(position, price)| (-i128::from(*position)).max(0) * price);

@@ -30,10 +30,17 @@ fn lines(id: u32, area: u32, amount: i64) -> (Vec<String>, Vec<String>) {
         "run BOOK",
         "explain BOOK --steps 300",
         "report BOOK --steps 300 -o -",
+        "status BOOK",
+        "status BOOK --after",
+        "calls BOOK --morning",
+        "calls BOOK --afternoon -o -",
+        "table BOOK BOOK",
+        "compare BOOK BOOK --run",
     ];
     let of_user = [
         format!("show BOOK {id}"),
         format!("level BOOK {id}"),
+        format!("status BOOK --why {id}"),
         format!("warn BOOK {id}"),
         format!("call BOOK {id} --morning"),
         format!("call BOOK {id} --afternoon"),
@@ -67,7 +74,10 @@ fn every_command_on_any_book_and_store() {
         let (opening, of_user) = lines(arguments.id, arguments.area, arguments.amount);
         let json = if place % 2 == 0 { " --json" } else { "" };
         for line in opening.iter().chain(&of_user) {
-            let json = if line.starts_with("report") { "" } else { json };
+            let json = match line.starts_with("report") || line.starts_with("compare") {
+                true => "",
+                false => json,
+            };
             let words = line.replace("BOOK", &book.display().to_string());
             let outcome = done(&format!("{words}{with_store}{json}"));
             let status = outcome.status.code();

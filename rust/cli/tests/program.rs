@@ -100,16 +100,14 @@ fn accepted_is_0_refused_1_and_misuse_2() {
         let unkept = ["run ", "reduce ", "post "]
             .iter()
             .any(|it| words.starts_with(it));
+        // A verdict is an answer, whatever it says.
+        let is_verdict = words.starts_with("check ") && words.contains("no.gdb");
         assert_eq!(
             messages.is_empty(),
-            status == 0 && !unkept,
+            status == 0 && !unkept || status == 1 && is_verdict,
             "{words}: {messages}"
         );
-        assert_eq!(
-            out.is_empty(),
-            status != 0 && !words.contains("chain.gdb no"),
-            "{words}: {out}"
-        );
+        assert_eq!(out.is_empty(), status != 0 && !is_verdict, "{words}: {out}");
     }
     assert!(!folder.0.join("x").exists());
 }
@@ -266,7 +264,7 @@ fn answers_as_objects() {
         (
             "reduce day.gdb 102 --json",
             1,
-            r#"{"number":11,"id":102,"question":"level − blocked > 1,000,000 (with a store, its figure), and, but for the morning call, user called in?","reason":"user 2, id 102: level 100,000.00 - blocked 100,000.00 = 0.00 EUR, not above 10,000.00 EUR"}"#,
+            r#"{"number":11,"id":102,"question":"level − blocked > 10,000.00 EUR (with a store, its figure), and, but for the morning call, user called in?","reason":"user 2, id 102: level 100,000.00 - blocked 100,000.00 = 0.00 EUR, not above 10,000.00 EUR"}"#,
         ),
     ] {
         assert_eq!(

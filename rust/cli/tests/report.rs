@@ -102,6 +102,7 @@ fn long_marks() {
     let (one, two) = (book.users[0].id, book.users[1].id);
     let trace = cli::trace::Trace {
         closing: book.clone(),
+        reached: book.clone(),
         opening: book,
         run: daybook::Run::default(),
         first: Vec::new(),

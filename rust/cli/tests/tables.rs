@@ -78,7 +78,7 @@ fn mistakes_of_csv_files() {
         (
             1,
             &format!("{users}1,shipper,0,0,0,0,0,0,9\n"),
-            "/users.csv:2:23: 9 fields in 8 columns",
+            "/users.csv:2:23: 9 fields in 8 columns; a comma within an amount? Euros are written as 1234.50",
         ),
         (
             2,

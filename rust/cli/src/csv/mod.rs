@@ -90,9 +90,9 @@ pub fn read(files: [&[u8]; 3]) -> Result<Draft, Vec<Mistake>> {
     let selling = &HEADER[PRICES_AT + COMMON_PRICES..];
     read_file(FILES[0], header, &HEADER, selling, &mut mistakes, |row| {
         if draft.has(Field::Version) {
-            return Err(row.mistake(0, "a second row; a book has one header".to_string()));
+            return row.mistake(0, "a second row; a book has one header".to_string());
         }
-        read_header(&mut draft, row)
+        read_header(&mut draft, row);
     });
     if mistakes.is_empty() && !draft.has(Field::Version) {
         mistakes.push(Mistake {
@@ -106,15 +106,13 @@ pub fn read(files: [&[u8]; 3]) -> Result<Draft, Vec<Mistake>> {
     }
     let positions = &USER[5..8];
     read_file(FILES[1], users, &USER, positions, &mut mistakes, |row| {
-        let (user, spots) = read_user(row)?;
+        let (user, spots) = read_user(row);
         draft.add_user(user, spots);
-        Ok(())
     });
     let standing = &TRADE[6..];
     read_file(FILES[2], trades, &TRADE, standing, &mut mistakes, |row| {
-        let (trade, spots) = read_trade(row)?;
+        let (trade, spots) = read_trade(row);
         draft.add_trade(trade, spots);
-        Ok(())
     });
     match mistakes.is_empty() {
         true => Ok(draft),
@@ -122,9 +120,9 @@ pub fn read(files: [&[u8]; 3]) -> Result<Draft, Vec<Mistake>> {
     }
 }
 
-fn read_header(draft: &mut Draft, row: &Row) -> Result<(), Mistake> {
-    draft.book.version = row.whole(0)?;
-    draft.book.date = row.date(1)?;
+fn read_header(draft: &mut Draft, row: &Row) {
+    draft.book.version = row.whole(0);
+    draft.book.date = row.date(1);
     draft.note(Field::Version, row.spot(0));
     draft.note(Field::Date, row.spot(1));
     let version = draft.book.version;
@@ -134,29 +132,30 @@ fn read_header(draft: &mut Draft, row: &Row) -> Result<(), Mistake> {
         if place >= COMMON_PRICES {
             match has_selling_tariffs(version) {
                 Some(false) if is_given => {
-                    return Err(row.mistake(column, no_selling_tariff(name, version)));
+                    row.mistake(column, no_selling_tariff(name, version));
+                    continue;
                 }
                 Some(true) if !is_given => {
                     let reason = format!("{name} is missing, which version {version} has");
-                    return Err(row.mistake(column, reason));
+                    row.mistake(column, reason);
+                    continue;
                 }
                 _ if !is_given => continue,
                 _ => {}
             }
         }
-        put_price(&mut draft.book, place, row.money(column)?);
+        put_price(&mut draft.book, place, row.money(column));
         draft.note(Field::Price(place), row.spot(column));
     }
-    Ok(())
 }
 
-fn read_user(row: &Row) -> Result<(User, Spots), Mistake> {
+fn read_user(row: &Row) -> (User, Spots) {
     let mut user = User {
-        id: row.whole(0)?,
-        role: row.code(1, &ROLES)?,
-        charges: row.money(8)?,
-        assigned: row.money(9)?,
-        blocked: row.money(10)?,
+        id: row.whole(0),
+        role: row.code(1, &ROLES),
+        charges: row.money(8),
+        assigned: row.money(9),
+        blocked: row.money(10),
         ..User::default()
     };
     let mut spots: Spots = [Field::Id, Field::Role]
@@ -164,32 +163,32 @@ fn read_user(row: &Row) -> Result<(User, Spots), Mistake> {
         .zip([row.spot(0), row.spot(1)])
         .collect();
     for area in 0..3 {
-        user.physical[area] = row.whole(2 + area)?;
+        user.physical[area] = row.whole(2 + area);
         spots.push((Field::Physical(area), row.spot(2 + area)));
         if !row.is_empty(5 + area) {
-            user.position[area] = row.whole(5 + area)?;
+            user.position[area] = row.whole(5 + area);
             spots.push((Field::Position(area), row.spot(5 + area)));
         }
     }
     spots.push((Field::Charges, row.spot(8)));
     spots.push((Field::Assigned, row.spot(9)));
     spots.push((Field::Blocked, row.spot(10)));
-    Ok((user, spots))
+    (user, spots)
 }
 
-fn read_trade(row: &Row) -> Result<(Trade, Spots), Mistake> {
-    let notified = row.whole(5)?;
+fn read_trade(row: &Row) -> (Trade, Spots) {
+    let notified = row.whole(5);
     let trade = Trade {
-        seller: row.whole(0)?,
-        buyer: row.whole(1)?,
-        area: row.code(2, &AREAS)?,
-        kind: row.code(3, &KINDS)?,
-        day: row.code(4, &DAYS)?,
+        seller: row.whole(0),
+        buyer: row.whole(1),
+        area: row.code(2, &AREAS),
+        kind: row.code(3, &KINDS),
+        day: row.code(4, &DAYS),
         notified,
         standing: if row.is_empty(6) {
             notified
         } else {
-            row.whole(6)?
+            row.whole(6)
         },
     };
     let fields = [
@@ -202,12 +201,8 @@ fn read_trade(row: &Row) -> Result<(Trade, Spots), Mistake> {
         Field::Standing,
     ];
     let spots = fields.into_iter().enumerate();
-    Ok((
-        trade,
-        spots
-            .map(|(place, field)| (field, row.spot(place)))
-            .collect(),
-    ))
+    let spots = spots.map(|(place, field)| (field, row.spot(place)));
+    (trade, spots.collect())
 }
 
 /// The columns of a file of corrections.
@@ -219,15 +214,11 @@ pub fn read_corrections(bytes: &[u8]) -> Result<Vec<(usize, Line)>, Vec<Mistake>
     let (mut lines, mut mistakes) = (Vec::new(), Vec::new());
     read_file("", bytes, &CORRECTION, &[], &mut mistakes, |row| {
         let line = Line {
-            id: row.whole(0)?,
-            area: match row.code(1, &AREAS) {
-                Ok(area) => u32::from(area),
-                Err(mistake) => row.whole(1).map_err(|_| mistake)?,
-            },
-            amount: row.whole(2)?,
+            id: row.whole(0),
+            area: row.code_or_number(1, &AREAS),
+            amount: row.whole(2),
         };
         lines.push((row.spot(0).line, line));
-        Ok(())
     });
     match mistakes.is_empty() {
         true => Ok(lines),

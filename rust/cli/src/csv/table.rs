@@ -1,6 +1,10 @@
-//! A CSV file row by row, its fields asked for by the names over the columns.
+//! A CSV file row by row, its fields asked for by the names over the columns. A row
+//! is read to its end: each of its fields that cannot be read is told.
 
-use crate::draft::{Mistake, Spot, MOST_MISTAKES};
+use std::cell::RefCell;
+
+use crate::draft::{too_long, Mistake, Spot, MOST_MISTAKES};
+use crate::limits::limits;
 use crate::text::short;
 use crate::words::{code, read_date, read_euros, read_whole};
 
@@ -11,65 +15,78 @@ pub fn read_file(
     names: &[&str],
     optional: &[&str],
     mistakes: &mut Vec<Mistake>,
-    mut take: impl FnMut(&Row) -> Result<(), Mistake>,
+    mut take: impl FnMut(&Row),
 ) {
-    let bytes = bytes.strip_prefix(b"\xef\xbb\xbf").unwrap_or(bytes);
-    let at = |line: usize| Spot {
-        file,
-        line,
-        column: 1,
-    };
-    let text = match std::str::from_utf8(bytes) {
+    let text = match text_of(file, bytes) {
         Ok(text) => text,
-        Err(error) => {
-            let before = &bytes[..error.valid_up_to()];
-            let line = before.iter().filter(|byte| **byte == b'\n').count() + 1;
-            let reason = "the file is not in UTF-8 here".to_string();
-            mistakes.push(Mistake {
-                spot: at(line),
-                reason,
-            });
-            return;
-        }
+        Err(mistake) => return mistakes.push(mistake),
     };
     let semicolons = text.lines().next().is_some_and(|line| line.contains(';'));
     let separator = if semicolons { ';' } else { ',' };
     let mut columns: Option<Vec<Option<usize>>> = None;
+    let most = mistakes.len() + MOST_MISTAKES;
     for (place, line) in text.lines().enumerate() {
         if line.trim().trim_matches(separator).is_empty() {
             continue;
         }
-        let read = cells(file, place + 1, line, separator).and_then(|cells| match &columns {
-            None => {
-                columns = Some(columns_of(&cells, names, optional, at(place + 1))?);
-                Ok(())
-            }
-            Some(columns) => {
+        let start = start_of(file, place + 1);
+        let read = cells(file, place + 1, line, separator);
+        let some = match (read, &columns) {
+            (Err(mistake), _) => vec![mistake],
+            (Ok(cells), None) => match columns_of(&cells, names, optional, start) {
+                Ok(found) => {
+                    columns = Some(found);
+                    Vec::new()
+                }
+                Err(mistake) => vec![mistake],
+            },
+            (Ok(cells), Some(columns)) => {
                 let row = Row {
                     names,
                     columns,
                     cells: &cells,
-                    end: at(place + 1),
+                    start,
                     decimal_comma: semicolons,
+                    mistakes: RefCell::default(),
                 };
-                row.count()?;
-                take(&row)
+                match row.count() {
+                    Ok(()) => take(&row),
+                    Err(mistake) => row.mistakes.borrow_mut().push(mistake),
+                }
+                row.mistakes.into_inner()
             }
-        });
-        if let Err(mistake) = read {
-            mistakes.push(mistake);
-            if mistakes.len() >= MOST_MISTAKES || columns.is_none() {
-                return;
-            }
+        };
+        let room = most.saturating_sub(mistakes.len());
+        mistakes.extend(some.into_iter().take(room));
+        if mistakes.len() >= most || columns.is_none() {
+            return;
         }
     }
     if columns.is_none() {
         let reason = format!("the first line has the names {}", names.join(","));
-        mistakes.push(Mistake {
-            spot: at(1),
-            reason,
-        });
+        let spot = start_of(file, 1);
+        mistakes.push(Mistake { spot, reason });
     }
+}
+
+fn start_of(file: &'static str, line: usize) -> Spot {
+    let column = 1;
+    Spot { file, line, column }
+}
+
+/// The text of a file, without its byte order mark.
+fn text_of<'a>(file: &'static str, bytes: &'a [u8]) -> Result<&'a str, Mistake> {
+    if let Some(mistake) = too_long(file, bytes) {
+        return Err(mistake);
+    }
+    let bytes = bytes.strip_prefix(b"\xef\xbb\xbf").unwrap_or(bytes);
+    std::str::from_utf8(bytes).map_err(|error| {
+        let before = &bytes[..error.valid_up_to()];
+        let line = before.iter().filter(|byte| **byte == b'\n').count() + 1;
+        let reason = "the file is not in UTF-8 here".to_string();
+        let spot = start_of(file, line);
+        Mistake { spot, reason }
+    })
 }
 
 /// For each name the column that it stands over.
@@ -171,8 +188,9 @@ pub struct Row<'a> {
     columns: &'a [Option<usize>],
     cells: &'a [Cell],
     /// Where the row is, for a field that it lacks.
-    end: Spot,
+    start: Spot,
     decimal_comma: bool,
+    mistakes: RefCell<Vec<Mistake>>,
 }
 
 impl Row<'_> {
@@ -186,17 +204,19 @@ impl Row<'_> {
     }
 
     pub fn spot(&self, name: usize) -> Spot {
-        self.cell(name).map_or(self.end, |cell| cell.spot)
+        self.cell(name).map_or(self.start, |cell| cell.spot)
     }
 
     pub fn is_empty(&self, name: usize) -> bool {
         self.text(name).is_empty()
     }
 
-    pub fn mistake(&self, name: usize, reason: String) -> Mistake {
-        Mistake {
-            spot: self.spot(name),
-            reason,
+    /// Notes a mistake in a field; of fields that the row lacks, the first alone.
+    pub fn mistake(&self, name: usize, reason: String) {
+        let spot = self.spot(name);
+        let mut mistakes = self.mistakes.borrow_mut();
+        if self.cell(name).is_some() || mistakes.iter().all(|it| it.spot != spot) {
+            mistakes.push(Mistake { spot, reason });
         }
     }
 
@@ -205,7 +225,11 @@ impl Row<'_> {
         let columns = self.columns.iter().flatten().count();
         match self.cells.get(columns..) {
             Some(rest) if rest.iter().any(|cell| !cell.text.is_empty()) => {
-                let reason = format!("{} fields in {columns} columns", self.cells.len());
+                let hint = match self.decimal_comma {
+                    true => "",
+                    false => "; a comma within an amount? Euros are written as 1234.50",
+                };
+                let reason = format!("{} fields in {columns} columns{hint}", self.cells.len());
                 Err(Mistake {
                     spot: rest[0].spot,
                     reason,
@@ -215,20 +239,39 @@ impl Row<'_> {
         }
     }
 
-    fn wrong(&self, name: usize, what: &str) -> Mistake {
-        let text = short(self.text(name));
-        self.mistake(name, format!("{} {what}, not `{text}`", self.names[name]))
+    /// What was read, or none with the mistake noted.
+    fn noted<T: Default>(&self, name: usize, read: Option<T>, what: &str) -> T {
+        read.unwrap_or_else(|| {
+            let text = short(self.text(name));
+            self.mistake(name, format!("{} {what}, not `{text}`", self.names[name]));
+            T::default()
+        })
     }
 
-    pub fn whole<T: TryFrom<i128>>(&self, name: usize) -> Result<T, Mistake> {
+    fn fitting<T: TryFrom<i128> + Default>(
+        &self,
+        name: usize,
+        read: Option<i128>,
+        what: &str,
+    ) -> T {
+        match read.map(T::try_from) {
+            Some(Ok(number)) => number,
+            Some(Err(_)) => {
+                let within = format!("is within {}", limits(self.names[name]));
+                self.noted(name, None, &within)
+            }
+            None => self.noted(name, None, what),
+        }
+    }
+
+    pub fn whole<T: TryFrom<i128> + Default>(&self, name: usize) -> T {
         let text = self.text(name);
         let number = (!text.contains(',')).then(|| read_whole(text)).flatten();
-        let number = number.ok_or_else(|| self.wrong(name, "is a whole number"))?;
-        T::try_from(number).map_err(|_| self.wrong(name, "has to fit its field"))
+        self.fitting(name, number, "is a whole number")
     }
 
     /// Euros with at most two decimals; spreadsheets drop zeros at the end.
-    pub fn money<T: TryFrom<i128>>(&self, name: usize) -> Result<T, Mistake> {
+    pub fn money<T: TryFrom<i128> + Default>(&self, name: usize) -> T {
         let text = self.text(name);
         let point = match self.decimal_comma {
             true => text.replace(',', "."),
@@ -242,17 +285,23 @@ impl Row<'_> {
         let cents = (!padded.contains(','))
             .then(|| read_euros(&padded))
             .flatten();
-        let cents = cents.ok_or_else(|| self.wrong(name, "is euros, as 1234.50"))?;
-        T::try_from(cents).map_err(|_| self.wrong(name, "has to fit its field"))
+        self.fitting(name, cents, "is euros, as 1234.50")
     }
 
-    pub fn date(&self, name: usize) -> Result<u32, Mistake> {
-        let wrong = || self.wrong(name, "is written as 2026-03-18");
-        read_date(self.text(name)).ok_or_else(wrong)
+    pub fn date(&self, name: usize) -> u32 {
+        let read = read_date(self.text(name));
+        self.noted(name, read, "is written as 2026-03-18")
     }
 
-    pub fn code(&self, name: usize, among: &[&str]) -> Result<u8, Mistake> {
+    pub fn code(&self, name: usize, among: &[&str]) -> u8 {
         let one_of = format!("is one of {}", among.join(", "));
-        code(among, self.text(name)).ok_or_else(|| self.wrong(name, &one_of))
+        self.noted(name, code(among, self.text(name)), &one_of)
+    }
+
+    /// The code of a word, or the number itself.
+    pub fn code_or_number(&self, name: usize, among: &[&str]) -> u32 {
+        let text = self.text(name);
+        let number = read_whole(text).and_then(|number| u32::try_from(number).ok());
+        number.unwrap_or_else(|| u32::from(self.code(name, among)))
     }
 }

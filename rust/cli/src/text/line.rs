@@ -1,6 +1,7 @@
 //! The words of one line, each with its column.
 
 use crate::draft::{Mistake, Spot};
+use crate::limits::limits;
 use crate::words::{code, read_date, read_euros, read_whole};
 
 /// A mistake at a place.
@@ -22,6 +23,8 @@ pub struct Words<'a> {
     /// Where the next word starts, in bytes; the end where there is none.
     at: usize,
     end: usize,
+    /// Amounts that cannot be read, after which the line went on.
+    pub mistakes: Vec<Mistake>,
 }
 
 impl<'a> Words<'a> {
@@ -32,6 +35,7 @@ impl<'a> Words<'a> {
             number,
             at: 0,
             end,
+            mistakes: Vec::new(),
         };
         words.skip_blanks();
         words
@@ -99,38 +103,49 @@ impl<'a> Words<'a> {
     }
 
     /// A whole number that its field can hold.
-    pub fn fitting<T: TryFrom<i128>>(&mut self, name: &str) -> Result<(T, Spot), Mistake> {
+    pub fn fitting<T>(&mut self, name: &str) -> Result<(T, Spot), Mistake>
+    where
+        T: TryFrom<i128> + Default,
+    {
         let (word, spot) = self.next(name)?;
-        let Some(number) = read_whole(word) else {
-            let reason = format!("{name} is a whole number, not `{}`", short(word));
-            return Err(mistake(spot, reason));
-        };
-        match T::try_from(number) {
-            Ok(number) => Ok((number, spot)),
-            Err(_) => Err(mistake(
-                spot,
-                format!("{name} {} does not fit its field", short(word)),
-            )),
-        }
+        let what = "is a whole number";
+        self.amount((word, spot), name, read_whole(word), what)
     }
 
     /// Euros with two decimals, in cents that their field can hold.
-    pub fn money<T: TryFrom<i128>>(&mut self, name: &str) -> Result<(T, Spot), Mistake> {
+    pub fn money<T>(&mut self, name: &str) -> Result<(T, Spot), Mistake>
+    where
+        T: TryFrom<i128> + Default,
+    {
         let (word, spot) = self.next(name)?;
-        let Some(cents) = read_euros(word) else {
-            let reason = "is euros with two decimals, as 1,234.50";
-            return Err(mistake(
-                spot,
-                format!("{name} {reason}, not `{}`", short(word)),
-            ));
+        let what = "is euros with two decimals, as 1,234.50";
+        self.amount((word, spot), name, read_euros(word), what)
+    }
+
+    /// The amount that a word is. One that looks like an amount and is none is
+    /// noted, and the line goes on; any other word may belong to what follows.
+    fn amount<T>(
+        &mut self,
+        (word, spot): (&str, Spot),
+        name: &str,
+        read: Option<i128>,
+        what: &str,
+    ) -> Result<(T, Spot), Mistake>
+    where
+        T: TryFrom<i128> + Default,
+    {
+        let reason = match read.map(T::try_from) {
+            Some(Ok(number)) => return Ok((number, spot)),
+            Some(Err(_)) => format!("{name} {} is not within {}", short(word), limits(name)),
+            None => format!("{name} {what}, not `{}`", short(word)),
         };
-        match T::try_from(cents) {
-            Ok(cents) => Ok((cents, spot)),
-            Err(_) => Err(mistake(
-                spot,
-                format!("{name} {} does not fit its field", short(word)),
-            )),
+        let signs = ['-', '+', '.', ',', '\u{2212}'];
+        let digits = word.trim_start_matches(signs);
+        if !digits.starts_with(|it: char| it.is_ascii_digit()) {
+            return Err(mistake(spot, reason));
         }
+        self.mistakes.push(mistake(spot, reason));
+        Ok((T::default(), spot))
     }
 
     pub fn date(&mut self) -> Result<u32, Mistake> {

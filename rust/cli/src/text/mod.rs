@@ -142,9 +142,10 @@ pub fn aligned(rows: &[Cells]) -> String {
         for (cell, width) in row.iter().zip(&widths).filter(|(_, width)| **width > 0) {
             let space = if line.is_empty() { "" } else { " " };
             let amount = cell.starts_with(|it: char| it.is_ascii_digit() || it == '-');
+            let blanks = " ".repeat(width - cell.chars().count());
             line.push_str(&match amount {
-                true => format!("{space}{cell:>width$}"),
-                false => format!("{space}{cell:width$}"),
+                true => format!("{space}{blanks}{cell}"),
+                false => format!("{space}{cell}{blanks}"),
             });
         }
         text.push_str(line.trim_end());

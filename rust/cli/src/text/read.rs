@@ -5,12 +5,15 @@ use daybook::{Trade, User};
 
 use super::line::{mistake, short, Words};
 use super::FIRST;
-use crate::draft::{Draft, Mistake, Spot, Spots, MOST_MISTAKES};
+use crate::draft::{too_long, Draft, Mistake, Spot, Spots, MOST_MISTAKES};
 use crate::fields::{has_selling_tariffs, put_price, Field, COMMON_PRICES, PRICES};
 use crate::words::{code, AREAS, DAYS, KINDS, ROLES};
 
 /// The fields of a text, or its mistakes.
 pub fn read(bytes: &[u8]) -> Result<Draft, Vec<Mistake>> {
+    if let Some(mistake) = too_long("", bytes) {
+        return Err(vec![mistake]);
+    }
     let bytes = bytes.strip_prefix(b"\xef\xbb\xbf").unwrap_or(bytes);
     let text = match std::str::from_utf8(bytes) {
         Ok(text) => text,
@@ -31,11 +34,12 @@ pub fn read(bytes: &[u8]) -> Result<Draft, Vec<Mistake>> {
         if words.is_done() {
             continue;
         }
-        if let Err(mistake) = statement(&mut draft, &mut words, first) {
-            mistakes.push(mistake);
-            if mistakes.len() == MOST_MISTAKES {
-                return Err(mistakes);
-            }
+        let read = statement(&mut draft, &mut words, first);
+        mistakes.append(&mut words.mistakes);
+        mistakes.extend(read.err());
+        if mistakes.len() >= MOST_MISTAKES {
+            mistakes.truncate(MOST_MISTAKES);
+            return Err(mistakes);
         }
         first = false;
     }
@@ -229,7 +233,7 @@ fn read_areas(
         let area = usize::from(area);
         new(spots, field(area), at)?;
         let at;
-        (amounts[area], at) = words.fitting("the amount")?;
+        (amounts[area], at) = words.fitting(&field(area).to_string())?;
         spots.push((field(area), at));
         any = true;
     }

@@ -1,0 +1,234 @@
+//! `daybook change`: what if? Fields of a book set anew, in the words of the text
+//! form; positions are those that document 01 defines.
+
+use daybook::{Book, Refusal, Trade, User};
+
+use crate::arguments::Arguments;
+use crate::call::Call;
+use crate::draft::{define_position, Mistake, Spot};
+use crate::faults::{faults_of, Fault};
+use crate::fields::{prices, put_price, PRICES};
+use crate::outcome::{Failure, Outcome};
+use crate::refusals;
+use crate::text::{mistake, short, Words};
+use crate::words::{code, date, euros, grouped, read_euros, read_whole, AREAS};
+
+pub fn change(arguments: &Arguments) -> Result<Outcome, Failure> {
+    let usage = "change BOOK CHANGE.. [-o FILE|--in-place]";
+    arguments.expect(2, usize::MAX, usage)?;
+    let call = Call::new(arguments)?;
+    let refused = |refusal: Refusal, faults: Vec<Fault>| {
+        let faults: Vec<(Option<Spot>, Fault)> = faults.into_iter().map(|it| (None, it)).collect();
+        refusals::of_book(&call.source.name, refusal, &faults)
+    };
+    let mut book = daybook::read(&call.source.bytes).map_err(|it| refused(it, Vec::new()))?;
+    let (mut outcome, mut mistakes) = (Outcome::default(), Vec::new());
+    for (place, word) in arguments.rest(1).iter().enumerate() {
+        match made(&mut book, &word.display().to_string(), place + 1) {
+            Ok(lines) => lines.iter().for_each(|line| outcome.line(line)),
+            Err(some) => mistakes.extend(some),
+        }
+    }
+    if !mistakes.is_empty() {
+        return Err(refusals::of_text("change", &mistakes));
+    }
+    for place in 0..book.users.len() {
+        for area in 0..AREAS.len() {
+            define_position(&mut book, place, area);
+        }
+    }
+    let mut bytes = vec![0; book.length()];
+    daybook::write(&book, &mut bytes)
+        .map_err(|refusal| refused(refusal, faults_of(&book, refusal.number())))?;
+    call.keep(arguments, &bytes, &mut outcome)?;
+    Ok(outcome)
+}
+
+/// Makes one change: of each field what it was and what it is, a line each.
+fn made(book: &mut Book, text: &str, number: usize) -> Result<Vec<String>, Vec<Mistake>> {
+    let mut words = Words::new(text, number);
+    let mut lines = Vec::new();
+    let read = statement(book, &mut words, &mut lines).and_then(|()| words.end());
+    let mut mistakes = words.mistakes;
+    mistakes.extend(read.err());
+    match mistakes.is_empty() {
+        true => Ok(lines),
+        false => Err(mistakes),
+    }
+}
+
+fn statement(book: &mut Book, words: &mut Words, lines: &mut Vec<String>) -> Result<(), Mistake> {
+    let (word, spot) = words.next("a change")?;
+    match word {
+        "date" => {
+            let was = std::mem::replace(&mut book.date, words.date()?);
+            lines.push(line("date", date(was), date(book.date)));
+            Ok(())
+        }
+        "prices" => each(words, "a price", |words, name, spot| {
+            let listed = prices(book);
+            let place = PRICES.iter().take(listed.len()).position(|it| *it == name);
+            let Some(place) = place else {
+                return Err(no_such(
+                    spot,
+                    name,
+                    &format!("a price is one of {}", PRICES[..listed.len()].join(", ")),
+                ));
+            };
+            let price = money(words, name, listed[place])?;
+            lines.push(line(name, euros(listed[place]), euros(price)));
+            put_price(book, place, price);
+            Ok(())
+        }),
+        "user" => {
+            let (id, at) = words.fitting::<u32>("the id")?;
+            let Some(user) = book.users.iter_mut().find(|user| user.id == id) else {
+                return Err(mistake(at, format!("{id} is no user of the book")));
+            };
+            each(words, "a field", |words, name, spot| {
+                user_field(user, words, (name, spot), lines)
+            })
+        }
+        "trade" => {
+            let (place, at) = words.fitting::<usize>("the trade's place")?;
+            let count = book.trades.len();
+            let trade = place.checked_sub(1).and_then(|it| book.trades.get_mut(it));
+            let Some(trade) = trade else {
+                let reason = format!("trade {place} is none of 1 to {count}");
+                return Err(mistake(at, reason));
+            };
+            each(words, "a field", |words, name, spot| {
+                trade_field((place, trade), words, (name, spot), lines)
+            })
+        }
+        _ => {
+            let known = "a change starts with `date`, `prices`, `user` or `trade`";
+            Err(no_such(spot, word, known))
+        }
+    }
+}
+
+/// Takes each name that is left, with what follows it; at least one has to be there.
+fn each<'a>(
+    words: &mut Words<'a>,
+    what: &str,
+    mut take: impl FnMut(&mut Words<'a>, &'a str, Spot) -> Result<(), Mistake>,
+) -> Result<(), Mistake> {
+    loop {
+        let (name, spot) = words.next(what)?;
+        take(words, name, spot)?;
+        if words.is_done() {
+            return Ok(());
+        }
+    }
+}
+
+fn user_field(
+    user: &mut User,
+    words: &mut Words,
+    (name, spot): (&str, Spot),
+    lines: &mut Vec<String>,
+) -> Result<(), Mistake> {
+    let about = format!("user {} {name}", user.id);
+    let guarantee = match name {
+        "physical" => return physical(user, words, lines),
+        "charges" => {
+            let was = user.charges;
+            user.charges = money(words, name, was)?;
+            lines.push(line(&about, euros(was), euros(user.charges)));
+            return Ok(());
+        }
+        "assigned" => &mut user.assigned,
+        "blocked" => &mut user.blocked,
+        _ => {
+            let known = "a field is `physical`, `charges`, `assigned` or `blocked`";
+            return Err(no_such(spot, name, known));
+        }
+    };
+    let was = *guarantee;
+    *guarantee = money(words, name, was)?;
+    lines.push(line(&about, euros(was), euros(*guarantee)));
+    Ok(())
+}
+
+/// Physical entries, an area and its MWh each.
+fn physical(user: &mut User, words: &mut Words, lines: &mut Vec<String>) -> Result<(), Mistake> {
+    loop {
+        let (area, _) = words.code("the area", &AREAS)?;
+        let entry = &mut user.physical[usize::from(area)];
+        let was = *entry;
+        *entry = whole(words, "physical", was)?;
+        let about = format!("user {} physical {}", user.id, AREAS[usize::from(area)]);
+        lines.push(line(&about, grouped(was), grouped(*entry)));
+        if words.peek().and_then(|it| code(&AREAS, it)).is_none() {
+            return Ok(());
+        }
+    }
+}
+
+fn trade_field(
+    (place, trade): (usize, &mut Trade),
+    words: &mut Words,
+    (name, spot): (&str, Spot),
+    lines: &mut Vec<String>,
+) -> Result<(), Mistake> {
+    let field = match name {
+        "notified" => &mut trade.notified,
+        "standing" => &mut trade.standing,
+        _ => return Err(no_such(spot, name, "a field is `notified` or `standing`")),
+    };
+    let was = *field;
+    *field = whole(words, name, was)?;
+    let about = format!("trade {place} {name}");
+    lines.push(line(&about, grouped(was), grouped(*field)));
+    Ok(())
+}
+
+fn no_such(spot: Spot, word: &str, known: &str) -> Mistake {
+    mistake(spot, format!("`{}`: {known}", short(word)))
+}
+
+fn line(about: &str, was: String, is: String) -> String {
+    format!("{about} {was} -> {is}")
+}
+
+/// An amount of euros; one with + before it is added to what was.
+fn money<T>(words: &mut Words, name: &str, was: T) -> Result<T, Mistake>
+where
+    T: TryFrom<i128> + Into<i128> + Default,
+{
+    match added(words, read_euros) {
+        Some(more) => sum(words, name, was, more),
+        None => Ok(words.money(name)?.0),
+    }
+}
+
+/// A whole number; one with + before it is added to what was.
+fn whole<T>(words: &mut Words, name: &str, was: T) -> Result<T, Mistake>
+where
+    T: TryFrom<i128> + Into<i128> + Default,
+{
+    match added(words, read_whole) {
+        Some(more) => sum(words, name, was, more),
+        None => Ok(words.fitting(name)?.0),
+    }
+}
+
+/// What the next word adds, where it starts with +.
+fn added(words: &Words, read: fn(&str) -> Option<i128>) -> Option<i128> {
+    words.peek()?.strip_prefix('+').and_then(read)
+}
+
+fn sum<T>(words: &mut Words, name: &str, was: T, more: i128) -> Result<T, Mistake>
+where
+    T: TryFrom<i128> + Into<i128>,
+{
+    let (word, spot) = words.next(name)?;
+    let sum = was.into().checked_add(more);
+    let sum = sum.and_then(|sum| T::try_from(sum).ok());
+    sum.ok_or_else(|| {
+        let limits = crate::limits::limits(name);
+        let reason = format!("{name} with {} is not within {limits}", short(word));
+        mistake(spot, reason)
+    })
+}

@@ -1,0 +1,165 @@
+//! `daybook calls`: every guarantee call of the morning or the afternoon that is
+//! due, made in one command. A call changes what is blocked of its own user alone,
+//! so that none depends on another.
+
+use daybook::{GuaranteeCall, Level, Refusal};
+
+use crate::arguments::Arguments;
+use crate::call::{answer, Call};
+use crate::form::{csv_row, Form};
+use crate::json::Object;
+use crate::outcome::{Failure, Outcome};
+use crate::reasons::Asked;
+use crate::text::aligned;
+use crate::words::{counted, euros, plain_euros};
+
+/// A call that was made, or one that the assigned guarantee does not cover.
+#[derive(Clone, Copy, Debug, PartialEq, Eq)]
+pub struct Due {
+    pub id: u32,
+    pub level: u64,
+    /// What was added to blocked; none where the call was refused by question 12.
+    pub added: Option<u64>,
+    pub assigned: u64,
+}
+
+pub fn calls(arguments: &Arguments) -> Result<Outcome, Failure> {
+    let usage = "calls BOOK --morning|--afternoon [-o FILE|--in-place] [--csv|--json] \
+                 [--store FILE]";
+    arguments.expect(1, 1, usage)?;
+    let morning = arguments.has("--morning");
+    if morning == arguments.has("--afternoon") {
+        return Err(Failure::misuse(format!("usage: daybook {usage}")));
+    }
+    let call = Call::new(arguments)?;
+    let mut bytes = call.source.bytes.clone();
+    let mut outcome = Outcome::default();
+    let made = match make(&call, &mut bytes, morning) {
+        Ok(made) => made,
+        Err(refusal) => {
+            call.refuse(&mut outcome, None, Asked::Plain, refusal);
+            return Ok(outcome);
+        }
+    };
+    match call.form {
+        Form::Words => words(&mut outcome, &made),
+        Form::Csv => table(&mut outcome, &made),
+        Form::Json => objects(&mut outcome, &call.source.name, &made),
+    }
+    call.keep(arguments, &bytes, &mut outcome)?;
+    Ok(outcome)
+}
+
+/// Makes the calls that are accepted; of those that are refused, the ones for want
+/// of an assigned guarantee are told.
+fn make(call: &Call, book: &mut [u8], morning: bool) -> Result<Vec<Due>, Refusal> {
+    let request = call.store.request();
+    let mut made = Vec::new();
+    for user in daybook::read(book)?.users {
+        let (id, assigned) = (user.id, user.assigned);
+        let called = match morning {
+            true => request.morning_call(book, id),
+            false => request.afternoon_call(book, id),
+        };
+        let level = || match morning {
+            true => request.morning_level(&call.source.bytes, id),
+            false => request.afternoon_level(&call.source.bytes, id),
+        };
+        let (level, added) = match called {
+            Ok(GuaranteeCall {
+                level: Level(level),
+                added,
+            }) => (level, Some(added)),
+            Err(Refusal::AssignedCoversLevel) => (level()?.0, None),
+            Err(Refusal::StoreForm) => return Err(Refusal::StoreForm),
+            Err(Refusal::SetInForce) => return Err(Refusal::SetInForce),
+            Err(_) => continue,
+        };
+        made.push(Due {
+            id,
+            level,
+            added,
+            assigned,
+        });
+    }
+    Ok(made)
+}
+
+/// How many calls were made, and for how much.
+fn total(made: &[Due]) -> (usize, u128) {
+    let added = || made.iter().filter_map(|due| due.added);
+    (added().count(), added().map(u128::from).sum())
+}
+
+fn words(outcome: &mut Outcome, made: &[Due]) {
+    let cells = |due: &Due| {
+        let level = euros(due.level);
+        let (name, amount, rest) = match due.added {
+            Some(added) => (
+                "added",
+                euros(added),
+                format!("to blocked, the level {level}"),
+            ),
+            None => {
+                let lacking = euros(due.level.saturating_sub(due.assigned));
+                let assigned = euros(due.assigned);
+                let rest = format!("to be assigned first, level {level}, assigned {assigned}");
+                ("lacking", lacking, rest)
+            }
+        };
+        vec![
+            format!("{}:", due.id),
+            name.to_string(),
+            amount,
+            format!("EUR {rest}"),
+        ]
+    };
+    let rows: Vec<Vec<String>> = made.iter().map(cells).collect();
+    outcome.text(&aligned(&rows));
+    let (count, cents) = total(made);
+    outcome.line(match count {
+        0 => "no call is due".to_string(),
+        _ => {
+            let cents = euros(i128::try_from(cents).unwrap_or(i128::MAX));
+            format!("{}, {cents} EUR in all", counted(count, "call"))
+        }
+    });
+}
+
+fn table(outcome: &mut Outcome, made: &[Due]) {
+    outcome.line(csv_row(["id", "number", "level", "added", "assigned"]));
+    for due in made {
+        outcome.line(csv_row([
+            due.id.to_string(),
+            number(due).to_string(),
+            plain_euros(due.level),
+            plain_euros(due.added.unwrap_or(0)),
+            plain_euros(due.assigned),
+        ]));
+    }
+}
+
+/// The number of the call.
+fn number(due: &Due) -> u32 {
+    match due.added {
+        Some(_) => 0,
+        None => Refusal::AssignedCoversLevel.number(),
+    }
+}
+
+fn objects(outcome: &mut Outcome, name: &str, made: &[Due]) {
+    for due in made {
+        let object = match due.added {
+            Some(_) => answer(due.id),
+            None => Object::new().put("number", number(due)).put("id", due.id),
+        };
+        let object = object
+            .put("level_cents", due.level)
+            .put("added_cents", due.added.unwrap_or(0))
+            .put("assigned_cents", due.assigned);
+        outcome.line(object.end());
+    }
+    let (count, cents) = total(made);
+    let object = Object::new().string("book", name).put("calls", count);
+    outcome.line(object.put("added_cents", cents).end());
+}

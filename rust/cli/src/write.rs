@@ -1,0 +1,216 @@
+//! Files that are written: whole under another name beside their own, which they
+//! then take in one step (`beside.rs`). A reader sees the old file or the new one,
+//! and after a kill or on a full disk nothing half-written stands under a file's
+//! own name. A file that is written over is held meanwhile.
+
+use std::fs::{self, File, Metadata};
+use std::io::{self, Write};
+use std::path::{Path, PathBuf};
+
+use crate::beside::{sweep, sync_folder, Beside};
+use crate::files::Held;
+use crate::outcome::Failure;
+
+/// Writes a file that is not there yet, or, where that is asked for, puts it
+/// over the old one.
+pub fn write(path: &Path, bytes: &[u8], over: bool) -> Result<(), Failure> {
+    write_all(&[(path.to_path_buf(), bytes)], over, &[])
+}
+
+/// Writes files, all of them or none: each is whole beside its place before the
+/// first takes it, and where one cannot, those before it go back. Files that the
+/// caller holds are not waited for.
+pub fn write_all(files: &[(PathBuf, &[u8])], over: bool, held: &[&Held]) -> Result<(), Failure> {
+    let mut staged = Vec::new();
+    for (path, bytes) in files {
+        staged.push(Staged::new(path, bytes, over, held)?);
+    }
+    let mut done = Vec::new();
+    for file in staged {
+        match file.place(files.len() > 1) {
+            Ok(placed) => done.push(placed),
+            Err(failure) => {
+                done.into_iter().rev().for_each(Placed::undo);
+                return Err(failure);
+            }
+        }
+    }
+    Ok(())
+}
+
+/// Writes a folder that is not there yet, with files in it: all is whole beside its
+/// place, which it takes in one step.
+pub fn write_folder(folder: &Path, files: &[(&str, &[u8])]) -> Result<(), Failure> {
+    let failed = |error: io::Error| unwritten(folder, &error);
+    let parent = folder.parent().filter(|it| !it.as_os_str().is_empty());
+    fs::create_dir_all(parent.unwrap_or(Path::new("."))).map_err(failed)?;
+    sweep(folder);
+    let (beside, _locked) = Beside::folder(folder).map_err(failed)?;
+    for (name, bytes) in files {
+        write(&beside.path.join(name), bytes, false)?;
+    }
+    beside.take_place(folder).map_err(failed)
+}
+
+/// A whole file that has yet to take its place.
+struct Staged {
+    beside: Beside,
+    /// Locked until then.
+    file: File,
+    path: PathBuf,
+    /// Whether a file is there, which it is put over.
+    over: bool,
+    /// That file, where the caller does not hold it.
+    held: Option<Held>,
+}
+
+/// A file in its place, and the one that stood there, where a second name could be
+/// had for it.
+struct Placed {
+    path: PathBuf,
+    is_new: bool,
+    old: Option<Beside>,
+    _held: Option<Held>,
+}
+
+impl Staged {
+    fn new(path: &Path, bytes: &[u8], over: bool, held: &[&Held]) -> Result<Staged, Failure> {
+        let (path, is_there) = place(path, over)?;
+        let failed = |error: io::Error| unwritten(&path, &error);
+        let is_held = held.iter().any(|held| held.is_named(&path));
+        let held = (is_there && !is_held).then(|| Held::new(&path));
+        let held = held.transpose()?;
+        let old = is_there.then(|| fs::metadata(&path));
+        let old = old.transpose().map_err(failed)?;
+        sweep(&path);
+        // The bytes of a file that others may not read are never open to them.
+        let (beside, mut file) = Beside::file(&path, is_there).map_err(failed)?;
+        let written = (|| {
+            if let Some(old) = &old {
+                keep_owner(&file, old);
+                file.set_permissions(old.permissions())?;
+            }
+            file.write_all(bytes)?;
+            file.sync_all()
+        })();
+        written.map_err(failed)?;
+        Ok(Staged {
+            beside,
+            file,
+            path,
+            over: is_there,
+            held,
+        })
+    }
+
+    fn place(self, may_go_back: bool) -> Result<Placed, Failure> {
+        let Staged {
+            beside,
+            file: _file,
+            path,
+            over,
+            held,
+        } = self;
+        let failed = |error: io::Error| match error.kind() {
+            io::ErrorKind::AlreadyExists => there(&path),
+            _ => unwritten(&path, &error),
+        };
+        let mut old = None;
+        if over {
+            // A second name keeps the old file until all are placed.
+            if may_go_back {
+                old = Beside::second_name(&path).ok();
+            }
+            beside.take_place(&path).map_err(failed)?;
+        } else {
+            put_new(beside, &path).map_err(failed)?;
+        }
+        Ok(Placed {
+            path,
+            is_new: !over,
+            old,
+            _held: held,
+        })
+    }
+}
+
+impl Placed {
+    fn undo(self) {
+        let _ = match self.old {
+            Some(old) => old.take_place(&self.path),
+            None if self.is_new => fs::remove_file(&self.path),
+            None => Ok(()),
+        };
+    }
+}
+
+/// Gives a file its name, unless that is taken. Where there are no second names,
+/// an empty file takes it first.
+fn put_new(beside: Beside, path: &Path) -> io::Result<()> {
+    match fs::hard_link(&beside.path, path) {
+        Ok(()) => {
+            sync_folder(path);
+            Ok(())
+        }
+        Err(error) if error.kind() == io::ErrorKind::AlreadyExists => Err(error),
+        Err(_) => {
+            File::create_new(path)?;
+            let taken = beside.take_place(path);
+            if taken.is_err() {
+                let _ = fs::remove_file(path);
+            }
+            taken
+        }
+    }
+}
+
+/// The file that is meant, and whether it is there already: a link stays a link,
+/// and only a regular file is written over.
+fn place(path: &Path, over: bool) -> Result<(PathBuf, bool), Failure> {
+    let Ok(named) = fs::symlink_metadata(path) else {
+        return Ok((path.to_path_buf(), false));
+    };
+    if !over {
+        return Err(there(path));
+    }
+    let refused = |reason: &str| {
+        let hint = "--force writes over regular files alone";
+        Err(Failure::file(format!(
+            "{}: {reason}; {hint}",
+            path.display()
+        )))
+    };
+    let meant = match named.is_symlink() {
+        true => fs::canonicalize(path),
+        false => Ok(path.to_path_buf()),
+    };
+    match meant.and_then(|meant| fs::metadata(&meant).map(|old| (meant, old))) {
+        Ok((meant, old)) if old.is_file() => Ok((meant, true)),
+        Ok((_, old)) if old.is_dir() => refused("is a folder"),
+        Ok(_) => refused("is a device, a pipe or the like"),
+        Err(_) => refused("is a link to no file"),
+    }
+}
+
+fn there(path: &Path) -> Failure {
+    let hint = "is there already; --force puts the new one over it";
+    Failure::file(format!("{}: {hint}", path.display()))
+}
+
+/// The owner and the group of the old file, where one may give them.
+#[cfg(unix)]
+fn keep_owner(file: &File, old: &Metadata) {
+    use std::os::unix::fs::{fchown, MetadataExt};
+
+    let (owner, group) = (old.uid(), old.gid());
+    if fchown(file, Some(owner), Some(group)).is_err() {
+        let _ = fchown(file, None, Some(group));
+    }
+}
+
+#[cfg(not(unix))]
+fn keep_owner(_file: &File, _old: &Metadata) {}
+
+fn unwritten(path: &Path, error: &io::Error) -> Failure {
+    Failure::file(format!("{}: cannot be written: {error}", path.display()))
+}
