@@ -256,7 +256,15 @@ pub fn reduction(
     let limits = admission.limits;
     let asked = call_admission::by_log(book, admission.number, with_log, log);
     call_reduction::reduction(
-        book, asked, limits, &sellers, &buyers, &sums, id, with_log, log,
+        book,
+        asked,
+        limits,
+        &sellers,
+        &buyers,
+        &sums,
+        id,
+        with_log,
+        log,
     )
 }
 

@@ -1,12 +1,12 @@
 -- The cuts of a user's own sales, entered at their places, are the cuts of all trades. Assumes nothing.
-use mathlib.Core.Bool.{Bool, true, false}
+use mathlib.Core.Bool.{Bool, true}
 use mathlib.Core.List.{List, [], _∷_, map}
 use mathlib.Core.Path.{_≡_, refl, ap, _∙_}
-use Prim.Native.Nat.{ℕ, zero, suc}
+use Prim.Native.Nat.{ℕ, suc}
 use native.Mathlib.Omega.{arith}
 use lib.ListN.{length, set, replicate}
 use Rattle.base.proofs.Tests.{by-case}
-use Rattle.laws_sales.proofs.Kept.{spread-no, spread-yes}
+use Rattle.laws_sales.proofs.Kept.{spread-no}
 use Rattle.laws_sales.specs.Kept.{kept, placesOf, spread}
 use Rattle.log_entries.specs.Entries.{entered}
 
