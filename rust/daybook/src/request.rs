@@ -64,7 +64,7 @@ impl<'a> Request<'a> {
     /// Adds a signed amount of MWh to a user's physical entry and position in an
     /// area.
     pub fn posting(self, book: &mut [u8], id: u32, area: u32, amount: i64) -> Result<(), Refusal> {
-        answered(archive::posting(book, self.store, id, area, amount))
+        answered(archive::posting(book, self.store, None, id, area, amount))
     }
 
     /// Makes the postings of a list one after another, and answers for each line
@@ -81,6 +81,7 @@ impl<'a> Request<'a> {
         answered(archive::list(
             book,
             self.store,
+            None,
             &ids,
             &areas,
             &amounts,
@@ -106,14 +107,26 @@ impl<'a> Request<'a> {
     /// Raises a shipper's blocked guarantee to the morning level.
     pub fn morning_call(self, book: &mut [u8], id: u32) -> Result<GuaranteeCall, Refusal> {
         let mut answer = [0; 2];
-        answered(archive::morning_call(book, self.store, id, &mut answer))?;
+        answered(archive::morning_call(
+            book,
+            self.store,
+            None,
+            id,
+            &mut answer,
+        ))?;
         Ok(guarantee_call(answer))
     }
 
     /// Raises a shipper's blocked guarantee to the afternoon level.
     pub fn afternoon_call(self, book: &mut [u8], id: u32) -> Result<GuaranteeCall, Refusal> {
         let mut answer = [0; 2];
-        answered(archive::afternoon_call(book, self.store, id, &mut answer))?;
+        answered(archive::afternoon_call(
+            book,
+            self.store,
+            None,
+            id,
+            &mut answer,
+        ))?;
         Ok(guarantee_call(answer))
     }
 
@@ -127,7 +140,7 @@ impl<'a> Request<'a> {
     /// Cuts a shipper's bilateral sales of the day until the level is covered.
     pub fn reduction(self, book: &mut [u8], id: u32) -> Result<Reduction, Refusal> {
         let mut answer = [0; 5];
-        answered(archive::reduction(book, self.store, id, &mut answer))?;
+        answered(archive::reduction(book, self.store, None, id, &mut answer))?;
         let [mwh, worth, target, short, over] = answer;
         Ok(Reduction {
             mwh,
@@ -164,7 +177,7 @@ impl<'a> Request<'a> {
     /// while there is one.
     pub fn run(self, book: &mut [u8]) -> Result<Run, Refusal> {
         let mut answer = [0; 3];
-        answered(archive::run(book, self.store, &mut answer))?;
+        answered(archive::run(book, self.store, None, &mut answer))?;
         let [reductions, mwh, worth] = answer;
         Ok(Run {
             reductions,
