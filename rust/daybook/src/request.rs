@@ -50,6 +50,13 @@ impl<'a> Request<'a> {
         Request { log, ..self }
     }
 
+    /// A request with the same store and without a log, as for a call on a copy of
+    /// the book that only shows what would be.
+    pub fn without_log(&self) -> Request<'a> {
+        let store = self.store;
+        Request { store, log: None }
+    }
+
     /// The bytes of the log, lent to one call.
     fn log_bytes(&mut self) -> Option<&mut [u8]> {
         self.log.as_deref_mut().map(Log::bytes_mut)
