@@ -53,7 +53,7 @@ pub fn calls(arguments: &Arguments) -> Result<Outcome, Failure> {
 /// Makes the calls that are accepted; of those that are refused, the ones for want
 /// of an assigned guarantee are told.
 fn make(call: &Call, book: &mut [u8], morning: bool) -> Result<Vec<Due>, Refusal> {
-    let request = call.store.request();
+    let mut request = call.store.request();
     let mut made = Vec::new();
     for user in daybook::read(book)?.users {
         let (id, assigned) = (user.id, user.assigned);
@@ -61,16 +61,18 @@ fn make(call: &Call, book: &mut [u8], morning: bool) -> Result<Vec<Due>, Refusal
             true => request.morning_call(book, id),
             false => request.afternoon_call(book, id),
         };
-        let level = || match morning {
-            true => request.morning_level(&call.source.bytes, id),
-            false => request.afternoon_level(&call.source.bytes, id),
-        };
         let (level, added) = match called {
             Ok(GuaranteeCall {
                 level: Level(level),
                 added,
             }) => (level, Some(added)),
-            Err(Refusal::AssignedCoversLevel) => (level()?.0, None),
+            Err(Refusal::AssignedCoversLevel) => {
+                let Level(level) = match morning {
+                    true => request.morning_level(book, id)?,
+                    false => request.afternoon_level(book, id)?,
+                };
+                (level, None)
+            }
             Err(Refusal::StoreForm) => return Err(Refusal::StoreForm),
             Err(Refusal::SetInForce) => return Err(Refusal::SetInForce),
             Err(_) => continue,

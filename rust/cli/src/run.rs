@@ -32,7 +32,7 @@ pub fn run(arguments: &Arguments) -> Result<Outcome, Failure> {
     let users = daybook::read(&bytes).map_or_else(|_| Vec::new(), |book| book.users);
     let states = users
         .iter()
-        .map(|user| state(call.store.request(), &bytes, user));
+        .map(|user| state(&call.store.request(), &bytes, user));
     let states: Vec<(User, State)> = users.iter().copied().zip(states).collect();
     match call.form {
         Form::Words => outcome.text(&text::aligned(
