@@ -11,19 +11,28 @@ use crate::beside::{sweep, sync_folder, Beside};
 use crate::files::Held;
 use crate::outcome::Failure;
 
-/// Writes a file that is not there yet, or, where that is asked for, puts it
-/// over the old one.
+/// A file that is to be written: one that is not there yet, or, where that is asked
+/// for, over the old one.
+#[derive(Clone, Copy, Debug)]
+pub struct New<'a> {
+    pub path: &'a Path,
+    pub bytes: &'a [u8],
+    pub over: bool,
+}
+
+/// Writes a file.
 pub fn write(path: &Path, bytes: &[u8], over: bool) -> Result<(), Failure> {
-    write_all(&[(path.to_path_buf(), bytes)], over, &[])
+    write_all(&[New { path, bytes, over }], &[])
 }
 
 /// Writes files, all of them or none: each is whole beside its place before the
-/// first takes it, and where one cannot, those before it go back. Files that the
-/// caller holds are not waited for.
-pub fn write_all(files: &[(PathBuf, &[u8])], over: bool, held: &[&Held]) -> Result<(), Failure> {
+/// first takes it, and where one cannot, those before it go back. They take their
+/// places in this order, after a kill or a power cut too. Files that the caller
+/// holds are not waited for.
+pub fn write_all(files: &[New], held: &[Held]) -> Result<(), Failure> {
     let mut staged = Vec::new();
-    for (path, bytes) in files {
-        staged.push(Staged::new(path, bytes, over, held)?);
+    for file in files {
+        staged.push(Staged::new(file, held)?);
     }
     let mut done = Vec::new();
     for file in staged {
@@ -74,11 +83,11 @@ struct Placed {
 }
 
 impl Staged {
-    fn new(path: &Path, bytes: &[u8], over: bool, held: &[&Held]) -> Result<Staged, Failure> {
-        let (path, is_there) = place(path, over)?;
+    fn new(new: &New, held: &[Held]) -> Result<Staged, Failure> {
+        let (path, is_there) = place(new.path, new.over)?;
         let failed = |error: io::Error| unwritten(&path, &error);
         let is_held = held.iter().any(|held| held.is_named(&path));
-        let held = (is_there && !is_held).then(|| Held::new(&path));
+        let held = (is_there && !is_held).then(|| Held::new(&path, "--force"));
         let held = held.transpose()?;
         let old = is_there.then(|| fs::metadata(&path));
         let old = old.transpose().map_err(failed)?;
@@ -90,7 +99,7 @@ impl Staged {
                 keep_owner(&file, old);
                 file.set_permissions(old.permissions())?;
             }
-            file.write_all(bytes)?;
+            file.write_all(new.bytes)?;
             file.sync_all()
         })();
         written.map_err(failed)?;
@@ -185,6 +194,10 @@ fn place(path: &Path, over: bool) -> Result<(PathBuf, bool), Failure> {
         false => Ok(path.to_path_buf()),
     };
     match meant.and_then(|meant| fs::metadata(&meant).map(|old| (meant, old))) {
+        Ok((_, old)) if old.is_file() && old.permissions().readonly() => {
+            let reason = "is read-only, and is not written over";
+            Err(Failure::file(format!("{}: {reason}", path.display())))
+        }
         Ok((meant, old)) if old.is_file() => Ok((meant, true)),
         Ok((_, old)) if old.is_dir() => refused("is a folder"),
         Ok(_) => refused("is a device, a pipe or the like"),
