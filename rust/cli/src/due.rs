@@ -124,7 +124,8 @@ fn words(outcome: &mut Outcome, made: &[Due]) {
     outcome.text(&aligned(&rows));
     let (count, cents) = total(made);
     outcome.line(match count {
-        0 => "no call is due".to_string(),
+        0 if made.is_empty() => "no call is due".to_string(),
+        0 => "no call is made".to_string(),
         _ => {
             let cents = euros(i128::try_from(cents).unwrap_or(i128::MAX));
             format!("{}, {cents} EUR in all", counted(count, "call"))

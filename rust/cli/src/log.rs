@@ -141,21 +141,10 @@ fn tell(arguments: &Arguments) -> Result<Outcome, Failure> {
         book: &book,
         length: held.bytes.len(),
         reductions: &reductions,
+        given: given.as_ref().map(|it| (it, log.is_for(&it.bytes))),
     };
     let mut outcome = Outcome::default();
     told.told(&mut outcome, form);
-    if let Some(given) = given {
-        match log.is_for(&given.bytes) {
-            true if form == Form::Words => {
-                outcome.line(format!("{}: is one for {}", log.name, given.name));
-            }
-            true => {}
-            false => {
-                let failure = refusals::of_log(&given, &log, None, None, Refusal::LogForm);
-                outcome.fail(&failure, form == Form::Json);
-            }
-        }
-    }
     Ok(outcome)
 }
 
@@ -166,6 +155,8 @@ struct Told<'a> {
     book: &'a Book,
     length: usize,
     reductions: &'a [Noted],
+    /// A book that is given beside it, and whether the log is one for it.
+    given: Option<(&'a Source, bool)>,
 }
 
 impl Told<'_> {
@@ -188,6 +179,20 @@ impl Told<'_> {
                 outcome.line(self.object());
             }
         }
+        match self.given {
+            Some((given, true)) if form != Form::Json => {
+                let line = format!("{}: is one for {}", self.log.name, given.name);
+                match form {
+                    Form::Csv => outcome.message(line),
+                    _ => outcome.line(line),
+                }
+            }
+            Some((given, false)) => {
+                let failure = refusals::of_log(given, self.log, None, None, Refusal::LogForm);
+                outcome.fail(&failure, form == Form::Json);
+            }
+            _ => {}
+        }
     }
 
     fn summary(&self) -> String {
@@ -205,8 +210,14 @@ impl Told<'_> {
 
     fn object(&self) -> String {
         let sum = |of: fn(&Noted) -> u64| self.reductions.iter().map(of).sum::<u64>();
-        Object::new()
-            .string("log", &self.log.name)
+        let object = Object::new().put("number", 0).string("log", &self.log.name);
+        let object = match self.given {
+            Some((given, is_for)) => object
+                .string("book", &given.name)
+                .put("is_for_book", is_for),
+            None => object,
+        };
+        object
             .put("noted", self.reductions.len())
             .put("mwh", sum(|it| it.mwh))
             .put("worth_cents", sum(|it| it.worth))

@@ -168,7 +168,7 @@ pub fn of_log(
         }
         Refusal::LogFull => {
             let reason = format!("{name} is full: {noted} noted, as many as it has room for");
-            (reason, full(source, log))
+            (reason, full(&book_word, log))
         }
         _ => {
             let book = daybook::read(&source.bytes).unwrap_or_default();
@@ -185,11 +185,13 @@ pub fn of_log(
                     None => book_word,
                 };
                 let put = format!("`daybook log --held {log_word} -o {target} --force`");
+                let forgets = match log.log.entries() {
+                    0 => String::new(),
+                    _ => format!(", which forgets the {noted} noted"),
+                };
                 vec![
                     format!("was a change interrupted? {put} puts the held book in its place"),
-                    format!(
-                        "was the book changed without the log? {anew}, which forgets {noted} noted"
-                    ),
+                    format!("was the book changed without the log? {anew}{forgets}"),
                 ]
             } else {
                 vec![format!("{anew}, which forgets what was noted")]
@@ -199,9 +201,9 @@ pub fn of_log(
     }
 }
 
-/// The book in a command; one that is text or comes from standard input is not to be
+/// The book as a command names it; one that is text or comes from standard input is not to be
 /// written over.
-fn book_word(source: &Source) -> String {
+pub fn book_word(source: &Source) -> String {
     let is_standard = source.name == shown(Path::new("-"));
     match source.is_text || is_standard {
         true => "BOOK".to_string(),
@@ -209,13 +211,13 @@ fn book_word(source: &Source) -> String {
     }
 }
 
-/// What helps with a full log.
-pub fn full(source: &Source, log: &LogFile) -> Vec<String> {
-    let (book, log) = (book_word(source), quoted(&log.path));
+/// What helps with a full log of a book.
+pub fn full(book: &str, log: &LogFile) -> Vec<String> {
+    let log = quoted(&log.path);
     vec![
         format!("`daybook withdraw {book} --log {log} --in-place` withdraws the last reduction"),
         format!(
-            "`daybook log {book} -o {log} --force` starts a new log, which forgets those noted"
+            "`daybook log {book} -o {log} --force` starts a new one, which forgets those noted"
         ),
     ]
 }

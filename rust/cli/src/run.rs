@@ -4,10 +4,11 @@ use daybook::{Refusal, Run, User};
 
 use crate::arguments::Arguments;
 use crate::call::Call;
+use crate::files::quoted;
 use crate::form::{or_null, Form};
 use crate::json::{list, Object};
 use crate::outcome::{Failure, Outcome, Status};
-use crate::reasons::{full, Asked};
+use crate::reasons::{book_word, full, Asked};
 use crate::state::{state, State};
 use crate::text;
 use crate::words::{euros, grouped, AREAS};
@@ -33,16 +34,28 @@ pub fn run(arguments: &Arguments) -> Result<Outcome, Failure> {
     }
     call.tell_log(&mut outcome, &changed);
     tell_states(&mut outcome, &call, &changed.book);
-    if let (true, Some(log)) = (done.log_full, &call.log) {
+    if done.log_full {
         outcome.status = Status::Stopped;
-        let due = "one more reduction is due: the run stops here, and its cuts count";
-        outcome.message(format!("{}: is full, and {due}", log.name));
-        for line in full(&call.source, log) {
-            outcome.message(format!("{}: {line}", log.name));
-        }
+        tell_full(&mut outcome, &call);
     }
     call.keep(arguments, &changed, &mut outcome)?;
     Ok(outcome)
+}
+
+/// The log is full, and what helps; it is then the log of the changed book.
+fn tell_full(outcome: &mut Outcome, call: &Call) {
+    let Some(log) = &call.log else {
+        return;
+    };
+    let book = match &call.target {
+        Some(target) => quoted(target),
+        None => book_word(&call.source),
+    };
+    let due = "one more reduction is due: the run stops here, and its cuts count";
+    outcome.message(format!("{}: is full, and {due}", log.name));
+    for line in full(&book, log) {
+        outcome.message(format!("{}: {line}", log.name));
+    }
 }
 
 /// The state of each user of a book.
