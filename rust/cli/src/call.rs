@@ -149,18 +149,31 @@ impl Call {
         }
     }
 
-    /// The same in words, in a line of its own. A call that empties the log tells what
-    /// it has forgotten.
-    pub fn tell_log(&self, outcome: &mut Outcome, changed: &Changed) {
-        let (Some(before), Some(after), Form::Words) = (&self.log, &changed.log, self.form) else {
-            return;
-        };
+    /// The same in words. A call that empties the log tells what it has forgotten.
+    pub fn log_line(&self, changed: &Changed) -> Option<String> {
+        let (before, after) = (self.log.as_ref()?, changed.log.as_ref()?);
         let (was, is) = (before.log.entries(), after.entries());
         let noted = noted(&before.name, is);
-        outcome.line(match is == 0 && was > 0 {
+        Some(match is == 0 && was > 0 {
             true => format!("{noted}, {} forgotten", grouped(wide(was))),
             false => noted,
-        });
+        })
+    }
+
+    /// Adds it to an answer in words; objects and rows have it among their fields.
+    pub fn tell_log(&self, outcome: &mut Outcome, changed: &Changed) {
+        if let (Form::Words, Some(line)) = (self.form, self.log_line(changed)) {
+            outcome.line(line);
+        }
+    }
+
+    /// Adds it to an answer in words, and to a table without such a field on standard
+    /// error.
+    pub fn tell_log_beside(&self, outcome: &mut Outcome, changed: &Changed) {
+        match (self.form, self.log_line(changed)) {
+            (Form::Csv, Some(line)) => outcome.message(line),
+            _ => self.tell_log(outcome, changed),
+        }
     }
 
     /// A refusal: in words on standard error, or as an object.

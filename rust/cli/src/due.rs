@@ -47,7 +47,7 @@ pub fn calls(arguments: &Arguments) -> Result<Outcome, Failure> {
         Form::Csv => table(&mut outcome, &made),
         Form::Json => objects(&mut outcome, &call, &changed, &made),
     }
-    call.tell_log(&mut outcome, &changed);
+    call.tell_log_beside(&mut outcome, &changed);
     call.keep(arguments, &changed, &mut outcome)?;
     Ok(outcome)
 }

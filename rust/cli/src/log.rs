@@ -205,7 +205,7 @@ impl Told<'_> {
         let room = daybook::MOST_ENTRIES.saturating_sub(self.reductions.len());
         let (room, length) = (grouped(wide(room)), grouped(wide(self.length)));
         let book = described(self.book);
-        format!("{count}{figures}; room for {room} more\n{name}: holds {book}, {length} bytes\n")
+        format!("{count}{figures}; room for {room} more\n{name}: holds a book: {book}, {length} bytes\n")
     }
 
     fn object(&self) -> String {

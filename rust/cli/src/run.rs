@@ -32,7 +32,7 @@ pub fn run(arguments: &Arguments) -> Result<Outcome, Failure> {
         Form::Csv => outcome.message(run_line(&done)),
         _ => call.tell(&mut outcome, run_line(&done), object),
     }
-    call.tell_log(&mut outcome, &changed);
+    call.tell_log_beside(&mut outcome, &changed);
     tell_states(&mut outcome, &call, &changed.book);
     if done.log_full {
         outcome.status = Status::Stopped;

@@ -34,9 +34,16 @@ pub fn write_all(files: &[New], held: &[Held]) -> Result<(), Failure> {
     for file in files {
         staged.push(Staged::new(file, held)?);
     }
+    place_all(staged)
+}
+
+/// Puts whole files in their places, in order; where one cannot take its own, those
+/// before it go back.
+fn place_all(staged: Vec<Staged>) -> Result<(), Failure> {
+    let may_go_back = staged.len() > 1;
     let mut done = Vec::new();
     for file in staged {
-        match file.place(files.len() > 1) {
+        match file.place(may_go_back) {
             Ok(placed) => done.push(placed),
             Err(failure) => {
                 done.into_iter().rev().for_each(Placed::undo);
@@ -226,4 +233,37 @@ fn keep_owner(_file: &File, _old: &Metadata) {}
 
 fn unwritten(path: &Path, error: &io::Error) -> Failure {
     Failure::file(format!("{}: cannot be written: {error}", path.display()))
+}
+
+#[cfg(test)]
+mod tests {
+    use super::*;
+
+    /// The name of the second is taken after both are staged: the first is again what
+    /// it was, whether it was there or not, and nothing is left beside.
+    #[test]
+    fn those_placed_go_back() {
+        let folder = std::env::temp_dir().join(format!("daybook-write-{}", std::process::id()));
+        fs::create_dir_all(&folder).expect("a folder");
+        let (first, second) = (folder.join("first"), folder.join("second"));
+        for is_there in [false, true] {
+            if is_there {
+                fs::write(&first, b"old").expect("a file");
+            }
+            let staged = |path: &Path, over: bool| {
+                let bytes = b"new";
+                Staged::new(&New { path, bytes, over }, &[]).expect("a file beside")
+            };
+            let both = vec![staged(&first, is_there), staged(&second, false)];
+            fs::write(&second, b"another").expect("a file");
+            assert!(place_all(both).is_err());
+            let left = fs::read(&first).ok();
+            assert_eq!(left.as_deref(), is_there.then_some(b"old".as_slice()));
+            assert_eq!(fs::read(&second).expect("a file"), b"another");
+            fs::remove_file(&second).expect("a file");
+            let names = fs::read_dir(&folder).expect("a folder").count();
+            assert_eq!(names, usize::from(is_there));
+        }
+        fs::remove_dir_all(&folder).expect("a folder");
+    }
 }

@@ -239,6 +239,13 @@ fn a_full_log() {
         }
     }
     assert_eq!(noted, 599);
+    for words in [
+        "run BOOK --log LOG --csv",
+        "calls BOOK --morning --log LOG --csv",
+    ] {
+        let told = pair.done(words);
+        assert!(told.messages.contains("noted"), "{}", told.messages);
+    }
     let told = pair.done("withdraw BOOK --log LOG --csv");
     assert_eq!(told.status, Status::Accepted);
     assert!(out(&told).starts_with("reduction,trade,seller,buyer,area,mwh,worth\n"));
