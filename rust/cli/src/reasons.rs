@@ -1,10 +1,15 @@
 //! Why a call is refused by a question after the seventh, in words. Levels are
-//! the engine's; what else is said stands in the book's fields.
+//! the engine's; what else is said stands in the fields of book, store and log.
 
-use daybook::{Book, Level, Refusal, Request, Trade, User};
+use std::path::Path;
+
+use daybook::{Book, Level, Refusal, Request, Trade, User, MOST_ENTRIES};
 
 use crate::cancel::worth;
-use crate::source::Store;
+use crate::files::{is_standard, quoted, shown};
+use crate::log_faults::log_fault;
+use crate::log_file::LogFile;
+use crate::source::{Source, Store};
 use crate::store;
 use crate::words::{counted, euros, grouped, wide, word, AREAS};
 
@@ -139,6 +144,82 @@ fn entry(user: &User, asked: Asked) -> String {
     let (area, entry) = (word(&AREAS, code), grouped(*entry));
     let (amount, sum) = (grouped(amount), grouped(sum));
     format!("physical {area} {entry} + {amount} = {sum} MWh is not within ±1,000,000 MWh")
+}
+
+/// Why a call is refused by a question about its log, and what helps, a line each.
+/// The changed book goes to the target, or to none.
+pub fn of_log(
+    source: &Source,
+    log: &LogFile,
+    target: Option<&Path>,
+    refusal: Refusal,
+) -> (String, Vec<String>) {
+    let (name, log_word) = (&log.name, quoted(&log.path));
+    let book_word = book_word(source);
+    let noted = counted(log.log.entries().min(MOST_ENTRIES), "reduction");
+    let anew = format!("`daybook log {book_word} -o {log_word} --force` starts a new one");
+    match refusal {
+        Refusal::LogEmpty => {
+            let emptied = "a posting, a list or a guarantee call empties a log";
+            (
+                format!("{name} has no reduction noted; {emptied}"),
+                Vec::new(),
+            )
+        }
+        Refusal::LogFull => {
+            let reason = format!("{name} is full: {noted} noted, as many as it has room for");
+            (reason, full(&book_word, log))
+        }
+        _ => {
+            let book = daybook::read(&source.bytes).unwrap_or_default();
+            let fault = log_fault(log.log.as_bytes(), &source.bytes, &book);
+            let Some(fault) = fault else {
+                return (String::new(), Vec::new());
+            };
+            let held = log.log.held();
+            let advice = if fault.is_no_log() {
+                vec![format!("`daybook log {book_word} -o FILE` starts a log")]
+            } else if fault.is_other_book() && daybook::read(held).is_ok() && log.is_for(held) {
+                let target = match target.filter(|it| !is_standard(it)) {
+                    Some(target) => quoted(target),
+                    None => book_word,
+                };
+                let put = format!("`daybook log --held {log_word} -o {target} --force`");
+                let forgets = match log.log.entries() {
+                    0 => String::new(),
+                    _ => format!(", which forgets the {noted} noted"),
+                };
+                vec![
+                    format!("was a change interrupted? {put} puts the held book in its place"),
+                    format!("was the book changed without the log? {anew}{forgets}"),
+                ]
+            } else {
+                vec![format!("{anew}, which forgets what was noted")]
+            };
+            (format!("{name} {fault}"), advice)
+        }
+    }
+}
+
+/// The book as a command names it; one that is text or comes from standard input is not to be
+/// written over.
+pub fn book_word(source: &Source) -> String {
+    let is_standard = source.name == shown(Path::new("-"));
+    match source.is_text || is_standard {
+        true => "BOOK".to_string(),
+        false => quoted(Path::new(&source.name)),
+    }
+}
+
+/// What helps with a full log of a book.
+pub fn full(book: &str, log: &LogFile) -> Vec<String> {
+    let log = quoted(&log.path);
+    vec![
+        format!("`daybook withdraw {book} --log {log} --in-place` withdraws the last reduction"),
+        format!(
+            "`daybook log {book} -o {log} --force` starts a new one, which forgets those noted"
+        ),
+    ]
 }
 
 /// Whether the user is party to a trade standing below notified.
