@@ -3,7 +3,7 @@
 //! as the last call given the log left it (9,512 bytes), and 256 entries, oldest
 //! first, of 256 cuts by trade place (32 bits each); unused bytes are 0."
 
-use crate::book::{unsigned, Book, MOST_TRADES};
+use crate::book::{u32_at, Book, MOST_TRADES};
 use crate::questions::{ask, ACCEPTED};
 use crate::units::Mwh;
 
@@ -17,7 +17,7 @@ const HELD_AT: usize = 12;
 const ENTRIES_AT: usize = HELD_AT + MOST_HELD;
 
 /// The room for the held book.
-const MOST_HELD: usize = 9_512;
+pub const MOST_HELD: usize = 9_512;
 
 const CUT_LENGTH: usize = 4;
 const ENTRY_LENGTH: usize = CUT_LENGTH * MOST_TRADES;
@@ -52,8 +52,7 @@ impl Log {
     /// the book given are written as.
     pub fn from_bytes(log: &[u8], book: &Book) -> Result<Log, u32> {
         ask(19, log.len() == LOG_LENGTH)?;
-        let count = unsigned(log, COUNT_AT, 4);
-        let count = usize::try_from(count).unwrap_or(usize::MAX);
+        let count = usize::try_from(u32_at(log, COUNT_AT)).unwrap_or(usize::MAX);
         ask(19, count <= MOST_ENTRIES)?;
         let entries = log[ENTRIES_AT..].chunks_exact(ENTRY_LENGTH).take(count);
         let read = Log {
@@ -84,13 +83,24 @@ impl Log {
     /// "Cuts lie on trades of kind 0 and day 0 whose standing plus all their cuts
     /// is within notified"; past the trades no cut lies.
     fn cuts_lie_on(&self, book: &Book) -> bool {
-        (0..MOST_TRADES).all(|place| {
-            let cuts: Mwh = self.entries.iter().map(|entry| entry[place]).sum();
-            cuts == Mwh::ZERO
+        let cuts = self.all_cuts();
+        cuts.iter().enumerate().all(|(place, cuts)| {
+            *cuts == Mwh::ZERO
                 || book.trades.get(place).is_some_and(|trade| {
-                    trade.is_bilateral_today() && trade.standing + cuts <= trade.notified
+                    trade.is_bilateral_today() && trade.standing + *cuts <= trade.notified
                 })
         })
+    }
+
+    /// The cuts of all entries together, by trade place.
+    fn all_cuts(&self) -> Entry {
+        let mut all = [Mwh::ZERO; MOST_TRADES];
+        for entry in &self.entries {
+            for (sum, cut) in all.iter_mut().zip(entry) {
+                *sum = *sum + *cut;
+            }
+        }
+        all
     }
 
     /// "A reduction adds an entry": what it cut of each trade.
@@ -111,5 +121,5 @@ impl Log {
 
 /// The cuts of an entry.
 fn entry(bytes: &[u8]) -> Entry {
-    std::array::from_fn(|place| Mwh(unsigned(bytes, CUT_LENGTH * place, CUT_LENGTH)))
+    std::array::from_fn(|place| Mwh(i128::from(u32_at(bytes, CUT_LENGTH * place))))
 }
