@@ -283,7 +283,7 @@ class Books(unittest.TestCase):
         for kind in (bytes, bytearray, memoryview):
             back = daybook.withdrawal(run.book, kind(run.log))
             self.assertEqual(back, (15_000, 30_000_000, self.book, log))
-        self.assertEqual(daybook.withdrawal(run.book, run.log, self.store(20_260_318, 12)), back)
+        self.assertEqual(daybook.withdrawal(run.book, run.log, self.store(daybook.read(self.book).date, 12)), back)
         self.assertIsNone(daybook.run(self.book).log)
         posted = daybook.posting(run.book, 101, 0, 5, log=run.log)
         listed = daybook.posting_list(run.book, [(101, 0, 5)], log=run.log)

@@ -93,8 +93,8 @@ static void expect_held(const char *call, const uint8_t *log, struct part book)
 static void expect_noted(int which, uint32_t number, struct part before, struct part log, struct part book, const uint64_t *answer)
 {
     const char *call = made[which].name;
+    expect(log.size == SIZE, call, "a log of another length is accepted", number);
     uint32_t had = number_at(before.bytes + COUNT_AT), has = number_at(log.bytes + COUNT_AT);
-    expect(before.size == SIZE, call, "a log of another length is accepted", number);
     expect_held(call, log.bytes, book);
     if (which == REDUCTION)
         expect(has == had + 1, call, "not one entry more", has);
@@ -193,7 +193,8 @@ static void wrong_lengths(struct part book, struct part log, uint32_t id)
     free(twice);
     const size_t lengths[] = {0, 1, HELD_ROOM - 1, HELD_ROOM, HELD_ROOM + 1, SIZE};
     for (size_t i = 0; i < sizeof lengths / sizeof lengths[0]; i++) {
-        struct part bytes = {calloc(lengths[i] + 1, 1), lengths[i]};
+        struct part bytes = {block(lengths[i]), lengths[i]};
+        memset(bytes.bytes, FILLER, lengths[i]);
         free(started(bytes, SIZE).bytes);
         free(bytes.bytes);
     }
@@ -232,7 +233,7 @@ static void damaged_logs(struct part book, struct part log, uint32_t id)
     damaged(book, log, id, SIZE - 1, 0x01, 1, 1);
 }
 
-/* Counts of entries whose cuts are 0, and full logs whose cuts are as large as they can be. */
+/* Counts of entries whose cuts are 0; cuts that are too many only together, their sum 0 in 32 bits; full logs whose cuts are as large as they can be. */
 static void forged_logs(struct part book, uint32_t id)
 {
     const uint32_t counts[] = {0, 1, 2, 127, MOST - 1, MOST, MOST + 1, 0x10000, 0x80000000, 0xFFFFFFFF};
@@ -242,10 +243,19 @@ static void forged_logs(struct part book, uint32_t id)
         for (int which = 0; which < CALLS; which++)
             expect((ask_copies(which, book, log, id) == 19) == (counts[i] > MOST), made[which].name, "19 is for more than 256 entries", counts[i]);
     }
+    put_number(log.bytes + COUNT_AT, 2);
+    put_number(log.bytes + ENTRIES_AT, 0x80000000);
+    put_number(log.bytes + ENTRIES_AT + ENTRY_SIZE, 0x80000000);
+    for (int which = 0; which < CALLS; which++)
+        expect(ask_copies(which, book, log, id) == 19, made[which].name, "a sum of cuts beyond what was notified is not refused", 0);
     put_number(log.bytes + COUNT_AT, MOST);
-    memset(log.bytes + ENTRIES_AT, 0xFF, SIZE - ENTRIES_AT);
+    for (size_t entry = 0; entry < MOST; entry++)
+        put_number(log.bytes + ENTRIES_AT + ENTRY_SIZE * entry, 0xFFFFFFFF);
     for (int which = 0; which < CALLS; which++)
         expect(ask_copies(which, book, log, id) == 19, made[which].name, "cuts beyond what was notified are not refused", 0);
+    memset(log.bytes + ENTRIES_AT, 0xFF, SIZE - ENTRIES_AT);
+    for (int which = 0; which < CALLS; which++)
+        expect(ask_copies(which, book, log, id) == 19, made[which].name, "cuts of trades that the book has not are not refused", 0);
     free(log.bytes);
 }
 

@@ -134,7 +134,7 @@ fn a_full_log() {
     assert_eq!(request.reduction(&mut book, 103), Err(Refusal::Id));
     assert_eq!(
         request.reduction(&mut book, 102),
-        Err(Refusal::CalledIn),
+        Err(Refusal::AssignedBelowLevel),
         "the log's room is asked last"
     );
     let again = request.run(&mut book).expect("a run");
@@ -272,12 +272,12 @@ fn logs_of_another_form_or_book() {
         with(11, 1),           // a held book of more than the room
         with(12 + 28, 9),      // another held book
         with(9_523, 1),        // behind the held book
-        with(9_524, 2),        // more than was notified
+        with(9_524, 3),        // one more than was notified
         with(9_524 + 4, 1),    // a cut of no trade
         with(9_524 + 1024, 1), // behind the entries
         with(4, 0),            // entries that do not count
     ];
-    for bytes in others {
+    for (place, bytes) in others.into_iter().enumerate() {
         let mut log = Log::from_bytes(bytes.clone());
         let mut after = book.clone();
         let mut request = Request::new().log(&mut log);
@@ -295,12 +295,19 @@ fn logs_of_another_form_or_book() {
             request.run(&mut after).err(),
             request.withdraw(&mut after).err(),
         ];
-        assert_eq!(answers, [Some(Refusal::LogForm); 7]);
+        assert_eq!(answers, [Some(Refusal::LogForm); 7], "log {place}");
         // Queries leave a log aside.
         assert_eq!(request.show(&after, 101), daybook::show(&book, 101));
         assert_eq!(after, book);
         assert_eq!(log.into_bytes(), bytes);
     }
+    // A cut of 2 raises the sale, standing at 298, just to the 300 that were notified.
+    let (mut after, mut log) = (book.clone(), Log::from_bytes(with(9_524, 2)));
+    let back = Request::new().log(&mut log).withdraw(&mut after);
+    assert_eq!(back.map(|done| done.mwh), Ok(2));
+    let standing = daybook::read(&after).map(|book| book.trades[0].standing);
+    assert_eq!(standing, Ok(300));
+
     let mut after = book.clone();
     assert_eq!(
         Request::new().withdraw(&mut after),
