@@ -23,20 +23,23 @@ struct Given {
     log: Vec<u8>,
 }
 
+/// A call on a copy of the book and of the log.
+type Call = Box<dyn FnMut(&mut [u8], &mut [u8])>;
+
 /// A line of the table, as far as it is measured.
-struct Row<'a> {
+struct Row {
     name: &'static str,
     given: Given,
-    call: Box<dyn FnMut(&mut [u8], &mut [u8]) + 'a>,
+    call: Call,
     samples: Vec<f64>,
 }
 
-impl<'a> Row<'a> {
+impl Row {
     fn new(
         name: &'static str,
         given: &Given,
-        call: impl FnMut(&mut [u8], &mut [u8]) + 'a,
-    ) -> Row<'a> {
+        call: impl FnMut(&mut [u8], &mut [u8]) + 'static,
+    ) -> Row {
         Row {
             name,
             given: given.clone(),
@@ -111,7 +114,7 @@ fn print_line(name: &str, time: Time) {
 
 /// The scan, and a posting that question 8 refuses: without a log, with one that has
 /// no entry, with a full one.
-fn questions<'a>(empty: &Given, full: &Given) -> Vec<Row<'a>> {
+fn questions(empty: &Given, full: &Given) -> Vec<Row> {
     let refused = |book: &mut [u8], log: Option<&mut [u8]>| {
         assert_eq!(archive::posting(book, None, log, NOBODY, 0, 1), 8);
     };
@@ -140,7 +143,7 @@ fn scan(bytes: &[u8]) -> u8 {
 
 /// Accepted calls with a log that has no entry, beside those without, and the
 /// withdrawal of one reduction.
-fn calls<'a>(subject: &Subject, empty: &Given, reduced: &Given) -> Vec<Row<'a>> {
+fn calls(subject: &Subject, empty: &Given, reduced: &Given) -> Vec<Row> {
     let (called, id) = (subject.called, subject.reduced);
     let posting = move |book: &mut [u8], log: Option<&mut [u8]>| {
         expect(archive::posting(book, None, log, called, 0, 1));
