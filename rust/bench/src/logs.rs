@@ -96,15 +96,17 @@ pub fn print_table(subject: &Subject, options: &Options) {
     for (row, time) in rows.iter().zip(&times) {
         print_line(row.name, *time);
     }
-    let [scan, refused, empty, full] = [times[0], times[1], times[2], times[3]];
-    for (name, time) in [("no entry", empty), ("256 entries", full)] {
-        let asked = time - refused;
+    let (scans, asked) = times.split_at(SCANS.len());
+    for (name, time) in [("no entry", asked[1]), ("256 entries", asked[2])] {
+        let asked = time - asked[0];
         print_line(&format!("question 19, {name}"), asked);
-        let multiple = asked / scan;
-        println!(
-            "  the scan's time {:.2} times (median), {:.2} times (least)",
-            multiple.median, multiple.least
-        );
+        for ((scan, _), time) in SCANS.iter().zip(scans) {
+            let multiple = asked / *time;
+            println!(
+                "  {:.2} times the {scan} (median), {:.2} times (least)",
+                multiple.median, multiple.least
+            );
+        }
     }
 }
 
@@ -112,16 +114,19 @@ fn print_line(name: &str, time: Time) {
     println!("{name:<31}{:>11.3}{:>11.3}", time.median, time.least);
 }
 
-/// The scan, and a posting that question 8 refuses: without a log, with one that has
+/// The scans, and a posting that question 8 refuses: without a log, with one that has
 /// no entry, with a full one.
 fn questions(empty: &Given, full: &Given) -> Vec<Row> {
     let refused = |book: &mut [u8], log: Option<&mut [u8]>| {
         assert_eq!(archive::posting(book, None, log, NOBODY, 0, 1), 8);
     };
-    vec![
-        Row::new("scan of the log", empty, |_, log| {
+    let scans = SCANS.map(|(name, scan)| {
+        Row::new(name, empty, move |_, log| {
             black_box(scan(black_box(log)));
-        }),
+        })
+    });
+    let mut rows = Vec::from(scans);
+    rows.extend([
         Row::new("posting refused by 8", empty, move |book, _| {
             refused(book, None);
         }),
@@ -131,14 +136,36 @@ fn questions(empty: &Given, full: &Given) -> Vec<Row> {
         Row::new("the same, log of 256", full, move |book, log| {
             refused(book, Some(log));
         }),
-    ]
+    ]);
+    rows
 }
 
-/// The sum of the bytes, of 8 bits: a plain walk that the compiler makes with vectors
-/// of bytes, as quick as the memory hands them over.
-fn scan(bytes: &[u8]) -> u8 {
+/// Plain walks over all bytes of a log, which the compiler makes with vectors.
+const SCANS: [(&str, fn(&[u8]) -> u64); 3] = [
+    ("scan: sum of the bytes", sum_of_bytes),
+    ("scan: is each byte 0", is_zero),
+    ("scan: sum of 32-bit words", sum_of_words),
+];
+
+/// The sum in 8 bits.
+#[inline(never)]
+fn sum_of_bytes(bytes: &[u8]) -> u64 {
     let add = |sum: u8, byte: &u8| sum.wrapping_add(*byte);
-    bytes.iter().fold(0, add)
+    u64::from(bytes.iter().fold(0, add))
+}
+
+/// Without an early end.
+#[inline(never)]
+fn is_zero(bytes: &[u8]) -> u64 {
+    let so_far = |zero: bool, byte: &u8| zero & (*byte == 0);
+    u64::from(bytes.iter().fold(true, so_far))
+}
+
+/// The sum in 64 bits, as that of a trade's cuts has to be.
+#[inline(never)]
+fn sum_of_words(bytes: &[u8]) -> u64 {
+    let words = bytes.as_chunks::<4>().0.iter();
+    words.map(|word| u64::from(u32::from_le_bytes(*word))).sum()
 }
 
 /// Accepted calls with a log that has no entry, beside those without, and the
