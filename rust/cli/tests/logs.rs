@@ -353,3 +353,39 @@ fn logs_in_words() {
         "reduction 1 cuts trade 256, which the book does not have",
     );
 }
+
+/// The book that a log holds comes out of a log that is broken behind it, too, which
+/// is told; not out of a file without the mark.
+#[test]
+fn the_held_book() {
+    let pair = Pair::new("held");
+    let book = Generator::new(305).book(Kind::Chain);
+    let log = Log::start(&book).expect("a log").into_bytes();
+    let held = |place: usize, byte: u8| {
+        let mut bytes = log.clone();
+        bytes[place] = byte;
+        fs::write(&pair.log, bytes).expect("a log");
+        pair.done("log --held LOG -o -")
+    };
+    let whole = held(3, 0);
+    assert_eq!((whole.out, whole.messages.as_str()), (book.clone(), ""));
+    let broken = held(271_667, 1);
+    assert_eq!((broken.status, &broken.out), (Status::Accepted, &book));
+    assert!(broken.messages.contains("is not one for this book"));
+    for (place, byte) in [(0, b'x'), (3, 1), (8, 3), (12, b'x'), (11, 9)] {
+        let refused = held(place, byte);
+        assert_eq!((refused.status, refused.out.len()), (Status::Refused, 0));
+        assert!(
+            refused.messages.contains("refused by question"),
+            "{}",
+            refused.messages
+        );
+    }
+    fs::write(&pair.log, &book).expect("a file");
+    let refused = pair.done("log --held LOG -o -");
+    assert!(
+        refused.messages.contains("is a book, not a log"),
+        "{}",
+        refused.messages
+    );
+}
