@@ -341,7 +341,24 @@ fn logs_in_words() {
     refused(&with(9_523, 7), "byte 9,523 is not used, and not 0");
     refused(&with(271_667, 7), "byte 271,667 is not used, and not 0");
     refused(&with(9_524, 7), "byte 9,524 is not used, and not 0");
+    // Of another length or date it is the log of another book; no interrupted change.
     let held = Log::start(&other).expect("a log");
+    refused(held.as_bytes(), "it is the log of another book");
+    let mut dated = daybook::read(&book).expect("a book");
+    dated.date = if dated.date == 20_260_318 {
+        20_260_319
+    } else {
+        20_260_318
+    };
+    let mut bytes = vec![0; dated.length()];
+    daybook::write(&dated, &mut bytes).expect("a book");
+    let held = Log::start(&bytes).expect("a log");
+    refused(held.as_bytes(), "holds a book of another date");
+    refused(held.as_bytes(), "it is the log of another book");
+    let mut posted = book.clone();
+    let id = dated.users[0].id;
+    daybook::posting(&mut posted, id, 0, 1).expect("a posting");
+    let held = Log::start(&posted).expect("a log");
     refused(held.as_bytes(), "puts the held book in its place");
     let mut forged = with(4, 1);
     forged[9_526] = 9;
