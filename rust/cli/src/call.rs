@@ -196,15 +196,13 @@ impl Call {
         outcome: &mut Outcome,
     ) -> Result<(), Failure> {
         let Some(target) = &self.target else {
-            let is_changed = changed.book != self.source.bytes;
-            match (is_changed, &self.log) {
-                (false, _) => {}
-                (true, None) => {
-                    outcome.message("the changed book is not kept; -o FILE or --in-place keeps it");
-                }
-                (true, Some(_)) => outcome.message(
-                    "the changed book and log are not kept; -o FILE or --in-place keeps them",
-                ),
+            let (what, them) = match &self.log {
+                Some(_) => ("book and log are", "them"),
+                None => ("book is", "it"),
+            };
+            if changed.book != self.source.bytes {
+                let hint = format!("-o FILE or --in-place keeps {them}");
+                outcome.message(format!("the changed {what} not kept; {hint}"));
             }
             return Ok(());
         };

@@ -108,8 +108,12 @@ fn put(
     Ok(outcome)
 }
 
-/// The book that a log holds, or why it is none.
+/// The book that a log holds, or why it is none. A log that is broken behind the held
+/// book may still hold one.
 fn held_book(log: &LogFile) -> Result<Source, Failure> {
+    if !log.log.as_bytes().starts_with(b"GDL\0") {
+        return Err(refusals::of_held(log, Refusal::LogForm));
+    }
     let bytes = log.log.held().to_vec();
     match daybook::read(&bytes) {
         Ok(_) => accepted(&format!("{}, the held book", log.name), bytes),

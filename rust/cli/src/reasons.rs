@@ -3,11 +3,11 @@
 
 use std::path::Path;
 
-use daybook::{Book, Level, Refusal, Request, Trade, User, MOST_ENTRIES};
+use daybook::{Book, Level, Refusal, Request, Trade, User};
 
 use crate::cancel::worth;
 use crate::files::{is_standard, quoted, shown};
-use crate::log_faults::log_fault;
+use crate::log_faults::{log_fault, LogFault};
 use crate::log_file::LogFile;
 use crate::source::{Source, Store};
 use crate::store;
@@ -154,55 +154,66 @@ pub fn of_log(
     target: Option<&Path>,
     refusal: Refusal,
 ) -> (String, Vec<String>) {
-    let (name, log_word) = (&log.name, quoted(&log.path));
-    let book_word = book_word(source);
-    let noted = counted(log.log.entries().min(MOST_ENTRIES), "reduction");
-    let anew = format!("`daybook log {book_word} -o {log_word} --force` starts a new one");
+    let name = &log.name;
     match refusal {
         Refusal::LogEmpty => {
             let emptied = "a posting, a list or a guarantee call empties a log";
-            (
-                format!("{name} has no reduction noted; {emptied}"),
-                Vec::new(),
-            )
+            let reason = format!("{name} has no reduction noted; {emptied}");
+            (reason, Vec::new())
         }
         Refusal::LogFull => {
+            let noted = counted(log.log.entries(), "reduction");
             let reason = format!("{name} is full: {noted} noted, as many as it has room for");
-            (reason, full(&book_word, log))
+            (reason, full(&book_word(source), log))
         }
         _ => {
             let book = daybook::read(&source.bytes).unwrap_or_default();
-            let fault = log_fault(log.log.as_bytes(), &source.bytes, &book);
-            let Some(fault) = fault else {
-                return (String::new(), Vec::new());
-            };
-            let held = log.log.held();
-            let advice = if fault.is_no_log() {
-                vec![format!("`daybook log {book_word} -o FILE` starts a log")]
-            } else if fault.is_other_book() && daybook::read(held).is_ok() && log.is_for(held) {
-                let target = match target.filter(|it| !is_standard(it)) {
-                    Some(target) => quoted(target),
-                    None => book_word,
-                };
-                let put = format!("`daybook log --held {log_word} -o {target} --force`");
-                let forgets = match log.log.entries() {
-                    0 => String::new(),
-                    _ => format!(", which forgets the {noted} noted"),
-                };
-                vec![
-                    format!("was a change interrupted? {put} puts the held book in its place"),
-                    format!("was the book changed without the log? {anew}{forgets}"),
-                ]
-            } else {
-                vec![format!("{anew}, which forgets what was noted")]
-            };
-            (format!("{name} {fault}"), advice)
+            match log_fault(log.log.as_bytes(), &source.bytes, &book) {
+                None => (String::new(), Vec::new()),
+                Some(fault) => {
+                    let advice = log_advice(source, log, target, fault);
+                    (format!("{name} {fault}"), advice)
+                }
+            }
         }
     }
 }
 
-/// The book as a command names it; one that is text or comes from standard input is not to be
-/// written over.
+/// What helps where a log is none for a book. No call with a log changes the date or
+/// the length of a book: a change that was interrupted leaves other bytes alone.
+fn log_advice(
+    source: &Source,
+    log: &LogFile,
+    target: Option<&Path>,
+    fault: LogFault,
+) -> Vec<String> {
+    let (book, file, held) = (book_word(source), quoted(&log.path), log.log.held());
+    if fault.is_no_log() {
+        return vec![format!("`daybook log {book} -o FILE` starts a log")];
+    }
+    let anew = format!("`daybook log {book} -o {file} --force` starts a new one");
+    if !fault.is_other_book() || daybook::read(held).is_err() || !log.is_for(held) {
+        return vec![format!("{anew}, which forgets what was noted")];
+    }
+    let forgets = match log.log.entries() {
+        0 => String::new(),
+        count => format!(", which forgets the {} noted", counted(count, "reduction")),
+    };
+    if !matches!(fault, LogFault::OtherBytes { .. }) {
+        return vec![format!("it is the log of another book; {anew}{forgets}")];
+    }
+    let is_text = |it: &Path| source.is_text && it == Path::new(&source.name);
+    let target = target.filter(|it| !is_standard(it) && !is_text(it));
+    let target = target.map_or(book, quoted);
+    let put = format!("`daybook log --held {file} -o {target} --force`");
+    vec![
+        format!("was a change interrupted? {put} puts the held book in its place"),
+        format!("was the book changed without the log? {anew}{forgets}"),
+    ]
+}
+
+/// The book as a command names it; one that is text or comes from standard input is
+/// not to be written over.
 pub fn book_word(source: &Source) -> String {
     let is_standard = source.name == shown(Path::new("-"));
     match source.is_text || is_standard {

@@ -341,7 +341,24 @@ fn logs_in_words() {
     refused(&with(9_523, 7), "byte 9,523 is not used, and not 0");
     refused(&with(271_667, 7), "byte 271,667 is not used, and not 0");
     refused(&with(9_524, 7), "byte 9,524 is not used, and not 0");
+    // Of another length or date it is the log of another book; no interrupted change.
     let held = Log::start(&other).expect("a log");
+    refused(held.as_bytes(), "it is the log of another book");
+    let mut dated = daybook::read(&book).expect("a book");
+    dated.date = if dated.date == 20_260_318 {
+        20_260_319
+    } else {
+        20_260_318
+    };
+    let mut bytes = vec![0; dated.length()];
+    daybook::write(&dated, &mut bytes).expect("a book");
+    let held = Log::start(&bytes).expect("a log");
+    refused(held.as_bytes(), "holds a book of another date");
+    refused(held.as_bytes(), "it is the log of another book");
+    let mut posted = book.clone();
+    let id = dated.users[0].id;
+    daybook::posting(&mut posted, id, 0, 1).expect("a posting");
+    let held = Log::start(&posted).expect("a log");
     refused(held.as_bytes(), "puts the held book in its place");
     let mut forged = with(4, 1);
     forged[9_526] = 9;
@@ -351,5 +368,41 @@ fn logs_in_words() {
     refused(
         &forged,
         "reduction 1 cuts trade 256, which the book does not have",
+    );
+}
+
+/// The book that a log holds comes out of a log that is broken behind it, too, which
+/// is told; not out of a file without the mark.
+#[test]
+fn the_held_book() {
+    let pair = Pair::new("held");
+    let book = Generator::new(305).book(Kind::Chain);
+    let log = Log::start(&book).expect("a log").into_bytes();
+    let held = |place: usize, byte: u8| {
+        let mut bytes = log.clone();
+        bytes[place] = byte;
+        fs::write(&pair.log, bytes).expect("a log");
+        pair.done("log --held LOG -o -")
+    };
+    let whole = held(3, 0);
+    assert_eq!((whole.out, whole.messages.as_str()), (book.clone(), ""));
+    let broken = held(271_667, 1);
+    assert_eq!((broken.status, &broken.out), (Status::Accepted, &book));
+    assert!(broken.messages.contains("is not one for this book"));
+    for (place, byte) in [(0, b'x'), (3, 1), (8, 3), (12, b'x'), (11, 9)] {
+        let refused = held(place, byte);
+        assert_eq!((refused.status, refused.out.len()), (Status::Refused, 0));
+        assert!(
+            refused.messages.contains("refused by question"),
+            "{}",
+            refused.messages
+        );
+    }
+    fs::write(&pair.log, &book).expect("a file");
+    let refused = pair.done("log --held LOG -o -");
+    assert!(
+        refused.messages.contains("is a book, not a log"),
+        "{}",
+        refused.messages
     );
 }
