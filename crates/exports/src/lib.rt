@@ -1,28 +1,25 @@
 // The C interface over the public calls of `daybook` and `shrinkage`; include/daybook.h declares it. A slice is a pointer and a length in
 // C. No function asks anything of what it is lent: a part for answers of another length than the function's gets the number 255, and
-// nothing is asked or changed. A store comes with a flag, which is 0 where there is none.
+// nothing is asked or changed. A store and a log come with a flag each, which is 0 where there is none. The functions that can change a
+// book stand in changes.rt.
 ghost use mathlib.Core.Path.{_≡_};
-ghost use Rattle.rules.specs.Calls.{only, morningCall, afternoonCall};
 ghost use Rattle.rules.specs.Queries.{morningLevelOf, afternoonLevelOf};
-ghost use Rattle.requests.specs.Request.{requestOf, settingOf};
-ghost use Rattle.requests.specs.Carried.{Carried, Posted};
-ghost use Rattle.call_posting.specs.Posting.{postingOf};
+ghost use Rattle.requests.specs.Request.{settingOf};
 ghost use Rattle.call_level.specs.Times.{queryOf};
-ghost use Rattle.call_guarantee.specs.Times.{callOf};
 ghost use Rattle.call_warning.specs.Warned.{warningOf};
-ghost use Rattle.call_reduction.specs.Call.{reductionOf};
-ghost use Rattle.call_run.specs.Call.{runCall};
 ghost use Rattle.call_show.specs.Shown.{picked};
-ghost use Rattle.exports_answers.specs.Numbers.{levelNumbers, warningNumbers, callNumbers, reductionNumbers, runNumbers};
-ghost use Rattle.exports.specs.Answers.{isYes, storeBy, Replied, Answered, Copied};
+ghost use Rattle.exports_answers.specs.Numbers.{levelNumbers, warningNumbers};
+ghost use Rattle.exports.specs.Answers.{isYes, storeBy, Replied, Copied};
 ghost use Rattle.exports.specs.Answers.{ReadInto, WrittenFrom, ReturnedInto, SpreadInto, CancelledInto};
 use shrinkage::Kwh;
+
+mod changes;
 
 // The number for a lent part of another length than the function asks for.
 const WRONG_LENGTH: u32 = 255;
 
 // The number of this interface, raised with each change of a signature or of the image.
-const INTERFACE: u32 = 3;
+const INTERFACE: u32 = 4;
 
 // The bytes of an image, and of a shown record.
 const IMAGE_SIZE: usize = 8744;
@@ -37,13 +34,7 @@ const LEVEL_NUMBERS: usize = 1;
 
 const WARNING_NUMBERS: usize = 1;
 
-const CALL_NUMBERS: usize = 2;
-
-const REDUCTION_NUMBERS: usize = 5;
-
 const CANCELLATION_NUMBERS: usize = 3;
-
-const RUN_NUMBERS: usize = 3;
 
 const RETURN_NUMBERS: usize = 131;
 
@@ -54,7 +45,7 @@ const SHRINKAGE_DAYS: usize = 30;
 // The number of the interface, as the header has it in DAYBOOK_INTERFACE.
 #[no_mangle]
 pub extern "C" fn daybook_interface() -> u32
-    ensures { λ r. ⌜ r ≡ 3 ⌝ }
+    ensures { λ r. ⌜ r ≡ 4 ⌝ }
 {
     INTERFACE
 }
@@ -131,38 +122,6 @@ pub extern "C" fn daybook_show_picked<'a>(
     number
 }
 
-// Adds a signed amount to a user's physical entry and position in an area.
-#[no_mangle]
-pub extern "C" fn daybook_posting(
-    book: &mut [u8],
-    with_store: u32,
-    store: &[u8],
-    id: u32,
-    area: u32,
-    amount: i64,
-) -> u32
-    ensures { λ r. ⌜ Carried (requestOf (storeBy «with_store» (now (store .entry))) (postingOf id area amount)) (now (book .entry)) (only r) (now (book .exit)) ⌝ }
-{
-    daybook::posting(book, with_store != 0, store, id, area, amount)
-}
-
-// Posts a list of corrections, given as columns, and stores the number of each line in its place. Places of another count than the lines
-// are refused by question 15.
-#[no_mangle]
-pub extern "C" fn daybook_list(
-    book: &mut [u8],
-    with_store: u32,
-    store: &[u8],
-    ids: &[u32],
-    areas: &[u32],
-    amounts: &[i64],
-    places: &mut [u32],
-) -> u32
-    ensures { λ r. ⌜ Posted (storeBy «with_store» (now (store .entry))) (now (ids .entry)) (now (areas .entry)) (now (amounts .entry)) (now (places .entry)) (now (book .entry)) r (now (book .exit)) (now (places .exit)) ⌝ }
-{
-    daybook::list(book, with_store != 0, store, ids, areas, amounts, places)
-}
-
 // The level of a user at one time of the day: 1 number.
 fn level(
     book: &[u8],
@@ -209,52 +168,6 @@ pub extern "C" fn daybook_afternoon_level(
     level(book, with_store, store, id, true, answer)
 }
 
-// Raises a user's blocked guarantee to its level at one time of the day: 2 numbers, the level and what was added.
-fn call(
-    book: &mut [u8],
-    with_store: u32,
-    store: &[u8],
-    id: u32,
-    afternoon: bool,
-    answer: &mut [u64],
-) -> u32
-    ensures { λ r. ⌜ Answered 2 callNumbers (requestOf (storeBy «with_store» (now (store .entry))) (callOf afternoon id)) (now (book .entry)) (now (answer .entry)) r (now (answer .exit)) (now (book .exit)) ⌝ }
-{
-    if answer.len() != CALL_NUMBERS {
-        return WRONG_LENGTH;
-    }
-    let call = daybook::call(book, with_store != 0, store, id, afternoon);
-    exports_answers::store_call(answer, call)
-}
-
-// Raises a user's blocked guarantee to its morning level: 2 numbers, the level and what was added.
-#[no_mangle]
-pub extern "C" fn daybook_morning_call(
-    book: &mut [u8],
-    with_store: u32,
-    store: &[u8],
-    id: u32,
-    answer: &mut [u64],
-) -> u32
-    ensures { λ r. ⌜ Answered 2 callNumbers (requestOf (storeBy «with_store» (now (store .entry))) (morningCall id)) (now (book .entry)) (now (answer .entry)) r (now (answer .exit)) (now (book .exit)) ⌝ }
-{
-    call(book, with_store, store, id, false, answer)
-}
-
-// Raises a user's blocked guarantee to its afternoon level: 2 numbers, the level and what was added.
-#[no_mangle]
-pub extern "C" fn daybook_afternoon_call(
-    book: &mut [u8],
-    with_store: u32,
-    store: &[u8],
-    id: u32,
-    answer: &mut [u64],
-) -> u32
-    ensures { λ r. ⌜ Answered 2 callNumbers (requestOf (storeBy «with_store» (now (store .entry))) (afternoonCall id)) (now (book .entry)) (now (answer .entry)) r (now (answer .exit)) (now (book .exit)) ⌝ }
-{
-    call(book, with_store, store, id, true, answer)
-}
-
 // Whether a user is warned at midday: 1 number, 1 for yes and 0 for no.
 #[no_mangle]
 pub extern "C" fn daybook_warning(
@@ -271,25 +184,6 @@ pub extern "C" fn daybook_warning(
     }
     let reply = daybook::warning(book, with_store != 0, store, id);
     exports_answers::store_warning(answer, reply)
-}
-
-// Cuts a user's bilateral sales for its target: 5 numbers, the MWh cut, their worth, the target, and what the worth falls short of it or
-// exceeds it by.
-#[no_mangle]
-pub extern "C" fn daybook_reduction(
-    book: &mut [u8],
-    with_store: u32,
-    store: &[u8],
-    id: u32,
-    answer: &mut [u64],
-) -> u32
-    ensures { λ r. ⌜ Answered 5 reductionNumbers (requestOf (storeBy «with_store» (now (store .entry))) (reductionOf id)) (now (book .entry)) (now (answer .entry)) r (now (answer .exit)) (now (book .exit)) ⌝ }
-{
-    if answer.len() != REDUCTION_NUMBERS {
-        return WRONG_LENGTH;
-    }
-    let reduction = daybook::reduction(book, with_store != 0, store, id);
-    exports_answers::store_reduction(answer, reduction)
 }
 
 // Finds whole trades to cancel for a user's target: 256 marks by trade place, and 3 numbers, the excess, the tries made, and 1 where the
@@ -314,23 +208,6 @@ pub extern "C" fn daybook_cancellation(
     }
     let cancellation = daybook::cancellation(book, with_store != 0, store, id, tries);
     exports_cancellation::store_cancellation(marks, answer, cancellation)
-}
-
-// Reduces users until none that is short of cover has an eligible trade: 3 numbers, the reductions, the MWh cut and their worth.
-#[no_mangle]
-pub extern "C" fn daybook_run(
-    book: &mut [u8],
-    with_store: u32,
-    store: &[u8],
-    answer: &mut [u64],
-) -> u32
-    ensures { λ r. ⌜ Answered 3 runNumbers (requestOf (storeBy «with_store» (now (store .entry))) runCall) (now (book .entry)) (now (answer .entry)) r (now (answer .exit)) (now (book .exit)) ⌝ }
-{
-    if answer.len() != RUN_NUMBERS {
-        return WRONG_LENGTH;
-    }
-    let run = daybook::run(book, with_store != 0, store);
-    exports_answers::store_run(answer, run)
 }
 
 // ---- the return of shrinkage, without a book

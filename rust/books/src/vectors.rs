@@ -1,6 +1,7 @@
 //! The outside vectors of `vectors/`, `vectors/version-1/` and
-//! `vectors/version-2/`: printed days, and calls with their answers.
-//! `vectors/README.md` has both formats.
+//! `vectors/version-2/`: printed days, those of `vectors/asks/` too, and calls with
+//! their answers. `vectors/README.md` has the formats; module `asks` has the calls of
+//! `vectors/asks/`.
 
 use std::fs;
 use std::path::PathBuf;
@@ -8,7 +9,7 @@ use std::path::PathBuf;
 use reference::transfer::Image;
 use reference::version::{FIRST_HEADER_LENGTH, LONGEST_HEADER_LENGTH};
 
-use crate::calls::{Answer, Call};
+use crate::calls::{Answer, Call, Implementation};
 use crate::sha256::{hex, sha256};
 
 /// Lines of `calls.txt` that are calls.
@@ -17,11 +18,8 @@ pub const CALLS: usize = 2_167;
 /// Lines of `version-1/calls.txt` and of `version-2/calls.txt`.
 pub const REQUESTS: usize = 3_566 + 2_773;
 
-/// Books with a printed day, of all three folders.
-pub const DAYS: usize = 155;
-
-/// What answers a call on a book with a store, or none, and changes the book.
-pub type Implementation = fn(&mut [u8], Option<&[u8]>, &Call) -> Answer;
+/// Books with a printed day, of all four folders.
+pub const DAYS: usize = 155 + 21;
 
 /// A book and what `day` must print for it.
 pub struct Day {
@@ -43,7 +41,7 @@ fn file(name: &str) -> Vec<u8> {
 /// Every printed day, by name.
 pub fn days() -> Vec<Day> {
     let mut days = Vec::new();
-    let folders = ["", "version-1", "version-2"].map(|name| folder().join(name));
+    let folders = ["", "version-1", "version-2", "asks"].map(|name| folder().join(name));
     let entries = folders
         .iter()
         .flat_map(|folder| fs::read_dir(folder).expect("a folder"));
@@ -70,7 +68,7 @@ pub fn replay(implementation: Implementation) -> usize {
     for line in text.lines().filter(|line| !line.starts_with('#')) {
         let (words, expected) = line.split_once(" -> ").expect("a call and its answer");
         let (mut book, call) = parsed(&words.split(' ').collect::<Vec<&str>>(), &left);
-        let given = implementation(&mut book, None, &call);
+        let given = implementation(&mut book, None, None, &call);
         assert_eq!(printed(&book, &call, &given), expected, "{words}");
         replayed += 1;
         left = after(book, &call);
@@ -187,7 +185,7 @@ fn replay_folder(folder: &str, implementation: Implementation) -> usize {
         let (words, expected) = line.split_once(" -> ").expect("a call and its answer");
         let request = Request::parsed(folder, words);
         let mut book = request.book.clone();
-        let given = implementation(&mut book, request.store.as_deref(), &request.call);
+        let given = implementation(&mut book, request.store.as_deref(), None, &request.call);
         assert_eq!(keyed(&book, &request.call, &given), expected, "{words}");
         replayed += 1;
     }
@@ -269,7 +267,7 @@ impl Request {
 }
 
 /// The bytes that are written in hex.
-fn bytes_of(hex: &str) -> Vec<u8> {
+pub(crate) fn bytes_of(hex: &str) -> Vec<u8> {
     let digits = hex.as_bytes().chunks(2);
     let byte = |digits: &[u8]| {
         let digits = str::from_utf8(digits).expect("digits");

@@ -1,7 +1,7 @@
 //! The engine's calls on a book: `show`, `level`, `call`, `warn`, `post` and
 //! `reduce`.
 
-use daybook::{GuaranteeCall, Level, Reduction, Refusal, User};
+use daybook::{GuaranteeCall, Level, Reduction, Refusal, Request, User};
 
 use crate::arguments::{amount, Arguments};
 use crate::call::{answer, Call};
@@ -78,7 +78,8 @@ pub fn warn(arguments: &Arguments) -> Result<Outcome, Failure> {
 }
 
 pub fn guarantee_call(arguments: &Arguments) -> Result<Outcome, Failure> {
-    let usage = "call BOOK ID --morning|--afternoon [-o FILE|--in-place] [--csv|--json] \
+    let usage =
+        "call BOOK ID --morning|--afternoon [-o FILE|--in-place] [--log FILE] [--csv|--json] \
                  [--store FILE]";
     arguments.expect(2, 2, usage)?;
     let morning = arguments.has("--morning");
@@ -90,7 +91,7 @@ pub fn guarantee_call(arguments: &Arguments) -> Result<Outcome, Failure> {
         false => Asked::AfternoonCall,
     };
     let id = arguments.id(1)?;
-    changing(arguments, id, asked, |request, book| {
+    changing(arguments, id, asked, |mut request, book| {
         let called = match morning {
             true => request.morning_call(book, id)?,
             false => request.afternoon_call(book, id)?,
@@ -111,7 +112,8 @@ pub fn guarantee_call(arguments: &Arguments) -> Result<Outcome, Failure> {
 }
 
 pub fn post(arguments: &Arguments) -> Result<Outcome, Failure> {
-    let usage = "post BOOK ID AREA MWH [-o FILE|--in-place] [--csv|--json] [--store FILE]";
+    let usage = "post BOOK ID AREA MWH [-o FILE|--in-place] [--log FILE] [--csv|--json] \
+                 [--store FILE]";
     arguments.expect(4, 4, usage)?;
     let id = arguments.id(1)?;
     let name = arguments.word(2);
@@ -126,7 +128,7 @@ pub fn post(arguments: &Arguments) -> Result<Outcome, Failure> {
         arguments,
         id,
         Asked::Posting { area, amount },
-        |request, book| {
+        |mut request, book| {
             request.posting(book, id, area, amount)?;
             let user = request.show(book, id)?;
             let place = usize::try_from(area).unwrap_or(0).min(2);
@@ -147,10 +149,11 @@ pub fn post(arguments: &Arguments) -> Result<Outcome, Failure> {
 }
 
 pub fn reduce(arguments: &Arguments) -> Result<Outcome, Failure> {
-    let usage = "reduce BOOK ID [-o FILE|--in-place] [--csv|--json] [--store FILE]";
+    let usage = "reduce BOOK ID [-o FILE|--in-place] [--log FILE] [--csv|--json] \
+                 [--store FILE]";
     arguments.expect(2, 2, usage)?;
     let id = arguments.id(1)?;
-    changing(arguments, id, Asked::Reduction, |request, book| {
+    changing(arguments, id, Asked::Reduction, |mut request, book| {
         let done = request.reduction(book, id)?;
         Ok((
             reduction_line(id, &done),
@@ -184,16 +187,17 @@ fn changing(
     arguments: &Arguments,
     id: u32,
     asked: Asked,
-    make: impl Fn(daybook::Request, &mut [u8]) -> Result<(String, Object), Refusal>,
+    make: impl Fn(Request, &mut [u8]) -> Result<(String, Object), Refusal>,
 ) -> Result<Outcome, Failure> {
     let call = Call::new(arguments)?;
-    let mut bytes = call.source.bytes.clone();
+    let mut changed = call.unchanged();
     let mut outcome = Outcome::default();
-    match make(call.store.request(), &mut bytes) {
+    match make(call.request(&mut changed.log), &mut changed.book) {
         Err(refusal) => call.refuse(&mut outcome, Some(id), asked, refusal),
         Ok((line, object)) => {
-            call.tell(&mut outcome, line, object);
-            call.keep(arguments, &bytes, &mut outcome)?;
+            call.tell(&mut outcome, line, call.noting(object, &changed));
+            call.tell_log(&mut outcome, &changed);
+            call.keep(arguments, &changed, &mut outcome)?;
         }
     }
     Ok(outcome)

@@ -37,10 +37,11 @@ pub fn change(arguments: &Arguments) -> Result<Outcome, Failure> {
             define_position(&mut book, place, area);
         }
     }
-    let mut bytes = vec![0; book.length()];
-    daybook::write(&book, &mut bytes)
+    let mut changed = call.unchanged();
+    changed.book = vec![0; book.length()];
+    daybook::write(&book, &mut changed.book)
         .map_err(|refusal| refused(refusal, faults_of(&book, refusal.number())))?;
-    call.keep(arguments, &bytes, &mut outcome)?;
+    call.keep(arguments, &changed, &mut outcome)?;
     Ok(outcome)
 }
 

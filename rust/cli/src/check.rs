@@ -2,7 +2,7 @@
 
 use std::path::Path;
 
-use daybook::Refusal;
+use daybook::{Book, Refusal};
 
 use crate::arguments::Arguments;
 use crate::files;
@@ -44,23 +44,27 @@ fn with_store(source: Source, store: &Store) -> Result<Source, Failure> {
     }
 }
 
-/// An accepted book in a line; the version is told in words where it is not the
-/// first.
+/// An accepted book in a line.
 fn told(source: &Source, json: bool) -> String {
     let name = &source.name;
     let book = daybook::read(&source.bytes).unwrap_or_default();
-    let (version, day) = (book.version, date(book.date));
-    let (users, trades) = (book.users.len(), book.trades.len());
     if json {
         let object = Object::new().string("book", name).put("accepted", true);
-        let object = object.put("number", 0).put("version", version);
-        let object = object.string("date", &day);
-        return object.put("users", users).put("trades", trades).end();
+        let object = object.put("number", 0).put("version", book.version);
+        let object = object.string("date", &date(book.date));
+        let object = object.put("users", book.users.len());
+        return object.put("trades", book.trades.len()).end();
     }
-    let version = match version {
+    format!("{name}: accepted: {}", described(&book))
+}
+
+/// A book in a few words; the version is told where it is not the first.
+pub fn described(book: &Book) -> String {
+    let version = match book.version {
         1 => String::new(),
-        _ => format!("version {version}, "),
+        version => format!("version {version}, "),
     };
-    let (users, trades) = (counted(users, "user"), counted(trades, "trade"));
-    format!("{name}: accepted: {version}{day}, {users}, {trades}")
+    let users = counted(book.users.len(), "user");
+    let trades = counted(book.trades.len(), "trade");
+    format!("{version}{}, {users}, {trades}", date(book.date))
 }

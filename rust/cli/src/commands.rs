@@ -6,8 +6,8 @@ use crate::arguments::{Arguments, Known};
 use crate::files::is_standard;
 use crate::outcome::{Failure, Outcome};
 use crate::{
-    calls, cancel, change, check, compare, convert, due, explain, list, parameters, report, run,
-    shrinkage, status, table,
+    calls, cancel, change, check, compare, convert, due, explain, list, log, parameters, report,
+    run, shrinkage, status, table, withdraw,
 };
 
 /// A command of the program.
@@ -29,7 +29,8 @@ const FORCE: Known = Known::Flag("--force");
 const IN_PLACE: Known = Known::Flag("--in-place");
 const ASKING: &[Known] = &[STORE, JSON];
 const ANSWERING: &[Known] = &[STORE, CSV, JSON];
-const CHANGING: &[Known] = &[STORE, CSV, JSON, OUTPUT, FORCE, IN_PLACE];
+const LOG: Known = Known::Value("--log");
+const CHANGING: &[Known] = &[STORE, LOG, CSV, JSON, OUTPUT, FORCE, IN_PLACE];
 
 /// Every command, in the order of the help.
 pub const COMMANDS: &[Command] = &[
@@ -132,6 +133,7 @@ pub const COMMANDS: &[Command] = &[
             Known::Flag("--afternoon"),
             CSV,
             STORE,
+            LOG,
             JSON,
             OUTPUT,
             FORCE,
@@ -148,6 +150,7 @@ pub const COMMANDS: &[Command] = &[
             Known::Flag("--afternoon"),
             CSV,
             STORE,
+            LOG,
             JSON,
             OUTPUT,
             FORCE,
@@ -189,6 +192,29 @@ pub const COMMANDS: &[Command] = &[
         page: include_str!("../help/run.txt"),
         options: CHANGING,
         run: run::run,
+    },
+    Command {
+        name: "log",
+        about: "a log of reductions: started for a book, told, its book written out",
+        page: include_str!("../help/log.txt"),
+        options: &[Known::Flag("--held"), OUTPUT, FORCE, CSV, JSON],
+        run: log::log,
+    },
+    Command {
+        name: "withdraw",
+        about: "the last reduction that a log has noted, withdrawn",
+        page: include_str!("../help/withdraw.txt"),
+        options: &[
+            Known::Flag("--all"),
+            STORE,
+            LOG,
+            CSV,
+            JSON,
+            OUTPUT,
+            FORCE,
+            IN_PLACE,
+        ],
+        run: withdraw::withdraw,
     },
     Command {
         name: "explain",

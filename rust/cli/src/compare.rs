@@ -66,13 +66,13 @@ pub fn compare(arguments: &Arguments) -> Result<Outcome, Failure> {
 
 fn side(source: &Source, store: &Store, is_run: bool) -> Result<Side, Failure> {
     let refused = |refusal| of_call(source, store, None, Asked::Plain, refusal);
-    let request = store.request();
+    let mut request = store.request();
     let mut after = source.bytes.clone();
     let run = request.run(&mut after).map_err(refused)?;
     let bytes = if is_run { &after } else { &source.bytes };
     let book = daybook::read(bytes).map_err(refused)?;
-    let standings = standings(request, bytes, &book);
-    let totals = Totals::new(request, &book, &standings, run);
+    let standings = standings(&request, bytes, &book);
+    let totals = Totals::new(&request, &book, &standings, run);
     Ok(Side {
         book,
         standings,

@@ -11,7 +11,7 @@ use crate::outcome::{Failure, Outcome};
 use crate::refusals;
 use crate::source::open;
 use crate::text;
-use crate::write;
+use crate::write::{self, New};
 
 pub fn text(arguments: &Arguments) -> Result<Outcome, Failure> {
     arguments.expect(1, 1, "text BOOK [--positions] [-o FILE [--force]]")?;
@@ -45,8 +45,11 @@ pub fn csv(arguments: &Arguments) -> Result<Outcome, Failure> {
     match fs::symlink_metadata(folder) {
         Err(_) => write::write_folder(folder, &files)?,
         Ok(_) => {
-            let files = files.iter().map(|(file, text)| (folder.join(file), *text));
-            write::write_all(&files.collect::<Vec<(PathBuf, &[u8])>>(), over, &[])?;
+            let paths = files.iter().map(|(file, _)| folder.join(file));
+            let paths: Vec<PathBuf> = paths.collect();
+            let new = paths.iter().zip(&files);
+            let new = new.map(|(path, (_, bytes))| New { path, bytes, over });
+            write::write_all(&new.collect::<Vec<New>>(), &[])?;
         }
     }
     Ok(Outcome::default())

@@ -22,12 +22,12 @@ pub struct Standing {
 }
 
 /// The users of an accepted book in their day.
-pub fn standings(request: Request, bytes: &[u8], book: &Book) -> Vec<Standing> {
+pub fn standings(request: &Request, bytes: &[u8], book: &Book) -> Vec<Standing> {
     let standing = |user: &User| {
         let state = state(request, bytes, user);
         let level = state.level.unwrap_or(0);
         let is_short = state.word == "short";
-        let mut copy = bytes.to_vec();
+        let (mut copy, mut request) = (bytes.to_vec(), request.without_log());
         let reduced = is_short.then(|| request.reduction(&mut copy, user.id).ok());
         let is_due = state.word == "call";
         let called = is_due.then(|| request.afternoon_call(&mut copy, user.id).ok());
@@ -74,7 +74,7 @@ impl Deposits {
 }
 
 /// The deposits of an accepted book, asked of the engine.
-pub fn deposits(request: Request, book: &Book, standings: &[Standing]) -> Deposits {
+pub fn deposits(request: &Request, book: &Book, standings: &[Standing]) -> Deposits {
     let targets = standings
         .iter()
         .filter_map(|it| it.target.map(|target| (it.user.id, target)));
@@ -92,13 +92,13 @@ pub fn deposits(request: Request, book: &Book, standings: &[Standing]) -> Deposi
     }
 }
 
-fn confirmed(request: Request, book: &Book) -> Confirmed {
+fn confirmed(request: &Request, book: &Book) -> Confirmed {
     let mut bytes = vec![0; book.length()];
     if let Err(refusal) = daybook::write(book, &mut bytes) {
         return Confirmed::Beyond(refusal);
     }
     let before = bytes.clone();
-    match request.run(&mut bytes) {
+    match request.without_log().run(&mut bytes) {
         Ok(Run { reductions: 0, .. }) if bytes == before => Confirmed::Yes,
         _ => Confirmed::No,
     }
@@ -121,7 +121,7 @@ pub struct Totals {
 
 impl Totals {
     /// The totals of a book whose users' standings and run are known.
-    pub fn new(request: Request, book: &Book, standings: &[Standing], run: Run) -> Totals {
+    pub fn new(request: &Request, book: &Book, standings: &[Standing], run: Run) -> Totals {
         let deposits = deposits(request, book, standings);
         let uncovered = standings.iter().map(|it| u128::from(it.uncovered));
         let called = || standings.iter().filter_map(|it| it.to_call);
@@ -138,8 +138,8 @@ impl Totals {
 }
 
 /// The totals of an accepted book.
-pub fn totals(request: Request, bytes: &[u8], book: &Book) -> Result<Totals, Refusal> {
-    let run = request.run(&mut bytes.to_vec())?;
+pub fn totals(request: &Request, bytes: &[u8], book: &Book) -> Result<Totals, Refusal> {
+    let run = request.without_log().run(&mut bytes.to_vec())?;
     let standings = standings(request, bytes, book);
     Ok(Totals::new(request, book, &standings, run))
 }

@@ -5,7 +5,7 @@
 use daybook::{GuaranteeCall, Level, Refusal};
 
 use crate::arguments::Arguments;
-use crate::call::{answer, Call};
+use crate::call::{answer, Call, Changed};
 use crate::form::{csv_row, Form};
 use crate::json::Object;
 use crate::outcome::{Failure, Outcome};
@@ -24,7 +24,8 @@ pub struct Due {
 }
 
 pub fn calls(arguments: &Arguments) -> Result<Outcome, Failure> {
-    let usage = "calls BOOK --morning|--afternoon [-o FILE|--in-place] [--csv|--json] \
+    let usage =
+        "calls BOOK --morning|--afternoon [-o FILE|--in-place] [--log FILE] [--csv|--json] \
                  [--store FILE]";
     arguments.expect(1, 1, usage)?;
     let morning = arguments.has("--morning");
@@ -32,9 +33,9 @@ pub fn calls(arguments: &Arguments) -> Result<Outcome, Failure> {
         return Err(Failure::misuse(format!("usage: daybook {usage}")));
     }
     let call = Call::new(arguments)?;
-    let mut bytes = call.source.bytes.clone();
+    let mut changed = call.unchanged();
     let mut outcome = Outcome::default();
-    let made = match make(&call, &mut bytes, morning) {
+    let made = match make(&call, &mut changed, morning) {
         Ok(made) => made,
         Err(refusal) => {
             call.refuse(&mut outcome, None, Asked::Plain, refusal);
@@ -44,16 +45,18 @@ pub fn calls(arguments: &Arguments) -> Result<Outcome, Failure> {
     match call.form {
         Form::Words => words(&mut outcome, &made),
         Form::Csv => table(&mut outcome, &made),
-        Form::Json => objects(&mut outcome, &call.source.name, &made),
+        Form::Json => objects(&mut outcome, &call, &changed, &made),
     }
-    call.keep(arguments, &bytes, &mut outcome)?;
+    call.tell_log_beside(&mut outcome, &changed);
+    call.keep(arguments, &changed, &mut outcome)?;
     Ok(outcome)
 }
 
 /// Makes the calls that are accepted; of those that are refused, the ones for want
 /// of an assigned guarantee are told.
-fn make(call: &Call, book: &mut [u8], morning: bool) -> Result<Vec<Due>, Refusal> {
-    let request = call.store.request();
+fn make(call: &Call, changed: &mut Changed, morning: bool) -> Result<Vec<Due>, Refusal> {
+    let Changed { book, log } = changed;
+    let mut request = call.request(log);
     let mut made = Vec::new();
     for user in daybook::read(book)?.users {
         let (id, assigned) = (user.id, user.assigned);
@@ -61,18 +64,21 @@ fn make(call: &Call, book: &mut [u8], morning: bool) -> Result<Vec<Due>, Refusal
             true => request.morning_call(book, id),
             false => request.afternoon_call(book, id),
         };
-        let level = || match morning {
-            true => request.morning_level(&call.source.bytes, id),
-            false => request.afternoon_level(&call.source.bytes, id),
-        };
         let (level, added) = match called {
             Ok(GuaranteeCall {
                 level: Level(level),
                 added,
             }) => (level, Some(added)),
-            Err(Refusal::AssignedCoversLevel) => (level()?.0, None),
-            Err(Refusal::StoreForm) => return Err(Refusal::StoreForm),
-            Err(Refusal::SetInForce) => return Err(Refusal::SetInForce),
+            Err(Refusal::AssignedCoversLevel) => {
+                let Level(level) = match morning {
+                    true => request.morning_level(book, id)?,
+                    false => request.afternoon_level(book, id)?,
+                };
+                (level, None)
+            }
+            Err(refusal @ (Refusal::StoreForm | Refusal::SetInForce | Refusal::LogForm)) => {
+                return Err(refusal)
+            }
             Err(_) => continue,
         };
         made.push(Due {
@@ -118,7 +124,8 @@ fn words(outcome: &mut Outcome, made: &[Due]) {
     outcome.text(&aligned(&rows));
     let (count, cents) = total(made);
     outcome.line(match count {
-        0 => "no call is due".to_string(),
+        0 if made.is_empty() => "no call is due".to_string(),
+        0 => "no call is made".to_string(),
         _ => {
             let cents = euros(i128::try_from(cents).unwrap_or(i128::MAX));
             format!("{}, {cents} EUR in all", counted(count, "call"))
@@ -147,7 +154,7 @@ fn number(due: &Due) -> u32 {
     }
 }
 
-fn objects(outcome: &mut Outcome, name: &str, made: &[Due]) {
+fn objects(outcome: &mut Outcome, call: &Call, changed: &Changed, made: &[Due]) {
     for due in made {
         let object = match due.added {
             Some(_) => answer(due.id),
@@ -160,6 +167,7 @@ fn objects(outcome: &mut Outcome, name: &str, made: &[Due]) {
         outcome.line(object.end());
     }
     let (count, cents) = total(made);
-    let object = Object::new().string("book", name).put("calls", count);
-    outcome.line(object.put("added_cents", cents).end());
+    let object = Object::new().string("book", &call.source.name);
+    let object = object.put("calls", count).put("added_cents", cents);
+    outcome.line(call.noting(object, changed).end());
 }

@@ -18,6 +18,16 @@ pub fn shown(path: &Path) -> String {
     path.display().to_string()
 }
 
+/// A file name as a shell takes it in a command.
+pub fn quoted(path: &Path) -> String {
+    let name = path.display().to_string();
+    let is_plain = |it: char| it.is_ascii_alphanumeric() || "._-/+,:=@%".contains(it);
+    match !name.is_empty() && !name.starts_with('-') && name.chars().all(is_plain) {
+        true => name,
+        false => format!("'{}'", name.replace('\'', "'\\''")),
+    }
+}
+
 /// Whether `-` stands for standard input or output.
 pub fn is_standard(path: &Path) -> bool {
     path.as_os_str() == "-"
@@ -70,14 +80,14 @@ pub struct Held {
 }
 
 impl Held {
-    /// Holds a regular file. Who waits for it meets the file that has taken its name
-    /// in the meantime: a rename leaves the lock with the old file, so that the name
-    /// is looked up again once the lock is there.
-    pub fn new(path: &Path) -> Result<Held, Failure> {
+    /// Holds a regular file, as the option asks. Who waits for it meets the file that
+    /// has taken its name in the meantime: a rename leaves the lock with the old file,
+    /// so that the name is looked up again once the lock is there.
+    pub fn new(path: &Path, option: &str) -> Result<Held, Failure> {
         loop {
             let named = fs::metadata(path).map_err(|error| unread(path, &error))?;
             if !named.is_file() {
-                let reason = "is no regular file; --in-place needs one";
+                let reason = format!("is no regular file; {option} needs one");
                 return Err(Failure::file(format!("{}: {reason}", shown(path))));
             }
             let file = File::open(path).map_err(|error| unread(path, &error))?;
@@ -94,6 +104,16 @@ impl Held {
         }
     }
 
+    /// Holds files, no two of which are one, each with its option. They are waited
+    /// for in the order of their full names: nobody holds one and waits for another
+    /// who waits for the first.
+    pub fn all(files: &[(&Path, &str)]) -> Result<Vec<Held>, Failure> {
+        let mut order: Vec<&(&Path, &str)> = files.iter().collect();
+        order.sort_by_key(|(path, _)| fs::canonicalize(path).ok());
+        let held = order.iter().map(|(path, option)| Held::new(path, option));
+        held.collect()
+    }
+
     /// Whether a name leads to this file.
     pub fn is_named(&self, path: &Path) -> bool {
         fs::metadata(path).is_ok_and(|named| is_same(&named, &self.identity))
@@ -102,6 +122,14 @@ impl Held {
     /// The bytes of the file, which is told by this name.
     pub fn read(&self, path: &Path) -> Result<Vec<u8>, Failure> {
         whole(path, bytes(&self.file))
+    }
+}
+
+/// Whether two names lead to one file.
+pub fn are_one(one: &Path, other: &Path) -> bool {
+    match (fs::metadata(one), fs::metadata(other)) {
+        (Ok(one), Ok(other)) => is_same(&one, &other),
+        _ => false,
     }
 }
 

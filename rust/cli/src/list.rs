@@ -16,16 +16,20 @@ use crate::text::aligned;
 use crate::words::{grouped, word, AREAS};
 
 pub fn list(arguments: &Arguments) -> Result<Outcome, Failure> {
-    let usage = "list BOOK FILE.csv [-o FILE|--in-place] [--csv|--json] [--store FILE]";
+    let usage = "list BOOK FILE.csv [-o FILE|--in-place] [--log FILE] [--csv|--json] \
+                 [--store FILE]";
     arguments.expect(2, 2, usage)?;
     let call = Call::new(arguments)?;
     let path = arguments.file(1);
     let rows = read_corrections(&files::read(path)?)
         .map_err(|mistakes| refusals::of_text(&files::shown(path), &mistakes))?;
     let lines: Vec<Line> = rows.iter().map(|(_, line)| *line).collect();
-    let mut bytes = call.source.bytes.clone();
+    let mut changed = call.unchanged();
     let mut outcome = Outcome::default();
-    let answers = match call.store.request().list(&mut bytes, &lines) {
+    let made = call
+        .request(&mut changed.log)
+        .list(&mut changed.book, &lines);
+    let answers = match made {
         Ok(answers) => answers,
         Err(refusal) => {
             call.refuse(
@@ -44,7 +48,7 @@ pub fn list(arguments: &Arguments) -> Result<Outcome, Failure> {
             Form::Words => table.push(cells(*row, line, *answer, reason)),
             form => {
                 let object = object(*row, line, *answer, &reason, form == Form::Csv);
-                call.tell(&mut outcome, String::new(), object);
+                call.tell(&mut outcome, String::new(), call.noting(object, &changed));
             }
         }
         if answer.is_err() {
@@ -52,7 +56,8 @@ pub fn list(arguments: &Arguments) -> Result<Outcome, Failure> {
         }
     }
     outcome.text(&aligned(&table));
-    call.keep(arguments, &bytes, &mut outcome)?;
+    call.tell_log(&mut outcome, &changed);
+    call.keep(arguments, &changed, &mut outcome)?;
     Ok(outcome)
 }
 

@@ -19,7 +19,7 @@ fn main() -> ExitCode {
         // A reader that has gone away needs no more.
         Err(error) if error.kind() != io::ErrorKind::BrokenPipe => {
             let (changed, status) = match &outcome.written {
-                Some(file) => (format!("; {file} is written"), Status::Untold),
+                Some(written) => (format!("; {written}"), Status::Untold),
                 None => (String::new(), Status::Misuse),
             };
             let reason = format!("cannot be written: {error}{changed}");

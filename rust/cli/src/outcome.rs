@@ -3,12 +3,14 @@
 
 use std::fmt::Display;
 
-/// The exit status.
+/// The exit status; of two the later one counts.
 #[derive(Clone, Copy, Debug, Default, PartialEq, Eq, PartialOrd, Ord)]
 pub enum Status {
     /// 0: accepted, done.
     #[default]
     Accepted,
+    /// 4: a run met a full log and stopped; its cuts count.
+    Stopped,
     /// 1: a book, a store or a text was refused.
     Refused,
     /// 2: the command cannot be done as it was given.
@@ -21,6 +23,7 @@ impl Status {
     pub fn code(self) -> u8 {
         match self {
             Status::Accepted => 0,
+            Status::Stopped => 4,
             Status::Refused => 1,
             Status::Misuse => 2,
             Status::Untold => 3,
@@ -38,7 +41,7 @@ pub struct Outcome {
     pub status: Status,
     /// A changed book for standard output, which then has nothing else.
     pub book: Option<Vec<u8>>,
-    /// The file that was written, where one was.
+    /// What was written, in words, where something was.
     pub written: Option<String>,
 }
 

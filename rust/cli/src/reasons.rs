@@ -1,10 +1,15 @@
 //! Why a call is refused by a question after the seventh, in words. Levels are
-//! the engine's; what else is said stands in the book's fields.
+//! the engine's; what else is said stands in the fields of book, store and log.
+
+use std::path::Path;
 
 use daybook::{Book, Level, Refusal, Request, Trade, User};
 
 use crate::cancel::worth;
-use crate::source::Store;
+use crate::files::{is_standard, quoted, shown};
+use crate::log_faults::{log_fault, LogFault};
+use crate::log_file::LogFile;
+use crate::source::{Source, Store};
 use crate::store;
 use crate::words::{counted, euros, grouped, wide, word, AREAS};
 
@@ -139,6 +144,93 @@ fn entry(user: &User, asked: Asked) -> String {
     let (area, entry) = (word(&AREAS, code), grouped(*entry));
     let (amount, sum) = (grouped(amount), grouped(sum));
     format!("physical {area} {entry} + {amount} = {sum} MWh is not within ±1,000,000 MWh")
+}
+
+/// Why a call is refused by a question about its log, and what helps, a line each.
+/// The changed book goes to the target, or to none.
+pub fn of_log(
+    source: &Source,
+    log: &LogFile,
+    target: Option<&Path>,
+    refusal: Refusal,
+) -> (String, Vec<String>) {
+    let name = &log.name;
+    match refusal {
+        Refusal::LogEmpty => {
+            let emptied = "a posting, a list or a guarantee call empties a log";
+            let reason = format!("{name} has no reduction noted; {emptied}");
+            (reason, Vec::new())
+        }
+        Refusal::LogFull => {
+            let noted = counted(log.log.entries(), "reduction");
+            let reason = format!("{name} is full: {noted} noted, as many as it has room for");
+            (reason, full(&book_word(source), log))
+        }
+        _ => {
+            let book = daybook::read(&source.bytes).unwrap_or_default();
+            match log_fault(log.log.as_bytes(), &source.bytes, &book) {
+                None => (String::new(), Vec::new()),
+                Some(fault) => {
+                    let advice = log_advice(source, log, target, fault);
+                    (format!("{name} {fault}"), advice)
+                }
+            }
+        }
+    }
+}
+
+/// What helps where a log is none for a book. No call with a log changes the date or
+/// the length of a book: a change that was interrupted leaves other bytes alone.
+fn log_advice(
+    source: &Source,
+    log: &LogFile,
+    target: Option<&Path>,
+    fault: LogFault,
+) -> Vec<String> {
+    let (book, file, held) = (book_word(source), quoted(&log.path), log.log.held());
+    if fault.is_no_log() {
+        return vec![format!("`daybook log {book} -o FILE` starts a log")];
+    }
+    let anew = format!("`daybook log {book} -o {file} --force` starts a new one");
+    if !fault.is_other_book() || daybook::read(held).is_err() || !log.is_for(held) {
+        return vec![format!("{anew}, which forgets what was noted")];
+    }
+    let forgets = match log.log.entries() {
+        0 => String::new(),
+        count => format!(", which forgets the {} noted", counted(count, "reduction")),
+    };
+    if !matches!(fault, LogFault::OtherBytes { .. }) {
+        return vec![format!("it is the log of another book; {anew}{forgets}")];
+    }
+    let is_text = |it: &Path| source.is_text && it == Path::new(&source.name);
+    let target = target.filter(|it| !is_standard(it) && !is_text(it));
+    let target = target.map_or(book, quoted);
+    let put = format!("`daybook log --held {file} -o {target} --force`");
+    vec![
+        format!("was a change interrupted? {put} puts the held book in its place"),
+        format!("was the book changed without the log? {anew}{forgets}"),
+    ]
+}
+
+/// The book as a command names it; one that is text or comes from standard input is
+/// not to be written over.
+pub fn book_word(source: &Source) -> String {
+    let is_standard = source.name == shown(Path::new("-"));
+    match source.is_text || is_standard {
+        true => "BOOK".to_string(),
+        false => quoted(Path::new(&source.name)),
+    }
+}
+
+/// What helps with a full log of a book.
+pub fn full(book: &str, log: &LogFile) -> Vec<String> {
+    let log = quoted(&log.path);
+    vec![
+        format!("`daybook withdraw {book} --log {log} --in-place` withdraws the last reduction"),
+        format!(
+            "`daybook log {book} -o {log} --force` starts a new one, which forgets those noted"
+        ),
+    ]
 }
 
 /// Whether the user is party to a trade standing below notified.

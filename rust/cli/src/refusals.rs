@@ -1,13 +1,17 @@
 //! Refusals as they are told: in words for people, as an object for programs.
 
+use std::path::Path;
+
 use daybook::Refusal;
 
 use crate::draft::{Mistake, Spot};
 use crate::faults::Fault;
 use crate::fields::Place;
-use crate::json::{list, Object};
+use crate::json::{list, quoted, Object};
+use crate::log_faults::log_fault;
+use crate::log_file::LogFile;
 use crate::outcome::{Failure, Told};
-use crate::reasons::{reason, Asked};
+use crate::reasons::{self, reason, Asked};
 use crate::source::{Source, Store};
 
 /// How many faults of a book are told in words.
@@ -73,6 +77,47 @@ pub fn of_call(
     }
     let object = object.string("question", &question(refusal));
     with_reason(&source.name, refusal, &reason, object)
+}
+
+/// A call refused by a question about its log: the reason, and what helps.
+pub fn of_log(
+    source: &Source,
+    log: &LogFile,
+    target: Option<&Path>,
+    id: Option<u32>,
+    refusal: Refusal,
+) -> Failure {
+    let (reason, advice) = reasons::of_log(source, log, target, refusal);
+    let name = &source.name;
+    let mut lines = vec![format!("{name}: {}", refused(refusal))];
+    lines.push(format!("{name}: {reason}"));
+    lines.extend(advice.iter().map(|line| format!("{name}: {line}")));
+    let mut object = Object::new().put("number", refusal.number());
+    if let Some(id) = id {
+        object = object.put("id", id);
+    }
+    let object = object
+        .string("question", &question(refusal))
+        .string("reason", &reason)
+        .put("advice", list(advice.iter().map(|line| quoted(line))));
+    told(lines.join("\n"), object)
+}
+
+/// A log that is none for the book that it holds, or whose held book is refused.
+pub fn of_held(log: &LogFile, refusal: Refusal) -> Failure {
+    let (name, held) = (&log.name, log.log.held());
+    let book = daybook::read(held).unwrap_or_default();
+    let fault = log_fault(log.log.as_bytes(), held, &book);
+    let (number, reason) = match fault.filter(|it| refusal == Refusal::LogForm || it.is_form()) {
+        Some(fault) => (Refusal::LogForm, fault.to_string()),
+        None => (refusal, "the book that it holds is refused".to_string()),
+    };
+    let object = Object::new()
+        .string("log", name)
+        .put("accepted", false)
+        .put("number", number.number())
+        .string("question", &question(number));
+    with_reason(name, number, &reason, object)
 }
 
 /// A refused store.

@@ -1,38 +1,69 @@
 //! `daybook run`: the day's reductions, and each user's state after them.
 
-use daybook::{Run, User};
+use daybook::{Refusal, Run, User};
 
 use crate::arguments::Arguments;
 use crate::call::Call;
+use crate::files::quoted;
 use crate::form::{or_null, Form};
 use crate::json::{list, Object};
-use crate::outcome::{Failure, Outcome};
-use crate::reasons::Asked;
+use crate::outcome::{Failure, Outcome, Status};
+use crate::reasons::{book_word, full, Asked};
 use crate::state::{state, State};
 use crate::text;
 use crate::words::{euros, grouped, AREAS};
 
 pub fn run(arguments: &Arguments) -> Result<Outcome, Failure> {
-    let usage = "run BOOK [-o FILE|--in-place] [--csv|--json] [--store FILE]";
+    let usage = "run BOOK [-o FILE|--in-place] [--log FILE] [--csv|--json] [--store FILE]";
     arguments.expect(1, 1, usage)?;
     let call = Call::new(arguments)?;
-    let mut bytes = call.source.bytes.clone();
+    let mut changed = call.unchanged();
     let mut outcome = Outcome::default();
-    let done = match call.store.request().run(&mut bytes) {
+    let run = call.request(&mut changed.log).run(&mut changed.book);
+    let done = match run {
         Ok(done) => done,
         Err(refusal) => {
             call.refuse(&mut outcome, None, Asked::Plain, refusal);
             return Ok(outcome);
         }
     };
+    let object = call.noting(run_object(&done), &changed);
     match call.form {
         Form::Csv => outcome.message(run_line(&done)),
-        _ => call.tell(&mut outcome, run_line(&done), run_object(&done)),
+        _ => call.tell(&mut outcome, run_line(&done), object),
     }
-    let users = daybook::read(&bytes).map_or_else(|_| Vec::new(), |book| book.users);
+    call.tell_log_beside(&mut outcome, &changed);
+    tell_states(&mut outcome, &call, &changed.book);
+    if done.log_full {
+        outcome.status = Status::Stopped;
+        tell_full(&mut outcome, &call);
+    }
+    call.keep(arguments, &changed, &mut outcome)?;
+    Ok(outcome)
+}
+
+/// The log is full, and what helps; it is then the log of the changed book.
+fn tell_full(outcome: &mut Outcome, call: &Call) {
+    let Some(log) = &call.log else {
+        return;
+    };
+    let book = match &call.target {
+        Some(target) => quoted(target),
+        None => book_word(&call.source),
+    };
+    let due = "one more reduction is due: the run stops here, and its cuts count";
+    outcome.message(format!("{}: is full, and {due}", log.name));
+    for line in full(&book, log) {
+        outcome.message(format!("{}: {line}", log.name));
+    }
+}
+
+/// The state of each user of a book.
+fn tell_states(outcome: &mut Outcome, call: &Call, book: &[u8]) {
+    let users = daybook::read(book).map_or_else(|_| Vec::new(), |book| book.users);
     let states = users
         .iter()
-        .map(|user| state(call.store.request(), &bytes, user));
+        .map(|user| state(&call.store.request(), book, user));
     let states: Vec<(User, State)> = users.iter().copied().zip(states).collect();
     match call.form {
         Form::Words => outcome.text(&text::aligned(
@@ -40,10 +71,8 @@ pub fn run(arguments: &Arguments) -> Result<Outcome, Failure> {
         )),
         _ => states
             .iter()
-            .for_each(|it| call.tell(&mut outcome, String::new(), state_object(it))),
+            .for_each(|it| call.tell(outcome, String::new(), state_object(it))),
     }
-    call.keep(arguments, &bytes, &mut outcome)?;
-    Ok(outcome)
 }
 
 /// A run in words.
@@ -54,9 +83,14 @@ pub fn run_line(done: &Run) -> String {
     format!("{reductions} reduction{ending}, {mwh} MWh cut, worth {worth} EUR")
 }
 
+/// A run's answer has its totals beside 20, too.
 fn run_object(done: &Run) -> Object {
+    let number = match done.log_full {
+        true => Refusal::LogFull.number(),
+        false => 0,
+    };
     Object::new()
-        .put("number", 0)
+        .put("number", number)
         .put("reductions", done.reductions)
         .put("mwh", done.mwh)
         .put("worth_cents", done.worth)

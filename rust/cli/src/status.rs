@@ -40,7 +40,7 @@ pub fn status(arguments: &Arguments) -> Result<Outcome, Failure> {
     let asked = asked.transpose()?;
     let source = open(arguments.file(0))?;
     let store = Store::open(arguments.path("--store").as_deref())?;
-    let request = store.request();
+    let mut request = store.request();
     let refused = |refusal| of_call(&source, &store, asked, Asked::Plain, refusal);
     let mut after = source.bytes.clone();
     let run = request.run(&mut after).map_err(refused)?;
@@ -50,7 +50,7 @@ pub fn status(arguments: &Arguments) -> Result<Outcome, Failure> {
     let mut outcome = Outcome::default();
     if let Some(id) = asked {
         let figures = figures(store.bytes.as_deref(), book.date);
-        match why(request, &figures, bytes, id).map_err(refused)? {
+        match why(&request, &figures, bytes, id).map_err(refused)? {
             Some(why) => outcome.text(&why_words::told(form, &source.name, &book, &figures, &why)),
             None => {
                 let reason = "the parts of its level are not known for this version";
@@ -59,10 +59,10 @@ pub fn status(arguments: &Arguments) -> Result<Outcome, Failure> {
         }
         return Ok(outcome);
     }
-    let standings = standings(request, bytes, &book);
+    let standings = standings(&request, bytes, &book);
     let day = Day {
         name: &source.name,
-        deposits: deposits(request, &book, &standings),
+        deposits: deposits(&request, &book, &standings),
         standings,
         run,
         is_after,

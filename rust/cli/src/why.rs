@@ -52,7 +52,7 @@ pub struct Why {
 /// How the level of a shipper comes about; none where the parts do not give the
 /// engine's level, in a version with other rules.
 pub fn why(
-    request: Request,
+    request: &Request,
     figures: &Figures,
     bytes: &[u8],
     id: u32,

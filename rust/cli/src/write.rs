@@ -11,23 +11,39 @@ use crate::beside::{sweep, sync_folder, Beside};
 use crate::files::Held;
 use crate::outcome::Failure;
 
-/// Writes a file that is not there yet, or, where that is asked for, puts it
-/// over the old one.
+/// A file that is to be written: one that is not there yet, or, where that is asked
+/// for, over the old one.
+#[derive(Clone, Copy, Debug)]
+pub struct New<'a> {
+    pub path: &'a Path,
+    pub bytes: &'a [u8],
+    pub over: bool,
+}
+
+/// Writes a file.
 pub fn write(path: &Path, bytes: &[u8], over: bool) -> Result<(), Failure> {
-    write_all(&[(path.to_path_buf(), bytes)], over, &[])
+    write_all(&[New { path, bytes, over }], &[])
 }
 
 /// Writes files, all of them or none: each is whole beside its place before the
-/// first takes it, and where one cannot, those before it go back. Files that the
-/// caller holds are not waited for.
-pub fn write_all(files: &[(PathBuf, &[u8])], over: bool, held: &[&Held]) -> Result<(), Failure> {
+/// first takes it, and where one cannot, those before it go back. They take their
+/// places in this order, after a kill or a power cut too. Files that the caller
+/// holds are not waited for.
+pub fn write_all(files: &[New], held: &[Held]) -> Result<(), Failure> {
     let mut staged = Vec::new();
-    for (path, bytes) in files {
-        staged.push(Staged::new(path, bytes, over, held)?);
+    for file in files {
+        staged.push(Staged::new(file, held)?);
     }
+    place_all(staged)
+}
+
+/// Puts whole files in their places, in order; where one cannot take its own, those
+/// before it go back.
+fn place_all(staged: Vec<Staged>) -> Result<(), Failure> {
+    let may_go_back = staged.len() > 1;
     let mut done = Vec::new();
     for file in staged {
-        match file.place(files.len() > 1) {
+        match file.place(may_go_back) {
             Ok(placed) => done.push(placed),
             Err(failure) => {
                 done.into_iter().rev().for_each(Placed::undo);
@@ -74,11 +90,11 @@ struct Placed {
 }
 
 impl Staged {
-    fn new(path: &Path, bytes: &[u8], over: bool, held: &[&Held]) -> Result<Staged, Failure> {
-        let (path, is_there) = place(path, over)?;
+    fn new(new: &New, held: &[Held]) -> Result<Staged, Failure> {
+        let (path, is_there) = place(new.path, new.over)?;
         let failed = |error: io::Error| unwritten(&path, &error);
         let is_held = held.iter().any(|held| held.is_named(&path));
-        let held = (is_there && !is_held).then(|| Held::new(&path));
+        let held = (is_there && !is_held).then(|| Held::new(&path, "--force"));
         let held = held.transpose()?;
         let old = is_there.then(|| fs::metadata(&path));
         let old = old.transpose().map_err(failed)?;
@@ -90,7 +106,7 @@ impl Staged {
                 keep_owner(&file, old);
                 file.set_permissions(old.permissions())?;
             }
-            file.write_all(bytes)?;
+            file.write_all(new.bytes)?;
             file.sync_all()
         })();
         written.map_err(failed)?;
@@ -185,6 +201,10 @@ fn place(path: &Path, over: bool) -> Result<(PathBuf, bool), Failure> {
         false => Ok(path.to_path_buf()),
     };
     match meant.and_then(|meant| fs::metadata(&meant).map(|old| (meant, old))) {
+        Ok((_, old)) if old.is_file() && old.permissions().readonly() => {
+            let reason = "is read-only, and is not written over";
+            Err(Failure::file(format!("{}: {reason}", path.display())))
+        }
         Ok((meant, old)) if old.is_file() => Ok((meant, true)),
         Ok((_, old)) if old.is_dir() => refused("is a folder"),
         Ok(_) => refused("is a device, a pipe or the like"),
@@ -213,4 +233,37 @@ fn keep_owner(_file: &File, _old: &Metadata) {}
 
 fn unwritten(path: &Path, error: &io::Error) -> Failure {
     Failure::file(format!("{}: cannot be written: {error}", path.display()))
+}
+
+#[cfg(test)]
+mod tests {
+    use super::*;
+
+    /// The name of the second is taken after both are staged: the first is again what
+    /// it was, whether it was there or not, and nothing is left beside.
+    #[test]
+    fn those_placed_go_back() {
+        let folder = std::env::temp_dir().join(format!("daybook-write-{}", std::process::id()));
+        fs::create_dir_all(&folder).expect("a folder");
+        let (first, second) = (folder.join("first"), folder.join("second"));
+        for is_there in [false, true] {
+            if is_there {
+                fs::write(&first, b"old").expect("a file");
+            }
+            let staged = |path: &Path, over: bool| {
+                let bytes = b"new";
+                Staged::new(&New { path, bytes, over }, &[]).expect("a file beside")
+            };
+            let both = vec![staged(&first, is_there), staged(&second, false)];
+            fs::write(&second, b"another").expect("a file");
+            assert!(place_all(both).is_err());
+            let left = fs::read(&first).ok();
+            assert_eq!(left.as_deref(), is_there.then_some(b"old".as_slice()));
+            assert_eq!(fs::read(&second).expect("a file"), b"another");
+            fs::remove_file(&second).expect("a file");
+            let names = fs::read_dir(&folder).expect("a folder").count();
+            assert_eq!(names, usize::from(is_there));
+        }
+        fs::remove_dir_all(&folder).expect("a folder");
+    }
 }

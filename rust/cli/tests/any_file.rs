@@ -10,8 +10,9 @@ use books::Generator;
 use cli::commands::{perform, COMMANDS};
 use cli::outcome::Outcome;
 
-/// How many books are tried.
+/// How many books are tried, and how many with logs.
 const BOOKS: usize = 400;
+const LOGS: usize = 200;
 
 fn done(words: &str) -> Outcome {
     perform(
@@ -95,6 +96,97 @@ fn every_command_on_any_book_and_store() {
         converted(&folder, &book, &bytes);
     }
     assert!(statuses[0] > 1_000 && statuses[1] > 1_000, "{statuses:?}");
+}
+
+/// Every command with a log on any book with any log: a status that tells, both files
+/// as they were where the call is refused, and no panic.
+#[test]
+fn every_command_with_any_log() {
+    let folder = Path::new(env!("CARGO_TARGET_TMPDIR")).join("any-log");
+    let _ = fs::remove_dir_all(&folder);
+    fs::create_dir_all(&folder).expect("a folder");
+    let (book, log) = (folder.join("book"), folder.join("log"));
+    let mut generator = Generator::new(82);
+    let mut statuses = [0; 5];
+    for place in 0..LOGS {
+        let bytes = generator.any_book();
+        let noted = any_log(&mut generator, &bytes);
+        let given = generator.arguments(&bytes);
+        let (id, area, amount) = (given.id, given.area, given.amount);
+        let json = if place % 2 == 0 { " --json" } else { "" };
+        for line in [
+            "run BOOK --log LOG --in-place".to_string(),
+            "withdraw BOOK --log LOG --in-place".to_string(),
+            "withdraw BOOK --log LOG --all".to_string(),
+            "calls BOOK --afternoon --log LOG".to_string(),
+            format!("post BOOK {id} {area} {amount} --log LOG --in-place"),
+            format!("call BOOK {id} --morning --log LOG --in-place"),
+            format!("reduce BOOK {id} --log LOG --in-place"),
+            "log LOG".to_string(),
+            "log LOG BOOK".to_string(),
+            "log --held LOG -o -".to_string(),
+        ] {
+            fs::write(&book, &bytes).expect("a book");
+            fs::write(&log, &noted).expect("a log");
+            let words = line.replace("BOOK", &book.display().to_string());
+            let words = words.replace("LOG", &log.display().to_string());
+            let outcome = match line.contains("--held") {
+                true => done(&words),
+                false => done(&format!("{words}{json}")),
+            };
+            let status = outcome.status.code();
+            statuses[usize::from(status)] += 1;
+            let told = String::from_utf8_lossy(&outcome.out).to_string() + &outcome.messages;
+            assert!(!told.is_empty(), "{line}");
+            assert!(
+                status < 2 || status == 4 || is_no_log(&noted),
+                "{line}: {told}"
+            );
+            if status == 1 || status == 2 || !line.contains("--in-place") {
+                fs_unchanged(&book, &bytes);
+                fs_unchanged(&log, &noted);
+            }
+        }
+    }
+    println!("statuses {statuses:?}");
+    assert!(statuses[0] > 250 && statuses[1] > 1_000, "{statuses:?}");
+}
+
+/// A log of a book, as calls leave it, damaged, of another book, or any bytes.
+fn any_log(generator: &mut Generator, book: &[u8]) -> Vec<u8> {
+    let mut log = match daybook::Log::start(book) {
+        Ok(log) => log.into_bytes(),
+        Err(_) => return generator.any_book(),
+    };
+    let entries = 9_524;
+    match generator.random().below(8) {
+        0 => return generator.any_book(),
+        1 => log = vec![0; log.len()],
+        2 => log.truncate(entries),
+        3 => log[4] = 1,
+        4 => {
+            let other = generator.any_book();
+            let other = daybook::Log::start(&other);
+            return other.map_or_else(|_| Vec::new(), daybook::Log::into_bytes);
+        }
+        // A reduction of one MWh noted, which the book may bear or not.
+        5 => {
+            let place = generator.random().below(8);
+            log[4] = 1;
+            log[entries + 4 * place] = 1;
+        }
+        6 => {
+            let place = generator.random().below(log.len());
+            log[place] ^= 1 << generator.random().below(8);
+        }
+        _ => {}
+    }
+    log
+}
+
+/// What `daybook log` takes for a book, and tells so.
+fn is_no_log(bytes: &[u8]) -> bool {
+    bytes.starts_with(b"GDB")
 }
 
 /// The number of the questions before the eighth.

@@ -55,9 +55,9 @@ fn deposits_stop_every_cut_and_nothing_less_does() {
     let (mut cut, mut beyond) = (0, 0);
     for bytes in books(71, 150) {
         let book = daybook::read(&bytes).expect("a book");
-        let request = Request::new();
-        let day = standings(request, &bytes, &book);
-        let found = deposits(request, &book, &day);
+        let mut request = Request::new();
+        let day = standings(&request, &bytes, &book);
+        let found = deposits(&request, &book, &day);
         let run = request.run(&mut bytes.clone()).expect("a run");
         assert_eq!(found.by_user.is_empty(), run.reductions == 0);
         match found.confirmed {
@@ -99,7 +99,7 @@ fn levels_in_their_parts() {
             let request = store.map_or(Request::new(), |it| Request::new().store(it));
             let figures = figures(store, book.date);
             for user in &book.users {
-                match why(request, &figures, &bytes, user.id) {
+                match why(&request, &figures, &bytes, user.id) {
                     Ok(why) => {
                         let why = why.expect("the engine's level and state");
                         let parts: i128 = why.parts.iter().map(Part::cents).sum();
@@ -169,7 +169,7 @@ fn many_books() {
         .collect();
     for (row, bytes) in rows(&paths, &Store::default()).iter().zip(&books) {
         let book = daybook::read(bytes).expect("a book");
-        let totals = totals(Request::new(), bytes, &book).expect("totals");
+        let totals = totals(&Request::new(), bytes, &book).expect("totals");
         let (users, trades) = (book.users.len(), book.trades.len());
         let found = row.as_ref().map(|row| row.found.clone());
         let day = Found::Day(book.date, users, trades, totals);

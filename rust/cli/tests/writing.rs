@@ -6,59 +6,16 @@
 
 use std::fs;
 use std::os::unix::fs::{symlink, FileTypeExt, PermissionsExt};
-use std::path::{Path, PathBuf};
-use std::process::Command;
 
-/// A folder of its own for a test, with a book and its text.
-struct Folder(PathBuf);
+mod shell;
 
-impl Folder {
-    fn new(name: &str) -> Folder {
-        let path = Path::new(env!("CARGO_TARGET_TMPDIR")).join(format!("writing-{name}"));
-        let _ = fs::remove_dir_all(&path);
-        fs::create_dir_all(&path).expect("a folder");
-        let sample = concat!(env!("CARGO_MANIFEST_DIR"), "/../../samples/chain.txt");
-        fs::copy(sample, path.join("chain.txt")).expect("a sample");
-        let folder = Folder(path);
-        assert_eq!(folder.shell("daybook book chain.txt -o chain.gdb").0, 0);
-        folder
-    }
-
-    /// The status, standard output and standard error of a shell's line.
-    fn shell(&self, line: &str) -> (i32, String, String) {
-        let program = Path::new(env!("CARGO_BIN_EXE_daybook"));
-        let beside = program.parent().expect("a folder").display().to_string();
-        let path = std::env::var("PATH").unwrap_or_default();
-        let output = Command::new("sh")
-            .args(["-c", line])
-            .current_dir(&self.0)
-            .env("PATH", format!("{beside}:{path}"))
-            .output()
-            .expect("a shell");
-        let text = |bytes: &[u8]| String::from_utf8_lossy(bytes).to_string();
-        let status = output.status.code().unwrap_or(-1);
-        (status, text(&output.stdout), text(&output.stderr))
-    }
-
-    fn bytes(&self, name: &str) -> Vec<u8> {
-        fs::read(self.0.join(name)).expect("a file")
-    }
-
-    /// The names in the folder, hidden ones too.
-    fn names(&self) -> Vec<String> {
-        let files = fs::read_dir(&self.0).expect("a folder");
-        let name = |file: std::io::Result<fs::DirEntry>| file.expect("a file").file_name();
-        let mut names: Vec<String> = files.map(name).map(|it| it.display().to_string()).collect();
-        names.sort();
-        names
-    }
-}
+use shell::Folder;
 
 /// `-o -`: the book to standard output, what is told to standard error, objects
 /// and refusals too.
 #[test]
 fn a_changed_book_to_standard_output() {
-    let folder = Folder::new("output");
+    let folder = Folder::new("writing-output");
     fs::write(folder.0.join("list.csv"), "id,area,MWh\n101,PVB,5\n").expect("a file");
     for (call, told) in [
         ("post chain.gdb 101 PVB 5", "101: 5 MWh posted"),
@@ -91,7 +48,7 @@ fn a_changed_book_to_standard_output() {
 /// Only a regular file is written over; a link stays one.
 #[test]
 fn force_writes_over_regular_files_alone() {
-    let folder = Folder::new("force");
+    let folder = Folder::new("writing-force");
     assert_eq!(folder.shell("mkfifo pipe").0, 0);
     symlink("nowhere", folder.0.join("dangling")).expect("a link");
     symlink("/dev/null", folder.0.join("device")).expect("a link");
@@ -127,7 +84,7 @@ fn force_writes_over_regular_files_alone() {
 /// and the old file stays; whoever ignores the signal leaves nothing at all.
 #[test]
 fn nothing_half_written() {
-    let folder = Folder::new("half");
+    let folder = Folder::new("writing-half");
     let (before, names) = (folder.bytes("chain.gdb"), folder.names());
     let limit = "trap '' XFSZ; ulimit -f 0;";
     for call in [
@@ -151,7 +108,7 @@ fn nothing_half_written() {
 /// A name may be as long as the disk takes it.
 #[test]
 fn the_longest_name() {
-    let folder = Folder::new("long");
+    let folder = Folder::new("writing-long");
     let name = "n".repeat(255);
     for force in ["", " --force"] {
         let (status, _, messages) =
@@ -165,7 +122,7 @@ fn the_longest_name() {
 /// is not the program's; another name is taken.
 #[test]
 fn the_name_beside_is_ones_own() {
-    let folder = Folder::new("beside");
+    let folder = Folder::new("writing-beside");
     let line = "for n in .chain.gdb.$$.new .daybook.$$.0.new; do echo kept > $n; done; \
                 exec 9< .daybook.$$.0.new; flock 9; exec daybook run chain.gdb --in-place";
     let (status, _, messages) = folder.shell(line);
@@ -182,7 +139,7 @@ fn the_name_beside_is_ones_own() {
 /// a pipe of such a name is not waited for.
 #[test]
 fn what_a_kill_leaves_is_removed() {
-    let folder = Folder::new("left");
+    let folder = Folder::new("writing-left");
     let names = folder.names();
     folder.shell("ulimit -f 0; daybook run chain.gdb --in-place; true");
     assert_eq!(folder.names().len(), names.len() + 1);
@@ -203,7 +160,7 @@ fn what_a_kill_leaves_is_removed() {
 /// next call leaves nothing beside it.
 #[test]
 fn killed_at_any_moment() {
-    let folder = Folder::new("killed");
+    let folder = Folder::new("writing-killed");
     let mut book = daybook::read(&folder.bytes("chain.gdb")).expect("a book");
     let mut changed = 0;
     for round in 0..60 {
@@ -230,7 +187,7 @@ fn killed_at_any_moment() {
 
 #[test]
 fn permissions_are_kept() {
-    let folder = Folder::new("mode");
+    let folder = Folder::new("writing-mode");
     let file = folder.0.join("chain.gdb");
     fs::set_permissions(&file, fs::Permissions::from_mode(0o604)).expect("permissions");
     for call in [
@@ -256,7 +213,7 @@ fn permissions_are_kept() {
 /// the others from being made.
 #[test]
 fn tables_all_or_nothing() {
-    let folder = Folder::new("tables");
+    let folder = Folder::new("writing-tables");
     fs::create_dir_all(folder.0.join("one")).expect("a folder");
     fs::write(folder.0.join("one/trades.csv"), b"kept").expect("a file");
     let (status, _, messages) = folder.shell("daybook csv chain.gdb one");
@@ -284,7 +241,7 @@ fn tables_all_or_nothing() {
 /// too: all of them count.
 #[test]
 fn postings_at_once() {
-    let folder = Folder::new("at-once");
+    let folder = Folder::new("writing-at-once");
     symlink("chain.gdb", folder.0.join("link.gdb")).expect("a link");
     for (round, kept) in ["--in-place", "-o chain.gdb --force", "-o link.gdb --force"]
         .into_iter()
@@ -304,7 +261,7 @@ fn postings_at_once() {
 /// What could not be told of a change has a status of its own.
 #[test]
 fn a_change_that_could_not_be_told() {
-    let folder = Folder::new("untold");
+    let folder = Folder::new("writing-untold");
     let (status, _, messages) =
         folder.shell("daybook post chain.gdb 101 PVB 1 --in-place > /dev/full");
     assert_eq!(status, 3, "{messages}");

@@ -8,12 +8,18 @@ use daybook::{IMAGE_LENGTH, MOST_TRADES, USER_LENGTH};
 /// there.
 const BEFORE: u8 = 0xA5;
 
-/// The engine's answer to a call with this store, or none; the book is changed as
-/// the call says.
-pub fn answer(book: &mut [u8], store: Option<&[u8]>, call: &Call) -> Answer {
+/// The engine's answer to a call with this store and log, or none; book and log are
+/// changed as the call says.
+pub fn answer(
+    book: &mut [u8],
+    store: Option<&[u8]>,
+    log: Option<&mut [u8]>,
+    call: &Call,
+) -> Answer {
     match call {
         Call::Posting { id, area, amount } => {
-            Answer::of_fields(archive::posting(book, store, *id, *area, *amount), &[])
+            let number = archive::posting(book, store, log, *id, *area, *amount);
+            Answer::of_fields(number, &[])
         }
         Call::List {
             ids,
@@ -21,7 +27,7 @@ pub fn answer(book: &mut [u8], store: Option<&[u8]>, call: &Call) -> Answer {
             amounts,
             places,
         } => Answer::of_places(*places, |places| {
-            archive::list(book, store, ids, areas, amounts, places)
+            archive::list(book, store, log, ids, areas, amounts, places)
         }),
         Call::Show { id } => record(|part| archive::show(book, store, *id, part)),
         Call::ShowPicked {
@@ -38,10 +44,10 @@ pub fn answer(book: &mut [u8], store: Option<&[u8]>, call: &Call) -> Answer {
             fields::<1>(|part| archive::afternoon_level(book, store, *id, part))
         }
         Call::MorningCall { id } => {
-            fields::<2>(|part| archive::morning_call(book, store, *id, part))
+            fields::<2>(|part| archive::morning_call(book, store, log, *id, part))
         }
         Call::AfternoonCall { id } => {
-            fields::<2>(|part| archive::afternoon_call(book, store, *id, part))
+            fields::<2>(|part| archive::afternoon_call(book, store, log, *id, part))
         }
         Call::Warning { id } => fields::<1>(|part| archive::warning(book, store, *id, part)),
         Call::Read => {
@@ -54,7 +60,9 @@ pub fn answer(book: &mut [u8], store: Option<&[u8]>, call: &Call) -> Answer {
             let number = archive::write(&image[..], &mut part);
             Answer::of_part(number, &part)
         }
-        Call::Reduction { id } => fields::<5>(|part| archive::reduction(book, store, *id, part)),
+        Call::Reduction { id } => {
+            fields::<5>(|part| archive::reduction(book, store, log, *id, part))
+        }
         Call::Cancellation { id, tries } => {
             let mut marks = [BEFORE; MOST_TRADES];
             let found = fields::<3>(|part| {
@@ -65,7 +73,15 @@ pub fn answer(book: &mut [u8], store: Option<&[u8]>, call: &Call) -> Answer {
                 ..found
             }
         }
-        Call::Run => fields::<3>(|part| archive::run(book, store, part)),
+        Call::Run => fields::<3>(|part| archive::run(book, store, log, part)),
+        Call::Withdrawal => {
+            let log = log.unwrap_or_default();
+            fields::<2>(|part| archive::withdrawal(book, store, log, part))
+        }
+        Call::Start => {
+            let number = archive::start_log(log.unwrap_or_default(), book);
+            Answer::of_fields(number, &[])
+        }
         Call::Day => crate::day::printed(book, answer),
     }
 }

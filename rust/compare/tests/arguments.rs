@@ -2,6 +2,7 @@
 
 #![forbid(unsafe_code)]
 
+use books::logs::started;
 use books::versions::VERSIONS;
 use books::{Call, Generator, Kind};
 use compare::settings::{comparison, seed};
@@ -240,14 +241,25 @@ fn wrong_answer(book: &mut [u8], length: usize) {
         assert_eq!(archive::warning(book, None, 1, part), WRONG_LENGTH);
     }
     if length != 2 {
-        assert_eq!(archive::morning_call(book, None, 1, part), WRONG_LENGTH);
-        assert_eq!(archive::afternoon_call(book, None, 1, part), WRONG_LENGTH);
+        assert_eq!(
+            archive::morning_call(book, None, None, 1, part),
+            WRONG_LENGTH
+        );
+        assert_eq!(
+            archive::afternoon_call(book, None, None, 1, part),
+            WRONG_LENGTH
+        );
     }
     if length != 5 {
-        assert_eq!(archive::reduction(book, None, 1, part), WRONG_LENGTH);
+        assert_eq!(archive::reduction(book, None, None, 1, part), WRONG_LENGTH);
     }
     if length != 3 {
-        assert_eq!(archive::run(book, None, part), WRONG_LENGTH);
+        assert_eq!(archive::run(book, None, None, part), WRONG_LENGTH);
+    }
+    if length != 2 {
+        let mut log = started(book);
+        let number = archive::withdrawal(book, None, &mut log, part);
+        assert_eq!((number, log), (WRONG_LENGTH, started(book)));
     }
     assert_eq!(answer, vec![7; length]);
 }

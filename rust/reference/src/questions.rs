@@ -174,6 +174,20 @@ pub struct Opened {
     pub limits: Limits,
 }
 
+impl Opened {
+    /// Question 8: the place of the user.
+    pub fn question_8(&self, id: u32) -> Result<usize, u32> {
+        self.book.place_of(id).ok_or(8_u32)
+    }
+
+    /// Questions 8 and 9: the place of the shipper.
+    pub fn questions_8_and_9(&self, id: u32) -> Result<usize, u32> {
+        let place = self.question_8(id)?;
+        ask(9, self.book.users[place].is_shipper())?;
+        Ok(place)
+    }
+}
+
 /// Questions 1 to 7, then 16 and 17 of the store.
 pub fn opening_questions(bytes: &[u8], store: Option<&[u8]>) -> Result<Opened, u32> {
     let book = questions_1_to_7(bytes)?;
@@ -184,13 +198,13 @@ pub fn opening_questions(bytes: &[u8], store: Option<&[u8]>) -> Result<Opened, u
 /// The opening questions and 8: the place of the user.
 pub fn questions_to_8(bytes: &[u8], store: Option<&[u8]>, id: u32) -> Result<(Opened, usize), u32> {
     let opened = opening_questions(bytes, store)?;
-    let place = opened.book.place_of(id).ok_or(8_u32)?;
+    let place = opened.question_8(id)?;
     Ok((opened, place))
 }
 
 /// The opening questions, 8 and 9: the user is a shipper.
 pub fn questions_to_9(bytes: &[u8], store: Option<&[u8]>, id: u32) -> Result<(Opened, usize), u32> {
-    let (opened, place) = questions_to_8(bytes, store, id)?;
-    ask(9, opened.book.users[place].is_shipper())?;
+    let opened = opening_questions(bytes, store)?;
+    let place = opened.questions_8_and_9(id)?;
     Ok((opened, place))
 }

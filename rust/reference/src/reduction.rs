@@ -2,7 +2,8 @@
 
 use crate::book::{Book, Trade, User};
 use crate::levels::{above_margin, afternoon_level_of, called_in};
-use crate::questions::{ask, questions_to_9, Opened, ACCEPTED};
+use crate::logged::{has_room, logged, note};
+use crate::questions::{ask, Opened, ACCEPTED};
 use crate::store::Limits;
 use crate::units::{Area, Cents, Mwh, Price};
 
@@ -17,30 +18,35 @@ pub struct ReductionAnswer {
     pub over: i128,
 }
 
-/// Reduces the sales of one shipper.
-pub fn reduction(bytes: &mut [u8], store: Option<&[u8]>, id: u32) -> ReductionAnswer {
-    match reduced(bytes, store, id) {
-        Ok((after, answer)) => {
-            bytes.copy_from_slice(&after);
-            answer
-        }
-        Err(number) => ReductionAnswer {
-            number,
-            ..ReductionAnswer::default()
-        },
-    }
+/// Reduces the sales of one shipper. "A reduction with a full log" gives 20, asked
+/// last.
+pub fn reduction(
+    bytes: &mut [u8],
+    store: Option<&[u8]>,
+    log: Option<&mut [u8]>,
+    id: u32,
+) -> ReductionAnswer {
+    let reduced = logged(bytes, store, log, true, |opened, log| {
+        let place = questions_8_to_14(opened, id)?;
+        ask(20, has_room(log.as_deref()))?;
+        Ok(note(opened, place, log))
+    });
+    reduced.unwrap_or_else(|number| ReductionAnswer {
+        number,
+        ..ReductionAnswer::default()
+    })
 }
 
-/// The questions of a reduction, then the book afterwards and the answer.
-fn reduced(bytes: &[u8], store: Option<&[u8]>, id: u32) -> Result<(Vec<u8>, ReductionAnswer), u32> {
-    let (Opened { mut book, limits }, place) = questions_to_9(bytes, store, id)?;
-    questions_11_to_14(&limits, &book, &book.users[place])?;
-    let answer = reduce(&limits, &mut book, place);
-    Ok((book.to_bytes(), answer))
+/// The questions of a reduction after the opening ones: the user's place.
+pub fn questions_8_to_14(opened: &Opened, id: u32) -> Result<usize, u32> {
+    let place = opened.questions_8_and_9(id)?;
+    let user = &opened.book.users[place];
+    questions_11_to_14(&opened.limits, &opened.book, user)?;
+    Ok(place)
 }
 
 /// The questions 11, 13 and 14 of a reduction.
-pub fn questions_11_to_14(limits: &Limits, book: &Book, user: &User) -> Result<(), u32> {
+fn questions_11_to_14(limits: &Limits, book: &Book, user: &User) -> Result<(), u32> {
     let level = afternoon_level_of(limits, book, user);
     ask(
         11,
@@ -166,7 +172,7 @@ pub struct Tally {
 
 impl Tally {
     /// Takes one trade's cut and hands back the new tally.
-    fn with(self, cut: Mwh, tariff: Price) -> Tally {
+    pub fn with(self, cut: Mwh, tariff: Price) -> Tally {
         Tally {
             mwh: self.mwh + cut,
             worth: self.worth + cut * tariff,
@@ -206,7 +212,7 @@ fn cut_tier(book: &mut Book, places: &[usize], asked: Cents, tally: Tally) -> Ta
 }
 
 /// "The seller's position rises and the buyer's falls by each cut."
-fn settle(book: &mut Book, place: usize, cut: Mwh) {
+pub fn settle(book: &mut Book, place: usize, cut: Mwh) {
     let trade = &mut book.trades[place];
     trade.standing = trade.standing - cut;
     let area = usize::from(trade.area);
