@@ -4,6 +4,7 @@ pub mod Sound
 -- users, positions, trades, and what a call did to a book
 pub mod Areas
 pub mod Users
+pub mod Bearers
 pub mod Positions
 pub mod Trades
 pub mod Moved
