@@ -36,7 +36,7 @@ module _ (g : User → User) (keeps : (u : User) → g u .party ≡ u .party) wh
       let r = t .terms in
       ap₂
       (λ (x y : ℕ).
-          record { terms = record { seller = x; buyer = y; area = r .area; kind = r .kind; day = r .day; notified = r .notified }; standing = t .standing })
+      record { terms = record { seller = x; buyer = y; area = r .area; kind = r .kind; day = r .day; notified = r .notified }; standing = t .standing })
       (bearer-map us (r .seller) (r .area))
       (bearer-map us (r .buyer) (r .area))
 

@@ -20,6 +20,9 @@ pub mod Reduction
 pub mod Run
 -- numeric bounds
 pub mod Bounds
+-- what is borne by a user
+pub mod Members
+pub mod Levels
 -- a version without selling tariffs
 pub mod Credit
 -- a run whose fuel suffices

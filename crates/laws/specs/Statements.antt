@@ -60,14 +60,14 @@ pub record RunCounts (limits : Limits) : Type 0 where
   pub most : (b : Book) → effect limits b run .answer .reductions ≤ cuttable (b .trades)
   pub none : (b : Book) → effect limits b run .answer .reductions ≡ 0 → effect limits b run .book ≡ b
 
--- Positions of an accepted book are within ±26,600,000, and levels are below 2^44 where the least level is.
+-- Positions of an accepted book are within ±26,600,000, and levels are below 2^46 where the least level is.
 pub record Bounded (limits : Limits) : Type 0 where
   pub position : (b : Book) (id a : ℕ) → T (accepted b) → T (known (b .users) id) → a < 3
       → T (within 26600000 (at (find (b .users) id .position) a))
-  pub morning : (b : Book) (id : ℕ) → T (accepted b) → T (known (b .users) id) → limits .floor ≤ 9580000000000
-      → morningLevel limits b (find (b .users) id) < 2 ^ 44
-  pub afternoon : (b : Book) (id : ℕ) → T (accepted b) → T (known (b .users) id) → limits .floor ≤ 9580000000000
-      → afternoonLevel limits b (find (b .users) id) < 2 ^ 44
+  pub morning : (b : Book) (id : ℕ) → T (accepted b) → T (known (b .users) id) → limits .floor ≤ 66280000000000
+      → morningLevel limits b (find (b .users) id) < 2 ^ 46
+  pub afternoon : (b : Book) (id : ℕ) → T (accepted b) → T (known (b .users) id) → limits .floor ≤ 66280000000000
+      → afternoonLevel limits b (find (b .users) id) < 2 ^ 46
 
 -- document 01's afternoon level: "charges + sum of max(0, need) × w + sum of max(0, −position) × w", with its floor
 unfoldable pub uncreditedLevel : Limits → Book → User → ℕ
