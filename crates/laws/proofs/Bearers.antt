@@ -24,7 +24,8 @@ module _ (g : User → User) (keeps : (u : User) → g u .party ≡ u .party) wh
       go true e = keeps u
       go false e = e
 
-  bearer-map : (us : List User) (id area : ℕ) → bearer (find (map g us) id) area ≡ bearer (find us id) area
+  -- who bears the risk of the user of an id
+  pub bearer-map : (us : List User) (id area : ℕ) → bearer (find (map g us) id) area ≡ bearer (find us id) area
   unfolding bearer
   bearer-map us id area =
       ap (λ (p : Party). cond (eqb (managerIn (p .managers) area) 0) (p .id) (managerIn (p .managers) area)) (find-map us id)

@@ -5,6 +5,8 @@ pub mod Kept
 -- the trades of a tier by their numbers
 pub mod Lots
 pub mod Ranges
+-- the book as its risk is borne
+pub mod Borne
 -- whose sale a trade is
 pub mod Own
 -- the cuts of a tier

@@ -1,0 +1,49 @@
+-- A book as its risk is borne: each user with the sums over itself and its members, each trade between those who bear the risk of its parties. What the rules say of a book with
+-- managers they say of this one without. Assumes nothing.
+use mathlib.Core.Bool.{cond}
+use mathlib.Core.List.{List, map}
+use Prim.Native.Nat.{ℕ}
+use lib.Dec.{eqb}
+use Rattle.rules.specs.Bearers.{asBorne, borneSum}
+use Rattle.rules.specs.Book.{Book, PerArea, Trade, User}
+
+-- a trade whose parties are one is of a kind that cannot be cut: "a sale between two of one group there is never eligible"
+unfoldable pub shut : Trade → Trade
+shut t =
+    let r = t .terms in
+    record {
+      terms = record {
+        seller = r .seller;
+        buyer = r .buyer;
+        area = r .area;
+        kind = cond (eqb (r .seller) (r .buyer)) 1 (r .kind);
+        day = r .day;
+        notified = r .notified;
+      };
+      standing = t .standing;
+    }
+
+unfoldable pub borneTrade : List User → Trade → Trade
+borneTrade us t = shut (asBorne us t)
+
+-- the sums over those whose risk the user of an id bears, in each area
+unfoldable pub borneSums : (User → PerArea) → List User → ℕ → PerArea
+borneSums amounts us id =
+    record { pvb = borneSum amounts us id 0; tvb = borneSum amounts us id 1; avb = borneSum amounts us id 2 }
+
+unfoldable pub borneUser : List User → User → User
+borneUser us u =
+    record {
+      party = u .party;
+      physical = borneSums (λ v. v .physical) us (u .party .id);
+      position = borneSums (λ v. v .position) us (u .party .id);
+      blocked = u .blocked;
+    }
+
+unfoldable pub borneBook : Book → Book
+borneBook b =
+    record {
+      header = b .header;
+      users = map (borneUser (b .users)) (b .users);
+      trades = map (borneTrade (b .users)) (b .trades);
+    }
