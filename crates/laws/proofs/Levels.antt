@@ -1,7 +1,7 @@
--- Numeric bounds of the levels of an accepted book, below 2^46: a manager bears the risk of up to 64 users. Assumes nothing.
+-- Numeric bounds of an accepted book as its risk is borne, where a manager bears that of up to 64 users: positions within ±89,600,000, levels below 2^46. Assumes nothing.
 use mathlib.Core.Bool.{Bool, true, false, cond, _&&_}
 use mathlib.Core.Path.{_≡_, refl, ap, _∙_}
-use Prim.Native.Nat.{_*_, _+_, _≤_, ℕ, _<_}
+use Prim.Native.Nat.{_*_, _+_, _≤_, ℕ, _<_, zero, suc}
 use native.Mathlib.Nat.{mul-le-mul}
 use native.Mathlib.Omega.{arith}
 use lib.Dec.{T, eqb}
@@ -20,27 +20,39 @@ use Rattle.rules.specs.Book.{Book, User, bought, sold}
 use Rattle.rules.specs.Levels.{afternoonNeed, credit, exposure, holding, stock, Limits, afternoonLevel, afternoonSum, floored, morningLevel, morningNeed, morningSum}
 use Rattle.rules.specs.Questions.{userValid}
 
-module _ (b : Book) (s : Sound b) (u : User) where
-  -- what a user sold as it is borne, in all areas on both days
-  sold-le : dealtInAll (sold (borne b) (u .party .id)) ≤ 25600000
+-- what a user sold, and what it bought, as it is borne, in all areas on both days
+module _ (b : Book) (s : Sound b) (id : ℕ) where
+  all-sold-le : dealtInAll (sold (borne b) id) ≤ 25600000
   unfolding dealtInAll sold borne asBorne
-  sold-le =
-      omega (
-        arith,
-        trades-le b s,
-        sum-map (λ t. t .standing) (asBorne (b .users)) (b .trades),
-        dealt-le (λ r. r .seller) (λ party. eqb party (u .party .id)) (borne b),
-      )
+  all-sold-le =
+      omega (arith, trades-le b s, sum-map (λ t. t .standing) (asBorne (b .users)) (b .trades), dealt-le (λ r. r .seller) (λ party. eqb party id) (borne b))
 
-  -- a position as it is borne is above what was sold
-  short-le : (a : ℕ) → a < 3 → negPart (holding b u a .position) ≤ 64000000 + sold (borne b) (u .party .id) a 0
-  unfolding holding
-  short-le a k =
-      let id = u .party .id in
+  all-bought-le : dealtInAll (bought (borne b) id) ≤ 25600000
+  unfolding dealtInAll bought borne asBorne
+  all-bought-le =
+      omega (arith, trades-le b s, sum-map (λ t. t .standing) (asBorne (b .users)) (b .trades), dealt-le (λ r. r .buyer) (λ party. eqb party id) (borne b))
+
+  -- the position of a group lies between what was sold and what was bought
+  position-parts : (a : ℕ) → a < 3
+      → (posPart (borneSum (λ v. v .position) (b .users) id a) ≤ 64000000 + bought (borne b) id a 0)
+      × (negPart (borneSum (λ v. v .position) (b .users) id a) ≤ 64000000 + sold (borne b) id a 0)
+  position-parts a k =
       let z = borneSum (λ v. v .position) (b .users) id a in
       let e = borneSum (λ v. v .physical) (b .users) id a in
       let l = below-parts z (posPart e + bought (borne b) id a 0) (negPart e + sold (borne b) id a 0) (parts-borne b s id a k) in
-      omega (arith, l, entries-borne b s id a k)
+      (omega (arith, l, entries-borne b s id a k), omega (arith, l, entries-borne b s id a k))
+
+  pub borne-bound : (a : ℕ) → a < 3 → (posPart (borneSum (λ v. v .position) (b .users) id a) ≤ 89600000) × (negPart (borneSum (λ v. v .position) (b .users) id a) ≤ 89600000)
+  unfolding dealtInAll
+  borne-bound zero k = let l = position-parts 0 k in (omega (arith, l, all-bought-le), omega (arith, l, all-sold-le))
+  borne-bound (suc zero) k = let l = position-parts 1 k in (omega (arith, l, all-bought-le), omega (arith, l, all-sold-le))
+  borne-bound (suc (suc zero)) k = let l = position-parts 2 k in (omega (arith, l, all-bought-le), omega (arith, l, all-sold-le))
+  borne-bound (suc (suc (suc a))) k = absurd (omega arith)
+
+module _ (b : Book) (s : Sound b) (u : User) where
+  short-le : (a : ℕ) → a < 3 → negPart (holding b u a .position) ≤ 64000000 + sold (borne b) (u .party .id) a 0
+  unfolding holding
+  short-le a k = position-parts b s (u .party .id) a k .1
 
   price-le : (a : ℕ) → referencePrice (b .header .prices) a ≤ 300000
   unfolding referencePrice
@@ -101,7 +113,7 @@ module _ (b : Book) (s : Sound b) (u : User) where
         omega (
           arith,
           charges-le u v,
-          sold-le,
+          all-sold-le b s (u .party .id),
           parts-add (u .party .charges) (pos needs),
           posPart-of (u .party .charges +ℤ pos needs) (posPart (u .party .charges) + needs) (negPart (u .party .charges)) (omega (arith, parts-add (u .party .charges) (pos needs), posPart-pos needs, negPart-pos needs)),
           worth-le 0 (posPart (morningNeed (holding b u 0))) (64000000 + n0) (morning-need 0 (omega arith)),
@@ -121,7 +133,7 @@ module _ (b : Book) (s : Sound b) (u : User) where
         omega (
           arith,
           charges-le u v,
-          sold-le,
+          all-sold-le b s (u .party .id),
           exposure-le,
           posPart-of (c +ℤ pos needs +ℤ pos short -ℤ pos long) (posPart c + needs + short) (negPart c + long)
               (omega (

@@ -5,6 +5,7 @@ pub mod Sound
 pub mod Areas
 pub mod Users
 pub mod Bearers
+pub mod Managers
 pub mod Positions
 pub mod Trades
 pub mod Moved

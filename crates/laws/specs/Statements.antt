@@ -10,9 +10,9 @@ use Rattle.base.specs.Sums.{sum, sumℤ}
 use Rattle.laws.specs.Books.{anew}
 use Rattle.laws.specs.Trades.{cutsWithin, Lowered, Pairwise, eligibleWorth}
 use Rattle.rules.specs.Areas.{areas, referencePrice}
-use Rattle.rules.specs.Book.{Book, User, at, find}
+use Rattle.rules.specs.Book.{Book, User, at, bought, find, sold}
 use Rattle.rules.specs.Calls.{Call, cuttable, effect, reduced, reducedBy, run, runFor, step}
-use Rattle.rules.specs.Levels.{Limits, afternoonLevel, afternoonNeed, exposure, floored, holding, morningLevel, shortOfCover}
+use Rattle.rules.specs.Levels.{Holding, Limits, afternoonLevel, afternoonNeed, exposure, floored, holding, morningLevel, shortOfCover}
 use Rattle.rules.specs.Questions.{accepted, known}
 use Rattle.rules.specs.Reduction.{cutAll, cuts, eligible, hasEligible, target}
 use Rattle.rules.specs.Signed.{within}
@@ -68,6 +68,18 @@ pub record Bounded (limits : Limits) : Type 0 where
       → morningLevel limits b (find (b .users) id) < 2 ^ 46
   pub afternoon : (b : Book) (id : ℕ) → T (accepted b) → T (known (b .users) id) → limits .floor ≤ 66280000000000
       → afternoonLevel limits b (find (b .users) id) < 2 ^ 46
+
+-- what a user holds by its own record and its own trades, as in document 01
+unfoldable pub ownHolding : Book → User → ℕ → Holding
+ownHolding b u area =
+    record {
+      physical = at (u .physical) area;
+      position = at (u .position) area;
+      sold = sold (b .trades) (u .party .id) area 0;
+      bought = bought (b .trades) (u .party .id) area 0;
+      soldNext = sold (b .trades) (u .party .id) area 1;
+      boughtNext = bought (b .trades) (u .party .id) area 1;
+    }
 
 -- document 01's afternoon level: "charges + sum of max(0, need) × w + sum of max(0, −position) × w", with its floor
 unfoldable pub uncreditedLevel : Limits → Book → User → ℕ

@@ -22,6 +22,7 @@ use Rattle.rules.specs.Book.{PerArea, at, Book, User, Trade, find}
 use Rattle.rules.specs.Changes.{add, change, moved}
 use Rattle.rules.specs.Questions.{known, idsRise, tradeValid}
 use Rattle.rules.specs.Reduction.{lost, settle, settleOne, withTrades}
+use Rattle.laws_sales.proofs.Sums.{at-sums}
 use Rattle.laws_sales.proofs.Settled.{settle-parties, settle-rise}
 use Rattle.laws_sales.specs.Borne.{borneBook, borneSums, borneTrade, borneUser, shut}
 
@@ -81,13 +82,6 @@ per-area v w e =
     let a = e 2 (omega arith) in
     λ i. record { pvb = p i; tvb = t i; avb = a i }
 
-at-sums : (amounts : User → PerArea) (us : List User) (id i : ℕ) → i < 3 → at (borneSums amounts us id) i ≡ borneSum amounts us id i
-unfolding at borneSums
-at-sums amounts us id zero l = refl
-at-sums amounts us id (suc zero) l = refl
-at-sums amounts us id (suc (suc zero)) l = refl
-at-sums amounts us id (suc (suc (suc i))) l = absurd (omega arith)
-
 module _ (us : List User) (id area : ℕ) (z : ℤ) (inside : area < 3) (rise : T (idsRise 0 us)) (isKnown : T (known us id)) where
   abbrev after : List User
   after = change id (moved area z) us
@@ -100,9 +94,9 @@ module _ (us : List User) (id area : ℕ) (z : ℤ) (inside : area < 3) (rise : 
   positions-moved who =
       per-area (borneSums (λ v. v .position) after who) (cond (eqb who owner) (add (borneSums (λ v. v .position) us who) area z) (borneSums (λ v. v .position) us who))
       (λ i l.
-      at-sums (λ v. v .position) after who i l
+      at-sums (λ v. v .position) after who i
       ∙ borne-moved us id who area i z inside l rise isKnown
-      ∙ ap (λ (x : ℤ). x +ℤ cond (eqb owner who) (cond (eqb area i) z (pos 0)) (pos 0)) (sym (at-sums (λ v. v .position) us who i l))
+      ∙ ap (λ (x : ℤ). x +ℤ cond (eqb owner who) (cond (eqb area i) z (pos 0)) (pos 0)) (sym (at-sums (λ v. v .position) us who i))
       ∙ ap (λ (c : Bool). at (borneSums (λ v. v .position) us who) i +ℤ cond c (cond (eqb area i) z (pos 0)) (pos 0)) (eqb-comm owner who)
       ∙ go (borneSums (λ v. v .position) us who) (eqb who owner) i l)
     where
@@ -116,10 +110,10 @@ module _ (us : List User) (id area : ℕ) (z : ℤ) (inside : area < 3) (rise : 
   entries-stay who =
       let one : (i : ℕ) → borneSum (λ v. v .physical) after who i ≡ borneSum (λ v. v .physical) us who i
       = λ i.
-          sumℤ-map (λ v. cond (eqb (bearer v i) who) (at (v .physical) i) (pos 0)) (λ u. cond (eqb (u .party .id) id) (moved area z u) u) us
-          ∙ sumℤ-ext (λ u. cond (eqb (bearer (cond (eqb (u .party .id) id) (moved area z u) u) i) who) (at (cond (eqb (u .party .id) id) (moved area z u) u .physical) i) (pos 0))
-          (λ u. cond (eqb (bearer u i) who) (at (u .physical) i) (pos 0))
-          (λ u. by-test (λ (v : User). cond (eqb (bearer v i) who) (at (v .physical) i) (pos 0) ≡ cond (eqb (bearer u i) who) (at (u .physical) i) (pos 0)) (eqb (u .party .id) id) (λ t. refl) (λ t. refl)) us in
+      sumℤ-map (λ v. cond (eqb (bearer v i) who) (at (v .physical) i) (pos 0)) (λ u. cond (eqb (u .party .id) id) (moved area z u) u) us
+      ∙ sumℤ-ext (λ u. cond (eqb (bearer (cond (eqb (u .party .id) id) (moved area z u) u) i) who) (at (cond (eqb (u .party .id) id) (moved area z u) u .physical) i) (pos 0))
+      (λ u. cond (eqb (bearer u i) who) (at (u .physical) i) (pos 0))
+      (λ u. by-test (λ (v : User). cond (eqb (bearer v i) who) (at (v .physical) i) (pos 0) ≡ cond (eqb (bearer u i) who) (at (u .physical) i) (pos 0)) (eqb (u .party .id) id) (λ t. refl) (λ t. refl)) us in
       let p = one 0 in
       let t = one 1 in
       let a = one 2 in

@@ -6,6 +6,7 @@ pub mod Kept
 pub mod Lots
 pub mod Ranges
 -- the book as its risk is borne
+pub mod Sums
 pub mod Borne
 -- whose sale a trade is
 pub mod Own

@@ -1,11 +1,13 @@
 -- A book as its risk is borne: each user with the sums over itself and its members, each trade between those who bear the risk of its parties. What the rules say of a book with
 -- managers they say of this one without. Assumes nothing.
-use mathlib.Core.Bool.{cond}
+use mathlib.Core.Bool.{Bool, not, cond, _&&_}
 use mathlib.Core.List.{List, map}
 use Prim.Native.Nat.{ℕ}
-use lib.Dec.{eqb}
+use lib.Dec.{eqb, leb, ltb}
 use Rattle.rules.specs.Bearers.{asBorne, borneSum}
-use Rattle.rules.specs.Book.{Book, PerArea, Trade, User}
+use Rattle.rules.specs.Book.{Book, PerArea, Trade, User, bilateralForDay}
+use Rattle.rules.specs.Calls.{Result}
+use Rattle.rules.specs.Questions.{known}
 
 -- a trade whose parties are one is of a kind that cannot be cut: "a sale between two of one group there is never eligible"
 unfoldable pub shut : Trade → Trade
@@ -47,3 +49,14 @@ borneBook b =
       users = map (borneUser (b .users)) (b .users);
       trades = map (borneTrade (b .users)) (b .trades);
     }
+
+-- what a call gives, with the book as its risk is borne
+unfoldable pub borneResult : Result → Result
+borneResult r = record { answer = r .answer; book = borneBook (r .book) }
+
+-- what holds of a trade as it is borne: its parties are users, two of them where it can be cut; its area is one of three; no more stands than was notified
+unfoldable pub borneValid : List User → Trade → Bool
+borneValid us t =
+    let r = t .terms in
+    (known us (r .seller) && known us (r .buyer))
+    && (not (bilateralForDay t && eqb (r .seller) (r .buyer)) && (ltb (r .area) 3 && (leb (t .standing) (r .notified) && leb (r .notified) 100000)))
