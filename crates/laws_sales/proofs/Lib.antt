@@ -8,6 +8,7 @@ pub mod Ranges
 -- the book as its risk is borne
 pub mod Sums
 pub mod Borne
+pub mod Alone
 -- whose sale a trade is
 pub mod Own
 -- the cuts of a tier

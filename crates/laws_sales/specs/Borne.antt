@@ -1,13 +1,17 @@
 -- A book as its risk is borne: each user with the sums over itself and its members, each trade between those who bear the risk of its parties. What the rules say of a book with
 -- managers they say of this one without. Assumes nothing.
-use mathlib.Core.Bool.{Bool, not, cond, _&&_}
+use mathlib.Core.Bool.{Bool, not, cond, _&&_, _||_}
 use mathlib.Core.List.{List, map}
-use Prim.Native.Nat.{ℕ}
-use lib.Dec.{eqb, leb, ltb}
+use mathlib.Core.Path.{_≡_}
+use Prim.Native.Nat.{ℕ, _<_}
+use lib.Dec.{T, eqb, leb, ltb}
+use lib.ListN.{length, getD}
+use Rattle.laws.specs.Statements.{ownHolding}
 use Rattle.rules.specs.Bearers.{asBorne, borneSum}
-use Rattle.rules.specs.Book.{Book, PerArea, Trade, User, bilateralForDay}
+use Rattle.rules.specs.Book.{Book, PerArea, Trade, User, bilateralForDay, find, nobody}
 use Rattle.rules.specs.Calls.{Result}
-use Rattle.rules.specs.Questions.{known}
+use Rattle.rules.specs.Levels.{holding, partyTo, sellerOf, sells}
+use Rattle.rules.specs.Questions.{known, tradeValid}
 
 -- a trade whose parties are one is of a kind that cannot be cut: "a sale between two of one group there is never eligible"
 unfoldable pub shut : Trade → Trade
@@ -60,3 +64,12 @@ borneValid us t =
     let r = t .terms in
     (known us (r .seller) && known us (r .buyer))
     && (not (bilateralForDay t && eqb (r .seller) (r .buyer)) && (ltb (r .area) 3 && (leb (t .standing) (r .notified) && leb (r .notified) 100000)))
+
+-- in a book of a version without managers everybody bears its own risk: what the rules read of users and trades is document 01's
+pub record OwnRisk (b : Book) : Type 0 where
+  pub book : borneBook b ≡ b
+  pub held : (i : ℕ) → i < length (b .users) → (area : ℕ) → holding b (getD (b .users) i nobody) area ≡ ownHolding b (getD (b .users) i nobody) area
+  pub sale : (u : User) (t : Trade) → T (tradeValid (b .users) t) → sells b u t ≡ eqb (t .terms .seller) (u .party .id)
+  pub party : (u : User) (t : Trade) → T (tradeValid (b .users) t)
+      → partyTo b u t ≡ (eqb (t .terms .seller) (u .party .id) || eqb (t .terms .buyer) (u .party .id))
+  pub seller : (t : Trade) → T (tradeValid (b .users) t) → sellerOf b t ≡ find (b .users) (t .terms .seller)
