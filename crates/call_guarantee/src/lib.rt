@@ -5,22 +5,35 @@ use call_answers::CallAnswer;
 use units::Cents;
 use units::Limits;
 ghost use mathlib.Core.Path.{_≡_};
-ghost use Prim.Native.Nat.{_≤_};
+ghost use Prim.Native.Nat.{_<_};
+ghost use lib.ListN.{getD};
 ghost use Rattle.units.specs.Limits.{asLimits, LimitsInRange};
 ghost use Rattle.book_records.specs.User.{asUser};
 ghost use Rattle.book_format.specs.After.{CalledAfter};
-ghost use Rattle.book_format.specs.Book.{bookOf};
+ghost use Rattle.book_format.specs.Book.{bookOf, userCount, usersOf};
+ghost use Rattle.book_parties.specs.Ids.{BookIn};
+ghost use Rattle.rules.specs.Book.{nobody};
 ghost use Rattle.book_format.specs.Places.{UserIn};
 ghost use Rattle.book_format.specs.Questions.{bookNumber};
 ghost use Rattle.call_answers.specs.Call.{answerOf};
-ghost use Rattle.book_questions.specs.Asked.{SumsFound};
+ghost use Rattle.book_questions.specs.Asked.{PartiesFound};
 ghost use Rattle.call_guarantee.specs.Times.{dueOf, callOf};
 ghost use Rattle.call_guarantee.specs.Raised.{raised};
 
-// Question 11 of a user of an accepted book: does the level exceed blocked by more than the margin, and in the afternoon, is the user
-// called in?
-fn is_due(book: &[u8], user: User, limits: Limits, level: Cents, afternoon: bool) -> bool
-    requires { ⌜ (bookNumber (now book) ≡ 0) × (user .blocked .0 ≤ 1000000000000) × LimitsInRange (asLimits limits) ⌝ }
+// Question 11 of a user whose record was read at a place, of an accepted book with the places of its trades' parties: does the level exceed
+// blocked by more than the margin, and in the afternoon, is the user called in?
+fn is_due(
+    book: &[u8],
+    sellers: &[u8; 256],
+    buyers: &[u8; 256],
+    place: usize,
+    user: User,
+    limits: Limits,
+    level: Cents,
+    afternoon: bool,
+) -> bool
+    requires { ⌜ BookIn (now book) (now sellers) (now buyers) × (place < userCount (now book)) × (asUser user ≡ getD (usersOf (now book)) place nobody) ⌝ }
+    requires { ⌜ (bookNumber (now book) ≡ 0) × LimitsInRange (asLimits limits) ⌝ }
     ensures { λ r. ⌜ r ≡ dueOf afternoon (asLimits limits) (bookOf (now (book .entry))) (level .0) (asUser user) ⌝ }
 {
     let blocked = user.blocked;
@@ -30,7 +43,9 @@ fn is_due(book: &[u8], user: User, limits: Limits, level: Cents, afternoon: bool
     if afternoon {
         let prices = book_header::read_prices(book);
         let position = user.position;
-        let cut = risk_user::cut_before(book, user.id);
+        let n = book_format::user_count(book) as usize;
+        let m = book_format::trade_count(book) as usize;
+        let cut = cut_parties::cut_at(book, n, m, sellers, buyers, place);
         return risk_levels::called_in(limits, prices, blocked, position, cut);
     }
     true
@@ -61,19 +76,21 @@ fn raise(book: &mut [u8], place: usize, user: User, level: Cents, due: bool) -> 
     }
 }
 
-// The guarantee call on the user of an id, at one time of the day, after the opening questions, whose number is given with the sums of the
-// users.
+// The guarantee call on the user of an id, at one time of the day, after the opening questions, whose number is given with the places of
+// the trades' parties and the sums of the users.
 pub fn call(
     book: &mut [u8],
     number: u32,
     limits: Limits,
+    sellers: &[u8; 256],
+    buyers: &[u8; 256],
     sums: &[u32; 768],
     id: u32,
     afternoon: bool,
 ) -> CallAnswer
     requires { ⌜ (number ≡ 0 → bookNumber (now book) ≡ 0) ⌝ }
     requires { ⌜ LimitsInRange (asLimits limits) ⌝ }
-    requires { ⌜ SumsFound (now book) number (now sums) ⌝ }
+    requires { ⌜ PartiesFound (now book) number (now sellers) (now buyers) (now sums) ⌝ }
     ensures { λ r. ⌜ CalledAfter number (asLimits limits) (now (book .entry)) (callOf afternoon id) (answerOf r) (now (book .exit)) ⌝ }
 {
     let entry = call_entry::seek(book, number, id);
@@ -87,6 +104,6 @@ pub fn call(
         return CallAnswer::refused(9);
     }
     let level = call_level::level_of(book, sums, place, user, limits, afternoon);
-    let due = is_due(book, user, limits, level, afternoon);
+    let due = is_due(book, sellers, buyers, place, user, limits, level, afternoon);
     raise(book, place, user, level, due)
 }

@@ -51,7 +51,7 @@ pub fn shortfall_at(
     let n = book_format::user_count(book) as usize;
     let m = book_format::trade_count(book) as usize;
     run_positions::fill_positions(book, n, positions);
-    let cut = run_targets::cut_at(book, n, m, sellers, parties, place);
+    let cut = cut_parties::cut_at(book, n, m, sellers, parties, place);
     let called = risk_user::called_at(book, positions, place, cut, day);
     let level = risk_user::level_at(book, sums, positions, place, day);
     let number = refused_by(risk_user::state_of(book, place, level, called, day));

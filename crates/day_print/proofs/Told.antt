@@ -13,7 +13,7 @@ use Rattle.risk_user.specs.UserAt.{PositionsOf}
 use Rattle.rules.specs.Areas.{Prices}
 use Rattle.rules.specs.Levels.{Limits}
 use Rattle.run_reduction.specs.Books.{Runnable}
-use Rattle.run_targets.specs.Asking.{CutFlags}
+use Rattle.cut_parties.specs.Flags.{CutFlags}
 use Rattle.day_print.specs.Lines.{LinesAsked}
 
 pub lines-asked : {limits : Limits} {f : Prices} {s sellers parties sums : List ℕ} → Runnable limits f s sellers parties sums → bookNumber s ≡ 0 → {n : ℕ} → n ≡ userCount s

@@ -10,7 +10,7 @@ use Rattle.risk_user.specs.UserAt.{PositionsOf}
 use Rattle.rules.specs.Areas.{Prices}
 use Rattle.rules.specs.Levels.{Limits}
 use Rattle.units.specs.Limits.{LimitsInRange}
-use Rattle.run_targets.specs.Asking.{CutFlags}
+use Rattle.cut_parties.specs.Flags.{CutFlags}
 
 -- an accepted book of n users, limits and the book's prices, the sums and the positions of its users, and which of them are party to a trade standing below notified
 pub record LinesAsked (limits : Limits) (f : Prices) (s : List ℕ) (n : ℕ) (sums ps : List ℕ) (flags : List Bool) : Type 0 where

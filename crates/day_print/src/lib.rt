@@ -106,7 +106,7 @@ fn lines(book: &[u8])
     let mut positions = [0u32; 192];
     run_positions::fill_positions(book, n, &mut positions);
     let mut cut = [false; 64];
-    run_targets::fill_cut(book, n, m, &sellers, &parties, &mut cut);
+    cut_parties::fill_cut(book, n, m, &sellers, &parties, &mut cut);
     lines_of(book, n, &sums, &positions, &cut, day);
 }
 

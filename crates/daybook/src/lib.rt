@@ -163,7 +163,16 @@ pub fn call(book: &mut [u8], with_store: bool, store: &[u8], id: u32, afternoon:
         &mut sums,
     );
     let limits = admission.limits;
-    call_guarantee::call(book, admission.number, limits, &sums, id, afternoon)
+    call_guarantee::call(
+        book,
+        admission.number,
+        limits,
+        &sellers,
+        &buyers,
+        &sums,
+        id,
+        afternoon,
+    )
 }
 
 // Raises a user's blocked guarantee to its morning level.

@@ -11,7 +11,8 @@ use Rattle.rules.specs.Levels.{Limits}
 use Rattle.run_state.proofs.Grouped.{going-first}
 use Rattle.risk_user.specs.UserAt.{PositionsOf}
 use Rattle.run_state.specs.Going.{Going, OwedOf}
-use Rattle.run_targets.specs.Asking.{CutFlags, Opening}
+use Rattle.cut_parties.specs.Flags.{CutFlags}
+use Rattle.run_targets.specs.Asking.{Opening}
 use Rattle.run_reduction.specs.Books.{Listed, Runnable}
 use Rattle.run_reduction.proofs.Start.{listed-standing}
 

@@ -63,7 +63,7 @@ fn run_listed(
     let mut positions = [0u32; 192];
     run_positions::fill_positions(book, n, &mut positions);
     let mut cut = [false; 64];
-    run_targets::fill_cut(book, n, m, sellers, parties, &mut cut);
+    cut_parties::fill_cut(book, n, m, sellers, parties, &mut cut);
     let mut eligible = [false; 64];
     let mut targets = [0u64; 64];
     run_targets::fill_targets(

@@ -1,18 +1,16 @@
 -- What a run asks of its users before the first reduction and after each. Assumes nothing.
-use mathlib.Core.Bool.{Bool, false, cond, _||_}
+use mathlib.Core.Bool.{Bool, cond, _||_}
 use mathlib.Core.List.{List}
 use mathlib.Core.Path.{_≡_}
 use Prim.Native.Nat.{ℕ, _≤_, _<_}
 use lib.ListN.{length, getD}
-use Rattle.book_parties.specs.Ids.{idAt}
-use Rattle.risk_holdings.specs.Parties.{cutBefore}
 use Rattle.book_format.specs.Book.{bookOf, tradesOf, userCount, usersOf}
 use Rattle.book_format.specs.Questions.{Formed}
 use Rattle.laws.specs.Sound.{Sound}
 use Rattle.rules.specs.Areas.{Prices}
-use Rattle.rules.specs.Book.{Trade, User}
 use Rattle.risk_user.specs.UserAt.{PositionsOf}
 use Rattle.book_sums.specs.Twelve.{TwelveOf}
+use Rattle.cut_parties.specs.Flags.{CutFlags}
 use Rattle.run_state.specs.Going.{StandingIn}
 use Rattle.laws_sales.specs.Groups.{starts}
 
@@ -24,11 +22,6 @@ pub record BuyersIn (s bs : List ℕ) (from to : ℕ) : Type 0 where
   pub inside : (k : ℕ) → from ≤ k → k < to → getD bs k 0 < userCount s
 
 -- ---- before the first reduction
-
--- a flag for each user that is party to a trade standing below notified
-pub record CutFlags (us : List User) (ts : List Trade) (flags : List Bool) : Type 0 where
-  pub room : length flags ≡ 64
-  pub each : (p : ℕ) → p < length us → getD flags p false ≡ cutBefore (idAt us p) ts
 
 -- T of a user that is called in, where it has an eligible trade and is flagged or party to a trade standing below notified
 unfoldable pub owedIf : Bool → Bool → Bool → ℕ → ℕ

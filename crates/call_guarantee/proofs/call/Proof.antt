@@ -7,10 +7,10 @@ use denote.Ref.{now}
 use Rattle.rules.specs.Levels.{Limits}
 use Rattle.units.specs.Limits.{asLimits, LimitsInRange}
 use Rattle.book_format.specs.Steps.{InBytes}
+use Rattle.book_format.proofs.Held.{accepted-of}
 use Rattle.call_entry.specs.Entered.{Found}
 use Rattle.call_guarantee.specs.Times.{callOf}
 use Rattle.call_entry.proofs.Calls.{called, found-user, read-role}
-use Rattle.risk_user.proofs.Accepted.{record-blocked}
 use Rattle.call_guarantee.proofs.Ways.{call-unentered, call-of-house, call-ends}
 use borrow.Author.Needs.{needs}
 use Rattle.call_guarantee.proofs.call.Statement.{statement}
@@ -82,7 +82,7 @@ level-of-requires c κs =
     let k = c .before .before .before in
     let n = k .before .before in
     let f = found n in
-    let told = start (n .before) .pre .1 .1 in
+    let told = start (n .before) .pre .1 .1 .summed in
     (record { passes = f .passes; inside = f .known; twelve = told .twelve (started n); low = told .low (started n); user = k .user-at .ensures }, ranged (n .before))
 
 is-due-requires : tie.Need-is-due-requires
@@ -90,7 +90,8 @@ is-due-requires c κs =
     let k = c .before .before .before .before .before in
     let n = k .before .before in
     let f = found n in
-    (f .passes, record-blocked (bytes (n .before)) (f .passes) (f .known) (k .user-at .result) (k .user-at .ensures), ranged (n .before))
+    let told = start (n .before) .pre .1 .1 in
+    ((record { accepted = accepted-of (bytes (n .before)) (λ j. n .before .before .before .slice-known .given j .fits) (f .passes); placed = told .placed (started n) }, f .known, k .user-at .ensures), (f .passes, ranged (n .before)))
 
 raise-requires : tie.Need-raise-requires
 raise-requires c κs =

@@ -15,8 +15,8 @@ admit-with-sums-requires c κs = search needs
 
 call-requires : tie.Need-call-requires
 call-requires c κs =
-    let k = c .before .before .before .before .before .admit-with-sums .ensures in
-    (k .1 .1 .0, (k .1 .0, k .1 .1 .1 .summed))
+    let k = c .before .before .before .before .before .before .before .admit-with-sums .ensures in
+    (k .1 .1 .0, (k .1 .0, k .1 .1 .1))
 
 same-length : tie.Need-same-length
 same-length c = search needs
@@ -24,7 +24,7 @@ same-length c = search needs
 returns : tie.Need-returns
 returns c =
     let k = c .before .before in
-    carried (k .before .before .before .before .before .before .admit-with-sums .ensures .0) (k .call .ensures)
+    carried (k .before .before .before .before .before .before .before .before .admit-with-sums .ensures .0) (k .call .ensures)
 
 pub call-spec : {M : Type 1} → statement M
 call-spec =

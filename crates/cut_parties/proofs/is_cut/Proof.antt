@@ -7,20 +7,20 @@ use lib.ListN.{getD}
 use Rattle.book_format.specs.Book.{tradesOf}
 use Rattle.book_records.specs.Trade.{asTrade}
 use Rattle.rules.specs.Book.{Trade, noTrade}
-use Rattle.run_targets.proofs.Cut.{no-party, one-party}
-use Rattle.run_targets.proofs.is_cut.Statement.{statement}
-use Rattle.run_targets.proofs.is_cut.Tie as tie
+use Rattle.cut_parties.proofs.Cut.{no-party, one-party}
+use Rattle.cut_parties.proofs.is_cut.Statement.{statement}
+use Rattle.cut_parties.proofs.is_cut.Tie as tie
 
 returns : tie.Need-returns
 returns c =
     let a = c .before .before .before .before .args in
     let t = getD (tradesOf (now (a .book))) (a .i) noTrade in
-    no-party (a .place) (ltb (t .standing) (t .terms .notified)) (c .before .before .index .ensures) (c .before .index2 .ensures) (c .if1 .taken)
+    no-party (a .place) (ltb (t .standing) (t .terms .notified)) (c .before .before .index .ensures .0) (c .before .index2 .ensures .0) (c .if1 .taken)
 
 returns-2 : tie.Need-returns-2
 unfolding asTrade
-returns-2 c = one-party (c .before .before .before .before .before .before .args .place) (c .before .before .before .before .index .ensures)
-    (c .before .before .before .index2 .ensures) (c .before .before .if1 .left)
+returns-2 c = one-party (c .before .before .before .before .before .before .args .place) (c .before .before .before .before .index .ensures .0)
+    (c .before .before .before .index2 .ensures .0) (c .before .before .if1 .left)
     (ap (λ (t : Trade). ltb (t .standing) (t .terms .notified)) (c .before .trade-at .ensures))
 
 pub is-cut-spec : {M : Type 1} → statement M

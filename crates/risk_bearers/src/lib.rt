@@ -1,0 +1,94 @@
+// Who bears whose risk, by places, and what follows from it for the trades of a book: the places of those who bear the risk of the trades'
+// parties, and the twelve sums of what stands at these.
+ghost use mathlib.Core.List.{List};
+ghost use mathlib.Core.Path.{_≡_};
+ghost use Prim.Native.Nat.{_+_, _-_, _≤_, _<_, _^_};
+ghost use lib.ListN.{getD, length, replicate, set};
+ghost use Rattle.book_format.specs.Book.{tradeCount, tradesAt, tradesOf, usersOf};
+ghost use Rattle.book_parties.specs.Ids.{BookIn, idsOf};
+ghost use Rattle.book_sums.specs.Twelve.{Low};
+ghost use Rattle.rules.specs.Book.{Trade};
+ghost use Rattle.risk_bearers.specs.Bearers.{AllBorne, Bearing, BorneIn, bearerIn};
+ghost use Rattle.risk_bearers.specs.Rows.{Bearable, NextBorne, Rows, RowsTo};
+
+// A place of a list as an index.
+fn index(place: u8) -> usize
+    ensures { λ r. ⌜ r ≡ place ⌝ }
+{
+    place as usize
+}
+
+// The place of who bears the risk of the user at a place in an area.
+pub fn bearer_of(bearers: &[u8; 192], place: u8, area: u8) -> u8
+    requires { ⌜ (place < 64) × (area < 3) ⌝ }
+    ensures { λ r. ⌜ r ≡ bearerIn (now (bearers .entry)) place area ⌝ }
+{
+    let k = 3 * (place as usize) + area as usize;
+    bearers[k]
+}
+
+// Lists the places of those who bear the risk of the sellers and of the buyers of the m trades of a book, which begin at `at`, and sums what
+// stands at each.
+pub fn bear_trades(
+    book: &[u8],
+    at: usize,
+    m: usize,
+    bearers: &[u8; 192],
+    sellers: &[u8; 256],
+    buyers: &[u8; 256],
+    bearing_sellers: &mut [u8; 256],
+    bearing_buyers: &mut [u8; 256],
+    sums: &mut [u32; 768],
+)
+    requires { ⌜ BookIn (now book) (now sellers) (now buyers) × (at ≡ tradesAt (now book)) × (m ≡ tradeCount (now book)) × Bearing (now book) (now bearers) ⌝ }
+    requires { ⌜ (length (now «bearing_sellers») ≡ 256) × (length (now «bearing_buyers») ≡ 256) × (now sums ≡ replicate 768 0) ⌝ }
+    ensures { λ _. ⌜ ((rs : List Trade) → AllBorne (idsOf (usersOf (now (book .entry)))) (now (bearers .entry)) (tradesOf (now (book .entry))) rs → BorneIn (usersOf (now (book .entry))) rs (now («bearing_sellers» .exit)) (now («bearing_buyers» .exit)) (now (sums .exit))) ⌝ }
+    ensures { λ _. ⌜ Low (now (sums .exit)) ⌝ }
+{
+    let mut i = 0;
+    while i < m {
+        let t = book_format::trade_at(book, at, i);
+        let seller = bearer_of(bearers, sellers[i], t.area);
+        let buyer = bearer_of(bearers, buyers[i], t.area);
+        bearing_sellers[i] = seller;
+        bearing_buyers[i] = buyer;
+        book_sums::add_trade(sums, index(seller), 0, t);
+        book_sums::add_trade(sums, index(buyer), 1, t);
+        i += 1;
+    }
+}
+
+// ---- amounts of users
+
+// Adds an amount, kept as the amount + 2^31, to the one at a place of a list.
+fn add_amount(rows: &mut [u32; 192], k: usize, amount: u32)
+    requires { ⌜ (k < 192) × (2 ^ 31 ≤ getD (now rows) k 0 + amount) × (getD (now rows) k 0 + amount < 2 ^ 32 + 2 ^ 31) ⌝ }
+    ensures { λ _. ⌜ now (rows .exit) ≡ set (now (rows .entry)) k (getD (now (rows .entry)) k 0 + amount - 2 ^ 31) ⌝ }
+{
+    let x = rows[k];
+    rows[k] = (x as u64 + amount as u64 - 2147483648) as u32;
+}
+
+// Adds the amount of the user at place i in an area to that of who bears its risk there.
+fn bear_amount(own: &[u32; 192], bearers: &[u8; 192], rows: &mut [u32; 192], i: usize, area: usize)
+    requires { ⌜ RowsTo i area (now own) (now bearers) (now rows) × NextBorne i area (now own) (now bearers) ⌝ }
+    ensures { λ _. ⌜ RowsTo i (area + 1) (now (own .entry)) (now (bearers .entry)) (now (rows .exit)) ⌝ }
+{
+    let k = 3 * i + area;
+    let place = index(bearers[k]);
+    add_amount(rows, 3 * place + area, own[k]);
+}
+
+// Sums the amounts of n users in each area over those whose risk each bears.
+pub fn bear_amounts(own: &[u32; 192], bearers: &[u8; 192], n: usize, rows: &mut [u32; 192])
+    requires { ⌜ Bearable n (now own) (now bearers) × (now rows ≡ replicate 192 (2 ^ 31)) ⌝ }
+    ensures { λ _. ⌜ Rows n (now (own .entry)) (now (bearers .entry)) (now (rows .exit)) ⌝ }
+{
+    let mut i = 0;
+    while i < n {
+        bear_amount(own, bearers, rows, i, 0);
+        bear_amount(own, bearers, rows, i, 1);
+        bear_amount(own, bearers, rows, i, 2);
+        i += 1;
+    }
+}
