@@ -235,10 +235,7 @@ module _ (b : Book) (f : FitsBook b) where
       (λ e. rw (header .version, e) (ap (λ (vs : List ℕ). getD vs 0 0) (selling-fields e), ap (λ (vs : List ℕ). getD vs 1 0) (selling-fields e)))
       (λ e. rw (header .version, e) (sym (f .selling .none e .0), sym (f .selling .none e .1)))
 
-  -- the header's size is that of the book's version
-  size-written : headerSize (versionOf (bytesOf b)) ≡ headerSize (b .header .version)
-  size-written = ap headerSize (header .version)
-
+  -- the sizes are those of the book's version
   users-size : userSize (versionOf (bytesOf b)) ≡ userSize (b .header .version)
   users-size = ap userSize (header .version)
 
@@ -246,7 +243,7 @@ module _ (b : Book) (f : FitsBook b) where
 
   users-part : drop (headerSize (versionOf (bytesOf b))) (bytesOf b) ≡ bytesOfRecords (userRecord (b .header .version)) (b .users) ++ bytesOfRecords tradeBytes (b .trades)
   unfolding bytesOf records
-  users-part = drop-at (headerBytes b) records (headerSize (versionOf (bytesOf b))) (length-header b ∙ sym size-written)
+  users-part = drop-at (headerBytes b) records (headerSize (versionOf (bytesOf b))) (length-header b ∙ ap headerSize (sym (header .version)))
 
   trades-part : drop (tradesAt (bytesOf b)) (bytesOf b) ≡ bytesOfRecords tradeBytes (b .trades)
   unfolding tradesAt userAt
