@@ -165,3 +165,8 @@ pub record FitsUser (u : model.User) : Type 0 where
   pub charges : FitsSigned 64 (u .party .charges)
   pub assigned : u .party .assigned < 2 ^ 64
   pub blocked : u .blocked < 2 ^ 64
+
+-- each field of a record fits its bytes
+pub record FitsRecord (managed : Bool) (u : model.User) : Type 0 where
+  pub user : FitsUser u
+  pub managers : FitsManagers managed (u .party .managers)
