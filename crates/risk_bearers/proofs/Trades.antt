@@ -4,35 +4,46 @@ use mathlib.Core.List.{List, [], _∷_}
 use mathlib.Core.Path.{_≡_, refl, sym, ap, subst, _∙_}
 use Prim.Native.Nat.{ℕ, suc, _+_, _*_, _≤_, _<_}
 use native.Mathlib.Omega.{arith}
-use lib.Dec.{T, ltb, ltb→lt}
+use lib.Dec.{T, leb→le, ltb, ltb→lt}
 use lib.ListN.{length, take, getD, set, replicate, length-map}
 use borrow.Author.Tests.{lt-ltb}
 use Rattle.base.specs.Lists.{all}
 use Rattle.base.proofs.Fronts.{all-at}
-use Rattle.base.proofs.Tests.{and-i}
+use Rattle.base.proofs.Tests.{all-by, and-i, and-l, and-r}
 use Rattle.book_format.proofs.Held.{accepted-ids, accepted-trades}
 use Rattle.book_format.proofs.Passed.{length-tradesOf, length-usersOf}
 use Rattle.book_format.specs.Book.{tradeCount, tradesOf, userCount, usersOf}
 use Rattle.book_parties.proofs.Known.{placeIn-among}
 use Rattle.book_parties.proofs.Rising.{rising-ids}
 use Rattle.book_parties.specs.Ids.{BookIn, among, idsOf, placeIn}
-use Rattle.book_questions.proofs.Known.{tradeAmong-day, tradeAmong-parties, tradeAmong-small, tradeAmong-valid}
-use Rattle.book_questions.proofs.Loops.{Listed, listed-end, listed-start, listed-turn}
-use Rattle.book_sums.proofs.Sums.{in-area}
+use Rattle.risk_bearers.proofs.Listed.{Listed, listed-end, listed-start, listed-turn}
 use Rattle.book_sums.proofs.Twelve.{addable-bought, addable-sold, twelve-all, twelve-next, twelve-none, twelve-of}
 use Rattle.book_sums.specs.Sums.{partiesAmong, placesOf}
 use Rattle.book_sums.specs.Twelve.{Addable, Low, Twelve, added, slot}
-use Rattle.cut_lists.proofs.Trades.{party-inside, placed-at}
+use Rattle.risk_bearers.proofs.Places.{party-within, placed-at}
 use Rattle.laws.proofs.Positions.{buyer-known, seller-known}
+use Rattle.laws.proofs.Settle.{area-lt}
 use Rattle.rules.specs.Book.{Terms, Trade, User, noTrade}
-use Rattle.rules.specs.Questions.{tradeValid}
-use Rattle.risk_bearers.specs.Bearers.{AllBorne, BearersIn, Bearing, BorneAs, BorneIn, bearerIn}
+use Rattle.rules.specs.Questions.{amountsValid, codesValid, known, tradeValid}
+use Rattle.risk_bearers.specs.Bearers.{AllBorne, BearersIn, Bearing, BorneAs, SummedAt, bearerIn}
 
 -- what holds at each place holds of all
 all-from : {A : Type 0} (p : A → Bool) (xs : List A) (d : A) → ((i : ℕ) → i < length xs → T (p (getD xs i d))) → T (all p xs)
 unfolding all
 all-from p [] d h = tt
 all-from p (x ∷ xs) d h = and-i (p x) (all p xs) (h 0 (omega arith)) (all-from p xs d (λ i l. h (suc i) (omega arith)))
+
+-- the day of a valid trade is one of the two, and no more stands than 100,000 MWh
+valid-day : (us : List User) (t : Trade) → T (tradeValid us t) → t .terms .day < 2
+unfolding tradeValid codesValid
+valid-day us t h = ltb→lt (t .terms .day) 2 (search (and-l, and-r))
+
+valid-small : (us : List User) (t : Trade) → T (tradeValid us t) → t .standing ≤ 100000
+unfolding tradeValid amountsValid
+valid-small us t h =
+    let most = leb→le (t .terms .notified) 100000 (search (and-l, and-r)) in
+    let stands = leb→le (t .standing) (t .terms .notified) (search (and-l, and-r)) in
+    omega (arith, most, stands)
 
 -- ---- a trade counts by its area, its day and what stands alone
 
@@ -93,13 +104,13 @@ module _ (s table : List ℕ) where
 
     -- the trade's area is one, and its parties are users
     pub trade-area : getD (tradesOf s) i noTrade .terms .area < 3
-    trade-area = ltb→lt (t .terms .area) 3 (in-area ids t (tradeAmong-parties ids t (rw (tradeAmong-valid (usersOf s) t) valid)))
+    trade-area = area-lt (usersOf s) t valid
 
     pub seller-low : getD sellers i 0 < userCount s
-    seller-low = party-inside (λ r. r .seller) seller-known s sellers (b .accepted) (b .placed .of-sellers) l refl
+    seller-low = omega (arith, length-usersOf s, party-within (λ r. r .seller) (usersOf s) (tradesOf s) sellers (accepted-ids (b .accepted)) (all-by (tradeValid (usersOf s)) (λ x. known (usersOf s) (x .terms .seller)) (seller-known (usersOf s)) (tradesOf s) (accepted-trades (b .accepted))) (b .placed .of-sellers) {i = i} (omega (arith, length-tradesOf s)) refl)
 
     pub buyer-low : getD buyers i 0 < userCount s
-    buyer-low = party-inside (λ r. r .buyer) buyer-known s buyers (b .accepted) (b .placed .of-buyers) l refl
+    buyer-low = omega (arith, length-usersOf s, party-within (λ r. r .buyer) (usersOf s) (tradesOf s) buyers (accepted-ids (b .accepted)) (all-by (tradeValid (usersOf s)) (λ x. known (usersOf s) (x .terms .buyer)) (buyer-known (usersOf s)) (tradesOf s) (accepted-trades (b .accepted))) (b .placed .of-buyers) {i = i} (omega (arith, length-tradesOf s)) refl)
 
     -- the trade as it is borne
     module _ {rs : List Trade} (borne : AllBorne (idsOf (usersOf s)) table (tradesOf s) rs) {p q : ℕ}
@@ -138,10 +149,10 @@ module _ (s table : List ℕ) where
           (subst T (sym (lt-ltb (r .terms .area) 3 (omega (arith, like .area, trade-area)))) tt)
 
       day-low : getD rs i noTrade .terms .day < 2
-      day-low = omega (arith, like .day, tradeAmong-day ids t (rw (tradeAmong-valid (usersOf s) t) valid))
+      day-low = omega (arith, like .day, valid-day (usersOf s) t valid)
 
       small : getD rs i noTrade .standing ≤ 100000
-      small = omega (arith, like .standing, tradeAmong-small ids t (rw (tradeAmong-valid (usersOf s) t) valid))
+      small = omega (arith, like .standing, valid-small (usersOf s) t valid)
 
       few-trades : i ≤ 256
       few-trades = omega (arith, b .accepted .held .form .trades)
@@ -202,7 +213,7 @@ module _ (s table sellers buyers : List ℕ) (b : BookIn s sellers buyers) (insi
         each : (k : ℕ) → k < length rs → T (partiesAmong (idsOf (usersOf s)) (getD rs k noTrade))
         each k h = parties s table sellers buyers b inside (omega (arith, borne .same, length-tradesOf s)) borne refl refl
 
-    pub borne-end : BorneIn (usersOf s) rs sellers′ buyers′ sums
+    pub borne-end : SummedAt (usersOf s) rs sellers′ buyers′ sums
     borne-end =
         let past : length rs ≤ i = omega (arith, over) in
         let w = walk .passed rs borne in

@@ -3,11 +3,34 @@ use mathlib.Core.List.{List}
 use mathlib.Core.Path.{_≡_}
 use Prim.Native.Nat.{ℕ, _+_, _*_, _≤_, _<_}
 use lib.ListN.{length, take, getD}
-use Rattle.book_format.specs.Book.{tradesOf, userCount, usersOf}
+use Rattle.book_format.specs.Book.{bookOf, tradesOf, userCount, usersOf}
+use Rattle.book_format.specs.Held.{Accepted}
 use Rattle.book_parties.specs.Ids.{Placed, idsOf, placeIn}
 use Rattle.book_sums.specs.Sums.{placesOf}
 use Rattle.book_sums.specs.Twelve.{Twelve, TwelveOf}
-use Rattle.rules.specs.Book.{Trade, User, noTrade}
+use Rattle.laws_sales.specs.Borne.{borneBook}
+use Rattle.rules.specs.Bearers.{bearer}
+use Rattle.rules.specs.Book.{Trade, User, noTrade, nobody}
+
+-- ---- the book that bytes hold, as its risk is borne
+
+abbrev pub usersIn : List ℕ → List User
+usersIn s = borneBook (bookOf s) .users
+
+abbrev pub tradesIn : List ℕ → List Trade
+tradesIn s = borneBook (bookOf s) .trades
+
+-- bytes hold an accepted book; the places of those who bear the risk of the sellers and of the buyers of its trades
+pub record BorneIn (s sellers buyers : List ℕ) : Type 0 where
+  pub accepted : Accepted s
+  pub placed : Placed (usersIn s) (tradesIn s) sellers buyers
+
+-- ---- by a table
+
+-- the place of who bears each user's risk in each area
+pub record BearersOf (us : List User) (table : List ℕ) : Type 0 where
+  pub room : length table ≡ 192
+  pub each : (i area : ℕ) → i < length us → area < 3 → getD table (3 * i + area) 0 ≡ placeIn (idsOf us) (bearer (getD us i nobody) area)
 
 -- a place of a table of n users for each of them and area
 pub record BearersIn (n : ℕ) (table : List ℕ) : Type 0 where
@@ -38,6 +61,6 @@ pub record Bearing (s table : List ℕ) : Type 0 where
   pub borne : AllBorne (idsOf (usersOf s)) table (tradesOf s) trades
 
 -- the places of those who bear the risk of the parties, and the twelve sums of what stands at these
-pub record BorneIn (us : List User) (rs : List Trade) (sellers buyers sums : List ℕ) : Type 0 where
+pub record SummedAt (us : List User) (rs : List Trade) (sellers buyers sums : List ℕ) : Type 0 where
   pub placed : Placed us rs sellers buyers
   pub twelve : TwelveOf us rs sums

@@ -8,7 +8,7 @@ ghost use Rattle.book_format.specs.Book.{tradeCount, tradesAt, tradesOf, usersO
 ghost use Rattle.book_parties.specs.Ids.{BookIn, idsOf};
 ghost use Rattle.book_sums.specs.Twelve.{Low};
 ghost use Rattle.rules.specs.Book.{Trade};
-ghost use Rattle.risk_bearers.specs.Bearers.{AllBorne, Bearing, BorneIn, bearerIn};
+ghost use Rattle.risk_bearers.specs.Bearers.{AllBorne, Bearing, SummedAt, bearerIn};
 ghost use Rattle.risk_bearers.specs.Rows.{Bearable, NextBorne, Rows, RowsTo};
 
 // A place of a list as an index.
@@ -42,7 +42,7 @@ pub fn bear_trades(
 )
     requires { ⌜ BookIn (now book) (now sellers) (now buyers) × (at ≡ tradesAt (now book)) × (m ≡ tradeCount (now book)) × Bearing (now book) (now bearers) ⌝ }
     requires { ⌜ (length (now «bearing_sellers») ≡ 256) × (length (now «bearing_buyers») ≡ 256) × (now sums ≡ replicate 768 0) ⌝ }
-    ensures { λ _. ⌜ ((rs : List Trade) → AllBorne (idsOf (usersOf (now (book .entry)))) (now (bearers .entry)) (tradesOf (now (book .entry))) rs → BorneIn (usersOf (now (book .entry))) rs (now («bearing_sellers» .exit)) (now («bearing_buyers» .exit)) (now (sums .exit))) ⌝ }
+    ensures { λ _. ⌜ ((rs : List Trade) → AllBorne (idsOf (usersOf (now (book .entry)))) (now (bearers .entry)) (tradesOf (now (book .entry))) rs → SummedAt (usersOf (now (book .entry))) rs (now («bearing_sellers» .exit)) (now («bearing_buyers» .exit)) (now (sums .exit))) ⌝ }
     ensures { λ _. ⌜ Low (now (sums .exit)) ⌝ }
 {
     let mut i = 0;
