@@ -1,13 +1,15 @@
 // Who is party to a trade standing below notified, by the places of the trades' parties: flags for all users, or the answer for one.
-// Everywhere `book` has n users and m trades, and `sellers` and `buyers` have the places of the sellers and the buyers of its trades.
+// Everywhere `book` has n users and m trades, and `sellers` and `buyers` have the places of those who bear the risk of the sellers and the
+// buyers of its trades: "A member's trade there calls in the manager in place of the member".
 ghost use mathlib.Core.Bool.{false, _&&_, _||_};
 ghost use mathlib.Core.Path.{_≡_};
 ghost use Prim.Native.Nat.{_<_};
 ghost use lib.Dec.{eqb, ltb};
 ghost use lib.ListN.{getD, replicate};
-ghost use Rattle.book_format.specs.Book.{tradeCount, tradesOf, userCount, usersOf};
+ghost use Rattle.book_format.specs.Book.{tradeCount, tradesOf, userCount};
 ghost use Rattle.book_format.specs.Places.{TradeIn};
-ghost use Rattle.book_parties.specs.Ids.{BookIn, idAt};
+ghost use Rattle.book_parties.specs.Ids.{idAt};
+ghost use Rattle.risk_bearers.specs.Bearers.{BorneIn, tradesIn, usersIn};
 ghost use Rattle.risk_holdings.specs.Parties.{cutBefore};
 ghost use Rattle.rules.specs.Book.{noTrade};
 ghost use Rattle.cut_parties.specs.Flags.{CutFlags};
@@ -21,9 +23,9 @@ pub fn fill_cut(
     buyers: &[u8; 256],
     cut: &mut [bool; 64],
 )
-    requires { ⌜ BookIn (now book) (now sellers) (now buyers) × (n ≡ userCount (now book)) × (m ≡ tradeCount (now book)) ⌝ }
+    requires { ⌜ BorneIn (now book) (now sellers) (now buyers) × (n ≡ userCount (now book)) × (m ≡ tradeCount (now book)) ⌝ }
     requires { ⌜ now cut ≡ replicate 64 false ⌝ }
-    ensures { λ _. ⌜ CutFlags (usersOf (now (book .entry))) (tradesOf (now (book .entry))) (now (cut .exit)) ⌝ }
+    ensures { λ _. ⌜ CutFlags (usersIn (now (book .entry))) (tradesIn (now (book .entry))) (now (cut .exit)) ⌝ }
 {
     let at = book_format::trades_offset(book, n);
     let mut i = 0;
@@ -60,8 +62,8 @@ pub fn cut_at(
     buyers: &[u8; 256],
     place: usize,
 ) -> bool
-    requires { ⌜ BookIn (now book) (now sellers) (now buyers) × (n ≡ userCount (now book)) × (m ≡ tradeCount (now book)) × (place < n) ⌝ }
-    ensures { λ r. ⌜ r ≡ cutBefore (idAt (usersOf (now (book .entry))) place) (tradesOf (now (book .entry))) ⌝ }
+    requires { ⌜ BorneIn (now book) (now sellers) (now buyers) × (n ≡ userCount (now book)) × (m ≡ tradeCount (now book)) × (place < n) ⌝ }
+    ensures { λ r. ⌜ r ≡ cutBefore (idAt (usersIn (now (book .entry))) place) (tradesIn (now (book .entry))) ⌝ }
 {
     let at = book_format::trades_offset(book, n);
     let mut i = 0;

@@ -5,7 +5,8 @@ use borrow.Author.Needs.{needs}
 use lib.ListN.{drop}
 use denote.Ref.{now}
 use native.Mathlib.Omega.{arith}
-use Rattle.book_format.specs.Book.{tradeCount, tradesOf, userCount, usersOf}
+use Rattle.book_format.specs.Book.{tradeCount, userCount}
+use Rattle.risk_bearers.specs.Bearers.{tradesIn, usersIn}
 use Rattle.book_parties.specs.Ids.{idAt}
 use Rattle.risk_holdings.specs.Parties.{cutBefore, isCut}
 use Rattle.base.specs.Lists.{any}
@@ -14,7 +15,7 @@ use Rattle.cut_parties.proofs.cut_at.Statement.{statement}
 use Rattle.cut_parties.proofs.cut_at.Tie as tie
 
 abbrev Inv-loop : tie.InvT-loop
-Inv-loop book n m sellers buyers place at i₀ i = any (isCut (idAt (usersOf book) place)) (drop i (tradesOf book)) ≡ cutBefore (idAt (usersOf book) place) (tradesOf book)
+Inv-loop book n m sellers buyers place at i₀ i = any (isCut (idAt (usersIn book) place)) (drop i (tradesIn book)) ≡ cutBefore (idAt (usersIn book) place) (tradesIn book)
 
 abbrev μ-loop : tie.MeasureT-loop
 μ-loop book n m sellers buyers place at i₀ i = m - i
@@ -39,7 +40,7 @@ returns c =
     let s = c .before .before .before .before .before .before .before .before in
     let a = s .args in
     let inside : a .place < userCount (now (a .book)) = omega (arith, s .pre .3, s .pre .1) in
-    one-found (now (a .book)) (now (a .sellers)) (now (a .buyers)) (s .pre .0 .accepted) (s .pre .0 .placed) (a .place) inside
+    one-found (now (a .book)) (now (a .sellers)) (now (a .buyers)) (s .pre .0) (a .place) inside
     (c .before .before .before .before .before .loop .inv) (omega (arith, c .before .before .before .before .loop-test .taken, s .pre .2))
     (c .before .is-cut .ensures) (c .if1 .taken)
 
@@ -48,7 +49,7 @@ loop-again c =
     let s = c .before .before .before .before .before .before .before .before in
     let a = s .args in
     let inside : a .place < userCount (now (a .book)) = omega (arith, s .pre .3, s .pre .1) in
-    one-more (now (a .book)) (now (a .sellers)) (now (a .buyers)) (s .pre .0 .accepted) (s .pre .0 .placed) (a .place) inside
+    one-more (now (a .book)) (now (a .sellers)) (now (a .buyers)) (s .pre .0) (a .place) inside
     (c .before .before .before .before .before .loop .inv) (omega (arith, c .before .before .before .before .loop-test .taken, s .pre .2))
     (c .before .is-cut .ensures) (c .if1 .left)
 
@@ -58,7 +59,7 @@ returns-2 c =
     let a = s .args in
     let inside : a .place < userCount (now (a .book)) = omega (arith, s .pre .3, s .pre .1) in
     let all : tradeCount (now (a .book)) ≤ c .before .loop .i = omega (arith, c .loop-test .left, s .pre .2) in
-    one-none (now (a .book)) (now (a .sellers)) (now (a .buyers)) (s .pre .0 .accepted) (s .pre .0 .placed) (a .place) inside (c .before .loop .inv) all
+    one-none (now (a .book)) (now (a .sellers)) (now (a .buyers)) (s .pre .0) (a .place) inside (c .before .loop .inv) all
 
 pub cut-at-spec : {M : Type 1} → statement M
 cut-at-spec =
