@@ -256,7 +256,8 @@ module _ (limits : Limits) (b : Book) (u : User) where
   unfolding target afternoonLevel borneUser
   target-from = ap (λ (h : ℕ → Holding). levelFrom limits (b .header .prices) u h - u .party .assigned) (fun-ext (held-borne b u))
 
-  cut-borne-before : any (λ t. partyTo b u t && ltb (t .standing) (t .terms .notified)) (b .trades) ≡ cutBefore (u .party .id) (borneBook b .trades)
+  -- party to a trade standing below notified, as it is borne
+  pub cut-borne-before : any (λ t. partyTo b u t && ltb (t .standing) (t .terms .notified)) (b .trades) ≡ cutBefore (u .party .id) (borneBook b .trades)
   unfolding partyTo cutBefore isCut borneBook borneTrade shut asBorne
   cut-borne-before = any-through (isCut (u .party .id)) (borneTrade (b .users)) (b .trades)
 

@@ -37,7 +37,7 @@ pub fn role_at(book: &[u8], place: usize) -> u8
 }
 
 // The charges.
-fn charges_at(book: &[u8], place: usize) -> Balance
+pub fn charges_at(book: &[u8], place: usize) -> Balance
     requires { ⌜ UserIn (now book) place ⌝ }
     ensures { λ r. ⌜ balance r ≡ getD (usersOf (now (book .entry))) place nobody .party .charges ⌝ }
 {
@@ -45,7 +45,7 @@ fn charges_at(book: &[u8], place: usize) -> Balance
 }
 
 // The assigned guarantee.
-fn assigned_at(book: &[u8], place: usize) -> Cents
+pub fn assigned_at(book: &[u8], place: usize) -> Cents
     requires { ⌜ UserIn (now book) place ⌝ }
     ensures { λ r. ⌜ r .0 ≡ getD (usersOf (now (book .entry))) place nobody .party .assigned ⌝ }
 {
@@ -53,7 +53,7 @@ fn assigned_at(book: &[u8], place: usize) -> Cents
 }
 
 // The blocked guarantee.
-fn blocked_at(book: &[u8], place: usize) -> Cents
+pub fn blocked_at(book: &[u8], place: usize) -> Cents
     requires { ⌜ UserIn (now book) place ⌝ }
     ensures { λ r. ⌜ r .0 ≡ getD (usersOf (now (book .entry))) place nobody .blocked ⌝ }
 {
