@@ -21,7 +21,7 @@ use Rattle.rules.specs.Calls.{reducedBy}
 use Rattle.rules.specs.Changes.{moved}
 use Rattle.base.proofs.Stores.{set-each}
 use Rattle.run_state.proofs.Reduced.{place-id, place-inside}
-use Rattle.run_state.proofs.Stays.{members-borne, party-borne}
+use Rattle.risk_user.proofs.Borne.{members-borne, party-borne}
 use Rattle.run_state.specs.Asked.{movedOne, movedAll}
 use Rattle.risk_user.specs.UserAt.{positionIn, PositionsOf}
 use Rattle.laws_sales.proofs.FirstCuts.{first-all, first-bound, first-length, first-next, first-none, own-cut-le, own-cuts-length}

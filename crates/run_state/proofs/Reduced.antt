@@ -24,7 +24,7 @@ use Rattle.rules.specs.Levels.{Limits, Holding, exceedsMargin, holding, levelFr
 use Rattle.base.specs.Lists.{all, any}
 use Rattle.rules.specs.Questions.{idsRise, known}
 use Rattle.rules.specs.Reduction.{Tally, hasEligible, nothing, tallied, tallyAll, target}
-use Rattle.run_state.proofs.Stays.{member-borne, members-borne, party-borne}
+use Rattle.risk_user.proofs.Borne.{member-borne, members-borne, party-borne}
 use Rattle.run_state.specs.Asked.{memberAt, touched}
 use Rattle.run_state.specs.Going.{owed, owedCalled}
 use Rattle.laws_sales.proofs.Cover.{has-eligible-sales, level-next, next-holding, short-from, some-cut-buyer, some-cut-seller, target-from}

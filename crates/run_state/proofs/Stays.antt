@@ -8,7 +8,6 @@ use native.Mathlib.Omega.{arith}
 use lib.Dec.{ltb}
 use lib.ListN.{length, getD, length-map, List·getD-map}
 use Rattle.laws.proofs.Settle.{retraded-anew}
-use Rattle.base.proofs.Fronts.{getD-inside}
 use Rattle.laws.specs.Sound.{Sound}
 use Rattle.laws.specs.Statements.{ownHolding}
 use Rattle.laws.proofs.Trades.{framed, lowered-refl}
@@ -20,6 +19,7 @@ use Rattle.rules.specs.Levels.{Limits, Holding, afternoonLevel, exposure, holdi
 use Rattle.rules.specs.Reduction.{target, withTrades}
 use Rattle.run_state.specs.Asked.{memberAt}
 use Rattle.book_sums.specs.Twelve.{TwelveOf}
+use Rattle.risk_user.proofs.Borne.{blocked-borne, member-borne, members-borne, parties-borne, party-borne, party-same}
 use Rattle.risk_user.specs.UserAt.{PositionsOf, flaggedAt, heldAt, levelAt, targetAt}
 use Rattle.run_state.specs.Going.{owedCalled}
 use Rattle.laws_sales.proofs.Cover.{sold-next, bought-next, exposure-next, level-next, short-next}
@@ -61,33 +61,6 @@ pub record Alike (o b : Book) : Type 0 where
   pub parties : map (λ u. u .party) (b .users) ≡ map (λ u. u .party) (o .users)
   pub blocked : map (λ u. u .blocked) (b .users) ≡ map (λ u. u .blocked) (o .users)
   pub framed : Pairwise Framed (o .trades) (b .trades)
-
--- the user at a place of a book as its risk is borne
-parties-borne : (b : Book) → map (λ u. u .party) (borneBook b .users) ≡ map (λ u. u .party) (b .users)
-unfolding borneBook borneUser
-parties-borne b = map-map (λ (u : User). u .party) (borneUser (b .users)) (b .users)
-
-blocked-borne : (b : Book) → map (λ u. u .blocked) (borneBook b .users) ≡ map (λ u. u .blocked) (b .users)
-unfolding borneBook borneUser
-blocked-borne b = map-map (λ (u : User). u .blocked) (borneUser (b .users)) (b .users)
-
-pub members-borne : (b : Book) → length (borneBook b .users) ≡ length (b .users)
-unfolding borneBook
-members-borne b = length-map (b .users) (borneUser (b .users))
-
-pub member-borne : (b : Book) (i : ℕ) → i < length (b .users) → memberAt (borneBook b) i ≡ borneUser (b .users) (memberAt b i)
-unfolding borneBook
-member-borne b i h =
-    let us = b .users in
-    getD-inside (map (borneUser us) us) i nobody (borneUser us nobody) (omega (arith, length-map us (borneUser us))) ∙ List·getD-map (borneUser us) us i nobody
-
--- users of the same parties, at a place
-pub party-same : (us vs : List User) → map (λ u. u .party) us ≡ map (λ u. u .party) vs → (i : ℕ) → getD us i nobody .party ≡ getD vs i nobody .party
-party-same us vs e i =
-    sym (List·getD-map (λ (u : User). u .party) us i nobody) ∙ ap (λ (ps : List Party). getD ps i (nobody .party)) e ∙ List·getD-map (λ (u : User). u .party) vs i nobody
-
-pub party-borne : (b : Book) (i : ℕ) → memberAt (borneBook b) i .party ≡ memberAt b i .party
-party-borne b i = party-same (borneBook b .users) (b .users) (parties-borne b) i
 
 -- a run's book and the opening book as their risk is borne
 pub alike-borne : {o b : Book} → Stays o b → Pairwise Framed (borneBook o .trades) (borneBook b .trades) → Alike (borneBook o) (borneBook b)

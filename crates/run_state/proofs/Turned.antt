@@ -26,7 +26,8 @@ use Rattle.run_state.proofs.Moves.{all-moved, moved-length}
 use Rattle.run_state.proofs.Own.{own-areas, own-buyers}
 use Rattle.base.proofs.Stores.{here-or-apart, set-each}
 use Rattle.run_state.proofs.Reduced.{apart, asked-other, asked-own, eligible-left, eligible-own, law, member-stays, members-stay}
-use Rattle.run_state.proofs.Stays.{Alike, Stays, alike-borne, members-borne, party-borne, stays, target-is, users-many}
+use Rattle.run_state.proofs.Stays.{Alike, Stays, alike-borne, stays, target-is, users-many}
+use Rattle.risk_user.proofs.Borne.{members-borne, party-borne}
 use Rattle.run_state.specs.Asked.{memberAt, LookedAgain, movedAll, touched}
 use Rattle.risk_user.specs.UserAt.{PositionsOf, targetAt}
 use Rattle.book_sums.specs.Twelve.{TwelveOf}
