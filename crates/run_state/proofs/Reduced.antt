@@ -99,7 +99,7 @@ cond-and false false n = refl
 
 -- ---- short of cover, by the trades as they are borne
 
-short-rules : (limits : Limits) (b : Book) (u : User) → shortOfCover limits b u ≡ shortFrom limits (b .header .prices) u (holding b u) (cutBefore (u .party .id) (borneBook b .trades))
+pub short-rules : (limits : Limits) (b : Book) (u : User) → shortOfCover limits b u ≡ shortFrom limits (b .header .prices) u (holding b u) (cutBefore (u .party .id) (borneBook b .trades))
 unfolding shortFrom borneUser shipper exceedsMargin
 short-rules limits b u =
     short-from limits b u

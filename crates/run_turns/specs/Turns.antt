@@ -17,6 +17,7 @@ use Rattle.rules.specs.Reduction.{target, withTrades}
 use Rattle.run_state.specs.Asked.{memberAt}
 use Rattle.run_state.specs.Going.{Going, StandingIn}
 use Rattle.run_state.specs.Running.{wholeRun}
+use Rattle.laws_sales.specs.Borne.{borneBook, borneUser}
 use Rattle.laws_sales.specs.Reduced.{ownCuts}
 
 -- a run of a book has come to some book
@@ -39,7 +40,7 @@ pub record CutIn (from to : ℕ) (cs : List ℕ) : Type 0 where
 pub record Turned (limits : Limits) (o b : Book) (place : ℕ) (ts₀ ns ps ts : List ℕ) (es : List Bool) (cs : List ℕ) (tally : Tally) (least : ℕ) : Type 0 where
   pub going : Going limits o (reduced limits b (memberAt b place) .book) ns ps ts es
   pub answer : reduced limits b (memberAt b place) .answer ≡ ofCuts (target limits b (memberAt b place)) (asTally tally)
-  pub cuts : cs ≡ ownCuts b (memberAt b place) (target limits b (memberAt b place))
+  pub cuts : cs ≡ ownCuts (borneBook b) (borneUser (b .users) (memberAt b place)) (target limits b (memberAt b place))
   pub least-most : least ≤ place
   pub before : (j : ℕ) → j < least → getD ts j 0 ≡ getD ts₀ j 0
 
@@ -49,5 +50,6 @@ pub record Ran (limits : Limits) (o : Book) (ns : List ℕ) (r : Totals) : Type 
   pub sound : Sound (wholeRun limits o .book)
   pub lowered : Pairwise Lowered (o .trades) (wholeRun limits o .book .trades)
   pub same : wholeRun limits o .book ≡ withTrades o (wholeRun limits o .book .trades)
-  pub standing : StandingIn o (wholeRun limits o .book) ns
+  pub borne : Pairwise Lowered (borneBook o .trades) (borneBook (wholeRun limits o .book) .trades)
+  pub standing : StandingIn (borneBook o) (borneBook (wholeRun limits o .book)) ns
   pub room : length ns ≡ 256
