@@ -28,7 +28,7 @@ use Rattle.rules.specs.Book.{Trade, User, at, noTrade, nobody}
 use Rattle.rules.specs.Signed.{signedOf}
 
 -- the front of a front
-take-front : (k n : ℕ) (l : List ℕ) → k ≤ n → take k (take n l) ≡ take k l
+pub take-front : (k n : ℕ) (l : List ℕ) → k ≤ n → take k (take n l) ≡ take k l
 take-front zero n l h = refl
 take-front (suc k) zero l h = absurd (not-suc-le-zero h)
 take-front (suc k) (suc n) [] h = refl

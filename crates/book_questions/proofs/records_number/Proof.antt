@@ -18,10 +18,10 @@ sub-ask-records-2 : tie.Need-sub-ask-records-2
 sub-ask-records-2 c = c .before .before .before .before .pre .0 .1
 
 ask-records-requires : tie.Need-ask-records-requires
-ask-records-requires c κs = let s = c .before .before .before .before .before .before .before in (records-within _ _ _ (s .pre .0 .1) (s .pre .0 .0), search needs)
+ask-records-requires c κs = let s = c .before .before .before .before .before .before .before in ((records-within _ _ _ (s .pre .0 .1) (s .pre .0 .0), s .pre .0 .2), search needs)
 
 returns : tie.Need-returns
-returns c = let s = c .before .before .before .before .before .before .before .before .before .before .before .before in records-from _ _ _ (s .pre .0 .1) _ _ (c .before .before .before .before .ask-records .ensures .0)
+returns c = let s = c .before .before .before .before .before .before .before .before .before .before .before .before in records-from _ _ _ (s .pre .0 .1) _ _ _ _ (c .before .before .before .before .ask-records .ensures .0)
 
 pub records-number-spec : {M : Type 1} → statement M
 records-number-spec =
