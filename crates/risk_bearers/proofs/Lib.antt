@@ -6,3 +6,5 @@ pub mod Listed
 pub mod Trades
 -- Laws of amounts summed over those whose risk a user bears.
 pub mod Rows
+-- Laws of the table.
+pub mod Table

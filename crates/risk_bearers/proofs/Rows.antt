@@ -2,20 +2,20 @@
 use mathlib.Core.Bool.{Bool, true, false, cond}
 use mathlib.Core.List.{List}
 use mathlib.Core.Path.{_≡_, refl, sym, ap, ap₂, subst, _∙_}
-use Prim.Native.Nat.{ℕ, zero, suc, _+_, _*_, _-_, _≤_, _<_, _^_}
+use Prim.Native.Nat.{ℕ, suc, _+_, _*_, _-_, _≤_, _<_, _^_}
 use native.Mathlib.Omega.{arith}
 use native.Mathlib.Numerals.{add-one}
 use lib.Dec.{eqb, ltb}
 use lib.IntN.{ℤ, pos, _+ℤ_, +ℤ-idr}
-use lib.ListN.{length, getD, set, replicate, length-set, length-replicate, getD-replicate}
+use lib.ListN.{length, getD, set, length-set}
 use lib.Seq.{getD-set-same, getD-set-other}
 use borrow.Author.Tests.{eq-eqb, le-ltb, lt-ltb, ne-eqb}
 use Rattle.base.proofs.Linear.{by-order, parts-add}
-use Rattle.base.proofs.Stores.{here-or-apart}
+use Rattle.base.proofs.Stores.{here-or-apart, set-front}
 use Rattle.units.proofs.Amounts.{net-eq, net-zero, parts-net}
 use Rattle.units.specs.Amounts.{net}
 use Rattle.risk_bearers.specs.Bearers.{bearerIn}
-use Rattle.risk_bearers.specs.Rows.{Bearable, NextBorne, Rows, RowsTo, amountIn, borneTo, passedIn}
+use Rattle.risk_bearers.specs.Rows.{Bearable, Cleared, NextBorne, Rows, RowsTo, amountIn, borneTo, passedIn}
 
 -- two amounts kept so, added
 net-add : (x y : ℕ) → 2 ^ 31 ≤ x + y → net (record { 0 = x + y - 2 ^ 31 }) ≡ net (record { 0 = x }) +ℤ net (record { 0 = y })
@@ -130,24 +130,18 @@ module _ {k done : ℕ} {own table rows : List ℕ} (p : RowsTo k done own table
 -- ---- user by user
 
 -- none is passed
-pub rows-start : (own table : List ℕ) {rows : List ℕ} → rows ≡ replicate 192 (2 ^ 31) → RowsTo 0 0 own table rows
+pub rows-start : (own table : List ℕ) {rows : List ℕ} → Cleared rows → RowsTo 0 0 own table rows
 unfolding passedIn borneTo
-rows-start own table {rows} e =
-    let all : (j : ℕ) → j < 192 → getD rows j 0 ≡ 2 ^ 31 = λ j h. ap (λ (xs : List ℕ). getD xs j 0) e ∙ replicated 192 j h in
+rows-start own table {rows} c =
     record {
-      room = ap length e ∙ length-replicate {A = ℕ} 192 (2 ^ 31);
-      each = λ i area h l. ap (λ (n : ℕ). net (record { 0 = n })) (all (3 * i + area) (omega arith)) ∙ net-zero ∙ none i area (ltb area 0) (le-ltb area 0 (omega arith));
-      low = λ i area h l. omega (arith, all (3 * i + area) (omega arith));
-      high = λ i area h l. omega (arith, all (3 * i + area) (omega arith));
+      room = c .room;
+      each = λ i area h l. ap (λ (n : ℕ). net (record { 0 = n })) (c .each (3 * i + area) (omega arith)) ∙ net-zero ∙ none i area (ltb area 0) (le-ltb area 0 (omega arith));
+      low = λ i area h l. omega (arith, c .each (3 * i + area) (omega arith));
+      high = λ i area h l. omega (arith, c .each (3 * i + area) (omega arith));
     }
   where
     none : (i area : ℕ) (c : Bool) → c ≡ false → pos 0 ≡ borneTo (cond c 1 0) own table i area
     none i area c f = rw f
-
-    replicated : (n j : ℕ) → j < n → getD (replicate n (2 ^ 31)) j 0 ≡ 2 ^ 31
-    replicated zero j h = absurd (omega arith)
-    replicated (suc n) zero h = refl
-    replicated (suc n) (suc j) h = replicated n j (omega arith)
 
 -- all areas of a user are passed
 passed-all : (k area : ℕ) → area < 3 → passedIn k 3 area ≡ passedIn (k + 1) 0 area
@@ -177,3 +171,13 @@ next-borne {n} {k} b h area l =
       low = b .low (3 * k + area) (omega arith);
       high = b .high (3 * k + area) (omega arith);
     }
+
+-- ---- cleared place by place
+
+pub record ClearedTo (i : ℕ) (rows : List ℕ) : Type 0 where
+  pub room : length rows ≡ 192
+  pub each : (j : ℕ) → j < i → getD rows j 0 ≡ 2 ^ 31
+
+pub cleared-more : {i : ℕ} {rows : List ℕ} → i < 192 → ClearedTo i rows → ClearedTo (i + 1) (set rows i (2 ^ 31))
+cleared-more {i} {rows} h c =
+    record { room = length-set rows i (2 ^ 31) ∙ c .room; each = set-front (λ j n. n ≡ 2 ^ 31) rows i (2 ^ 31) 0 (omega (arith, c .room)) refl (c .each) }

@@ -5,7 +5,7 @@ use Prim.Native.Nat.{ℕ, _+_, _*_, _≤_, _<_}
 use lib.ListN.{length, take, getD}
 use Rattle.book_format.specs.Book.{bookOf, tradesOf, userCount, usersOf}
 use Rattle.book_format.specs.Held.{Accepted}
-use Rattle.book_parties.specs.Ids.{Placed, idsOf, placeIn}
+use Rattle.book_parties.specs.Ids.{Padded, Placed, idsOf, placeIn}
 use Rattle.book_sums.specs.Sums.{placesOf}
 use Rattle.book_sums.specs.Twelve.{Twelve, TwelveOf}
 use Rattle.laws_sales.specs.Borne.{borneBook}
@@ -26,6 +26,11 @@ pub record BorneIn (s sellers buyers : List ℕ) : Type 0 where
   pub placed : Placed (usersIn s) (tradesIn s) sellers buyers
 
 -- ---- by a table
+
+-- the ids of n users in a list of 64
+pub record IdsOf (us : List User) (n : ℕ) (ids : List ℕ) : Type 0 where
+  pub padded : Padded ids n
+  pub listed : take n ids ≡ idsOf us
 
 -- the place of who bears each user's risk in each area
 pub record BearersOf (us : List User) (table : List ℕ) : Type 0 where

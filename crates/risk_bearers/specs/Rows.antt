@@ -44,6 +44,11 @@ pub record RowsTo (k done : ℕ) (own table rows : List ℕ) : Type 0 where
   pub low : (i area : ℕ) → i < 64 → area < 3 → 2 ^ 31 ≤ getD rows (3 * i + area) 0 + 26600000 * passedIn k done area
   pub high : (i area : ℕ) → i < 64 → area < 3 → getD rows (3 * i + area) 0 ≤ 2 ^ 31 + 26600000 * passedIn k done area
 
+-- no amount at any place
+pub record Cleared (rows : List ℕ) : Type 0 where
+  pub room : length rows ≡ 192
+  pub each : (j : ℕ) → j < 192 → getD rows j 0 ≡ 2 ^ 31
+
 -- the sums over those whose risk each user bears
 pub record Rows (n : ℕ) (own table rows : List ℕ) : Type 0 where
   pub room : length rows ≡ 192

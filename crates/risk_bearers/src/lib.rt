@@ -1,15 +1,19 @@
 // Who bears whose risk, by places, and what follows from it for the trades of a book: the places of those who bear the risk of the trades'
 // parties, and the twelve sums of what stands at these.
+ghost use mathlib.Core.Bool.{true};
 ghost use mathlib.Core.List.{List};
 ghost use mathlib.Core.Path.{_≡_};
 ghost use Prim.Native.Nat.{_+_, _-_, _≤_, _<_, _^_};
 ghost use lib.ListN.{getD, length, replicate, set};
-ghost use Rattle.book_format.specs.Book.{tradeCount, tradesAt, tradesOf, usersOf};
-ghost use Rattle.book_parties.specs.Ids.{BookIn, idsOf};
+ghost use Rattle.book_format.specs.Book.{tradeCount, tradesAt, tradesOf, userCount, usersOf, versionOf};
+ghost use Rattle.book_format.specs.Held.{Accepted};
+ghost use Rattle.book_parties.specs.Ids.{BookIn, idsOf, placeIn};
 ghost use Rattle.book_sums.specs.Twelve.{Low};
-ghost use Rattle.rules.specs.Book.{Trade};
-ghost use Rattle.risk_bearers.specs.Bearers.{AllBorne, Bearing, SummedAt, bearerIn};
-ghost use Rattle.risk_bearers.specs.Rows.{Bearable, NextBorne, Rows, RowsTo};
+ghost use Rattle.rules.specs.Areas.{managersIn};
+ghost use Rattle.rules.specs.Bearers.{bearer};
+ghost use Rattle.rules.specs.Book.{Trade, nobody};
+ghost use Rattle.risk_bearers.specs.Bearers.{AllBorne, BearersOf, Bearing, IdsOf, SummedAt, bearerIn};
+ghost use Rattle.risk_bearers.specs.Rows.{Bearable, Cleared, NextBorne, Rows, RowsTo};
 
 // A place of a list as an index.
 fn index(place: u8) -> usize
@@ -79,16 +83,75 @@ fn bear_amount(own: &[u32; 192], bearers: &[u8; 192], rows: &mut [u32; 192], i: 
     add_amount(rows, 3 * place + area, own[k]);
 }
 
+// Puts 0, kept as 2^31, at all places.
+fn clear_amounts(rows: &mut [u32; 192])
+    requires { ⌜ length (now rows) ≡ 192 ⌝ }
+    ensures { λ _. ⌜ Cleared (now (rows .exit)) ⌝ }
+{
+    let mut i = 0;
+    while i < 192 {
+        rows[i] = 2147483648;
+        i += 1;
+    }
+}
+
 // Sums the amounts of n users in each area over those whose risk each bears.
 pub fn bear_amounts(own: &[u32; 192], bearers: &[u8; 192], n: usize, rows: &mut [u32; 192])
-    requires { ⌜ Bearable n (now own) (now bearers) × (now rows ≡ replicate 192 (2 ^ 31)) ⌝ }
+    requires { ⌜ Bearable n (now own) (now bearers) × (length (now rows) ≡ 192) ⌝ }
     ensures { λ _. ⌜ Rows n (now (own .entry)) (now (bearers .entry)) (now (rows .exit)) ⌝ }
 {
+    clear_amounts(rows);
     let mut i = 0;
     while i < n {
         bear_amount(own, bearers, rows, i, 0);
         bear_amount(own, bearers, rows, i, 1);
         bear_amount(own, bearers, rows, i, 2);
+        i += 1;
+    }
+}
+
+// ---- the table
+
+// Lists the ids of the n users of a book.
+fn fill_ids(book: &[u8], n: usize, ids: &mut [u32; 64])
+    requires { ⌜ Accepted (now book) × (n ≡ userCount (now book)) × (now ids ≡ replicate 64 4294967295) ⌝ }
+    ensures { λ _. ⌜ IdsOf (usersOf (now (book .entry))) n (now (ids .exit)) ⌝ }
+{
+    let mut i = 0;
+    while i < n {
+        ids[i] = fields::get_u32(book, book_format::user_offset(book, i));
+        i += 1;
+    }
+}
+
+// The place of who bears the risk of the user at place i in an area: of its manager there, or where it has none its own.
+fn bearer_at(book: &[u8], ids: &[u32; 64], n: usize, i: usize, area: usize) -> u8
+    requires { ⌜ Accepted (now book) × (managersIn (versionOf (now book)) ≡ true) × IdsOf (usersOf (now book)) n (now ids) × (n ≡ userCount (now book)) × (i < n) × (area < 3) ⌝ }
+    ensures { λ r. ⌜ r ≡ placeIn (idsOf (usersOf (now (book .entry)))) (bearer (getD (usersOf (now (book .entry))) i nobody) area) ⌝ }
+{
+    let id = fields::get_u32(
+        book,
+        book_format::user_offset(book, i) + (56 + 4 * area),
+    );
+    if id == 0 {
+        return i as u8;
+    }
+    book_parties::place_of(ids, n, id) as u8
+}
+
+// Fills in the place of who bears each user's risk in each area, of a book of n users in a version with managers.
+pub fn fill_bearers(book: &[u8], n: usize, bearers: &mut [u8; 192])
+    requires { ⌜ Accepted (now book) × (managersIn (versionOf (now book)) ≡ true) × (n ≡ userCount (now book)) × (length (now bearers) ≡ 192) ⌝ }
+    ensures { λ _. ⌜ BearersOf (usersOf (now (book .entry))) (now (bearers .exit)) ⌝ }
+{
+    let mut ids = [0xffff_ffffu32; 64];
+    fill_ids(book, n, &mut ids);
+    let mut i = 0;
+    while i < n {
+        let k = 3 * i;
+        bearers[k] = bearer_at(book, &ids, n, i, 0);
+        bearers[k + 1] = bearer_at(book, &ids, n, i, 1);
+        bearers[k + 2] = bearer_at(book, &ids, n, i, 2);
         i += 1;
     }
 }
