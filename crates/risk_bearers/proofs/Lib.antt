@@ -8,3 +8,4 @@ pub mod Trades
 pub mod Rows
 -- Laws of the table.
 pub mod Table
+pub mod Bearing
