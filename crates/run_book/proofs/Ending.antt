@@ -5,21 +5,24 @@ use Prim.Native.Nat.{ℕ, zero, suc, _≤_}
 use native.Mathlib.Nat.{le-refl}
 use native.Mathlib.Omega.{arith}
 use lib.ListN.{take, getD}
-use Rattle.cut_apply.proofs.Own.{all-lowered, cuttable-part, standing-there}
+use Rattle.cut_apply.proofs.Own.{all-lowered, cuttable-part, cuttable-real, real-lowered, standing-there}
 use Rattle.cut_apply.specs.Cutting.{CuttablePart, loweredAt}
 use Rattle.cut_lists.proofs.Own.{sales-stay}
 use Rattle.cut_lists.specs.Sales.{SalesOf, StandingOf}
 use Rattle.cut_worth.specs.declared.Totals.{Totals}
 use Rattle.book_format.specs.Held.{HeldAs}
+use Rattle.laws.proofs.Trades.{framed}
 use Rattle.laws.specs.Sound.{Sound}
 use Rattle.laws.specs.Trades.{Lowered, Pairwise, ended, then}
 use Rattle.rules.specs.Book.{Book, Trade, noTrade}
 use Rattle.rules.specs.Levels.{Limits}
 use Rattle.rules.specs.Reduction.{withTrades}
 use Rattle.run_state.proofs.Grouped.{standing-all}
-use Rattle.run_state.proofs.Stays.{Stays, parties-stay, stays}
+use Rattle.run_state.proofs.Stays.{Alike, alike-borne, stays}
 use Rattle.run_state.specs.Running.{wholeRun}
 use Rattle.run_turns.specs.Turns.{Ran}
+use Rattle.laws_sales.proofs.Valid.{borne-ids, borne-valid}
+use Rattle.laws_sales.specs.Borne.{borneBook}
 use Rattle.laws_sales.specs.Parts.{part}
 use Rattle.run_book.specs.Books.{LeftOf, LostOf, RanIn}
 use Rattle.run_reduction.specs.Books.{Listed}
@@ -30,19 +33,20 @@ lowered-at ended i d = le-refl (d .standing)
 lowered-at (then p ps) zero d = p .lower
 lowered-at (then p ps) (suc i) d = lowered-at ps i d
 
-module _ {limits : Limits} {o : Book} (sound : Sound o) {ss origins ns areaCodes bs : List ℕ} {count : ℕ} (l : Listed o ss origins ns areaCodes bs count)
+module _ {limits : Limits} {o : Book} (sound : Sound o) {ss origins ns areaCodes bs : List ℕ} {count : ℕ} (l : Listed (borneBook o) ss origins ns areaCodes bs count)
     {ms : List ℕ} {r : Totals} (ran : Ran limits o ms r) where
   abbrev end : Book
   end = wholeRun limits o .book
 
-  end-stays : Stays o end
-  end-stays = stays o end sound (ran .lowered) (ran .same)
+  -- the books as their risk is borne
+  end-alike : Alike (borneBook o) (borneBook end)
+  end-alike = alike-borne (stays o end sound (ran .lowered) (ran .same)) (framed (ran .borne))
 
-  end-standing : StandingOf end ms count
-  end-standing = record { standing-are = ap (λ (n : ℕ). take n ms) (l .sales .all) ∙ standing-all end-stays (ran .standing) }
+  end-standing : StandingOf (borneBook end) ms count
+  end-standing = record { standing-are = ap (λ (n : ℕ). take n ms) (l .sales .all) ∙ standing-all end-alike (ran .standing) }
 
-  end-sales : SalesOf end ss origins areaCodes bs count
-  end-sales = sales-stay o end (end-stays .framed) (parties-stay end-stays) (l .sales)
+  end-sales : SalesOf (borneBook end) ss origins areaCodes bs count
+  end-sales = sales-stay (borneBook o) (borneBook end) (end-alike .framed) (end-alike .parties) (l .sales)
 
   -- what is left is no more than stood
   pub ran-left : LeftOf ns ms count
@@ -53,9 +57,9 @@ module _ {limits : Limits} {o : Book} (sound : Sound o) {ss origins ns areaCodes
         most = λ k h.
             omega (
               arith,
-              standing-there sound (l .sales) (l .standing) k h,
-              standing-there (ran .sound) end-sales end-standing k h,
-              lowered-at (ran .lowered) (getD origins k 0) noTrade,
+              standing-there (borne-ids o sound) (borne-valid o sound) (l .sales) (l .standing) k h,
+              standing-there (borne-ids end (ran .sound)) (borne-valid end (ran .sound)) end-sales end-standing k h,
+              lowered-at (ran .borne) (getD origins k 0) noTrade,
             );
       }
 
@@ -63,11 +67,13 @@ module _ {limits : Limits} {o : Book} (sound : Sound o) {ss origins ns areaCodes
     -- what was lost can be taken off
     pub lost-cuttable : CuttablePart (o .trades) origins cs 0 count
     lost-cuttable =
-        cuttable-part sound (l .sales) (l .standing) cs 0 count (omega arith) (omega arith) (omega (arith, l .sales .few, lost .room)) (λ k h m. omega (arith, lost .each k m))
+        cuttable-real o
+        (cuttable-part (borne-ids o sound) (borne-valid o sound) (l .sales) (l .standing) cs 0 count (omega arith) (omega arith) (omega (arith, l .sales .few, lost .room)) (λ k h m. omega (arith, lost .each k m)))
 
     -- and gives the rules' book
     pub ran-in : {s : List ℕ} → HeldAs (withTrades o (loweredAt (part 0 count origins) (part 0 count cs) (o .trades))) s → RanIn limits o s r
     ran-in {s} h =
         let trades : loweredAt (part 0 count origins) (part 0 count cs) (o .trades) ≡ end .trades
-        = all-lowered sound (l .sales) (l .standing) end (end-stays .framed) (parties-stay end-stays) end-standing cs (omega (arith, l .sales .few, lost .room)) (lost .each) in
+        = real-lowered o end (part 0 count origins) (part 0 count cs) (framed (ran .lowered))
+        (all-lowered (borne-ids o sound) (borne-valid o sound) (l .sales) (l .standing) (borneBook end) (end-alike .framed) (end-alike .parties) end-standing cs (omega (arith, l .sales .few, lost .room)) (lost .each)) in
         record { held = subst (λ (x : Book). HeldAs x s) (ap (withTrades o) trades ∙ sym (ran .same)) h; answer = ran .answer }

@@ -16,7 +16,7 @@ trades-are c = c .trade-count .ensures
 fill-lists-requires : tie.Need-fill-lists-requires
 fill-lists-requires c κs = (
   (
-    c .before .before .before .before .before .before .before .before .before .before .before .pre .book,
+    c .before .before .before .before .before .before .before .before .before .before .before .pre .1 .book,
     users-are
         (c .before .before .before .before .before .before .before .before),
     trades-are (c .before .before .before .before .before .before),
