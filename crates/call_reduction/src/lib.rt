@@ -7,7 +7,9 @@ use units::Limits;
 use units::Prices;
 ghost use mathlib.Core.Path.{_≡_};
 ghost use Prim.Native.Nat.{_<_};
-ghost use lib.ListN.{getD};
+ghost use lib.ListN.{getD, length};
+ghost use Rattle.book_parties.specs.Ids.{BookIn};
+ghost use Rattle.laws_sales.specs.Borne.{borneBook};
 ghost use Rattle.call_answers.specs.Reduction.{answerOf};
 ghost use Rattle.book_format.specs.After.{CalledAfter};
 ghost use Rattle.book_format.specs.Book.{bookOf, userCount, usersOf};
@@ -25,6 +27,8 @@ ghost use Rattle.call_reduction.specs.Books.{UserOf, allSales};
 // Asks question 14 of the user at a place and reduces it for an amount, by the lists of all own sales.
 fn reduce_listed(
     book: &mut [u8],
+    own_sellers: &[u8; 256],
+    own_buyers: &[u8; 256],
     sellers: &[u8; 256],
     parties: &[u8; 256],
     starts: &[usize; 65],
@@ -37,8 +41,8 @@ fn reduce_listed(
     asked: Cents,
     prices: Prices,
 ) -> ReductionAnswer
-    requires { ⌜ UserOf (asPrices prices) (now book) place (now sellers) (now parties) (now positions) ⌝ }
-    requires { ⌜ Listed (bookOf (now book)) (now starts) (now origins) (now standing) (now areas) (now buyers) (allSales (bookOf (now book))) ⌝ }
+    requires { ⌜ UserOf (asPrices prices) (now book) place (now «own_sellers») (now «own_buyers») (now sellers) (now parties) (now positions) ⌝ }
+    requires { ⌜ Listed (borneBook (bookOf (now book))) (now starts) (now origins) (now standing) (now areas) (now buyers) (allSales (borneBook (bookOf (now book)))) ⌝ }
     ensures { λ r. ⌜ Gives (onSales (now (book .entry)) (getD (usersOf (now (book .entry))) place nobody) (asked .0)) (answerOf r) (now (book .exit)) ⌝ }
 {
     let from = starts[place];
@@ -62,13 +66,24 @@ fn reduce_listed(
         to,
     );
     let n = book_format::user_count(book) as usize;
-    cut_apply::apply(book, n, sellers, parties, origins, &cuts, from, to);
+    cut_apply::apply(
+        book,
+        n,
+        own_sellers,
+        own_buyers,
+        origins,
+        &cuts,
+        from,
+        to,
+    );
     ReductionAnswer::of_cuts(asked, tally)
 }
 
 // Asks question 14 of the user at a place and reduces it for an amount.
 fn reduce_sales(
     book: &mut [u8],
+    own_sellers: &[u8; 256],
+    own_buyers: &[u8; 256],
     sellers: &[u8; 256],
     parties: &[u8; 256],
     positions: &mut [u32; 192],
@@ -76,7 +91,7 @@ fn reduce_sales(
     asked: Cents,
     prices: Prices,
 ) -> ReductionAnswer
-    requires { ⌜ UserOf (asPrices prices) (now book) place (now sellers) (now parties) (now positions) ⌝ }
+    requires { ⌜ UserOf (asPrices prices) (now book) place (now «own_sellers») (now «own_buyers») (now sellers) (now parties) (now positions) ⌝ }
     ensures { λ r. ⌜ Gives (onSales (now (book .entry)) (getD (usersOf (now (book .entry))) place nobody) (asked .0)) (answerOf r) (now (book .exit)) ⌝ }
 {
     let n = book_format::user_count(book) as usize;
@@ -100,6 +115,8 @@ fn reduce_sales(
     );
     reduce_listed(
         book,
+        own_sellers,
+        own_buyers,
         sellers,
         parties,
         &starts,
@@ -119,12 +136,15 @@ fn reduce_sales(
 // Asks the questions 9, 11, 13 and 14 of the user at a place and reduces it for its target.
 fn reduce_user(
     book: &mut [u8],
+    own_sellers: &[u8; 256],
+    own_buyers: &[u8; 256],
     sellers: &[u8; 256],
     parties: &[u8; 256],
     sums: &[u32; 768],
     place: usize,
     day: Day,
 ) -> ReductionAnswer
+    requires { ⌜ BookIn (now book) (now «own_sellers») (now «own_buyers») ⌝ }
     requires { ⌜ Runnable (asLimits (day .limits)) (asPrices (day .prices)) (now book) (now sellers) (now parties) (now sums) × (place < userCount (now book)) ⌝ }
     ensures { λ r. ⌜ Gives (onUser (asLimits (day .limits)) (now (book .entry)) (getD (usersOf (now (book .entry))) place nobody)) (answerOf r) (now (book .exit)) ⌝ }
 {
@@ -145,6 +165,8 @@ fn reduce_user(
     let target = shortfall.target;
     reduce_sales(
         book,
+        own_sellers,
+        own_buyers,
         sellers,
         parties,
         &mut positions,
@@ -161,13 +183,14 @@ pub fn reduction(
     number: u32,
     limits: Limits,
     sellers: &[u8; 256],
-    parties: &[u8; 256],
-    sums: &[u32; 768],
+    buyers: &[u8; 256],
+    sums: &mut [u32; 768],
     id: u32,
 ) -> ReductionAnswer
     requires { ⌜ (number ≡ 0 → bookNumber (now book) ≡ 0) ⌝ }
     requires { ⌜ LimitsInRange (asLimits limits) ⌝ }
-    requires { ⌜ PartiesFound (now book) number (now sellers) (now parties) (now sums) ⌝ }
+    requires { ⌜ (length (now sellers) ≡ 256) × (length (now buyers) ≡ 256) × (length (now sums) ≡ 768) ⌝ }
+    requires { ⌜ PartiesFound (now book) number (now sellers) (now buyers) (now sums) ⌝ }
     ensures { λ r. ⌜ CalledAfter number (asLimits limits) (now (book .entry)) (reductionOf id) (answerOf r) (now (book .exit)) ⌝ }
 {
     let entry = call_entry::seek(book, number, id);
@@ -180,5 +203,24 @@ pub fn reduction(
         limits: limits,
         prices: book_header::read_prices(book),
     };
-    reduce_user(book, sellers, parties, sums, place, day)
+    let mut bearing_sellers = [0u8; 256];
+    let mut bearing_buyers = [0u8; 256];
+    call_parties::bear(
+        book,
+        sellers,
+        buyers,
+        &mut bearing_sellers,
+        &mut bearing_buyers,
+        sums,
+    );
+    reduce_user(
+        book,
+        sellers,
+        buyers,
+        &bearing_sellers,
+        &bearing_buyers,
+        sums,
+        place,
+        day,
+    )
 }

@@ -40,7 +40,7 @@ user-count-requires c κs = omega (arith, c .before .before .before .before .bef
 apply-requires : tie.Need-apply-requires
 apply-requires c κs =
     let s = c .before .before .before .before .before .before .before .before .before .before .before .before .before .before .before in
-    ((s .pre .0 .book .book, own-cuttable (s .pre .0) (s .pre .1) (s .args .asked .0) _ _ (c .before .before .before .before .reduce .ensures .0) refl), users-are (c .before .before))
+    ((s .pre .0 .own, own-cuttable (s .pre .0) (s .pre .1) (s .args .asked .0) _ _ (c .before .before .before .before .reduce .ensures .0) refl), users-are (c .before .before))
 
 returns-2 : tie.Need-returns-2
 returns-2 c =
