@@ -82,14 +82,7 @@ pub fn bear(
     ensures { λ _. ⌜ TwelveOf (usersIn (now (book .entry))) (tradesIn (now (book .entry))) (now (sums .exit)) × Low (now (sums .exit)) ⌝ }
 {
     if book_format::has_managers(book_format::version(book)) {
-        bear_managed(
-            book,
-            sellers,
-            buyers,
-            bearing_sellers,
-            bearing_buyers,
-            sums,
-        );
+        bear_managed(book, sellers, buyers, bearing_sellers, bearing_buyers, sums);
         return;
     }
     copy_places(sellers, bearing_sellers);

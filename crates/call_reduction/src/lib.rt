@@ -66,16 +66,7 @@ fn reduce_listed(
         to,
     );
     let n = book_format::user_count(book) as usize;
-    cut_apply::apply(
-        book,
-        n,
-        own_sellers,
-        own_buyers,
-        origins,
-        &cuts,
-        from,
-        to,
-    );
+    cut_apply::apply(book, n, own_sellers, own_buyers, origins, &cuts, from, to);
     ReductionAnswer::of_cuts(asked, tally)
 }
 

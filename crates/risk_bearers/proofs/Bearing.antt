@@ -67,8 +67,12 @@ module _ (s table : List ℕ) (a : Accepted s) (t : BearersOf (usersOf s) table)
         inside = λ i area h l.
             let u = getD us i nobody in
             let id = u .party .id in
-            omega (arith, t .each i area (omega (arith, length-usersOf s)) l, length-usersOf s,
-            known-place us (bearer u area) (subst T (ap (λ (v : User). known us (bearer v area)) (self i h)) (bears-known id area l (known-of us i (omega (arith, length-usersOf s))))));
+            omega (
+              arith,
+              t .each i area (omega (arith, length-usersOf s)) l,
+              length-usersOf s,
+              known-place us (bearer u area) (subst T (ap (λ (v : User). known us (bearer v area)) (self i h)) (bears-known id area l (known-of us i (omega (arith, length-usersOf s))))),
+            );
       }
     where
       -- the user at a place is found there

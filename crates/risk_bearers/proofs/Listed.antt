@@ -6,6 +6,7 @@ use native.Mathlib.Numerals.{add-one}
 use native.Mathlib.Omega.{arith}
 use lib.ListN.{length, take, getD, set, length-set}
 use lib.Seq.{take-all, take-suc, take-suc-set}
+
 -- the first i places of a list hold what the first i elements of another give; there is room for more
 pub record Listed {A : Type 0} (f : A → ℕ) (xs : List A) (room : ℕ) (ns : List ℕ) (i : ℕ) : Type 0 where
   pub done : take i ns ≡ map f (take i xs)

@@ -99,16 +99,7 @@ fn run_listed(
         day,
     );
     lost_of(standing, &mut left, count);
-    cut_apply::apply(
-        book,
-        n,
-        own_sellers,
-        own_buyers,
-        origins,
-        &left,
-        0,
-        count,
-    );
+    cut_apply::apply(book, n, own_sellers, own_buyers, origins, &left, 0, count);
     totals
 }
 

@@ -58,13 +58,15 @@ module _ (s : List ℕ) (a : Accepted s) where
     -- with them
     pub positions-borne : {rows : List ℕ} → Rows n own table rows → PositionsOf (usersIn s) rows × (length rows ≡ 192)
     unfolding bookOf borneUser
-    positions-borne r =
-        (record {
-          each = λ i area h l.
-              let k : i < length (usersOf s) = omega (arith, members-borne (bookOf s)) in
-              r .each i area (omega (arith, k, length-usersOf s, a .held .form .users)) l
-              ∙ ap (λ (m : ℕ). borneTo m own table i area) many
-              ∙ borne-all s table a t (λ v. v .position) own (p .each) i area k l
-              ∙ sym (at-sums (λ v. v .position) (usersOf s) (getD (usersOf s) i nobody .party .id) area)
-              ∙ ap (λ (u : User). at (u .position) area) (sym (member-borne (bookOf s) i k));
-        }, r .room)
+    positions-borne r = (
+      record {
+        each = λ i area h l.
+            let k : i < length (usersOf s) = omega (arith, members-borne (bookOf s)) in
+            r .each i area (omega (arith, k, length-usersOf s, a .held .form .users)) l
+            ∙ ap (λ (m : ℕ). borneTo m own table i area) many
+            ∙ borne-all s table a t (λ v. v .position) own (p .each) i area k l
+            ∙ sym (at-sums (λ v. v .position) (usersOf s) (getD (usersOf s) i nobody .party .id) area)
+            ∙ ap (λ (u : User). at (u .position) area) (sym (member-borne (bookOf s) i k));
+      },
+      r .room,
+    )

@@ -33,9 +33,10 @@ bear-trades-requires c κs =
     let f = k .before .before in
     let o = f .before .before in
     let m = o .before in
-    let s = m .before .before .before in
-    ((s .pre .0 .0, o .trades-offset .ensures, m .trade-count .ensures, bearing (now (s .args .book)) _ (s .pre .0 .0 .accepted) (f .fill-bearers .ensures)),
-    (s .pre .1 .0, s .pre .1 .1, k .clear-sums .ensures))
+    let s = m .before .before .before in (
+      (s .pre .0 .0, o .trades-offset .ensures, m .trade-count .ensures, bearing (now (s .args .book)) _ (s .pre .0 .0 .accepted) (f .fill-bearers .ensures)),
+      (s .pre .1 .0, s .pre .1 .1, k .clear-sums .ensures),
+    )
 
 returns : tie.Need-returns
 returns c =
