@@ -78,7 +78,15 @@ fn post_lines(
     let mut i = 0;
     while i < ids.len() {
         let number = line(
-            book, known, guesses, n, at, size, ids[i], areas[i], amounts[i],
+            book,
+            known,
+            guesses,
+            n,
+            at,
+            size,
+            ids[i],
+            areas[i],
+            amounts[i],
         );
         places[i] = number;
         i += 1;
@@ -109,6 +117,17 @@ pub fn list(
     let mut guesses = [0u8; 1024];
     fill_ids(book, at, size, n, &mut known);
     book_parties::fill_guesses(&known, n, &mut guesses);
-    post_lines(book, &known, &guesses, n, at, size, ids, areas, amounts, places);
+    post_lines(
+        book,
+        &known,
+        &guesses,
+        n,
+        at,
+        size,
+        ids,
+        areas,
+        amounts,
+        places,
+    );
     0
 }
