@@ -1,9 +1,11 @@
 -- `read_users` reads one record more at each turn, from where the last one ended, into an array that is blank past it. Assumes nothing.
 use Prim.Native.Nat.{_+_, _-_, _≤_}
+use mathlib.Core.Path.{_≡_, _∙_}
 use native.Mathlib.Omega.{arith}
-use lib.ListN.{length, length-take, length-drop}
+use lib.ListN.{length}
 use borrow.Author.Needs.{needs}
 use denote.Ref.{now}
+use Rattle.fields.proofs.Sets.{length-part}
 use Rattle.book_format.proofs.Offsets.{size-lies}
 use Rattle.book_records.specs.User.{userOf}
 use Rattle.book_tables.specs.Record.{asRecord, blankRecord}
@@ -42,7 +44,11 @@ part-read-record-end : tie.Need-part-read-record-end Inv-loop μ-loop
 part-read-record-end c = omega (arith, lies c)
 
 read-record-requires : tie.Need-read-record-requires Inv-loop μ-loop
-read-record-requires c κs = ?
+read-record-requires c κs =
+    let a = c .before .before .loop .a in
+    let s = c .before .before .before .before .before in
+    let k : a + s .args .size - a ≡ s .args .size = omega arith in
+    rw k (length-part (now (s .args .s)) a (s .args .size) (lies (c .before)) ∙ s .pre .1 .size-is)
 
 mul-users : tie.Need-mul-users Inv-loop μ-loop
 mul-users c = search needs
@@ -51,7 +57,7 @@ array-set-from-users : tie.Need-array-set-from-users Inv-loop μ-loop
 array-set-from-users c = search needs
 
 add-a : tie.Need-add-a Inv-loop μ-loop
-add-a c = ?
+add-a c = let inside = c .before .before in omega (arith, lies inside, inside .before .before .before .before .fits)
 
 add-i : tie.Need-add-i Inv-loop μ-loop
 add-i c = search needs
@@ -60,13 +66,13 @@ loop-less : tie.Need-loop-less Inv-loop μ-loop
 loop-less c = search needs
 
 loop-again : tie.Need-loop-again Inv-loop μ-loop
-loop-again c = ?
+loop-again c = reading-turn (c .before .before .before .loop .inv) (omega arith) (omega arith) (c .read-record .ensures)
 
 returns : tie.Need-returns Inv-loop μ-loop
 returns c = reading-end (c .before .loop .inv) (omega arith)
 
-pub read-records-spec : {M : Type 1} → statement M
-read-records-spec =
+pub read-users-spec : {M : Type 1} → statement M
+read-users-spec =
     tie.close
     (tie.spec
     Inv-loop
