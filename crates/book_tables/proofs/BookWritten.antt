@@ -1,9 +1,10 @@
 -- Laws of a book whose parts are written one after the other. Assumes nothing.
 use Prim.Native.Nat.{ℕ, zero, suc, _+_, _*_, _≤_}
 use mathlib.Core.Path.{_≡_, refl, sym, ap, ap₂, _∙_}
-use mathlib.Core.List.{List, [], _∷_, _++_, map}
+use mathlib.Core.List.{List, [], _∷_, _++_, map, map-map}
 use native.Mathlib.Omega.{arith}
 use lib.ListN.{length, take, drop, length-take}
+use lib.Dec.{eqb}
 use lib.Seq.{sets}
 use Rattle.base.proofs.Fronts.{front-length}
 use mathlib.Core.Bool.{true}
@@ -12,14 +13,14 @@ use Rattle.rules.specs.Book as model
 use Rattle.book_tables.specs.declared.Record.{Record}
 use Rattle.book_records.specs.declared.Trade.{Trade}
 use Rattle.book_records.proofs.Users.{managers-past}
-use Rattle.book_records.specs.User.{recordBytes, userBytes, userOf, userValues}
-use Rattle.book_tables.specs.Record.{asRecord}
+use Rattle.book_records.specs.User.{recordBytes, recordSize, userBytes, userOf, userValues}
+use Rattle.book_tables.specs.Record.{asRecord, SizeOfRecord}
 use Rattle.book_records.specs.Trade.{tradeBytes, asTrade}
 use Rattle.base.proofs.Tests.{by-case}
 use Rattle.rules.specs.Areas.{Prices, managersIn, sellingIn}
 use Rattle.units.specs.Prices.{asPrices}
-use Rattle.book_format.specs.Book.{mark, bytesOf, headerSize, lengthBy, pricesOf, sellingAt, sellingBytes, sellingWidths, userRecord, userSize, versionOf}
-use Rattle.book_format.proofs.Offsets.{selling-none, selling-some, user-plain}
+use Rattle.book_format.specs.Book.{mark, bytesOf, headerSize, lengthBy, pricesOf, sellingAt, sellingBytes, sellingWidths, userCount, userRecord, userSize, usersOf, versionOf}
+use Rattle.book_format.proofs.Offsets.{selling-none, selling-some, user-managed, user-plain}
 use Rattle.book_format.proofs.Written.{header-written, parts-written}
 use Rattle.book_tables.specs.declared.Book.{Book}
 use Rattle.book_tables.specs.Book.{asBook, keptManagers, keptPrices, withSelling, Unseen}
@@ -69,6 +70,26 @@ pub kept-users : (version n : ℕ) (s : List ℕ) → map (keptManagers version)
 unfolding recordsOf
 kept-users version zero s = refl
 kept-users version (suc n) s = ap₂ (λ (u : model.User) (us : List model.User). u ∷ us) (kept-user version (take (userSize version) s) (rw length-take (omega arith))) (kept-users version n (drop (userSize version) s))
+
+-- the users of a book that was read
+pub users-read : (s : List ℕ) (us : List Record) {version at size n : ℕ} → version ≡ versionOf s → at ≡ headerSize (versionOf s) → size ≡ userSize (versionOf s) → n ≡ userCount s
+    → map asRecord (take n us) ≡ recordsOf size userOf n (drop at s) → map (λ u. keptManagers version (asRecord u)) (take n us) ≡ usersOf s
+unfolding usersOf
+users-read s us {version} {at} {size} {n} v begin sized count e =
+    sym (map-map (keptManagers version) asRecord (take n us))
+    ∙ ap (map (keptManagers version)) e
+    ∙ rw (v, begin, sized, count) (kept-users (versionOf s) (userCount s) (drop (headerSize (versionOf s)) s))
+
+-- the size of a version's records says whether it has managers
+pub managed-is : (version : ℕ) {size : ℕ} → size ≡ userSize version → eqb size 68 ≡ managersIn version
+managed-is version e =
+    by-case (managersIn version)
+    (λ k. rw (e, user-managed version k, k) refl)
+    (λ k. rw (e, user-plain version k, k) refl)
+
+pub size-of : (version : ℕ) {size : ℕ} → size ≡ userSize version → SizeOfRecord size
+unfolding userSize
+size-of version e = record { size-is = e ∙ ap recordSize (sym (managed-is version e)) }
 
 module _ (b : Book) where
   -- the bytes of the users and of the trades

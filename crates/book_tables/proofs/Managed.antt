@@ -37,12 +37,12 @@ unfolding asRecord alone userOf
 record-read c u m e f =
     ap₂
     (λ (v : model.User) (ms : model.Managers).
-        record {
-          party = record { id = v .party .id; role = v .party .role; charges = v .party .charges; assigned = v .party .assigned; managers = ms };
-          physical = v .physical;
-          position = v .position;
-          blocked = v .blocked;
-        })
+    record {
+      party = record { id = v .party .id; role = v .party .role; charges = v .party .charges; assigned = v .party .assigned; managers = ms };
+      physical = v .physical;
+      position = v .position;
+      blocked = v .blocked;
+    })
     (e ∙ user-of-front c) f
 
 -- its bytes without the managers

@@ -184,7 +184,12 @@ pub fn read_book(s: &[u8]) -> Book
     let trade_count = book_format::trade_count(s);
     let prices = book_header::read_prices(s);
     let n = user_count as usize;
-    let users = read_users(s, book_format::users_offset(s), book_format::users_size(s), n);
+    let users = read_users(
+        s,
+        book_format::users_offset(s),
+        book_format::users_size(s),
+        n,
+    );
     let trades = read_trades(s, book_format::trades_offset(s, n), trade_count as usize);
     Book {
         version: book_format::version(s),
