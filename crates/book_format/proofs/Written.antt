@@ -61,8 +61,7 @@ module _ (b : Book) where
 
   -- the prices and tolls of the header
   abbrev pub priceValues : List ℕ
-  priceValues =
-      b .header .prices .p ∷ b .header .prices .q ∷ b .header .prices .l ∷ b .header .prices .x ∷ b .header .prices .i ∷ []
+  priceValues = b .header .prices .p ∷ b .header .prices .q ∷ b .header .prices .l ∷ b .header .prices .x ∷ b .header .prices .i ∷ []
 
   -- with the selling tariffs behind them
   pub header-written : (out : List ℕ)

@@ -1,0 +1,3 @@
+-- The laws of groups.
+pub mod Nothing
+pub mod Main
