@@ -61,6 +61,6 @@ abbrev pub listWith : Option (List ℕ) → Option (List ℕ) → List ℕ → L
 listWith store log ids areas amounts places = actOf store log (postings (linesOf ids areas amounts places))
 
 -- a list of postings, its places with it: "a refused call leaves those places unchanged"
-pub record PostedLogged (store log : Option (List ℕ)) (ids areas : List ℕ) (amounts : List ℤ) (places s : List ℕ) (number : ℕ) (t left l m : List ℕ) : Type 0 where
+pub record Posted (store log : Option (List ℕ)) (ids areas : List ℕ) (amounts : List ℤ) (places s : List ℕ) (number : ℕ) (t left l m : List ℕ) : Type 0 where
   pub logged : Logged (listWith store log ids areas amounts (length places)) s (only number) t l m
   pub beside : left ≡ after number (λ n. places) (request (listWith store log ids areas amounts (length places)) s .numbers)
