@@ -1,0 +1,4 @@
+-- What follows for the log of reductions and for withdrawals.
+pub mod Raises
+pub mod Withdrawal
+pub mod Noted
