@@ -1,4 +1,6 @@
 -- What follows for the log of reductions and for withdrawals.
+pub mod Padded
+pub mod Parts
 pub mod Raises
 pub mod Withdrawal
 pub mod Noted
