@@ -2,7 +2,6 @@
 -- the public functions give its links. How long a run can be.
 pub mod Step
 pub mod Acts
+pub mod Entered
 pub mod TradeBytes
 pub mod Sequence
-pub mod Contracts
-pub mod RunLength
