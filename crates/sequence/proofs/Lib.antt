@@ -5,3 +5,5 @@ pub mod Acts
 pub mod Entered
 pub mod TradeBytes
 pub mod Sequence
+pub mod Contracts
+pub mod RunLength
