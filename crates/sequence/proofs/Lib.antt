@@ -7,3 +7,4 @@ pub mod TradeBytes
 pub mod Sequence
 pub mod Contracts
 pub mod RunLength
+pub mod Logs

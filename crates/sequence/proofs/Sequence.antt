@@ -170,21 +170,21 @@ module _ (g : Setting) (s : List ℕ) (b : AllBytes s) (h : bookNumber s ≡ 0) 
   request-bytes (some l) a = logged-bytes l a
 
 -- what the rules give for a request on the book that bytes hold
-abbrev givenBy : Request → List ℕ → Event
+abbrev pub givenBy : Request → List ℕ → Event
 givenBy r s = requestGiven (r .setting) (r .log) (bookOf s) (r .act)
 
 -- what a link leaves
-record Left (l : Link) : Type 0 where
-  answer : l .gave .answer ≡ givenBy (l .asked) (l .given) .answer
-  numbers : l .gave .numbers ≡ givenBy (l .asked) (l .given) .numbers
-  bytes : l .gave .bytes ≡ bytesOf (givenBy (l .asked) (l .given) .book)
-  log : l .gave .log ≡ givenBy (l .asked) (l .given) .log
-  all-bytes : AllBytes (l .gave .bytes)
-  number : bookNumber (l .gave .bytes) ≡ 0
-  book : bookOf (l .gave .bytes) ≡ givenBy (l .asked) (l .given) .book
-  acted : Acted (limitsOn (l .asked .setting) (bookOf (l .given))) (bookOf (l .given)) (l .asked .log) (l .asked .act) (givenBy (l .asked) (l .given))
+pub record Left (l : Link) : Type 0 where
+  pub answer : l .gave .answer ≡ givenBy (l .asked) (l .given) .answer
+  pub numbers : l .gave .numbers ≡ givenBy (l .asked) (l .given) .numbers
+  pub bytes : l .gave .bytes ≡ bytesOf (givenBy (l .asked) (l .given) .book)
+  pub log : l .gave .log ≡ givenBy (l .asked) (l .given) .log
+  pub all-bytes : AllBytes (l .gave .bytes)
+  pub number : bookNumber (l .gave .bytes) ≡ 0
+  pub book : bookOf (l .gave .bytes) ≡ givenBy (l .asked) (l .given) .book
+  pub acted : Acted (limitsOn (l .asked .setting) (bookOf (l .given))) (bookOf (l .given)) (l .asked .log) (l .asked .act) (givenBy (l .asked) (l .given))
 
-left-of : (l : Link) → AllBytes (l .given) → bookNumber (l .given) ≡ 0 → Carried (l .asked) (l .given) (l .gave .answer) (l .gave .bytes)
+pub left-of : (l : Link) → AllBytes (l .given) → bookNumber (l .given) ≡ 0 → Carried (l .asked) (l .given) (l .gave .answer) (l .gave .bytes)
     → l .gave .numbers ≡ request (l .asked) (l .given) .numbers → l .gave .log ≡ request (l .asked) (l .given) .log → Left l
 unfolding request
 left-of l b h k w m =
