@@ -101,7 +101,7 @@ last-numbered n run = tt
 
 module _ (g : Setting) (l : List ℕ) (b : Book) where
   -- those of the book, the store and the log, and what is asked after them
-  asksThen : List Question → List Question
+  unfoldable pub asksThen : List Question → List Question
   asksThen own = aboutBook b ++ (aboutSetting g b ++ (aboutLog (some l) (bytesOf b) ++ own))
 
   then-numbered : (own : List Question) → T (numbered own) → T (numbered (asksThen own))
@@ -118,11 +118,14 @@ module _ (g : Setting) (l : List ℕ) (b : Book) where
       (all-append (λ q. not (eqb (q .number) 20)) (aboutSetting g b) (aboutLog (some l) (bytesOf b) ++ []) (setting-plain g b)
       (all-append (λ q. not (eqb (q .number) 20)) (aboutLog (some l) (bytesOf b)) [] (log-plain l (bytesOf b)) tt))
 
-  -- none of them refuses: the log passes question 19, and what is asked after it is answered by yes
-  then-passed : (own : List Question) → refusal (asksThen own) ≡ none → T (logFits l (bytesOf b)) × (refusal own ≡ none)
+  -- none of them refuses: the store passes its questions, the log question 19, and what is asked after it is answered by yes
+  pub then-passed : (own : List Question) → refusal (asksThen own) ≡ none → (refusal (aboutSetting g b) ≡ none) × T (logFits l (bytesOf b)) × (refusal own ≡ none)
   unfolding asksThen aboutLog
   then-passed own e =
-      first-yes _ own (append-yes (aboutSetting g b) (aboutLog (some l) (bytesOf b) ++ own) (append-yes (aboutBook b) (aboutSetting g b ++ (aboutLog (some l) (bytesOf b) ++ own)) e .1) .1)
+      let rest = append-yes (aboutBook b) (aboutSetting g b ++ (aboutLog (some l) (bytesOf b) ++ own)) e .1 in
+      let both = append-yes (aboutSetting g b) (aboutLog (some l) (bytesOf b) ++ own) rest in
+      let last = first-yes _ own (both .1) in
+      (both .0, last .0, last .1)
 
   -- ---- an act with a log
 
@@ -143,7 +146,7 @@ module _ (g : Setting) (l : List ℕ) (b : Book) where
     where
       go : (o : Option ℕ) → refusal (asksThen (own-of c)) ≡ o
           → Acted (limitsOn g b) b (some l) (call c) (decided o (refusedOn b (some l)) (enteredOn (callEntered (limitsOn g b) (room l) (entriesOf (bytesOf b) l) b c)))
-      go none e = call-entered (limitsOn g b) b (some l) (room l) (entriesOf (bytesOf b) l) c s (append-yes (about (limitsOn g b) b c) (lastly (room l) c) (then-passed (own-of c) e .1) .0)
+      go none e = call-entered (limitsOn g b) b (some l) (room l) (entriesOf (bytesOf b) l) c s (append-yes (about (limitsOn g b) b c) (lastly (room l) c) (then-passed (own-of c) e .2) .0)
       go (some n) e =
           act-refused (call c) n s (ltb→lt 0 n (refusal-is (λ i. ltb 0 i) (asksThen (own-of c)) n (then-numbered (own-of c) (own-numbered c)) e))
           (λ d. refusal-is (λ i. not (eqb i 20)) (asksThen (own-of run)) n run-plain (subst (λ (x : Call). refusal (asksThen (own-of x)) ≡ some n) (same-call d) e))
@@ -175,7 +178,7 @@ module _ (g : Setting) (l : List ℕ) (b : Book) where
 
       go : (o : Option ℕ) → refusal (asksThen (hasEntry es ∷ [])) ≡ o
           → Acted (limitsOn g b) b (some l) withdrawal (decided o (refusedOn b (some l)) (enteredOn (withdrawalEntered es b)))
-      go none e = let p = then-passed (hasEntry es ∷ []) e in withdrawal-entered (limitsOn g b) l b s (p .0) (first-yes _ _ (p .1) .0)
+      go none e = let p = then-passed (hasEntry es ∷ []) e in withdrawal-entered (limitsOn g b) l b s (p .1) (first-yes _ _ (p .2) .0)
       go (some n) e = act-refused withdrawal n s (ltb→lt 0 n (refusal-is (λ i. ltb 0 i) (asksThen (hasEntry es ∷ [])) n (then-numbered (hasEntry es ∷ []) tt) e)) (λ d. absurd (withdrawal-no-run d))
 
 -- a request, with a log or none
