@@ -1,6 +1,6 @@
 -- A posting, a guarantee call and a list of postings with a lent log, given or not: from the inner call, which knows of no log, and the log that is emptied where it is accepted. Assumes nothing.
-use mathlib.Core.Bool.{Bool, cond, true, false}
-use mathlib.Core.List.{List, [], _∷_, _++_, append-nil}
+use mathlib.Core.Bool.{Bool, true, false}
+use mathlib.Core.List.{List, [], _++_, append-nil}
 use mathlib.Core.Option.{Option, none, some}
 use mathlib.Core.Path.{_≡_, _∙_, ap, refl, subst, sym}
 use Prim.Native.Nat.{ℕ, suc, zero}
@@ -11,31 +11,9 @@ use lib.ListN.{length}
 use Rattle.base.specs.Lists.{all}
 use Rattle.laws.proofs.Refusals.{numbered, refusal-is}
 use Rattle.rules.specs.Book.{Book}
-use Rattle.rules.specs.Calls.{
-  posting,
-  morningCall,
-  afternoonCall,
-  reduction,
-  run,
-  Answer,
-  Call,
-  Result,
-  about,
-  assignedFallsShort,
-  assignedSuffices,
-  calledInBeyondMargin,
-  effect,
-  eligibleTrade,
-  entryInRange,
-  guaranteed,
-  idKnown,
-  isShipper,
-  marginExceeded,
-  ofLevel,
-  only,
-}
+use Rattle.rules.specs.Calls.{posting, morningCall, afternoonCall, reduction, run, Answer, Call, about, assignedFallsShort, assignedSuffices, calledInBeyondMargin, effect, eligibleTrade, entryInRange, guaranteed, idKnown, isShipper, marginExceeded, ofLevel, only}
 use Rattle.rules.specs.Levels.{Limits}
-use Rattle.rules.specs.Questions.{Question, decided, numberOf, refusal}
+use Rattle.rules.specs.Questions.{Question, decided, refusal}
 use Rattle.book_format.specs.After.{CalledAfter, after, stepAfter, unchanged}
 use Rattle.book_format.specs.Book.{bookOf, bytesOf}
 use Rattle.book_format.specs.Steps.{InBytes, inBytes}

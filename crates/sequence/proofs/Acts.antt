@@ -1,5 +1,5 @@
 -- One request by the rules without a log, accepted or refused: a call, a list by its lines one after another, a withdrawal; what it does to a sound book. Assumes nothing.
-use mathlib.Core.Bool.{Bool, cond, false, not, true, _||_}
+use mathlib.Core.Bool.{Bool, cond, false, not, true}
 use mathlib.Core.List.{List, [], _∷_, _++_}
 use mathlib.Core.Option.{Option, none, some}
 use mathlib.Core.Path.{_≡_, ap, refl, subst}

@@ -15,8 +15,8 @@ use Rattle.log_format.specs.Noted.{callEntered, hasEntry, lastly, room, withdra
 use Rattle.requests.proofs.Lines.{lines-answer}
 use Rattle.requests.proofs.Logged.{actLent, with-log, without-log}
 use Rattle.requests.proofs.Opened.{outcome, request-opened}
-use Rattle.requests.specs.Logged.{Logged, Posted, lentLog, listWith}
-use Rattle.requests.specs.Request.{call, postings, withdrawal, Act, Lines, Outcome, Setting, actBy, actIn, actOf, actWith, emptiedIn, enteredIn, limitsOn, linesIn, linesOf, openingLines, openingLinesWith, openingWith, refused, refusedWith, request, settingOf}
+use Rattle.requests.specs.Logged.{Logged, Posted, listWith}
+use Rattle.requests.specs.Request.{call, postings, withdrawal, Act, Lines, Outcome, Setting, actBy, actIn, actWith, emptiedIn, enteredIn, limitsOn, linesIn, linesOf, openingLines, openingLinesWith, openingWith, refused, refusedWith, request, settingOf}
 use Rattle.rules.specs.Calls.{Answer, Call, about, only}
 use Rattle.rules.specs.Questions.{decided, refusal}
 use Rattle.store.specs.Store.{given}

@@ -1,12 +1,11 @@
 -- One request by the rules with a log, accepted or refused: a call, a list, a withdrawal; what it does to a sound book, whatever log it is given. Assumes nothing.
-use mathlib.Core.Bool.{false, not, true}
+use mathlib.Core.Bool.{not}
 use mathlib.Core.List.{List, [], _∷_, _++_}
 use mathlib.Core.Option.{Option, none, some}
-use mathlib.Core.Path.{_≡_, _∙_, ap, refl, subst, sym}
-use Prim.Native.Nat.{ℕ, _<_}
+use mathlib.Core.Path.{_≡_, ap, refl, subst}
+use Prim.Native.Nat.{ℕ}
 use native.Mathlib.Omega.{arith}
 use lib.Dec.{T, eqb, ltb, ltb→lt}
-use lib.IntN.{pos}
 use lib.ListN.{length}
 use Rattle.base.proofs.Tests.{all-append}
 use Rattle.base.specs.Lists.{all}
@@ -19,14 +18,14 @@ use Rattle.laws.specs.Statements.{AllCovered}
 use Rattle.log_format.proofs.Read.{fits-facts, last-within}
 use Rattle.log_format.proofs.Withdrawal.{withdrawn-moved, withdrawn-sound}
 use Rattle.log_format.specs.Fits.{aboutLog, logFits, raisesWithin}
-use Rattle.log_format.specs.Log.{entriesIn, entriesOf, entryCount, logBytes}
-use Rattle.log_format.specs.Noted.{Entered, beforeLast, callEntered, emptying, hasEntry, hasRoom, lastEntry, lastly, noted, room, runWithin, stopped, withdrawalEntered}
-use Rattle.log_format.specs.Withdrawal.{returned, withdrawn, withdrawnTally}
+use Rattle.log_format.specs.Log.{entriesIn, entriesOf, entryCount}
+use Rattle.log_format.specs.Noted.{callEntered, emptying, hasEntry, hasRoom, lastEntry, lastly, room, runWithin, stopped, withdrawalEntered}
+use Rattle.log_format.specs.Withdrawal.{returned}
 use Rattle.requests.proofs.Emptied.{about-numbered}
 use Rattle.requests.proofs.Opened.{setting-numbered}
-use Rattle.requests.specs.Request.{call, postings, withdrawal, Act, Event, Lines, Setting, aboutLines, aboutSetting, actLogged, emptiedOn, enteredOn, limitsOn, linesGiven, refusedOn, requestGiven}
+use Rattle.requests.specs.Request.{call, postings, withdrawal, Act, Lines, Setting, aboutLines, aboutSetting, actLogged, emptiedOn, enteredOn, limitsOn, linesGiven, refusedOn, requestGiven}
 use Rattle.rules.specs.Book.{Book, Trade, User}
-use Rattle.rules.specs.Calls.{posting, morningCall, afternoonCall, reduction, run, Answer, Call, Result, about, effect, nextReduced, ofRun, runFor}
+use Rattle.rules.specs.Calls.{posting, morningCall, afternoonCall, reduction, run, Call, Result, about, effect, nextReduced, ofRun, runFor}
 use Rattle.rules.specs.Levels.{Limits}
 use Rattle.rules.specs.Questions.{Question, aboutBook, decided, refusal}
 use Rattle.sequence.proofs.Acts.{Acted, accepted-zero, act-accepted, act-law, act-refused, book-plain, call-accepted, lines-law, list-accepted, list-no-run, same-call, setting-plain, withdrawal-no-run}

@@ -1,10 +1,10 @@
 -- How long a run can be: a refused run reports none and leaves the bytes; every other, also one that a full log stops, has done some reductions of the rules' run, each of which
 -- cuts at least one MWh, and no reduction leaves the book, whose bytes are those that it was read from. Assumes nothing.
-use mathlib.Core.Bool.{true, not, _||_}
+use mathlib.Core.Bool.{true, not}
 use mathlib.Core.List.{List, [], _++_}
 use mathlib.Core.Option.{Option, none, some}
 use mathlib.Core.Path.{_≡_, refl, sym, ap, subst, _∙_}
-use Prim.Native.Nat.{ℕ, zero, suc, _+_, _≤_, _<_}
+use Prim.Native.Nat.{ℕ, zero, suc, _+_, _≤_}
 use native.Mathlib.Omega.{arith}
 use lib.Dec.{T}
 use Rattle.fields.specs.Field.{AllBytes}
