@@ -1,28 +1,33 @@
 -- What a log holds that was written by the calls: the cuts, newest first, that led from one book to another. Withdrawing them all gives the first book, and their sums pass question 19. Assumes nothing.
+use mathlib.Core.Bool.{true, _||_}
 use mathlib.Core.List.{List, [], _∷_}
 use mathlib.Core.Option.{Option, none, some}
 use mathlib.Core.Path.{_≡_, refl, sym, ap, subst}
 use Prim.Native.Nat.{ℕ, zero, suc, _≤_}
 use native.Mathlib.Omega.{arith}
-use lib.Dec.{T, leb, leb→le}
+use lib.Dec.{T, eqb, leb, leb→le}
+use lib.IntN.{ℤ, pos}
 use lib.ListN.{length}
 use Rattle.base.proofs.Tests.{and-l, and-r}
 use Rattle.base.specs.Lists.{all}
 use Rattle.fields.specs.Layout.{Every}
 use Rattle.laws.proofs.Cuts.{cuts-within-by, eligible-is}
 use Rattle.laws.proofs.Main.{cuts-eligible}
+use Rattle.laws.proofs.Moved.{Moved}
 use Rattle.laws.proofs.Reduction.{cut-le, cuts-lowered, cuts-sound}
+use Rattle.laws.proofs.Run.{next-none, run-law}
 use Rattle.laws.proofs.Settle.{pairs-length}
 use Rattle.laws.proofs.Trades.{framed}
 use Rattle.laws.specs.Sound.{Sound}
-use Rattle.laws.specs.Trades.{cutWithin, cutsWithin}
+use Rattle.laws.specs.Statements.{AllCovered}
+use Rattle.laws.specs.Trades.{Lowered, Pairwise, cutWithin, cutsWithin}
 use Rattle.rules.specs.Book.{Book, Trade, User, bilateralForDay}
-use Rattle.rules.specs.Calls.{nextReduced, onward, reduced, reducedBy, runFor}
+use Rattle.rules.specs.Calls.{posting, morningCall, afternoonCall, Call, Result, effect, guaranteed, nextReduced, ofLevel, only, onward, reduced, reducedBy, runFor}
 use Rattle.rules.specs.Levels.{Limits}
 use Rattle.rules.specs.Questions.{amountsValid, codesValid, partiesValid, tradeValid}
 use Rattle.rules.specs.Reduction.{cutAll, cuts, eligible, target, withTrades}
 use Rattle.log_format.specs.Fits.{allCuts, raisesWithin}
-use Rattle.log_format.specs.Noted.{entryOf, noted, noting}
+use Rattle.log_format.specs.Noted.{callEntered, emptying, entryOf, lastly, noted, noting, runWithin, stopped}
 use Rattle.log_format.specs.Withdrawal.{withdrawn}
 use Rattle.log_format.proofs.Parts.{EntryFits}
 use Rattle.log_format.proofs.Raises.{cuts-raised, none-raised}
@@ -69,6 +74,51 @@ module _ (limits : Limits) where
           → Noted o (noting limits b next (noted limits n) es) (onward limits b next (runFor limits n) .book)
       go none rest = p
       go (some u) rest = rest u
+
+-- ---- a run that a full log may stop
+
+-- its cuts are kept and its totals are of them; where it returns 0 no user short of cover has an eligible trade
+pub record RanWithin (limits : Limits) (b : Book) (r : Result) : Type 0 where
+  pub sound : Sound (r .book)
+  pub lowered : Pairwise Lowered (b .trades) (r .book .trades)
+  pub moved : Moved b (r .book) (λ a. pos 0) (pos (r .answer .mwh)) (pos (r .answer .worth))
+  pub covered : r .answer .number ≡ 0 → AllCovered limits (r .book)
+  pub number : (eqb (r .answer .number) 0 || eqb (r .answer .number) 20) ≡ true
+
+pub run-within : (limits : Limits) (n : ℕ) (b : Book) → Sound b → RanWithin limits b (runWithin limits n b)
+unfolding runWithin stopped AllCovered
+run-within limits n b s = go (nextReduced limits (r .book) (r .book .users)) refl
+  where
+    r : Result
+    r = runFor limits n b
+
+    go : (o : Option User) → nextReduced limits (r .book) (r .book .users) ≡ o → RanWithin limits b (record { answer = stopped o (r .answer); book = r .book })
+    go none e =
+        let q = run-law limits n b s in
+        record { sound = q .sound; lowered = q .lowered; moved = q .moved; covered = λ z. next-none limits (r .book) (r .book .users) e; number = rw (q .number) }
+    go (some u) e =
+        let q = run-law limits n b s in
+        record { sound = q .sound; lowered = q .lowered; moved = q .moved; covered = λ z. absurd (omega arith); number = refl }
+
+-- ---- calls that empty the log
+
+-- a posting and the guarantee calls: they ask nothing last, keep no entry, and have the number 0 where they are accepted
+pub record Empties (c : Call) : Type 0 where
+  pub last : (n : ℕ) → lastly n c ≡ []
+  pub entered : (limits : Limits) (n : ℕ) (es : List (List ℕ)) (b : Book) → callEntered limits n es b c ≡ emptying (effect limits b c)
+  pub number : (limits : Limits) (b : Book) → effect limits b c .answer .number ≡ 0
+
+pub posting-empties : (id area : ℕ) (amount : ℤ) → Empties (posting id area amount)
+unfolding lastly callEntered effect only
+posting-empties id area amount = record { last = λ n. refl; entered = λ limits n es b. refl; number = λ limits b. refl }
+
+pub morning-empties : (id : ℕ) → Empties (morningCall id)
+unfolding lastly callEntered effect guaranteed ofLevel
+morning-empties id = record { last = λ n. refl; entered = λ limits n es b. refl; number = λ limits b. refl }
+
+pub afternoon-empties : (id : ℕ) → Empties (afternoonCall id)
+unfolding lastly callEntered effect guaranteed ofLevel
+afternoon-empties id = record { last = λ n. refl; entered = λ limits n es b. refl; number = λ limits b. refl }
 
 -- ---- what is noted passes question 19
 

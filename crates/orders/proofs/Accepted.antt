@@ -15,7 +15,8 @@ use Rattle.laws.proofs.Posting.{posting-sound}
 use Rattle.laws.proofs.Refusals.{append-yes, first-yes, number-none, numbered, refusal-next}
 use Rattle.laws.specs.Sound.{Sound}
 use Rattle.base.proofs.Tests.{and-i, and-l, and-r}
-use Rattle.requests.proofs.Emptied.{accepted-with, log-off, log-on, posting-empties, with-opening}
+use Rattle.log_format.proofs.Noted.{posting-empties}
+use Rattle.requests.proofs.Emptied.{accepted-with, log-off, log-on, with-opening}
 use Rattle.requests.proofs.Passed.{passed-called, passed-carried}
 use Rattle.requests.specs.Carried.{Carried}
 use Rattle.requests.specs.Logged.{openingNumberWith}

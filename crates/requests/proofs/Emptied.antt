@@ -11,16 +11,17 @@ use lib.ListN.{length}
 use Rattle.base.specs.Lists.{all}
 use Rattle.laws.proofs.Refusals.{numbered, refusal-is}
 use Rattle.rules.specs.Book.{Book}
-use Rattle.rules.specs.Calls.{posting, morningCall, afternoonCall, reduction, run, Answer, Call, about, assignedFallsShort, assignedSuffices, calledInBeyondMargin, effect, eligibleTrade, entryInRange, guaranteed, idKnown, isShipper, marginExceeded, ofLevel, only}
+use Rattle.rules.specs.Calls.{posting, morningCall, afternoonCall, reduction, run, Answer, Call, about, assignedFallsShort, assignedSuffices, calledInBeyondMargin, effect, eligibleTrade, entryInRange, idKnown, isShipper, marginExceeded, only}
 use Rattle.rules.specs.Levels.{Limits}
 use Rattle.rules.specs.Questions.{Question, decided, refusal}
 use Rattle.book_format.specs.After.{CalledAfter, after, stepAfter, unchanged}
 use Rattle.book_format.specs.Book.{bookOf, bytesOf}
 use Rattle.book_format.specs.Steps.{InBytes, inBytes}
 use Rattle.store.specs.Store.{given}
+use Rattle.log_format.proofs.Noted.{Empties}
 use Rattle.log_format.specs.Fits.{logNumber}
 use Rattle.log_format.specs.Log.{entriesOf, logBytes}
-use Rattle.log_format.specs.Noted.{Entered, callEntered, emptying, lastly, room}
+use Rattle.log_format.specs.Noted.{Entered, callEntered, emptying, room}
 use Rattle.requests.proofs.Lines.{lines-answer, list-opened}
 use Rattle.requests.proofs.Logged.{actLent, call-logged, lines-log, lines-without, list-logged, logged-call, logged-without, with-number, without-number}
 use Rattle.requests.proofs.Opened.{outcome, request-opened}
@@ -38,24 +39,6 @@ about-numbered limits b (reduction id) = tt
 about-numbered limits b run = tt
 
 -- ---- calls that empty the log
-
--- a posting and the guarantee calls: they ask nothing last, keep no entry, and have the number 0 where they are accepted
-pub record Empties (c : Call) : Type 0 where
-  pub last : (n : ℕ) → lastly n c ≡ []
-  pub entered : (limits : Limits) (n : ℕ) (es : List (List ℕ)) (b : Book) → callEntered limits n es b c ≡ emptying (effect limits b c)
-  pub number : (limits : Limits) (b : Book) → effect limits b c .answer .number ≡ 0
-
-pub posting-empties : (id area : ℕ) (amount : ℤ) → Empties (posting id area amount)
-unfolding lastly callEntered effect only
-posting-empties id area amount = record { last = λ n. refl; entered = λ limits n es b. refl; number = λ limits b. refl }
-
-pub morning-empties : (id : ℕ) → Empties (morningCall id)
-unfolding lastly callEntered effect guaranteed ofLevel
-morning-empties id = record { last = λ n. refl; entered = λ limits n es b. refl; number = λ limits b. refl }
-
-pub afternoon-empties : (id : ℕ) → Empties (afternoonCall id)
-unfolding lastly callEntered effect guaranteed ofLevel
-afternoon-empties id = record { last = λ n. refl; entered = λ limits n es b. refl; number = λ limits b. refl }
 
 -- what such a call gives without a log, with the log emptied
 withEmptied : List ℕ → InBytes → Outcome

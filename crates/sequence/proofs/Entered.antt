@@ -4,7 +4,6 @@ use mathlib.Core.List.{List, [], _∷_, _++_}
 use mathlib.Core.Option.{Option, none, some}
 use mathlib.Core.Path.{_≡_, ap, refl, subst}
 use Prim.Native.Nat.{ℕ}
-use native.Mathlib.Omega.{arith}
 use lib.Dec.{T, eqb, ltb, ltb→lt}
 use lib.ListN.{length}
 use Rattle.base.proofs.Tests.{all-append}
@@ -12,23 +11,22 @@ use Rattle.base.specs.Lists.{all}
 use Rattle.book_format.proofs.Written.{bookOf-bytesOf}
 use Rattle.book_format.specs.Book.{bookOf, bytesOf, tradeCount, tradesOf}
 use Rattle.laws.proofs.Refusals.{append-yes, first-yes, numbered, refusal-is}
-use Rattle.laws.proofs.Run.{next-none, run-law}
 use Rattle.laws.specs.Sound.{Sound}
-use Rattle.laws.specs.Statements.{AllCovered}
+use Rattle.log_format.proofs.Noted.{run-within}
 use Rattle.log_format.proofs.Read.{fits-facts, last-within}
 use Rattle.log_format.proofs.Withdrawal.{withdrawn-moved, withdrawn-sound}
 use Rattle.log_format.specs.Fits.{aboutLog, logFits, raisesWithin}
 use Rattle.log_format.specs.Log.{entriesIn, entriesOf, entryCount}
-use Rattle.log_format.specs.Noted.{callEntered, emptying, hasEntry, hasRoom, lastEntry, lastly, room, runWithin, stopped, withdrawalEntered}
+use Rattle.log_format.specs.Noted.{callEntered, emptying, hasEntry, hasRoom, lastEntry, lastly, room, runWithin, withdrawalEntered}
 use Rattle.log_format.specs.Withdrawal.{returned}
 use Rattle.requests.proofs.Emptied.{about-numbered}
 use Rattle.requests.proofs.Opened.{setting-numbered}
 use Rattle.requests.specs.Request.{call, postings, withdrawal, Act, Lines, Setting, aboutLines, aboutSetting, actLogged, emptiedOn, enteredOn, limitsOn, linesGiven, refusedOn, requestGiven}
-use Rattle.rules.specs.Book.{Book, Trade, User}
-use Rattle.rules.specs.Calls.{posting, morningCall, afternoonCall, reduction, run, Call, Result, about, effect, nextReduced, ofRun, runFor}
+use Rattle.rules.specs.Book.{Book, Trade}
+use Rattle.rules.specs.Calls.{posting, morningCall, afternoonCall, reduction, run, Call, about, effect, ofRun}
 use Rattle.rules.specs.Levels.{Limits}
 use Rattle.rules.specs.Questions.{Question, aboutBook, decided, refusal}
-use Rattle.sequence.proofs.Acts.{Acted, accepted-zero, act-accepted, act-law, act-refused, book-plain, call-accepted, lines-law, list-accepted, list-no-run, same-call, setting-plain, withdrawal-no-run}
+use Rattle.sequence.proofs.Acts.{Acted, act-accepted, act-law, act-refused, book-plain, call-accepted, lines-law, list-accepted, list-no-run, same-call, setting-plain, withdrawal-no-run}
 use Rattle.sequence.proofs.Step.{book-numbered, effect-law}
 use Rattle.sequence.specs.Links.{acceptedNumber}
 use Rattle.sequence.specs.Totals.{amountIn, amountsIn, counted, countedIn}
@@ -38,21 +36,11 @@ use Rattle.sequence.specs.Totals.{amountIn, amountsIn, counted, countedI
 -- a run that ends is done, or met a full log
 run-accepted : (limits : Limits) (b : Book) (log m : Option (List ℕ)) (n : ℕ) → Sound b
     → Acted limits b log (call run) (record { answer = runWithin limits n b .answer; numbers = []; book = runWithin limits n b .book; log = m })
-unfolding runWithin AllCovered stopped acceptedNumber amountsIn countedIn amountIn counted
-run-accepted limits b log m n s = go (nextReduced limits (r .book) (r .book .users)) refl
-  where
-    r : Result
-    r = runFor limits n b
-
-    go : (o : Option User) → nextReduced limits (r .book) (r .book .users) ≡ o
-        → Acted limits b log (call run) (record { answer = stopped o (r .answer); numbers = []; book = r .book; log = m })
-    go none e =
-        let q = run-law limits n b s in
-        act-accepted (call run) (record { answer = r .answer; numbers = []; book = r .book; log = m }) (accepted-zero (call run) (q .number)) (q .sound) (q .moved) (λ w. q .lowered)
-        (λ d h. next-none limits (r .book) (r .book .users) e)
-    go (some u) e =
-        let q = run-law limits n b s in
-        act-accepted (call run) (record { answer = stopped (some u) (r .answer); numbers = []; book = r .book; log = m }) refl (q .sound) (q .moved) (λ w. q .lowered) (λ d h. absurd (omega arith))
+unfolding acceptedNumber amountsIn countedIn amountIn counted
+run-accepted limits b log m n s =
+    let r = runWithin limits n b in
+    let q = run-within limits n b s in
+    act-accepted (call run) (record { answer = r .answer; numbers = []; book = r .book; log = m }) (q .number) (q .sound) (q .moved) (λ w. q .lowered) (λ d h. q .covered h)
 
 -- a call that its own questions let pass
 call-entered : (limits : Limits) (b : Book) (log : Option (List ℕ)) (n : ℕ) (es : List (List ℕ)) (c : Call) → Sound b → refusal (about limits b c) ≡ none
