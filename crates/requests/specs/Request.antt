@@ -236,9 +236,9 @@ emptiedIn o = record { answer = o .answer; numbers = o .numbers; bytes = o .byte
 -- an act on a book in bytes with a log: 18 and 20 are asked last
 unfoldable pub actWith : Setting → List ℕ → List ℕ → Act → Outcome
 actWith g l s (call c) =
-    let limits = limitsOn g (bookOf s) in
-    decided (refusal (openingWith g (some l) s ++ (about limits (bookOf s) c ++ lastly (room l) c))) (refusedWith l s)
-    (enteredIn (callEntered limits (room l) (entriesOf s l) (bookOf s) c))
+    let b = bookOf s in
+    decided (refusal (openingWith g (some l) s ++ (about (limitsOn g b) b c ++ lastly (room l) c))) (refusedWith l s)
+    (enteredIn (callEntered (limitsOn g b) (room l) (entriesOf s l) b c))
 actWith g l s (postings v) =
     decided (refusal (openingLinesWith g (some l) v s)) (refusedWith l s) (emptiedIn (linesIn g s (v .ids) (v .areas) (v .amounts)))
 actWith g l s withdrawal =
