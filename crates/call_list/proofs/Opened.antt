@@ -33,7 +33,7 @@ even-fit ids areas amounts places t =
       of-places = eqb→eq (length places) n (and-r z p last);
     }
 
-module _ (store : Option (List ℕ)) (ids areas : List ℕ) (amounts : List ℤ) (places s : List ℕ) (lent : Bool) {l : List ℕ} {number : ℕ}
+module _ (store : Option (List ℕ)) (ids areas : List ℕ) (amounts : List ℤ) (places s : List ℕ) (lent : Bool) (l : List ℕ) {number : ℕ}
     (e : number ≡ linesNumberWith (settingOf store) (given lent l) (linesOf ids areas amounts (length places)) s) where
   passes : number ≡ 0 → (linesFit (linesOf ids areas amounts (length places)) ≡ true) × (openingNumber (settingOf store) s ≡ 0)
   passes z =

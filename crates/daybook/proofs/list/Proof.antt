@@ -30,8 +30,8 @@ list-requires c κs =
     let k = c .before .before in
     let a = start k .args in
     let store = given (a .with-store) (now (a .store)) in (
-      list-book store (now (a .ids)) (now (a .areas)) (now (a .amounts)) (now (a .places)) (now (a .book)) false (asked k),
-      list-even store (now (a .ids)) (now (a .areas)) (now (a .amounts)) (now (a .places)) (now (a .book)) false (asked k),
+      list-book store (now (a .ids)) (now (a .areas)) (now (a .amounts)) (now (a .places)) (now (a .book)) false [] (asked k),
+      list-even store (now (a .ids)) (now (a .areas)) (now (a .amounts)) (now (a .places)) (now (a .book)) false [] (asked k),
     )
 
 returns : tie.Need-returns
@@ -40,7 +40,7 @@ returns c =
     let w = c .before .before .before .before in
     let k = w .before .before .before in
     let a = start k .args in
-    list-posted (given (a .with-store) (now (a .store))) (now (a .ids)) (now (a .areas)) (now (a .amounts)) (now (a .places)) (now (a .book)) false (asked k) (w .list .ensures) refl
+    list-posted (given (a .with-store) (now (a .store))) (now (a .ids)) (now (a .areas)) (now (a .amounts)) (now (a .places)) (now (a .book)) false [] (asked k) (w .list .ensures) refl
 
 pub list-spec : {M : Type 1} → statement M
 list-spec = tie.close (tie.spec (λ c κs. search needs) (λ c κs. search needs) list-requires (λ c. search needs) (λ c. search needs) returns)
