@@ -25,7 +25,43 @@ use Rattle.requests.specs.Carried.{Carried}
 use Rattle.log_format.specs.Fits.{aboutLog}
 use Rattle.log_format.specs.Log.{entriesOf, logBytes}
 use Rattle.log_format.specs.Noted.{Entered, callEntered, hasEntry, lastly, room, withdrawalEntered}
-use Rattle.requests.specs.Request.{call, postings, withdrawal, Act, Event, Outcome, Request, Setting, aboutLines, aboutSetting, actBy, actGiven, actIn, actLogged, actWith, carriedOut, emptiedIn, emptiedOn, enteredIn, enteredOn, limitsOn, linesGiven, linesIn, ofCall, opening, openingLines, openingLinesWith, openingWith, refused, refusedOn, refusedWith, request, requestGiven, stepGiven, stepIn}
+use Rattle.requests.specs.Request.{
+  call,
+  postings,
+  withdrawal,
+  Act,
+  Event,
+  Outcome,
+  Request,
+  Setting,
+  aboutLines,
+  aboutSetting,
+  actBy,
+  actGiven,
+  actIn,
+  actLogged,
+  actWith,
+  carriedOut,
+  emptiedIn,
+  emptiedOn,
+  enteredIn,
+  enteredOn,
+  limitsOn,
+  linesGiven,
+  linesIn,
+  ofCall,
+  opening,
+  openingLines,
+  openingLinesWith,
+  openingWith,
+  refused,
+  refusedOn,
+  refusedWith,
+  request,
+  requestGiven,
+  stepGiven,
+  stepIn,
+}
 use Rattle.rules.specs.Book.{Book, Header}
 use Rattle.rules.specs.Calls.{posting, Answer, Call, Result, about, effect, only}
 use Rattle.rules.specs.Levels.{Limits}
