@@ -6,3 +6,4 @@ pub mod Raises
 pub mod Read
 pub mod Withdrawal
 pub mod Noted
+pub mod Main

@@ -54,16 +54,14 @@ noted-none (start s) = refl
 -- ---- what a reduction and a run note
 
 -- cuts of eligible trades are cuts of trades of kind 0 and day 0
-entry-within : (limits : Limits) (b : Book) (u : User) → T (cutsWithin bilateralForDay (entryOf limits b u) (b .trades))
-unfolding entryOf
-entry-within limits b u =
-    cuts-within-by (eligible b u) bilateralForDay (λ t h. eligible-is b u t h .0) (cuts b u (target limits b u)) (b .trades)
-    (cuts-eligible .within b u (target limits b u))
+pub cuts-bilateral : (b : Book) (u : User) (asked : ℕ) → T (cutsWithin bilateralForDay (cuts b u asked) (b .trades))
+cuts-bilateral b u asked =
+    cuts-within-by (eligible b u) bilateralForDay (λ t h. eligible-is b u t h .0) (cuts b u asked) (b .trades) (cuts-eligible .within b u asked)
 
 module _ (limits : Limits) where
   pub reduction-noted : {o : Book} {es : List (List ℕ)} {b : Book} (u : User) → Noted o es b → Noted o (entryOf limits b u ∷ es) (reduced limits b u .book)
   unfolding reduced reducedBy entryOf
-  reduction-noted {b = b} u p = cut (cuts b u (target limits b u)) p (noted-sound p) (entry-within limits b u)
+  reduction-noted {b = b} u p = cut (cuts b u (target limits b u)) p (noted-sound p) (cuts-bilateral b u (target limits b u))
 
   pub run-noted : (n : ℕ) {o : Book} {es : List (List ℕ)} {b : Book} → Noted o es b → Noted o (noted limits n b es) (runFor limits n b .book)
   unfolding noted runFor noting onward

@@ -3,3 +3,4 @@ pub mod Log
 pub mod Fits
 pub mod Withdrawal
 pub mod Noted
+pub mod Statements

@@ -12,10 +12,11 @@ use Rattle.book_format.proofs.Passed.{passed-of}
 use Rattle.book_format.proofs.Round.{bytesOf-bookOf}
 use Rattle.book_format.specs.Book.{bookOf, bytesOf, tradesOf}
 use Rattle.book_format.specs.Questions.{aboutBytes}
-use Rattle.laws.proofs.Fuel.{reduced-less, run-answer}
+use Rattle.laws.proofs.Fuel.{reduced-less}
 use Rattle.laws.proofs.Refusals.{append-yes}
 use Rattle.laws.proofs.Run.{reduced-law, run-none}
 use Rattle.laws.specs.Sound.{Sound}
+use Rattle.log_format.proofs.Main.{number-zero}
 use Rattle.log_format.specs.Fits.{aboutLog}
 use Rattle.log_format.specs.Log.{entriesOf}
 use Rattle.log_format.specs.Noted.{callEntered, lastly, room, runWithin, stopped}
@@ -28,11 +29,6 @@ use Rattle.rules.specs.Questions.{Question, decided, refusal}
 use Rattle.sequence.proofs.Acts.{accepted-zero}
 use Rattle.sequence.specs.Links.{acceptedNumber}
 use Rattle.sequence.specs.RunLength.{RunLength}
-
--- a run of the rules has the number 0
-number-zero : (limits : Limits) (n : ℕ) (b : Book) → runFor limits n b .answer .number ≡ 0
-unfolding ofRun
-number-zero limits n b = ap (λ (a : Answer). a .number) (run-answer limits n b)
 
 -- however many reductions it may do, it does at most as many as MWh can be cut
 run-most : (limits : Limits) (n : ℕ) (b : Book) → Sound b → runFor limits n b .answer .reductions ≤ cuttable (b .trades)

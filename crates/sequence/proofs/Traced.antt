@@ -4,7 +4,7 @@ use mathlib.Core.Bool.{Bool, true, false, cond}
 use mathlib.Core.List.{List, [], _∷_, _++_}
 use mathlib.Core.Option.{Option, none, some}
 use mathlib.Core.Path.{_≡_, _∙_, ap, refl, subst, sym}
-use Prim.Native.Nat.{ℕ, zero, suc, _+_, _-_, _≤_, _<_}
+use Prim.Native.Nat.{ℕ, _+_, _-_, _≤_, _<_}
 use native.Mathlib.Omega.{arith}
 use lib.Dec.{T, eqb, eqb·suc-zero, leb, leb→le, ltb, ltb→lt}
 use lib.ListN.{length}
@@ -15,18 +15,19 @@ use Rattle.book_format.specs.Book.{bookOf, bytesOf, headerSize, lengthBy, trade
 use Rattle.fields.specs.Layout.{Every}
 use Rattle.laws.proofs.Refusals.{append-yes, first-yes}
 use Rattle.laws.specs.Sound.{Sound}
+use Rattle.log_format.proofs.Main.{runs-within}
 use Rattle.log_format.proofs.Noted.{Noted, noted-drop, noted-fit, noted-sound, noted-within, reduction-noted, run-noted, start}
 use Rattle.log_format.proofs.Parts.{EntryFits, bytes-logged, logged-head, logged-held}
 use Rattle.log_format.proofs.Read.{fits-facts}
 use Rattle.log_format.proofs.Written.{Writable, logged-entries, logged-fits}
 use Rattle.log_format.specs.Fits.{LogOf, aboutLog, allCuts, logFits, raisesWithin}
 use Rattle.log_format.specs.Log.{entriesOf, entryCount, heldOf, logBytes}
-use Rattle.log_format.specs.Noted.{Entered, beforeLast, callEntered, emptying, entryOf, hasEntry, hasRoom, lastEntry, lastly, noted, noting, room, runWithin, withdrawalEntered}
+use Rattle.log_format.specs.Noted.{Entered, beforeLast, callEntered, emptying, hasEntry, hasRoom, lastEntry, lastly, room, runWithin, withdrawalEntered}
 use Rattle.log_format.specs.Withdrawal.{withdrawn}
 use Rattle.requests.specs.Request.{call, postings, withdrawal, Act, Event, Lines, Setting, aboutLines, aboutSetting, actLogged, emptiedOn, enteredOn, limitsOn, linesGiven, refusedOn}
 use Rattle.rules.specs.Areas.{sellingIn}
-use Rattle.rules.specs.Book.{Book, Header, Trade, User, find}
-use Rattle.rules.specs.Calls.{posting, morningCall, afternoonCall, reduction, run, Call, about, effect, nextReduced, reduced}
+use Rattle.rules.specs.Book.{Book, Header, Trade, find}
+use Rattle.rules.specs.Calls.{posting, morningCall, afternoonCall, reduction, run, Call, about, effect}
 use Rattle.rules.specs.Levels.{Limits}
 use Rattle.rules.specs.Questions.{Question, aboutBook, countsValid, decided, refusal}
 use Rattle.store.specs.Store.{aboutStore}
@@ -125,17 +126,6 @@ data Leads (o : Book) (es : List (List ℕ)) (b : Book) : Type 0 where
   emptied : es ≡ [] → Leads o es b
   more : Noted o es b → Leads o es b
 
--- a run notes no more than it may do
-noted-count : (limits : Limits) (n : ℕ) (b : Book) (es : List (List ℕ)) → length (noted limits n b es) ≤ n + length es
-unfolding noted noting
-noted-count limits zero b es = omega arith
-noted-count limits (suc n) b es = go (nextReduced limits b (b .users)) (λ u. noted-count limits n (reduced limits b u .book) (entryOf limits b u ∷ es))
-  where
-    go : (o : Option User) → ((u : User) → length (noted limits n (reduced limits b u .book) (entryOf limits b u ∷ es)) ≤ n + suc (length es))
-        → length (noting limits b o (noted limits n) es) ≤ suc n + length es
-    go none rest = omega arith
-    go (some u) rest = omega (arith, rest u)
-
 module _ (limits : Limits) {o : Book} {es : List (List ℕ)} {b : Book} (p : Noted o es b) (n : ℕ) (k : n + length es ≤ 256) where
   -- a call whose last questions are answered by yes
   call-leads : (c : Call) → refusal (lastly n c) ≡ none → let e = callEntered limits n es b c in Leads o (e .entries) (e .book) × (length (e .entries) ≤ 256)
@@ -144,7 +134,7 @@ module _ (limits : Limits) {o : Book} {es : List (List ℕ)} {b : Book} (p : Not
   call-leads (morningCall id) h = (emptied refl, omega arith)
   call-leads (afternoonCall id) h = (emptied refl, omega arith)
   call-leads (reduction id) h = (more (reduction-noted limits (find (b .users) id) p), omega (arith, ltb→lt 0 n (first-yes _ _ h .0)))
-  call-leads run h = (more (run-noted limits n p), omega (arith, noted-count limits n b es))
+  call-leads run h = (more (run-noted limits n p), omega (arith, runs-within limits .entries n b es, runs-within limits .most n b))
 
 -- a withdrawal drops the last entry
 pub withdrawal-leads : {o : Book} (es : List (List ℕ)) {b : Book} → Noted o es b → T (ltb 0 (length es)) → Noted o (beforeLast es) (withdrawn b (lastEntry es)) × (length (beforeLast es) ≤ length es)
