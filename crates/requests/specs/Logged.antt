@@ -15,7 +15,7 @@ use Rattle.book_format.specs.Book.{bookOf}
 use Rattle.log_format.specs.Log.{entriesOf, logBytes}
 use Rattle.log_format.specs.Noted.{callEntered, hasEntry, lastly, room, withdrawalEntered}
 use Rattle.requests.specs.Carried.{Carried}
-use Rattle.requests.specs.Request.{postings, Lines, Outcome, Request, Setting, actOf, enteredIn, limitsOn, linesOf, openingLinesWith, openingWith, refusedWith, request}
+use Rattle.requests.specs.Request.{call, postings, Lines, Outcome, Request, Setting, actOf, callIn, enteredIn, limitsOn, linesOf, openingLinesWith, openingWith, refusedWith, request}
 
 -- ---- the opening questions
 
@@ -69,3 +69,12 @@ listWith store log ids areas amounts places = actOf store log (postings (linesOf
 pub record Posted (store log : Option (List ℕ)) (ids areas : List ℕ) (amounts : List ℤ) (places s : List ℕ) (number : ℕ) (t left l m : List ℕ) : Type 0 where
   pub logged : Logged (listWith store log ids areas amounts (length places)) s (only number) t l m
   pub beside : left ≡ after number (λ n. places) (request (listWith store log ids areas amounts (length places)) s .numbers)
+
+-- ---- what a log changes
+
+-- A log is a record of reductions: a call that returns 0 with it answers and leaves the book as without it.
+pub record LogOnlyNotes : Type 0 where
+  pub answer : (g : Setting) (l s : List ℕ) (c : Call) → let r = request (record { setting = g; log = some l; act = call c }) s in
+      r .answer .number ≡ 0 → r .answer ≡ request (callIn g c) s .answer
+  pub bytes : (g : Setting) (l s : List ℕ) (c : Call) → let r = request (record { setting = g; log = some l; act = call c }) s in
+      r .answer .number ≡ 0 → r .bytes ≡ request (callIn g c) s .bytes

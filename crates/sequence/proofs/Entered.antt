@@ -17,8 +17,9 @@ use Rattle.log_format.proofs.Read.{fits-facts, last-within}
 use Rattle.log_format.proofs.Withdrawal.{withdrawn-moved, withdrawn-sound}
 use Rattle.log_format.specs.Fits.{aboutLog, logFits, raisesWithin}
 use Rattle.log_format.specs.Log.{entriesIn, entriesOf, entryCount}
-use Rattle.log_format.specs.Noted.{callEntered, emptying, hasEntry, hasRoom, lastEntry, lastly, room, runWithin, withdrawalEntered}
+use Rattle.log_format.specs.Noted.{callEntered, emptying, hasEntry, lastEntry, lastly, room, runWithin, withdrawalEntered}
 use Rattle.log_format.specs.Withdrawal.{returned}
+use Rattle.requests.proofs.Accepted.{last-numbered}
 use Rattle.requests.proofs.Emptied.{about-numbered}
 use Rattle.requests.proofs.Opened.{setting-numbered}
 use Rattle.requests.specs.Request.{call, postings, withdrawal, Act, Lines, Setting, aboutLines, aboutSetting, actLogged, emptiedOn, enteredOn, limitsOn, linesGiven, refusedOn, requestGiven}
@@ -77,14 +78,6 @@ log-numbered l s = tt
 log-plain : (l s : List ℕ) → T (all (λ q. not (eqb (q .number) 20)) (aboutLog (some l) s))
 unfolding aboutLog all
 log-plain l s = tt
-
-last-numbered : (n : ℕ) (c : Call) → T (all (λ q. ltb 0 (q .number)) (lastly n c))
-unfolding lastly hasRoom all
-last-numbered n (posting id area amount) = tt
-last-numbered n (morningCall id) = tt
-last-numbered n (afternoonCall id) = tt
-last-numbered n (reduction id) = tt
-last-numbered n run = tt
 
 module _ (g : Setting) (l : List ℕ) (b : Book) where
   -- those of the book, the store and the log, and what is asked after them
