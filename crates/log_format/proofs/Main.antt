@@ -9,7 +9,7 @@ use lib.IntN.{+ℤ-idr}
 use lib.ListN.{length}
 use Rattle.laws.proofs.Fuel.{run-answer, run-stops}
 use Rattle.laws.proofs.Main.{conserved}
-use Rattle.laws.proofs.Run.{Done, run-count, run-done}
+use Rattle.laws.proofs.Run.{Done, run-count, run-done, run-none}
 use Rattle.laws.proofs.Sound.{accept, sound}
 use Rattle.laws.specs.Sound.{Sound}
 use Rattle.rules.specs.Book.{Book, User}
@@ -61,6 +61,15 @@ module _ (limits : Limits) where
       go none ih = omega arith
       go (some u) ih = omega (arith, ih u)
 
+  noted-none : (n : ℕ) (b : Book) (es : List (List ℕ)) → runFor limits n b .answer .reductions ≡ 0 → noted limits n b es ≡ es
+  unfolding noted noting runFor onward ofRun
+  noted-none zero b es h = refl
+  noted-none (suc n) b es h = go (nextReduced limits b (b .users)) h
+    where
+      go : (o : Option User) → onward limits b o (runFor limits n) .answer .reductions ≡ 0 → noting limits b o (noted limits n) es ≡ es
+      go none k = refl
+      go (some u) k = absurd (omega arith)
+
   -- by the user that is due next
   stopped-reductions : (o : Option User) (a : Answer) → stopped o a .reductions ≡ a .reductions
   unfolding stopped
@@ -107,6 +116,10 @@ module _ (limits : Limits) where
         most = λ n b.
             let r = runFor limits n b in
             omega (arith, run-count limits n b, stopped-reductions (nextReduced limits (r .book) (r .book .users)) (r .answer));
+        idle = λ n b es h.
+            let r = runFor limits n b in
+            let k = sym (stopped-reductions (nextReduced limits (r .book) (r .book .users)) (r .answer)) ∙ h in
+            (noted-none n b es k, run-none limits n b k);
         due = λ n b h e. let r = runFor limits n b in stopped-due (nextReduced limits (r .book) (r .book .users)) (r .answer) (number-zero n b) h e;
         whole = λ n b t h. run-whole n b (sound b t) h;
       }

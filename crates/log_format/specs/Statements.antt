@@ -36,6 +36,8 @@ pub record RunsWithin (limits : Limits) : Type 0 where
   -- "a run one for each of its own": as many entries more as reductions that it reports
   pub entries : (n : ℕ) (b : Book) (es : List (List ℕ)) → length (noted limits n b es) ≡ runWithin limits n b .answer .reductions + length es
   pub most : (n : ℕ) (b : Book) → runWithin limits n b .answer .reductions ≤ n
+  -- one that reports none leaves the entries and the book
+  pub idle : (n : ℕ) (b : Book) (es : List (List ℕ)) → runWithin limits n b .answer .reductions ≡ 0 → (noted limits n b es ≡ es) × (runWithin limits n b .book ≡ b)
   -- it stops with 20 "while a reduction is due"
   pub due : (n : ℕ) (b : Book) → let r = runWithin limits n b in r .answer .number ≡ 20 → nextReduced limits (r .book) (r .book .users) ≡ none → ⊥
   -- where it returns 0 it is the run without a log

@@ -3,7 +3,7 @@
 use mathlib.Core.Bool.{true, not}
 use mathlib.Core.List.{List, [], _++_}
 use mathlib.Core.Option.{Option, none, some}
-use mathlib.Core.Path.{_≡_, refl, sym, ap, subst, _∙_}
+use mathlib.Core.Path.{_≡_, refl, sym, ap, ap₂, subst, _∙_}
 use Prim.Native.Nat.{ℕ, zero, suc, _+_, _≤_}
 use native.Mathlib.Omega.{arith}
 use lib.Dec.{T}
@@ -13,12 +13,14 @@ use Rattle.book_format.proofs.Round.{bytesOf-bookOf}
 use Rattle.book_format.specs.Book.{bookOf, bytesOf, tradesOf}
 use Rattle.book_format.specs.Questions.{aboutBytes}
 use Rattle.laws.proofs.Fuel.{reduced-less}
-use Rattle.laws.proofs.Refusals.{append-yes}
+use Rattle.laws.proofs.Refusals.{append-yes, first-yes}
 use Rattle.laws.proofs.Run.{reduced-law, run-none}
 use Rattle.laws.specs.Sound.{Sound}
-use Rattle.log_format.proofs.Main.{number-zero}
-use Rattle.log_format.specs.Fits.{aboutLog}
-use Rattle.log_format.specs.Log.{entriesOf}
+use Rattle.log_format.proofs.Main.{number-zero, runs-within}
+use Rattle.log_format.proofs.Parts.{logged-bytes}
+use Rattle.log_format.proofs.Read.{fits-logged}
+use Rattle.log_format.specs.Fits.{aboutLog, logFits}
+use Rattle.log_format.specs.Log.{entriesOf, logBytes}
 use Rattle.log_format.specs.Noted.{callEntered, lastly, room, runWithin, stopped}
 use Rattle.requests.specs.Carried.{Carried}
 use Rattle.requests.specs.Request.{call, actBy, actIn, actOf, actWith, aboutSetting, carriedOut, enteredIn, limitsOn, opening, openingWith, refused, refusedWith, request, settingOf, stepIn}
@@ -28,7 +30,7 @@ use Rattle.rules.specs.Levels.{Limits}
 use Rattle.rules.specs.Questions.{Question, decided, refusal}
 use Rattle.sequence.proofs.Acts.{accepted-zero}
 use Rattle.sequence.specs.Links.{acceptedNumber}
-use Rattle.sequence.specs.RunLength.{RunLength}
+use Rattle.sequence.specs.RunLength.{RunLeavesLog, RunLength}
 
 -- however many reductions it may do, it does at most as many as MWh can be cut
 run-most : (limits : Limits) (n : ℕ) (b : Book) → Sound b → runFor limits n b .answer .reductions ≤ cuttable (b .trades)
@@ -114,3 +116,32 @@ run-length store log =
       none = λ {s} {t} {a} b k z. gave-none b (gave-by store log k) z;
       refused = λ {s} {t} {a} k z. gave-refused (gave-by store log k) z;
     }
+
+-- ---- the log
+
+module _ (store : Option (List ℕ)) (l s : List ℕ) (c : AllBytes l) (b : AllBytes s) where
+  -- a log that passes question 19 is the log of its entries and the book
+  log-whole : refusal (aboutBytes s) ≡ none → T (logFits l s) → logBytes (entriesOf s l) s ≡ l
+  log-whole p h = sym (logged-bytes (fits-logged c (passed-of s p .form .trades) h))
+
+  by-log : (o : Option ℕ) → (o ≡ none → (refusal (aboutBytes s) ≡ none) × T (logFits l s)) → let x = decided o (refusedWith l s) (enteredIn (callEntered (limits store s) (room l) (entriesOf s l) (bookOf s) run)) in
+      x .answer .reductions ≡ 0 → x .log ≡ some l
+  unfolding decided refusedWith enteredIn callEntered
+  by-log none h z =
+      let p = h refl in
+      let q = runs-within (limits store s) .idle (room l) (bookOf s) (entriesOf s l) z in
+      ap₂ (λ (es : List (List ℕ)) (n : Book). some (logBytes es (bytesOf n))) (q .0) (q .1)
+      ∙ ap (λ (x : List ℕ). some (logBytes (entriesOf s l) x)) (bytesOf-bookOf s b (passed-of s (p .0)))
+      ∙ ap some (log-whole (p .0) (p .1))
+  by-log (some n) h z = refl
+
+  leaves-log : request (actOf store (some l) (call run)) s .answer .reductions ≡ 0 → request (actOf store (some l) (call run)) s .log ≡ some l
+  unfolding request actBy actWith opening openingWith about lastly aboutLog
+  leaves-log z =
+      let first = aboutBytes s ++ aboutSetting (settingOf store) (bookOf s) in
+      by-log (refusal ((first ++ aboutLog (some l) s) ++ []))
+      (λ e. let k = append-yes (first ++ aboutLog (some l) s) [] e .0 in (book-first store s (aboutLog (some l) s) k, first-yes _ _ (append-yes first (aboutLog (some l) s) k .1) .0))
+      z
+
+pub run-leaves-log : (store : Option (List ℕ)) → RunLeavesLog store
+run-leaves-log store = record { leaves = λ {l} {s} {t} {a} c b k z. leaves-log store l s c b (sym (ap (λ (x : Answer). x .reductions) (k .answer)) ∙ z) }

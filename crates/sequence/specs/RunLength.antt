@@ -2,14 +2,14 @@
 -- or refused. Assumes nothing.
 use mathlib.Core.Bool.{not}
 use mathlib.Core.List.{List}
-use mathlib.Core.Option.{Option}
+use mathlib.Core.Option.{Option, some}
 use mathlib.Core.Path.{_≡_}
 use Prim.Native.Nat.{ℕ, _≤_}
 use lib.Dec.{T}
 use Rattle.fields.specs.Field.{AllBytes}
 use Rattle.book_format.specs.Book.{tradesOf}
 use Rattle.requests.specs.Carried.{Carried}
-use Rattle.requests.specs.Request.{actOf, call}
+use Rattle.requests.specs.Request.{actOf, call, request}
 use Rattle.rules.specs.Calls.{Answer, cuttable, run}
 use Rattle.sequence.specs.Links.{acceptedNumber}
 
@@ -21,3 +21,8 @@ pub record RunLength (store log : Option (List ℕ)) : Type 0 where
   pub none : {s t : List ℕ} {a : Answer} → AllBytes s → Carried (actOf store log (call run)) s a t → a .reductions ≡ 0 → t ≡ s
   -- a refused run reports none and leaves the bytes
   pub refused : {s t : List ℕ} {a : Answer} → Carried (actOf store log (call run)) s a t → T (not (acceptedNumber (call run) (a .number))) → (a .reductions ≡ 0) × (t ≡ s)
+
+-- A run that reports none leaves the log too, where one is given.
+pub record RunLeavesLog (store : Option (List ℕ)) : Type 0 where
+  pub leaves : {l s t : List ℕ} {a : Answer} → AllBytes l → AllBytes s → Carried (actOf store (some l) (call run)) s a t → a .reductions ≡ 0
+      → request (actOf store (some l) (call run)) s .log ≡ some l
