@@ -29,7 +29,7 @@ actLent g log a = record { setting = g; log = log; act = a }
 
 -- ---- the opening questions
 
-log-numbered : (log : Option (List ℕ)) (s : List ℕ) → T (numbered (aboutLog log s))
+pub log-numbered : (log : Option (List ℕ)) (s : List ℕ) → T (numbered (aboutLog log s))
 unfolding numbered aboutLog all
 log-numbered none s = tt
 log-numbered (some l) s = tt

@@ -16,7 +16,6 @@ use Rattle.laws.specs.Sound.{Sound}
 use Rattle.laws.specs.Statements.{AllCovered}
 use Rattle.laws.specs.Trades.{Lowered, Pairwise}
 use Rattle.log_format.specs.Noted.{hasEntry}
-use Rattle.requests.proofs.Emptied.{about-numbered}
 use Rattle.requests.proofs.Opened.{setting-numbered}
 use Rattle.requests.specs.Request.{call, postings, withdrawal, Act, Event, Lines, Setting, aboutLines, aboutSetting, actGiven, limitsOn, linesGiven, ofCall, refusedOn, stepGiven}
 use Rattle.rules.specs.Book.{Book}
@@ -25,7 +24,7 @@ use Rattle.rules.specs.Levels.{Limits}
 use Rattle.base.specs.Lists.{all}
 use Rattle.rules.specs.Questions.{Question, aboutBook, decided, refusal}
 use Rattle.store.specs.Store.{aboutStore}
-use Rattle.sequence.proofs.Step.{Effected, book-numbered, effect-law, step-law}
+use Rattle.sequence.proofs.Step.{Effected, asks, asks-numbered, book-numbered, effect-law, step-law}
 use Rattle.sequence.specs.Links.{acceptedNumber}
 use Rattle.sequence.specs.Totals.{amountIn, amountsIn, counted, countedIn, lineAmounts}
 
@@ -121,17 +120,7 @@ setting-plain g b = go (g .store)
     go none = tt
     go (some s) = tt
 
--- the questions of a call without a log
-asks : Setting → Book → Call → List Question
-asks g b c = aboutBook b ++ (aboutSetting g b ++ about (limitsOn g b) b c)
-
-asks-numbered : (g : Setting) (b : Book) (c : Call) → T (numbered (asks g b c))
-unfolding asks numbered
-asks-numbered g b c =
-    let own = about (limitsOn g b) b c in
-    all-append (λ q. ltb 0 (q .number)) (aboutBook b) (aboutSetting g b ++ own) (book-numbered b)
-    (all-append (λ q. ltb 0 (q .number)) (aboutSetting g b) own (setting-numbered g b) (about-numbered (limitsOn g b) b c))
-
+-- so a run without a log is not refused with it
 asks-plain : (g : Setting) (b : Book) → T (all (λ q. not (eqb (q .number) 20)) (asks g b run))
 unfolding asks about all
 asks-plain g b =

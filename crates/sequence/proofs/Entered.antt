@@ -21,6 +21,7 @@ use Rattle.log_format.specs.Noted.{callEntered, emptying, hasEntry, lastEntry, 
 use Rattle.log_format.specs.Withdrawal.{returned}
 use Rattle.requests.proofs.Accepted.{last-numbered}
 use Rattle.requests.proofs.Emptied.{about-numbered}
+use Rattle.requests.proofs.Logged.{log-numbered}
 use Rattle.requests.proofs.Opened.{setting-numbered}
 use Rattle.requests.specs.Request.{call, postings, withdrawal, Act, Lines, Setting, aboutLines, aboutSetting, actLogged, emptiedOn, enteredOn, limitsOn, linesGiven, refusedOn, requestGiven}
 use Rattle.rules.specs.Book.{Book, Trade}
@@ -71,10 +72,6 @@ withdrawal-entered limits l b s h k =
 
 -- ---- the questions
 
-log-numbered : (l s : List ℕ) → T (all (λ q. ltb 0 (q .number)) (aboutLog (some l) s))
-unfolding aboutLog all
-log-numbered l s = tt
-
 log-plain : (l s : List ℕ) → T (all (λ q. not (eqb (q .number) 20)) (aboutLog (some l) s))
 unfolding aboutLog all
 log-plain l s = tt
@@ -89,7 +86,7 @@ module _ (g : Setting) (l : List ℕ) (b : Book) where
   then-numbered own h =
       all-append (λ q. ltb 0 (q .number)) (aboutBook b) (aboutSetting g b ++ (aboutLog (some l) (bytesOf b) ++ own)) (book-numbered b)
       (all-append (λ q. ltb 0 (q .number)) (aboutSetting g b) (aboutLog (some l) (bytesOf b) ++ own) (setting-numbered g b)
-      (all-append (λ q. ltb 0 (q .number)) (aboutLog (some l) (bytesOf b)) own (log-numbered l (bytesOf b)) h))
+      (all-append (λ q. ltb 0 (q .number)) (aboutLog (some l) (bytesOf b)) own (log-numbered (some l) (bytesOf b)) h))
 
   then-plain : T (all (λ q. not (eqb (q .number) 20)) (asksThen []))
   unfolding asksThen all
@@ -138,7 +135,7 @@ module _ (g : Setting) (l : List ℕ) (b : Book) where
   unfolding lines-asks numbered aboutLines all
   lines-numbered v =
       all-append (λ q. ltb 0 (q .number)) (aboutBook b) (aboutLines v ++ (aboutSetting g b ++ aboutLog (some l) (bytesOf b))) (book-numbered b)
-      (all-append (λ q. ltb 0 (q .number)) (aboutSetting g b) (aboutLog (some l) (bytesOf b)) (setting-numbered g b) (log-numbered l (bytesOf b)))
+      (all-append (λ q. ltb 0 (q .number)) (aboutSetting g b) (aboutLog (some l) (bytesOf b)) (setting-numbered g b) (log-numbered (some l) (bytesOf b)))
 
   list-logged : (v : Lines) → Sound b → Acted (limitsOn g b) b (some l) (postings v) (actLogged g l b (postings v))
   unfolding actLogged decided lines-asks emptiedOn numbered

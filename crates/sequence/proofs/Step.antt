@@ -71,11 +71,11 @@ pub book-numbered : (b : Book) → T (all (λ q. ltb 0 (q .number)) (aboutBook b
 unfolding aboutBook all
 book-numbered b = tt
 
--- the questions of a request
-asks : Setting → Book → Call → List Question
+-- the questions of a call without a log
+unfoldable pub asks : Setting → Book → Call → List Question
 asks g b c = aboutBook b ++ (aboutSetting g b ++ about (limitsOn g b) b c)
 
-asks-numbered : (g : Setting) (b : Book) (c : Call) → T (numbered (asks g b c))
+pub asks-numbered : (g : Setting) (b : Book) (c : Call) → T (numbered (asks g b c))
 unfolding asks numbered
 asks-numbered g b c =
     let own = about (limitsOn g b) b c in
