@@ -8,9 +8,7 @@ use lib.ListN.{length, take, drop, replicate, length-append, length-drop, length
 use lib.Seq.{sets, drop-at, length-take-le, take-at}
 use Rattle.base.proofs.Tests.{and-l, and-r}
 use Rattle.base.specs.Lists.{all}
-use Rattle.fields.proofs.Field.{all-bytes-append}
 use Rattle.fields.proofs.Sets.{sets-left, sets-replicate, sets-right, sets-whole}
-use Rattle.fields.specs.Field.{AllBytes}
 use Rattle.log_format.specs.Fits.{zeros}
 use Rattle.log_format.specs.Log.{padded}
 
@@ -33,20 +31,11 @@ take-replicate zero n h = refl
 take-replicate (suc k) zero h = absurd (omega arith)
 take-replicate (suc k) (suc n) h = ap (λ (r : List ℕ). 0 ∷ r) (take-replicate k n (omega arith))
 
-all-bytes-zeros : (n : ℕ) → AllBytes (replicate n 0)
-all-bytes-zeros zero i = omega arith
-all-bytes-zeros (suc n) zero = omega arith
-all-bytes-zeros (suc n) (suc i) = all-bytes-zeros n i
-
 -- ---- padded bytes
 
 pub length-padded : (room : ℕ) (x : List ℕ) → length x ≤ room → length (padded room x) ≡ room
 unfolding padded
 length-padded room x h = rw (length-append, length-replicate) (omega arith)
-
-pub all-bytes-padded : (room : ℕ) (x : List ℕ) → AllBytes x → AllBytes (padded room x)
-unfolding padded
-all-bytes-padded room x b = all-bytes-append x (replicate (room - length x) 0) b (all-bytes-zeros (room - length x))
 
 -- the bytes, and the zeros behind them
 pub take-padded : (room n : ℕ) (x : List ℕ) → length x ≡ n → take n (padded room x) ≡ x
@@ -91,14 +80,3 @@ sets-zeros room x w h =
     ∙ ap (λ (k : ℕ). sets (x ++ (w ++ rest)) k z) e
     ∙ sets-right z x (w ++ rest) 0
     ∙ ap (λ (q : List ℕ). x ++ q) (sets-left z w rest 0 f ∙ ap (λ (q : List ℕ). q ++ rest) (sets-whole z w (sym (length-replicate (length w) 0))) ∙ replicate-append-replicate (length w) (room - length (x ++ w)) 0 ∙ ap (λ (k : ℕ). replicate k 0) n)
-
--- an entry's own zeros are zeros of the room
-pub padded-padded : (room k : ℕ) (x y : List ℕ) → length y ≤ k → length x + k ≤ room → padded room (x ++ padded k y) ≡ padded room (x ++ y)
-unfolding padded
-padded-padded room k x y h g =
-    let z : List ℕ = replicate (k - length y) 0 in
-    let a : length (x ++ (y ++ z)) ≡ length x + k = rw (length-append, length-append, length-replicate) (omega arith) in
-    let n : (k - length y) + (room - length (x ++ (y ++ z))) ≡ room - length (x ++ y) = rw (a, length-append) (omega arith) in
-    ap (λ (q : List ℕ). q ++ replicate (room - length (x ++ (y ++ z))) 0) (sym (append-assoc x y z))
-    ∙ append-assoc (x ++ y) z (replicate (room - length (x ++ (y ++ z))) 0)
-    ∙ ap (λ (q : List ℕ). (x ++ y) ++ q) (replicate-append-replicate (k - length y) (room - length (x ++ (y ++ z))) 0 ∙ ap (λ (m : ℕ). replicate m 0) n)

@@ -5,12 +5,12 @@ use Prim.Native.Nat.{ℕ, zero, _+_, _-_, _*_, _≤_, _<_}
 use native.Mathlib.Omega.{arith}
 use lib.ListN.{length, getD, take, drop, length-append, take-append-drop}
 use lib.Seq.{drop-at, drop-drop, take-at, take-take}
-use Rattle.fields.proofs.Field.{all-bytes-append, all-bytes-toBytes, length-toBytes}
-use Rattle.fields.proofs.Pack.{all-bytes-pack, fieldsAt-pack, length-pack, pack-fieldsAt}
+use Rattle.fields.proofs.Field.{length-toBytes}
+use Rattle.fields.proofs.Pack.{fieldsAt-pack, length-pack, pack-fieldsAt}
 use Rattle.fields.proofs.Records.{length-bytesOfRecords}
 use Rattle.fields.specs.Field.{AllBytes, toBytes}
-use Rattle.fields.specs.Layout.{Every, bytesOfRecords, fieldsAt, pack, size}
-use Rattle.log_format.proofs.Padded.{all-bytes-padded, length-padded, take-padded}
+use Rattle.fields.specs.Layout.{Every, fieldsAt, pack, size}
+use Rattle.log_format.proofs.Padded.{length-padded, take-padded}
 use Rattle.log_format.specs.Fits.{LogOf}
 use Rattle.log_format.specs.Log.{cutBytes, entriesBytes, entriesRoom, entryBytes, entryCount, heldAt, heldLength, heldOf, heldRoom, logBytes, logHead, logMark, logMarkOf, logZero, padded}
 
@@ -112,23 +112,3 @@ module _ {es : List (List ℕ)} {s l : List ℕ} (h : length s ≤ 9512) (n : le
       ∙ sym (take-take (length s) heldRoom (drop heldAt l) h)
       ∙ ap (take (length s)) (p .held)
       ∙ take-padded heldRoom (length s) s refl
-
--- ---- the bytes of a log are bytes
-
-cuts-bytes : (cs : List ℕ) → AllBytes (bytesOfRecords (toBytes 4) cs)
-unfolding bytesOfRecords
-cuts-bytes [] = λ i. omega arith
-cuts-bytes (c ∷ cs) = all-bytes-append (toBytes 4 c) (bytesOfRecords (toBytes 4) cs) (all-bytes-toBytes 4 c) (cuts-bytes cs)
-
-entries-bytes : (es : List (List ℕ)) → AllBytes (entriesBytes es)
-unfolding entriesBytes entryBytes cutBytes
-entries-bytes [] = λ i. omega arith
-entries-bytes (cs ∷ es) =
-    all-bytes-append (entriesBytes es) (padded 1024 (bytesOfRecords (toBytes 4) cs)) (entries-bytes es) (all-bytes-padded 1024 (bytesOfRecords (toBytes 4) cs) (cuts-bytes cs))
-
-pub all-bytes-log : (es : List (List ℕ)) (s : List ℕ) → AllBytes s → AllBytes (logBytes es s)
-unfolding logBytes logHead
-all-bytes-log es s b =
-    all-bytes-append (pack (3 ∷ 1 ∷ 4 ∷ 4 ∷ []) (logMark ∷ 0 ∷ length es ∷ length s ∷ [])) (padded heldRoom s ++ padded entriesRoom (entriesBytes es))
-    (all-bytes-pack (3 ∷ 1 ∷ 4 ∷ 4 ∷ []) (logMark ∷ 0 ∷ length es ∷ length s ∷ []))
-    (all-bytes-append (padded heldRoom s) (padded entriesRoom (entriesBytes es)) (all-bytes-padded heldRoom s b) (all-bytes-padded entriesRoom (entriesBytes es) (entries-bytes es)))

@@ -1,7 +1,7 @@
--- Question 19 by sums over the entries: the last entry can be withdrawn, and the others fit the trades after it; and what an entry's cuts left can be raised by them again. Assumes nothing.
+-- Question 19 by sums over the entries: the last entry fits by itself, and what an entry's cuts left can be raised by them again. Assumes nothing.
 use mathlib.Core.Bool.{Bool, true, false, _||_}
 use mathlib.Core.List.{List, [], _∷_}
-use mathlib.Core.Path.{_≡_, refl, subst}
+use mathlib.Core.Path.{_≡_, refl}
 use Prim.Native.Nat.{ℕ, _+_, _-_, _≤_}
 use native.Mathlib.Omega.{arith}
 use lib.Dec.{T, eqb, eqb→eq, leb, leb→le, le→leb}
@@ -14,7 +14,6 @@ use Rattle.rules.specs.Book.{Trade, User, bilateralForDay}
 use Rattle.rules.specs.Questions.{amountsValid, codesValid, partiesValid, tradeValid}
 use Rattle.rules.specs.Reduction.{cutAll, cutBy, together}
 use Rattle.log_format.specs.Fits.{raiseWithin, raisesWithin}
-use Rattle.log_format.specs.Withdrawal.{raiseAll, raiseBy}
 
 -- ---- an entry and the others
 
@@ -43,14 +42,6 @@ module _ (c d : ℕ) (t : Trade) (h : T (raiseWithin (c + d) t)) where
       and-i (leb (t .standing + c) (t .terms .notified)) (eqb c 0 || bilateralForDay t) (le→leb (t .standing + c) (t .terms .notified) (omega arith))
       (zero-or c d (bilateralForDay t) both-kind)
 
-  raise-then : T (raiseWithin d (raiseBy c t))
-  unfolding raiseWithin raiseBy bilateralForDay
-  raise-then =
-      let l = both-within in
-      let e : c + d ≡ d + c = omega arith in
-      and-i (leb (t .standing + c + d) (t .terms .notified)) (eqb d 0 || bilateralForDay t) (le→leb (t .standing + c + d) (t .terms .notified) (omega arith))
-      (zero-or d c (bilateralForDay t) (subst (λ (n : ℕ). T (eqb n 0 || bilateralForDay t)) e both-kind))
-
 -- the entry that is withdrawn fits by itself
 pub raises-first : (cs ds : List ℕ) (ts : List Trade) → length ds ≡ length cs → T (raisesWithin (together cs ds) ts) → T (raisesWithin cs ts)
 unfolding raisesWithin together
@@ -61,18 +52,6 @@ raises-first (c ∷ cs) (d ∷ ds) [] e h = absurd h
 raises-first (c ∷ cs) (d ∷ ds) (t ∷ ts) e h =
     and-i (raiseWithin c t) (raisesWithin cs ts) (raise-first c d t (and-l (raiseWithin (c + d) t) (raisesWithin (together cs ds) ts) h))
     (raises-first cs ds ts (omega arith) (and-r (raiseWithin (c + d) t) (raisesWithin (together cs ds) ts) h))
-
--- and the others fit the trades that it leaves
-pub raises-then : (cs ds : List ℕ) (ts : List Trade) → length ds ≡ length cs → T (raisesWithin (together cs ds) ts) → T (raisesWithin ds (raiseAll cs ts))
-unfolding raisesWithin together raiseAll
-raises-then [] [] [] e h = tt
-raises-then [] [] (t ∷ ts) e h = absurd h
-raises-then [] (d ∷ ds) ts e h = absurd (omega arith)
-raises-then (c ∷ cs) [] ts e h = absurd (omega arith)
-raises-then (c ∷ cs) (d ∷ ds) [] e h = absurd h
-raises-then (c ∷ cs) (d ∷ ds) (t ∷ ts) e h =
-    and-i (raiseWithin d (raiseBy c t)) (raisesWithin ds (raiseAll cs ts)) (raise-then c d t (and-l (raiseWithin (c + d) t) (raisesWithin (together cs ds) ts) h))
-    (raises-then cs ds ts (omega arith) (and-r (raiseWithin (c + d) t) (raisesWithin (together cs ds) ts) h))
 
 -- ---- entries that were cut
 

@@ -4,11 +4,11 @@ use mathlib.Core.Path.{_≡_, refl, sym, ap, ap₂, subst, _∙_}
 use Prim.Native.Nat.{ℕ, zero, suc, _+_, _-_, _*_, _≤_, _<_}
 use native.Mathlib.Omega.{arith}
 use lib.Dec.{T, eqb, eqb→eq, leb, leb→le, ltb}
-use lib.ListN.{length, getD, take, drop, length-drop, length-replicate}
+use lib.ListN.{length, take, drop, length-drop, length-replicate}
 use lib.Seq.{drop-drop, length-take-le, take-add, take-all, take-take}
 use Rattle.base.proofs.Tests.{and-l, and-r}
-use Rattle.fields.proofs.Field.{all-bytes-drop, all-bytes-take, field-lt, field-part, toBytes-field}
-use Rattle.fields.proofs.Records.{bytesOfRecords-recordsOf, getD-recordsOf, length-recordsOf, mul-suc-front}
+use Rattle.fields.proofs.Field.{all-bytes-drop, all-bytes-take, field-lt, toBytes-field}
+use Rattle.fields.proofs.Records.{bytesOfRecords-recordsOf, length-recordsOf, mul-suc-front}
 use Rattle.fields.proofs.Sets.{take-of-drop}
 use Rattle.fields.specs.Field.{AllBytes, field, toBytes}
 use Rattle.fields.specs.Layout.{Every, EveryPart, bytesOfRecords, recordsOf}
@@ -24,34 +24,14 @@ use Rattle.log_format.specs.Noted.{lastEntry}
 
 -- ---- entries and cuts, one by one
 
-pub length-cuts-at : (m : ℕ) (l : List ℕ) (place : ℕ) → length (cutsAt m l place) ≡ m
+length-cuts-at : (m : ℕ) (l : List ℕ) (place : ℕ) → length (cutsAt m l place) ≡ m
 unfolding cutsAt
 length-cuts-at m l place = length-recordsOf cutSize (field cutSize 0) m (drop (entryAt place) l)
-
--- the cut of the trade at a place
-pub cut-at : (m : ℕ) (l : List ℕ) (place j : ℕ) → j < m → getD (cutsAt m l place) j 0 ≡ field 4 (entryAt place + 4 * j) l
-unfolding cutsAt
-cut-at m l place j h =
-    let i = entryAt place + 4 * j in
-    let e : i + 0 ≡ i = omega arith in
-    getD-recordsOf cutSize (field cutSize 0) m j (drop (entryAt place) l) 0 h
-    ∙ ap (λ (x : List ℕ). field 4 0 (take 4 x)) (drop-drop (4 * j) (entryAt place) l)
-    ∙ field-part 4 0 i 4 l (omega arith)
-    ∙ ap (λ (k : ℕ). field 4 k l) e
 
 pub length-entries-in : (m n : ℕ) (l : List ℕ) → length (entriesIn m n l) ≡ n
 unfolding entriesIn
 length-entries-in m zero l = refl
 length-entries-in m (suc n) l = ap suc (length-entries-in m n l)
-
--- what all entries cut of the trade at a place
-together-at : (cs ds : List ℕ) (j : ℕ) → length ds ≡ length cs → getD (together cs ds) j 0 ≡ getD cs j 0 + getD ds j 0
-unfolding together
-together-at [] [] j e = refl
-together-at [] (d ∷ ds) j e = absurd (omega arith)
-together-at (c ∷ cs) [] j e = absurd (omega arith)
-together-at (c ∷ cs) (d ∷ ds) zero e = refl
-together-at (c ∷ cs) (d ∷ ds) (suc j) e = together-at cs ds j (omega arith)
 
 length-together : (cs ds : List ℕ) → length ds ≡ length cs → length (together cs ds) ≡ length cs
 unfolding together
@@ -70,11 +50,6 @@ module _ (m : ℕ) (l : List ℕ) where
   length-all-cuts zero = length-replicate m 0
   length-all-cuts (suc n) =
       length-together (cutsAt m l n) (allCuts m (entriesIn m n l)) (length-all-cuts n ∙ sym (length-cuts-at m l n)) ∙ length-cuts-at m l n
-
-  -- one entry more
-  pub all-cuts-next : (n j : ℕ) → getD (allCuts m (entriesIn m (suc n) l)) j 0 ≡ getD (cutsAt m l n) j 0 + getD (allCuts m (entriesIn m n l)) j 0
-  unfolding allCuts entriesIn
-  all-cuts-next n j = together-at (cutsAt m l n) (allCuts m (entriesIn m n l)) j (length-all-cuts n ∙ sym (length-cuts-at m l n))
 
   -- each entry has a cut of 32 bits for each trade
   pub entries-fit : AllBytes l → (n : ℕ) → Every (EntryFits m) (entriesIn m n l)

@@ -158,7 +158,7 @@ anew-back b ns s h k =
 same-standing : (t : Trade) (n : ℕ) → n ≡ t .standing → _≡_ {A = Trade} (record { terms = t .terms; standing = n }) t
 same-standing t n e = ap (λ (m : ℕ). record { terms = t .terms; standing = m }) e
 
-pub raise-cut : (cs : List ℕ) (ts : List Trade) → T (cutsWithin bilateralForDay cs ts) → raiseAll cs (cutAll cs ts) ≡ ts
+raise-cut : (cs : List ℕ) (ts : List Trade) → T (cutsWithin bilateralForDay cs ts) → raiseAll cs (cutAll cs ts) ≡ ts
 unfolding raiseAll cutAll cutsWithin raiseBy cutBy
 raise-cut [] [] h = refl
 raise-cut [] (t ∷ ts) h = refl

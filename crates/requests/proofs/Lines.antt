@@ -31,7 +31,7 @@ use Rattle.book_format.specs.Questions.{aboutBytes, bookNumber}
 use Rattle.book_format.specs.Steps.{inBytes}
 use Rattle.store.specs.Store.{storeNumber}
 use Rattle.requests.proofs.Opened.{opening-number, setting-numbered}
-use Rattle.requests.specs.Request.{Lines, Outcome, Setting, aboutLines, aboutSetting, actBy, actIn, linesFit, linesIn, linesNumber, linesOf, listOf, openingLines, openingNumber, refused, request, settingOf, stepIn}
+use Rattle.requests.specs.Request.{Lines, Setting, aboutLines, aboutSetting, actBy, actIn, linesFit, linesIn, linesNumber, linesOf, listOf, openingLines, openingNumber, refused, request, settingOf, stepIn}
 
 -- ---- the opening questions
 
@@ -119,15 +119,6 @@ module _ (store : Option (List ℕ)) (ids areas : List ℕ) (amounts : List ℤ)
       go none e = refl
       go (some zero) e = absurd (let l = ltb→lt 0 0 (refusal-is (λ i. ltb 0 i) (openingLines (settingOf store) lines s) 0 (lines-numbered (settingOf store) lines s) e) in omega arith)
       go (some (suc m)) e = refl
-
-  -- the answer of a list is its number alone
-  pub list-answer : request (listOf store ids areas amounts n) s .answer ≡ only (linesNumber (settingOf store) lines s)
-  unfolding after refused
-  list-answer = ap (λ (o : Outcome). o .answer) list-opened ∙ go (linesNumber (settingOf store) lines s)
-    where
-      go : (m : ℕ) → after m (refused s) (linesIn (settingOf store) s ids areas amounts) .answer ≡ only m
-      go zero = lines-answer (settingOf store) s ids areas amounts
-      go (suc m) = refl
 
 -- ---- one posting after another
 
