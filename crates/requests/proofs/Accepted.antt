@@ -29,7 +29,7 @@ use Rattle.requests.proofs.Logged.{actLent, call-logged, list-logged}
 use Rattle.requests.proofs.Opened.{outcome, request-opened}
 use Rattle.requests.proofs.Passed.{opening-book}
 use Rattle.requests.specs.Logged.{LogOnlyNotes, linesNumberWith, listWith, loggedAfter, openingNumberWith}
-use Rattle.requests.specs.Request.{call, Outcome, Setting, callIn, emptiedIn, enteredIn, limitsOn, linesIn, linesNumber, linesOf, refused, refusedWith, request, settingOf}
+use Rattle.requests.specs.Request.{call, Outcome, Setting, actBy, callIn, emptiedIn, enteredIn, limitsOn, linesIn, linesNumber, linesOf, refused, refusedWith, request, settingOf}
 
 pub accepted-lines : (store log : Option (List ℕ)) (ids areas : List ℕ) (amounts : List ℤ) (n : ℕ) (s : List ℕ) → request (listWith store log ids areas amounts n) s .answer ≡ only 0
     → (request (listWith store log ids areas amounts n) s .bytes ≡ linesIn (settingOf store) s ids areas amounts .bytes)
@@ -124,8 +124,10 @@ module _ (g : Setting) (l s : List ℕ) (c : Call) where
       absurd (let k : _≡_ {A = ℕ} (suc n) 0 = sym (ap (λ (x : Outcome). x .answer .number) (call-logged g l s c ∙ ap (λ (m : ℕ). loggedAfter m limits l s c) e)) ∙ h in omega arith)
 
 pub log-only-notes : LogOnlyNotes
+unfolding request actBy
 log-only-notes =
     record {
+      without = λ g s a. refl;
       answer = λ g l s c h. same-by g l s c (openingNumberWith g (some l) s) refl h .0;
       bytes = λ g l s c h. same-by g l s c (openingNumberWith g (some l) s) refl h .1;
     }

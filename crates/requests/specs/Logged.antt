@@ -15,7 +15,7 @@ use Rattle.book_format.specs.Book.{bookOf}
 use Rattle.log_format.specs.Log.{entriesOf, logBytes}
 use Rattle.log_format.specs.Noted.{callEntered, hasEntry, lastly, room, withdrawalEntered}
 use Rattle.requests.specs.Carried.{Carried}
-use Rattle.requests.specs.Request.{call, postings, Lines, Outcome, Request, Setting, actOf, callIn, enteredIn, limitsOn, linesOf, openingLinesWith, openingWith, refusedWith, request}
+use Rattle.requests.specs.Request.{call, postings, Act, Lines, Outcome, Request, Setting, actIn, actOf, callIn, enteredIn, limitsOn, linesOf, openingLinesWith, openingWith, refusedWith, request}
 
 -- ---- the opening questions
 
@@ -72,8 +72,9 @@ pub record Posted (store log : Option (List ℕ)) (ids areas : List ℕ) (amount
 
 -- ---- what a log changes
 
--- A log is a record of reductions: a call that returns 0 with it answers and leaves the book as without it.
+-- A log is a record of reductions: a call that returns 0 with it answers and leaves the book as without it, and without it every act is what it was before there were logs.
 pub record LogOnlyNotes : Type 0 where
+  pub without : (g : Setting) (s : List ℕ) (a : Act) → request (record { setting = g; log = none; act = a }) s ≡ actIn g s a
   pub answer : (g : Setting) (l s : List ℕ) (c : Call) → let r = request (record { setting = g; log = some l; act = call c }) s in
       r .answer .number ≡ 0 → r .answer ≡ request (callIn g c) s .answer
   pub bytes : (g : Setting) (l s : List ℕ) (c : Call) → let r = request (record { setting = g; log = some l; act = call c }) s in
