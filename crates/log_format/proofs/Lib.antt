@@ -1,4 +1,8 @@
 -- What follows for the log of reductions and for withdrawals.
+pub mod Padded
+pub mod Parts
+pub mod Written
+pub mod Read
 pub mod Raises
 pub mod Withdrawal
 pub mod Noted

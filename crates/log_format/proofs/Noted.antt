@@ -25,6 +25,7 @@ use Rattle.rules.specs.Reduction.{cutAll, cuts, eligible, target, withTrades}
 use Rattle.log_format.specs.Fits.{allCuts, raisesWithin}
 use Rattle.log_format.specs.Noted.{entryOf, noted, noting}
 use Rattle.log_format.specs.Withdrawal.{withdrawn}
+use Rattle.log_format.proofs.Parts.{EntryFits}
 use Rattle.log_format.proofs.Raises.{cuts-raised, none-raised}
 use Rattle.log_format.proofs.Withdrawal.{withdrawn-back}
 
@@ -71,10 +72,6 @@ module _ (limits : Limits) where
       go (some u) rest = rest u
 
 -- ---- what is noted passes question 19
-
--- an entry: as many cuts as trades, each in 32 bits
-abbrev pub EntryFits : ℕ → List ℕ → Type 0
-EntryFits m cs = (length cs ≡ m) × Every (λ c. c < 4294967296) cs
 
 -- a trade stands at most at 100,000 MWh
 standing-le : (us : List User) (t : Trade) → T (tradeValid us t) → t .standing ≤ 100000

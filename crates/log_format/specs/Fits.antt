@@ -8,7 +8,7 @@ use lib.Dec.{eqb, leb}
 use lib.ListN.{length, take, drop, replicate}
 use Rattle.base.specs.Lists.{all}
 use Rattle.rules.specs.Book.{Trade, bilateralForDay}
-use Rattle.rules.specs.Questions.{Question}
+use Rattle.rules.specs.Questions.{Question, numberOf, refusal}
 use Rattle.rules.specs.Reduction.{together}
 use Rattle.book_format.specs.Book.{tradeCount, tradesOf}
 use Rattle.log_format.specs.Log.{cutSize, entriesAt, entriesBytes, entriesOf, entriesRoom, entryAt, entryCount, entrySize, heldAt, heldLength, heldOf, heldRoom, logBytes, logHead, logMark, logMarkOf, logSize, logZero, mostEntries, padded}
@@ -88,6 +88,10 @@ logFits l s =
 unfoldable pub aboutLog : Option (List ℕ) → List ℕ → List Question
 aboutLog none s = []
 aboutLog (some l) s = record { number = 19; holds = logFits l s } ∷ []
+
+-- its number, 0 where it is answered by yes or not asked
+unfoldable pub logNumber : Option (List ℕ) → List ℕ → ℕ
+logNumber log s = numberOf (refusal (aboutLog log s))
 
 -- ---- the start of a log
 

@@ -4,3 +4,5 @@ pub mod Passed
 pub mod Plain
 pub mod Lines
 pub mod Cancellation
+pub mod Logged
+pub mod Emptied
