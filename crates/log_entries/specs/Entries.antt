@@ -5,7 +5,8 @@ use Prim.Native.Nat.{ℕ, _≤_, _<_}
 use lib.ListN.{length, getD, take, drop, set, replicate}
 use lib.Seq.{sets}
 use Rattle.laws_sales.specs.Parts.{part}
-use Rattle.log_format.specs.Log.{entriesAt, entryAt, entryBytes, entrySize, heldRoom, logHead, padded}
+use Rattle.fields.specs.Layout.{Every}
+use Rattle.log_format.specs.Log.{entriesAt, entriesBytes, entriesRoom, entryAt, entryBytes, entrySize, heldRoom, logHead, logSize, padded}
 
 -- an entry with cuts written at the places of their trades, one after the other
 unfoldable pub entered : List ℕ → List ℕ → List ℕ → List ℕ
@@ -40,3 +41,9 @@ pub record NotedAt (place : ℕ) (origins cuts : List ℕ) (from to : ℕ) (befo
   pub entry : List ℕ
   pub noted : Noted origins cuts from to (take entrySize (drop (entryAt place) before)) entry
   pub bytes : after ≡ sets before (entryAt place) entry
+
+-- bytes of a log's length have these entries, each of m cuts of 32 bits, and 0 behind them
+pub record EntriesIn (m : ℕ) (es : List (List ℕ)) (l : List ℕ) : Type 0 where
+  pub size : length l ≡ logSize
+  pub fit : Every (λ (cs : List ℕ). (length cs ≡ m) × Every (λ c. c < 4294967296) cs) es
+  pub bytes : drop entriesAt l ≡ padded entriesRoom (entriesBytes es)
