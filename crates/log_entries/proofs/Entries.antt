@@ -77,7 +77,7 @@ module _ {m : ℕ} (few : m ≤ 256) where
         → (cs : List ℕ) → entered (part from to origins) (part from to cuts) (replicate m 0) ≡ cs → EntryFits m cs → EntriesIn m (cs ∷ es) l'
     unfolding entriesBytes entryAt
     entry-noted n inside cs e f =
-        let long = length-replicate m 0 in
+        let long = length-replicate {A = ℕ} m 0 in
         let is-entry : n .entry ≡ entryBytes cs
         = n .noted .each (replicate m 0) (omega (arith, long)) (λ k j. omega (arith, inside k j, long)) (unused-none p h 1024 refl) ∙ ap entryBytes e in
         let at : 1024 * length es ≡ length (entriesBytes es) = sym (entries-end p) in

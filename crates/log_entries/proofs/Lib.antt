@@ -2,3 +2,4 @@
 pub mod Parts
 pub mod Cuts
 pub mod Entries
+pub mod Spread

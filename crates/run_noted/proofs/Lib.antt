@@ -1,0 +1,3 @@
+-- Laws of a run of as many reductions as a log has room for.
+pub mod Budget
+pub mod Rounds
