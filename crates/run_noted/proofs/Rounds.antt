@@ -13,6 +13,8 @@ use Rattle.cut_worth.specs.Totals.{totals}
 use Rattle.cut_worth.specs.declared.Tally.{Tally}
 use Rattle.cut_worth.specs.declared.Totals.{Totals}
 use Rattle.base.proofs.Fronts.{all-at}
+use Rattle.base.proofs.Linear.{by-order}
+use Rattle.book_format.proofs.Passed.{length-tradesOf}
 use Rattle.book_format.specs.Book.{bookOf, userCount}
 use Rattle.laws.proofs.Fuel.{run-answer}
 use Rattle.laws.proofs.Run.{reduced-law}
@@ -28,6 +30,7 @@ use Rattle.laws_sales.specs.Groups.{places}
 use Rattle.laws_sales.specs.Parts.{part}
 use Rattle.laws_sales.specs.Reduced.{ownCuts}
 use Rattle.laws_sales.specs.Sales.{ownSale}
+use Rattle.rules.specs.Areas.{Prices}
 use Rattle.rules.specs.Book.{Book, Party, User}
 use Rattle.rules.specs.Calls.{Answer, Result, nextReduced, ofRun, reduced, runFor}
 use Rattle.rules.specs.Levels.{Limits}
@@ -38,6 +41,9 @@ use Rattle.run_state.proofs.Stays.{Stays, party-stays, stays, users-many}
 use Rattle.run_state.specs.Asked.{memberAt}
 use Rattle.run_state.specs.Going.{Going, StandingIn}
 use Rattle.run_state.specs.Running.{NextFrom}
+use Rattle.run_reduction.proofs.Steps.{cut-within, part-few, part-rises, sales-in}
+use Rattle.run_reduction.specs.Reductions.{RunOf}
+use Rattle.run_turns.proofs.Turning.{reached-now}
 use Rattle.run_turns.proofs.Rounds.{RunTo, members, next, run-start, run-turn}
 use Rattle.run_turns.specs.Turns.{NoneCut, Ran, Turned}
 use Rattle.log_format.proofs.Noted.{start, noted-fit, reduction-noted}
@@ -45,7 +51,7 @@ use Rattle.log_format.proofs.Parts.{EntryFits}
 use Rattle.log_format.specs.Noted.{entryOf, noted}
 use Rattle.log_entries.proofs.Entries.{entry-noted}
 use Rattle.log_entries.proofs.Spread.{spread-entered}
-use Rattle.log_entries.specs.Entries.{EntriesIn, NotedAt, entered}
+use Rattle.log_entries.specs.Entries.{EntriesIn, Notable, NotedAt, entered}
 use Rattle.run_noted.proofs.Budget.{budget-spent, budget-stops, budget-turn, noted-spent, noted-stops, noted-turn, same-totals}
 use Rattle.run_noted.specs.Noted.{NotedBy, OriginsIn}
 
@@ -66,6 +72,28 @@ module _ (limits : Limits) (b : Book) (u : User) where
       let there = noted-fit (reduction-noted limits u (start sound)) in
       let long = pairs-length (framed (reduced-law limits b u sound .lowered)) ∙ same in
       subst (λ (m : ℕ). EntryFits m (entryOf limits b u)) long (there .0)
+
+-- the cuts that a turn leaves can be noted
+module _ {limits : Limits} {f : Prices} {s sums ss areaCodes bs : List ℕ} (q : RunOf limits f s sums ss areaCodes bs) where
+  pub few-trades : length (bookOf s .trades) ≤ 256
+  unfolding bookOf
+  few-trades = omega (arith, length-tradesOf s, q .form .trades)
+
+  pub cuts-notable : {place : ℕ} (inside : place < userCount s) {b : Book} {ns ps ts : List ℕ} {es : List Bool} → Going limits (bookOf s) b ns ps ts es → {origins ws : List ℕ}
+      → OriginsIn (bookOf s) ss origins → length ws ≡ 256 → part (getD ss place 0) (getD ss (place + 1) 0) ws ≡ ownCuts b (memberAt b place) (target limits b (memberAt b place))
+      → Notable origins ws (getD ss place 0) (getD ss (place + 1) 0)
+  cuts-notable {place} inside {b} h {origins} {ws} at room own =
+      let now = reached-now h in
+      record {
+        rising = part-rises q inside;
+        few = part-few q inside;
+        origins-room = at .room;
+        cuts-room = room;
+        small = λ k l m. omega (arith, cut-within q inside now (target limits b (memberAt b place)) ws own k l m, sales-in q inside now .standing-most k l m);
+      }
+
+pub room-left : {have : ℕ} → have ≤ 256 → (have ≡ 256 → ⊥) → have < 256
+room-left {have} h n = by-order have 256 (λ l. l) (λ l. absurd (n (omega arith)))
 
 -- ---- so far
 
