@@ -15,7 +15,7 @@ ghost use Rattle.run_state.specs.Running.{wholeRun};
 // ---- what was lost
 
 // Copies what stands of the first `count` sales.
-fn copy_sales(standing: &[u64; 256], left: &mut [u64; 256], count: usize)
+pub fn copy_sales(standing: &[u64; 256], left: &mut [u64; 256], count: usize)
     requires { ⌜ (count ≤ 256) × (length (now standing) ≡ 256) × (length (now left) ≡ 256) ⌝ }
     ensures { λ _. ⌜ (take count (now (left .exit)) ≡ take count (now (standing .entry))) × (length (now (left .exit)) ≡ 256) ⌝ }
 {
@@ -27,7 +27,7 @@ fn copy_sales(standing: &[u64; 256], left: &mut [u64; 256], count: usize)
 }
 
 // Puts what the first `count` sales have lost in the place of what is left of them.
-fn lost_of(standing: &[u64; 256], left: &mut [u64; 256], count: usize)
+pub fn lost_of(standing: &[u64; 256], left: &mut [u64; 256], count: usize)
     requires { ⌜ LeftOf (now standing) (now left) count ⌝ }
     ensures { λ _. ⌜ LostOf (now (standing .entry)) (now (left .entry)) (now (left .exit)) count ⌝ }
 {

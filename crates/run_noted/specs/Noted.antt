@@ -10,6 +10,7 @@ use Rattle.rules.specs.Book.{Book, User}
 use Rattle.rules.specs.Calls.{nextReduced, runFor}
 use Rattle.rules.specs.Levels.{Limits}
 use Rattle.run_state.specs.Asked.{memberAt}
+use Rattle.run_book.specs.Books.{RanIn}
 use Rattle.run_turns.specs.Turns.{Ran}
 use Rattle.laws_sales.specs.Groups.{places}
 use Rattle.laws_sales.specs.Parts.{part}
@@ -26,6 +27,16 @@ pub record OriginsIn (b : Book) (ss origins : List ℕ) : Type 0 where
 -- before and after, with their number
 pub record NotedBy (limits : Limits) (o : Book) (count : ℕ) (l l' ns : List ℕ) (totals : Totals) (many : ℕ) (due : Bool) : Type 0 where
   pub ran : Ran (runFor limits (mostEntries - count) o) o ns totals
+  pub rest : due ≡ false → nextReduced limits (runFor limits (mostEntries - count) o .book) (runFor limits (mostEntries - count) o .book .users) ≡ none
+  pub next : User
+  pub more : due ≡ true → nextReduced limits (runFor limits (mostEntries - count) o .book) (runFor limits (mostEntries - count) o .book .users) ≡ some next
+  pub size : length l' ≡ length l
+  pub entries : (es : List (List ℕ)) → EntriesIn (length (o .trades)) es l → length es ≡ count
+      → EntriesIn (length (o .trades)) (noted limits (mostEntries - count) o es) l' × (many ≡ length (noted limits (mostEntries - count) o es))
+
+-- the same in bytes, which hold the run's book
+pub record NotedIn (limits : Limits) (o : Book) (count : ℕ) (l l' s : List ℕ) (totals : Totals) (many : ℕ) (due : Bool) : Type 0 where
+  pub ran : RanIn (runFor limits (mostEntries - count) o) s totals
   pub rest : due ≡ false → nextReduced limits (runFor limits (mostEntries - count) o .book) (runFor limits (mostEntries - count) o .book .users) ≡ none
   pub next : User
   pub more : due ≡ true → nextReduced limits (runFor limits (mostEntries - count) o .book) (runFor limits (mostEntries - count) o .book .users) ≡ some next
