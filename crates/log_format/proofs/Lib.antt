@@ -2,7 +2,7 @@
 pub mod Padded
 pub mod Parts
 pub mod Written
-pub mod Read
 pub mod Raises
+pub mod Read
 pub mod Withdrawal
 pub mod Noted

@@ -1,24 +1,23 @@
 -- What a log holds that was written by the calls: the cuts, newest first, that led from one book to another. Withdrawing them all gives the first book, and their sums pass question 19. Assumes nothing.
 use mathlib.Core.List.{List, [], _∷_}
 use mathlib.Core.Option.{Option, none, some}
-use mathlib.Core.Path.{_≡_, refl, sym, ap, subst, _∙_}
-use Prim.Native.Nat.{ℕ, zero, suc, _+_, _≤_, _<_}
+use mathlib.Core.Path.{_≡_, refl, sym, ap, subst}
+use Prim.Native.Nat.{ℕ, zero, suc, _≤_}
 use native.Mathlib.Omega.{arith}
 use lib.Dec.{T, leb, leb→le}
-use lib.ListN.{length, replicate}
+use lib.ListN.{length}
 use Rattle.base.proofs.Tests.{and-l, and-r}
 use Rattle.base.specs.Lists.{all}
 use Rattle.fields.specs.Layout.{Every}
 use Rattle.laws.proofs.Cuts.{cuts-within-by, eligible-is}
 use Rattle.laws.proofs.Main.{cuts-eligible}
 use Rattle.laws.proofs.Reduction.{cut-le, cuts-lowered, cuts-sound}
-use Rattle.laws.proofs.Run.{reduced-law}
 use Rattle.laws.proofs.Settle.{pairs-length}
 use Rattle.laws.proofs.Trades.{framed}
 use Rattle.laws.specs.Sound.{Sound}
 use Rattle.laws.specs.Trades.{cutWithin, cutsWithin}
 use Rattle.rules.specs.Book.{Book, Trade, User, bilateralForDay}
-use Rattle.rules.specs.Calls.{Result, nextReduced, onward, reduced, reducedBy, runFor}
+use Rattle.rules.specs.Calls.{nextReduced, onward, reduced, reducedBy, runFor}
 use Rattle.rules.specs.Levels.{Limits}
 use Rattle.rules.specs.Questions.{amountsValid, codesValid, partiesValid, tradeValid}
 use Rattle.rules.specs.Reduction.{cutAll, cuts, eligible, target, withTrades}

@@ -1,18 +1,18 @@
 -- A log part by part: its 12 first bytes, the held book with its zeros, the entries with theirs. The parts make the log, and the log has the parts. Assumes nothing.
 use mathlib.Core.List.{List, [], _∷_, _++_}
 use mathlib.Core.Path.{_≡_, refl, sym, ap, ap₂, subst, _∙_}
-use Prim.Native.Nat.{ℕ, zero, suc, _+_, _-_, _*_, _^_, _≤_, _<_}
+use Prim.Native.Nat.{ℕ, zero, _+_, _-_, _*_, _≤_, _<_}
 use native.Mathlib.Omega.{arith}
-use lib.ListN.{length, getD, take, drop, length-append, length-drop, take-append-drop}
-use lib.Seq.{drop-at, drop-drop, length-take-le, take-at, take-take}
-use Rattle.fields.proofs.Field.{all-bytes-append, all-bytes-toBytes, fromBytes-toBytes, length-toBytes, toBytes-fromBytes}
+use lib.ListN.{length, getD, take, drop, length-append, take-append-drop}
+use lib.Seq.{drop-at, drop-drop, take-at, take-take}
+use Rattle.fields.proofs.Field.{all-bytes-append, all-bytes-toBytes, length-toBytes}
 use Rattle.fields.proofs.Pack.{all-bytes-pack, fieldsAt-pack, length-pack, pack-fieldsAt}
-use Rattle.fields.proofs.Records.{length-bytesOfRecords, mul-suc-front}
-use Rattle.fields.specs.Field.{AllBytes, field, fromBytes, toBytes}
-use Rattle.fields.specs.Layout.{Every, FitAll, bytesOfRecords, fieldsAt, pack, size}
+use Rattle.fields.proofs.Records.{length-bytesOfRecords}
+use Rattle.fields.specs.Field.{AllBytes, toBytes}
+use Rattle.fields.specs.Layout.{Every, bytesOfRecords, fieldsAt, pack, size}
 use Rattle.log_format.proofs.Padded.{all-bytes-padded, length-padded, take-padded}
 use Rattle.log_format.specs.Fits.{LogOf}
-use Rattle.log_format.specs.Log.{cutBytes, entriesAt, entriesBytes, entriesRoom, entryBytes, entryCount, entrySize, heldAt, heldLength, heldOf, heldRoom, logBytes, logHead, logMark, logMarkOf, logSize, logZero, mostEntries, padded}
+use Rattle.log_format.specs.Log.{cutBytes, entriesBytes, entriesRoom, entryBytes, entryCount, heldAt, heldLength, heldOf, heldRoom, logBytes, logHead, logMark, logMarkOf, logZero, padded}
 
 -- ---- the first 12 bytes
 

@@ -1,25 +1,26 @@
 -- A log that passes question 19 is the log of its entries and its book, part by part: what the writers start from. And what its entries and cuts are, one by one. Assumes nothing.
-use mathlib.Core.Bool.{Bool, true, false, _&&_}
 use mathlib.Core.List.{List, [], _∷_, _++_}
 use mathlib.Core.Path.{_≡_, refl, sym, ap, ap₂, subst, _∙_}
 use Prim.Native.Nat.{ℕ, zero, suc, _+_, _-_, _*_, _≤_, _<_}
 use native.Mathlib.Omega.{arith}
-use lib.Dec.{T, eqb, eqb→eq, leb, leb→le}
-use lib.ListN.{length, getD, take, drop, replicate, length-drop, length-replicate}
+use lib.Dec.{T, eqb, eqb→eq, leb, leb→le, ltb}
+use lib.ListN.{length, getD, take, drop, length-drop, length-replicate}
 use lib.Seq.{drop-drop, length-take-le, take-add, take-all, take-take}
 use Rattle.base.proofs.Tests.{and-l, and-r}
-use Rattle.base.specs.Sums.{sum}
 use Rattle.fields.proofs.Field.{all-bytes-drop, all-bytes-take, field-lt, field-part, toBytes-field}
 use Rattle.fields.proofs.Records.{bytesOfRecords-recordsOf, getD-recordsOf, length-recordsOf, mul-suc-front}
 use Rattle.fields.proofs.Sets.{take-of-drop}
 use Rattle.fields.specs.Field.{AllBytes, field, toBytes}
 use Rattle.fields.specs.Layout.{Every, EveryPart, bytesOfRecords, recordsOf}
+use Rattle.rules.specs.Book.{Trade}
 use Rattle.rules.specs.Reduction.{together}
 use Rattle.book_format.specs.Book.{tradeCount, tradesOf}
 use Rattle.log_format.proofs.Padded.{padded-of}
 use Rattle.log_format.proofs.Parts.{EntryFits, Headed, head-made}
+use Rattle.log_format.proofs.Raises.{raises-first}
 use Rattle.log_format.specs.Fits.{LogOf, allCuts, cutsRest, entriesRest, heldRest, holdsBook, logFits, logFormed, raisesWithin, restsZero, sameBytes, unusedZero, zeros}
-use Rattle.log_format.specs.Log.{cutBytes, cutSize, cutsAt, entriesAt, entriesBytes, entriesIn, entriesOf, entriesRoom, entryAt, entryBytes, entryCount, entrySize, heldAt, heldLength, heldOf, heldRoom, logMark, logMarkOf, logSize, logZero, mostEntries, padded}
+use Rattle.log_format.specs.Log.{cutBytes, cutSize, cutsAt, entriesAt, entriesBytes, entriesIn, entriesOf, entryAt, entryBytes, entryCount, entrySize, heldAt, heldLength, heldOf, heldRoom, logMark, logMarkOf, logSize, logZero, mostEntries, padded}
+use Rattle.log_format.specs.Noted.{lastEntry}
 
 -- ---- entries and cuts, one by one
 
@@ -196,3 +197,12 @@ fits-logged {l} {s} b k h =
       held = padded-of n y (omega (arith, f .room)) (subst (λ (v : List ℕ). T (zeros v)) (sym rest) (f .rest)) ∙ ap₂ padded ylong book;
       entries = padded-of c z (omega (arith, f .count)) (subst (λ (v : List ℕ). T (zeros v)) (sym last) (f .unused)) ∙ ap₂ padded zlong (entries-written k l b (f .size) (entryCount l) (f .count) (f .rests));
     }
+
+-- ---- the last entry
+
+-- where all entries fit a book's trades, the last one can be withdrawn
+pub last-within : (m n : ℕ) (l : List ℕ) (ts : List Trade) → T (ltb 0 (length (entriesIn m n l))) → T (raisesWithin (allCuts m (entriesIn m n l)) ts) → T (raisesWithin (lastEntry (entriesIn m n l)) ts)
+unfolding entriesIn lastEntry allCuts
+last-within m zero l ts k h = absurd k
+last-within m (suc n) l ts k h =
+    raises-first (cutsAt m l n) (allCuts m (entriesIn m n l)) ts (length-all-cuts m l n ∙ sym (length-cuts-at m l n)) h

@@ -2,7 +2,7 @@
 use mathlib.Core.Bool.{Bool, true, false, not, _&&_, _||_}
 use mathlib.Core.List.{List, [], _∷_, map, map-map}
 use mathlib.Core.Path.{_≡_, refl, sym, ap, ap₂, subst, _∙_}
-use Prim.Native.Nat.{ℕ, _+_, _-_, _*_, _≤_}
+use Prim.Native.Nat.{ℕ, _+_, _-_}
 use native.Mathlib.Omega.{arith}
 use lib.Dec.{T, T-not, eqb, eqb→eq, leb}
 use lib.IntN.{ℤ, pos, negℤ, _+ℤ_}
@@ -19,7 +19,7 @@ use Rattle.laws.proofs.Trades.{framed, framed-refl, left-mwh, left-trans, left-
 use Rattle.laws.specs.Books.{anew, repositioned}
 use Rattle.laws.specs.Sound.{Sound}
 use Rattle.laws.specs.Trades.{ended, then, Framed, Pairwise, cutWithin, cutsWithin, leftMwh, leftWorth}
-use Rattle.rules.specs.Areas.{Prices, tariff}
+use Rattle.rules.specs.Areas.{Prices}
 use Rattle.rules.specs.Book.{Book, Terms, Trade, User, at, bilateralForDay, definedPosition}
 use Rattle.rules.specs.Questions.{amountsValid, codesValid, partiesValid, positionsValid, tradeValid}
 use Rattle.rules.specs.Reduction.{Tally, cutAll, cutBy, nothing, tallied, tallyAll, withTrades}

@@ -1,11 +1,11 @@
 -- A log that is written reads back: its entries are those that were written, it passes question 19 for the book that it holds, and so do the logs that calls leave. Assumes nothing.
-use mathlib.Core.Bool.{Bool, true, false, _&&_}
+use mathlib.Core.Bool.{_&&_}
 use mathlib.Core.List.{List, [], _∷_, _++_, append-assoc}
 use mathlib.Core.Path.{_≡_, refl, sym, ap, ap₂, subst, _∙_}
-use Prim.Native.Nat.{ℕ, zero, suc, _+_, _-_, _*_, _≤_, _<_}
+use Prim.Native.Nat.{ℕ, zero, _+_, _-_, _*_, _≤_, _<_}
 use native.Mathlib.Omega.{arith}
 use lib.Dec.{T, eqb, eqb-refl, leb, le→leb}
-use lib.ListN.{length, take, drop, replicate, length-append, length-drop, length-replicate}
+use lib.ListN.{length, take, drop, replicate, length-replicate}
 use lib.Seq.{drop-at, drop-drop, take-all, take-at}
 use Rattle.base.proofs.Tests.{and-i, eqb-of}
 use Rattle.fields.proofs.Field.{fromBytes-toBytes, length-toBytes}
@@ -14,8 +14,8 @@ use Rattle.fields.proofs.Sets.{take-of-drop}
 use Rattle.fields.specs.Field.{field, fromBytes, toBytes}
 use Rattle.fields.specs.Layout.{Every, bytesOfRecords, recordsOf}
 use Rattle.book_format.specs.Book.{tradeCount, tradesOf}
-use Rattle.log_format.proofs.Padded.{drop-padded, take-replicate, zeros-replicate}
-use Rattle.log_format.proofs.Parts.{EntryFits, length-cuts, length-entries, length-entry, logged-head, logged-held, logged-length}
+use Rattle.log_format.proofs.Padded.{drop-padded, zeros-replicate}
+use Rattle.log_format.proofs.Parts.{EntryFits, length-cuts, length-entries, logged-head, logged-held, logged-length}
 use Rattle.log_format.specs.Fits.{LogOf, allCuts, cutsRest, entriesRest, heldRest, holdsBook, logFits, logFormed, raisesWithin, restsZero, sameBytes, unusedZero, zeros}
 use Rattle.log_format.specs.Log.{cutBytes, cutSize, cutsAt, entriesAt, entriesBytes, entriesIn, entriesOf, entriesRoom, entryAt, entryBytes, entryCount, entrySize, heldAt, heldLength, heldOf, heldRoom, logMark, logMarkOf, logSize, logZero, mostEntries, padded}
 

@@ -1,6 +1,6 @@
 -- A posting, a guarantee call and a list of postings with a lent log, given or not: from the inner call, which knows of no log, and the log that is emptied where it is accepted. Assumes nothing.
-use mathlib.Core.Bool.{Bool, cond, true, false}
-use mathlib.Core.List.{List, [], _∷_, _++_, append-nil}
+use mathlib.Core.Bool.{Bool, true, false}
+use mathlib.Core.List.{List, [], _++_, append-nil}
 use mathlib.Core.Option.{Option, none, some}
 use mathlib.Core.Path.{_≡_, _∙_, ap, refl, subst, sym}
 use Prim.Native.Nat.{ℕ, suc, zero}
@@ -11,41 +11,22 @@ use lib.ListN.{length}
 use Rattle.base.specs.Lists.{all}
 use Rattle.laws.proofs.Refusals.{numbered, refusal-is}
 use Rattle.rules.specs.Book.{Book}
-use Rattle.rules.specs.Calls.{
-  posting,
-  morningCall,
-  afternoonCall,
-  reduction,
-  run,
-  Answer,
-  Call,
-  Result,
-  about,
-  assignedFallsShort,
-  assignedSuffices,
-  calledInBeyondMargin,
-  effect,
-  eligibleTrade,
-  entryInRange,
-  guaranteed,
-  idKnown,
-  isShipper,
-  marginExceeded,
-  ofLevel,
-  only,
-}
+use Rattle.rules.specs.Calls.{posting, morningCall, afternoonCall, reduction, run, Answer, Call, about, assignedFallsShort, assignedSuffices, calledInBeyondMargin, effect, eligibleTrade, entryInRange, guaranteed, idKnown, isShipper, marginExceeded, ofLevel, only}
 use Rattle.rules.specs.Levels.{Limits}
-use Rattle.rules.specs.Questions.{Question, decided, numberOf, refusal}
+use Rattle.rules.specs.Questions.{Question, decided, refusal}
 use Rattle.book_format.specs.After.{CalledAfter, after, stepAfter, unchanged}
 use Rattle.book_format.specs.Book.{bookOf, bytesOf}
 use Rattle.book_format.specs.Steps.{InBytes, inBytes}
 use Rattle.store.specs.Store.{given}
+use Rattle.log_format.specs.Fits.{logNumber}
 use Rattle.log_format.specs.Log.{entriesOf, logBytes}
 use Rattle.log_format.specs.Noted.{Entered, callEntered, emptying, lastly, room}
 use Rattle.requests.proofs.Lines.{lines-answer, list-opened}
-use Rattle.requests.proofs.Logged.{actLent, lines-log, lines-without, list-logged, logged-call, logged-without}
-use Rattle.requests.specs.Logged.{AdmittedWith, Logged, Posted, emptiedBy, lentLog, linesNumberWith, listWith, loggedAfter}
-use Rattle.requests.specs.Request.{call, Lines, Outcome, Setting, emptiedIn, enteredIn, linesIn, linesOf, refused, refusedWith, request, settingOf}
+use Rattle.requests.proofs.Logged.{actLent, call-logged, lines-log, lines-without, list-logged, logged-call, logged-without, with-number, without-number}
+use Rattle.requests.proofs.Opened.{outcome, request-opened}
+use Rattle.requests.specs.Carried.{Carried}
+use Rattle.requests.specs.Logged.{AdmittedWith, Logged, Posted, emptiedBy, lentLog, linesNumberWith, listWith, loggedAfter, openingNumberWith}
+use Rattle.requests.specs.Request.{call, Lines, Outcome, Setting, callIn, emptiedIn, enteredIn, limitsOn, linesIn, linesOf, openingNumber, refused, refusedWith, request, settingOf}
 
 -- no question of a call has the number 0
 pub about-numbered : (limits : Limits) (b : Book) (c : Call) → T (numbered (about limits b c))
@@ -181,3 +162,56 @@ module _ (store : Option (List ℕ)) (ids areas : List ℕ) (amounts : List ℤ)
         };
         beside = p ∙ by-numbers number lent ∙ ap (λ (o : Outcome). after number (λ n. places) (o .numbers)) (sym whole);
       }
+
+-- ---- an accepted call that empties the log answers and leaves the book as without one
+
+-- who passes the opening questions with a log passes those without it
+pub with-opening : (g : Setting) (log : Option (List ℕ)) (s : List ℕ) → openingNumberWith g log s ≡ 0 → openingNumber g s ≡ 0
+unfolding after
+with-opening g log s h = go (openingNumber g s) (logNumber log s) (sym (with-number g log s) ∙ h)
+  where
+    go : (n k : ℕ) → after n (λ i. i) k ≡ 0 → n ≡ 0
+    go zero k e = refl
+    go (suc n) k e = absurd (omega arith)
+
+module _ {c : Call} (e : Empties c) (g : Setting) (s : List ℕ) where
+  abbrev stepWith : Option (List ℕ) → InBytes
+  stepWith log = stepAfter (openingNumberWith g log s) (limitsOn g (bookOf s)) s c
+
+  -- the inner call after the opening questions
+  emptied-step : (log : Option (List ℕ)) → (request (actLent g log (call c)) s .answer ≡ stepWith log .answer) × (request (actLent g log (call c)) s .bytes ≡ stepWith log .bytes)
+  unfolding outcome withEmptied
+  emptied-step none =
+      let k = request-opened g s c ∙ ap (λ (n : ℕ). outcome (stepAfter n (limitsOn g (bookOf s)) s c)) (sym (without-number g s)) in
+      (ap (λ (o : Outcome). o .answer) k, ap (λ (o : Outcome). o .bytes) k)
+  emptied-step (some l) =
+      let k = call-logged g l s c ∙ emptied-after e (openingNumberWith g (some l) s) (limitsOn g (bookOf s)) l s in
+      (ap (λ (o : Outcome). o .answer) k, ap (λ (o : Outcome). o .bytes) k)
+
+  module _ {log : Option (List ℕ)} {a : Answer} {t : List ℕ} where
+    -- an accepted one passed its opening questions
+    pub accepted-with : Carried (actLent g log (call c)) s a t → a .number ≡ 0 → openingNumberWith g log s ≡ 0
+    unfolding stepAfter after unchanged only
+    accepted-with k h = go (openingNumberWith g log s) refl
+      where
+        go : (n : ℕ) → openingNumberWith g log s ≡ n → n ≡ 0
+        go zero i = refl
+        go (suc n) i =
+            absurd (let x : _≡_ {A = ℕ} 0 (suc n) = sym h ∙ ap (λ (r : Answer). r .number) (k .answer ∙ emptied-step log .0 ∙ ap (λ (m : ℕ). stepAfter m (limitsOn g (bookOf s)) s c .answer) i) in omega arith)
+
+    -- with its log and without it
+    pub log-off : openingNumberWith g log s ≡ 0 → Carried (actLent g log (call c)) s a t → Carried (callIn g c) s a t
+    log-off h k =
+        let n : openingNumberWith g log s ≡ openingNumberWith g none s = h ∙ sym (without-number g s ∙ with-opening g log s h) in
+        record {
+          answer = k .answer ∙ emptied-step log .0 ∙ ap (λ (m : ℕ). stepAfter m (limitsOn g (bookOf s)) s c .answer) n ∙ sym (emptied-step none .0);
+          bytes = k .bytes ∙ emptied-step log .1 ∙ ap (λ (m : ℕ). stepAfter m (limitsOn g (bookOf s)) s c .bytes) n ∙ sym (emptied-step none .1);
+        }
+
+    pub log-on : openingNumberWith g log s ≡ 0 → Carried (callIn g c) s a t → Carried (actLent g log (call c)) s a t
+    log-on h k =
+        let n : openingNumberWith g none s ≡ openingNumberWith g log s = without-number g s ∙ with-opening g log s h ∙ sym h in
+        record {
+          answer = k .answer ∙ emptied-step none .0 ∙ ap (λ (m : ℕ). stepAfter m (limitsOn g (bookOf s)) s c .answer) n ∙ sym (emptied-step log .0);
+          bytes = k .bytes ∙ emptied-step none .1 ∙ ap (λ (m : ℕ). stepAfter m (limitsOn g (bookOf s)) s c .bytes) n ∙ sym (emptied-step log .1);
+        }

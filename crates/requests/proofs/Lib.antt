@@ -6,3 +6,4 @@ pub mod Lines
 pub mod Cancellation
 pub mod Logged
 pub mod Emptied
+pub mod Accepted
