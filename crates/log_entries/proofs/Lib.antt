@@ -3,3 +3,4 @@ pub mod Parts
 pub mod Cuts
 pub mod Entries
 pub mod Spread
+pub mod Fitting

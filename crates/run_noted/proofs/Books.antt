@@ -16,4 +16,4 @@ listed-origins l = record { room = l .room .origins-room; each = λ i k. own-ori
 
 pub noted-in : {limits : Limits} {o : Book} {count : ℕ} {l l' ns : List ℕ} {totals : Totals} {many : ℕ} {due : Bool} {s : List ℕ} → NotedBy limits o count l l' ns totals many due
     → RanIn (runFor limits (256 - count) o) s totals → NotedIn limits o count l l' s totals many due
-noted-in p r = record { ran = r; rest = p .rest; next = p .next; more = p .more; size = p .size; entries = p .entries }
+noted-in p r = record { ran = r; rest = p .rest; next = p .next; more = p .more; size = p .size; few = p .few; entries = p .entries }

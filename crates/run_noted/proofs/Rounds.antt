@@ -231,6 +231,7 @@ module _ {limits : Limits} {s : List ℕ} {n count : ℕ} {l₀ : List ℕ} (man
           next = memberAt b place;
           more = λ y. subst (λ (x : Book). nextReduced limits x (x .users) ≡ some (memberAt b place)) e (next many sound (p .run) (more y .0));
           size = p .size;
+          few = p .few;
           entries = λ xs h m.
               let z = p .entries xs h m in
               let all : z .now ≡ noted limits (256 - count) (bookOf s) xs

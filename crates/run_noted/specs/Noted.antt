@@ -3,7 +3,7 @@ use mathlib.Core.Bool.{Bool, true, false}
 use mathlib.Core.List.{List}
 use mathlib.Core.Option.{none, some}
 use mathlib.Core.Path.{_≡_}
-use Prim.Native.Nat.{ℕ, _+_, _-_, _<_}
+use Prim.Native.Nat.{ℕ, _+_, _-_, _<_, _≤_}
 use lib.ListN.{length, getD}
 use Rattle.cut_worth.specs.declared.Totals.{Totals}
 use Rattle.rules.specs.Book.{Book, User}
@@ -31,6 +31,7 @@ pub record NotedBy (limits : Limits) (o : Book) (count : ℕ) (l l' ns : List �
   pub next : User
   pub more : due ≡ true → nextReduced limits (runFor limits (mostEntries - count) o .book) (runFor limits (mostEntries - count) o .book .users) ≡ some next
   pub size : length l' ≡ length l
+  pub few : many ≤ mostEntries
   pub entries : (es : List (List ℕ)) → EntriesIn (length (o .trades)) es l → length es ≡ count
       → EntriesIn (length (o .trades)) (noted limits (mostEntries - count) o es) l' × (many ≡ length (noted limits (mostEntries - count) o es))
 
@@ -41,5 +42,6 @@ pub record NotedIn (limits : Limits) (o : Book) (count : ℕ) (l l' s : List ℕ
   pub next : User
   pub more : due ≡ true → nextReduced limits (runFor limits (mostEntries - count) o .book) (runFor limits (mostEntries - count) o .book .users) ≡ some next
   pub size : length l' ≡ length l
+  pub few : many ≤ mostEntries
   pub entries : (es : List (List ℕ)) → EntriesIn (length (o .trades)) es l → length es ≡ count
       → EntriesIn (length (o .trades)) (noted limits (mostEntries - count) o es) l' × (many ≡ length (noted limits (mostEntries - count) o es))

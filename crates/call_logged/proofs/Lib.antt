@@ -1,0 +1,2 @@
+-- The ways out of the calls with a log.
+pub mod Ways

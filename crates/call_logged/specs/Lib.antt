@@ -1,0 +1,2 @@
+-- What a call with a log gives, after its opening questions.
+pub mod Given
