@@ -1,0 +1,3 @@
+-- Laws of positions that move within a bound, and of trades that rise one after the other.
+pub mod Bounds
+pub mod Back
