@@ -95,6 +95,10 @@ cut-small us c t w v =
     let m : T (leb (t .terms .notified) 100000) = search (and-l, and-r) in
     omega (arith, leb→le (t .standing + c) (t .terms .notified) l, leb→le (t .terms .notified) 100000 m)
 
+pub cut-low : (b : Book) (cs : List ℕ) → Sound b → T (raisesWithin cs (b .trades)) → (k : ℕ) → k < length (b .trades) → getD cs k 0 ≤ 100000
+cut-low b cs s w k h =
+    cut-small (b .users) (getD cs k 0) (getD (b .trades) k noTrade) (within-there cs (b .trades) k w h) (all-at (tradeValid (b .users)) (b .trades) (s .trades) k noTrade h)
+
 -- the trades of two lists, the first of the one and the rest of the other
 fronts-next : (ns ts : List Trade) (k : ℕ) → k < length ts → length ns ≡ length ts
     → (getD (take k ns ++ drop k ts) k noTrade ≡ getD ts k noTrade) × (set (take k ns ++ drop k ts) k (getD ns k noTrade) ≡ take (k + 1) ns ++ drop (k + 1) ts)

@@ -1,15 +1,20 @@
 // The cuts of a log's entry given back in the bytes of a book: what stands of each trade rises by its cut, the seller's position falls and
 // the buyer's rises by it.
 use book_records::Trade;
+use cut_worth::Tally;
+use units::Prices;
 ghost use mathlib.Core.Path.{_≡_};
 ghost use Prim.Native.Nat.{_≤_};
 ghost use lib.Dec.{T};
 ghost use lib.ListN.{length};
 ghost use Rattle.book_format.specs.Book.{bookOf, tradeCount, tradesAt, usersOf};
-ghost use Rattle.book_format.specs.Held.{HeldAs};
+ghost use Rattle.book_format.specs.Held.{Accepted, HeldAs};
 ghost use Rattle.book_parties.specs.Ids.{BookIn};
 ghost use Rattle.book_records.specs.Trade.{asTrade};
+ghost use Rattle.cut_worth.specs.Tallies.{asTally};
 ghost use Rattle.rules.specs.Changes.{withUsers};
+ghost use Rattle.rules.specs.Reduction.{nothing, tallyAll};
+ghost use Rattle.units.specs.Prices.{asPrices, InRange};
 ghost use Rattle.log_format.specs.Fits.{raisesWithin};
 ghost use Rattle.log_format.specs.Withdrawal.{raiseBy, withdrawn};
 ghost use Rattle.log_questions.specs.Form.{cutsFrom};
@@ -73,4 +78,27 @@ pub fn give_back(
         give_back_at(book, at, seller, buyer, k, cut);
         k += 1;
     }
+}
+
+// The MWh and the worth of an entry's cuts, of a book of m trades, which begin at `at`.
+pub fn tally(
+    book: &[u8],
+    at: usize,
+    m: usize,
+    entry: &[u8],
+    prices: Prices,
+) -> Tally
+    requires { ⌜ Accepted (now book) × (at ≡ tradesAt (now book)) × (m ≡ tradeCount (now book)) × InRange (asPrices prices) ⌝ }
+    requires { ⌜ (1024 ≤ length (now entry)) × T (raisesWithin (cutsFrom m 0 (now entry)) (bookOf (now book) .trades)) ⌝ }
+    ensures { λ r. ⌜ asTally r ≡ tallyAll (asPrices prices) (cutsFrom m 0 (now (entry .entry))) (bookOf (now (book .entry)) .trades) nothing ⌝ }
+{
+    let mut so_far = Tally::none();
+    let mut k = 0;
+    while k < m {
+        let cut = fields::get_u32(entry, 4 * k) as u64;
+        let t = book_format::trade_at(book, at, k);
+        so_far = cut_tiers::tally_with(so_far, cut, t.area, prices);
+        k += 1;
+    }
+    so_far
 }
