@@ -1,10 +1,12 @@
+-- `not_withdrawn` has the fields of its answer, and 0 in the others. Assumes nothing.
+use mathlib.Core.Path.{refl}
+use Rattle.rules.specs.Calls.{only}
 use Rattle.call_logged.proofs.not_withdrawn.Statement.{statement}
 use Rattle.call_logged.proofs.not_withdrawn.Tie as tie
-use Rattle.call_logged.proofs.not_withdrawn.Reads as reads
-use Rattle.call_logged.proofs.not_withdrawn.Lts as lts
 
 returns : tie.Need-returns
-returns c = ?
+unfolding only
+returns c = refl
 
 pub not-withdrawn-spec : {M : Type 1} → statement M
 not-withdrawn-spec = tie.close (tie.spec returns)
