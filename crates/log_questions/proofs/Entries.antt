@@ -61,12 +61,11 @@ module _ (m : ℕ) (l : List ℕ) (few : m ≤ 256) where
   -- none is left
   pub summed-end : {so-far : Bool} {xs : List ℕ} {place count : ℕ} → SummedTo m l so-far xs place → place ≡ count → count ≤ 256
       → (so-far ≡ restsZero m count l) × (take m xs ≡ allCuts m (entriesIn m count l)) × Sums xs 1099511627776
-  summed-end {so-far} {xs} p e few256 =
-      (
-        p .rests ∙ ap (λ (n : ℕ). restsZero m n l) e,
-        p .sums ∙ ap (λ (n : ℕ). allCuts m (entriesIn m n l)) e,
-        record { room = p .within .room; each = λ k. omega (arith, p .within .each k) },
-      )
+  summed-end {so-far} {xs} p e few256 = (
+    p .rests ∙ ap (λ (n : ℕ). restsZero m n l) e,
+    p .sums ∙ ap (λ (n : ℕ). allCuts m (entriesIn m n l)) e,
+    record { room = p .within .room; each = λ k. omega (arith, p .within .each k) },
+  )
 
 -- ---- each trade with what is cut of it
 

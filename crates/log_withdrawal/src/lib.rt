@@ -81,13 +81,7 @@ pub fn give_back(
 }
 
 // The MWh and the worth of an entry's cuts, of a book of m trades, which begin at `at`.
-pub fn tally(
-    book: &[u8],
-    at: usize,
-    m: usize,
-    entry: &[u8],
-    prices: Prices,
-) -> Tally
+pub fn tally(book: &[u8], at: usize, m: usize, entry: &[u8], prices: Prices) -> Tally
     requires { ⌜ Accepted (now book) × (at ≡ tradesAt (now book)) × (m ≡ tradeCount (now book)) × InRange (asPrices prices) ⌝ }
     requires { ⌜ (1024 ≤ length (now entry)) × T (raisesWithin (cutsFrom m 0 (now entry)) (bookOf (now book) .trades)) ⌝ }
     ensures { λ r. ⌜ asTally r ≡ tallyAll (asPrices prices) (cutsFrom m 0 (now (entry .entry))) (bookOf (now (book .entry)) .trades) nothing ⌝ }

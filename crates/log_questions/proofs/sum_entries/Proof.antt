@@ -54,7 +54,7 @@ returns c =
 pub sum-entries-spec : {M : Type 1} → statement M
 sum-entries-spec =
     tie.close
-    (tie.spec Inv-loop μ-loop loop-holds entry-offset-requires add-cuts-requires 
+    (tie.spec Inv-loop μ-loop loop-holds entry-offset-requires add-cuts-requires
     (λ c. omega (arith, c .before .before .entry-offset .ensures .1, c .before .before .before .loop-test .taken, c .before .before .before .before .before .before .pre .0 .2, c .before .before .before .before .before .before .pre .0 .1, c .before .before .before .before .before .before .pre .0 .0 .size))
     (λ c. omega (arith, c .before .before .entry-offset .ensures .1, c .before .before .before .loop-test .taken, c .before .before .before .before .before .before .pre .0 .2, c .before .before .before .before .before .before .pre .0 .1, c .before .before .before .before .before .before .pre .0 .0 .size))
     (λ c. omega (arith, c .before .before .entry-offset .ensures .1, c .before .before .before .loop-test .taken, c .before .before .before .before .before .before .pre .0 .2, c .before .before .before .before .before .before .pre .0 .1, c .before .before .before .before .before .before .pre .0 .0 .size))
