@@ -14,7 +14,7 @@ use Rattle.book_format.specs.Book.{bookOf, bytesOf, tradeCount, tradesOf}
 use Rattle.book_format.specs.Held.{HeldAs}
 use Rattle.cut_worth.specs.Tallies.{asTally}
 use Rattle.cut_worth.specs.declared.Tally.{Tally}
-use Rattle.fields.proofs.Records.{mul-suc-front}
+use Rattle.fields.proofs.Records.{length-recordsOf, mul-suc-front}
 use Rattle.fields.proofs.Sets.{take-of-drop}
 use Rattle.fields.specs.Field.{AllBytes, field}
 use Rattle.fields.specs.Layout.{recordsOf}
@@ -22,7 +22,7 @@ use Rattle.log_entries.proofs.Entries.{entry-dropped, log-sealed}
 use Rattle.log_entries.proofs.Fitting.{fitting-entries}
 use Rattle.log_entries.specs.Entries.{EntriesIn, cleared, sealed}
 use Rattle.log_format.proofs.Raises.{raises-first}
-use Rattle.log_format.proofs.Read.{fits-facts, length-all-cuts, length-cuts-at, length-entries-in}
+use Rattle.log_format.proofs.Read.{fits-facts, length-all-cuts, length-entries-in}
 use Rattle.log_format.specs.Fits.{allCuts, logFits, raisesWithin}
 use Rattle.log_format.specs.Log.{cutsAt, entriesIn, entriesOf, entryAt, entryCount, entrySize, logBytes}
 use Rattle.log_format.specs.Noted.{Entered, beforeLast, hasEntry, lastEntry, withdrawalEntered}
@@ -99,11 +99,16 @@ module _ (l s : List ℕ) (b : AllBytes l) (few : tradeCount s ≤ 256) (h : T (
       ap₂ (λ (i : ℕ) (x : List ℕ). recordsOf 4 (field 4 0) i x) k (ap₂ (λ (i j : ℕ). take i (drop j l)) long f)
       ∙ records-front 4 (field 4 0) (tradeCount s) 1024 (drop (entryAt place) l) (omega arith)
 
+  -- a cut for each trade
+  cuts-many : length (cutsAt (tradeCount s) l place) ≡ tradeCount s
+  unfolding cutsAt
+  cuts-many = length-recordsOf 4 (field 4 0) (tradeCount s) (drop (entryAt place) l)
+
   -- it can be given back
   last-within : T (raisesWithin (cutsAt (tradeCount s) l place) (tradesOf s))
   unfolding allCuts
   last-within =
-      raises-first cuts (allCuts (tradeCount s) others) (tradesOf s) (length-all-cuts (tradeCount s) l place ∙ sym (length-cuts-at (tradeCount s) l place))
+      raises-first cuts (allCuts (tradeCount s) others) (tradesOf s) (length-all-cuts (tradeCount s) l place ∙ sym cuts-many)
       (subst (λ (es : List (List ℕ)). T (raisesWithin (allCuts (tradeCount s) es) (tradesOf s))) entries-are (fits-facts l s h .within))
 
   pub part-within : {from m : ℕ} → from ≡ entryAt place → m ≡ tradeCount s → T (raisesWithin (cutsFrom m 0 (take ((from + 1024) - from) (drop from l))) (bookOf s .trades))
