@@ -14,11 +14,10 @@ use Rattle.book_format.specs.Held.{HeldAs}
 use Rattle.laws.specs.Sound.{Sound}
 use Rattle.laws.specs.Trades.{Lowered, Pairwise, ended, then}
 use Rattle.rules.specs.Book.{Book, Trade, noTrade}
-use Rattle.rules.specs.Levels.{Limits}
+use Rattle.rules.specs.Calls.{Result}
 use Rattle.rules.specs.Reduction.{withTrades}
 use Rattle.run_state.proofs.Grouped.{standing-all}
 use Rattle.run_state.proofs.Stays.{Stays, parties-stay, stays}
-use Rattle.run_state.specs.Running.{wholeRun}
 use Rattle.run_turns.specs.Turns.{Ran}
 use Rattle.laws_sales.specs.Parts.{part}
 use Rattle.run_book.specs.Books.{LeftOf, LostOf, RanIn}
@@ -30,19 +29,16 @@ lowered-at ended i d = le-refl (d .standing)
 lowered-at (then p ps) zero d = p .lower
 lowered-at (then p ps) (suc i) d = lowered-at ps i d
 
-module _ {limits : Limits} {o : Book} (sound : Sound o) {ss origins ns areaCodes bs : List ℕ} {count : ℕ} (l : Listed o ss origins ns areaCodes bs count)
-    {ms : List ℕ} {r : Totals} (ran : Ran limits o ms r) where
-  abbrev end : Book
-  end = wholeRun limits o .book
+module _ {end : Result} {o : Book} (sound : Sound o) {ss origins ns areaCodes bs : List ℕ} {count : ℕ} (l : Listed o ss origins ns areaCodes bs count)
+    {ms : List ℕ} {r : Totals} (ran : Ran end o ms r) where
+  end-stays : Stays o (end .book)
+  end-stays = stays o (end .book) sound (ran .lowered) (ran .same)
 
-  end-stays : Stays o end
-  end-stays = stays o end sound (ran .lowered) (ran .same)
-
-  end-standing : StandingOf end ms count
+  end-standing : StandingOf (end .book) ms count
   end-standing = record { standing-are = ap (λ (n : ℕ). take n ms) (l .sales .all) ∙ standing-all end-stays (ran .standing) }
 
-  end-sales : SalesOf end ss origins areaCodes bs count
-  end-sales = sales-stay o end (end-stays .framed) (parties-stay end-stays) (l .sales)
+  end-sales : SalesOf (end .book) ss origins areaCodes bs count
+  end-sales = sales-stay o (end .book) (end-stays .framed) (parties-stay end-stays) (l .sales)
 
   -- what is left is no more than stood
   pub ran-left : LeftOf ns ms count
@@ -66,8 +62,8 @@ module _ {limits : Limits} {o : Book} (sound : Sound o) {ss origins ns areaCodes
         cuttable-part sound (l .sales) (l .standing) cs 0 count (omega arith) (omega arith) (omega (arith, l .sales .few, lost .room)) (λ k h m. omega (arith, lost .each k m))
 
     -- and gives the rules' book
-    pub ran-in : {s : List ℕ} → HeldAs (withTrades o (loweredAt (part 0 count origins) (part 0 count cs) (o .trades))) s → RanIn limits o s r
+    pub ran-in : {s : List ℕ} → HeldAs (withTrades o (loweredAt (part 0 count origins) (part 0 count cs) (o .trades))) s → RanIn end s r
     ran-in {s} h =
-        let trades : loweredAt (part 0 count origins) (part 0 count cs) (o .trades) ≡ end .trades
-        = all-lowered sound (l .sales) (l .standing) end (end-stays .framed) (parties-stay end-stays) end-standing cs (omega (arith, l .sales .few, lost .room)) (lost .each) in
+        let trades : loweredAt (part 0 count origins) (part 0 count cs) (o .trades) ≡ end .book .trades
+        = all-lowered sound (l .sales) (l .standing) (end .book) (end-stays .framed) (parties-stay end-stays) end-standing cs (omega (arith, l .sales .few, lost .room)) (lost .each) in
         record { held = subst (λ (x : Book). HeldAs x s) (ap (withTrades o) trades ∙ sym (ran .same)) h; answer = ran .answer }
