@@ -1,18 +1,20 @@
 -- A list after its opening questions is the list that is asked for: by their number it may be posted, and what it leaves is the public contract. Assumes nothing.
-use mathlib.Core.Bool.{_&&_}
+use mathlib.Core.Bool.{Bool, true, _&&_}
 use mathlib.Core.List.{List}
 use mathlib.Core.Option.{Option}
-use mathlib.Core.Path.{_≡_, _∙_, sym, subst}
+use mathlib.Core.Path.{_≡_, _∙_, ap, sym, subst}
 use Prim.Native.Nat.{ℕ}
 use lib.Dec.{T, eqb, eqb→eq, leb}
 use lib.IntN.{ℤ}
 use lib.ListN.{length}
 use Rattle.book_format.specs.Questions.{bookNumber}
 use Rattle.base.proofs.Tests.{and-l, and-r}
-use Rattle.requests.proofs.Lines.{lines-opening, posted-list}
+use Rattle.requests.proofs.Emptied.{lines-with-opening, posted-list}
+use Rattle.requests.proofs.Lines.{lines-opening}
 use Rattle.requests.proofs.Passed.{opening-book}
-use Rattle.requests.specs.Carried.{Posted}
-use Rattle.requests.specs.Request.{linesFit, linesNumber, linesOf, openingNumber, settingOf}
+use Rattle.requests.specs.Logged.{Posted, emptiedBy, linesNumberWith}
+use Rattle.requests.specs.Request.{linesFit, linesOf, openingNumber, settingOf}
+use Rattle.store.specs.Store.{given}
 use Rattle.call_list.specs.Lines.{Even, ListedAfter}
 
 -- columns that fit have one count, and so have the places
@@ -31,17 +33,23 @@ even-fit ids areas amounts places t =
       of-places = eqb→eq (length places) n (and-r z p last);
     }
 
-module _ (store : Option (List ℕ)) (ids areas : List ℕ) (amounts : List ℤ) (places s : List ℕ) {number : ℕ}
-    (e : number ≡ linesNumber (settingOf store) (linesOf ids areas amounts (length places)) s) where
+module _ (store : Option (List ℕ)) (ids areas : List ℕ) (amounts : List ℤ) (places s : List ℕ) (lent : Bool) (l : List ℕ) {number : ℕ}
+    (e : number ≡ linesNumberWith (settingOf store) (given lent l) (linesOf ids areas amounts (length places)) s) where
+  passes : number ≡ 0 → (linesFit (linesOf ids areas amounts (length places)) ≡ true) × (openingNumber (settingOf store) s ≡ 0)
+  passes z =
+      let v = linesOf ids areas amounts (length places) in
+      lines-opening (settingOf store) v s (lines-with-opening (settingOf store) (given lent l) v s (sym e ∙ z))
+
   pub list-book : number ≡ 0 → bookNumber s ≡ 0
-  list-book z = opening-book (settingOf store) s (lines-opening (settingOf store) (linesOf ids areas amounts (length places)) s (sym e ∙ z) .1)
+  list-book z = opening-book (settingOf store) s (passes z .1)
 
   pub list-even : number ≡ 0 → Even ids areas amounts places
-  list-even z =
-      even-fit ids areas amounts places
-      (subst T (sym (lines-opening (settingOf store) (linesOf ids areas amounts (length places)) s (sym e ∙ z) .0)) tt)
+  list-even z = even-fit ids areas amounts places (subst T (sym (passes z .0)) tt)
 
-  pub list-posted : {result : ℕ} {t left : List ℕ} → ListedAfter number ids areas amounts places s result t left → Posted store ids areas amounts places s result t left
-  list-posted {result} {t} {left} p =
-      let o : number ≡ 0 → openingNumber (settingOf store) s ≡ 0 = λ z. lines-opening (settingOf store) (linesOf ids areas amounts (length places)) s (sym e ∙ z) .1 in
-      subst (λ (n : ℕ). Posted store ids areas amounts places s n t left) (sym (p .asked)) (posted-list e (p .bytes (settingOf store) o) (p .beside (settingOf store) o))
+  -- with the lent log emptied where the list is accepted
+  pub list-posted : {result : ℕ} {t left m : List ℕ} → ListedAfter number ids areas amounts places s result t left → m ≡ emptiedBy lent result t l
+      → Posted store (given lent l) ids areas amounts places s result t left l m
+  list-posted {result} {t} {left} {m} p k =
+      let o : number ≡ 0 → openingNumber (settingOf store) s ≡ 0 = λ z. passes z .1 in
+      subst (λ (n : ℕ). Posted store (given lent l) ids areas amounts places s n t left l m) (sym (p .asked))
+      (posted-list store ids areas amounts places s l lent e (p .bytes (settingOf store) o) (p .beside (settingOf store) o) (k ∙ ap (λ (n : ℕ). emptiedBy lent n t l) (p .asked)))

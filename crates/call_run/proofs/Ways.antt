@@ -27,7 +27,7 @@ module _ (limits : Limits) (s : List ℕ) where
   run-passed h = rw h
 
   -- run
-  pub run-called : {n : ℕ} → n ≡ 0 → {t : List ℕ} {r : Totals} → RanIn limits (bookOf s) t r → {a : Answer} → a ≡ totals r → CalledAfter n limits s runCall a t
+  pub run-called : {n : ℕ} → n ≡ 0 → {t : List ℕ} {r : Totals} → RanIn (wholeRun limits (bookOf s)) t r → {a : Answer} → a ≡ totals r → CalledAfter n limits s runCall a t
   unfolding inBytes
   run-called asked ran e =
       let step = run-passed asked in

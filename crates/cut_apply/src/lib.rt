@@ -43,7 +43,7 @@ fn lowered(bits: u32, energy: u32) -> u32
 }
 
 // Raises the position of the user at a place in an area by an energy.
-fn raise(book: &mut [u8], place: usize, area: usize, energy: u32)
+pub fn raise(book: &mut [u8], place: usize, area: usize, energy: u32)
     requires { ⌜ PositionIn (now book) place area × (posPart (positionOf (usersOf (now book)) place area) + energy < 2 ^ 31) ⌝ }
     ensures { λ _. ⌜ HeldAs (withUsers (bookOf (now (book .entry))) (movedAt place area (pos energy) (usersOf (now (book .entry))))) (now (book .exit)) ⌝ }
 {
@@ -53,7 +53,7 @@ fn raise(book: &mut [u8], place: usize, area: usize, energy: u32)
 }
 
 // Lowers it.
-fn lower(book: &mut [u8], place: usize, area: usize, energy: u32)
+pub fn lower(book: &mut [u8], place: usize, area: usize, energy: u32)
     requires { ⌜ PositionIn (now book) place area × (negPart (positionOf (usersOf (now book)) place area) + energy ≤ 2 ^ 31) ⌝ }
     ensures { λ _. ⌜ HeldAs (withUsers (bookOf (now (book .entry))) (movedAt place area (negℤ (pos energy)) (usersOf (now (book .entry))))) (now (book .exit)) ⌝ }
 {

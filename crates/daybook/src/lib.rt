@@ -2,11 +2,14 @@
 // id and any amount get the documents' number or their answer, and a refused call leaves the book byte for byte the same. Each asks the
 // opening questions and hands their number on, with the figures that they give; what it gives is one definition of specs/ of `requests`.
 ghost use mathlib.Core.Path.{_≡_};
+ghost use mathlib.Core.List.{[]};
+ghost use mathlib.Core.Option.{none};
 ghost use Rattle.rules.specs.Calls.{only, morningCall, afternoonCall};
 ghost use Rattle.rules.specs.Queries.{morningLevelOf, afternoonLevelOf};
 ghost use Rattle.store.specs.Store.{given};
 ghost use Rattle.requests.specs.Request.{enquiry, requestOf, settingOf};
-ghost use Rattle.requests.specs.Carried.{Carried, Handed, Posted};
+ghost use Rattle.requests.specs.Carried.{Carried, Handed};
+ghost use Rattle.requests.specs.Logged.{Posted};
 ghost use Rattle.requests.specs.Cancellation.{cancellation};
 ghost use Rattle.call_posting.specs.Posting.{postingOf};
 ghost use Rattle.call_level.specs.Times.{queryOf};
@@ -107,7 +110,7 @@ pub fn list(
     amounts: &[i64],
     places: &mut [u32],
 ) -> u32
-    ensures { λ r. ⌜ Posted (given «with_store» (now (store .entry))) (now (ids .entry)) (now (areas .entry)) (now (amounts .entry)) (now (places .entry)) (now (book .entry)) r (now (book .exit)) (now (places .exit)) ⌝ }
+    ensures { λ r. ⌜ Posted (given «with_store» (now (store .entry))) none (now (ids .entry)) (now (areas .entry)) (now (amounts .entry)) (now (places .entry)) (now (book .entry)) r (now (book .exit)) (now (places .exit)) [] [] ⌝ }
 {
     let fits = call_list::fits(ids, areas, amounts, places);
     let number = call_admission::admit_list(book, with_store, store, fits);

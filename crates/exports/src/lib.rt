@@ -2,10 +2,13 @@
 // C. No function asks anything of what it is lent: a part for answers of another length than the function's gets the number 255, and
 // nothing is asked or changed. A store comes with a flag, which is 0 where there is none.
 ghost use mathlib.Core.Path.{_≡_};
+ghost use mathlib.Core.List.{[]};
+ghost use mathlib.Core.Option.{none};
 ghost use Rattle.rules.specs.Calls.{only, morningCall, afternoonCall};
 ghost use Rattle.rules.specs.Queries.{morningLevelOf, afternoonLevelOf};
 ghost use Rattle.requests.specs.Request.{requestOf, settingOf};
-ghost use Rattle.requests.specs.Carried.{Carried, Posted};
+ghost use Rattle.requests.specs.Carried.{Carried};
+ghost use Rattle.requests.specs.Logged.{Posted};
 ghost use Rattle.call_posting.specs.Posting.{postingOf};
 ghost use Rattle.call_level.specs.Times.{queryOf};
 ghost use Rattle.call_guarantee.specs.Times.{callOf};
@@ -158,7 +161,7 @@ pub extern "C" fn daybook_list(
     amounts: &[i64],
     places: &mut [u32],
 ) -> u32
-    ensures { λ r. ⌜ Posted (storeBy «with_store» (now (store .entry))) (now (ids .entry)) (now (areas .entry)) (now (amounts .entry)) (now (places .entry)) (now (book .entry)) r (now (book .exit)) (now (places .exit)) ⌝ }
+    ensures { λ r. ⌜ Posted (storeBy «with_store» (now (store .entry))) none (now (ids .entry)) (now (areas .entry)) (now (amounts .entry)) (now (places .entry)) (now (book .entry)) r (now (book .exit)) (now (places .exit)) [] [] ⌝ }
 {
     daybook::list(book, with_store != 0, store, ids, areas, amounts, places)
 }

@@ -15,9 +15,12 @@ use Rattle.laws.proofs.Posting.{posting-sound}
 use Rattle.laws.proofs.Refusals.{append-yes, first-yes, number-none, numbered, refusal-next}
 use Rattle.laws.specs.Sound.{Sound}
 use Rattle.base.proofs.Tests.{and-i, and-l, and-r}
-use Rattle.requests.proofs.Passed.{accepted-opening, passed-called, passed-carried}
+use Rattle.log_format.proofs.Noted.{posting-empties}
+use Rattle.requests.proofs.Emptied.{accepted-with, log-off, log-on, with-opening}
+use Rattle.requests.proofs.Passed.{passed-called, passed-carried}
 use Rattle.requests.specs.Carried.{Carried}
-use Rattle.requests.specs.Request.{limitsOn, openingNumber, requestOf, settingOf}
+use Rattle.requests.specs.Logged.{openingNumberWith}
+use Rattle.requests.specs.Request.{call, actOf, limitsOn, settingOf}
 use Rattle.rules.specs.Book.{Book, at, find}
 use Rattle.rules.specs.Calls.{posting, Answer, about, effect, entryInRange, idKnown, only}
 use Rattle.rules.specs.Changes.{change, posted, withUsers}
@@ -97,16 +100,17 @@ module _ (limits : Limits) {s : List ℕ} {id area : ℕ} {z : ℤ} where
       ∙ both-yes 8 10 (known (bookOf s .users) id) (ltb area 3 && ok) (q .user) (and-i (ltb area 3) ok (lt→ltb area 3 (q .area)) (q .range)) in
       record { answer = rw e; bytes = rw e }
 
--- ---- with a store, or none
+-- ---- with a store and a log, or none of them
 
-module _ (store : Option (List ℕ)) {s : List ℕ} {id area : ℕ} {z : ℤ} where
-  module _ {a : Answer} {t : List ℕ} (k : Carried (requestOf store (posting id area z)) s a t) (h : a .number ≡ 0) where
+module _ (store : Option (List ℕ)) {log : Option (List ℕ)} {s : List ℕ} {id area : ℕ} {z : ℤ} where
+  module _ {a : Answer} {t : List ℕ} (k : Carried (actOf store log (call (posting id area z))) s a t) (h : a .number ≡ 0) where
+    -- the book, the store and the log pass their questions
+    pub opened : openingNumberWith (settingOf store) log s ≡ 0
+    opened = accepted-with (posting-empties id area z) (settingOf store) s k h
+
     as-called : Called (limitsOn (settingOf store) (bookOf s)) s (posting id area z) a t
-    as-called = passed-called (settingOf store) (posting id area z) s (accepted-opening (settingOf store) (posting id area z) s k h) k
-
-    -- the book and the store pass their questions
-    pub opened : openingNumber (settingOf store) s ≡ 0
-    opened = accepted-opening (settingOf store) (posting id area z) s k h
+    as-called =
+        passed-called (settingOf store) (posting id area z) s (with-opening (settingOf store) log s opened) (log-off (posting-empties id area z) (settingOf store) s opened k)
 
     pub accepted : Accepted s id area z
     accepted = call-accepted (limitsOn (settingOf store) (bookOf s)) as-called h
@@ -120,5 +124,7 @@ module _ (store : Option (List ℕ)) {s : List ℕ} {id area : ℕ} {z : ℤ} wh
     book-left = ap bookOf bytes-left ∙ bookOf-bytesOf (postedBook id area z (bookOf s)) (sound-after accepted)
 
   -- where every question is answered by yes, the posting is accepted
-  pub carried : openingNumber (settingOf store) s ≡ 0 → Accepted s id area z → Carried (requestOf store (posting id area z)) s (only 0) (bytesOf (postedBook id area z (bookOf s)))
-  carried e q = passed-carried (settingOf store) (posting id area z) s e (call-made (limitsOn (settingOf store) (bookOf s)) q)
+  pub carried : openingNumberWith (settingOf store) log s ≡ 0 → Accepted s id area z → Carried (actOf store log (call (posting id area z))) s (only 0) (bytesOf (postedBook id area z (bookOf s)))
+  carried e q =
+      log-on (posting-empties id area z) (settingOf store) s e
+      (passed-carried (settingOf store) (posting id area z) s (with-opening (settingOf store) log s e) (call-made (limitsOn (settingOf store) (bookOf s)) q))

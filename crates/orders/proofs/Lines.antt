@@ -1,19 +1,18 @@
 -- The lines of a list whose places all hold 0 are accepted postings one after the other, so that their order is free too. Assumes nothing.
 use mathlib.Core.List.{List, [], _∷_, map}
 use mathlib.Core.Option.{Option}
-use mathlib.Core.Path.{_≡_, _∙_, ap, refl, subst, sym}
+use mathlib.Core.Path.{_∙_, ap, refl, subst, sym}
 use Prim.Native.Nat.{ℕ}
 use lib.Dec.{T, eqb}
 use lib.ListN.{length}
 use Rattle.book_format.specs.After.{after}
 use Rattle.base.proofs.Tests.{and-i, and-l, and-r}
 use Rattle.orders.proofs.Main.{same-end}
-use Rattle.orders.specs.Orders.{Apart, InList, LinesOrderFree, Posting, callOf}
-use Rattle.requests.proofs.Lines.{list-answer, list-opened}
-use Rattle.requests.specs.Request.{Outcome, Request, actIn, linesIn, linesNumber, linesOf, listOf, refused, request, requestOf, settingOf, stepIn}
-use Rattle.rules.specs.Calls.{Answer, only}
+use Rattle.orders.specs.Orders.{Apart, InList, LinesOrderFree, Posting, actsOf, callOf}
+use Rattle.requests.proofs.Accepted.{accepted-lines}
+use Rattle.requests.specs.Request.{call, Act, actBy, actIn, linesIn, request, requestOf, settingOf, stepIn}
 use Rattle.base.specs.Lists.{all}
-use Rattle.sequence.specs.Links.{Link, ended, isAccepted, requestsOf, then}
+use Rattle.sequence.specs.Links.{Link, acceptedNumber, ended, isAccepted, then}
 
 module _ (store : Option (List ℕ)) where
   -- a line as a posting of its own
@@ -23,8 +22,8 @@ module _ (store : Option (List ℕ)) where
   -- the lines, each given 0
   lines-apart : (ps : List Posting) (s : List ℕ) → T (all (λ n. eqb n 0) (linesIn (settingOf store) s (map (λ p. p .id) ps) (map (λ p. p .area) ps) (map (λ p. p .amount) ps) .numbers))
       → Apart store s ps (linesIn (settingOf store) s (map (λ p. p .id) ps) (map (λ p. p .area) ps) (map (λ p. p .amount) ps) .bytes)
-  unfolding linesIn all isAccepted requestsOf callOf linked request actIn
-  lines-apart [] s t = record { links = []; order = record { linked = ended; requests = refl }; accepted = tt }
+  unfolding linesIn all isAccepted acceptedNumber actsOf callOf linked request actBy actIn
+  lines-apart [] s t = record { links = []; order = record { linked = ended; acts = refl }; accepted = tt }
   lines-apart (p ∷ ps) s t =
       let l = linked s p in
       let n = eqb (l .gave .answer .number) 0 in
@@ -33,24 +32,21 @@ module _ (store : Option (List ℕ)) where
       record {
         links = l ∷ rest .links;
         order = record {
-          linked = then refl refl (record { answer = refl; bytes = refl }) refl (rest .order .linked);
-          requests = ap (λ (rs : List Request). requestOf store (callOf p) ∷ rs) (rest .order .requests);
+          linked = then refl refl (record { answer = refl; bytes = refl }) refl refl (rest .order .linked);
+          acts = ap (λ (rs : List Act). call (callOf p) ∷ rs) (rest .order .acts);
         };
         accepted = and-i n (all isAccepted (rest .links)) (and-l n (all (λ m. eqb m 0) (next .numbers)) t) (rest .accepted);
       }
 
   list-apart : {s t places left : List ℕ} {ps : List Posting} → InList store s ps places t left → Apart store s ps t
-  unfolding after only
+  unfolding after
   list-apart {s} {t} {places} {left} {ps} l =
       let ids = map (λ p. p .id) ps in
       let areas = map (λ p. p .area) ps in
       let amounts = map (λ p. p .amount) ps in
-      let n : 0 ≡ linesNumber (settingOf store) (linesOf ids areas amounts (length places)) s
-      = ap (λ (a : Answer). a .number) (l .posted .carried .answer ∙ list-answer store ids areas amounts (length places) s) in
-      let e : request (listOf store ids areas amounts (length places)) s ≡ linesIn (settingOf store) s ids areas amounts
-      = list-opened store ids areas amounts (length places) s ∙ ap (λ (m : ℕ). after m (refused s) (linesIn (settingOf store) s ids areas amounts)) (sym n) in
-      subst (Apart store s ps) (sym (l .posted .carried .bytes ∙ ap (λ (o : Outcome). o .bytes) e))
-      (lines-apart ps s (subst (λ (ns : List ℕ). T (all (λ m. eqb m 0) ns)) (l .posted .beside ∙ ap (λ (o : Outcome). o .numbers) e) (l .zeros)))
+      let e = accepted-lines store (l .log) ids areas amounts (length places) s (sym (l .posted .logged .carried .answer)) in
+      subst (Apart store s ps) (sym (l .posted .logged .carried .bytes ∙ e .0))
+      (lines-apart ps s (subst (λ (ns : List ℕ). T (all (λ m. eqb m 0) ns)) (l .posted .beside ∙ e .1) (l .zeros)))
 
   pub lines-order-free : LinesOrderFree store
   lines-order-free =

@@ -11,7 +11,8 @@ use lib.IntN.{ℤ, natAbs, _+ℤ_, +ℤ-assoc}
 use Rattle.book_format.proofs.Passed.{passed-of}
 use Rattle.book_format.specs.Book.{bookOf, bytesOf}
 use Rattle.requests.specs.Carried.{Carried}
-use Rattle.requests.specs.Request.{Request, openingNumber, requestOf, settingOf}
+use Rattle.requests.specs.Logged.{openingNumberWith}
+use Rattle.requests.specs.Request.{call, Act, Request, actOf, settingOf}
 use Rattle.base.proofs.Linear.{abs-parts, parts-add, posPart-of}
 use Rattle.base.specs.Parts.{posPart, negPart}
 use Rattle.laws.proofs.Bounds.{entry-le}
@@ -19,14 +20,14 @@ use Rattle.base.proofs.Tests.{and-l, and-r}
 use Rattle.laws.proofs.Users.{all-find}
 use Rattle.orders.proofs.Accepted.{postedBook, Accepted, accepted, book-left, bytes-left, carried, opened}
 use Rattle.orders.proofs.Changes.{change-swap, change-twice, entry-posted, find-change, posted-keeps, posted-swap, posted-twice}
-use Rattle.orders.specs.Orders.{PostedTwice, PostingsAdd, Posting, callOf, InOrder, OrderFree}
+use Rattle.orders.specs.Orders.{PostedTwice, PostingsAdd, Posting, actsOf, callOf, InOrder, OrderFree}
 use Rattle.rules.specs.Book.{Book, User, at, find}
 use Rattle.rules.specs.Calls.{posting, Answer, only}
 use Rattle.rules.specs.Changes.{change, posted, withUsers}
 use Rattle.base.specs.Lists.{all}
 use Rattle.rules.specs.Questions.{userValid}
 use Rattle.rules.specs.Signed.{within}
-use Rattle.sequence.specs.Links.{Link, Linked, ended, isAccepted, requestsOf, then}
+use Rattle.sequence.specs.Links.{Link, Linked, acceptedNumber, ended, isAccepted, then}
 
 -- ---- two postings on one user and area
 
@@ -38,7 +39,7 @@ book-twice id area x y b =
     (change-twice id (posted area x) (posted area y) (posted-keeps area x) (b .users)
     ∙ ap (λ (f : User → User). change id f (b .users)) (λ i u. posted-twice area x y u i))
 
-module _ (store : Option (List ℕ)) {s t u : List ℕ} {id area : ℕ} {x y : ℤ} {a b : Answer} (w : PostedTwice store s t u id area x y a b) where
+module _ (store : Option (List ℕ)) {log other : Option (List ℕ)} {s t u : List ℕ} {id area : ℕ} {x y : ℤ} {a b : Answer} (w : PostedTwice store log other s t u id area x y a b) where
   -- the new entry of the second is the old one and both amounts
   both-range : T (within 1000000 (at (find (bookOf s .users) id .physical) area +ℤ (x +ℤ y)))
   unfolding postedBook withUsers
@@ -52,8 +53,8 @@ module _ (store : Option (List ℕ)) {s t u : List ℕ} {id area : ℕ} {x y : �
       = ap (λ (n : User). at (n .physical) area +ℤ y) f ∙ ap (λ (z : ℤ). z +ℤ y) (entry-posted v area x (p .area)) ∙ +ℤ-assoc (at (v .physical) area) x y in
       subst (λ (z : ℤ). T (within 1000000 z)) r q
 
-  -- the store is the same, and so is the book that is given
-  same-opening : openingNumber (settingOf store) s ≡ 0
+  -- store and log are the same, and so is the book that is given
+  same-opening : openingNumberWith (settingOf store) log s ≡ 0
   same-opening = opened store (w .first) (w .first-accepted)
 
   -- so the posting of the sum passes every question
@@ -61,11 +62,11 @@ module _ (store : Option (List ℕ)) {s t u : List ℕ} {id area : ℕ} {x y : �
   both-accepted = let p = accepted store (w .first) (w .first-accepted) in record { book = p .book; user = p .user; area = p .area; range = both-range }
 
   -- and leaves the bytes that the second leaves
-  as-one : Carried (requestOf store (posting id area (x +ℤ y))) s (only 0) u
+  as-one : Carried (actOf store log (call (posting id area (x +ℤ y)))) s (only 0) u
   as-one =
       let e : u ≡ bytesOf (postedBook id area (x +ℤ y) (bookOf s))
       = bytes-left store (w .second) (w .second-accepted) ∙ ap (λ (n : Book). bytesOf (postedBook id area y n)) (book-left store (w .first) (w .first-accepted)) ∙ ap bytesOf (book-twice id area x y (bookOf s)) in
-      subst (λ (v : List ℕ). Carried (requestOf store (posting id area (x +ℤ y))) s (only 0) v) (sym e) (carried store same-opening both-accepted)
+      subst (λ (v : List ℕ). Carried (actOf store log (call (posting id area (x +ℤ y)))) s (only 0) v) (sym e) (carried store same-opening both-accepted)
 
   -- an old and a new entry within ±1,000,000 differ by at most 2,000,000
   sum-fits : within 2000000 (x +ℤ y) ≡ true
@@ -119,37 +120,40 @@ no-other (List·Permᴰ·trans d f) e = no-other f (no-other d e)
 
 module _ (store : Option (List ℕ)) where
   -- the bytes at the end of accepted postings; where there is none, those at the start, which must then be the bytes of a book
-  all-left : {s t : List ℕ} {ls : List Link} (ps : List Posting) → Linked store s ls t → requestsOf ls ≡ map (λ p. requestOf store (callOf p)) ps → T (all isAccepted ls)
+  all-left : {s t : List ℕ} {ls : List Link} (ps : List Posting) → Linked store s ls t → actsOf ls ≡ map (λ p. call (callOf p)) ps → T (all isAccepted ls)
       → (ps ≡ [] → s ≡ bytesOf (bookOf s)) → t ≡ bytesOf (allPosted ps (bookOf s))
-  unfolding allPosted requestsOf callOf all isAccepted
+  unfolding allPosted actsOf callOf all isAccepted acceptedNumber
   all-left [] ended e t b = b refl
-  all-left [] (then g o k n m) e t b = absurd (cons≢nil e)
+  all-left [] (then g o k n x m) e t b = absurd (cons≢nil e)
   all-left (p ∷ ps) ended e t b = absurd (nil≢cons e)
-  all-left {s} (p ∷ ps) (then {l = l} {ls = ls} g o k w m) e t b =
-      let c : Carried (requestOf store (callOf p)) s (l .gave .answer) (l .gave .bytes)
-      = subst (λ (x : List ℕ). Carried (requestOf store (callOf p)) x (l .gave .answer) (l .gave .bytes)) g
-      (subst (λ (r : Request). Carried r (l .given) (l .gave .answer) (l .gave .bytes)) (head-eq-of-cons-eq e) k) in
-      let h : l .gave .answer .number ≡ 0 = eqb→eq (l .gave .answer .number) 0 (and-l (isAccepted l) (all isAccepted ls) t) in
+  all-left {s} (p ∷ ps) (then {l = l} {ls = ls} g o k w v m) e t b =
+      let i : l .asked .act ≡ call (callOf p) = head-eq-of-cons-eq e in
+      let r : l .asked ≡ actOf store (l .asked .log) (call (callOf p)) = λ j. record { setting = record { store = o j }; log = l .asked .log; act = i j } in
+      let c : Carried (actOf store (l .asked .log) (call (callOf p))) s (l .gave .answer) (l .gave .bytes)
+      = subst (λ (x : List ℕ). Carried (actOf store (l .asked .log) (call (callOf p))) x (l .gave .answer) (l .gave .bytes)) g
+      (subst (λ (x : Request). Carried x (l .given) (l .gave .answer) (l .gave .bytes)) r k) in
+      let q : T (acceptedNumber (call (callOf p)) (l .gave .answer .number)) = subst (λ (x : Act). T (acceptedNumber x (l .gave .answer .number))) i (and-l (isAccepted l) (all isAccepted ls) t) in
+      let h : l .gave .answer .number ≡ 0 = eqb→eq (l .gave .answer .number) 0 q in
       let n = book-left store c h in
       all-left ps m (tail-eq-of-cons-eq e) (and-r (isAccepted l) (all isAccepted ls) t) (λ z. bytes-left store c h ∙ ap bytesOf (sym n))
       ∙ ap (λ (w : Book). bytesOf (allPosted ps w)) n
 
   -- no posting
-  none-left : {s t : List ℕ} {ls : List Link} → Linked store s ls t → requestsOf ls ≡ [] → t ≡ s
-  unfolding requestsOf
+  none-left : {s t : List ℕ} {ls : List Link} → Linked store s ls t → actsOf ls ≡ [] → t ≡ s
+  unfolding actsOf
   none-left ended e = refl
-  none-left (then g o k n m) e = absurd (cons≢nil e)
+  none-left (then g o k n x m) e = absurd (cons≢nil e)
 
   -- the same postings in two orders, all accepted in both
   pub same-end : {s t u : List ℕ} (ps qs : List Posting) {ls ms : List Link} → List·Permᴰ ps qs → InOrder store s ps ls t → T (all isAccepted ls)
       → InOrder store s qs ms u → T (all isAccepted ms) → t ≡ u
-  same-end [] [] d p v q w = none-left (p .linked) (p .requests) ∙ sym (none-left (q .linked) (q .requests))
+  same-end [] [] d p v q w = none-left (p .linked) (p .acts) ∙ sym (none-left (q .linked) (q .acts))
   same-end [] (y ∷ qs) d p v q w = absurd (cons≢nil (no-other d refl))
   same-end (x ∷ ps) [] d p v q w = absurd (cons≢nil (no-other (Permᴰ·symm d) refl))
   same-end {s} (x ∷ ps) (y ∷ qs) d p v q w =
-      all-left (x ∷ ps) (p .linked) (p .requests) v (λ e. absurd (cons≢nil e))
+      all-left (x ∷ ps) (p .linked) (p .acts) v (λ e. absurd (cons≢nil e))
       ∙ ap bytesOf (any-order d (bookOf s))
-      ∙ sym (all-left (y ∷ qs) (q .linked) (q .requests) w (λ e. absurd (cons≢nil e)))
+      ∙ sym (all-left (y ∷ qs) (q .linked) (q .acts) w (λ e. absurd (cons≢nil e)))
 
   pub order-free : OrderFree store
   order-free = record { same = λ {s} {t} {u} {ps} {qs} {ls} {ms} d p v q w. same-end ps qs {ls = ls} {ms = ms} d p v q w }

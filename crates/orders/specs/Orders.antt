@@ -1,5 +1,5 @@
--- Ask 12, "Corrections in another order": of postings on a book in bytes that are all given one store, or none, by the contract of the public function; and of the lines
--- of a list. Assumes nothing.
+-- Ask 12, "Corrections in another order": of postings on a book in bytes that are all given one store, or none, and whatever logs, by the contract of the public function; and
+-- of the lines of a list. Assumes nothing.
 use mathlib.Core.Bool.{true}
 use mathlib.Core.List.{List, List·Permᴰ, map}
 use mathlib.Core.Option.{Option}
@@ -7,28 +7,29 @@ use mathlib.Core.Path.{_≡_}
 use Prim.Native.Nat.{ℕ}
 use lib.Dec.{T, eqb}
 use lib.IntN.{ℤ, _+ℤ_}
-use Rattle.requests.specs.Carried.{Carried, Posted}
-use Rattle.requests.specs.Request.{requestOf}
+use Rattle.requests.specs.Carried.{Carried}
+use Rattle.requests.specs.Logged.{Posted}
+use Rattle.requests.specs.Request.{call, Act, actOf}
 use Rattle.rules.specs.Calls.{Call, posting, Answer, only}
 use Rattle.base.specs.Lists.{all}
 use Rattle.rules.specs.Signed.{within}
-use Rattle.sequence.specs.Links.{Link, Linked, requestsOf, isAccepted}
+use Rattle.sequence.specs.Links.{Link, Linked, isAccepted}
 
 -- ---- "Two accepted postings on one user and area, one straight after the other, leave the book that a single posting of their sum leaves, and that posting is accepted too."
 
--- two such postings, of an amount x and then of y: from bytes s over t to u
-pub record PostedTwice (store : Option (List ℕ)) (s t u : List ℕ) (id area : ℕ) (x y : ℤ) (a b : Answer) : Type 0 where
-  pub first : Carried (requestOf store (posting id area x)) s a t
+-- two such postings, of an amount x with a log, or none, and then of y with another: from bytes s over t to u
+pub record PostedTwice (store log other : Option (List ℕ)) (s t u : List ℕ) (id area : ℕ) (x y : ℤ) (a b : Answer) : Type 0 where
+  pub first : Carried (actOf store log (call (posting id area x))) s a t
   pub first-accepted : a .number ≡ 0
-  pub second : Carried (requestOf store (posting id area y)) t b u
+  pub second : Carried (actOf store other (call (posting id area y))) t b u
   pub second-accepted : b .number ≡ 0
 
 pub record PostingsAdd (store : Option (List ℕ)) : Type 0 where
-  -- the posting of the sum, from s, is accepted and leaves u
-  pub sum : {s t u : List ℕ} {id area : ℕ} {x y : ℤ} {a b : Answer} → PostedTwice store s t u id area x y a b
-      → Carried (requestOf store (posting id area (x +ℤ y))) s (only 0) u
+  -- the posting of the sum, from s and with the first one's log, is accepted and leaves u
+  pub sum : {log other : Option (List ℕ)} {s t u : List ℕ} {id area : ℕ} {x y : ℤ} {a b : Answer} → PostedTwice store log other s t u id area x y a b
+      → Carried (actOf store log (call (posting id area (x +ℤ y)))) s (only 0) u
   -- there always is such a posting: the sum is within ±2,000,000, and an amount has 64 bits
-  pub fits : {s t u : List ℕ} {id area : ℕ} {x y : ℤ} {a b : Answer} → PostedTwice store s t u id area x y a b
+  pub fits : {log other : Option (List ℕ)} {s t u : List ℕ} {id area : ℕ} {x y : ℤ} {a b : Answer} → PostedTwice store log other s t u id area x y a b
       → within 2000000 (x +ℤ y) ≡ true
 
 -- ---- "For every list, any two orders of the same accepted postings, from one book with nothing between and all accepted in both, end in equal bytes."
@@ -43,10 +44,14 @@ pub record Posting : Type 0 where
 unfoldable pub callOf : Posting → Call
 callOf p = posting (p .id) (p .area) (p .amount)
 
--- the postings ps, one after the other and nothing between, from bytes s to bytes t
+-- what the links of a sequence ask for
+unfoldable pub actsOf : List Link → List Act
+actsOf ls = map (λ l. l .asked .act) ls
+
+-- the postings ps, one after the other and nothing between, from bytes s to bytes t, each with whatever log
 pub record InOrder (store : Option (List ℕ)) (s : List ℕ) (ps : List Posting) (ls : List Link) (t : List ℕ) : Type 0 where
   pub linked : Linked store s ls t
-  pub requests : requestsOf ls ≡ map (λ p. requestOf store (callOf p)) ps
+  pub acts : actsOf ls ≡ map (λ p. call (callOf p)) ps
 
 -- the postings qs are the postings ps in another order: a permutation of the list, as mathlib defines it
 pub record OrderFree (store : Option (List ℕ)) : Type 0 where
@@ -57,9 +62,12 @@ pub record OrderFree (store : Option (List ℕ)) : Type 0 where
 
 -- ---- the lines of a list
 
--- the postings ps as the lines of a list: it is accepted, by the contract of the public function, and every place holds 0 after it
+-- the postings ps as the lines of a list: it is accepted, by the contract of the public function, with a log or none, and every place holds 0 after it
 pub record InList (store : Option (List ℕ)) (s : List ℕ) (ps : List Posting) (places t left : List ℕ) : Type 0 where
-  pub posted : Posted store (map (λ p. p .id) ps) (map (λ p. p .area) ps) (map (λ p. p .amount) ps) places s 0 t left
+  pub log : Option (List ℕ)
+  pub lent : List ℕ
+  pub handed : List ℕ
+  pub posted : Posted store log (map (λ p. p .id) ps) (map (λ p. p .area) ps) (map (λ p. p .amount) ps) places s 0 t left lent handed
   pub zeros : T (all (λ n. eqb n 0) left)
 
 -- accepted postings one after the other and nothing between

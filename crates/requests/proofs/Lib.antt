@@ -4,3 +4,6 @@ pub mod Passed
 pub mod Plain
 pub mod Lines
 pub mod Cancellation
+pub mod Logged
+pub mod Emptied
+pub mod Accepted

@@ -8,7 +8,6 @@ use Prim.Native.Nat.{ℕ, suc, zero}
 use native.Mathlib.Omega.{arith}
 use lib.Dec.{T, ltb, ltb→lt}
 use lib.IntN.{ℤ, _+ℤ_}
-use lib.ListN.{length}
 use Rattle.fields.specs.Field.{AllBytes}
 use Rattle.laws.proofs.Posting.{posting-sound}
 use Rattle.laws.proofs.Refusals.{first-yes, numbered, refusal-is}
@@ -32,8 +31,7 @@ use Rattle.book_format.specs.Questions.{aboutBytes, bookNumber}
 use Rattle.book_format.specs.Steps.{inBytes}
 use Rattle.store.specs.Store.{storeNumber}
 use Rattle.requests.proofs.Opened.{opening-number, setting-numbered}
-use Rattle.requests.specs.Carried.{Posted}
-use Rattle.requests.specs.Request.{Lines, Outcome, Setting, aboutLines, aboutSetting, actIn, linesFit, linesIn, linesNumber, linesOf, listOf, openingLines, openingNumber, refused, request, settingOf, stepIn}
+use Rattle.requests.specs.Request.{Lines, Setting, aboutLines, aboutSetting, actBy, actIn, linesFit, linesIn, linesNumber, linesOf, listOf, openingLines, openingNumber, refused, request, settingOf, stepIn}
 
 -- ---- the opening questions
 
@@ -41,7 +39,7 @@ use Rattle.requests.specs.Request.{Lines, Outcome, Setting, aboutLines, 
 unfoldable pub fitNumber : Bool → ℕ
 fitNumber fits = cond fits 0 15
 
-lines-numbered : (g : Setting) (v : Lines) (s : List ℕ) → T (numbered (openingLines g v s))
+pub lines-numbered : (g : Setting) (v : Lines) (s : List ℕ) → T (numbered (openingLines g v s))
 unfolding openingLines aboutLines numbered all
 lines-numbered g v s = all-append (λ q. ltb 0 (q .number)) (aboutBytes s) (aboutLines v ++ aboutSetting g (bookOf s)) (bytes-numbered s) (setting-numbered g (bookOf s))
 
@@ -99,13 +97,21 @@ lines-opening g v s e =
 
 -- ---- a list by its number
 
+-- the answer of its lines is 0 alone
+pub lines-answer : (g : Setting) (t xs ys : List ℕ) (zs : List ℤ) → linesIn g t xs ys zs .answer ≡ only 0
+unfolding linesIn
+lines-answer g t [] ys zs = refl
+lines-answer g t (x ∷ xs) [] zs = refl
+lines-answer g t (x ∷ xs) (y ∷ ys) [] = refl
+lines-answer g t (x ∷ xs) (y ∷ ys) (z ∷ zs) = refl
+
 module _ (store : Option (List ℕ)) (ids areas : List ℕ) (amounts : List ℤ) (n : ℕ) (s : List ℕ) where
   abbrev pub lines : Lines
   lines = linesOf ids areas amounts n
 
   pub list-opened : request (listOf store ids areas amounts n) s
       ≡ after (linesNumber (settingOf store) lines s) (refused s) (linesIn (settingOf store) s ids areas amounts)
-  unfolding request actIn linesNumber numbered after decided numberOf
+  unfolding request actBy actIn linesNumber numbered after decided numberOf
   list-opened = go (refusal (openingLines (settingOf store) lines s)) refl
     where
       go : (o : Option ℕ) → refusal (openingLines (settingOf store) lines s) ≡ o
@@ -113,49 +119,6 @@ module _ (store : Option (List ℕ)) (ids areas : List ℕ) (amounts : List ℤ)
       go none e = refl
       go (some zero) e = absurd (let l = ltb→lt 0 0 (refusal-is (λ i. ltb 0 i) (openingLines (settingOf store) lines s) 0 (lines-numbered (settingOf store) lines s) e) in omega arith)
       go (some (suc m)) e = refl
-
-  -- the answer of a list is its number alone
-  pub list-answer : request (listOf store ids areas amounts n) s .answer ≡ only (linesNumber (settingOf store) lines s)
-  unfolding after refused linesIn
-  list-answer = ap (λ (o : Outcome). o .answer) list-opened ∙ go (linesNumber (settingOf store) lines s)
-    where
-      lines-answer : (g : Setting) (t xs ys : List ℕ) (zs : List ℤ) → linesIn g t xs ys zs .answer ≡ only 0
-      lines-answer g t [] ys zs = refl
-      lines-answer g t (x ∷ xs) [] zs = refl
-      lines-answer g t (x ∷ xs) (y ∷ ys) [] = refl
-      lines-answer g t (x ∷ xs) (y ∷ ys) (z ∷ zs) = refl
-
-      go : (m : ℕ) → after m (refused s) (linesIn (settingOf store) s ids areas amounts) .answer ≡ only m
-      go zero = lines-answer (settingOf store) s ids areas amounts
-      go (suc m) = refl
-
--- a public list, from the number of its opening questions and what the inner list leaves
-pub posted-list : {store : Option (List ℕ)} {ids areas : List ℕ} {amounts : List ℤ} {places s : List ℕ} {number : ℕ} {t left : List ℕ}
-    → number ≡ linesNumber (settingOf store) (linesOf ids areas amounts (length places)) s
-    → t ≡ after number (λ n. s) (linesIn (settingOf store) s ids areas amounts .bytes)
-    → left ≡ after number (λ n. places) (linesIn (settingOf store) s ids areas amounts .numbers)
-    → Posted store ids areas amounts places s number t left
-unfolding after refused
-posted-list {store} {ids} {areas} {amounts} {places} {s} {number} {t} {left} e b l =
-    record {
-      carried = record {
-        answer = ap only e ∙ sym (list-answer store ids areas amounts (length places) s);
-        bytes = b ∙ by-bytes number ∙ sym (ap (λ (o : Outcome). o .bytes) whole);
-      };
-      beside = l ∙ by-numbers number ∙ ap (λ (o : Outcome). after number (λ n. places) (o .numbers)) (sym whole);
-    }
-  where
-    whole : request (listOf store ids areas amounts (length places)) s ≡ after number (refused s) (linesIn (settingOf store) s ids areas amounts)
-    whole = list-opened store ids areas amounts (length places) s ∙ ap (λ (n : ℕ). after n (refused s) (linesIn (settingOf store) s ids areas amounts)) (sym e)
-
-    by-bytes : (n : ℕ) → after n (λ m. s) (linesIn (settingOf store) s ids areas amounts .bytes) ≡ after n (refused s) (linesIn (settingOf store) s ids areas amounts) .bytes
-    by-bytes zero = refl
-    by-bytes (suc n) = refl
-
-    by-numbers : (n : ℕ) → after n (λ m. places) (linesIn (settingOf store) s ids areas amounts .numbers)
-        ≡ after n (λ m. places) (after n (refused s) (linesIn (settingOf store) s ids areas amounts) .numbers)
-    by-numbers zero = refl
-    by-numbers (suc n) = refl
 
 -- ---- one posting after another
 

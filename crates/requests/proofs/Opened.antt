@@ -20,7 +20,7 @@ use Rattle.book_format.specs.Questions.{aboutBytes, bookNumber}
 use Rattle.book_format.specs.Steps.{InBytes, inBytes}
 use Rattle.store.specs.Store.{aboutStore, storeNumber}
 use Rattle.requests.specs.Carried.{Admitted, Carried}
-use Rattle.requests.specs.Request.{Outcome, Setting, aboutSetting, actIn, callIn, carriedOut, enquiry, limitsOn, opening, openingNumber, refused, request, stepIn}
+use Rattle.requests.specs.Request.{Outcome, Setting, aboutSetting, actBy, actIn, callIn, carriedOut, enquiry, limitsOn, opening, openingNumber, refused, request, stepIn}
 
 -- ---- numbers
 
@@ -46,7 +46,7 @@ opening-number g s = number-after (aboutBytes s) (aboutSetting g (bookOf s)) (by
 
 -- what a call gives, as an outcome
 unfoldable pub outcome : InBytes → Outcome
-outcome x = record { answer = x .answer; numbers = []; bytes = x .bytes }
+outcome x = record { answer = x .answer; numbers = []; bytes = x .bytes; log = none }
 
 -- both refuse with the bytes as they were, and both write the book that the rules give
 same-outcome : (o : Option ℕ) (n : ℕ) (s : List ℕ) (r : Result) → after n (refused s) (decided o (refused s) (carriedOut r)) ≡ outcome (after n (unchanged s) (decided o (unchanged s) (inBytes r)))
@@ -64,7 +64,7 @@ call-opened g s c =
     ∙ same-outcome (refusal (about limits (bookOf s) c)) (numberOf (refusal (opening g s))) s (effect limits (bookOf s) c)
 
 pub request-opened : (g : Setting) (s : List ℕ) (c : Call) → request (callIn g c) s ≡ outcome (stepAfter (openingNumber g s) (limitsOn g (bookOf s)) s c)
-unfolding request actIn
+unfolding request actBy actIn
 request-opened g s c = call-opened g s c
 
 -- a refused call gives the same whatever the figures

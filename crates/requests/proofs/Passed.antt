@@ -54,12 +54,3 @@ module _ (g : Setting) (c : Call) (s : List ℕ) where
       let limits = limitsOn g (bookOf s) in
       let h = request-opened g s c ∙ ap (λ (m : ℕ). outcome (stepAfter m limits s c)) e in
       (k .answer ∙ ap (λ (x : Outcome). x .answer) h, k .bytes ∙ ap (λ (x : Outcome). x .bytes) h)
-
-  -- so an accepted request passed them
-  pub accepted-opening : {a : Answer} {t : List ℕ} → Carried (callIn g c) s a t → a .number ≡ 0 → openingNumber g s ≡ 0
-  unfolding only
-  accepted-opening {a} k e = go (openingNumber g s) refl
-    where
-      go : (n : ℕ) → openingNumber g s ≡ n → n ≡ 0
-      go zero h = refl
-      go (suc n) h = absurd (let x = opening-refused h k .0 in let y : _≡_ {A = ℕ} 0 (suc n) = sym e ∙ ap (λ (b : Answer). b .number) x in omega arith)

@@ -1,17 +1,15 @@
--- The contracts of the public calls and queries, and of what asks the opening questions for them. Assumes nothing.
+-- What the contracts of the public calls and queries say of answer and bytes, and of what asks the opening questions for them; the log that is lent to calls is in Logged.antt. Assumes nothing.
 use mathlib.Core.List.{List, []}
 use mathlib.Core.Path.{_≡_}
-use mathlib.Core.Option.{Option}
 use Prim.Native.Nat.{ℕ, _+_}
-use lib.IntN.{ℤ}
-use lib.ListN.{take, drop, length}
-use Rattle.rules.specs.Calls.{Answer, only}
+use lib.ListN.{take, drop}
+use Rattle.rules.specs.Calls.{Answer}
 use Rattle.rules.specs.Levels.{Limits}
 use Rattle.rules.specs.Queries.{shownRecord}
 use Rattle.book_format.specs.After.{after}
 use Rattle.book_format.specs.Book.{bookOf, userAt, userSize, versionOf}
 use Rattle.book_format.specs.Steps.{placeOf}
-use Rattle.requests.specs.Request.{Request, Setting, enquiry, limitsOn, listOf, openingNumber, request}
+use Rattle.requests.specs.Request.{Request, Setting, enquiry, limitsOn, openingNumber, request}
 
 -- a call: bytes before, answer, bytes after
 pub record Carried (r : Request) (s : List ℕ) (a : Answer) (t : List ℕ) : Type 0 where
@@ -22,13 +20,6 @@ pub record Carried (r : Request) (s : List ℕ) (a : Answer) (t : List ℕ) : Ty
 pub record Admitted (g : Setting) (s : List ℕ) (number : ℕ) (limits : Limits) : Type 0 where
   pub asked : number ≡ openingNumber g s
   pub taken : number ≡ 0 → limits ≡ limitsOn g (bookOf s)
-
--- ---- a list of postings
-
--- a list of postings: its columns, the places beside it and the bytes before; the number that it returns, the bytes and the places after. "a refused call leaves those places unchanged"
-pub record Posted (store : Option (List ℕ)) (ids areas : List ℕ) (amounts : List ℤ) (places s : List ℕ) (number : ℕ) (t left : List ℕ) : Type 0 where
-  pub carried : Carried (listOf store ids areas amounts (length places)) s (only number) t
-  pub beside : left ≡ after number (λ n. places) (request (listOf store ids areas amounts (length places)) s .numbers)
 
 -- ---- a shown record
 

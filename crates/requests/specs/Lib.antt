@@ -2,3 +2,4 @@
 pub mod Request
 pub mod Carried
 pub mod Cancellation
+pub mod Logged

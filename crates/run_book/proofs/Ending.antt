@@ -15,11 +15,10 @@ use Rattle.laws.proofs.Trades.{framed}
 use Rattle.laws.specs.Sound.{Sound}
 use Rattle.laws.specs.Trades.{Lowered, Pairwise, ended, then}
 use Rattle.rules.specs.Book.{Book, Trade, noTrade}
-use Rattle.rules.specs.Levels.{Limits}
+use Rattle.rules.specs.Calls.{Result}
 use Rattle.rules.specs.Reduction.{withTrades}
 use Rattle.run_state.proofs.Grouped.{standing-all}
 use Rattle.run_state.proofs.Stays.{Alike, alike-borne, stays}
-use Rattle.run_state.specs.Running.{wholeRun}
 use Rattle.run_turns.specs.Turns.{Ran}
 use Rattle.laws_sales.proofs.Valid.{borne-ids, borne-valid}
 use Rattle.laws_sales.specs.Borne.{borneBook}
@@ -33,20 +32,17 @@ lowered-at ended i d = le-refl (d .standing)
 lowered-at (then p ps) zero d = p .lower
 lowered-at (then p ps) (suc i) d = lowered-at ps i d
 
-module _ {limits : Limits} {o : Book} (sound : Sound o) {ss origins ns areaCodes bs : List ℕ} {count : ℕ} (l : Listed (borneBook o) ss origins ns areaCodes bs count)
-    {ms : List ℕ} {r : Totals} (ran : Ran limits o ms r) where
-  abbrev end : Book
-  end = wholeRun limits o .book
-
+module _ {end : Result} {o : Book} (sound : Sound o) {ss origins ns areaCodes bs : List ℕ} {count : ℕ} (l : Listed (borneBook o) ss origins ns areaCodes bs count)
+    {ms : List ℕ} {r : Totals} (ran : Ran end o ms r) where
   -- the books as their risk is borne
-  end-alike : Alike (borneBook o) (borneBook end)
-  end-alike = alike-borne (stays o end sound (ran .lowered) (ran .same)) (framed (ran .borne))
+  end-alike : Alike (borneBook o) (borneBook (end .book))
+  end-alike = alike-borne (stays o (end .book) sound (ran .lowered) (ran .same)) (framed (ran .borne))
 
-  end-standing : StandingOf (borneBook end) ms count
+  end-standing : StandingOf (borneBook (end .book)) ms count
   end-standing = record { standing-are = ap (λ (n : ℕ). take n ms) (l .sales .all) ∙ standing-all end-alike (ran .standing) }
 
-  end-sales : SalesOf (borneBook end) ss origins areaCodes bs count
-  end-sales = sales-stay (borneBook o) (borneBook end) (end-alike .framed) (end-alike .parties) (l .sales)
+  end-sales : SalesOf (borneBook (end .book)) ss origins areaCodes bs count
+  end-sales = sales-stay (borneBook o) (borneBook (end .book)) (end-alike .framed) (end-alike .parties) (l .sales)
 
   -- what is left is no more than stood
   pub ran-left : LeftOf ns ms count
@@ -58,7 +54,7 @@ module _ {limits : Limits} {o : Book} (sound : Sound o) {ss origins ns areaCodes
             omega (
               arith,
               standing-there (borne-ids o sound) (borne-valid o sound) (l .sales) (l .standing) k h,
-              standing-there (borne-ids end (ran .sound)) (borne-valid end (ran .sound)) end-sales end-standing k h,
+              standing-there (borne-ids (end .book) (ran .sound)) (borne-valid (end .book) (ran .sound)) end-sales end-standing k h,
               lowered-at (ran .borne) (getD origins k 0) noTrade,
             );
       }
@@ -71,9 +67,9 @@ module _ {limits : Limits} {o : Book} (sound : Sound o) {ss origins ns areaCodes
         (cuttable-part (borne-ids o sound) (borne-valid o sound) (l .sales) (l .standing) cs 0 count (omega arith) (omega arith) (omega (arith, l .sales .few, lost .room)) (λ k h m. omega (arith, lost .each k m)))
 
     -- and gives the rules' book
-    pub ran-in : {s : List ℕ} → HeldAs (withTrades o (loweredAt (part 0 count origins) (part 0 count cs) (o .trades))) s → RanIn limits o s r
+    pub ran-in : {s : List ℕ} → HeldAs (withTrades o (loweredAt (part 0 count origins) (part 0 count cs) (o .trades))) s → RanIn end s r
     ran-in {s} h =
-        let trades : loweredAt (part 0 count origins) (part 0 count cs) (o .trades) ≡ end .trades
-        = real-lowered o end (part 0 count origins) (part 0 count cs) (framed (ran .lowered))
-        (all-lowered (borne-ids o sound) (borne-valid o sound) (l .sales) (l .standing) (borneBook end) (end-alike .framed) (end-alike .parties) end-standing cs (omega (arith, l .sales .few, lost .room)) (lost .each)) in
+        let trades : loweredAt (part 0 count origins) (part 0 count cs) (o .trades) ≡ end .book .trades
+        = real-lowered o (end .book) (part 0 count origins) (part 0 count cs) (framed (ran .lowered))
+        (all-lowered (borne-ids o sound) (borne-valid o sound) (l .sales) (l .standing) (borneBook (end .book)) (end-alike .framed) (end-alike .parties) end-standing cs (omega (arith, l .sales .few, lost .room)) (lost .each)) in
         record { held = subst (λ (x : Book). HeldAs x s) (ap (withTrades o) trades ∙ sym (ran .same)) h; answer = ran .answer }

@@ -6,9 +6,7 @@ use lib.ListN.{length, getD}
 use Rattle.cut_worth.specs.Totals.{totals}
 use Rattle.cut_worth.specs.declared.Totals.{Totals}
 use Rattle.book_format.specs.Held.{HeldAs}
-use Rattle.rules.specs.Book.{Book}
-use Rattle.rules.specs.Levels.{Limits}
-use Rattle.run_state.specs.Running.{wholeRun}
+use Rattle.rules.specs.Calls.{Result}
 
 -- what stood of sales and what is left of the first of them
 pub record LeftOf (ns ms : List ℕ) (count : ℕ) : Type 0 where
@@ -21,7 +19,7 @@ pub record LostOf (ns ms cs : List ℕ) (count : ℕ) : Type 0 where
   pub room : length cs ≡ 256
   pub each : (k : ℕ) → k < count → getD ms k 0 + getD cs k 0 ≡ getD ns k 0
 
--- what a run of a book gives: bytes that hold the rules' book, and the rules' answer
-pub record RanIn (limits : Limits) (b : Book) (s : List ℕ) (r : Totals) : Type 0 where
-  pub held : HeldAs (wholeRun limits b .book) s
-  pub answer : totals r ≡ wholeRun limits b .answer
+-- what reductions of a book give, one after another, by a result of the rules: bytes that hold its book, and its answer
+pub record RanIn (end : Result) (s : List ℕ) (r : Totals) : Type 0 where
+  pub held : HeldAs (end .book) s
+  pub answer : totals r ≡ end .answer

@@ -12,11 +12,12 @@ ghost use Rattle.units.specs.Prices.{asPrices};
 ghost use Rattle.units.specs.Limits.{asLimits};
 ghost use Rattle.run_book.specs.Books.{LeftOf, LostOf, RanIn};
 ghost use Rattle.run_reduction.specs.Books.{Listed, Runnable};
+ghost use Rattle.run_state.specs.Running.{wholeRun};
 
 // ---- what was lost
 
 // Copies what stands of the first `count` sales.
-fn copy_sales(standing: &[u64; 256], left: &mut [u64; 256], count: usize)
+pub fn copy_sales(standing: &[u64; 256], left: &mut [u64; 256], count: usize)
     requires { ⌜ (count ≤ 256) × (length (now standing) ≡ 256) × (length (now left) ≡ 256) ⌝ }
     ensures { λ _. ⌜ (take count (now (left .exit)) ≡ take count (now (standing .entry))) × (length (now (left .exit)) ≡ 256) ⌝ }
 {
@@ -28,7 +29,7 @@ fn copy_sales(standing: &[u64; 256], left: &mut [u64; 256], count: usize)
 }
 
 // Puts what the first `count` sales have lost in the place of what is left of them.
-fn lost_of(standing: &[u64; 256], left: &mut [u64; 256], count: usize)
+pub fn lost_of(standing: &[u64; 256], left: &mut [u64; 256], count: usize)
     requires { ⌜ LeftOf (now standing) (now left) count ⌝ }
     ensures { λ _. ⌜ LostOf (now (standing .entry)) (now (left .entry)) (now (left .exit)) count ⌝ }
 {
@@ -61,7 +62,7 @@ fn run_listed(
     requires { ⌜ BookIn (now book) (now «own_sellers») (now «own_buyers») ⌝ }
     requires { ⌜ Runnable (asLimits (day .limits)) (asPrices (day .prices)) (now book) (now sellers) (now parties) (now sums) ⌝ }
     requires { ⌜ Listed (borneBook (bookOf (now book))) (now starts) (now origins) (now standing) (now areas) (now buyers) count ⌝ }
-    ensures { λ r. ⌜ RanIn (asLimits (day .limits)) (bookOf (now (book .entry))) (now (book .exit)) r ⌝ }
+    ensures { λ r. ⌜ RanIn (wholeRun (asLimits (day .limits)) (bookOf (now (book .entry)))) (now (book .exit)) r ⌝ }
 {
     let n = book_format::user_count(book) as usize;
     let m = book_format::trade_count(book) as usize;
@@ -117,7 +118,7 @@ pub fn run_book(
 ) -> Totals
     requires { ⌜ BookIn (now book) (now «own_sellers») (now «own_buyers») ⌝ }
     requires { ⌜ Runnable (asLimits (day .limits)) (asPrices (day .prices)) (now book) (now sellers) (now parties) (now sums) ⌝ }
-    ensures { λ r. ⌜ RanIn (asLimits (day .limits)) (bookOf (now (book .entry))) (now (book .exit)) r ⌝ }
+    ensures { λ r. ⌜ RanIn (wholeRun (asLimits (day .limits)) (bookOf (now (book .entry)))) (now (book .exit)) r ⌝ }
 {
     let n = book_format::user_count(book) as usize;
     let m = book_format::trade_count(book) as usize;

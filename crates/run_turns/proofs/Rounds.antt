@@ -24,7 +24,7 @@ use Rattle.run_state.proofs.Stays.{stays, users-many}
 use Rattle.run_state.specs.Asked.{memberAt}
 use Rattle.laws_sales.specs.Borne.{borneBook}
 use Rattle.run_state.specs.Going.{Going, StandingIn}
-use Rattle.run_state.specs.Running.{NextFrom}
+use Rattle.run_state.specs.Running.{NextFrom, wholeRun}
 use Rattle.run_turns.specs.Turns.{CutIn, NoneCut, Ongoing, Ran, Turned}
 use mathlib.Core.Option.{none, some}
 
@@ -77,7 +77,7 @@ pub record RunTo (limits : Limits) (s : List ℕ) (n : ℕ) (ns ps ts : List ℕ
 
 module _ {limits : Limits} {s : List ℕ} {n : ℕ} (many : n ≡ userCount s) (sound : Sound (bookOf s)) where
   -- before the first reduction
-  pub run-start : {ns ps ts : List ℕ} {es : List Bool} {cs rs : List ℕ} {t : Totals} {place : ℕ} → Going limits (bookOf s) (bookOf s) ns ps ts es → NoneCut cs → length rs ≡ 256
+  unfoldable pub run-start : {ns ps ts : List ℕ} {es : List Bool} {cs rs : List ℕ} {t : Totals} {place : ℕ} → Going limits (bookOf s) (bookOf s) ns ps ts es → NoneCut cs → length rs ≡ 256
       → totals t ≡ ofRun 0 0 0 → NextFrom ts 0 n place → RunTo limits s n ns ps ts es cs rs t place
   unfolding ofRun
   run-start {t = t} h c r e p =
@@ -96,7 +96,7 @@ module _ {limits : Limits} {s : List ℕ} {n : ℕ} (many : n ≡ userCount s) (
       }
 
   module _ {ns ps ts : List ℕ} {es : List Bool} {cs rs : List ℕ} {t : Totals} {place : ℕ} (p : RunTo limits s n ns ps ts es cs rs t place) where
-    members : length (p .book .users) ≡ n
+    pub members : length (p .book .users) ≡ n
     unfolding bookOf
     members = users-many (stays (bookOf s) (p .book) sound (p .going .lowered) (p .going .same)) ∙ length-usersOf s ∙ sym many
 
@@ -107,7 +107,7 @@ module _ {limits : Limits} {s : List ℕ} {n : ℕ} (many : n ≡ userCount s) (
     run-within = record { reductions-most = omega (arith, p .left .reductions-most); mwh-most = omega (arith, p .left .mwh-most); worth-most = omega (arith, p .left .worth-most) }
 
     module _ (k : place < n) where
-      next : nextReduced limits (p .book) (p .book .users) ≡ some (memberAt (p .book) place)
+      pub next : nextReduced limits (p .book) (p .book .users) ≡ some (memberAt (p .book) place)
       next = next-here (p .going .owed) (p .before) (omega (arith, members)) (p .here k)
 
       -- there is something to cut
@@ -119,7 +119,7 @@ module _ {limits : Limits} {s : List ℕ} {n : ℕ} (many : n ≡ userCount s) (
         turn-within = tally-within limits (p .going .sound) (p .left) (memberAt (p .book) place) next (asTally tally) (turn .answer)
 
         -- after one more reduction
-        pub run-turn : {cs′ rs′ : List ℕ} {u : Totals} {place′ : ℕ} → NoneCut cs′ → length rs′ ≡ 256
+        unfoldable pub run-turn : {cs′ rs′ : List ℕ} {u : Totals} {place′ : ℕ} → NoneCut cs′ → length rs′ ≡ 256
             → totals u ≡ ofRun (t .reductions + 1) (t .mwh .0 + tally .mwh .0) (t .worth .0 + tally .worth .0) → NextFrom us least n place′ → RunTo limits s n ms qs us ds cs′ rs′ u place′
         unfolding ofRun
         run-turn {u = u} c r e w =
@@ -138,7 +138,7 @@ module _ {limits : Limits} {s : List ℕ} {n : ℕ} (many : n ≡ userCount s) (
             }
 
     -- nobody is due
-    pub run-end : n ≤ place → Ran limits (bookOf s) ns t
+    pub run-end : n ≤ place → Ran (wholeRun limits (bookOf s)) (bookOf s) ns t
     run-end k =
         let over : nextReduced limits (p .book) (p .book .users) ≡ none = next-nobody (p .going .owed) (p .before) (omega (arith, members)) in
         let e = left-end limits (p .going .sound) (p .left) over in

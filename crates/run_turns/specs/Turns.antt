@@ -11,12 +11,11 @@ use Rattle.cut_worth.specs.declared.Totals.{Totals}
 use Rattle.laws.specs.Sound.{Sound}
 use Rattle.laws.specs.Trades.{Lowered, Pairwise}
 use Rattle.rules.specs.Book.{Book}
-use Rattle.rules.specs.Calls.{ofCuts, reduced}
+use Rattle.rules.specs.Calls.{Result, ofCuts, reduced}
 use Rattle.rules.specs.Levels.{Limits}
 use Rattle.rules.specs.Reduction.{target, withTrades}
 use Rattle.run_state.specs.Asked.{memberAt}
 use Rattle.run_state.specs.Going.{Going, StandingIn}
-use Rattle.run_state.specs.Running.{wholeRun}
 use Rattle.laws_sales.specs.Borne.{borneBook, borneUser}
 use Rattle.laws_sales.specs.Reduced.{ownCuts}
 
@@ -44,12 +43,12 @@ pub record Turned (limits : Limits) (o b : Book) (place : ℕ) (ts₀ ns ps ts :
   pub least-most : least ≤ place
   pub before : (j : ℕ) → j < least → getD ts j 0 ≡ getD ts₀ j 0
 
--- the whole run of the book o: the rules' answer, and what stands of the own sales of the rules' book
-pub record Ran (limits : Limits) (o : Book) (ns : List ℕ) (r : Totals) : Type 0 where
-  pub answer : totals r ≡ wholeRun limits o .answer
-  pub sound : Sound (wholeRun limits o .book)
-  pub lowered : Pairwise Lowered (o .trades) (wholeRun limits o .book .trades)
-  pub same : wholeRun limits o .book ≡ withTrades o (wholeRun limits o .book .trades)
-  pub borne : Pairwise Lowered (borneBook o .trades) (borneBook (wholeRun limits o .book) .trades)
-  pub standing : StandingIn (borneBook o) (borneBook (wholeRun limits o .book)) ns
+-- reductions of the book o, one after another, have given a result of the rules: its answer, and what stands of the own sales of its book as its risk is borne
+pub record Ran (end : Result) (o : Book) (ns : List ℕ) (r : Totals) : Type 0 where
+  pub answer : totals r ≡ end .answer
+  pub sound : Sound (end .book)
+  pub lowered : Pairwise Lowered (o .trades) (end .book .trades)
+  pub same : end .book ≡ withTrades o (end .book .trades)
+  pub borne : Pairwise Lowered (borneBook o .trades) (borneBook (end .book) .trades)
+  pub standing : StandingIn (borneBook o) (borneBook (end .book)) ns
   pub room : length ns ≡ 256

@@ -11,7 +11,7 @@ ghost use lib.ListN.{getD, length};
 ghost use Rattle.book_format.specs.Book.{bookOf, userCount};
 ghost use Rattle.rules.specs.Book.{Book};
 ghost use Rattle.run_state.specs.Going.{Going};
-ghost use Rattle.run_state.specs.Running.{NextFrom};
+ghost use Rattle.run_state.specs.Running.{NextFrom, wholeRun};
 ghost use Rattle.laws_sales.specs.Parts.{part};
 ghost use Rattle.units.specs.Prices.{asPrices};
 ghost use Rattle.units.specs.Limits.{asLimits};
@@ -91,7 +91,7 @@ pub fn turn(
 // ---- all of them
 
 // Clears the cuts from..to.
-fn clear(cuts: &mut [u64; 256], from: usize, to: usize)
+pub fn clear(cuts: &mut [u64; 256], from: usize, to: usize)
     requires { ⌜ CutIn from to (now cuts) × (to ≤ 256) ⌝ }
     ensures { λ _. ⌜ NoneCut (now (cuts .exit)) ⌝ }
 {
@@ -103,7 +103,7 @@ fn clear(cuts: &mut [u64; 256], from: usize, to: usize)
 }
 
 // The first place from `least` on with a target, of n; n where there is none.
-fn next_from(targets: &[u64; 64], least: usize, n: usize) -> usize
+pub fn next_from(targets: &[u64; 64], least: usize, n: usize) -> usize
     requires { ⌜ (least ≤ n) × (n ≤ 64) ⌝ }
     ensures { λ r. ⌜ NextFrom (now (targets .entry)) least n r ⌝ }
 {
@@ -133,7 +133,7 @@ pub fn run_on(
 ) -> Totals
     requires { ⌜ RunOf (asLimits (day .limits)) (asPrices (day .prices)) (now book) (now sums) (now starts) (now areas) (now buyers) × (n ≡ userCount (now book)) ⌝ }
     requires { ⌜ Going (asLimits (day .limits)) (bookOf (now book)) (bookOf (now book)) (now standing) (now positions) (now targets) (now eligible) ⌝ }
-    ensures { λ r. ⌜ Ran (asLimits (day .limits)) (bookOf (now (book .entry))) (now (standing .exit)) r ⌝ }
+    ensures { λ r. ⌜ Ran (wholeRun (asLimits (day .limits)) (bookOf (now (book .entry)))) (bookOf (now (book .entry))) (now (standing .exit)) r ⌝ }
 {
     let mut totals = Totals::none();
     let mut cuts = [0u64; 256];

@@ -1,4 +1,4 @@
--- One request by the rules, accepted or refused: a call, or a list by its lines one after another; what it does to a sound book. Assumes nothing.
+-- One request by the rules without a log, accepted or refused: a call, a list by its lines one after another, a withdrawal; what it does to a sound book. Assumes nothing.
 use mathlib.Core.Bool.{Bool, cond, false, not, true}
 use mathlib.Core.List.{List, [], _∷_, _++_}
 use mathlib.Core.Option.{Option, none, some}
@@ -7,58 +7,147 @@ use Prim.Native.Nat.{_<_, ℕ}
 use native.Mathlib.Omega.{arith}
 use lib.Dec.{T, eqb, ltb, ltb→lt}
 use lib.IntN.{ℤ, pos, _+ℤ_}
-use borrow.Author.Tests.{eq-eqb, ne-eqb}
+use borrow.Author.Tests.{ne-eqb}
 use Rattle.laws.proofs.Moved.{Moved, moved-refl, moved-trans}
-use Rattle.laws.proofs.Refusals.{numbered, refusal-is}
+use Rattle.laws.proofs.Refusals.{append-yes, numbered, refusal-is}
 use Rattle.base.proofs.Tests.{all-append}
 use Rattle.laws.proofs.Trades.{lowered-refl, lowered-trans}
 use Rattle.laws.specs.Sound.{Sound}
 use Rattle.laws.specs.Statements.{AllCovered}
 use Rattle.laws.specs.Trades.{Lowered, Pairwise}
+use Rattle.log_format.specs.Noted.{hasEntry}
 use Rattle.requests.proofs.Opened.{setting-numbered}
-use Rattle.requests.specs.Request.{call, postings, Act, Event, Lines, Setting, aboutLines, aboutSetting, actGiven, limitsOn, linesGiven, ofCall, stepGiven}
+use Rattle.requests.specs.Request.{call, postings, withdrawal, Act, Event, Lines, Setting, aboutLines, aboutSetting, actGiven, limitsOn, linesGiven, ofCall, refusedOn, stepGiven}
 use Rattle.rules.specs.Book.{Book}
-use Rattle.rules.specs.Calls.{posting, run, Call, Result, only}
+use Rattle.rules.specs.Calls.{posting, morningCall, afternoonCall, reduction, run, Call, Result, about, effect, only}
 use Rattle.rules.specs.Levels.{Limits}
 use Rattle.base.specs.Lists.{all}
 use Rattle.rules.specs.Questions.{Question, aboutBook, decided, refusal}
-use Rattle.sequence.proofs.Step.{Stepped, book-numbered, step-law}
+use Rattle.store.specs.Store.{aboutStore}
+use Rattle.sequence.proofs.Step.{Effected, asks, asks-numbered, book-numbered, effect-law, step-law}
+use Rattle.sequence.specs.Links.{acceptedNumber}
 use Rattle.sequence.specs.Totals.{amountIn, amountsIn, counted, countedIn, lineAmounts}
+
+-- 1 for a list, 2 for a withdrawal, 0 for a call
+kindOf : Act → ℕ
+kindOf (call c) = 0
+kindOf (postings v) = 1
+kindOf withdrawal = 2
 
 -- the call of an act; a list's is none of its lines'
 callOf : Act → Call
 callOf (call c) = c
 callOf (postings v) = posting 0 0 (pos 0)
+callOf withdrawal = posting 0 0 (pos 0)
 
--- 1 for a list, 0 for a call
-isList : Act → ℕ
-isList (call c) = 0
-isList (postings v) = 1
+-- equal acts are of equal calls
+pub same-call : {c d : Call} → call c ≡ call d → c ≡ d
+unfolding callOf
+same-call e = ap callOf e
 
--- what an act does; of a list each line counts by its own number
-pub record Acted (limits : Limits) (b : Book) (a : Act) (r : Event) : Type 0 where
+-- what an act with a log, or none, does; of a list each line counts by its own number
+pub record Acted (limits : Limits) (b : Book) (log : Option (List ℕ)) (a : Act) (r : Event) : Type 0 where
   pub sound : Sound (r .book)
-  pub moved : Moved b (r .book) (λ i. cond (eqb (r .answer .number) 0) (amountsIn i a (r .numbers)) (pos 0))
-      (cond (eqb (r .answer .number) 0) (countedIn a (r .answer .mwh)) (pos 0))
-      (cond (eqb (r .answer .number) 0) (countedIn a (r .answer .worth)) (pos 0))
-  pub lowered : Pairwise Lowered (b .trades) (r .book .trades)
-  pub refused : T (not (eqb (r .answer .number) 0)) → r .book ≡ b
-  pub covered : a ≡ call run → T (eqb (r .answer .number) 0) → AllCovered limits (r .book)
+  pub moved : Moved b (r .book) (λ i. cond (acceptedNumber a (r .answer .number)) (amountsIn i a (r .numbers)) (pos 0))
+      (cond (acceptedNumber a (r .answer .number)) (countedIn a (r .answer .mwh)) (pos 0))
+      (cond (acceptedNumber a (r .answer .number)) (countedIn a (r .answer .worth)) (pos 0))
+  pub lowered : (a ≡ withdrawal → ⊥) → Pairwise Lowered (b .trades) (r .book .trades)
+  pub refused : T (not (acceptedNumber a (r .answer .number))) → (r .book ≡ b) × (r .log ≡ log)
+  pub covered : a ≡ call run → r .answer .number ≡ 0 → AllCovered limits (r .book)
+
+-- ---- accepted and refused
+
+-- 0 is the number of an accepted act
+pub accepted-zero : (a : Act) {n : ℕ} → n ≡ 0 → acceptedNumber a n ≡ true
+unfolding acceptedNumber
+accepted-zero (call (posting id area amount)) e = rw e
+accepted-zero (call (morningCall id)) e = rw e
+accepted-zero (call (afternoonCall id)) e = rw e
+accepted-zero (call (reduction id)) e = rw e
+accepted-zero (call run) e = rw e
+accepted-zero (postings v) e = rw e
+accepted-zero withdrawal e = rw e
+
+-- a question's number is that of a refusal; no question of a run has the number 20
+unaccepted : (a : Act) (n : ℕ) → 0 < n → (a ≡ call run → T (not (eqb n 20))) → acceptedNumber a n ≡ false
+unfolding acceptedNumber
+unaccepted (call (posting id area amount)) n k h = ne-eqb n 0 (λ z. omega arith)
+unaccepted (call (morningCall id)) n k h = ne-eqb n 0 (λ z. omega arith)
+unaccepted (call (afternoonCall id)) n k h = ne-eqb n 0 (λ z. omega arith)
+unaccepted (call (reduction id)) n k h = ne-eqb n 0 (λ z. omega arith)
+unaccepted (call run) n k h = let z : eqb n 0 ≡ false = ne-eqb n 0 (λ z. omega arith) in rw z (go (eqb n 20) (h refl))
+  where
+    go : (c : Bool) → T (not c) → c ≡ false
+    go true p = absurd p
+    go false p = refl
+unaccepted (postings v) n k h = ne-eqb n 0 (λ z. omega arith)
+unaccepted withdrawal n k h = ne-eqb n 0 (λ z. omega arith)
+
+module _ {limits : Limits} {b : Book} {log : Option (List ℕ)} where
+  pub act-refused : (a : Act) (n : ℕ) → Sound b → 0 < n → (a ≡ call run → T (not (eqb n 20))) → Acted limits b log a (refusedOn b log n)
+  unfolding refusedOn only
+  act-refused a n s k h =
+      let e = unaccepted a n k h in
+      record { sound = s; moved = rw e (moved-refl b); lowered = λ w. lowered-refl (b .trades); refused = λ q. (refl, refl); covered = λ d q. absurd (omega arith) }
+
+  pub act-accepted : (a : Act) (r : Event) → acceptedNumber a (r .answer .number) ≡ true → Sound (r .book)
+      → Moved b (r .book) (λ i. amountsIn i a (r .numbers)) (countedIn a (r .answer .mwh)) (countedIn a (r .answer .worth))
+      → ((a ≡ withdrawal → ⊥) → Pairwise Lowered (b .trades) (r .book .trades))
+      → (a ≡ call run → r .answer .number ≡ 0 → AllCovered limits (r .book))
+      → Acted limits b log a r
+  act-accepted a r e s m l c = record { sound = s; moved = rw e m; lowered = l; refused = λ q. absurd (rw e at q); covered = c }
+
+  -- a call that has an effect, with any log afterwards
+  pub call-accepted : (c : Call) (r : Result) (m : Option (List ℕ)) → Effected limits b c r
+      → Acted limits b log (call c) (record { answer = r .answer; numbers = []; book = r .book; log = m })
+  unfolding amountsIn countedIn
+  call-accepted c r m e =
+      act-accepted (call c) (record { answer = r .answer; numbers = []; book = r .book; log = m }) (accepted-zero (call c) (e .number)) (e .sound) (e .moved) (λ w. e .lowered)
+      (λ d n. e .covered (same-call d))
+
+-- ---- the numbers of questions
+
+-- no question of the book or of the store has the number 20
+pub book-plain : (b : Book) → T (all (λ q. not (eqb (q .number) 20)) (aboutBook b))
+unfolding aboutBook all
+book-plain b = tt
+
+pub setting-plain : (g : Setting) (b : Book) → T (all (λ q. not (eqb (q .number) 20)) (aboutSetting g b))
+unfolding aboutSetting aboutStore all
+setting-plain g b = go (g .store)
+  where
+    go : (store : Option (List ℕ)) → T (all (λ q. not (eqb (q .number) 20)) (aboutStore store (b .header .date)))
+    go none = tt
+    go (some s) = tt
+
+-- so a run without a log is not refused with it
+asks-plain : (g : Setting) (b : Book) → T (all (λ q. not (eqb (q .number) 20)) (asks g b run))
+unfolding asks about all
+asks-plain g b =
+    all-append (λ q. not (eqb (q .number) 20)) (aboutBook b) (aboutSetting g b ++ []) (book-plain b) (all-append (λ q. not (eqb (q .number) 20)) (aboutSetting g b) [] (setting-plain g b) tt)
 
 -- ---- calls
 
-call-acted : {limits : Limits} {b : Book} {c : Call} {r : Result} → Stepped limits b c r → Acted limits b (call c) (ofCall r)
-unfolding ofCall amountsIn countedIn callOf
-call-acted s =
-    record { sound = s .sound; moved = s .moved; lowered = s .lowered; refused = s .refused; covered = λ e t. s .covered (ap callOf e) t }
+call-law : (g : Setting) (b : Book) (c : Call) → Sound b → Acted (limitsOn g b) b none (call c) (ofCall (stepGiven g b c))
+unfolding stepGiven decided numbered asks ofCall refusedOn
+call-law g b c s = go (refusal (asks g b c)) refl
+  where
+    go : (o : Option ℕ) → refusal (asks g b c) ≡ o
+        → Acted (limitsOn g b) b none (call c) (ofCall (decided o (λ n. record { answer = only n; book = b }) (effect (limitsOn g b) b c)))
+    go none e =
+        let own = about (limitsOn g b) b c in
+        call-accepted c (effect (limitsOn g b) b c) none (effect-law (limitsOn g b) b c s (append-yes (aboutSetting g b) own (append-yes (aboutBook b) (aboutSetting g b ++ own) e .1) .1))
+    go (some n) e =
+        act-refused (call c) n s (ltb→lt 0 n (refusal-is (λ i. ltb 0 i) (asks g b c) n (asks-numbered g b c) e))
+        (λ d. refusal-is (λ i. not (eqb i 20)) (asks g b run) n (asks-plain g b) (subst (λ (x : Call). refusal (asks g b x) ≡ some n) (same-call d) e))
 
 -- ---- the lines of a list
 
-record Lined (b : Book) (areas : List ℕ) (amounts : List ℤ) (r : Event) : Type 0 where
-  accepted : r .answer .number ≡ 0
-  sound : Sound (r .book)
-  moved : Moved b (r .book) (λ i. lineAmounts i areas amounts (r .numbers)) (pos 0) (pos 0)
-  lowered : Pairwise Lowered (b .trades) (r .book .trades)
+pub record Lined (b : Book) (areas : List ℕ) (amounts : List ℤ) (r : Event) : Type 0 where
+  pub accepted : r .answer .number ≡ 0
+  pub sound : Sound (r .book)
+  pub moved : Moved b (r .book) (λ i. lineAmounts i areas amounts (r .numbers)) (pos 0) (pos 0)
+  pub lowered : Pairwise Lowered (b .trades) (r .book .trades)
 
 -- without a line nothing is added
 no-amounts : (i : ℕ) (areas : List ℕ) (amounts : List ℤ) → pos 0 ≡ lineAmounts i areas amounts []
@@ -67,7 +156,7 @@ no-amounts i [] amounts = refl
 no-amounts i (area ∷ areas) [] = refl
 no-amounts i (area ∷ areas) (z ∷ amounts) = refl
 
-no-lines : (b : Book) (areas : List ℕ) (amounts : List ℤ) → Sound b → Lined b areas amounts (record { answer = only 0; numbers = []; book = b })
+no-lines : (b : Book) (areas : List ℕ) (amounts : List ℤ) → Sound b → Lined b areas amounts (record { answer = only 0; numbers = []; book = b; log = none })
 unfolding only
 no-lines b areas amounts s =
     record {
@@ -82,7 +171,7 @@ nothing-cut : (c : Bool) → cond c (pos 0) (pos 0) +ℤ pos 0 ≡ pos 0
 nothing-cut true = refl
 nothing-cut false = refl
 
-lines-law : (g : Setting) (b : Book) (ids areas : List ℕ) (amounts : List ℤ) → Sound b → Lined b areas amounts (linesGiven g b ids areas amounts)
+pub lines-law : (g : Setting) (b : Book) (ids areas : List ℕ) (amounts : List ℤ) → Sound b → Lined b areas amounts (linesGiven g b ids areas amounts)
 unfolding linesGiven lineAmounts amountIn counted only
 lines-law g b [] areas amounts s = no-lines b areas amounts s
 lines-law g b (id ∷ ids) [] amounts s = no-lines b [] amounts s
@@ -103,39 +192,58 @@ lines-law g b (id ∷ ids) (area ∷ areas) (z ∷ amounts) s =
 
 -- ---- lists
 
-module _ (limits : Limits) (b : Book) (v : Lines) where
-  list-refused : (n : ℕ) → Sound b → 0 < n → Acted limits b (postings v) (record { answer = only n; numbers = []; book = b })
-  unfolding only isList
-  list-refused n s k =
-      let e : eqb n 0 ≡ false = ne-eqb n 0 (λ z. omega arith) in
-      record { sound = s; moved = rw e (moved-refl b); lowered = lowered-refl (b .trades); refused = λ h. refl; covered = λ d h. absurd (rw e at h) }
+-- a list is no run
+pub list-no-run : {v : Lines} → postings v ≡ call run → ⊥
+unfolding kindOf
+list-no-run e = let k : _≡_ {A = ℕ} 1 0 = ap kindOf e in omega arith
 
-  list-accepted : {r : Event} → Lined b (v .areas) (v .amounts) r → Acted limits b (postings v) r
-  unfolding amountsIn countedIn isList
-  list-accepted {r} l =
-      let z : eqb (r .answer .number) 0 ≡ true = eq-eqb (r .answer .number) 0 (l .accepted) in
-      record {
-        sound = l .sound;
-        moved = rw z (l .moved);
-        lowered = l .lowered;
-        refused = λ h. absurd (rw z at h);
-        covered = λ e h. absurd (let k : _≡_ {A = ℕ} 1 0 = ap isList e in omega arith);
-      }
+-- an accepted list, with any log afterwards
+pub list-accepted : {limits : Limits} {b : Book} {log : Option (List ℕ)} (v : Lines) (r : Event) (m : Option (List ℕ)) → Lined b (v .areas) (v .amounts) r
+    → Acted limits b log (postings v) (record { answer = r .answer; numbers = r .numbers; book = r .book; log = m })
+unfolding amountsIn countedIn
+list-accepted v r m l =
+    act-accepted (postings v) (record { answer = r .answer; numbers = r .numbers; book = r .book; log = m }) (accepted-zero (postings v) (l .accepted)) (l .sound) (l .moved) (λ w. l .lowered)
+    (λ e h. absurd (list-no-run e))
 
--- the opening questions of a list
-asks : Setting → Book → Lines → List Question
-asks g b v = aboutBook b ++ (aboutLines v ++ aboutSetting g b)
+-- the opening questions of a list without a log
+lines-asks : Setting → Book → Lines → List Question
+lines-asks g b v = aboutBook b ++ (aboutLines v ++ aboutSetting g b)
 
-asks-numbered : (g : Setting) (b : Book) (v : Lines) → T (numbered (asks g b v))
-unfolding asks numbered aboutLines all
-asks-numbered g b v = all-append (λ q. ltb 0 (q .number)) (aboutBook b) (aboutLines v ++ aboutSetting g b) (book-numbered b) (setting-numbered g b)
+lines-asks-numbered : (g : Setting) (b : Book) (v : Lines) → T (numbered (lines-asks g b v))
+unfolding lines-asks numbered aboutLines all
+lines-asks-numbered g b v = all-append (λ q. ltb 0 (q .number)) (aboutBook b) (aboutLines v ++ aboutSetting g b) (book-numbered b) (setting-numbered g b)
 
-pub act-law : (g : Setting) (b : Book) (a : Act) → Sound b → Acted (limitsOn g b) b a (actGiven g b a)
-unfolding actGiven decided numbered asks
-act-law g b (call c) s = call-acted (step-law g b c s)
-act-law g b (postings v) s = go (refusal (asks g b v)) refl
+-- ---- a withdrawal without a log is refused
+
+pub withdrawal-no-run : withdrawal ≡ call run → ⊥
+unfolding kindOf
+withdrawal-no-run e = let k : _≡_ {A = ℕ} 2 0 = ap kindOf e in omega arith
+
+no-entry-asks : Setting → Book → List Question
+no-entry-asks g b = aboutBook b ++ (aboutSetting g b ++ (hasEntry [] ∷ []))
+
+no-entry-numbered : (g : Setting) (b : Book) → T (numbered (no-entry-asks g b))
+unfolding no-entry-asks numbered hasEntry all
+no-entry-numbered g b =
+    all-append (λ q. ltb 0 (q .number)) (aboutBook b) (aboutSetting g b ++ (hasEntry [] ∷ [])) (book-numbered b)
+    (all-append (λ q. ltb 0 (q .number)) (aboutSetting g b) (hasEntry [] ∷ []) (setting-numbered g b) tt)
+
+-- ---- an act without a log
+
+pub act-law : (g : Setting) (b : Book) (a : Act) → Sound b → Acted (limitsOn g b) b none a (actGiven g b a)
+unfolding actGiven decided numbered lines-asks no-entry-asks
+act-law g b (call c) s = call-law g b c s
+act-law g b (postings v) s = go (refusal (lines-asks g b v)) refl
   where
-    go : (o : Option ℕ) → refusal (asks g b v) ≡ o
-        → Acted (limitsOn g b) b (postings v) (decided o (λ n. record { answer = only n; numbers = []; book = b }) (linesGiven g b (v .ids) (v .areas) (v .amounts)))
-    go none e = list-accepted (limitsOn g b) b v (lines-law g b (v .ids) (v .areas) (v .amounts) s)
-    go (some n) e = list-refused (limitsOn g b) b v n s (ltb→lt 0 n (refusal-is (λ i. ltb 0 i) (asks g b v) n (asks-numbered g b v) e))
+    go : (o : Option ℕ) → refusal (lines-asks g b v) ≡ o → Acted (limitsOn g b) b none (postings v) (decided o (refusedOn b none) (linesGiven g b (v .ids) (v .areas) (v .amounts)))
+    go none e = list-left (linesGiven g b (v .ids) (v .areas) (v .amounts)) (lines-law g b (v .ids) (v .areas) (v .amounts) s)
+      where
+        list-left : (r : Event) → Lined b (v .areas) (v .amounts) r → Acted (limitsOn g b) b none (postings v) r
+        list-left r l = list-accepted v r (r .log) l
+    go (some n) e =
+        act-refused (postings v) n s (ltb→lt 0 n (refusal-is (λ i. ltb 0 i) (lines-asks g b v) n (lines-asks-numbered g b v) e)) (λ d. absurd (list-no-run d))
+act-law g b withdrawal s = go (refusal (no-entry-asks g b)) refl
+  where
+    go : (o : Option ℕ) → refusal (no-entry-asks g b) ≡ o → Acted (limitsOn g b) b none withdrawal (decided o (refusedOn b none) (refusedOn b none 18))
+    go none e = act-refused withdrawal 18 s (omega arith) (λ d. absurd (withdrawal-no-run d))
+    go (some n) e = act-refused withdrawal n s (ltb→lt 0 n (refusal-is (λ i. ltb 0 i) (no-entry-asks g b) n (no-entry-numbered g b) e)) (λ d. absurd (withdrawal-no-run d))

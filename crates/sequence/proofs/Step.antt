@@ -21,6 +21,7 @@ use Rattle.base.proofs.Tests.{all-append, and-l, and-r}
 use Rattle.laws.proofs.Trades.{lowered-refl}
 use Rattle.laws.specs.Statements.{AllCovered}
 use Rattle.laws.specs.Trades.{Lowered, Pairwise}
+use Rattle.requests.proofs.Emptied.{about-numbered}
 use Rattle.requests.proofs.Opened.{setting-numbered}
 use Rattle.requests.specs.Request.{Setting, aboutSetting, limitsOn, stepGiven}
 use Rattle.rules.specs.Book.{Book, at, find}
@@ -70,24 +71,16 @@ pub book-numbered : (b : Book) → T (all (λ q. ltb 0 (q .number)) (aboutBook b
 unfolding aboutBook all
 book-numbered b = tt
 
-call-numbered : (limits : Limits) (b : Book) (c : Call) → T (all (λ q. ltb 0 (q .number)) (about limits b c))
-unfolding about idKnown isShipper entryInRange assignedSuffices assignedFallsShort marginExceeded calledInBeyondMargin eligibleTrade all
-call-numbered limits b (posting id area amount) = tt
-call-numbered limits b (morningCall id) = tt
-call-numbered limits b (afternoonCall id) = tt
-call-numbered limits b (reduction id) = tt
-call-numbered limits b run = tt
-
--- the questions of a request
-asks : Setting → Book → Call → List Question
+-- the questions of a call without a log
+unfoldable pub asks : Setting → Book → Call → List Question
 asks g b c = aboutBook b ++ (aboutSetting g b ++ about (limitsOn g b) b c)
 
-asks-numbered : (g : Setting) (b : Book) (c : Call) → T (numbered (asks g b c))
+pub asks-numbered : (g : Setting) (b : Book) (c : Call) → T (numbered (asks g b c))
 unfolding asks numbered
 asks-numbered g b c =
     let own = about (limitsOn g b) b c in
     all-append (λ q. ltb 0 (q .number)) (aboutBook b) (aboutSetting g b ++ own) (book-numbered b)
-    (all-append (λ q. ltb 0 (q .number)) (aboutSetting g b) own (setting-numbered g b) (call-numbered (limitsOn g b) b c))
+    (all-append (λ q. ltb 0 (q .number)) (aboutSetting g b) own (setting-numbered g b) (about-numbered (limitsOn g b) b c))
 
 module _ (limits : Limits) where
   pub record Stepped (b : Book) (c : Call) (r : Result) : Type 0 where
@@ -111,18 +104,23 @@ module _ (limits : Limits) where
         covered = λ d h. absurd (rw e at h);
       }
 
-  accepted-law : (b : Book) (c : Call) (r : Result) → r .answer .number ≡ 0 → Sound (r .book)
-      → Moved b (r .book) (λ a. amountIn a c) (counted c (r .answer .mwh)) (counted c (r .answer .worth))
-      → Pairwise Lowered (b .trades) (r .book .trades)
-      → (c ≡ run → AllCovered limits (r .book)) → Stepped b c r
-  accepted-law b c r e s m l d =
-      let z : eqb (r .answer .number) 0 ≡ true = eq-eqb (r .answer .number) 0 e in
+  -- an accepted call
+  pub record Effected (b : Book) (c : Call) (r : Result) : Type 0 where
+    pub number : r .answer .number ≡ 0
+    pub sound : Sound (r .book)
+    pub moved : Moved b (r .book) (λ a. amountIn a c) (counted c (r .answer .mwh)) (counted c (r .answer .worth))
+    pub lowered : Pairwise Lowered (b .trades) (r .book .trades)
+    pub covered : c ≡ run → AllCovered limits (r .book)
+
+  accepted-law : {b : Book} {c : Call} {r : Result} → Effected b c r → Stepped b c r
+  accepted-law {r = r} e =
+      let z : eqb (r .answer .number) 0 ≡ true = eq-eqb (r .answer .number) 0 (e .number) in
       record {
-        sound = s;
-        moved = rw z m;
-        lowered = l;
+        sound = e .sound;
+        moved = rw z (e .moved);
+        lowered = e .lowered;
         refused = λ h. absurd (rw z at h);
-        covered = λ k h. d k;
+        covered = λ k h. e .covered k;
       }
 
   -- a call that is no run
@@ -130,17 +128,20 @@ module _ (limits : Limits) where
   unfolding isRun
   other c e h = let k : _≡_ {A = ℕ} 0 1 = sym e ∙ ap isRun h in omega arith
 
-  effect-law : (b : Book) (c : Call) → Sound b → refusal (about limits b c) ≡ none → Stepped b c (effect limits b c)
+  pub effect-law : (b : Book) (c : Call) → Sound b → refusal (about limits b c) ≡ none → Effected b c (effect limits b c)
   unfolding about effect idKnown isShipper entryInRange assignedSuffices assignedFallsShort marginExceeded calledInBeyondMargin eligibleTrade only ofLevel ofCuts guaranteed reduced reducedBy withUsers amountIn counted isRun
   effect-law b (posting id area amount) s h =
       let q8 = first-yes _ _ h in
       let q10 = first-yes _ _ (q8 .1) in
       let ok = within 1000000 (at (find (b .users) id .physical) area +ℤ amount) in
       let small = ltb→lt area 3 (and-l (ltb area 3) ok (q10 .0)) in
-      accepted-law b (posting id area amount) _ refl
-      (posting-sound b id area amount s (q8 .0) small (and-r (ltb area 3) ok (q10 .0)))
-      (posting-moved b id area amount s (q8 .0) small)
-      (lowered-refl (b .trades)) (λ e. absurd (other (posting id area amount) refl e))
+      record {
+        number = refl;
+        sound = posting-sound b id area amount s (q8 .0) small (and-r (ltb area 3) ok (q10 .0));
+        moved = posting-moved b id area amount s (q8 .0) small;
+        lowered = lowered-refl (b .trades);
+        covered = λ e. absurd (other (posting id area amount) refl e);
+      }
   effect-law b (morningCall id) s h =
       let q8 = first-yes _ _ h in
       let q9 = first-yes _ _ (q8 .1) in
@@ -148,9 +149,13 @@ module _ (limits : Limits) where
       let q12 = first-yes _ _ (q11 .1) in
       let u = find (b .users) id in
       let level = morningLevel limits b u in
-      accepted-law b (morningCall id) _ refl
-      (guarantee-sound b id level s (q8 .0) (leb→le level (u .party .assigned) (q12 .0)))
-      (guarantee-moved b id level) (lowered-refl (b .trades)) (λ e. absurd (other (morningCall id) refl e))
+      record {
+        number = refl;
+        sound = guarantee-sound b id level s (q8 .0) (leb→le level (u .party .assigned) (q12 .0));
+        moved = guarantee-moved b id level;
+        lowered = lowered-refl (b .trades);
+        covered = λ e. absurd (other (morningCall id) refl e);
+      }
   effect-law b (afternoonCall id) s h =
       let q8 = first-yes _ _ h in
       let q9 = first-yes _ _ (q8 .1) in
@@ -158,16 +163,20 @@ module _ (limits : Limits) where
       let q12 = first-yes _ _ (q11 .1) in
       let u = find (b .users) id in
       let level = afternoonLevel limits b u in
-      accepted-law b (afternoonCall id) _ refl
-      (guarantee-sound b id level s (q8 .0) (leb→le level (u .party .assigned) (q12 .0)))
-      (guarantee-moved b id level) (lowered-refl (b .trades)) (λ e. absurd (other (afternoonCall id) refl e))
+      record {
+        number = refl;
+        sound = guarantee-sound b id level s (q8 .0) (leb→le level (u .party .assigned) (q12 .0));
+        moved = guarantee-moved b id level;
+        lowered = lowered-refl (b .trades);
+        covered = λ e. absurd (other (afternoonCall id) refl e);
+      }
   effect-law b (reduction id) s h =
       let r = reduced-law limits b (find (b .users) id) s in
-      accepted-law b (reduction id) _ refl (r .sound) (r .moved) (r .lowered) (λ e. absurd (other (reduction id) refl e))
+      record { number = refl; sound = r .sound; moved = r .moved; lowered = r .lowered; covered = λ e. absurd (other (reduction id) refl e) }
   effect-law b run s h =
       let n = cuttable (b .trades) in
       let r = run-law limits n b s in
-      accepted-law b run _ (r .number) (r .sound) (r .moved) (r .lowered) (λ e. run-ends limits .enough n b (accept b s) (le-refl n))
+      record { number = r .number; sound = r .sound; moved = r .moved; lowered = r .lowered; covered = λ e. run-ends limits .enough n b (accept b s) (le-refl n) }
 
 pub step-law : (g : Setting) (b : Book) (c : Call) → Sound b → Stepped (limitsOn g b) b c (stepGiven g b c)
 unfolding stepGiven decided numbered asks
@@ -177,5 +186,5 @@ step-law g b c s = go (refusal (asks g b c)) refl
         → Stepped (limitsOn g b) b c (decided o (λ n. record { answer = only n; book = b }) (effect (limitsOn g b) b c))
     go none e =
         let own = about (limitsOn g b) b c in
-        effect-law (limitsOn g b) b c s (append-yes (aboutSetting g b) own (append-yes (aboutBook b) (aboutSetting g b ++ own) e .1) .1)
+        accepted-law (limitsOn g b) (effect-law (limitsOn g b) b c s (append-yes (aboutSetting g b) own (append-yes (aboutBook b) (aboutSetting g b ++ own) e .1) .1))
     go (some n) e = refused-law (limitsOn g b) b c n s (ltb→lt 0 n (refusal-is (λ i. ltb 0 i) (asks g b c) n (asks-numbered g b c) e))

@@ -1,4 +1,5 @@
--- Demand 3 as one claim about a whole sequence of requests that are all given one store, or none, from bytes s that pass the questions 1 to 7 to bytes t. Assumes nothing.
+-- Demand 3 as one claim about a whole sequence of requests that are all given one store, or none, and whatever logs, from bytes s that pass the questions 1 to 7 to bytes t. Assumes
+-- nothing.
 use mathlib.Core.Bool.{not}
 use mathlib.Core.List.{List, [], _∷_}
 use mathlib.Core.Option.{Option}
@@ -14,7 +15,7 @@ use Rattle.laws.specs.Statements.{AllCovered}
 use Rattle.laws.specs.Trades.{Lowered, Pairwise, leftMwh, leftWorth}
 use Rattle.book_records.specs.Trade.{tradeOf}
 use Rattle.rules.specs.Book.{at, Book, bilateralForDay}
-use Rattle.requests.specs.Request.{call, Event, Request, actGiven}
+use Rattle.requests.specs.Request.{call, withdrawal, Event, Request, requestGiven}
 use Rattle.rules.specs.Calls.{run}
 use Rattle.rules.specs.Levels.{Limits}
 use Rattle.sequence.specs.Links.{Link, isAccepted, requestsOf}
@@ -23,20 +24,20 @@ use Rattle.sequence.specs.Totals.{postedIn, reportedMwh, reportedWorth}
 
 -- ---- "Each answer, and the book after each call, are those that these rules give from the opening book and the arguments of the calls so far"
 
--- what the rules give: the answers, the numbers of a list's lines and the books after a list of requests, from a book
+-- what the rules give: the answers, the numbers of a list's lines, the books and the logs after a list of requests, from a book
 unfoldable pub events : Book → List Request → List Event
 events b [] = []
-events b (r ∷ rs) = let gives = actGiven (r .setting) b (r .act) in gives ∷ events (gives .book) rs
+events b (r ∷ rs) = let gives = requestGiven (r .setting) (r .log) b (r .act) in gives ∷ events (gives .book) rs
 
 -- the book at the end
 unfoldable pub final : Book → List Request → Book
 final b [] = b
-final b (r ∷ rs) = final (actGiven (r .setting) b (r .act) .book) rs
+final b (r ∷ rs) = final (requestGiven (r .setting) (r .log) b (r .act) .book) rs
 
--- request by request: the answer that was given, the numbers of the lines, and the bytes of the book
+-- request by request: the answer that was given, the numbers of the lines, the bytes of the book, and the log
 pub data AsDefined : List Link → List Event → Type 0 where
   asNone : AsDefined [] []
-  asAlso : {l : Link} {e : Event} {ls : List Link} {es : List Event} → l .gave .answer ≡ e .answer → l .gave .numbers ≡ e .numbers → l .gave .bytes ≡ bytesOf (e .book) → AsDefined ls es → AsDefined (l ∷ ls) (e ∷ es)
+  asAlso : {l : Link} {e : Event} {ls : List Link} {es : List Event} → l .gave .answer ≡ e .answer → l .gave .numbers ≡ e .numbers → l .gave .bytes ≡ bytesOf (e .book) → l .gave .log ≡ e .log → AsDefined ls es → AsDefined (l ∷ ls) (e ∷ es)
 
 -- ---- "Every trade byte is as in the opening book, except standing where kind and day are 0."
 
@@ -56,12 +57,12 @@ pub record TradeBytes (s t : List ℕ) : Type 0 where
 pub record Kept (limits : Limits) (l : Link) : Type 0 where
   -- the book stays accepted
   pub accepted : bookNumber (l .gave .bytes) ≡ 0
-  -- "no trade raised or below zero"
-  pub lowered : Pairwise Lowered (tradesOf (l .given)) (tradesOf (l .gave .bytes))
-  -- a refused request leaves the bytes
-  pub refused : T (not (isAccepted l)) → l .gave .bytes ≡ l .given
-  -- "no accepted run ends while a short user has a sale to cut", judged on the book that it leaves
-  pub covered : l .asked .act ≡ call run → T (isAccepted l) → AllCovered limits (bookOf (l .gave .bytes))
+  -- "no trade raised or below zero"; "a trade may rise only by a withdrawal"
+  pub lowered : (l .asked .act ≡ withdrawal → ⊥) → Pairwise Lowered (tradesOf (l .given)) (tradesOf (l .gave .bytes))
+  -- a refused request leaves the bytes and the log
+  pub refused : T (not (isAccepted l)) → (l .gave .bytes ≡ l .given) × (l .gave .log ≡ l .asked .log)
+  -- "no accepted run ends while a short user has a sale to cut", judged on the book that it leaves; "demand 3's last sentence is then of the runs that return 0"
+  pub covered : l .asked .act ≡ call run → l .gave .answer .number ≡ 0 → AllCovered limits (bookOf (l .gave .bytes))
 
 pub data Each (limits : Limits) : List Link → Type 0 where
   eachNone : Each limits []

@@ -4,3 +4,4 @@ pub mod Contracts
 pub mod Totals
 pub mod Claim
 pub mod RunLength
+pub mod Logs

@@ -1,12 +1,13 @@
 -- A sequence of requests as it happened: each with the bytes that it was given and what it gave. Assumes nothing.
 use mathlib.Core.Path.{_≡_}
-use mathlib.Core.Bool.{Bool}
+use mathlib.Core.Bool.{Bool, _||_}
 use mathlib.Core.List.{List, [], _∷_, map}
 use mathlib.Core.Option.{Option}
 use Prim.Native.Nat.{ℕ}
 use lib.Dec.{eqb}
 use Rattle.requests.specs.Carried.{Carried}
-use Rattle.requests.specs.Request.{Outcome, Request, request}
+use Rattle.requests.specs.Request.{call, postings, withdrawal, Act, Outcome, Request, request}
+use Rattle.rules.specs.Calls.{posting, morningCall, afternoonCall, reduction, run}
 
 -- one request
 pub record Link : Type 0 where
@@ -14,18 +15,27 @@ pub record Link : Type 0 where
   pub given : List ℕ
   pub gave : Outcome
 
--- "Accepted means that the number returned is 0."
+-- "Accepted means that the number returned is 0." A run that meets a full log "stops with 20 and its totals, keeps its cuts and counts as accepted".
+unfoldable pub acceptedNumber : Act → ℕ → Bool
+acceptedNumber (call (posting id area amount)) n = eqb n 0
+acceptedNumber (call (morningCall id)) n = eqb n 0
+acceptedNumber (call (afternoonCall id)) n = eqb n 0
+acceptedNumber (call (reduction id)) n = eqb n 0
+acceptedNumber (call run) n = eqb n 0 || eqb n 20
+acceptedNumber (postings v) n = eqb n 0
+acceptedNumber withdrawal n = eqb n 0
+
 unfoldable pub isAccepted : Link → Bool
-isAccepted l = eqb (l .gave .answer .number) 0
+isAccepted l = acceptedNumber (l .asked .act) (l .gave .answer .number)
 
 -- the requests alone
 unfoldable pub requestsOf : List Link → List Request
 requestsOf ls = map (λ l. l .asked) ls
 
--- From bytes s to bytes t, all requests given one store, or none: each is as the contract of its public function says, with the numbers of a list's lines, and is given
--- the bytes that the last one left. The contracts give such links: Contracts.antt.
+-- From bytes s to bytes t, all requests given one store, or none, and "whatever log": each is as the contract of its public function says, with the numbers of a list's
+-- lines and the log that it leaves, and is given the bytes that the last one left. The contracts give such links: Contracts.antt.
 pub data Linked (store : Option (List ℕ)) : List ℕ → List Link → List ℕ → Type 0 where
   ended : {s : List ℕ} → Linked store s [] s
   then : {s t : List ℕ} {l : Link} {ls : List Link} → l .given ≡ s → l .asked .setting .store ≡ store
       → Carried (l .asked) (l .given) (l .gave .answer) (l .gave .bytes) → l .gave .numbers ≡ request (l .asked) (l .given) .numbers
-      → Linked store (l .gave .bytes) ls t → Linked store s (l ∷ ls) t
+      → l .gave .log ≡ request (l .asked) (l .given) .log → Linked store (l .gave .bytes) ls t → Linked store s (l ∷ ls) t

@@ -1,11 +1,11 @@
--- Document 01, "Sequences": the totals over a sequence; "a refused call adds to no sum". Document 02, ask 1: lists, "each line given 0 counting as an accepted posting".
--- Assumes nothing.
+-- Document 01, "Sequences": the totals over a sequence; "a refused call adds to no sum". Document 02, ask 1: lists, "each line given 0 counting as an accepted posting"; ask 6:
+-- "reported totals are counted less the MWh and worth that withdrawals return". Assumes nothing.
 use mathlib.Core.Bool.{cond}
 use mathlib.Core.List.{List, [], _∷_}
 use Prim.Native.Nat.{ℕ}
 use lib.Dec.{eqb}
-use lib.IntN.{ℤ, pos, _+ℤ_}
-use Rattle.requests.specs.Request.{Act, call, postings}
+use lib.IntN.{ℤ, pos, negℤ, _+ℤ_}
+use Rattle.requests.specs.Request.{Act, call, postings, withdrawal}
 use Rattle.rules.specs.Calls.{Call, posting, morningCall, afternoonCall, reduction, run}
 use Rattle.sequence.specs.Links.{Link, isAccepted}
 
@@ -28,6 +28,7 @@ lineAmounts a (area ∷ areas) (z ∷ amounts) (n ∷ numbers) = cond (eqb n 0) 
 unfoldable pub amountsIn : ℕ → Act → List ℕ → ℤ
 amountsIn a (call c) numbers = amountIn a c
 amountsIn a (postings v) numbers = lineAmounts a (v .areas) (v .amounts) numbers
+amountsIn a withdrawal numbers = pos 0
 
 -- what a reduction's or a run's answer adds to a total of the cuts
 unfoldable pub counted : Call → ℕ → ℤ
@@ -37,16 +38,17 @@ counted (afternoonCall id) n = pos 0
 counted (reduction id) n = pos n
 counted run n = pos n
 
--- a list cuts nothing
+-- a list cuts nothing; what a withdrawal returns is counted off
 unfoldable pub countedIn : Act → ℕ → ℤ
 countedIn (call c) n = counted c n
 countedIn (postings v) n = pos 0
+countedIn withdrawal n = negℤ (pos n)
 
 -- "the amounts of the accepted postings in that area"
 unfoldable pub postedIn : ℕ → Link → ℤ
 postedIn a l = cond (isAccepted l) (amountsIn a (l .asked .act) (l .gave .numbers)) (pos 0)
 
--- "the MWh and the worth in the answers of the accepted reductions and runs"
+-- "the MWh and the worth in the answers of the accepted reductions and runs", less those of the accepted withdrawals
 unfoldable pub reportedMwh : Link → ℤ
 reportedMwh l = cond (isAccepted l) (countedIn (l .asked .act) (l .gave .answer .mwh)) (pos 0)
 

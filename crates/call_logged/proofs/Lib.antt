@@ -1,0 +1,3 @@
+-- The ways out of the calls with a log.
+pub mod Ways
+pub mod LastEntry

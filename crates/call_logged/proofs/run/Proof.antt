@@ -1,0 +1,79 @@
+-- `run` is refused by an opening question, or runs the book in its bytes, and the log holds the book that it leaves. Assumes nothing.
+use mathlib.Core.Path.{_≡_, ap, _∙_}
+use Prim.Native.Nat.{ℕ, _≤_}
+use native.Mathlib.Omega.{arith}
+use lib.Dec.{T}
+use lib.ListN.{length}
+use borrow.Author.Needs.{needs}
+use denote.Ref.{now}
+use Rattle.book_format.proofs.Places.{header-lies}
+use Rattle.book_format.proofs.Passed.{passed}
+use Rattle.book_format.specs.Book.{tradeCount}
+use Rattle.book_format.specs.Questions.{bookNumber}
+use Rattle.call_run.specs.Call.{runCall}
+use Rattle.log_format.proofs.Read.{FitLog, fits-facts}
+use Rattle.log_format.specs.Fits.{logFits}
+use Rattle.log_format.specs.Log.{entryCount}
+use Rattle.run_reduction.proofs.Asked.{found-runnable}
+use Rattle.units.specs.Limits.{asLimits}
+use Rattle.call_logged.proofs.Ways.{logged-refused, run-logged}
+use Rattle.call_logged.proofs.run.Statement.{statement}
+use Rattle.call_logged.proofs.run.Tie as tie
+
+abbrev start : tie.Else1 → tie.Start
+start c = c .before .before .before
+
+-- the book and the log pass where the number is 0
+passes : (c : tie.Else1) → bookNumber (now (start c .args .book)) ≡ 0
+passes c = start c .pre .0 .book (c .if1 .left)
+
+fits : (c : tie.Else1) → T (logFits (now (start c .args .log)) (now (start c .args .book)))
+fits c = start c .pre .0 .log (c .if1 .left)
+
+facts : (c : tie.Else1) → FitLog (now (start c .args .log)) (now (start c .args .book))
+facts c = fits-facts (now (start c .args .log)) (now (start c .args .book)) (fits c)
+
+few : (c : tie.Else1) → tradeCount (now (start c .args .book)) ≤ 256
+few c = passed (now (start c .args .book)) (passes c) .form .trades
+
+-- the count that was read
+count : (c : tie.After-get-u32) → c .get-u32 .result ≡ entryCount (now (start (c .before .before .before .before) .args .log))
+unfolding entryCount
+count c = c .get-u32 .ensures
+
+returns : tie.Need-returns
+returns c =
+    let a = c .before .before .before .before .args in
+    logged-refused (asLimits (a .limits)) (now (a .book)) (now (a .log)) runCall (a .number) (c .before .if1 .taken) (c .refused .ensures)
+
+read-prices-requires : tie.Need-read-prices-requires
+read-prices-requires c κs = let e = c .before in header-lies (passed (now (start e .args .book)) (passes e) .form)
+
+get-u32-requires : tie.Need-get-u32-requires
+get-u32-requires c κs = omega (arith, facts (c .before .before .before) .size)
+
+run-book-requires : tie.Need-run-book-requires
+run-book-requires c κs =
+    let e = c .before .before .before .before .before .before in
+    let given = start e .pre .1 in
+    (found-runnable (given .1) (e .if1 .left) (passes e) (λ j. e .before .before .slice-known .given j .fits) (given .0) (c .before .before .before .before .read-prices .ensures), (omega (arith, count (c .before .before), facts e .count), facts e .size))
+
+cast-many : tie.Need-cast-many
+cast-many c = omega (arith, c .before .before .before .before .before .run-book .ensures .few)
+
+seal-requires : tie.Need-seal-requires
+seal-requires c κs =
+    let e = c .before .before .before .before .before .before .before .before .before .before .before .before .before .before in
+    (c .before .before .before .before .before .before .before .run-book .ensures .size ∙ facts e .size, omega (arith, c .before .before .before .before .before .before .before .run-book .kept .0, facts e .room))
+
+returns-2 : tie.Need-returns-2
+returns-2 c =
+    let e = c .before .before .before .before .before .before .before .before .before .before .before .before .before .before .before .before .before .before .before in
+    let a = start e .args in
+    run-logged (asLimits (a .limits)) (now (a .book)) (now (a .log)) (λ j. e .before .slice-known2 .given j .fits) (few e) (fits e) (e .if1 .left) (count (c .before .before .before .before .before .before .before .before .before .before .before .before .before .before .before)) (c .before .before .before .before .before .before .before .before .before .before .before .before .run-book .ensures) (c .before .before .before .before .seal .ensures) (c .ran .ensures)
+
+pub run-spec : {M : Type 1} → statement M
+run-spec =
+    tie.close
+    (tie.spec (λ c κs. search needs) returns read-prices-requires get-u32-requires (λ c. search needs) run-book-requires cast-many seal-requires
+    (λ c κs. search needs) (λ c. search needs) (λ c. search needs) returns-2)

@@ -1,0 +1,63 @@
+-- `withdrawal` is refused by an opening question, has no entry to withdraw, or withdraws the last. Assumes nothing.
+use mathlib.Core.Path.{_≡_, sym, subst, _∙_}
+use native.Mathlib.Omega.{arith}
+use Prim.Native.Nat.{ℕ, suc, _-_}
+use lib.Dec.{T}
+use borrow.Author.Needs.{needs}
+use denote.Ref.{now}
+use Rattle.book_format.proofs.Held.{accepted-of}
+use Rattle.book_format.specs.Questions.{bookNumber}
+use Rattle.log_format.proofs.Read.{FitLog, fits-facts}
+use Rattle.log_format.specs.Fits.{logFits}
+use Rattle.log_format.specs.Log.{entryCount}
+use Rattle.call_logged.proofs.LastEntry.{by-number, some-left, withdrawal-none, withdrawal-refused}
+use Rattle.call_logged.proofs.withdrawal.Statement.{statement}
+use Rattle.call_logged.proofs.withdrawal.Tie as tie
+
+abbrev start : tie.Else1 → tie.Start
+start c = c .before .before .before
+
+passes : (c : tie.Else1) → bookNumber (now (start c .args .book)) ≡ 0
+passes c = start c .pre .0 .book (c .if1 .left)
+
+fits : (c : tie.Else1) → T (logFits (now (start c .args .log)) (now (start c .args .book)))
+fits c = start c .pre .0 .log (c .if1 .left)
+
+facts : (c : tie.Else1) → FitLog (now (start c .args .log)) (now (start c .args .book))
+facts c = fits-facts (now (start c .args .log)) (now (start c .args .book)) (fits c)
+
+count : (c : tie.After-get-u32) → c .get-u32 .result ≡ entryCount (now (start (c .before .before) .args .log))
+unfolding entryCount
+count c = c .get-u32 .ensures
+
+returns : tie.Need-returns
+returns c = let a = c .before .before .before .before .args in withdrawal-refused (now (a .book)) (now (a .log)) (a .number) (c .before .if1 .taken) (c .not-withdrawn .ensures)
+
+get-u32-requires : tie.Need-get-u32-requires
+get-u32-requires c κs = omega (arith, facts (c .before) .size)
+
+returns-2 : tie.Need-returns-2
+returns-2 c =
+    let e = c .before .before .before .before in
+    let a = start e .args in
+    withdrawal-none (now (a .book)) (now (a .log)) (e .if1 .left) (sym (count (c .before .before)) ∙ c .before .if2 .taken) (c .not-withdrawn2 .ensures)
+
+sub-withdraw-last : tie.Need-sub-withdraw-last
+sub-withdraw-last c = some-left (c .before .before .if2 .left)
+
+withdraw-last-requires : tie.Need-withdraw-last-requires
+withdraw-last-requires c κs =
+    let e = c .before .before .before .before .before in
+    let s = start e in
+    (record { accepted = accepted-of (now (s .args .book)) (λ j. e .before .before .slice-known .given j .fits) (passes e); placed = s .pre .1 .placed (e .if1 .left) }, fits e, (let l = some-left (c .before .before .if2 .left) in omega (arith, count (c .before .before .before), l)))
+
+returns-3 : tie.Need-returns-3
+returns-3 c =
+    let e = c .before .before .before .before .before .before .before .before .before .before in
+    by-number (now (start e .args .book)) (now (start e .args .log)) (e .if1 .left) (c .before .before .before .before .withdraw-last .ensures)
+
+pub withdrawal-spec : {M : Type 1} → statement M
+withdrawal-spec =
+    tie.close
+    (tie.spec (λ c κs. search needs) returns get-u32-requires (λ c. search needs) (λ c κs. search needs) (λ c. search needs) returns-2 sub-withdraw-last withdraw-last-requires
+    (λ c. search needs) (λ c. search needs) returns-3)

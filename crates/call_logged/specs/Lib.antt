@@ -1,0 +1,3 @@
+-- What a call with a log gives, after its opening questions.
+pub mod Given
+pub mod Withdrawal

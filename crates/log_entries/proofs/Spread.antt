@@ -1,0 +1,35 @@
+-- The cuts of a user's own sales, entered at their places, are the cuts of all trades. Assumes nothing.
+use mathlib.Core.Bool.{Bool, true, false}
+use mathlib.Core.List.{List, [], _∷_, map}
+use mathlib.Core.Path.{_≡_, refl, ap, _∙_}
+use Prim.Native.Nat.{ℕ, zero, suc}
+use native.Mathlib.Omega.{arith}
+use lib.ListN.{length, set, replicate}
+use Rattle.base.proofs.Tests.{by-case}
+use Rattle.laws_sales.proofs.Kept.{spread-no, spread-yes}
+use Rattle.laws_sales.specs.Kept.{kept, placesOf, spread}
+use Rattle.log_entries.specs.Entries.{entered}
+
+-- places behind the first
+entered-past : (is cs : List ℕ) (x : ℕ) (xs : List ℕ) → entered (map suc is) cs (x ∷ xs) ≡ x ∷ entered is cs xs
+unfolding entered
+entered-past [] cs x xs = refl
+entered-past (i ∷ is) [] x xs = refl
+entered-past (i ∷ is) (c ∷ cs) x xs = entered-past is cs x (set xs i c)
+
+module _ {A : Type 0} (p : A → Bool) where
+  entered-first : (t : A) (ts : List A) (cs : List ℕ) → p t ≡ true → length cs ≡ length (kept p (t ∷ ts))
+      → ((ns : List ℕ) → length ns ≡ length (kept p ts) → entered (placesOf p ts) ns (replicate (length ts) 0) ≡ spread p ts ns)
+      → entered (placesOf p (t ∷ ts)) cs (replicate (length (t ∷ ts)) 0) ≡ spread p (t ∷ ts) cs
+  unfolding entered placesOf kept spread
+  entered-first t ts [] e k rest = let z = rw e at k in absurd (omega arith)
+  entered-first t ts (c ∷ cs) e k rest =
+      rw e (entered-past (placesOf p ts) cs c (replicate (length ts) 0) ∙ ap (λ (ns : List ℕ). c ∷ ns) (rest cs (let z = rw e at k in omega arith)))
+
+  pub spread-entered : (ts : List A) (cs : List ℕ) → length cs ≡ length (kept p ts) → entered (placesOf p ts) cs (replicate (length ts) 0) ≡ spread p ts cs
+  unfolding entered placesOf kept spread
+  spread-entered [] cs k = refl
+  spread-entered (t ∷ ts) cs k =
+      by-case (p t)
+      (λ e. entered-first t ts cs e k (λ ns. spread-entered ts ns))
+      (λ e. rw (spread-no p t ts cs e, e) (entered-past (placesOf p ts) cs 0 (replicate (length ts) 0) ∙ ap (λ (ns : List ℕ). 0 ∷ ns) (spread-entered ts cs (rw e at k))))

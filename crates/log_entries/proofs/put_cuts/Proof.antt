@@ -1,0 +1,79 @@
+-- `put_cuts`: the cuts that are left, written, give the whole entry. Assumes nothing.
+use native.Mathlib.Omega.{arith}
+use Prim.Native.Nat.{_-_}
+use borrow.Author.Needs.{needs}
+use Rattle.log_entries.proofs.Cuts.{PutTo, put-start, put-next, put-end}
+use Rattle.log_entries.proofs.put_cuts.Statement.{statement}
+use Rattle.log_entries.proofs.put_cuts.Tie as tie
+
+abbrev Inv-loop : tie.InvT-loop
+Inv-loop entry₀ origins cuts from to k₀ entry k = PutTo origins cuts from to entry₀ entry k
+
+abbrev μ-loop : tie.MeasureT-loop
+μ-loop entry₀ origins cuts from to k₀ entry k = to - k
+
+loop-holds : tie.Need-loop-holds Inv-loop μ-loop
+loop-holds c = put-start (c .before .pre .1)
+
+element-copy-out-index : tie.Need-element-copy-out-index Inv-loop μ-loop
+element-copy-out-index c = omega (arith, c .before .before .before .pre .1 .few)
+
+index-requires : tie.Need-index-requires Inv-loop μ-loop
+index-requires c κs = search needs
+
+mul-put-u32 : tie.Need-mul-put-u32 Inv-loop μ-loop
+mul-put-u32 c = omega (arith, c .before .index .ensures .1)
+
+mul-put-u32-2 : tie.Need-mul-put-u32-2 Inv-loop μ-loop
+mul-put-u32-2 c = omega (arith, c .before .before .before .before .before .before .pre .1 .few)
+
+element-copy-out-put-u32 : tie.Need-element-copy-out-put-u32 Inv-loop μ-loop
+element-copy-out-put-u32 c = omega (arith, c .before .before .before .before .before .before .pre .1 .few)
+
+cast-put-u32 : tie.Need-cast-put-u32 Inv-loop μ-loop
+cast-put-u32 c =
+    let l = c .before .before .before .before .before in
+    omega (arith, l .before .before .pre .1 .small (l .loop .k) (l .loop .inv .above) (c .before .before .before .before .loop-test .taken))
+
+put-u32-requires : tie.Need-put-u32-requires Inv-loop μ-loop
+put-u32-requires c κs =
+    let l = c .before .before .before .before .before in
+    omega (arith, c .before .before .index .ensures .1, l .loop .inv .long, l .before .before .pre .0)
+
+add-k : tie.Need-add-k Inv-loop μ-loop
+add-k c = search needs
+
+loop-less : tie.Need-loop-less Inv-loop μ-loop
+loop-less c = search needs
+
+loop-again : tie.Need-loop-again Inv-loop μ-loop
+loop-again c =
+    let l = c .before .before .before .before .before .before .before .before in
+    put-next (l .before .before .pre .1) (l .loop .inv) (c .before .before .before .before .before .before .before .loop-test .taken) (c .before .before .before .before .before .index .ensures .0)
+    (c .before .before .put-u32 .ensures)
+
+same-length : tie.Need-same-length Inv-loop μ-loop
+same-length c = c .before .loop .inv .long
+
+returns : tie.Need-returns Inv-loop μ-loop
+returns c = put-end (c .before .before .before .pre .1) (c .before .loop .inv) (c .loop-test .left)
+
+pub put-cuts-spec : {M : Type 1} → statement M
+put-cuts-spec =
+    tie.close
+    (tie.spec
+    Inv-loop
+    μ-loop
+    loop-holds
+    element-copy-out-index
+    index-requires
+    mul-put-u32
+    mul-put-u32-2
+    element-copy-out-put-u32
+    cast-put-u32
+    put-u32-requires
+    add-k
+    loop-less
+    loop-again
+    same-length
+    returns)

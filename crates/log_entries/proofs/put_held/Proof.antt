@@ -1,0 +1,29 @@
+-- `put_held` copies the book to the front of the part and clears what is behind it. Assumes nothing.
+use mathlib.Core.Path.{sym}
+use native.Mathlib.Omega.{arith}
+use denote.Ref.{now}
+use lib.ListN.{length-take}
+use lib.Seq.{length-take-le}
+use borrow.Author.Needs.{needs}
+use Rattle.log_entries.proofs.Parts.{front-filled}
+use Rattle.log_entries.proofs.put_held.Statement.{statement}
+use Rattle.log_entries.proofs.put_held.Tie as tie
+
+slice-aggregate-copy : tie.Need-slice-aggregate-copy
+slice-aggregate-copy c = sym (length-take-le _ _ (c .before .before .before .pre))
+
+copy-requires : tie.Need-copy-requires
+copy-requires c κs = rw length-take (omega (arith, c .before .before .before .pre))
+
+returns : tie.Need-returns
+returns c =
+    let emptied = c .before .before in
+    let copied = emptied .before .before .before .before in
+    let start = copied .before .before .before .before in
+    front-filled (now (start .args .book)) (now (start .args .part)) (copied .copy .last .1 .0) (emptied .clear .last .0) (start .pre) (copied .copy .ensures .1) (emptied .clear .ensures)
+
+pub put-held-spec : {M : Type 1} → statement M
+put-held-spec =
+    tie.close
+    (tie.spec (λ c. search needs) slice-aggregate-copy copy-requires (λ c. search needs) (λ c. search needs) (λ c. search needs) (λ c κs. search needs)
+    (λ c. search needs) returns)

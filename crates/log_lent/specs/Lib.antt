@@ -1,0 +1,2 @@
+-- A lent log that can be emptied.
+pub mod Lent

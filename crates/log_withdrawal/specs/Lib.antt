@@ -1,0 +1,2 @@
+-- Cuts that are given back, by the places of the parties.
+pub mod Back

@@ -1,0 +1,133 @@
+-- What is accepted with a log: a list leaves the bytes and has the numbers of its lines one after another; a call that returns 0 answers and leaves the book as without the log. Assumes nothing.
+use mathlib.Core.List.{List, _++_}
+use mathlib.Core.Option.{Option, none, some}
+use mathlib.Core.Path.{_≡_, _∙_, ap, refl, sym}
+use Prim.Native.Nat.{ℕ, suc, zero}
+use native.Mathlib.Omega.{arith}
+use lib.Dec.{T, ltb, ltb→lt}
+use lib.IntN.{ℤ}
+use Rattle.base.proofs.Tests.{all-append}
+use Rattle.base.specs.Lists.{all}
+use Rattle.laws.proofs.Refusals.{append-yes, numbered, refusal-is}
+use Rattle.laws.proofs.Sound.{accept}
+use Rattle.laws.specs.Sound.{Sound}
+use Rattle.rules.specs.Book.{Book}
+use Rattle.rules.specs.Calls.{posting, morningCall, afternoonCall, reduction, run, Answer, Call, Result, about, effect, only}
+use Rattle.rules.specs.Levels.{Limits}
+use Rattle.rules.specs.Questions.{Question, decided, refusal}
+use Rattle.book_format.proofs.Passed.{passed}
+use Rattle.book_format.specs.After.{after, stepAfter}
+use Rattle.book_format.specs.Book.{bookOf, bytesOf}
+use Rattle.book_format.specs.Questions.{bookNumber}
+use Rattle.book_format.specs.Steps.{InBytes, inBytes}
+use Rattle.log_format.proofs.Main.{runs-within}
+use Rattle.log_format.specs.Log.{entriesOf}
+use Rattle.log_format.specs.Noted.{callEntered, emptying, hasRoom, lastly, room}
+use Rattle.requests.proofs.Emptied.{about-numbered, with-opening}
+use Rattle.requests.proofs.Lines.{list-opened}
+use Rattle.requests.proofs.Logged.{actLent, call-logged, list-logged}
+use Rattle.requests.proofs.Opened.{outcome, request-opened}
+use Rattle.requests.proofs.Passed.{opening-book}
+use Rattle.requests.specs.Logged.{LogOnlyNotes, linesNumberWith, listWith, loggedAfter, openingNumberWith}
+use Rattle.requests.specs.Request.{call, Outcome, Setting, actBy, callIn, emptiedIn, enteredIn, limitsOn, linesIn, linesNumber, linesOf, refused, refusedWith, request, settingOf}
+
+pub accepted-lines : (store log : Option (List ℕ)) (ids areas : List ℕ) (amounts : List ℤ) (n : ℕ) (s : List ℕ) → request (listWith store log ids areas amounts n) s .answer ≡ only 0
+    → (request (listWith store log ids areas amounts n) s .bytes ≡ linesIn (settingOf store) s ids areas amounts .bytes)
+    × (request (listWith store log ids areas amounts n) s .numbers ≡ linesIn (settingOf store) s ids areas amounts .numbers)
+unfolding after refused refusedWith emptiedIn only
+accepted-lines store none ids areas amounts n s e = go (linesNumber (settingOf store) (linesOf ids areas amounts n) s) (list-opened store ids areas amounts n s)
+  where
+    gives : Outcome
+    gives = linesIn (settingOf store) s ids areas amounts
+
+    go : (m : ℕ) → request (listWith store none ids areas amounts n) s ≡ after m (refused s) gives
+        → (request (listWith store none ids areas amounts n) s .bytes ≡ gives .bytes) × (request (listWith store none ids areas amounts n) s .numbers ≡ gives .numbers)
+    go zero k = (ap (λ (o : Outcome). o .bytes) k, ap (λ (o : Outcome). o .numbers) k)
+    go (suc m) k = absurd (let x : _≡_ {A = ℕ} 0 (suc m) = ap (λ (a : Answer). a .number) (sym e ∙ ap (λ (o : Outcome). o .answer) k) in omega arith)
+accepted-lines store (some l) ids areas amounts n s e =
+    go (linesNumberWith (settingOf store) (some l) (linesOf ids areas amounts n) s) (list-logged (settingOf store) l s (linesOf ids areas amounts n))
+  where
+    gives : Outcome
+    gives = linesIn (settingOf store) s ids areas amounts
+
+    go : (m : ℕ) → request (listWith store (some l) ids areas amounts n) s ≡ after m (refusedWith l s) (emptiedIn gives)
+        → (request (listWith store (some l) ids areas amounts n) s .bytes ≡ gives .bytes) × (request (listWith store (some l) ids areas amounts n) s .numbers ≡ gives .numbers)
+    go zero k = (ap (λ (o : Outcome). o .bytes) k, ap (λ (o : Outcome). o .numbers) k)
+    go (suc m) k = absurd (let x : _≡_ {A = ℕ} 0 (suc m) = ap (λ (a : Answer). a .number) (sym e ∙ ap (λ (o : Outcome). o .answer) k) in omega arith)
+
+-- ---- calls
+
+-- no question asked last has the number 0
+pub last-numbered : (n : ℕ) (c : Call) → T (numbered (lastly n c))
+unfolding lastly hasRoom numbered all
+last-numbered n (posting id area amount) = tt
+last-numbered n (morningCall id) = tt
+last-numbered n (afternoonCall id) = tt
+last-numbered n (reduction id) = tt
+last-numbered n run = tt
+
+-- what is entered is what the rules give; a run that returns 0 is the whole run
+entered-effect : (limits : Limits) (n : ℕ) (es : List (List ℕ)) (b : Book) (c : Call) → Sound b → let e = callEntered limits n es b c in
+    e .answer .number ≡ 0 → (e .answer ≡ effect limits b c .answer) × (e .book ≡ effect limits b c .book)
+unfolding callEntered emptying
+entered-effect limits n es b (posting id area amount) s h = (refl, refl)
+entered-effect limits n es b (morningCall id) s h = (refl, refl)
+entered-effect limits n es b (afternoonCall id) s h = (refl, refl)
+entered-effect limits n es b (reduction id) s h = (refl, refl)
+entered-effect limits n es b run s h =
+    let e = runs-within limits .whole n b (accept b s) h in
+    (ap (λ (r : Result). r .answer) e, ap (λ (r : Result). r .book) e)
+
+module _ (g : Setting) (l s : List ℕ) (c : Call) where
+  abbrev limits : Limits
+  limits = limitsOn g (bookOf s)
+
+  own : List Question
+  own = about limits (bookOf s) c ++ lastly (room l) c
+
+  own-numbered : T (numbered own)
+  unfolding own numbered
+  own-numbered = all-append (λ q. ltb 0 (q .number)) (about limits (bookOf s) c) (lastly (room l) c) (about-numbered limits (bookOf s) c) (last-numbered (room l) c)
+
+  -- where no question of the call refuses it
+  step-none : refusal (about limits (bookOf s) c) ≡ none → stepAfter 0 limits s c ≡ inBytes (effect limits (bookOf s) c)
+  unfolding stepAfter after decided
+  step-none e = rw e
+
+  by-own : (o : Option ℕ) → refusal own ≡ o → bookNumber s ≡ 0 → let r = decided o (refusedWith l s) (enteredIn (callEntered limits (room l) (entriesOf s l) (bookOf s) c)) in
+      r .answer .number ≡ 0 → (r .answer ≡ stepAfter 0 limits s c .answer) × (r .bytes ≡ stepAfter 0 limits s c .bytes)
+  unfolding own decided refusedWith enteredIn only inBytes numbered
+  by-own none e p h =
+      let q = entered-effect limits (room l) (entriesOf s l) (bookOf s) c (passed s p .sound) h in
+      let w = sym (step-none (append-yes (about limits (bookOf s) c) (lastly (room l) c) e .0)) in
+      (q .0 ∙ ap (λ (x : InBytes). x .answer) w, ap bytesOf (q .1) ∙ ap (λ (x : InBytes). x .bytes) w)
+  by-own (some n) e p h = absurd (let k = ltb→lt 0 n (refusal-is (λ i. ltb 0 i) own n own-numbered e) in omega arith)
+
+  -- the call after its opening questions
+  same-after : (n : ℕ) → (n ≡ 0 → bookNumber s ≡ 0) → let r = loggedAfter n limits l s c in
+      r .answer .number ≡ 0 → (r .answer ≡ stepAfter n limits s c .answer) × (r .bytes ≡ stepAfter n limits s c .bytes)
+  unfolding loggedAfter after refusedWith only own
+  same-after zero p h = by-own (refusal own) refl (p refl) h
+  same-after (suc n) p h = absurd (omega arith)
+
+  -- by the number of the opening questions, with the log and without it
+  same-by : (n : ℕ) → openingNumberWith g (some l) s ≡ n → let r = request (actLent g (some l) (call c)) s in
+      r .answer .number ≡ 0 → (r .answer ≡ request (callIn g c) s .answer) × (r .bytes ≡ request (callIn g c) s .bytes)
+  unfolding loggedAfter after refusedWith only outcome
+  same-by zero e h =
+      let o = with-opening g (some l) s e in
+      let r : request (actLent g (some l) (call c)) s ≡ loggedAfter 0 limits l s c = call-logged g l s c ∙ ap (λ (n : ℕ). loggedAfter n limits l s c) e in
+      let w : request (callIn g c) s ≡ outcome (stepAfter 0 limits s c) = request-opened g s c ∙ ap (λ (n : ℕ). outcome (stepAfter n limits s c)) o in
+      let q = same-after 0 (λ z. opening-book g s o) (sym (ap (λ (x : Outcome). x .answer .number) r) ∙ h) in
+      (ap (λ (x : Outcome). x .answer) r ∙ q .0 ∙ sym (ap (λ (x : Outcome). x .answer) w), ap (λ (x : Outcome). x .bytes) r ∙ q .1 ∙ sym (ap (λ (x : Outcome). x .bytes) w))
+  same-by (suc n) e h =
+      absurd (let k : _≡_ {A = ℕ} (suc n) 0 = sym (ap (λ (x : Outcome). x .answer .number) (call-logged g l s c ∙ ap (λ (m : ℕ). loggedAfter m limits l s c) e)) ∙ h in omega arith)
+
+pub log-only-notes : LogOnlyNotes
+unfolding request actBy
+log-only-notes =
+    record {
+      without = λ g s a. refl;
+      answer = λ g l s c h. same-by g l s c (openingNumberWith g (some l) s) refl h .0;
+      bytes = λ g l s c h. same-by g l s c (openingNumberWith g (some l) s) refl h .1;
+    }

@@ -1,0 +1,205 @@
+-- A posting, a guarantee call and a list of postings with a lent log, given or not: from the inner call, which knows of no log, and the log that is emptied where it is accepted. Assumes nothing.
+use mathlib.Core.Bool.{Bool, true, false}
+use mathlib.Core.List.{List, [], _++_, append-nil}
+use mathlib.Core.Option.{Option, none, some}
+use mathlib.Core.Path.{_≡_, _∙_, ap, refl, subst, sym}
+use Prim.Native.Nat.{ℕ, suc, zero}
+use native.Mathlib.Omega.{arith}
+use lib.Dec.{T, ltb, ltb→lt}
+use lib.IntN.{ℤ}
+use lib.ListN.{length}
+use Rattle.base.specs.Lists.{all}
+use Rattle.laws.proofs.Refusals.{numbered, refusal-is}
+use Rattle.rules.specs.Book.{Book}
+use Rattle.rules.specs.Calls.{posting, morningCall, afternoonCall, reduction, run, Answer, Call, about, assignedFallsShort, assignedSuffices, calledInBeyondMargin, effect, eligibleTrade, entryInRange, idKnown, isShipper, marginExceeded, only}
+use Rattle.rules.specs.Levels.{Limits}
+use Rattle.rules.specs.Questions.{Question, decided, refusal}
+use Rattle.book_format.specs.After.{CalledAfter, after, stepAfter, unchanged}
+use Rattle.book_format.specs.Book.{bookOf, bytesOf}
+use Rattle.book_format.specs.Steps.{InBytes, inBytes}
+use Rattle.store.specs.Store.{given}
+use Rattle.log_format.proofs.Noted.{Empties}
+use Rattle.log_format.specs.Fits.{logNumber}
+use Rattle.log_format.specs.Log.{entriesOf, logBytes}
+use Rattle.log_format.specs.Noted.{Entered, callEntered, emptying, room}
+use Rattle.requests.proofs.Lines.{lines-answer, list-opened}
+use Rattle.requests.proofs.Logged.{actLent, call-logged, lines-log, lines-with-number, lines-without, list-logged, logged-call, logged-without, with-number, without-number}
+use Rattle.requests.proofs.Opened.{outcome, request-opened}
+use Rattle.requests.specs.Carried.{Carried}
+use Rattle.requests.specs.Logged.{AdmittedWith, Logged, Posted, emptiedBy, lentLog, linesNumberWith, listWith, loggedAfter, openingNumberWith}
+use Rattle.requests.specs.Request.{call, Lines, Outcome, Setting, callIn, emptiedIn, enteredIn, limitsOn, linesIn, linesNumber, linesOf, openingNumber, refused, refusedWith, request, settingOf}
+
+-- no question of a call has the number 0
+pub about-numbered : (limits : Limits) (b : Book) (c : Call) → T (numbered (about limits b c))
+unfolding about idKnown isShipper entryInRange assignedSuffices assignedFallsShort marginExceeded calledInBeyondMargin eligibleTrade numbered all
+about-numbered limits b (posting id area amount) = tt
+about-numbered limits b (morningCall id) = tt
+about-numbered limits b (afternoonCall id) = tt
+about-numbered limits b (reduction id) = tt
+about-numbered limits b run = tt
+
+-- ---- calls that empty the log
+
+-- what such a call gives without a log, with the log emptied
+withEmptied : List ℕ → InBytes → Outcome
+withEmptied l x = record { answer = x .answer; numbers = []; bytes = x .bytes; log = some (after (x .answer .number) (λ n. l) (logBytes [] (x .bytes))) }
+
+module _ {c : Call} (e : Empties c) where
+  decided-emptied : (limits : Limits) (l s : List ℕ) (o : Option ℕ) → refusal (about limits (bookOf s) c) ≡ o
+      → decided o (refusedWith l s) (enteredIn (emptying (effect limits (bookOf s) c))) ≡ withEmptied l (decided o (unchanged s) (inBytes (effect limits (bookOf s) c)))
+  unfolding decided enteredIn emptying inBytes refusedWith unchanged withEmptied only after numbered
+  decided-emptied limits l s none k =
+      let r = effect limits (bookOf s) c in
+      ap (λ (n : ℕ). record { answer = r .answer; numbers = []; bytes = bytesOf (r .book); log = some (after n (λ i. l) (logBytes [] (bytesOf (r .book)))) }) (sym (e .number limits (bookOf s)))
+  decided-emptied limits l s (some zero) k =
+      absurd (let n = ltb→lt 0 0 (refusal-is (λ i. ltb 0 i) (about limits (bookOf s) c) 0 (about-numbered limits (bookOf s) c) k) in omega arith)
+  decided-emptied limits l s (some (suc n)) k = refl
+
+  emptied-after : (number : ℕ) (limits : Limits) (l s : List ℕ) → loggedAfter number limits l s c ≡ withEmptied l (stepAfter number limits s c)
+  unfolding loggedAfter stepAfter after refusedWith unchanged withEmptied only
+  emptied-after (suc n) limits l s = refl
+  emptied-after zero limits l s =
+      ap (λ (qs : List Question). decided (refusal (about limits (bookOf s) c ++ qs)) (refusedWith l s) (enteredIn (callEntered limits (room l) (entriesOf s l) (bookOf s) c))) (e .last (room l))
+      ∙ ap (λ (qs : List Question). decided (refusal qs) (refusedWith l s) (enteredIn (callEntered limits (room l) (entriesOf s l) (bookOf s) c))) (append-nil (about limits (bookOf s) c))
+      ∙ ap (λ (x : Entered). decided (refusal (about limits (bookOf s) c)) (refusedWith l s) (enteredIn x)) (e .entered limits (room l) (entriesOf s l) (bookOf s))
+      ∙ decided-emptied limits l s (refusal (about limits (bookOf s) c)) refl
+
+  pub logged-emptied : {g : Setting} {s : List ℕ} {number : ℕ} {limits : Limits} {a : Answer} {t l m : List ℕ} (lent : Bool) → AdmittedWith g (given lent l) s number limits → CalledAfter number limits s c a t
+      → m ≡ emptiedBy lent (a .number) t l → Logged (actLent g (given lent l) (call c)) s a t l m
+  unfolding given emptiedBy withEmptied
+  logged-emptied {g} {s} {number} {limits} {a} {t} {l} {m} false d k h = subst (λ (x : List ℕ). Logged (actLent g none (call c)) s a t l x) (sym h) (logged-without d k)
+  logged-emptied {g} {s} {number} {limits} {a} {t} {l} {m} true d k h =
+      let e = sym (emptied-after number limits l s) in
+      logged-call d (k .answer ∙ ap (λ (o : Outcome). o .answer) e) (k .bytes ∙ ap (λ (o : Outcome). o .bytes) e)
+      (ap some (h ∙ ap (λ (n : ℕ). after n (λ i. l) (logBytes [] t)) (ap (λ (r : Answer). r .number) (k .answer)) ∙ ap (λ (x : List ℕ). after (stepAfter number limits s c .answer .number) (λ i. l) (logBytes [] x)) (k .bytes)) ∙ ap (λ (o : Outcome). o .log) e)
+
+-- ---- lists
+
+-- a refusal and an accepted list, with a lent log that is given or not
+refusedLent : Bool → List ℕ → List ℕ → ℕ → Outcome
+refusedLent true l s = refusedWith l s
+refusedLent false l s = refused s
+
+emptiedLent : Bool → Outcome → Outcome
+emptiedLent true o = emptiedIn o
+emptiedLent false o = o
+
+module _ (store : Option (List ℕ)) (ids areas : List ℕ) (amounts : List ℤ) (places s l : List ℕ) where
+  abbrev lines : Lines
+  lines = linesOf ids areas amounts (length places)
+
+  abbrev gives : Outcome
+  gives = linesIn (settingOf store) s ids areas amounts
+
+  list-lent : (lent : Bool) → request (listWith store (given lent l) ids areas amounts (length places)) s
+      ≡ after (linesNumberWith (settingOf store) (given lent l) lines s) (refusedLent lent l s) (emptiedLent lent gives)
+  unfolding given refusedLent emptiedLent
+  list-lent true = list-logged (settingOf store) l s lines
+  list-lent false =
+      list-opened store ids areas amounts (length places) s ∙ ap (λ (n : ℕ). after n (refused s) gives) (sym (lines-without (settingOf store) lines s))
+
+  by-answer : (n : ℕ) (lent : Bool) → only n ≡ after n (refusedLent lent l s) (emptiedLent lent gives) .answer
+  unfolding after refusedLent emptiedLent refused refusedWith emptiedIn
+  by-answer zero true = sym (lines-answer (settingOf store) s ids areas amounts)
+  by-answer zero false = sym (lines-answer (settingOf store) s ids areas amounts)
+  by-answer (suc n) true = refl
+  by-answer (suc n) false = refl
+
+  by-bytes : (n : ℕ) (lent : Bool) → after n (λ i. s) (gives .bytes) ≡ after n (refusedLent lent l s) (emptiedLent lent gives) .bytes
+  unfolding after refusedLent emptiedLent refused refusedWith emptiedIn
+  by-bytes zero true = refl
+  by-bytes zero false = refl
+  by-bytes (suc n) true = refl
+  by-bytes (suc n) false = refl
+
+  by-numbers : (n : ℕ) (lent : Bool) → after n (λ i. places) (gives .numbers) ≡ after n (λ i. places) (after n (refusedLent lent l s) (emptiedLent lent gives) .numbers)
+  unfolding after emptiedLent emptiedIn
+  by-numbers zero true = refl
+  by-numbers zero false = refl
+  by-numbers (suc n) lent = refl
+
+  by-log : (n : ℕ) (lent : Bool) (t : List ℕ) → t ≡ after n (λ i. s) (gives .bytes) → emptiedBy lent n t l ≡ lentLog (after n (refusedLent lent l s) (emptiedLent lent gives) .log) l
+  unfolding after refusedLent emptiedLent refused refusedWith emptiedIn emptiedBy lentLog
+  by-log zero true t e = ap (logBytes []) e
+  by-log zero false t e = sym (ap (λ (o : Option (List ℕ)). lentLog o l) (lines-log (settingOf store) s ids areas amounts))
+  by-log (suc n) true t e = refl
+  by-log (suc n) false t e = refl
+
+  -- a public list, from the number of its opening questions, what the inner list leaves, and the log emptied where it is accepted
+  pub posted-list : {number : ℕ} {t left m : List ℕ} (lent : Bool)
+      → number ≡ linesNumberWith (settingOf store) (given lent l) lines s
+      → t ≡ after number (λ n. s) (gives .bytes)
+      → left ≡ after number (λ n. places) (gives .numbers)
+      → m ≡ emptiedBy lent number t l
+      → Posted store (given lent l) ids areas amounts places s number t left l m
+  posted-list {number} {t} {left} {m} lent e b p k =
+      let whole : request (listWith store (given lent l) ids areas amounts (length places)) s ≡ after number (refusedLent lent l s) (emptiedLent lent gives)
+      = list-lent lent ∙ ap (λ (n : ℕ). after n (refusedLent lent l s) (emptiedLent lent gives)) (sym e) in
+      record {
+        logged = record {
+          carried = record {
+            answer = by-answer number lent ∙ sym (ap (λ (o : Outcome). o .answer) whole);
+            bytes = b ∙ by-bytes number lent ∙ sym (ap (λ (o : Outcome). o .bytes) whole);
+          };
+          log = k ∙ by-log number lent t b ∙ sym (ap (λ (o : Outcome). lentLog (o .log) l) whole);
+        };
+        beside = p ∙ by-numbers number lent ∙ ap (λ (o : Outcome). after number (λ n. places) (o .numbers)) (sym whole);
+      }
+
+-- ---- an accepted call that empties the log answers and leaves the book as without one
+
+-- where two parts of questions have the number 0, the first has
+first-zero : (n k : ℕ) → after n (λ i. i) k ≡ 0 → n ≡ 0
+unfolding after
+first-zero zero k e = refl
+first-zero (suc n) k e = absurd (omega arith)
+
+-- who passes the opening questions with a log passes those without it
+pub with-opening : (g : Setting) (log : Option (List ℕ)) (s : List ℕ) → openingNumberWith g log s ≡ 0 → openingNumber g s ≡ 0
+with-opening g log s h = first-zero (openingNumber g s) (logNumber log s) (sym (with-number g log s) ∙ h)
+
+-- a list with a log that passes its opening questions passes those without it
+pub lines-with-opening : (g : Setting) (log : Option (List ℕ)) (v : Lines) (s : List ℕ) → linesNumberWith g log v s ≡ 0 → linesNumber g v s ≡ 0
+lines-with-opening g log v s h = first-zero (linesNumber g v s) (logNumber log s) (sym (lines-with-number g log v s) ∙ h)
+
+module _ {c : Call} (e : Empties c) (g : Setting) (s : List ℕ) where
+  abbrev stepWith : Option (List ℕ) → InBytes
+  stepWith log = stepAfter (openingNumberWith g log s) (limitsOn g (bookOf s)) s c
+
+  -- the inner call after the opening questions
+  emptied-step : (log : Option (List ℕ)) → (request (actLent g log (call c)) s .answer ≡ stepWith log .answer) × (request (actLent g log (call c)) s .bytes ≡ stepWith log .bytes)
+  unfolding outcome withEmptied
+  emptied-step none =
+      let k = request-opened g s c ∙ ap (λ (n : ℕ). outcome (stepAfter n (limitsOn g (bookOf s)) s c)) (sym (without-number g s)) in
+      (ap (λ (o : Outcome). o .answer) k, ap (λ (o : Outcome). o .bytes) k)
+  emptied-step (some l) =
+      let k = call-logged g l s c ∙ emptied-after e (openingNumberWith g (some l) s) (limitsOn g (bookOf s)) l s in
+      (ap (λ (o : Outcome). o .answer) k, ap (λ (o : Outcome). o .bytes) k)
+
+  module _ {log : Option (List ℕ)} {a : Answer} {t : List ℕ} where
+    -- an accepted one passed its opening questions
+    pub accepted-with : Carried (actLent g log (call c)) s a t → a .number ≡ 0 → openingNumberWith g log s ≡ 0
+    unfolding stepAfter after unchanged only
+    accepted-with k h = go (openingNumberWith g log s) refl
+      where
+        go : (n : ℕ) → openingNumberWith g log s ≡ n → n ≡ 0
+        go zero i = refl
+        go (suc n) i =
+            absurd (let x : _≡_ {A = ℕ} 0 (suc n) = sym h ∙ ap (λ (r : Answer). r .number) (k .answer ∙ emptied-step log .0 ∙ ap (λ (m : ℕ). stepAfter m (limitsOn g (bookOf s)) s c .answer) i) in omega arith)
+
+    -- with its log and without it
+    pub log-off : openingNumberWith g log s ≡ 0 → Carried (actLent g log (call c)) s a t → Carried (callIn g c) s a t
+    log-off h k =
+        let n : openingNumberWith g log s ≡ openingNumberWith g none s = h ∙ sym (without-number g s ∙ with-opening g log s h) in
+        record {
+          answer = k .answer ∙ emptied-step log .0 ∙ ap (λ (m : ℕ). stepAfter m (limitsOn g (bookOf s)) s c .answer) n ∙ sym (emptied-step none .0);
+          bytes = k .bytes ∙ emptied-step log .1 ∙ ap (λ (m : ℕ). stepAfter m (limitsOn g (bookOf s)) s c .bytes) n ∙ sym (emptied-step none .1);
+        }
+
+    pub log-on : openingNumberWith g log s ≡ 0 → Carried (callIn g c) s a t → Carried (actLent g log (call c)) s a t
+    log-on h k =
+        let n : openingNumberWith g none s ≡ openingNumberWith g log s = without-number g s ∙ with-opening g log s h ∙ sym h in
+        record {
+          answer = k .answer ∙ emptied-step none .0 ∙ ap (λ (m : ℕ). stepAfter m (limitsOn g (bookOf s)) s c .answer) n ∙ sym (emptied-step log .0);
+          bytes = k .bytes ∙ emptied-step none .1 ∙ ap (λ (m : ℕ). stepAfter m (limitsOn g (bookOf s)) s c .bytes) n ∙ sym (emptied-step log .1);
+        }

@@ -1,0 +1,33 @@
+-- `run_book`: the lists are those of the opening book. Assumes nothing.
+use mathlib.Core.Path.{_≡_, refl}
+use borrow.Author.Needs.{needs}
+use denote.Ref.{now}
+use Rattle.book_format.specs.Book.{tradeCount, userCount}
+use Rattle.run_noted.proofs.run_book.Statement.{statement}
+use Rattle.run_noted.proofs.run_book.Tie as tie
+
+-- the counts of the book
+users-are : (c : tie.After-user-count) → c .user-count .result ≡ userCount (now (c .before .before .before .before .args .book))
+users-are c = c .user-count .ensures
+
+trades-are : (c : tie.After-trade-count) → c .trade-count .result ≡ tradeCount (now (c .before .before .before .before .before .before .args .book))
+trades-are c = c .trade-count .ensures
+
+fill-lists-requires : tie.Need-fill-lists-requires
+fill-lists-requires c κs =
+    ((c .before .before .before .before .before .before .before .before .before .before .before .before .pre .0 .book, users-are (c .before .before .before .before .before .before .before .before), trades-are (c .before .before .before .before .before .before)), (refl, record { origins-room = refl; standing-room = refl; areas-room = refl; buyers-room = refl }))
+
+run-listed-requires : tie.Need-run-listed-requires
+run-listed-requires c κs =
+    let s = c .before .before .before .before .before .before .before .before .before .before .before .before .before .before .before .before .before .before .before .before in
+    let filled = c .before .before .before .before .before .before .before .fill-lists .ensures in
+    (s .pre .0, (record { sales = filled .0; standing = filled .1 .0; room = filled .1 .1 }, s .pre .1))
+
+returns : tie.Need-returns
+returns c = c .before .before .before .before .run-listed .ensures
+
+pub run-book-spec : {M : Type 1} → statement M
+run-book-spec =
+    tie.close
+    (tie.spec (λ c κs. search needs) (λ c. search needs) (λ c κs. search needs) (λ c. search needs) fill-lists-requires run-listed-requires
+    (λ c. search needs) (λ c. search needs) returns)

@@ -1,0 +1,129 @@
+-- `run_on`: what is left of the run, added to the totals and the entries so far, is the run of as many reductions as the log has room for. Assumes nothing.
+use mathlib.Core.Bool.{true, false}
+use mathlib.Core.Path.{ap, sym, subst, _∙_}
+use Prim.Native.Nat.{ℕ, _-_, _<_}
+use native.Mathlib.Omega.{arith}
+use lib.Dec.{T}
+use lib.ListN.{length-replicate}
+use borrow.Author.Needs.{needs}
+use denote.Ref.{now}
+use Rattle.book_format.specs.Book.{userCount}
+use Rattle.rules.specs.Calls.{Answer, ofRun}
+use Rattle.run_reduction.proofs.Steps.{part-few}
+use Rattle.run_turns.proofs.Rounds.{none-cuts, run-more, run-ongoing, run-within, turn-within}
+use Rattle.units.specs.Limits.{asLimits}
+use Rattle.run_noted.proofs.Rounds.{NotedTo, cuts-notable, few-trades, noted-end, noted-more, noted-start, room-left}
+use Rattle.run_noted.proofs.run_on.Statement.{statement}
+use Rattle.run_noted.proofs.run_on.Tie as tie
+
+abbrev Inv-loop : tie.InvT-loop
+Inv-loop book n sums starts origins standing₀ areas buyers positions₀ eligible₀ targets₀ day log₀ count totals₀ noted₀ cuts₀ rests₀ place₀ standing positions eligible targets log totals noted cuts rests place =
+    NotedTo (asLimits (day .limits)) book n count log₀ standing positions targets eligible cuts rests totals place log noted
+
+abbrev μ-loop : tie.MeasureT-loop
+μ-loop book n sums starts origins standing₀ areas buyers positions₀ eligible₀ targets₀ day log₀ count totals₀ noted₀ cuts₀ rests₀ place₀ standing positions eligible targets log totals noted cuts rests place =
+    25600000 - totals .reductions
+
+loop-holds : tie.Need-loop-holds Inv-loop μ-loop
+loop-holds c =
+    let s = c .before .before .before .before .before in
+    noted-start (s .pre .0 .1) (s .pre .0 .0 .sound) (s .pre .1 .0) none-cuts (length-replicate {A = ℕ} 256 0) (c .before .before .none .ensures) (c .next-from .ensures) (s .pre .1 .1 .1)
+
+same-length : tie.Need-same-length Inv-loop μ-loop
+same-length c = c .before .before .loop .inv .size
+
+returns : tie.Need-returns Inv-loop μ-loop
+returns c =
+    let s = c .before .before .before .before .before .before .before .before in
+    noted-end (s .pre .0 .1) (s .pre .0 .0 .sound) (c .before .before .loop .inv) true (λ f. absurd (subst T f tt)) (λ y. (c .before .loop-test .taken, c .if1 .taken))
+
+turn-requires : tie.Need-turn-requires Inv-loop μ-loop
+turn-requires c κs =
+    let s = c .before .before .before .before .before .before .before .before .before .before .before .before .before .before in
+    let q = s .pre .0 .0 in
+    let many = s .pre .0 .1 in
+    let p = c .before .before .before .before .before .before .before .before .loop .inv .run in
+    let k = c .before .before .before .before .before .before .before .loop-test .taken in
+    ((q, omega (arith, k, many), p .here k), (run-ongoing many (q .sound) p, p .none-cut, p .rests-room))
+
+mul-from : tie.Need-mul-from Inv-loop μ-loop
+mul-from c = omega (arith, c .before .before .before .before .before .before .before .before .loop-test .taken, c .before .before .before .before .before .before .before .before .before .before .before .before .before .before .before .pre .0 .1, c .before .before .before .before .before .before .before .before .before .before .before .before .before .before .before .pre .0 .0 .form .users)
+
+element-copy-out-from : tie.Need-element-copy-out-from Inv-loop μ-loop
+element-copy-out-from c = omega (arith, c .before .before .before .before .before .before .before .before .loop-test .taken, c .before .before .before .before .before .before .before .before .before .before .before .before .before .before .before .pre .0 .1, c .before .before .before .before .before .before .before .before .before .before .before .before .before .before .before .pre .0 .0 .form .users)
+
+add-to : tie.Need-add-to Inv-loop μ-loop
+add-to c = omega (arith, c .before .before .before .before .before .before .before .before .before .loop-test .taken, c .before .before .before .before .before .before .before .before .before .before .before .before .before .before .before .before .pre .0 .1, c .before .before .before .before .before .before .before .before .before .before .before .before .before .before .before .before .pre .0 .0 .form .users)
+
+mul-to : tie.Need-mul-to Inv-loop μ-loop
+mul-to c = omega (arith, c .before .before .before .before .before .before .before .before .before .loop-test .taken, c .before .before .before .before .before .before .before .before .before .before .before .before .before .before .before .before .pre .0 .1, c .before .before .before .before .before .before .before .before .before .before .before .before .before .before .before .before .pre .0 .0 .form .users)
+
+element-copy-out-to : tie.Need-element-copy-out-to Inv-loop μ-loop
+element-copy-out-to c = omega (arith, c .before .before .before .before .before .before .before .before .before .loop-test .taken, c .before .before .before .before .before .before .before .before .before .before .before .before .before .before .before .before .pre .0 .1, c .before .before .before .before .before .before .before .before .before .before .before .before .before .before .before .before .pre .0 .0 .form .users)
+
+note-requires : tie.Need-note-requires Inv-loop μ-loop
+note-requires c κs =
+    let s = c .before .before .before .before .before .before .before .before .before .before .before .before .before .before .before .before .before .before .before in
+    let q = s .pre .0 .0 in
+    let many = s .pre .0 .1 in
+    let l = c .before .before .before .before .before .before .before .before .before .before .before .before .before in
+    let p = l .loop .inv in
+    let k = c .before .before .before .before .before .before .before .before .before .before .before .before .loop-test .taken in
+    let inside : l .loop .place < userCount (now (s .args .book)) = omega (arith, k, many) in
+    let turn = c .before .before .before .before .turn .ensures in (
+      p .size ∙ s .pre .1 .1 .2,
+      room-left (p .few) (c .before .before .before .before .before .before .before .before .before .before .before .if1 .left),
+      cuts-notable q inside (p .run .going) (s .pre .1 .1 .0) (turn .1 .0 .room) (turn .0 (p .run .book) (p .run .going) .cuts),
+    )
+
+clear-requires : tie.Need-clear-requires Inv-loop μ-loop
+clear-requires c κs =
+    let s = c .before .before .before .before .before .before .before .before .before .before .before .before .before .before .before .before .before .before .before .before .before .before .before in
+    let inside : c .before .before .before .before .before .before .before .before .before .before .before .before .before .before .before .before .before .loop .place < userCount (now (s .args .book)) = omega (arith, c .before .before .before .before .before .before .before .before .before .before .before .before .before .before .before .before .loop-test .taken, s .pre .0 .1) in
+    (c .before .before .before .before .before .before .before .before .turn .ensures .1 .0, part-few (s .pre .0 .0) inside)
+
+with-requires : tie.Need-with-requires Inv-loop μ-loop
+with-requires c κs =
+    let s = c .before .before .before .before .before .before .before .before .before .before .before .before .before .before .before .before .before .before .before .before .before .before .before .before .before in
+    let many = s .pre .0 .1 in
+    let sound = s .pre .0 .0 .sound in
+    let p = c .before .before .before .before .before .before .before .before .before .before .before .before .before .before .before .before .before .before .before .loop .inv .run in
+    (run-within many sound p, turn-within many sound p (c .before .before .before .before .before .before .before .before .before .before .before .before .before .before .before .before .before .before .loop-test .taken) (c .before .before .before .before .before .before .before .before .before .before .turn .ensures .0 (p .book) (p .going)))
+
+add-noted : tie.Need-add-noted Inv-loop μ-loop
+add-noted c = omega (arith, c .before .before .before .before .before .before .before .before .before .before .before .before .before .before .before .before .before .before .before .before .loop .inv .few)
+
+next-from-requires-2 : tie.Need-next-from-requires-2 Inv-loop μ-loop
+next-from-requires-2 c κs =
+    let s = c .before .before .before .before .before .before .before .before .before .before .before .before .before .before .before .before .before .before .before .before .before .before .before .before .before .before .before in
+    let p = c .before .before .before .before .before .before .before .before .before .before .before .before .before .before .before .before .before .before .before .before .before .loop .inv .run in
+    (omega (arith, c .before .before .before .before .before .before .before .before .before .before .before .before .before .before .before .before .before .before .before .before .loop-test .taken, c .before .before .before .before .before .before .before .before .before .before .before .before .turn .ensures .0 (p .book) (p .going) .least-most), omega (arith, s .pre .0 .1, s .pre .0 .0 .form .users))
+
+loop-less : tie.Need-loop-less Inv-loop μ-loop
+unfolding ofRun
+loop-less c =
+    let s = c .before .before .before .before .before .before .before .before .before .before .before .before .before .before .before .before .before .before .before .before .before .before .before .before .before .before .before .before in
+    omega (arith, run-more (s .pre .0 .1) (s .pre .0 .0 .sound) (c .before .before .before .before .before .before .before .before .before .before .before .before .before .before .before .before .before .before .before .before .before .before .loop .inv .run) (c .before .before .before .before .before .before .before .before .before .before .before .before .before .before .before .before .before .before .before .before .before .loop-test .taken), ap (λ (z : Answer). z .reductions) (c .before .before .with .ensures))
+
+loop-again : tie.Need-loop-again Inv-loop μ-loop
+loop-again c =
+    let s = c .before .before .before .before .before .before .before .before .before .before .before .before .before .before .before .before .before .before .before .before .before .before .before .before .before .before .before .before in
+    let q = s .pre .0 .0 in
+    let p = c .before .before .before .before .before .before .before .before .before .before .before .before .before .before .before .before .before .before .before .before .before .before .loop .inv in
+    let turn = c .before .before .before .before .before .before .before .before .before .before .before .before .before .turn .ensures in
+    noted-more (s .pre .0 .1) (q .sound) p (c .before .before .before .before .before .before .before .before .before .before .before .before .before .before .before .before .before .before .before .before .before .loop-test .taken) (room-left (p .few) (c .before .before .before .before .before .before .before .before .before .before .before .before .before .before .before .before .before .before .before .before .if1 .left)) (few-trades q) (s .pre .1 .1 .0)
+    (turn .0 (p .run .book) (p .run .going)) (c .before .before .before .before .before .before .before .before .note .ensures) (c .before .before .before .before .clear .ensures) (turn .1 .1) (c .before .before .with .ensures) (c .next-from2 .ensures)
+
+same-length-2 : tie.Need-same-length-2 Inv-loop μ-loop
+same-length-2 c = c .before .loop .inv .size
+
+returns-2 : tie.Need-returns-2 Inv-loop μ-loop
+returns-2 c =
+    let s = c .before .before .before .before .before .before .before in
+    noted-end (s .pre .0 .1) (s .pre .0 .0 .sound) (c .before .loop .inv) false (λ f. c .loop-test .left) (λ y. absurd (subst T (sym y) tt))
+
+pub run-on-spec : {M : Type 1} → statement M
+run-on-spec =
+    tie.close
+    (tie.spec Inv-loop μ-loop (λ c κs. search needs) (λ c κs. search needs) loop-holds same-length returns turn-requires mul-from element-copy-out-from add-to mul-to
+    element-copy-out-to note-requires clear-requires with-requires add-noted next-from-requires-2 loop-less loop-again same-length-2 returns-2)
