@@ -92,7 +92,7 @@ module _ {f : Prices} {s : List ℕ} {place : ℕ} {sellers parties ps : List �
   -- the cuts can be noted
   pub own-notable : {lent : Bool} {log t : List ℕ} → (lent ≡ true → T (logFits log s)) → roomIn lent log ≡ true → length t ≡ length s → lent ≡ true
       → NotableIn log t origins cs (getD ss place 0) (getD ss (place + 1) 0)
-  unfolding roomIn room
+  unfolding roomIn room bookOf
   own-notable {lent} {log} {t} fits free same e =
       let facts = fits-facts log s (fits e) in
       let q = user-run p l in
@@ -145,10 +145,10 @@ module _ {f : Prices} {s : List ℕ} {place : ℕ} {sellers parties ps : List �
       rw z (log-sealed t more (ap suc (sym count)) (noted .last refl .whole))
 
 -- a refused reduction leaves the log
-pub noted-refused : (lent : Bool) {n : ℕ} {a : Answer} {loss s t l : List ℕ} → (n ≡ 0 → ⊥) → a ≡ only n → l ≡ notedBy lent (a .number) loss s t l
-unfolding notedBy only
-noted-refused false h e = refl
-noted-refused true {n} {loss = loss} {s} {t} {l} h e = rw e (go n h)
+pub noted-refused : (lent : Bool) (loss s t l : List ℕ) {n : ℕ} {a : Answer} → (n ≡ 0 → ⊥) → a ≡ only n → l ≡ notedBy lent (a .number) loss s t l
+unfolding notedBy only after
+noted-refused false loss s t l h e = refl
+noted-refused true loss s t l {n} h e = rw e (go n h)
   where
     go : (k : ℕ) → (k ≡ 0 → ⊥) → l ≡ after k (λ i. l) (logBytes (loss ∷ entriesOf s l) t)
     go zero h = absurd (h refl)
@@ -168,7 +168,7 @@ module _ (number : ℕ) (limits : Limits) (l s : List ℕ) (id : ℕ) where
   asks = about limits (bookOf s) (reduction id) ++ (hasRoom (room l) ∷ [])
 
   asks-numbered : T (numbered asks)
-  unfolding numbered asks hasRoom
+  unfolding numbered asks hasRoom all
   asks-numbered = all-append (λ q. ltb 0 (q .number)) (about limits (bookOf s) (reduction id)) (hasRoom (room l) ∷ []) (about-numbered limits (bookOf s) (reduction id)) tt
 
   noted-decided : (o : Option ℕ) → refusal asks ≡ o

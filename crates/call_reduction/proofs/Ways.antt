@@ -71,6 +71,11 @@ module _ (last : List Question) (s : List ℕ) (u : User) (asked : ℕ) where
 
 -- ---- the call
 
+-- the user that the entry found stands at the place
+pub found-at : {s : List ℕ} {id place : ℕ} → Found s id place → getD (usersOf s) place nobody ≡ find (bookOf s .users) id
+unfolding bookOf
+found-at {s} {id} f = ap (λ (i : ℕ). getD (usersOf s) i nobody) (f .stands) ∙ sym (find-place (usersOf s) id)
+
 -- with questions asked last
 unfoldable pub stepWith : List Question → ℕ → Limits → List ℕ → ℕ → InBytes
 stepWith last before limits s id =
@@ -92,14 +97,9 @@ module _ (last : List Question) (before : ℕ) (limits : Limits) (s : List ℕ) 
   unfolding stepWith unchanged
   call-unentered {n} e h = rw own (entry-refused s id rest (unchanged s) (inBytes (effect limits (bookOf s) (reduction id))) before n (e .asked) h)
 
-  -- the user that the entry found stands at the place
   call-entered : {place : ℕ} → before ≡ 0 → Found s id place → stepWith last before limits s id ≡ onUser last limits s user
   unfolding stepWith unchanged after effect onUser rest
   call-entered e f = rw (e, own, entry-found s id rest f)
-
-  pub found-at : {place : ℕ} → Found s id place → getD (usersOf s) place nobody ≡ find (bookOf s .users) id
-  unfolding bookOf
-  found-at f = ap (λ (i : ℕ). getD (usersOf s) i nobody) (f .stands) ∙ sym (find-place (usersOf s) id)
 
   pub call-gives : {place : ℕ} {a : Answer} {t : List ℕ} → before ≡ 0 → Found s id place → Gives (onUser last limits s (getD (usersOf s) place nobody)) a t
       → Gives (stepWith last before limits s id) a t

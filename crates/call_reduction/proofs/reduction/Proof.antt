@@ -2,19 +2,22 @@
 use mathlib.Core.Path.{_≡_}
 use borrow.Author.Needs.{needs}
 use denote.Ref.{now}
-use Rattle.call_entry.proofs.Calls.{called}
 use Rattle.call_entry.specs.Entered.{Found}
 use Rattle.book_format.proofs.Passed.{passed}
 use Rattle.book_format.proofs.Places.{header-lies}
+use Rattle.book_format.specs.Book.{bookOf}
+use Rattle.log_format.specs.Noted.{entryOf}
+use Rattle.rules.specs.Book.{find}
 use Rattle.units.specs.Limits.{asLimits}
 use Rattle.run_reduction.proofs.Asked.{found-runnable}
-use Rattle.call_reduction.specs.Call.{reductionOf}
-use Rattle.call_reduction.proofs.Ways.{call-gives, call-unentered}
+use Rattle.call_reduction.specs.Call.{roomAsked}
+use Rattle.call_reduction.proofs.Entry.{noted-refused, reduced-with}
+use Rattle.call_reduction.proofs.Ways.{call-gives, call-unentered, found-at, gives-refused}
 use Rattle.call_reduction.proofs.reduction.Statement.{statement}
 use Rattle.call_reduction.proofs.reduction.Tie as tie
 
 abbrev start : tie.After-seek → tie.Start
-start c = c .before .before .before
+start c = c .before .before .before .before
 
 -- the user that the entry found
 found : (c : tie.Else1) → Found (now (start (c .before) .args .book)) (start (c .before) .args .id) (c .before .seek .result .place)
@@ -24,49 +27,49 @@ started : (c : tie.Else1) → start (c .before) .args .number ≡ 0
 started c = c .before .seek .ensures .start (c .if1 .left)
 
 seek-requires : tie.Need-seek-requires
-seek-requires c κs = c .before .before .pre .0
-
-refused-requires : tie.Need-refused-requires
-refused-requires c κs = search needs
-
-same-length : tie.Need-same-length
-same-length c = search needs
+seek-requires c κs = c .before .before .before .pre .0
 
 returns : tie.Need-returns
 returns c =
     let e = c .before .before in
     let a = start e .args in
-    called (reductionOf (a .id)) (c .refused .ensures) (call-unentered (a .number) (asLimits (a .limits)) (now (a .book)) (a .id) (e .seek .ensures) (c .before .if1 .taken))
+    let n = e .seek .result .number in
+    reduced-with (a .number) (asLimits (a .limits)) (now (a .log)) (now (a .book)) (a .id) (a .with-log)
+    (gives-refused n (call-unentered (roomAsked (a .with-log) (now (a .log))) (a .number) (asLimits (a .limits)) (now (a .book)) (a .id) (e .seek .ensures) (c .before .if1 .taken)) (c .refused .ensures))
+    (noted-refused (a .with-log) (entryOf (asLimits (a .limits)) (bookOf (now (a .book))) (find (bookOf (now (a .book)) .users) (a .id))) (now (a .book)) (now (a .book)) (now (a .log)) (c .before .if1 .taken) (c .refused .ensures))
 
 read-prices-requires : tie.Need-read-prices-requires
 read-prices-requires c κs = let e = c .before in header-lies (passed (now (start (e .before) .args .book)) (found e .passes) .form)
 
 reduce-user-requires : tie.Need-reduce-user-requires
 reduce-user-requires c κs =
-    let e = c .before .before .before in
-    let given = start (e .before) .pre .1 in
+    let e = c .before .before .before .before in
+    let s = start (e .before) in
+    let given = s .pre .1 .1 in
     let f = found e in
-    (found-runnable (given .1) (started e) (f .passes) (λ j. e .before .before .before .slice-known .given j .fits) (given .0) (c .before .read-prices .ensures), f .known)
-
-same-length-2 : tie.Need-same-length-2
-same-length-2 c = search needs
+    ((found-runnable (given .1) (started e) (f .passes) (λ j. e .before .before .before .before .slice-known .given j .fits) (given .0) (c .before .before .read-prices .ensures), f .known), s .pre .1 .0 (started e))
 
 returns-2 : tie.Need-returns-2
 returns-2 c =
-    let r = c .before .before in
-    let e = r .before .before .before .before in
+    let r = c .before .before .before .before .reduce-user in
+    let e = c .before .before .before .before .before .before .before .before .before in
     let a = start (e .before) .args in
-    call-gives (a .number) (asLimits (a .limits)) (now (a .book)) (a .id) (started e) (found e) (r .reduce-user .ensures)
+    let limits = asLimits (a .limits) in
+    let s = now (a .book) in
+    reduced-with (a .number) limits (now (a .log)) s (a .id) (a .with-log)
+    (call-gives (roomAsked (a .with-log) (now (a .log))) (a .number) limits s (a .id) (started e) (found e) (r .ensures .0))
+    (rw (found-at (found e)) at (r .ensures .1))
 
 pub reduction-spec : {M : Type 1} → statement M
 reduction-spec =
     tie.close
     (tie.spec
     seek-requires
-    refused-requires
-    same-length
+    (λ c κs. search needs)
+    (λ c. search needs)
     returns
     read-prices-requires
     reduce-user-requires
-    same-length-2
+    (λ c. search needs)
+    (λ c. search needs)
     returns-2)
