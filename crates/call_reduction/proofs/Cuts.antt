@@ -1,6 +1,7 @@
 -- The cuts of the user's own sales, taken off in the bytes, give the rules' book. Assumes nothing.
 use mathlib.Core.Bool.{Bool, true, false}
 use mathlib.Core.List.{List, map}
+use mathlib.Core.Option.{none, some}
 use mathlib.Core.Path.{_≡_, refl, sym, ap, ap₂, subst, _∙_}
 use Prim.Native.Nat.{ℕ, _+_, _-_, _<_}
 use native.Mathlib.Omega.{arith}
@@ -20,6 +21,7 @@ use Rattle.book_format.specs.Held.{HeldAs}
 use Rattle.rules.specs.Areas.{Prices}
 use Rattle.rules.specs.Book.{Book, Party, Trade, User, nobody}
 use Rattle.rules.specs.Calls.{Answer, ofCuts, only, reducedBy}
+use Rattle.rules.specs.Questions.{Question, refusal}
 use Rattle.base.specs.Lists.{any}
 use Rattle.rules.specs.Reduction.{hasEligible, nothing, tallyAll, withTrades}
 use Rattle.run_reduction.proofs.Start.{first-reached, run-stays}
@@ -43,7 +45,7 @@ use Rattle.laws_sales.specs.Parts.{part}
 use Rattle.laws_sales.specs.Reduced.{ownCuts, ownSales}
 use Rattle.call_reduction.specs.Books.{UserOf, allSales}
 use Rattle.call_reduction.specs.Call.{Gives, onSales}
-use Rattle.call_reduction.proofs.Ways.{gives-refused, sales-none, sales-some}
+use Rattle.call_reduction.proofs.Ways.{gives-refused, sales-full, sales-none, sales-some}
 
 -- the lists have the own sales of all users
 pub all-listed : {b : Book} {ss origins ns areaCodes bs : List ℕ} {count : ℕ} → SalesOf b ss origins areaCodes bs count → StandingOf b ns count → SalesRoom origins ns areaCodes bs
@@ -77,26 +79,30 @@ module _ {f : Prices} {s : List ℕ} {place : ℕ} {ownSellers ownBuyers sellers
   abbrev to : ℕ
   to = getD ss (place + 1) 0
 
-  inside-users : place < length (usersIn s)
+  pub inside-users : place < length (usersIn s)
   inside-users = omega (arith, p .inside, length-usersIn s)
 
-  sound : Sound (bookOf s)
+  pub sound : Sound (bookOf s)
   sound = p .book .book .accepted .sound
 
-  module _ (asked : ℕ) where
+  module _ (last : List Question) (asked : ℕ) where
     -- an own sale stands where the user has an eligible trade
     eligible-is : {left : Bool} → left ≡ any (λ n. ltb 0 n) (part from to ns) → hasEligible (bookOf s) u ≡ left
     unfolding bookOf borneUser
     eligible-is e = has-eligible-sales (bookOf s) u ∙ ap (any (λ n. ltb 0 n)) (sym (own-standing user-run (p .inside) user-reached)) ∙ sym e
 
     pub own-refused : {left : Bool} → left ≡ any (λ n. ltb 0 n) (part (getD ss place 0) (getD ss (place + 1) 0) ns) → left ≡ false → {a : Answer} → a ≡ only 14
-        → Gives (onSales s (getD (usersOf s) place nobody) asked) a s
-    own-refused e h g = gives-refused 14 (sales-none s u asked (eligible-is e ∙ h)) g
+        → Gives (onSales last s (getD (usersOf s) place nobody) asked) a s
+    own-refused e h g = gives-refused 14 (sales-none last s u asked (eligible-is e ∙ h)) g
+
+    pub own-full : {left : Bool} → left ≡ any (λ n. ltb 0 n) (part (getD ss place 0) (getD ss (place + 1) 0) ns) → left ≡ true → {n : ℕ} → refusal last ≡ some n → {a : Answer} → a ≡ only n
+        → Gives (onSales last s (getD (usersOf s) place nobody) asked) a s
+    own-full e h {n} k g = gives-refused n (sales-full last s u asked (eligible-is e ∙ h) k) g
 
     module _ (cs cs₀ : List ℕ)
         (filled : cs ≡ sets cs₀ (getD ss place 0) (cutsOf f (shortIn ps place) asked (part (getD ss place 0) (getD ss (place + 1) 0) ns) (part (getD ss place 0) (getD ss (place + 1) 0) areaCodes)))
         (room : length cs₀ ≡ 256) where
-      lost : part from to cs ≡ ownCuts bb ub asked
+      pub lost : part (getD ss place 0) (getD ss (place + 1) 0) cs ≡ ownCuts (borneBook (bookOf s)) (borneUser (bookOf s .users) (getD (bookOf s .users) place nobody)) asked
       lost = cuts-part user-run (p .inside) user-reached asked cs cs₀ _ filled room (cuts-own user-run (p .inside) user-reached asked)
 
       -- the cuts can be taken off in the bytes
@@ -119,17 +125,17 @@ module _ {f : Prices} {s : List ℕ} {place : ℕ} {ownSellers ownBuyers sellers
           ∙ own-lowered (bb .trades) (u .party .id) (ownCuts bb ub asked) (own-cuts-length own-sales bb ub asked)
           ∙ sym (sales-reduced (bookOf s) u asked sound .trades)))
 
-      pub own-reduced : {left : Bool} → left ≡ any (λ n. ltb 0 n) (part (getD ss place 0) (getD ss (place + 1) 0) ns) → left ≡ true → {tally : Tally}
+      pub own-reduced : {left : Bool} → left ≡ any (λ n. ltb 0 n) (part (getD ss place 0) (getD ss (place + 1) 0) ns) → left ≡ true → refusal last ≡ none → {tally : Tally}
           → ((xs : List Trade) → map (λ t. t .terms .area) xs ≡ part (getD ss place 0) (getD ss (place + 1) 0) areaCodes
           → asTally tally ≡ tallyAll f (part (getD ss place 0) (getD ss (place + 1) 0) cs) xs nothing)
           → {t : List ℕ} → HeldAs (withTrades (bookOf s) (loweredAt (part (getD ss place 0) (getD ss (place + 1) 0) origins) (part (getD ss place 0) (getD ss (place + 1) 0) cs) (bookOf s .trades))) t
-          → {a : Answer} → a ≡ ofCuts asked (asTally tally) → Gives (onSales s (getD (usersOf s) place nobody) asked) a t
+          → {a : Answer} → a ≡ ofCuts asked (asTally tally) → Gives (onSales last s (getD (usersOf s) place nobody) asked) a t
       unfolding inBytes bookOf borneResult borneBook
-      own-reduced e h {tally} counted {t} held g =
+      own-reduced e h free {tally} counted {t} held g =
           let sales = ownSales bb ub in
           let tally-is : asTally tally ≡ tallyAll (bookOf s .header .prices) (ownCuts bb ub asked) sales nothing
           = counted sales (sym (own-codes user-run (p .inside) user-reached))
           ∙ ap₂ (λ (x : Prices) (xs : List ℕ). tallyAll x xs sales nothing) (prices-same user-run (p .inside) user-reached) lost in
           let end : HeldAs (reducedBy (bookOf s) u asked .book) t = subst (λ (x : Book). HeldAs x t) lowered-is held in
-          rw (sales-some s u asked (eligible-is e ∙ h))
+          rw (sales-some last s u asked (eligible-is e ∙ h) free)
           (record { answer = g ∙ ap (ofCuts asked) tally-is ∙ sym (sales-reduced (bookOf s) u asked sound .answer); bytes = end .bytes })

@@ -1,29 +1,35 @@
--- The call of the rules that the function `reduction` is, and its questions past the user's id with what they leave. Assumes nothing.
+-- The call of the rules that the function `reduction` is, and its questions past the user's id with what they leave. Those of a log come last. Assumes nothing.
+use mathlib.Core.Bool.{Bool, cond}
 use mathlib.Core.List.{List, [], _∷_, _++_}
 use mathlib.Core.Path.{_≡_}
 use Prim.Native.Nat.{ℕ}
 use Rattle.rules.specs.Book.{User}
-use Rattle.rules.specs.Questions.{decided, refusal}
+use Rattle.rules.specs.Questions.{Question, decided, refusal}
 use Rattle.rules.specs.Levels.{Limits}
 use Rattle.rules.specs.Calls.{Answer, Call, reduction, eligibleTrade, only, reduced, reducedBy}
 use Rattle.book_format.specs.Book.{bookOf}
 use Rattle.book_format.specs.Steps.{InBytes, inBytes}
 use Rattle.call_questions.specs.Asked.{levelQuestions}
+use Rattle.log_format.specs.Noted.{hasRoom, room}
 
 -- the call that the function `reduction` is
 abbrev pub reductionOf : ℕ → Call
 reductionOf id = reduction id
 
--- the questions 9, 11, 13 and 14, and the reduction of the user for its target
-unfoldable pub onUser : Limits → List ℕ → User → InBytes
-onUser limits s u =
-    decided (refusal (levelQuestions limits (bookOf s) u ++ (eligibleTrade (bookOf s) u ∷ []))) (λ n. record { answer = only n; bytes = s })
+-- 20 is asked of a lent log where it is given
+unfoldable pub roomAsked : Bool → List ℕ → List Question
+roomAsked lent l = cond lent (hasRoom (room l) ∷ []) []
+
+-- the questions 9, 11, 13 and 14 and those asked last, and the reduction of the user for its target
+unfoldable pub onUser : List Question → Limits → List ℕ → User → InBytes
+onUser last limits s u =
+    decided (refusal (levelQuestions limits (bookOf s) u ++ (eligibleTrade (bookOf s) u ∷ last))) (λ n. record { answer = only n; bytes = s })
     (inBytes (reduced limits (bookOf s) u))
 
--- question 14, and the reduction of the user for an amount
-unfoldable pub onSales : List ℕ → User → ℕ → InBytes
-onSales s u asked =
-    decided (refusal (eligibleTrade (bookOf s) u ∷ [])) (λ n. record { answer = only n; bytes = s })
+-- question 14 and those asked last, and the reduction of the user for an amount
+unfoldable pub onSales : List Question → List ℕ → User → ℕ → InBytes
+onSales last s u asked =
+    decided (refusal (eligibleTrade (bookOf s) u ∷ last)) (λ n. record { answer = only n; bytes = s })
     (inBytes (reducedBy (bookOf s) u asked))
 
 -- an answer, and the bytes after it

@@ -1,30 +1,36 @@
 // A reduction on a lent book in bytes: its questions, and the cuts of the user's own sales for what its afternoon level exceeds its
-// assigned guarantee by. The sales are cut on arrays, as in a run, and what they lose is taken off in the bytes.
+// assigned guarantee by. The sales are cut on arrays, as in a run, and what they lose is taken off in the bytes. A log that is given has
+// the cuts noted; where it has no room for them the last question, 20, is answered by no.
 use call_answers::ReductionAnswer;
 use risk_user::Day;
 use units::Cents;
 use units::Limits;
 use units::Prices;
+ghost use mathlib.Core.Bool.{true};
 ghost use mathlib.Core.Path.{_≡_};
 ghost use Prim.Native.Nat.{_<_};
+ghost use lib.Dec.{T};
 ghost use lib.ListN.{getD, length};
 ghost use Rattle.book_parties.specs.Ids.{BookIn};
 ghost use Rattle.laws_sales.specs.Borne.{borneBook};
 ghost use Rattle.call_answers.specs.Reduction.{answerOf};
-ghost use Rattle.book_format.specs.After.{CalledAfter};
 ghost use Rattle.book_format.specs.Book.{bookOf, userCount, usersOf};
 ghost use Rattle.book_format.specs.Questions.{bookNumber};
 ghost use Rattle.book_questions.specs.Asked.{PartiesFound};
+ghost use Rattle.log_format.specs.Fits.{logFits};
 ghost use Rattle.rules.specs.Book.{nobody};
+ghost use Rattle.log_format.specs.Noted.{entryOf};
+ghost use Rattle.rules.specs.Reduction.{cuts};
 ghost use Rattle.run_reduction.specs.Books.{Listed, Runnable};
 ghost use Rattle.units.specs.Prices.{asPrices};
 ghost use Rattle.units.specs.Limits.{asLimits, LimitsInRange};
-ghost use Rattle.call_reduction.specs.Call.{Gives, onSales, onUser, reductionOf};
+ghost use Rattle.call_reduction.specs.Call.{Gives, onSales, onUser, roomAsked};
 ghost use Rattle.call_reduction.specs.Books.{UserOf, allSales};
+ghost use Rattle.call_reduction.specs.Log.{ReducedWith, notedBy};
 
 // ---- the cuts
 
-// Asks question 14 of the user at a place and reduces it for an amount, by the lists of all own sales.
+// Asks question 14 of the user at a place and 20 of a log that is given, and reduces the user for an amount, by the lists of all own sales.
 fn reduce_listed(
     book: &mut [u8],
     own_sellers: &[u8; 256],
@@ -40,15 +46,22 @@ fn reduce_listed(
     place: usize,
     asked: Cents,
     prices: Prices,
+    with_log: bool,
+    log: &mut [u8],
 ) -> ReductionAnswer
     requires { ⌜ UserOf (asPrices prices) (now book) place (now «own_sellers») (now «own_buyers») (now sellers) (now parties) (now positions) ⌝ }
     requires { ⌜ Listed (borneBook (bookOf (now book))) (now starts) (now origins) (now standing) (now areas) (now buyers) (allSales (borneBook (bookOf (now book)))) ⌝ }
-    ensures { λ r. ⌜ Gives (onSales (now (book .entry)) (getD (usersOf (now (book .entry))) place nobody) (asked .0)) (answerOf r) (now (book .exit)) ⌝ }
+    requires { ⌜ («with_log» ≡ true → T (logFits (now log) (now book))) ⌝ }
+    ensures { λ r. ⌜ Gives (onSales (roomAsked «with_log» (now (log .entry))) (now (book .entry)) (getD (usersOf (now (book .entry))) place nobody) (asked .0)) (answerOf r) (now (book .exit)) ⌝ }
+    ensures { λ r. ⌜ now (log .exit) ≡ notedBy «with_log» (answerOf r .number) (cuts (bookOf (now (book .entry))) (getD (usersOf (now (book .entry))) place nobody) (asked .0)) (now (book .entry)) (now (book .exit)) (now (log .entry)) ⌝ }
 {
     let from = starts[place];
     let to = starts[place + 1];
     if !run_targets::any_left(standing, from, to) {
         return ReductionAnswer::refused(14);
+    }
+    if !log_lent::has_room(with_log, log) {
+        return ReductionAnswer::refused(20);
     }
     let mut cuts = [0u64; 256];
     let mut rests = [0u64; 256];
@@ -67,10 +80,11 @@ fn reduce_listed(
     );
     let n = book_format::user_count(book) as usize;
     cut_apply::apply(book, n, own_sellers, own_buyers, origins, &cuts, from, to);
+    log_lent::note(book, with_log, log, origins, &cuts, from, to);
     ReductionAnswer::of_cuts(asked, tally)
 }
 
-// Asks question 14 of the user at a place and reduces it for an amount.
+// Asks question 14 of the user at a place and 20 of a log that is given, and reduces the user for an amount.
 fn reduce_sales(
     book: &mut [u8],
     own_sellers: &[u8; 256],
@@ -81,9 +95,13 @@ fn reduce_sales(
     place: usize,
     asked: Cents,
     prices: Prices,
+    with_log: bool,
+    log: &mut [u8],
 ) -> ReductionAnswer
     requires { ⌜ UserOf (asPrices prices) (now book) place (now «own_sellers») (now «own_buyers») (now sellers) (now parties) (now positions) ⌝ }
-    ensures { λ r. ⌜ Gives (onSales (now (book .entry)) (getD (usersOf (now (book .entry))) place nobody) (asked .0)) (answerOf r) (now (book .exit)) ⌝ }
+    requires { ⌜ («with_log» ≡ true → T (logFits (now log) (now book))) ⌝ }
+    ensures { λ r. ⌜ Gives (onSales (roomAsked «with_log» (now (log .entry))) (now (book .entry)) (getD (usersOf (now (book .entry))) place nobody) (asked .0)) (answerOf r) (now (book .exit)) ⌝ }
+    ensures { λ r. ⌜ now (log .exit) ≡ notedBy «with_log» (answerOf r .number) (cuts (bookOf (now (book .entry))) (getD (usersOf (now (book .entry))) place nobody) (asked .0)) (now (book .entry)) (now (book .exit)) (now (log .entry)) ⌝ }
 {
     let n = book_format::user_count(book) as usize;
     let m = book_format::trade_count(book) as usize;
@@ -119,12 +137,14 @@ fn reduce_sales(
         place,
         asked,
         prices,
+        with_log,
+        log,
     )
 }
 
 // ---- the questions
 
-// Asks the questions 9, 11, 13 and 14 of the user at a place and reduces it for its target.
+// Asks the questions 9, 11, 13 and 14 of the user at a place and 20 of a log that is given, and reduces the user for its target.
 fn reduce_user(
     book: &mut [u8],
     own_sellers: &[u8; 256],
@@ -134,10 +154,14 @@ fn reduce_user(
     sums: &[u32; 768],
     place: usize,
     day: Day,
+    with_log: bool,
+    log: &mut [u8],
 ) -> ReductionAnswer
     requires { ⌜ BookIn (now book) (now «own_sellers») (now «own_buyers») ⌝ }
     requires { ⌜ Runnable (asLimits (day .limits)) (asPrices (day .prices)) (now book) (now sellers) (now parties) (now sums) × (place < userCount (now book)) ⌝ }
-    ensures { λ r. ⌜ Gives (onUser (asLimits (day .limits)) (now (book .entry)) (getD (usersOf (now (book .entry))) place nobody)) (answerOf r) (now (book .exit)) ⌝ }
+    requires { ⌜ («with_log» ≡ true → T (logFits (now log) (now book))) ⌝ }
+    ensures { λ r. ⌜ Gives (onUser (roomAsked «with_log» (now (log .entry))) (asLimits (day .limits)) (now (book .entry)) (getD (usersOf (now (book .entry))) place nobody)) (answerOf r) (now (book .exit)) ⌝ }
+    ensures { λ r. ⌜ now (log .exit) ≡ notedBy «with_log» (answerOf r .number) (entryOf (asLimits (day .limits)) (bookOf (now (book .entry))) (getD (usersOf (now (book .entry))) place nobody)) (now (book .entry)) (now (book .exit)) (now (log .entry)) ⌝ }
 {
     let mut positions = [0u32; 192];
     let shortfall = call_questions::shortfall_at(
@@ -164,6 +188,8 @@ fn reduce_user(
         place,
         target,
         day.prices,
+        with_log,
+        log,
     )
 }
 
@@ -177,12 +203,15 @@ pub fn reduction(
     buyers: &[u8; 256],
     sums: &mut [u32; 768],
     id: u32,
+    with_log: bool,
+    log: &mut [u8],
 ) -> ReductionAnswer
     requires { ⌜ (number ≡ 0 → bookNumber (now book) ≡ 0) ⌝ }
+    requires { ⌜ (number ≡ 0 → «with_log» ≡ true → T (logFits (now log) (now book))) ⌝ }
     requires { ⌜ LimitsInRange (asLimits limits) ⌝ }
     requires { ⌜ (length (now sellers) ≡ 256) × (length (now buyers) ≡ 256) × (length (now sums) ≡ 768) ⌝ }
     requires { ⌜ PartiesFound (now book) number (now sellers) (now buyers) (now sums) ⌝ }
-    ensures { λ r. ⌜ CalledAfter number (asLimits limits) (now (book .entry)) (reductionOf id) (answerOf r) (now (book .exit)) ⌝ }
+    ensures { λ r. ⌜ ReducedWith «with_log» number (asLimits limits) (now (log .entry)) (now (book .entry)) id (answerOf r) (now (book .exit)) (now (log .exit)) ⌝ }
 {
     let entry = call_entry::seek(book, number, id);
     let number = entry.number;
@@ -213,5 +242,7 @@ pub fn reduction(
         sums,
         place,
         day,
+        with_log,
+        log,
     )
 }

@@ -1,0 +1,233 @@
+-- The entry of a reduction in a lent log: the cuts of the user's own sales at the places of their trades are what each trade of the book loses; and the call with it. Assumes nothing.
+use mathlib.Core.Bool.{Bool, true, false}
+use mathlib.Core.List.{List, [], _∷_, _++_, append-nil}
+use mathlib.Core.Option.{Option, none, some}
+use mathlib.Core.Path.{_≡_, refl, sym, ap, ap₂, subst, _∙_}
+use Prim.Native.Nat.{ℕ, zero, suc, _+_, _-_, _≤_, _<_}
+use native.Mathlib.Omega.{arith}
+use lib.Dec.{T, ltb, ltb→lt}
+use lib.ListN.{length, getD, replicate, length-map}
+use lib.Seq.{sets}
+use borrow.Author.Tests.{ltb-true}
+use Rattle.base.proofs.Fronts.{all-at}
+use Rattle.base.proofs.Tests.{all-append}
+use Rattle.base.specs.Lists.{all}
+use Rattle.book_format.proofs.Passed.{length-tradesOf}
+use Rattle.book_format.specs.After.{CalledAfter, after, stepAfter, unchanged}
+use Rattle.book_format.specs.Book.{bookOf, bytesOf, tradeCount, usersOf}
+use Rattle.book_format.specs.Steps.{InBytes, inBytes}
+use Rattle.cut_lists.proofs.Own.{own-origins}
+use Rattle.cut_tiers.specs.Tiers.{cutsOf}
+use Rattle.fields.specs.Field.{AllBytes}
+use Rattle.laws.proofs.Reduction.{cuts-lowered}
+use Rattle.laws.proofs.Refusals.{numbered, refusal-is}
+use Rattle.laws.proofs.Settle.{pairs-length}
+use Rattle.laws.proofs.Trades.{framed}
+use Rattle.laws.specs.Sound.{Sound}
+use Rattle.laws_sales.proofs.Cuts.{cuts-sales}
+use Rattle.laws_sales.proofs.FirstCuts.{own-cuts-length}
+use Rattle.laws_sales.proofs.Groups.{places-inside}
+use Rattle.laws_sales.proofs.Own.{own-sales}
+use Rattle.laws_sales.specs.Borne.{borneBook, borneTrade, borneUser}
+use Rattle.laws_sales.specs.Groups.{places}
+use Rattle.laws_sales.specs.Parts.{part}
+use Rattle.laws_sales.specs.Reduced.{ownCuts}
+use Rattle.laws_sales.specs.Sales.{ownSale}
+use Rattle.log_entries.proofs.Entries.{entry-noted, log-sealed}
+use Rattle.log_entries.proofs.Fitting.{fitting-count, fitting-trades}
+use Rattle.log_entries.proofs.Spread.{spread-entered}
+use Rattle.log_entries.specs.Entries.{NotedAt, entered}
+use Rattle.log_format.proofs.Noted.{start, cut, cuts-bilateral, noted-fit}
+use Rattle.log_format.proofs.Parts.{EntryFits}
+use Rattle.log_format.proofs.Read.{fits-facts}
+use Rattle.log_format.specs.Fits.{logFits}
+use Rattle.log_format.specs.Log.{entriesOf, entryCount, logBytes}
+use Rattle.log_format.specs.Noted.{callEntered, entryOf, hasRoom, lastly, room}
+use Rattle.log_lent.specs.Lent.{NotableIn, NotedLent, roomIn}
+use Rattle.requests.proofs.Emptied.{about-numbered}
+use Rattle.requests.specs.Logged.{loggedAfter}
+use Rattle.requests.specs.Request.{Outcome, enteredIn, refusedWith}
+use Rattle.rules.specs.Areas.{Prices}
+use Rattle.risk_user.proofs.Borne.{party-borne}
+use Rattle.rules.specs.Book.{Book, Party, User, find, nobody}
+use Rattle.rules.specs.Calls.{Answer, about, effect, ofCuts, only, reduced, reducedBy, reduction}
+use Rattle.rules.specs.Levels.{Limits}
+use Rattle.rules.specs.Questions.{Question, decided, refusal}
+use Rattle.rules.specs.Reduction.{cuts, withTrades}
+use Rattle.run_reduction.proofs.Steps.{cut-within, cuts-own, cuts-room, part-few, part-rises, sales-in}
+use Rattle.run_reduction.specs.Books.{Listed}
+use Rattle.run_reduction.specs.Reductions.{shortIn}
+use Rattle.call_reduction.specs.Books.{UserOf, allSales}
+use Rattle.call_reduction.specs.Call.{Gives, reductionOf, roomAsked}
+use Rattle.call_reduction.specs.Log.{ReducedWith, notedBy}
+use Rattle.call_reduction.proofs.Cuts.{inside-users, lost, user-reached, user-run}
+use Rattle.call_reduction.proofs.Ways.{stepWith}
+
+-- ---- what each trade loses
+
+module _ (b : Book) (u : User) (asked : ℕ) where
+  abbrev bb : Book
+  bb = borneBook b
+
+  abbrev ub : User
+  ub = borneUser (b .users) u
+
+  -- as many trades as they are borne
+  borne-many : length (borneBook b .trades) ≡ length (b .trades)
+  unfolding borneBook
+  borne-many = length-map (b .trades) (borneTrade (b .users))
+
+  -- the cuts of the sales as they are borne, entered at their places
+  entry-is : cuts b u asked ≡ entered (places (borneBook b .trades) (u .party .id)) (ownCuts (borneBook b) (borneUser (b .users) u) asked) (replicate (length (b .trades)) 0)
+  unfolding borneUser
+  entry-is =
+      cuts-sales b u asked
+      ∙ sym (spread-entered (ownSale (u .party .id)) (bb .trades) (ownCuts bb ub asked) (own-cuts-length own-sales bb ub asked))
+      ∙ ap (λ (m : ℕ). entered (places (bb .trades) (u .party .id)) (ownCuts bb ub asked) (replicate m 0)) borne-many
+
+  entry-fits : Sound b → EntryFits (length (b .trades)) (cuts b u asked)
+  unfolding withTrades
+  entry-fits sound =
+      let within = cuts-bilateral b u asked in
+      subst (λ (m : ℕ). EntryFits m (cuts b u asked)) (pairs-length (framed (cuts-lowered (cuts b u asked) (b .trades) within)))
+      (noted-fit (cut (cuts b u asked) (start sound) sound within) .0)
+
+module _ {f : Prices} {s : List ℕ} {place : ℕ} {ownSellers ownBuyers sellers parties ps : List ℕ} (p : UserOf f s place ownSellers ownBuyers sellers parties ps) {ss origins ns areaCodes bs : List ℕ}
+    (l : Listed (borneBook (bookOf s)) ss origins ns areaCodes bs (allSales (borneBook (bookOf s)))) (last : List Question) (asked : ℕ) (cs cs₀ : List ℕ)
+    (filled : cs ≡ sets cs₀ (getD ss place 0) (cutsOf f (shortIn ps place) asked (part (getD ss place 0) (getD ss (place + 1) 0) ns) (part (getD ss place 0) (getD ss (place + 1) 0) areaCodes)))
+    (long : length cs₀ ≡ 256) where
+  abbrev u : User
+  u = getD (usersOf s) place nobody
+
+  abbrev from : ℕ
+  from = getD ss place 0
+
+  abbrev to : ℕ
+  to = getD ss (place + 1) 0
+
+  -- the cuts can be noted
+  pub own-notable : {lent : Bool} {log t : List ℕ} → (lent ≡ true → T (logFits log s)) → roomIn lent log ≡ true → length t ≡ length s → lent ≡ true
+      → NotableIn log t origins cs (getD ss place 0) (getD ss (place + 1) 0)
+  unfolding roomIn room bookOf
+  own-notable {lent} {log} {t} fits free same e =
+      let facts = fits-facts log s (fits e) in
+      let q = user-run p l in
+      let h = user-reached p l in
+      record {
+        size = facts .size;
+        free = omega (arith, ltb-true 0 (256 - entryCount log) (rw e at free));
+        held = omega (arith, facts .room, same);
+        listed = record {
+          rising = part-rises q (p .inside);
+          few = part-few q (p .inside);
+          origins-room = l .room .origins-room;
+          cuts-room = cuts-room q (p .inside) h asked cs cs₀ _ filled long (cuts-own q (p .inside) h asked);
+          small = λ k x y. omega (arith, cut-within q (p .inside) h asked cs (lost p l last asked cs cs₀ filled long) k x y, sales-in q (p .inside) h .standing-most k x y);
+        };
+      }
+
+  -- where the user's own sales stand
+  own-places : part (getD ss place 0) (getD ss (place + 1) 0) origins ≡ places (borneBook (bookOf s) .trades) (getD (usersOf s) place nobody .party .id)
+  unfolding bookOf
+  own-places = own-origins (l .sales) place (inside-users p l) ∙ ap (λ (q : Party). places (borneBook (bookOf s) .trades) (q .id)) (party-borne (bookOf s) place)
+
+  -- their cuts, entered there, are what each trade loses
+  own-entry : entered (part from to origins) (part from to cs) (replicate (length (bookOf s .trades)) 0) ≡ cuts (bookOf s) u asked
+  unfolding bookOf
+  own-entry =
+      ap₂ (λ (xs ys : List ℕ). entered xs ys (replicate (length (bookOf s .trades)) 0)) own-places (lost p l last asked cs cs₀ filled long) ∙ sym (entry-is (bookOf s) u asked)
+
+  few-trades : length (bookOf s .trades) ≤ 256
+  unfolding bookOf
+  few-trades = omega (arith, length-tradesOf s, p .book .book .accepted .held .form .trades)
+
+  -- and are
+  pub own-noted : (lent : Bool) {log t m : List ℕ} {n : ℕ} → AllBytes log → (lent ≡ true → T (logFits log s)) → roomIn lent log ≡ true
+      → NotedLent lent log t origins cs (getD ss place 0) (getD ss (place + 1) 0) m → n ≡ 0
+      → m ≡ notedBy lent n (cuts (bookOf s) (getD (usersOf s) place nobody) asked) s t log
+  unfolding notedBy after roomIn room
+  own-noted false b fits free noted z = noted .stays refl
+  own-noted true {log} {t} {m} b fits free noted z =
+      let ts = borneBook (bookOf s) .trades in
+      let is = places ts (u .party .id) in
+      let few = p .book .book .accepted .held .form .trades in
+      let have = fitting-trades log s b few (fits refl) in
+      let count = fitting-count log s b few (fits refl) in
+      let inside : (j : ℕ) → j < length (part from to origins) → getD (part from to origins) j 0 < length (bookOf s .trades)
+      = λ j k. omega (
+        arith,
+        ltb→lt (getD is j 0) (length ts) (all-at (λ i. ltb i (length ts)) is (places-inside (ownSale (u .party .id)) ts) j 0 (omega (arith, k, ap length own-places))),
+        borne-many (bookOf s) u asked,
+        ap (λ (xs : List ℕ). getD xs j 0) own-places,
+      ) in
+      let more = entry-noted few-trades have (omega (arith, count, ltb-true 0 (256 - entryCount log) free))
+      (subst (λ (i : ℕ). NotedAt i origins cs from to log (noted .last refl .noted)) (sym count) (noted .last refl .entry)) inside (cuts (bookOf s) u asked) own-entry
+      (entry-fits (bookOf s) u asked (p .book .book .accepted .sound)) in
+      rw z (log-sealed t more (ap suc (sym count)) (noted .last refl .whole))
+
+-- a refused reduction leaves the log
+pub noted-refused : (lent : Bool) (loss s t l : List ℕ) {n : ℕ} {a : Answer} → (n ≡ 0 → ⊥) → a ≡ only n → l ≡ notedBy lent (a .number) loss s t l
+unfolding notedBy only after
+noted-refused false loss s t l h e = refl
+noted-refused true loss s t l {n} h e = rw e (go n h)
+  where
+    go : (k : ℕ) → (k ≡ 0 → ⊥) → l ≡ after k (λ i. l) (logBytes (loss ∷ entriesOf s l) t)
+    go zero h = absurd (h refl)
+    go (suc k) h = refl
+
+-- ---- the call
+
+module _ (number : ℕ) (limits : Limits) (l s : List ℕ) (id : ℕ) where
+  abbrev entry : List ℕ
+  entry = entryOf limits (bookOf s) (find (bookOf s .users) id)
+
+  -- what it gives without a log, with the entry noted
+  withNoted : InBytes → Outcome
+  withNoted x = record { answer = x .answer; numbers = []; bytes = x .bytes; log = some (after (x .answer .number) (λ n. l) (logBytes (entry ∷ entriesOf s l) (x .bytes))) }
+
+  asks : List Question
+  asks = about limits (bookOf s) (reduction id) ++ (hasRoom (room l) ∷ [])
+
+  asks-numbered : T (numbered asks)
+  unfolding numbered asks hasRoom all
+  asks-numbered = all-append (λ q. ltb 0 (q .number)) (about limits (bookOf s) (reduction id)) (hasRoom (room l) ∷ []) (about-numbered limits (bookOf s) (reduction id)) tt
+
+  noted-decided : (o : Option ℕ) → refusal asks ≡ o
+      → decided o (refusedWith l s) (enteredIn (callEntered limits (room l) (entriesOf s l) (bookOf s) (reduction id))) ≡ withNoted (decided o (unchanged s) (inBytes (effect limits (bookOf s) (reduction id))))
+  unfolding decided enteredIn callEntered inBytes refusedWith unchanged withNoted only after effect reduced reducedBy ofCuts numbered
+  noted-decided none k = refl
+  noted-decided (some zero) k = absurd (let n = ltb→lt 0 0 (refusal-is (λ i. ltb 0 i) asks 0 asks-numbered k) in omega arith)
+  noted-decided (some (suc n)) k = refl
+
+  noted-after : (n : ℕ) → loggedAfter n limits l s (reduction id) ≡ withNoted (stepWith (hasRoom (room l) ∷ []) n limits s id)
+  unfolding loggedAfter stepWith after refusedWith unchanged withNoted only lastly asks
+  noted-after (suc n) = refl
+  noted-after zero = noted-decided (refusal asks) refl
+
+  step-without : (n : ℕ) → stepWith [] n limits s id ≡ stepAfter n limits s (reduction id)
+  unfolding stepWith stepAfter
+  step-without n = rw (append-nil (about limits (bookOf s) (reduction id)))
+
+  pub reduced-with : (lent : Bool) {a : Answer} {t m : List ℕ} → Gives (stepWith (roomAsked lent l) number limits s id) a t
+      → m ≡ notedBy lent (a .number) (entryOf limits (bookOf s) (find (bookOf s .users) id)) s t l → ReducedWith lent number limits l s id a t m
+  unfolding roomAsked notedBy withNoted
+  reduced-with false g h =
+      let e = step-without number in
+      record {
+        without = λ x. record { answer = g .answer ∙ ap (λ (y : InBytes). y .answer) e; bytes = g .bytes ∙ ap (λ (y : InBytes). y .bytes) e };
+        stays = λ x. h;
+        within = λ x. absurd (subst T (sym x) tt);
+      }
+  reduced-with true {a} {t} g h =
+      let e = sym (noted-after number) in
+      let step = stepWith (hasRoom (room l) ∷ []) number limits s id in
+      record {
+        without = λ x. absurd (subst T x tt);
+        stays = λ x. absurd (subst T x tt);
+        within = λ x. record {
+          answer = g .answer ∙ ap (λ (o : Outcome). o .answer) e;
+          bytes = g .bytes ∙ ap (λ (o : Outcome). o .bytes) e;
+          log = ap some (h ∙ ap (λ (n : ℕ). after n (λ i. l) (logBytes (entry ∷ entriesOf s l) t)) (ap (λ (r : Answer). r .number) (g .answer))
+              ∙ ap (λ (y : List ℕ). after (step .answer .number) (λ i. l) (logBytes (entry ∷ entriesOf s l) y)) (g .bytes)) ∙ ap (λ (o : Outcome). o .log) e;
+        };
+      }
