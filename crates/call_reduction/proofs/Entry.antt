@@ -6,7 +6,7 @@ use mathlib.Core.Path.{_≡_, refl, sym, ap, ap₂, subst, _∙_}
 use Prim.Native.Nat.{ℕ, zero, suc, _+_, _-_, _≤_, _<_}
 use native.Mathlib.Omega.{arith}
 use lib.Dec.{T, ltb, ltb→lt}
-use lib.ListN.{length, getD, replicate, length-map}
+use lib.ListN.{length, getD, replicate}
 use lib.Seq.{sets}
 use borrow.Author.Tests.{ltb-true}
 use Rattle.base.proofs.Fronts.{all-at}
@@ -24,18 +24,14 @@ use Rattle.laws.proofs.Refusals.{numbered, refusal-is}
 use Rattle.laws.proofs.Settle.{pairs-length}
 use Rattle.laws.proofs.Trades.{framed}
 use Rattle.laws.specs.Sound.{Sound}
-use Rattle.laws_sales.proofs.Cuts.{cuts-sales}
-use Rattle.laws_sales.proofs.FirstCuts.{own-cuts-length}
 use Rattle.laws_sales.proofs.Groups.{places-inside}
-use Rattle.laws_sales.proofs.Own.{own-sales}
-use Rattle.laws_sales.specs.Borne.{borneBook, borneTrade, borneUser}
+use Rattle.laws_sales.specs.Borne.{borneBook}
 use Rattle.laws_sales.specs.Groups.{places}
 use Rattle.laws_sales.specs.Parts.{part}
-use Rattle.laws_sales.specs.Reduced.{ownCuts}
 use Rattle.laws_sales.specs.Sales.{ownSale}
 use Rattle.log_entries.proofs.Entries.{entry-noted, log-sealed}
 use Rattle.log_entries.proofs.Fitting.{fitting-count, fitting-trades}
-use Rattle.log_entries.proofs.Spread.{spread-entered}
+use Rattle.log_entries.proofs.Spread.{borne-many, cuts-entered}
 use Rattle.log_entries.specs.Entries.{NotedAt, entered}
 use Rattle.log_format.proofs.Noted.{start, cut, cuts-bilateral, noted-fit}
 use Rattle.log_format.proofs.Parts.{EntryFits}
@@ -66,25 +62,6 @@ use Rattle.call_reduction.proofs.Ways.{stepWith}
 -- ---- what each trade loses
 
 module _ (b : Book) (u : User) (asked : ℕ) where
-  abbrev bb : Book
-  bb = borneBook b
-
-  abbrev ub : User
-  ub = borneUser (b .users) u
-
-  -- as many trades as they are borne
-  borne-many : length (borneBook b .trades) ≡ length (b .trades)
-  unfolding borneBook
-  borne-many = length-map (b .trades) (borneTrade (b .users))
-
-  -- the cuts of the sales as they are borne, entered at their places
-  entry-is : cuts b u asked ≡ entered (places (borneBook b .trades) (u .party .id)) (ownCuts (borneBook b) (borneUser (b .users) u) asked) (replicate (length (b .trades)) 0)
-  unfolding borneUser
-  entry-is =
-      cuts-sales b u asked
-      ∙ sym (spread-entered (ownSale (u .party .id)) (bb .trades) (ownCuts bb ub asked) (own-cuts-length own-sales bb ub asked))
-      ∙ ap (λ (m : ℕ). entered (places (bb .trades) (u .party .id)) (ownCuts bb ub asked) (replicate m 0)) borne-many
-
   entry-fits : Sound b → EntryFits (length (b .trades)) (cuts b u asked)
   unfolding withTrades
   entry-fits sound =
@@ -135,7 +112,7 @@ module _ {f : Prices} {s : List ℕ} {place : ℕ} {ownSellers ownBuyers sellers
   own-entry : entered (part from to origins) (part from to cs) (replicate (length (bookOf s .trades)) 0) ≡ cuts (bookOf s) u asked
   unfolding bookOf
   own-entry =
-      ap₂ (λ (xs ys : List ℕ). entered xs ys (replicate (length (bookOf s .trades)) 0)) own-places (lost p l last asked cs cs₀ filled long) ∙ sym (entry-is (bookOf s) u asked)
+      ap₂ (λ (xs ys : List ℕ). entered xs ys (replicate (length (bookOf s .trades)) 0)) own-places (lost p l last asked cs cs₀ filled long) ∙ sym (cuts-entered (bookOf s) u asked)
 
   few-trades : length (bookOf s .trades) ≤ 256
   unfolding bookOf
@@ -157,7 +134,7 @@ module _ {f : Prices} {s : List ℕ} {place : ℕ} {ownSellers ownBuyers sellers
       = λ j k. omega (
         arith,
         ltb→lt (getD is j 0) (length ts) (all-at (λ i. ltb i (length ts)) is (places-inside (ownSale (u .party .id)) ts) j 0 (omega (arith, k, ap length own-places))),
-        borne-many (bookOf s) u asked,
+        borne-many (bookOf s),
         ap (λ (xs : List ℕ). getD xs j 0) own-places,
       ) in
       let more = entry-noted few-trades have (omega (arith, count, ltb-true 0 (256 - entryCount log) free))

@@ -6,7 +6,7 @@ use mathlib.Core.Path.{_≡_, refl, sym, ap, ap₂, subst, _∙_}
 use Prim.Native.Nat.{ℕ, suc, _+_, _-_, _≤_, _<_}
 use native.Mathlib.Omega.{arith}
 use lib.Dec.{T, ltb, ltb→lt}
-use lib.ListN.{length, getD, replicate, length-map, length-set}
+use lib.ListN.{length, getD, replicate}
 use lib.Seq.{length-sets}
 use Rattle.cut_worth.specs.Tallies.{asTally}
 use Rattle.cut_worth.specs.Totals.{totals}
@@ -22,12 +22,10 @@ use Rattle.laws.proofs.Settle.{pairs-length}
 use Rattle.laws.proofs.Trades.{framed}
 use Rattle.laws.specs.Sound.{Sound}
 use Rattle.laws.specs.Trades.{Lowered, Pairwise}
-use Rattle.laws_sales.proofs.Cuts.{cuts-sales}
-use Rattle.laws_sales.proofs.FirstCuts.{own-cuts-length}
 use Rattle.laws_sales.proofs.Groups.{places-inside}
 use Rattle.laws_sales.proofs.Own.{own-sales}
 use Rattle.laws_sales.proofs.Standing.{places-stay}
-use Rattle.laws_sales.specs.Borne.{borneBook, borneTrade, borneUser}
+use Rattle.laws_sales.specs.Borne.{borneBook, borneUser}
 use Rattle.laws_sales.specs.Groups.{places}
 use Rattle.laws_sales.specs.Parts.{part}
 use Rattle.laws_sales.specs.Reduced.{ownCuts}
@@ -53,7 +51,7 @@ use Rattle.log_format.proofs.Noted.{start, noted-fit, reduction-noted}
 use Rattle.log_format.proofs.Parts.{EntryFits}
 use Rattle.log_format.specs.Noted.{entryOf, noted}
 use Rattle.log_entries.proofs.Entries.{entry-noted}
-use Rattle.log_entries.proofs.Spread.{spread-entered}
+use Rattle.log_entries.proofs.Spread.{borne-many, cuts-entered}
 use Rattle.log_entries.specs.Entries.{EntriesIn, Notable, NotedAt, entered}
 use Rattle.run_noted.proofs.Budget.{budget-spent, budget-stops, budget-turn, noted-spent, noted-stops, noted-turn, same-totals}
 use Rattle.run_noted.specs.Noted.{NotedBy, OriginsIn}
@@ -61,29 +59,16 @@ use Rattle.run_noted.specs.Noted.{NotedBy, OriginsIn}
 -- ---- the entry of a reduction
 
 module _ (limits : Limits) (b : Book) (u : User) where
-  abbrev bb : Book
-  bb = borneBook b
-
-  abbrev ub : User
-  ub = borneUser (b .users) u
-
   -- the cuts of the sales as they are borne, entered at their places
-  entry-is : entryOf limits b u ≡ entered (places (borneBook b .trades) (u .party .id)) (ownCuts (borneBook b) (borneUser (b .users) u) (target limits b u)) (replicate (length (borneBook b .trades)) 0)
-  unfolding entryOf borneUser
-  entry-is =
-      cuts-sales b u (target limits b u)
-      ∙ sym (spread-entered (ownSale (u .party .id)) (bb .trades) (ownCuts bb ub (target limits b u)) (own-cuts-length own-sales bb ub (target limits b u)))
+  entry-is : entryOf limits b u ≡ entered (places (borneBook b .trades) (u .party .id)) (ownCuts (borneBook b) (borneUser (b .users) u) (target limits b u)) (replicate (length (b .trades)) 0)
+  unfolding entryOf
+  entry-is = cuts-entered b u (target limits b u)
 
   entry-fits : Sound b → {m : ℕ} → length (b .trades) ≡ m → EntryFits m (entryOf limits b u)
   entry-fits sound same =
       let there = noted-fit (reduction-noted limits u (start sound)) in
       let long = pairs-length (framed (reduced-law limits b u sound .lowered)) ∙ same in
       subst (λ (m : ℕ). EntryFits m (entryOf limits b u)) long (there .0)
-
--- as many trades as they are borne
-borne-many : (b : Book) → length (borneBook b .trades) ≡ length (b .trades)
-unfolding borneBook
-borne-many b = length-map (b .trades) (borneTrade (b .users))
 
 -- the cuts that a turn leaves can be noted
 module _ {limits : Limits} {f : Prices} {s sums ss areaCodes bs : List ℕ} (q : RunOf limits f s sums ss areaCodes bs) where
@@ -195,7 +180,7 @@ module _ {limits : Limits} {s : List ℕ} {n count : ℕ} {l₀ : List ℕ} (man
             ) in
             let is-entry : entered (part from to origins) (part from to ws) (replicate (length (bookOf s .trades)) 0) ≡ entryOf limits (p .run .book) user
             = ap₂ (λ (xs ys : List ℕ). entered xs ys (replicate (length (bookOf s .trades)) 0)) own-places (turn .cuts)
-            ∙ ap (λ (m : ℕ). entered is (ownCuts (borneBook (p .run .book)) (borneUser (p .run .book .users) user) (target limits (p .run .book) user)) (replicate m 0)) (sym (borne-many (p .run .book) ∙ trades-many))
+            ∙ ap (λ (m : ℕ). entered is (ownCuts (borneBook (p .run .book)) (borneUser (p .run .book .users) user) (target limits (p .run .book) user)) (replicate m 0)) (sym trades-many)
             ∙ sym (entry-is limits (p .run .book) user) in
             entry-noted few h (omega arith) (subst (λ (i : ℕ). NotedAt i origins ws from to log log') (sym e) noted-at) inside (entryOf limits (p .run .book) user) is-entry
             (entry-fits limits (p .run .book) user (p .run .going .sound) trades-many)
