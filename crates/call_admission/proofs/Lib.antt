@@ -1,2 +1,3 @@
--- What the questions of the book and those of the store give together.
+-- What the questions of the book and those of the store give together, and that of a lent log after them.
 mod Asked
+pub mod Log

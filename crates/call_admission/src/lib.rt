@@ -1,5 +1,5 @@
 // The opening questions of a call with its setting: those of its book, 1 to 7, and after them those of its store, 16 and 17. They give a
-// number and the figures of the call. A list of postings is asked 15 between them.
+// number and the figures of the call. A list of postings is asked 15 between them. A call that may be given a log is asked 19 after them.
 use units::Limits;
 ghost use mathlib.Core.Path.{_≡_};
 ghost use lib.ListN.{length, replicate};
@@ -9,6 +9,7 @@ ghost use Rattle.book_questions.specs.Asked.{PartiesFound};
 ghost use Rattle.store.specs.Store.{given};
 ghost use Rattle.requests.specs.Request.{Lines, linesFit, linesNumber, settingOf};
 ghost use Rattle.requests.specs.Carried.{Admitted};
+ghost use Rattle.call_admission.specs.Log.{LogAsked};
 
 // What the opening questions give: the number of the first that is answered by no, 0 where there is none, and the figures that the call
 // takes then.
@@ -80,4 +81,15 @@ pub fn admit_list(book: &[u8], with_store: bool, store: &[u8], fits: bool) -> u3
         return 15;
     }
     by_store(book, asked, with_store, store).number
+}
+
+// The question of a log that is given, after those of the book and the store, whose number is given.
+pub fn by_log(book: &[u8], asked: u32, with_log: bool, log: &[u8]) -> u32
+    requires { ⌜ (asked ≡ 0 → bookNumber (now book) ≡ 0) ⌝ }
+    ensures { λ r. ⌜ LogAsked asked «with_log» (now (log .entry)) (now (book .entry)) r ⌝ }
+{
+    if asked != 0 {
+        return asked;
+    }
+    log_lent::number(book, with_log, log)
 }

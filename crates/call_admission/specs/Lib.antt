@@ -1,0 +1,2 @@
+-- Question 19 of a lent log.
+pub mod Log
