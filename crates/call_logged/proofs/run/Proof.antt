@@ -61,7 +61,7 @@ placed c =
 
 bear-requires : tie.Need-bear-requires
 bear-requires c κs =
-    let e = c .before .before .before .before .before .before .before .before .before in
+    let e = c .before .before .before .before .before .before .before .before in
     let p = start e .pre .1 .1 in
     let told = p .1 .summed in
     ((placed e, p .0 .0, p .0 .1, refl, refl, p .0 .2), (told .twelve (e .if1 .left), told .low (e .if1 .left)))
@@ -69,8 +69,8 @@ bear-requires c κs =
 run-book-requires : tie.Need-run-book-requires
 unfolding bookOf
 run-book-requires c κs =
-    let o = c .before .before .before .before in
-    let g = o .before .before .before .before .before .before in
+    let o = c .before .before .before .before .before in
+    let g = o .before .before .before .before .before in
     let e = g .before .before .before .before in
     let k = o .bear .ensures in
     (placed e, (record { book = k .0; limits-in = start e .pre .1 .0; prices-are = g .before .before .read-prices .ensures; twelve = k .1 .0; low = k .1 .1 }, (omega (arith, count g, facts e .count), facts e .size)))
