@@ -158,8 +158,9 @@ fn run_listed(
     noted
 }
 
-// Runs an accepted book, of whose trades the sellers and the buyers have these places (`own_sellers`, `own_buyers`) and those who bear their
-// risk these (`sellers`, `parties`), and whose users have these sums as their risk is borne; notes its reductions in a log of `count` entries.
+// Runs an accepted book, of whose trades the sellers and the buyers have these places (`own_sellers`, `own_buyers`) and those who bear
+// their risk these (`sellers`, `parties`), and whose users have these sums as their risk is borne; notes its reductions in a log of
+// `count` entries.
 pub fn run_book(
     book: &mut [u8],
     own_sellers: &[u8; 256],

@@ -38,8 +38,7 @@ returns : tie.Need-returns
 returns c =
     let s = c .before .before .before .before .before .before .before .before in
     let a = s .args in
-    let left = c .before .before .any-left in
-    (
+    let left = c .before .before .any-left in (
       own-refused (s .pre .0) (s .pre .1 .0) (roomAsked (a .with-log) (now (a .log))) (a .asked .0) (left .ensures) (not-true (left .result) (c .before .if1 .taken)) (c .refused .ensures),
       noted-refused (a .with-log) (cuts (bookOf (now (a .book))) (getD (usersOf (now (a .book))) (a .place) nobody) (a .asked .0)) (now (a .book)) (now (a .book)) (now (a .log)) (λ z. omega (arith, z)) (c .refused .ensures),
     )
@@ -51,8 +50,7 @@ returns-2 : tie.Need-returns-2
 returns-2 c =
     let s = c .before .before .before .before .before .before .before .before .before .before .before in
     let a = s .args in
-    let left = c .before .before .before .before .before .any-left in
-    (
+    let left = c .before .before .before .before .before .any-left in (
       own-full (s .pre .0) (s .pre .1 .0) (roomAsked (a .with-log) (now (a .log))) (a .asked .0) (left .ensures) (not-false (left .result) (c .before .before .before .before .if1 .left))
           (room-full (now (a .log)) (a .with-log) (sym (c .before .before .has-room .ensures) ∙ not-true _ (c .before .if2 .taken))) (c .refused2 .ensures),
       noted-refused (a .with-log) (cuts (bookOf (now (a .book))) (getD (usersOf (now (a .book))) (a .place) nobody) (a .asked .0)) (now (a .book)) (now (a .book)) (now (a .log)) (λ z. omega (arith, z)) (c .refused2 .ensures),
@@ -88,8 +86,7 @@ returns-3 c =
     let a = s .args in
     let left = c .before .before .before .before .before .before .before .before .before .before .before .before .before .before .before .before .before .before .before .before .before .before .before .any-left in
     let r = c .before .before .before .before .before .before .before .before .before .before .before .before .before .before .reduce .ensures in
-    let last = roomAsked (a .with-log) (now (a .log)) in
-    (
+    let last = roomAsked (a .with-log) (now (a .log)) in (
       own-reduced (s .pre .0) (s .pre .1 .0) last (a .asked .0) _ _ (r .0) refl (left .ensures) (not-false (left .result) (c .before .before .before .before .before .before .before .before .before .before .before .before .before .before .before .before .before .before .before .before .before .before .if1 .left))
           (room-free (now (a .log)) (a .with-log) (free (c .before .before .before .before .before .before .before .before .before .before .before .before .before .before .before .before .before .before .before))) (r .1 .1 .1 .0) (c .before .before .before .before .before .before .before .before .before .apply .ensures) (c .of-cuts .ensures),
       own-noted (s .pre .0) (s .pre .1 .0) last (a .asked .0) _ _ (r .0) refl (a .with-log) (λ j. c .before .before .before .before .before .before .before .before .before .before .before .before .before .before .before .before .before .before .before .before .before .before .before .before .before .before .before .slice-known2 .given j .fits) (s .pre .1 .1) (free (c .before .before .before .before .before .before .before .before .before .before .before .before .before .before .before .before .before .before .before)) (c .before .before .before .note .ensures)

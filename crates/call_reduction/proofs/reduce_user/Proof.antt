@@ -24,8 +24,7 @@ returns : tie.Need-returns
 returns c =
     let q = c .before .before in
     let a = start q .args in
-    let u = getD (usersOf (now (a .book))) (a .place) nobody in
-    (
+    let u = getD (usersOf (now (a .book))) (a .place) nobody in (
       gives-refused (q .shortfall-at .result .number)
           (user-refused (roomAsked (a .with-log) (now (a .log))) (asLimits (a .day .limits)) (now (a .book)) u (q .shortfall-at .ensures .0) (c .before .if1 .taken)) (c .refused .ensures),
       noted-refused (a .with-log) (entryOf (asLimits (a .day .limits)) (bookOf (now (a .book))) u) (now (a .book)) (now (a .book)) (now (a .log)) (c .before .if1 .taken) (c .refused .ensures),
@@ -45,8 +44,7 @@ returns-2 c =
     let e = c .before .before .before .before .before .before .before .before .before in
     let a = start (e .before) .args in
     let u = getD (usersOf (now (a .book))) (a .place) nobody in
-    let q = e .before .shortfall-at .ensures .0 in
-    (
+    let q = e .before .shortfall-at .ensures .0 in (
       rw (user-asked (roomAsked (a .with-log) (now (a .log))) (asLimits (a .day .limits)) (now (a .book)) u q (e .if1 .left)) (r .ensures .0),
       rw (q .target-is (e .if1 .left)) at (r .ensures .1),
     )
