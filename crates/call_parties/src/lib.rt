@@ -33,8 +33,9 @@ fn clear_sums(sums: &mut [u32; 768])
     }
 }
 
-// The same in a version with managers: the trades are walked once more.
-fn bear_managed(
+// Lists the places of those who bear the risk of the sellers and of the buyers of a book's trades, given those of the sellers and the
+// buyers, with the sums of what stands at these, in a version with managers: the trades are walked once more.
+pub fn bear_managed(
     book: &[u8],
     sellers: &[u8; 256],
     buyers: &[u8; 256],
@@ -87,4 +88,18 @@ pub fn bear(
     }
     copy_places(sellers, bearing_sellers);
     copy_places(buyers, bearing_buyers);
+}
+
+// Makes of the sums of each user those of what stands at who bears the risk of the trades' parties.
+pub fn bear_sums(book: &[u8], sellers: &[u8; 256], buyers: &[u8; 256], sums: &mut [u32; 768])
+    requires { ⌜ BookIn (now book) (now sellers) (now buyers) × (length (now sums) ≡ 768) ⌝ }
+    requires { ⌜ TwelveOf (usersOf (now book)) (tradesOf (now book)) (now sums) × Low (now sums) ⌝ }
+    ensures { λ _. ⌜ TwelveOf (usersIn (now (book .entry))) (tradesIn (now (book .entry))) (now (sums .exit)) × Low (now (sums .exit)) ⌝ }
+{
+    if !book_format::has_managers(book_format::version(book)) {
+        return;
+    }
+    let mut bearing_sellers = [0u8; 256];
+    let mut bearing_buyers = [0u8; 256];
+    bear_managed(book, sellers, buyers, &mut bearing_sellers, &mut bearing_buyers, sums);
 }

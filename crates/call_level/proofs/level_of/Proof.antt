@@ -3,15 +3,20 @@ use mathlib.Core.Path.{_≡_, sym, subst, _∙_}
 use Prim.Native.Nat.{_<_}
 use native.Mathlib.Omega.{arith}
 use denote.Ref.{now}
-use lib.ListN.{length}
+use lib.IntN.{ℤ}
+use lib.ListN.{getD, length}
+use Rattle.rules.specs.Book.{User, nobody}
+use Rattle.rules.specs.Levels.{floored, levelFrom, morningSum}
+use Rattle.risk_holdings.specs.Holdings.{heldIn}
+use Rattle.units.specs.Amounts.{balance}
 use Rattle.units.specs.Limits.{asLimits}
 use Rattle.units.specs.Prices.{InRange, asPrices}
-use Rattle.book_records.specs.User.{asUser}
-use Rattle.book_format.specs.Book.{bookOf}
+use Rattle.book_records.specs.User.{alone, asUser}
+use Rattle.book_format.specs.Book.{bookOf, usersOf}
 use Rattle.book_format.proofs.Passed.{length-usersOf, passed}
 use Rattle.book_format.proofs.Places.{header-lies}
 use Rattle.risk_user.proofs.Accepted.{prices-within}
-use Rattle.risk_user.proofs.Held.{afternoon-record, morning-record}
+use Rattle.risk_user.proofs.Held.{afternoon-row, morning-row}
 use Rattle.call_level.specs.Times.{levelOf}
 use Rattle.call_level.proofs.level_of.Statement.{statement}
 use Rattle.call_level.proofs.level_of.Tie as tie
