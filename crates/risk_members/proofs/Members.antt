@@ -25,7 +25,7 @@ use Rattle.rules.specs.Bearers.{bearer, borneSum}
 use Rattle.rules.specs.Book.{Book, PerArea, User, at, managerIn, nobody}
 use Rattle.rules.specs.Questions.{positionsValid, userValid}
 use Rattle.units.proofs.Amounts.{parts-net}
-use Rattle.units.specs.Amounts.{net}
+use Rattle.units.specs.Amounts.{balance, net}
 use Rattle.units.specs.declared.Net.{Net}
 use Rattle.risk_members.specs.Members.{AmountsOf}
 use Rattle.risk_members.proofs.Sums.{Near}
@@ -51,6 +51,18 @@ module _ (u : code.User) (v : User) (h : asUser u ≡ alone v) where
   pub read-role : u .role ≡ v .party .role
   unfolding asUser alone
   read-role = ap (λ (w : User). w .party .role) h
+
+  pub read-charges : balance (u .charges) ≡ v .party .charges
+  unfolding asUser alone
+  read-charges = ap (λ (w : User). w .party .charges) h
+
+  pub read-assigned : u .assigned .0 ≡ v .party .assigned
+  unfolding asUser alone
+  read-assigned = ap (λ (w : User). w .party .assigned) h
+
+  pub read-blocked : u .blocked .0 ≡ v .blocked
+  unfolding asUser alone
+  read-blocked = ap (λ (w : User). w .blocked) h
 
   pub read-physical : asAmounts (u .physical) ≡ v .physical
   unfolding asUser alone
