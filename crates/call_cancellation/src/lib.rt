@@ -57,14 +57,7 @@ impl CancellationAnswer {
 
 // Is the trade i, whose parties' risk is borne by users at two places, an eligible trade of the user at a place? A sale inside its group is
 // not.
-fn eligible_at(
-    book: &[u8],
-    at: usize,
-    i: usize,
-    seller: u8,
-    buyer: u8,
-    place: usize,
-) -> bool
+fn eligible_at(book: &[u8], at: usize, i: usize, seller: u8, buyer: u8, place: usize) -> bool
     requires { ⌜ TradeIn (now book) at i ⌝ }
     ensures { λ r. ⌜ r ≡ ((eqb seller place && not (eqb buyer place)) && (bilateralForDay (getD (tradesOf (now (book .entry))) i noTrade) && ltb 0 (getD (tradesOf (now (book .entry))) i noTrade .standing))) ⌝ }
 {
@@ -297,7 +290,7 @@ pub fn cancellation(
 ) -> CancellationAnswer
     requires { ⌜ (number ≡ 0 → bookNumber (now book) ≡ 0) ⌝ }
     requires { ⌜ LimitsInRange (asLimits limits) ⌝ }
-    requires { ⌜ (length (now sellers) ≡ 256) × (length (now buyers) ≡ 256) × (length (now sums) ≡ 768) ⌝ }
+    requires { ⌜ (length (now sellers) ≡ 256) × (length (now buyers) ≡ 256) ⌝ }
     requires { ⌜ PartiesFound (now book) number (now sellers) (now buyers) (now sums) ⌝ }
     ensures { λ r. ⌜ cancellationOf r ≡ cancellationAfter number (asLimits limits) (now (book .entry)) id tries ⌝ }
 {

@@ -23,14 +23,9 @@ fn copy_places(places: &[u8; 256], out: &mut [u8; 256])
 
 // Clears the sums.
 fn clear_sums(sums: &mut [u32; 768])
-    requires { ⌜ length (now sums) ≡ 768 ⌝ }
     ensures { λ _. ⌜ now (sums .exit) ≡ replicate 768 0 ⌝ }
 {
-    let mut i = 0;
-    while i < 768 {
-        sums[i] = 0;
-        i += 1;
-    }
+    *sums = [0u32; 768];
 }
 
 // Lists the places of those who bear the risk of the sellers and of the buyers of a book's trades, given those of the sellers and the
@@ -44,7 +39,7 @@ pub fn bear_managed(
     sums: &mut [u32; 768],
 )
     requires { ⌜ BookIn (now book) (now sellers) (now buyers) × (managersIn (versionOf (now book)) ≡ true) ⌝ }
-    requires { ⌜ (length (now «bearing_sellers») ≡ 256) × (length (now «bearing_buyers») ≡ 256) × (length (now sums) ≡ 768) ⌝ }
+    requires { ⌜ (length (now «bearing_sellers») ≡ 256) × (length (now «bearing_buyers») ≡ 256) ⌝ }
     ensures { λ _. ⌜ BorneIn (now (book .entry)) (now («bearing_sellers» .exit)) (now («bearing_buyers» .exit)) ⌝ }
     ensures { λ _. ⌜ TwelveOf (usersIn (now (book .entry))) (tradesIn (now (book .entry))) (now (sums .exit)) × Low (now (sums .exit)) ⌝ }
 {
@@ -77,7 +72,7 @@ pub fn bear(
     bearing_buyers: &mut [u8; 256],
     sums: &mut [u32; 768],
 )
-    requires { ⌜ BookIn (now book) (now sellers) (now buyers) × (length (now sellers) ≡ 256) × (length (now buyers) ≡ 256) × (length (now «bearing_sellers») ≡ 256) × (length (now «bearing_buyers») ≡ 256) × (length (now sums) ≡ 768) ⌝ }
+    requires { ⌜ BookIn (now book) (now sellers) (now buyers) × (length (now sellers) ≡ 256) × (length (now buyers) ≡ 256) × (length (now «bearing_sellers») ≡ 256) × (length (now «bearing_buyers») ≡ 256) ⌝ }
     requires { ⌜ TwelveOf (usersOf (now book)) (tradesOf (now book)) (now sums) × Low (now sums) ⌝ }
     ensures { λ _. ⌜ BorneIn (now (book .entry)) (now («bearing_sellers» .exit)) (now («bearing_buyers» .exit)) ⌝ }
     ensures { λ _. ⌜ TwelveOf (usersIn (now (book .entry))) (tradesIn (now (book .entry))) (now (sums .exit)) × Low (now (sums .exit)) ⌝ }

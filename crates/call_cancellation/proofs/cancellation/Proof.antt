@@ -54,7 +54,7 @@ bear-requires c κs =
     let p = s .pre .1 .1 in
     let told = p .1 .summed in
     let passes = tries-passed (s .args .number) (s .args .tries) (started e) .0 in
-    ((placed e, p .0 .0, p .0 .1, refl, refl, p .0 .2), (told .twelve passes, told .low passes))
+    ((placed e, p .0 .0, p .0 .1, refl, refl), (told .twelve passes, told .low passes))
 
 cancel-user-requires : tie.Need-cancel-user-requires
 unfolding bookOf
