@@ -7,7 +7,7 @@ use units::Limits;
 use units::Net;
 ghost use mathlib.Core.Path.{_≡_};
 ghost use Prim.Native.Nat.{_<_};
-ghost use lib.ListN.{getD, length};
+ghost use lib.ListN.{getD};
 ghost use Rattle.units.specs.Limits.{asLimits, LimitsInRange};
 ghost use Rattle.book_records.specs.User.{alone, asAmounts, asUser};
 ghost use Rattle.book_format.specs.After.{CalledAfter};
@@ -98,7 +98,17 @@ fn call_at(
     let amounts = risk_members::amounts_of(book, place, user);
     let position = amounts.position;
     let level = call_level::level_of(book, sums, place, user, amounts, limits, afternoon);
-    let due = is_due(book, sellers, buyers, place, user, position, limits, level, afternoon);
+    let due = is_due(
+        book,
+        sellers,
+        buyers,
+        place,
+        user,
+        position,
+        limits,
+        level,
+        afternoon,
+    );
     raise(book, place, user, level, due)
 }
 
@@ -116,7 +126,7 @@ pub fn call(
 ) -> CallAnswer
     requires { ⌜ (number ≡ 0 → bookNumber (now book) ≡ 0) ⌝ }
     requires { ⌜ LimitsInRange (asLimits limits) ⌝ }
-    requires { ⌜ PartiesFound (now book) number (now sellers) (now buyers) (now sums) × (length (now sums) ≡ 768) ⌝ }
+    requires { ⌜ PartiesFound (now book) number (now sellers) (now buyers) (now sums) ⌝ }
     ensures { λ r. ⌜ CalledAfter number (asLimits limits) (now (book .entry)) (callOf afternoon id) (answerOf r) (now (book .exit)) ⌝ }
 {
     let entry = call_entry::seek(book, number, id);
@@ -140,7 +150,16 @@ pub fn call(
             &mut bearing_buyers,
             sums,
         );
-        return call_at(book, &bearing_sellers, &bearing_buyers, sums, place, user, limits, afternoon);
+        return call_at(
+            book,
+            &bearing_sellers,
+            &bearing_buyers,
+            sums,
+            place,
+            user,
+            limits,
+            afternoon,
+        );
     }
     call_at(book, sellers, buyers, sums, place, user, limits, afternoon)
 }

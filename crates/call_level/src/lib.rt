@@ -6,7 +6,7 @@ use units::Cents;
 use units::Limits;
 ghost use mathlib.Core.Path.{_≡_};
 ghost use Rattle.units.specs.Limits.{asLimits, LimitsInRange};
-ghost use lib.ListN.{getD, length};
+ghost use lib.ListN.{getD};
 ghost use Rattle.rules.specs.Book.{nobody};
 ghost use Rattle.book_records.specs.User.{alone, asUser};
 ghost use Rattle.book_format.specs.Book.{bookOf, usersOf};
@@ -58,7 +58,7 @@ pub fn level(
 ) -> LevelAnswer
     requires { ⌜ (number ≡ 0 → bookNumber (now book) ≡ 0) ⌝ }
     requires { ⌜ LimitsInRange (asLimits limits) ⌝ }
-    requires { ⌜ PartiesFound (now book) number (now sellers) (now buyers) (now sums) × (length (now sums) ≡ 768) ⌝ }
+    requires { ⌜ PartiesFound (now book) number (now sellers) (now buyers) (now sums) ⌝ }
     ensures { λ r. ⌜ replyOf r ≡ replyAfter number (asLimits limits) (now (book .entry)) (queryOf afternoon id) ⌝ }
 {
     let entry = call_entry::seek(book, number, id);

@@ -223,7 +223,15 @@ pub fn reduction(book: &mut [u8], with_store: bool, store: &[u8], id: u32) -> Re
         &mut sums,
     );
     let limits = admission.limits;
-    call_reduction::reduction(book, admission.number, limits, &sellers, &buyers, &mut sums, id)
+    call_reduction::reduction(
+        book,
+        admission.number,
+        limits,
+        &sellers,
+        &buyers,
+        &mut sums,
+        id,
+    )
 }
 
 // Finds whole eligible trades of a user whose worth at tariff reaches what its afternoon level exceeds its assigned guarantee by, in a

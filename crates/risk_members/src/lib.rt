@@ -22,7 +22,10 @@ pub fn bearer_of(book: &[u8], place: usize, user: User, area: usize) -> u32
     requires { ⌜ UserIn (now book) place × (managersIn (versionOf (now book)) ≡ true) × (area < 3) × (asUser user ≡ alone (getD (usersOf (now book)) place nobody)) ⌝ }
     ensures { λ r. ⌜ r ≡ bearer (getD (usersOf (now (book .entry))) place nobody) area ⌝ }
 {
-    let id = fields::get_u32(book, book_format::user_offset(book, place) + (56 + 4 * area));
+    let id = fields::get_u32(
+        book,
+        book_format::user_offset(book, place) + (56 + 4 * area),
+    );
     if id == 0 {
         return user.id;
     }

@@ -95,7 +95,7 @@ returns-2 c =
 -- the book with the places of its trades' parties
 placed : (n : tie.Else1) → let s = start (n .before) in BookIn (bytes (n .before)) (now (s .args .sellers)) (now (s .args .buyers))
 placed n =
-    record { accepted = accepted-of (bytes (n .before)) (λ j. n .before .before .before .slice-known .given j .fits) (found n .passes); placed = start (n .before) .pre .1 .1 .0 .placed (started n) }
+    record { accepted = accepted-of (bytes (n .before)) (λ j. n .before .before .before .slice-known .given j .fits) (found n .passes); placed = start (n .before) .pre .1 .1 .placed (started n) }
 
 abbrev entered : tie.After-has-managers → tie.Else1
 entered h = h .before .before .before .before .before .before .before
@@ -111,7 +111,7 @@ bear-managed-requires : tie.Need-bear-managed-requires
 bear-managed-requires c κs =
     let t = c .before .before .before .before in
     let n = entered (t .before) in
-    ((placed n, sym (managed (t .before)) ∙ t .if3 .taken), (refl, refl, start (n .before) .pre .1 .1 .1))
+    ((placed n, sym (managed (t .before)) ∙ t .if3 .taken), (refl, refl))
 
 call-at-requires : tie.Need-call-at-requires
 call-at-requires c κs =
@@ -143,7 +143,7 @@ call-at-requires-2 c κs =
     let n = entered h in
     let f = found n in
     let s = start (n .before) in
-    let told = s .pre .1 .1 .0 .summed in
+    let told = s .pre .1 .1 .summed in
     let none = sym (managed h) ∙ l .if3 .left in
     let a = placed n .accepted in
     (plain-in (bytes (n .before)) a none (placed n), record { passes = f .passes; inside = f .known; twelve = plain-sums (bytes (n .before)) a none (told .twelve (started n)); low = told .low (started n) }, ranged (n .before), h .before .before .before .before .before .user-at .ensures)

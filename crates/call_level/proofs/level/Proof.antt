@@ -69,8 +69,8 @@ bear-sums-requires c κs =
     let u = c .before .before .before .before in
     let n = u .before in
     let p = n .before .before .before .pre .1 .1 in
-    let told = p .0 .summed in
-    ((record { accepted = accepted n; placed = p .0 .placed (started n) }, p .1), (told .twelve (started n), told .low (started n)))
+    let told = p .summed in
+    (record { accepted = accepted n; placed = p .placed (started n) }, (told .twelve (started n), told .low (started n)))
 
 level-of-requires : tie.Need-level-of-requires
 level-of-requires c κs =

@@ -87,9 +87,14 @@ warns-buyer-requires c κs =
     let s = o .before .before .before .before in
     let bytes = now (s .args .book) in
     let inside : l .loop .i < tradeCount bytes = omega (arith, c .before .before .loop-test .taken, o .before .trade-count .ensures) in
-    let here : TradeIn bytes (o .trades-offset .result) (l .loop .i) = record { form = form s; begin = o .trades-offset .ensures; inside = inside } in
-    ((s .pre .0, subst (λ (t : Trade). T (tradeValid (usersOf bytes) t)) (sym (trade-read here (l .loop .inv .place) (c .read-trade .ensures)))
-    (all-at (tradeValid (usersOf bytes)) (tradesOf bytes) (accepted-trades (s .pre .0 .accepted)) (l .loop .i) noTrade (omega (arith, length-tradesOf bytes)))), s .pre .1)
+    let here : TradeIn bytes (o .trades-offset .result) (l .loop .i) = record { form = form s; begin = o .trades-offset .ensures; inside = inside } in (
+      (
+        s .pre .0,
+        subst (λ (t : Trade). T (tradeValid (usersOf bytes) t)) (sym (trade-read here (l .loop .inv .place) (c .read-trade .ensures)))
+            (all-at (tradeValid (usersOf bytes)) (tradesOf bytes) (accepted-trades (s .pre .0 .accepted)) (l .loop .i) noTrade (omega (arith, length-tradesOf bytes))),
+      ),
+      s .pre .1,
+    )
 
 -- the test of the next trade
 told : (c : tie.After-warns-buyer Inv-loop μ-loop) → let l = c .before .before .before .before in let s = l .before .before .before .before .before .args in
