@@ -77,7 +77,7 @@ record-zeroed false c l b = user-zeroed c b l ∙ sym (append-nil (userBytes (us
 -- a user's record in an image, as the record of a version
 pub image-zeroed : (version : ℕ) {k : ℕ} → k ≡ userSize version → (c : List ℕ) → AllBytes c → length c ≡ 68 → setField 3 5 0 (fitted k c) ≡ userRecord version (imageUserOf version c)
 unfolding userRecord userSize imageUserOf
-image-zeroed version {j} e c b l =
+image-zeroed version e c b l =
     let k = userSize version in
     let h : k ≤ length c = omega (arith, l, user-range version) in
     ap (λ (i : ℕ). setField 3 5 0 (fitted i c)) e
