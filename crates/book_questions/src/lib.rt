@@ -248,41 +248,6 @@ pub fn ask(s: &[u8], sellers: &mut [u8], buyers: &mut [u8], sums: &mut [u32; 768
 
 // ---- without the sums
 
-// The number of the first of the questions 5 to 7 that the records fail, 0 where they fail none, and the places of the trades' parties.
-pub fn records_number(
-    s: &[u8],
-    version: u16,
-    size: usize,
-    users_at: usize,
-    n: usize,
-    trades_at: usize,
-    m: usize,
-    user_zeros: bool,
-    trade_zeros: bool,
-    sellers: &mut [u8],
-    buyers: &mut [u8],
-) -> u32
-    requires { ⌜ RecordsIn size «users_at» n «trades_at» m (now s) × («users_at» ≤ «trades_at») × (size ≡ userSize version) ⌝ }
-    requires { ⌜ (length (now sellers) ≡ 256) × (length (now buyers) ≡ 256) ⌝ }
-    ensures { λ r. ⌜ RecordsAsked version «user_zeros» «trade_zeros» (usersFrom size «users_at» n (now (s .entry))) (tradesFrom «trades_at» m (now (s .entry))) r (now (sellers .exit)) (now (buyers .exit)) ⌝ }
-{
-    let mut sums = [0u32; 768];
-    let answer = ask_records(
-        &s[users_at..],
-        version,
-        size,
-        n,
-        trades_at - users_at,
-        m,
-        user_zeros,
-        trade_zeros,
-        sellers,
-        buyers,
-        &mut sums,
-    );
-    answer.number
-}
-
 // The number of the first of the questions 4 to 7 that is answered by no, 0 where there is none, and the places of the trades' parties.
 pub fn fields_number(s: &[u8], sellers: &mut [u8], buyers: &mut [u8]) -> u32
     requires { ⌜ Formed (now s) × (length (now sellers) ≡ 256) × (length (now buyers) ≡ 256) ⌝ }

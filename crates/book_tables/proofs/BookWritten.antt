@@ -7,13 +7,14 @@ use lib.ListN.{length, take, drop, length-take}
 use lib.Dec.{eqb}
 use lib.Seq.{sets}
 use Rattle.base.proofs.Fronts.{front-length}
-use mathlib.Core.Bool.{true}
+use mathlib.Core.Bool.{true, false}
 use Rattle.fields.specs.Layout.{setFields, bytesOfRecords, pack, recordsOf}
 use Rattle.rules.specs.Book as model
 use Rattle.book_tables.specs.declared.Record.{Record}
 use Rattle.book_records.specs.declared.Trade.{Trade}
+use Rattle.book_records.specs.declared.User.{User}
 use Rattle.book_records.proofs.Users.{managers-past}
-use Rattle.book_records.specs.User.{recordBytes, recordSize, userBytes, userOf, userValues}
+use Rattle.book_records.specs.User.{asUser, recordBytes, recordSize, userBytes, userOf, userValues}
 use Rattle.book_tables.specs.Record.{asRecord, SizeOfRecord}
 use Rattle.book_records.specs.Trade.{tradeBytes, asTrade}
 use Rattle.base.proofs.Tests.{by-case}
@@ -23,7 +24,7 @@ use Rattle.book_format.specs.Book.{mark, bytesOf, headerSize, lengthBy, pricesO
 use Rattle.book_format.proofs.Offsets.{selling-none, selling-some, user-managed, user-plain}
 use Rattle.book_format.proofs.Written.{header-written, parts-written}
 use Rattle.book_tables.specs.declared.Book.{Book}
-use Rattle.book_tables.specs.Book.{asBook, keptManagers, keptPrices, withSelling, Unseen}
+use Rattle.book_tables.specs.Book.{asBook, keptManagers, keptPrices, usersIn, withRecords, withSelling, Unseen}
 
 -- the bytes of structs are those of what they are in the rules
 bytesOfRecords-map : {R M : Type 0} (face : R → M) (bytes : M → List ℕ) (rs : List R) → bytesOfRecords (λ r. bytes (face r)) rs ≡ bytesOfRecords bytes (map face rs)
@@ -118,7 +119,26 @@ module _ (b : Book) where
       rw (sized, kept-records (b .version) us, bytesOfRecords-map asTrade tradeBytes ts, ← kept-selling (b .version) (asPrices (b .prices)))
       (rw (n, m) at (rw (← header-written (asBook b) out) at (parts-written (asBook b) out e (rw (n, m) h))))
 
--- a version without selling tariffs looks at none
+-- a version without managers looks at none
+unmanaged-is : (version : ℕ) (r : Record) → managersIn version ≡ false → keptManagers version (asRecord r) ≡ asUser (r .user)
+unfolding keptManagers asRecord asUser
+unmanaged-is version r e = rw e
+
+unmanaged-users : (version n : ℕ) (us : List Record) → managersIn version ≡ false → map (λ r. keptManagers version (asRecord r)) (take n us) ≡ map asUser (take n (usersIn us))
+unfolding usersIn
+unmanaged-users version zero us e = refl
+unmanaged-users version (suc n) [] e = refl
+unmanaged-users version (suc n) (u ∷ us) e = ap₂ (λ (x : model.User) (y : List model.User). x ∷ y) (unmanaged-is version u e) (unmanaged-users version n us e)
+
+other-managers : (b : Book) (us : List Record) → managersIn (b .version) ≡ false → usersIn us ≡ usersIn (b .users) → asBook (withRecords b us) ≡ asBook b
+unfolding asBook withRecords
+other-managers b us e same =
+    let v = b .version in
+    let n = b .«user_count» in
+    let users : map (λ r. keptManagers v (asRecord r)) (take n us) ≡ map (λ r. keptManagers v (asRecord r)) (take n (b .users)) = unmanaged-users v n us e ∙ ap (λ (vs : List User). map asUser (take n vs)) same ∙ sym (unmanaged-users v n (b .users) e) in
+    ap (λ (vs : List model.User). record { header = asBook b .header; users = vs; trades = asBook b .trades }) users
+
+-- nor one without selling tariffs at those
 pub unseen : Unseen
 unfolding asBook keptPrices withSelling sellingIn
-unseen = record { same = λ b s u e. rw e refl }
+unseen = record { same = λ b s u e. rw e refl; unmanaged = other-managers }

@@ -1,5 +1,5 @@
 -- The book of the rules that a struct is, and what a struct holds into which bytes were read. Assumes nothing.
-use mathlib.Core.Bool.{cond}
+use mathlib.Core.Bool.{cond, false}
 use mathlib.Core.Path.{_≡_}
 use mathlib.Core.List.{List, map}
 use Prim.Native.Nat.{ℕ, _-_}
@@ -10,7 +10,9 @@ use Rattle.units.specs.Prices.{asPrices}
 use Rattle.book_tables.specs.Record.{asRecord, blankRecord}
 use Rattle.book_records.specs.Trade.{asTrade, blankTrade}
 use Rattle.book_format.specs.Book.{bookOf, bytesOf, pricesOf, userCount, tradeCount}
+use Rattle.book_records.specs.declared.User.{User}
 use Rattle.book_tables.specs.declared.Book.{Book}
+use Rattle.book_tables.specs.declared.Record.{Record}
 
 -- the prices that a version has bytes for, the others 0
 unfoldable pub keptPrices : ℕ → Prices → Prices
@@ -63,9 +65,27 @@ withSelling b s u =
       trades = b .trades;
     }
 
--- what a version has no bytes for is not looked at when a book is written: a struct of version 1 is the same book with any selling tariffs
+-- the struct with other records of users
+unfoldable pub withRecords : Book → List Record → Book
+withRecords b us =
+    record {
+      version = b .version;
+      «user_count» = b .«user_count»;
+      «trade_count» = b .«trade_count»;
+      date = b .date;
+      prices = b .prices;
+      users = us;
+      trades = b .trades;
+    }
+
+-- the users of records, their managers apart
+unfoldable pub usersIn : List Record → List User
+usersIn us = map (λ r. r .user) us
+
+-- what a version has no bytes for is not looked at when a book is written: a struct of version 1 is the same book with any selling tariffs, and one of version 1 or 2 with any managers
 pub record Unseen : Type 0 where
   pub same : (b : Book) (s u : ℕ) → b .version ≡ 1 → asBook (withSelling b s u) ≡ asBook b
+  pub unmanaged : (b : Book) (us : List Record) → managersIn (b .version) ≡ false → usersIn us ≡ usersIn (b .users) → asBook (withRecords b us) ≡ asBook b
 
 -- the struct whose every field is 0
 abbrev pub blankBook : Book

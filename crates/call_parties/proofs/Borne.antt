@@ -27,7 +27,7 @@ module _ (s : List ℕ) (a : Accepted s) (none : managersIn (versionOf s) ≡ fa
   unfolding bookOf
   alone = sym (own-risk (bookOf s) (a .sound) none .book)
 
-  plain-in : {sellers buyers : List ℕ} → BookIn s sellers buyers → BorneIn s sellers buyers
+  pub plain-in : {sellers buyers : List ℕ} → BookIn s sellers buyers → BorneIn s sellers buyers
   unfolding bookOf
   plain-in {sellers} {buyers} b = record { accepted = b .accepted; placed = subst (λ (x : Book). Placed (x .users) (x .trades) sellers buyers) alone (b .placed) }
 

@@ -1,9 +1,9 @@
--- Lists that are copied or cleared place by place. Assumes nothing.
+-- Lists that are copied place by place. Assumes nothing.
 use mathlib.Core.List.{List}
-use mathlib.Core.Path.{_≡_, refl, sym, _∙_}
+use mathlib.Core.Path.{_≡_, sym, _∙_}
 use Prim.Native.Nat.{ℕ, _+_, _≤_, _<_}
 use native.Mathlib.Omega.{arith}
-use lib.ListN.{length, getD, set, replicate, length-set, length-replicate, getD-replicate}
+use lib.ListN.{length, getD, set, length-set}
 use lib.Seq.{ext-getD}
 use Rattle.base.proofs.Stores.{set-front}
 
@@ -19,7 +19,3 @@ filled-more f {room} {i} {x} {xs} h e p =
 -- all are
 pub copied-all : (ys : List ℕ) {room i : ℕ} {xs : List ℕ} → length ys ≡ room → room ≤ i → FilledTo (λ j. getD ys j 0) room i xs → xs ≡ ys
 copied-all ys {room} {i} {xs} e h p = ext-getD 0 xs ys (p .long ∙ sym e) (λ k l. p .each k (omega (arith, p .long)))
-
-pub cleared-all : {room i : ℕ} {xs : List ℕ} → room ≤ i → FilledTo (λ j. 0) room i xs → xs ≡ replicate room 0
-cleared-all {room} {i} {xs} h p =
-    ext-getD 0 xs (replicate room 0) (p .long ∙ sym (length-replicate {A = ℕ} room 0)) (λ k l. p .each k (omega (arith, p .long)) ∙ sym (getD-replicate {A = ℕ} room k 0 0 (omega (arith, p .long))))

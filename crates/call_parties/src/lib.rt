@@ -23,18 +23,14 @@ fn copy_places(places: &[u8; 256], out: &mut [u8; 256])
 
 // Clears the sums.
 fn clear_sums(sums: &mut [u32; 768])
-    requires { ⌜ length (now sums) ≡ 768 ⌝ }
     ensures { λ _. ⌜ now (sums .exit) ≡ replicate 768 0 ⌝ }
 {
-    let mut i = 0;
-    while i < 768 {
-        sums[i] = 0;
-        i += 1;
-    }
+    *sums = [0u32; 768];
 }
 
-// The same in a version with managers: the trades are walked once more.
-fn bear_managed(
+// Lists the places of those who bear the risk of the sellers and of the buyers of a book's trades, given those of the sellers and the
+// buyers, with the sums of what stands at these, in a version with managers: the trades are walked once more.
+pub fn bear_managed(
     book: &[u8],
     sellers: &[u8; 256],
     buyers: &[u8; 256],
@@ -43,7 +39,7 @@ fn bear_managed(
     sums: &mut [u32; 768],
 )
     requires { ⌜ BookIn (now book) (now sellers) (now buyers) × (managersIn (versionOf (now book)) ≡ true) ⌝ }
-    requires { ⌜ (length (now «bearing_sellers») ≡ 256) × (length (now «bearing_buyers») ≡ 256) × (length (now sums) ≡ 768) ⌝ }
+    requires { ⌜ (length (now «bearing_sellers») ≡ 256) × (length (now «bearing_buyers») ≡ 256) ⌝ }
     ensures { λ _. ⌜ BorneIn (now (book .entry)) (now («bearing_sellers» .exit)) (now («bearing_buyers» .exit)) ⌝ }
     ensures { λ _. ⌜ TwelveOf (usersIn (now (book .entry))) (tradesIn (now (book .entry))) (now (sums .exit)) × Low (now (sums .exit)) ⌝ }
 {
@@ -76,7 +72,7 @@ pub fn bear(
     bearing_buyers: &mut [u8; 256],
     sums: &mut [u32; 768],
 )
-    requires { ⌜ BookIn (now book) (now sellers) (now buyers) × (length (now sellers) ≡ 256) × (length (now buyers) ≡ 256) × (length (now «bearing_sellers») ≡ 256) × (length (now «bearing_buyers») ≡ 256) × (length (now sums) ≡ 768) ⌝ }
+    requires { ⌜ BookIn (now book) (now sellers) (now buyers) × (length (now sellers) ≡ 256) × (length (now buyers) ≡ 256) × (length (now «bearing_sellers») ≡ 256) × (length (now «bearing_buyers») ≡ 256) ⌝ }
     requires { ⌜ TwelveOf (usersOf (now book)) (tradesOf (now book)) (now sums) × Low (now sums) ⌝ }
     ensures { λ _. ⌜ BorneIn (now (book .entry)) (now («bearing_sellers» .exit)) (now («bearing_buyers» .exit)) ⌝ }
     ensures { λ _. ⌜ TwelveOf (usersIn (now (book .entry))) (tradesIn (now (book .entry))) (now (sums .exit)) × Low (now (sums .exit)) ⌝ }
@@ -87,4 +83,25 @@ pub fn bear(
     }
     copy_places(sellers, bearing_sellers);
     copy_places(buyers, bearing_buyers);
+}
+
+// Makes of the sums of each user those of what stands at who bears the risk of the trades' parties.
+pub fn bear_sums(book: &[u8], sellers: &[u8; 256], buyers: &[u8; 256], sums: &mut [u32; 768])
+    requires { ⌜ BookIn (now book) (now sellers) (now buyers) ⌝ }
+    requires { ⌜ TwelveOf (usersOf (now book)) (tradesOf (now book)) (now sums) × Low (now sums) ⌝ }
+    ensures { λ _. ⌜ TwelveOf (usersIn (now (book .entry))) (tradesIn (now (book .entry))) (now (sums .exit)) × Low (now (sums .exit)) ⌝ }
+{
+    if !book_format::has_managers(book_format::version(book)) {
+        return;
+    }
+    let mut bearing_sellers = [0u8; 256];
+    let mut bearing_buyers = [0u8; 256];
+    bear_managed(
+        book,
+        sellers,
+        buyers,
+        &mut bearing_sellers,
+        &mut bearing_buyers,
+        sums,
+    );
 }

@@ -209,7 +209,7 @@ pub fn reduction(
     requires { ⌜ (number ≡ 0 → bookNumber (now book) ≡ 0) ⌝ }
     requires { ⌜ (number ≡ 0 → «with_log» ≡ true → T (logFits (now log) (now book))) ⌝ }
     requires { ⌜ LimitsInRange (asLimits limits) ⌝ }
-    requires { ⌜ (length (now sellers) ≡ 256) × (length (now buyers) ≡ 256) × (length (now sums) ≡ 768) ⌝ }
+    requires { ⌜ (length (now sellers) ≡ 256) × (length (now buyers) ≡ 256) ⌝ }
     requires { ⌜ PartiesFound (now book) number (now sellers) (now buyers) (now sums) ⌝ }
     ensures { λ r. ⌜ ReducedWith «with_log» number (asLimits limits) (now (log .entry)) (now (book .entry)) id (answerOf r) (now (book .exit)) (now (log .exit)) ⌝ }
 {

@@ -39,7 +39,7 @@ pub fn run(
 ) -> RunAnswer
     requires { ⌜ (number ≡ 0 → bookNumber (now book) ≡ 0) ⌝ }
     requires { ⌜ LimitsInRange (asLimits limits) ⌝ }
-    requires { ⌜ (length (now sellers) ≡ 256) × (length (now buyers) ≡ 256) × (length (now sums) ≡ 768) ⌝ }
+    requires { ⌜ (length (now sellers) ≡ 256) × (length (now buyers) ≡ 256) ⌝ }
     requires { ⌜ PartiesFound (now book) number (now sellers) (now buyers) (now sums) ⌝ }
     ensures { λ r. ⌜ CalledAfter number (asLimits limits) (now (book .entry)) runCall (answerOf r) (now (book .exit)) ⌝ }
 {

@@ -133,7 +133,16 @@ pub fn level(book: &[u8], with_store: bool, store: &[u8], id: u32, afternoon: bo
         &mut sums,
     );
     let limits = admission.limits;
-    call_level::level(book, admission.number, limits, &sums, id, afternoon)
+    call_level::level(
+        book,
+        admission.number,
+        limits,
+        &sellers,
+        &buyers,
+        &mut sums,
+        id,
+        afternoon,
+    )
 }
 
 // The morning level of a user.
@@ -172,7 +181,7 @@ pub fn call(book: &mut [u8], with_store: bool, store: &[u8], id: u32, afternoon:
         limits,
         &sellers,
         &buyers,
-        &sums,
+        &mut sums,
         id,
         afternoon,
     )
@@ -217,7 +226,15 @@ pub fn reduction(book: &mut [u8], with_store: bool, store: &[u8], id: u32) -> Re
         &mut sums,
     );
     let limits = admission.limits;
-    call_reduction::reduction(book, admission.number, limits, &sellers, &buyers, &sums, id)
+    call_reduction::reduction(
+        book,
+        admission.number,
+        limits,
+        &sellers,
+        &buyers,
+        &mut sums,
+        id,
+    )
 }
 
 // Finds whole eligible trades of a user whose worth at tariff reaches what its afternoon level exceeds its assigned guarantee by, in a
@@ -249,7 +266,7 @@ pub fn cancellation(
         limits,
         &sellers,
         &buyers,
-        &sums,
+        &mut sums,
         id,
         tries,
     )
@@ -271,5 +288,5 @@ pub fn run(book: &mut [u8], with_store: bool, store: &[u8]) -> RunAnswer
         &mut sums,
     );
     let limits = admission.limits;
-    call_run::run(book, admission.number, limits, &sellers, &buyers, &sums)
+    call_run::run(book, admission.number, limits, &sellers, &buyers, &mut sums)
 }

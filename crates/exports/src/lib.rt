@@ -28,7 +28,7 @@ const WRONG_LENGTH: u32 = 255;
 const INTERFACE: u32 = 3;
 
 // The bytes of an image, and of a shown record.
-const IMAGE_SIZE: usize = 8744;
+const IMAGE_SIZE: usize = 9512;
 
 const RECORD_SIZE: usize = 56;
 
@@ -62,7 +62,7 @@ pub extern "C" fn daybook_interface() -> u32
     INTERFACE
 }
 
-// Reads a book's fields into an image of 8,744 bytes.
+// Reads a book's fields into an image of 9,512 bytes.
 #[no_mangle]
 pub extern "C" fn daybook_read(book: &[u8], image: &mut [u8]) -> u32
     ensures { λ r. ⌜ ReadInto (now (book .entry)) (now (image .entry)) r (now (image .exit)) ⌝ }
@@ -73,7 +73,7 @@ pub extern "C" fn daybook_read(book: &[u8], image: &mut [u8]) -> u32
     book_image::read(book, image)
 }
 
-// Writes the book whose fields an image of 8,744 bytes has.
+// Writes the book whose fields an image of 9,512 bytes has.
 #[no_mangle]
 pub extern "C" fn daybook_write(image: &[u8], out: &mut [u8]) -> u32
     ensures { λ r. ⌜ WrittenFrom (now (image .entry)) (now (out .entry)) r (now (out .exit)) ⌝ }

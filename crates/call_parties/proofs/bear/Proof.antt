@@ -19,7 +19,7 @@ bear-managed-requires c κs =
     let h = t .before in
     let v = h .before in
     let s = v .before .before in
-    ((s .pre .0 .0, sym (h .has-managers .ensures ∙ ap managersIn (v .version .ensures)) ∙ t .if1 .taken), (s .pre .0 .3, s .pre .0 .4, s .pre .0 .5))
+    ((s .pre .0 .0, sym (h .has-managers .ensures ∙ ap managersIn (v .version .ensures)) ∙ t .if1 .taken), (s .pre .0 .3, s .pre .0 .4))
 
 copy-places-requires : tie.Need-copy-places-requires
 copy-places-requires c κs =

@@ -24,9 +24,6 @@ fill-bearers-requires c κs =
     let s = u .before .before in
     (s .pre .0 .0 .accepted, s .pre .0 .1, u .user-count .ensures, refl)
 
-clear-sums-requires : tie.Need-clear-sums-requires
-clear-sums-requires c κs = let s = c .before .before .before .before .before .before .before in s .pre .1 .2
-
 bear-trades-requires : tie.Need-bear-trades-requires
 bear-trades-requires c κs =
     let k = c .before .before .before .before in
@@ -49,4 +46,4 @@ returns c =
 pub bear-managed-spec : {M : Type 1} → statement M
 bear-managed-spec =
     tie.close
-    (tie.spec user-count-requires (λ c. search needs) trade-count-requires (λ c. search needs) trades-offset-requires fill-bearers-requires clear-sums-requires bear-trades-requires returns)
+    (tie.spec user-count-requires (λ c. search needs) trade-count-requires (λ c. search needs) trades-offset-requires fill-bearers-requires (λ c κs. search needs) bear-trades-requires returns)

@@ -53,7 +53,7 @@ bear-requires c κs =
     let e = c .before .before .before .before .before .before in
     let p = start (e .before) .pre .1 .1 .1 in
     let told = p .1 .summed in
-    ((placed e, p .0 .0, p .0 .1, refl, refl, p .0 .2), (told .twelve (started e), told .low (started e)))
+    ((placed e, p .0 .0, p .0 .1, refl, refl), (told .twelve (started e), told .low (started e)))
 
 reduce-user-requires : tie.Need-reduce-user-requires
 unfolding bookOf

@@ -15,8 +15,9 @@ admit-with-sums-requires c κs = search needs
 
 reduction-requires : tie.Need-reduction-requires
 reduction-requires c κs =
-    let k = c .before .before .before .before .before .before .before .admit-with-sums .ensures in
-    (k .1 .1 .0, (k .1 .0, k .1 .1 .1))
+    let a = c .before .before .before .before .before .before .before .admit-with-sums in
+    let k = a .ensures in
+    (k .1 .1 .0, (k .1 .0, ((a .kept .1 .1 .1 .0, a .kept .1 .1 .1 .1 .0), k .1 .1 .1)))
 
 same-length : tie.Need-same-length
 same-length c = search needs
