@@ -25,14 +25,17 @@
  *   15  list: at most 512 lines, and columns and places of one count? (asked after 7 and before 16)
  *   16  is the store well formed? (asked where a store is given, after 7 and before 8)
  *   17  has the store a set in force on the book's date? (the same)
+ *   18  withdrawal: has the log an entry?
+ *   19  is the log one for the book? (asked where a log is given, after 17 and before 8; by daybook_start_log: a log of DAYBOOK_LOG_SIZE bytes, and a book that fits in?)
+ *   20  reduction: has the log room for one more entry? (asked last; a run stops with it where one more reduction is due)
  *   24  cancellation: are all eligible trades together worth the target? (asked last)
  *   25  cancellation: 1 to 65,535 tries? (asked after 17 and before 8)
  *   27  return: every balance within 500,000,000 kWh either way?
  *   28  return: at most 64 users? (asked before 27)
  *  255  the part lent for the answer, the marks, the record or the image is not of the length that the function asks for
  *
- * After a number from 1 to 28 the answer, the marks, the record or the image is all 0, the places beside a list are as they were, and the book is byte for byte the same.
- * After 255 nothing at all is changed.
+ * After a number from 1 to 28 the answer, the marks, the record or the image is all 0, the places beside a list are as they were, and book and log are byte for byte the
+ * same; but a run that stops with 20 keeps its cuts and their entries, and its answer has their totals. After 255 nothing at all is changed.
  */
 #ifndef DAYBOOK_H
 #define DAYBOOK_H
@@ -41,12 +44,21 @@
 #include <stdint.h>
 
 /* The interface that this header describes; daybook_interface() tells the archive's, which must be the same. */
-#define DAYBOOK_INTERFACE 3
+#define DAYBOOK_INTERFACE 4
 
 /* A call takes a store of parameter sets, as three arguments: a flag, the bytes and their length. A flag of 0 is no store, and the call's figures are today's; any other
    flag is a store, one of length 0 too. These stand for all three arguments. */
 #define DAYBOOK_NO_STORE 0, (const uint8_t *)"", 0
 #define DAYBOOK_STORE(store, store_len) 1, (store), (store_len)
+
+/* A call that may change the book takes a log of its reductions, as three arguments: a flag, the bytes and their length. A flag of 0 is no log, and the part is left as it
+   is. A log is DAYBOOK_LOG_SIZE bytes that daybook_start_log wrote and the calls since; it holds the book as the last call with it left the book, and is refused with 19
+   beside another. A reduction adds an entry, a run one for each of its own, a withdrawal drops the last; an accepted posting, list or guarantee call empties it. It has
+   room for DAYBOOK_MAX_ENTRIES. The part for no log is never written. These stand for all three arguments. */
+#define DAYBOOK_NO_LOG 0, (uint8_t *)"", 0
+#define DAYBOOK_LOG(log, log_len) 1, (log), (log_len)
+#define DAYBOOK_LOG_SIZE 271668
+#define DAYBOOK_MAX_ENTRIES 256
 
 /* The number for a lent part of another length than the function asks for. */
 #define DAYBOOK_WRONG_LENGTH 255
@@ -81,6 +93,7 @@
 #define DAYBOOK_REDUCTION_NUMBERS 5
 #define DAYBOOK_RUN_NUMBERS 3
 #define DAYBOOK_CANCELLATION_NUMBERS 3
+#define DAYBOOK_WITHDRAWAL_NUMBERS 2
 
 /* The marks of a cancellation: a byte for each place of a trade. */
 #define DAYBOOK_MARKS DAYBOOK_MAX_TRADES
@@ -116,15 +129,16 @@ uint32_t daybook_show_picked(const uint8_t *morning, size_t morning_len, const u
 
 /* Adds a signed amount of MWh to a user's physical entry and position in an area: 0 PVB, 1 TVB, 2 AVB. */
 uint32_t daybook_posting(uint8_t *book, size_t book_len, uint32_t with_store, const uint8_t *store, size_t store_len,
-                         uint32_t id, uint32_t area, int64_t amount);
+                         uint32_t with_log, uint8_t *log, size_t log_len, uint32_t id, uint32_t area, int64_t amount);
 
 /* Posts a list of corrections, at most DAYBOOK_MAX_LINES lines as three columns: ids, areas, signed amounts of MWh. Book and numbers are those of the postings made one
    after another: 0, 8 or 10 for each line, in the place beside it, and the function returns 0 also where every line was refused. The other questions are asked once, before
    the first line; where one of them refuses the list, book and places are unchanged. Columns and places of different counts, the places too, are 15, never 255. An empty
    list is accepted. */
 uint32_t daybook_list(uint8_t *book, size_t book_len, uint32_t with_store, const uint8_t *store, size_t store_len,
-                      const uint32_t *ids, size_t ids_len, const uint32_t *areas, size_t areas_len,
-                      const int64_t *amounts, size_t amounts_len, uint32_t *places, size_t places_len);
+                      uint32_t with_log, uint8_t *log, size_t log_len, const uint32_t *ids, size_t ids_len,
+                      const uint32_t *areas, size_t areas_len, const int64_t *amounts, size_t amounts_len,
+                      uint32_t *places, size_t places_len);
 
 /* The morning level of a user; DAYBOOK_LEVEL_NUMBERS: the level. */
 uint32_t daybook_morning_level(const uint8_t *book, size_t book_len, uint32_t with_store, const uint8_t *store,
@@ -138,11 +152,13 @@ uint32_t daybook_afternoon_level(const uint8_t *book, size_t book_len, uint32_t 
 
 /* Raises a user's blocked guarantee to the morning level; DAYBOOK_CALL_NUMBERS: the level, what was added. */
 uint32_t daybook_morning_call(uint8_t *book, size_t book_len, uint32_t with_store, const uint8_t *store,
-                              size_t store_len, uint32_t id, uint64_t *answer, size_t answer_len);
+                              size_t store_len, uint32_t with_log, uint8_t *log, size_t log_len, uint32_t id,
+                              uint64_t *answer, size_t answer_len);
 
 /* Raises a user's blocked guarantee to the afternoon level; DAYBOOK_CALL_NUMBERS: the level, what was added. */
 uint32_t daybook_afternoon_call(uint8_t *book, size_t book_len, uint32_t with_store, const uint8_t *store,
-                                size_t store_len, uint32_t id, uint64_t *answer, size_t answer_len);
+                                size_t store_len, uint32_t with_log, uint8_t *log, size_t log_len, uint32_t id,
+                                uint64_t *answer, size_t answer_len);
 
 /* Whether a user is warned at midday; DAYBOOK_WARNING_NUMBERS: 1 for yes, 0 for no. */
 uint32_t daybook_warning(const uint8_t *book, size_t book_len, uint32_t with_store, const uint8_t *store,
@@ -151,7 +167,8 @@ uint32_t daybook_warning(const uint8_t *book, size_t book_len, uint32_t with_sto
 /* Cuts a user's bilateral sales for what its afternoon level exceeds its assigned guarantee by, and settles the positions; DAYBOOK_REDUCTION_NUMBERS: the MWh cut, their
    worth, the target, and what the worth falls short of the target or exceeds it by. */
 uint32_t daybook_reduction(uint8_t *book, size_t book_len, uint32_t with_store, const uint8_t *store,
-                           size_t store_len, uint32_t id, uint64_t *answer, size_t answer_len);
+                           size_t store_len, uint32_t with_log, uint8_t *log, size_t log_len, uint32_t id,
+                           uint64_t *answer, size_t answer_len);
 
 /* Finds whole trades of a user to cancel, among its eligible ones, whose worth at tariff reaches what its afternoon level exceeds its assigned guarantee by; the book is not
    changed. A set of trades is read as a binary number, the earliest trade its highest bit, and sets are tried counting down from all trades to the empty set, until the tries
@@ -167,7 +184,15 @@ uint32_t daybook_cancellation(const uint8_t *book, size_t book_len, uint32_t wit
    crates/sequence/specs/RunLength.antt). So the most that a book can take is told from its bytes, before the run: add up the 32 bits at byte 16 of each trade whose bytes 9
    and 10 are 0. That is 25,600,000 at most, and legal books take as many. */
 uint32_t daybook_run(uint8_t *book, size_t book_len, uint32_t with_store, const uint8_t *store, size_t store_len,
-                     uint64_t *answer, size_t answer_len);
+                     uint32_t with_log, uint8_t *log, size_t log_len, uint64_t *answer, size_t answer_len);
+
+/* Starts a log, of DAYBOOK_LOG_SIZE bytes, that holds a book and has no entry; nothing but the lengths is asked (19). */
+uint32_t daybook_start_log(uint8_t *log, size_t log_len, const uint8_t *book, size_t book_len);
+
+/* Withdraws the last reduction that a log has noted: its cuts are given back, the positions settled, and the entry dropped; DAYBOOK_WITHDRAWAL_NUMBERS: its MWh and their
+   worth. Withdrawing every entry gives back the book before the first reduction noted, byte for byte (proved: crates/sequence/specs/Logs.antt). */
+uint32_t daybook_withdrawal(uint8_t *book, size_t book_len, uint32_t with_store, const uint8_t *store,
+                            size_t store_len, uint8_t *log, size_t log_len, uint64_t *answer, size_t answer_len);
 
 /* The return of retained shrinkage for the users' balances in kWh, which have a sign; no book is involved. DAYBOOK_RETURN_NUMBERS: H, which is half of a negative total
    rounded down, the odd kWh, what the shares leave of H for the system account; then each user's share, the whole part of H * own / sum, where own and sum are over negative

@@ -62,7 +62,7 @@ pub fn run(
 ) -> RunAnswer
     requires { ⌜ Opened number (now book) (now log) ⌝ }
     requires { ⌜ LimitsInRange (asLimits limits) ⌝ }
-    requires { ⌜ (length (now sellers) ≡ 256) × (length (now buyers) ≡ 256) × (length (now sums) ≡ 768) ⌝ }
+    requires { ⌜ (length (now sellers) ≡ 256) × (length (now buyers) ≡ 256) ⌝ }
     requires { ⌜ PartiesFound (now book) number (now sellers) (now buyers) (now sums) ⌝ }
     ensures { λ r. ⌜ Gives (loggedAfter number (asLimits limits) (now (log .entry)) (now (book .entry)) runCall) (answerOf r) (now (book .exit)) (now (log .exit)) ⌝ }
 {

@@ -1,2 +1,3 @@
 -- What showing a record after the opening questions gives of a request.
 mod Part
+mod Logs

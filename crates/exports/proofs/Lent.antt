@@ -8,7 +8,7 @@ use borrow.Author.Tests.{eq-eqb, ne-eqb}
 use Rattle.rules.specs.Calls.{Answer}
 use Rattle.rules.specs.Queries.{Query, Reply}
 use Rattle.requests.specs.Cancellation.{Cancellation, cancellation}
-use Rattle.requests.specs.Carried.{Carried}
+use Rattle.requests.specs.Logged.{Logged, lentLog}
 use Rattle.requests.specs.Request.{Request, Setting, enquiry, request}
 use Rattle.exports_cancellation.specs.Numbers.{cancellationNumbers, markNumbers}
 use Rattle.exports.specs.Lent.{byLength, wrongLength, Given}
@@ -38,18 +38,20 @@ module _ (n : ℕ) (lent : List ℕ) where
   replied numbers g s q r result after e reply number part =
       stored _ _ lent result after e (number ∙ ap (λ (a : Reply). a .number) reply) (part ∙ ap numbers reply)
 
-  module _ (numbers : Answer → List ℕ) (r : Request) (s : List ℕ) where
+  module _ (numbers : Answer → List ℕ) (r : Request) (s l : List ℕ) where
     -- a call whose answer was stored
-    pub answered : (a : Answer) (result : ℕ) (after t : List ℕ) → length lent ≡ n → Carried r s a t → result ≡ a .number → after ≡ numbers a → Answered n numbers r s lent result after t
-    answered a result after t e called number part =
+    pub answered : (a : Answer) (result : ℕ) (after t m : List ℕ) → length lent ≡ n → Logged r s a t l m → result ≡ a .number → after ≡ numbers a → Answered n numbers r s lent result after t l m
+    answered a result after t m e called number part =
+        let made = called .carried in
         record {
-          answer = stored _ _ lent result after e (number ∙ ap (λ (b : Answer). b .number) (called .answer)) (part ∙ ap numbers (called .answer));
-          book = called .bytes ∙ of-length (request r s .bytes) s e;
+          answer = stored _ _ lent result after e (number ∙ ap (λ (b : Answer). b .number) (made .answer)) (part ∙ ap numbers (made .answer));
+          book = made .bytes ∙ of-length (request r s .bytes) s e;
+          log = called .log ∙ of-length (lentLog (request r s .log) l) l e;
         }
 
     -- a call that was not made
-    pub not-called : (length lent ≡ n → ⊥) → Answered n numbers r s lent wrongLength lent s
-    not-called e = record { answer = refused _ _ lent e; book = of-other (request r s .bytes) s e }
+    pub not-called : (length lent ≡ n → ⊥) → Answered n numbers r s lent wrongLength lent s l l
+    not-called e = record { answer = refused _ _ lent e; book = of-other (request r s .bytes) s e; log = of-other (lentLog (request r s .log) l) l e }
 
 -- ---- a whole cancellation, in two parts
 

@@ -15,6 +15,7 @@ use Rattle.book_format.specs.Questions.{bookNumber}
 use Rattle.store.specs.Store.{given}
 use Rattle.requests.specs.Cancellation.{cancellation}
 use Rattle.requests.specs.Carried.{partShown}
+use Rattle.requests.specs.Logged.{lentLog}
 use Rattle.requests.specs.Request.{Request, Setting, enquiry, request}
 use Rattle.book_value.specs.Written.{aboutWriting}
 use Rattle.book_image.specs.Image.{imageSize, padded, readImage}
@@ -33,16 +34,21 @@ isYes n = not (eqb n 0)
 abbrev pub storeBy : ℕ → List ℕ → Option (List ℕ)
 storeBy flag part = given (isYes flag) part
 
+-- the log, in the same way
+abbrev pub logBy : ℕ → List ℕ → Option (List ℕ)
+logBy flag part = given (isYes flag) part
+
 -- a query with n numbers: its number and the lent part
 abbrev pub Replied : (n : ℕ) → (Reply → List ℕ) → Setting → List ℕ → Query → List ℕ → ℕ → List ℕ → Type 0
 Replied n numbers g s q lent result after =
     let r = enquiry g s q in
     Stored n lent (r .number) (numbers r) result after
 
--- a call with n numbers: its number and the lent part, and every byte of the book
-pub record Answered (n : ℕ) (numbers : Answer → List ℕ) (r : Request) (s : List ℕ) (lent : List ℕ) (result : ℕ) (after : List ℕ) (t : List ℕ) : Type 0 where
+-- a call with n numbers: its number and the lent part, every byte of the book, and every byte of the lent log, given or not
+pub record Answered (n : ℕ) (numbers : Answer → List ℕ) (r : Request) (s : List ℕ) (lent : List ℕ) (result : ℕ) (after : List ℕ) (t l m : List ℕ) : Type 0 where
   pub answer : Stored n lent (request r s .answer .number) (numbers (request r s .answer)) result after
   pub book : t ≡ byLength n lent (request r s .bytes) s
+  pub log : m ≡ byLength n lent (lentLog (request r s .log) l) l
 
 -- a whole cancellation, with a part for 256 marks and one for 3 numbers: its number and both parts; where one of them is of another length both are left as they are
 pub record CancelledInto (g : Setting) (s : List ℕ) (id tries : ℕ) (marks answer : List ℕ) (result : ℕ) (marks-after answer-after : List ℕ) : Type 0 where

@@ -28,3 +28,7 @@ reductionNumbers a = a .mwh ∷ a .worth ∷ a .target ∷ a .short ∷ a .over 
 -- of a run: the reductions, the MWh cut and their worth
 unfoldable pub runNumbers : Answer → List ℕ
 runNumbers a = a .reductions ∷ a .mwh ∷ a .worth ∷ []
+
+-- of a withdrawal: the MWh of the reduction that was withdrawn, and their worth
+unfoldable pub withdrawalNumbers : Answer → List ℕ
+withdrawalNumbers a = a .mwh ∷ a .worth ∷ []

@@ -7,12 +7,14 @@ ghost use Rattle.call_answers.specs.Warning as warned;
 ghost use Rattle.call_answers.specs.Call as calls;
 ghost use Rattle.call_answers.specs.Reduction as reducing;
 ghost use Rattle.call_answers.specs.Run as running;
-ghost use Rattle.exports_answers.specs.Numbers.{levelNumbers, warningNumbers, callNumbers, reductionNumbers, runNumbers};
+ghost use Rattle.call_logged.specs.Withdrawal.{withdrawalOf};
+ghost use Rattle.exports_answers.specs.Numbers.{levelNumbers, warningNumbers, callNumbers, reductionNumbers, runNumbers, withdrawalNumbers};
 use call_answers::CallAnswer;
 use call_answers::LevelAnswer;
 use call_answers::ReductionAnswer;
 use call_answers::RunAnswer;
 use call_answers::WarningAnswer;
+use call_logged::WithdrawalAnswer;
 
 // Stores the numbers of an answer in a part of as many places.
 pub fn store(answer: &mut [u64], numbers: &[u64])
@@ -84,4 +86,16 @@ pub fn store_run(answer: &mut [u64], run: RunAnswer) -> u32
     let numbers = [run.reductions, mwh.0, worth.0];
     store(answer, &numbers);
     run.number
+}
+
+// Stores the MWh and the worth of a reduction that was withdrawn, and passes the number on.
+pub fn store_withdrawal(answer: &mut [u64], withdrawal: WithdrawalAnswer) -> u32
+    requires { ⌜ length (now answer) ≡ 2 ⌝ }
+    ensures { λ r. ⌜ (r ≡ withdrawal .number) × (now (answer .exit) ≡ withdrawalNumbers (withdrawalOf withdrawal)) ⌝ }
+{
+    let mwh = withdrawal.mwh;
+    let worth = withdrawal.worth;
+    let numbers = [mwh.0, worth.0];
+    store(answer, &numbers);
+    withdrawal.number
 }

@@ -37,7 +37,18 @@ fn post(
     amounts: &[i64],
     places: &mut [u32],
 ) {
-    let number = daybook::list(book, false, b"", ids, areas, amounts, places);
+    let mut log = [0u8; 1];
+    let number = daybook::list(
+        book,
+        false,
+        b"",
+        false,
+        &mut log,
+        ids,
+        areas,
+        amounts,
+        places,
+    );
     io::print_decimal(STDOUT_FILENO, place);
     day_print::number(number as u64);
     numbers::print_numbers(places);

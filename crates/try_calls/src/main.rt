@@ -93,19 +93,22 @@ fn ask(kind: u8, book: &[u8], id: u32, tries: u32) {
 
 // A call that may change the book.
 fn change(kind: u8, book: &mut [u8], id: u32, area: u32, amount: i64) {
+    let mut log = [0u8; 1];
     if kind == 4 {
-        print_call(daybook::morning_call(book, false, b"", id));
+        print_call(daybook::morning_call(book, false, b"", false, &mut log, id));
         return;
     }
     if kind == 5 {
-        print_call(daybook::afternoon_call(book, false, b"", id));
+        print_call(daybook::afternoon_call(book, false, b"", false, &mut log, id));
         return;
     }
     if kind == 6 {
-        print_run(daybook::run(book, false, b""));
+        print_run(daybook::run(book, false, b"", false, &mut log));
         return;
     }
-    day_print::number(daybook::posting(book, false, b"", id, area, amount) as u64);
+    day_print::number(
+        daybook::posting(book, false, b"", false, &mut log, id, area, amount) as u64,
+    );
 }
 
 // A call: 0 posting, 1 morning level, 2 afternoon level, 3 warning, 4 morning call, 5 afternoon call, 6 run, 7 whole cancellation, whose
@@ -219,7 +222,8 @@ fn print_book(bytes: &[u8]) {
 // The reduction at a place of the file.
 fn reduce(place: u64, id: u32, book: &mut [u8]) {
     io::print_decimal(STDOUT_FILENO, place);
-    print_answer(daybook::reduction(book, false, b"", id));
+    let mut log = [0u8; 1];
+    print_answer(daybook::reduction(book, false, b"", false, &mut log, id));
     io::write_all(STDOUT_FILENO, b"\n");
     print_book(book);
 }

@@ -64,7 +64,7 @@ bear-requires c κs =
     let e = c .before .before .before .before .before .before .before .before in
     let p = start e .pre .1 .1 in
     let told = p .1 .summed in
-    ((placed e, p .0 .0, p .0 .1, refl, refl, p .0 .2), (told .twelve (e .if1 .left), told .low (e .if1 .left)))
+    ((placed e, p .0 .0, p .0 .1, refl, refl), (told .twelve (e .if1 .left), told .low (e .if1 .left)))
 
 run-book-requires : tie.Need-run-book-requires
 unfolding bookOf

@@ -1,38 +1,33 @@
--- `daybook::call` makes the call of a time of the day after the opening questions, with the figures of its setting. Assumes nothing.
+-- `daybook::call` makes the call of a time of the day after the opening questions, with the figures of its setting; a log that is given is emptied. Assumes nothing.
 use borrow.Author.Needs.{needs}
-use Rattle.requests.proofs.Opened.{carried}
+use Rattle.call_admission.proofs.Log.{admitted-with, parties-with}
+use Rattle.requests.proofs.Emptied.{logged-emptied}
+use Rattle.daybook.proofs.Logs.{accepted, call-empties, emptiable}
 use Rattle.daybook.proofs.call.Statement.{statement}
 use Rattle.daybook.proofs.call.Tie as tie
 
-slice-aggregate-admit-with-sums : tie.Need-slice-aggregate-admit-with-sums
-slice-aggregate-admit-with-sums c = search needs
-
-slice-aggregate-admit-with-sums-2 : tie.Need-slice-aggregate-admit-with-sums-2
-slice-aggregate-admit-with-sums-2 c = search needs
-
-admit-with-sums-requires : tie.Need-admit-with-sums-requires
-admit-with-sums-requires c κs = search needs
+by-log-requires : tie.Need-by-log-requires
+by-log-requires c κs = c .before .before .before .before .before .admit-with-sums .ensures .1 .1 .0
 
 call-requires : tie.Need-call-requires
 call-requires c κs =
-    let k = c .before .before .before .before .before .before .before .admit-with-sums .ensures in
-    (k .1 .1 .0, (k .1 .0, k .1 .1 .1))
+    let k = c .before .before .before .before .before .before .before .before .admit-with-sums .ensures in
+    let asked = c .before .before .by-log .ensures in
+    (λ z. k .1 .1 .0 (asked .before z), (k .1 .0, parties-with asked (k .1 .1 .1)))
 
-same-length : tie.Need-same-length
-same-length c = search needs
+empty-requires : tie.Need-empty-requires
+empty-requires c κs =
+    let k = c .before .before .before .before .before .before .before .before .before .before .before .before .before .admit-with-sums .ensures in
+    let asked = c .before .before .before .before .before .before .before .by-log .ensures in
+    let made = c .before .before .before .before .call in
+    λ e z. emptiable asked (λ n. k .1 .1 .0 (asked .before n)) (accepted _ (made .ensures) z) (made .kept .0) e
 
 returns : tie.Need-returns
 returns c =
-    let k = c .before .before in
-    carried (k .before .before .before .before .before .before .before .before .admit-with-sums .ensures .0) (k .call .ensures)
+    let a = c .before .before .before .before .before .before .before .before .before .before .before .before .before .before .before .before .before .before .before .before .before .before .before .before .args in
+    logged-emptied (call-empties (a .afternoon) (a .id)) (a .with-log) (admitted-with (a .with-log) (c .before .before .before .before .before .before .before .before .before .before .before .before .before .before .before .before .admit-with-sums .ensures .0) (c .before .before .before .before .before .before .before .before .before .before .by-log .ensures)) (c .before .before .before .before .before .before .before .call .ensures) (c .before .before .empty .ensures)
 
 pub call-spec : {M : Type 1} → statement M
 call-spec =
     tie.close
-    (tie.spec
-    slice-aggregate-admit-with-sums
-    slice-aggregate-admit-with-sums-2
-    admit-with-sums-requires
-    call-requires
-    same-length
-    returns)
+    (tie.spec (λ c. search needs) (λ c. search needs) (λ c κs. search needs) by-log-requires call-requires empty-requires (λ c. search needs) (λ c. search needs) returns)

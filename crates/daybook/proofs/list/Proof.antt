@@ -1,46 +1,72 @@
--- `daybook::list` asks whether the list fits, asks its opening questions, and posts its lines. Assumes nothing.
+-- `daybook::list` asks whether the list fits, asks its opening questions, and posts its lines; a log that is given is emptied. Assumes nothing.
 use mathlib.Core.Bool.{false}
 use mathlib.Core.List.{[]}
-use mathlib.Core.Path.{_≡_, _∙_, refl, sym}
+use mathlib.Core.Path.{_≡_, _∙_, sym}
 use borrow.Author.Needs.{needs}
 use denote.Ref.{now}
 use lib.ListN.{length}
+use Rattle.call_admission.proofs.Log.{lines-with}
 use Rattle.call_list.proofs.Opened.{list-book, list-even, list-posted}
 use Rattle.requests.proofs.Logged.{lines-without}
-use Rattle.requests.specs.Logged.{emptiedBy, linesNumberWith}
+use Rattle.requests.specs.Logged.{linesNumberWith}
 use Rattle.requests.specs.Request.{linesOf, settingOf}
 use Rattle.store.specs.Store.{given}
+use Rattle.daybook.proofs.Logs.{emptiable}
 use Rattle.daybook.proofs.list.Statement.{statement}
 use Rattle.daybook.proofs.list.Tie as tie
 
 abbrev start : tie.After-admit-list → tie.Start
-start c = c .before .before .before .before .before .before .before .before .before
+start c = c .before .before .before .before .before .before .before .before .before .before
 
 -- the number of the opening questions, without a log
-asked : (c : tie.After-admit-list) → let a = start c .args in
+opened : (c : tie.After-admit-list) → let a = start c .args in
     c .admit-list .result ≡ linesNumberWith (settingOf (given (a .with-store) (now (a .store)))) (given false []) (linesOf (now (a .ids)) (now (a .areas)) (now (a .amounts)) (length (now (a .places)))) (now (a .book))
 unfolding given
-asked c =
+opened c =
     let a = start c .args in
     let v = linesOf (now (a .ids)) (now (a .areas)) (now (a .amounts)) (length (now (a .places))) in
     c .admit-list .ensures v (c .before .before .fits2 .ensures) ∙ sym (lines-without (settingOf (given (a .with-store) (now (a .store)))) v (now (a .book)))
 
+-- and with the log
+asked : (c : tie.After-by-log) → let a = start (c .before .before .before) .args in
+    c .by-log .result ≡ linesNumberWith (settingOf (given (a .with-store) (now (a .store)))) (given (a .with-log) (now (a .log))) (linesOf (now (a .ids)) (now (a .areas)) (now (a .amounts)) (length (now (a .places)))) (now (a .book))
+asked c =
+    let k = c .before .before .before in
+    let a = start k .args in
+    let v = linesOf (now (a .ids)) (now (a .areas)) (now (a .amounts)) (length (now (a .places))) in
+    lines-with (settingOf (given (a .with-store) (now (a .store)))) v (a .with-log) (k .admit-list .ensures v (k .before .before .fits2 .ensures)) (c .by-log .ensures)
+
+by-log-requires : tie.Need-by-log-requires
+by-log-requires c κs =
+    let k = c .before .before in
+    let a = start k .args in
+    list-book (given (a .with-store) (now (a .store))) (now (a .ids)) (now (a .areas)) (now (a .amounts)) (now (a .places)) (now (a .book)) false [] (opened k)
+
 list-requires : tie.Need-list-requires
 list-requires c κs =
     let k = c .before .before in
-    let a = start k .args in
+    let a = start (k .before .before .before) .args in
     let store = given (a .with-store) (now (a .store)) in (
-      list-book store (now (a .ids)) (now (a .areas)) (now (a .amounts)) (now (a .places)) (now (a .book)) false [] (asked k),
-      list-even store (now (a .ids)) (now (a .areas)) (now (a .amounts)) (now (a .places)) (now (a .book)) false [] (asked k),
+      list-book store (now (a .ids)) (now (a .areas)) (now (a .amounts)) (now (a .places)) (now (a .book)) (a .with-log) (now (a .log)) (asked k),
+      list-even store (now (a .ids)) (now (a .areas)) (now (a .amounts)) (now (a .places)) (now (a .book)) (a .with-log) (now (a .log)) (asked k),
     )
 
+empty-requires : tie.Need-empty-requires
+empty-requires c κs =
+    let k = c .before .before .before .before .before .before .before .before .before in
+    let a = start (k .before .before .before) .args in
+    let posted = c .before .before .before .before .before .before .list in
+    λ e z. emptiable (k .by-log .ensures)
+    (list-book (given (a .with-store) (now (a .store))) (now (a .ids)) (now (a .areas)) (now (a .amounts)) (now (a .places)) (now (a .book)) (a .with-log) (now (a .log)) (asked k))
+    (sym (posted .ensures .asked) ∙ z) (posted .kept .0) e
+
 returns : tie.Need-returns
-unfolding given emptiedBy
 returns c =
-    let w = c .before .before .before .before in
-    let k = w .before .before .before in
-    let a = start k .args in
-    list-posted (given (a .with-store) (now (a .store))) (now (a .ids)) (now (a .areas)) (now (a .amounts)) (now (a .places)) (now (a .book)) false [] (asked k) (w .list .ensures) refl
+    let k = c .before .before .before .before .before .before .before .before .before .before .before .before in
+    let a = start (k .before .before .before) .args in
+    list-posted (given (a .with-store) (now (a .store))) (now (a .ids)) (now (a .areas)) (now (a .amounts)) (now (a .places)) (now (a .book)) (a .with-log) (now (a .log)) (asked k) (c .before .before .before .before .before .before .before .before .before .list .ensures) (c .before .before .empty .ensures)
 
 pub list-spec : {M : Type 1} → statement M
-list-spec = tie.close (tie.spec (λ c κs. search needs) (λ c κs. search needs) list-requires (λ c. search needs) (λ c. search needs) returns)
+list-spec =
+    tie.close
+    (tie.spec (λ c κs. search needs) (λ c κs. search needs) by-log-requires list-requires empty-requires (λ c. search needs) (λ c. search needs) (λ c. search needs) returns)

@@ -1,39 +1,40 @@
--- `daybook::run` runs after the opening questions, with the figures of its setting. Assumes nothing.
+-- `daybook::run` runs after the opening questions, with the figures of its setting, and a log that is given has its reductions noted. Assumes nothing.
 use borrow.Author.Needs.{needs}
-use Rattle.requests.proofs.Opened.{carried}
+use borrow.Author.Tests.{not-false, not-true}
+use Rattle.call_admission.proofs.Log.{admitted-with, parties-with}
+use Rattle.daybook.proofs.Logs.{called-with, called-without}
 use Rattle.daybook.proofs.run.Statement.{statement}
 use Rattle.daybook.proofs.run.Tie as tie
 
-slice-aggregate-admit-with-sums : tie.Need-slice-aggregate-admit-with-sums
-slice-aggregate-admit-with-sums c = search needs
-
-slice-aggregate-admit-with-sums-2 : tie.Need-slice-aggregate-admit-with-sums-2
-slice-aggregate-admit-with-sums-2 c = search needs
-
-admit-with-sums-requires : tie.Need-admit-with-sums-requires
-admit-with-sums-requires c κs = search needs
+by-log-requires : tie.Need-by-log-requires
+by-log-requires c κs = c .before .before .before .before .before .admit-with-sums .ensures .1 .1 .0
 
 run-requires : tie.Need-run-requires
 run-requires c κs =
-    let a = c .before .before .before .before .before .before .before .admit-with-sums in
+    let a = c .before .before .before .before .before .before .before .before .before .before .before .admit-with-sums in
     let k = a .ensures in
-    (k .1 .1 .0, (k .1 .0, ((a .kept .1 .1 .1 .0, a .kept .1 .1 .1 .1 .0), k .1 .1 .1)))
-
-same-length : tie.Need-same-length
-same-length c = search needs
+    let asked = c .before .before .before .before .before .by-log .ensures in
+    (λ z. k .1 .1 .0 (asked .before z), (k .1 .0, ((a .kept .1 .1 .1 .0, a .kept .1 .1 .1 .1 .0), parties-with asked (k .1 .1 .1))))
 
 returns : tie.Need-returns
 returns c =
-    let k = c .before .before in
-    carried (k .before .before .before .before .before .before .before .before .admit-with-sums .ensures .0) (k .run .ensures)
+    let a = c .before .before .before .before .before .before .before .before .before .before .before .before .before .before .before .before .before .before .before .before .before .before .args in
+    called-without (a .with-log) (not-true _ (c .before .before .before .before .before .before .before .if1 .taken)) (admitted-with (a .with-log) (c .before .before .before .before .before .before .before .before .before .before .before .before .before .before .admit-with-sums .ensures .0) (c .before .before .before .before .before .before .before .before .by-log .ensures)) (c .before .before .run .ensures)
+
+run-requires-2 : tie.Need-run-requires-2
+run-requires-2 c κs =
+    let p = c .before .before .before .before .before .before .before .before .before .before .before .before .admit-with-sums in
+    let k = p .ensures in
+    let asked = c .before .before .before .before .before .before .by-log .ensures in
+    (record { book = λ z. k .1 .1 .0 (asked .before z); log = λ z. asked .fits z (not-false _ (c .before .before .before .before .before .if1 .left)) }, (k .1 .0, ((p .kept .1 .1 .1 .0, p .kept .1 .1 .1 .1 .0), parties-with asked (k .1 .1 .1))))
+
+returns-2 : tie.Need-returns-2
+returns-2 c =
+    let a = c .before .before .before .before .before .before .before .before .before .before .before .before .before .before .before .before .before .before .before .before .before .before .before .before .before .args in
+    called-with (a .with-log) (not-false _ (c .before .before .before .before .before .before .before .before .before .before .if1 .left)) (admitted-with (a .with-log) (c .before .before .before .before .before .before .before .before .before .before .before .before .before .before .before .before .before .admit-with-sums .ensures .0) (c .before .before .before .before .before .before .before .before .before .before .before .by-log .ensures)) (c .before .before .before .before .run2 .ensures)
 
 pub run-spec : {M : Type 1} → statement M
 run-spec =
     tie.close
-    (tie.spec
-    slice-aggregate-admit-with-sums
-    slice-aggregate-admit-with-sums-2
-    admit-with-sums-requires
-    run-requires
-    same-length
-    returns)
+    (tie.spec (λ c. search needs) (λ c. search needs) (λ c κs. search needs) by-log-requires run-requires (λ c. search needs) (λ c. search needs) returns
+    run-requires-2 (λ c. search needs) (λ c. search needs) returns-2)

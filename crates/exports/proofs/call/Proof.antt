@@ -8,34 +8,15 @@ use Rattle.exports.proofs.call.Statement.{statement}
 use Rattle.exports.proofs.call.Tie as tie
 
 returns : tie.Need-returns
-returns c = not-called 2 (now (c .before .before .before .before .args .answer)) callNumbers _ _ (c .if1 .taken)
-
-call-requires : tie.Need-call-requires
-call-requires c κs = search needs
-
-store-call-requires : tie.Need-store-call-requires
-store-call-requires c κs = search needs
-
-same-length : tie.Need-same-length
-same-length c = search needs
-
-same-length-2 : tie.Need-same-length-2
-same-length-2 c = search needs
+returns c = not-called 2 (now (c .before .before .before .before .before .args .answer)) callNumbers _ _ _ (c .if1 .taken)
 
 returns-2 : tie.Need-returns-2
 unfolding isYes
 returns-2 c =
     let storing = c .before .before in
-    let made = storing .before .before .before .before in
-    answered 2 _ callNumbers _ _ _ _ _ _ (made .before .before .if1 .left) (made .call .ensures) (storing .store-call .ensures .0) (storing .store-call .ensures .1)
+    answered 2 _ callNumbers _ _ _ _ _ _ _ _ (c .before .before .before .before .before .before .before .before .before .before .before .if1 .left) (c .before .before .before .before .before .before .before .before .call .ensures) (storing .store-call .ensures .0) (storing .store-call .ensures .1)
 
 pub call-spec : {M : Type 1} → statement M
 call-spec =
     tie.close
-    (tie.spec
-    returns
-    call-requires
-    store-call-requires
-    same-length
-    same-length-2
-    returns-2)
+    (tie.spec returns (λ c κs. search needs) (λ c κs. search needs) (λ c. search needs) (λ c. search needs) (λ c. search needs) returns-2)

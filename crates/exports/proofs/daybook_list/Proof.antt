@@ -6,7 +6,7 @@ use Rattle.exports.proofs.daybook_list.Tie as tie
 
 returns : tie.Need-returns
 unfolding isYes
-returns c = c .before .before .before .before .list .ensures
+returns c = c .before .before .before .before .before .before .list .ensures
 
 pub daybook-list-spec : {M : Type 1} → statement M
-daybook-list-spec = tie.close (tie.spec (λ c κs. search needs) (λ c. search needs) (λ c. search needs) returns)
+daybook-list-spec = tie.close (tie.spec (λ c κs. search needs) (λ c. search needs) (λ c. search needs) (λ c. search needs) returns)

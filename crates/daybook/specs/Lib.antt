@@ -1,0 +1,2 @@
+-- The acts that the public calls are.
+pub mod Acts
