@@ -20,9 +20,9 @@ ghost use Rattle.call_answers.specs.Run.{answerOf};
 ghost use Rattle.call_run.specs.Call.{runCall};
 ghost use Rattle.cut_worth.specs.Totals.{totals};
 ghost use Rattle.rules.specs.Calls.{ofRun, only};
-ghost use Rattle.requests.specs.Logged.{loggedAfter, withdrawalAfter};
+ghost use Rattle.requests.specs.Logged.{GivesLogged, loggedAfter, withdrawalAfter};
 ghost use Rattle.units.specs.Limits.{asLimits, LimitsInRange};
-ghost use Rattle.call_logged.specs.Given.{Gives, Opened, numbered};
+ghost use Rattle.call_logged.specs.Given.{Opened, numbered};
 ghost use Rattle.call_logged.specs.Withdrawal.{withdrawalOf};
 
 // ---- a run
@@ -64,7 +64,7 @@ pub fn run(
     requires { ⌜ LimitsInRange (asLimits limits) ⌝ }
     requires { ⌜ (length (now sellers) ≡ 256) × (length (now buyers) ≡ 256) ⌝ }
     requires { ⌜ PartiesFound (now book) number (now sellers) (now buyers) (now sums) ⌝ }
-    ensures { λ r. ⌜ Gives (loggedAfter number (asLimits limits) (now (log .entry)) (now (book .entry)) runCall) (answerOf r) (now (book .exit)) (now (log .exit)) ⌝ }
+    ensures { λ r. ⌜ GivesLogged (loggedAfter number (asLimits limits) (now (log .entry)) (now (book .entry)) runCall) (answerOf r) (now (book .exit)) (now (log .exit)) ⌝ }
 {
     if number != 0 {
         return RunAnswer::refused(number);
@@ -143,7 +143,7 @@ fn withdraw_last(
     place: usize,
 ) -> WithdrawalAnswer
     requires { ⌜ BookIn (now book) (now sellers) (now parties) × T (logFits (now log) (now book)) × (entryCount (now log) ≡ suc place) ⌝ }
-    ensures { λ r. ⌜ Gives (withdrawalAfter 0 (now (log .entry)) (now (book .entry))) (withdrawalOf r) (now (book .exit)) (now (log .exit)) ⌝ }
+    ensures { λ r. ⌜ GivesLogged (withdrawalAfter 0 (now (log .entry)) (now (book .entry))) (withdrawalOf r) (now (book .exit)) (now (log .exit)) ⌝ }
 {
     let n = book_format::user_count(book) as usize;
     let m = book_format::trade_count(book) as usize;
@@ -169,7 +169,7 @@ pub fn withdrawal(
 ) -> WithdrawalAnswer
     requires { ⌜ Opened number (now book) (now log) ⌝ }
     requires { ⌜ PartiesFound (now book) number (now sellers) (now parties) (now sums) ⌝ }
-    ensures { λ r. ⌜ Gives (withdrawalAfter number (now (log .entry)) (now (book .entry))) (withdrawalOf r) (now (book .exit)) (now (log .exit)) ⌝ }
+    ensures { λ r. ⌜ GivesLogged (withdrawalAfter number (now (log .entry)) (now (book .entry))) (withdrawalOf r) (now (book .exit)) (now (log .exit)) ⌝ }
 {
     if number != 0 {
         return not_withdrawn(number);

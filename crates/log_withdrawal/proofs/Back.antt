@@ -20,7 +20,7 @@ use Rattle.book_format.specs.Book.{bookOf, tradeCount, tradesAt, tradesOf, user
 use Rattle.book_format.specs.Held.{HeldAs, tradesReplaced}
 use Rattle.book_format.specs.Places.{TradeIn}
 use Rattle.book_parties.specs.Ids.{BookIn, PlacedOn}
-use Rattle.cut_apply.specs.Positions.{PositionIn, positionOf}
+use Rattle.cut_apply.specs.Positions.{positionOf}
 use Rattle.risk_bearers.proofs.Places.{party-id, party-within}
 use Rattle.laws.proofs.Bounds.{position-bound, standing-le}
 use Rattle.laws.proofs.Positions.{buyer-known, seller-known}

@@ -165,9 +165,10 @@ image-written-and-read =
           let j = image-trades image counts in
           let d : t ≡ bytesOf (imageBook image) = bytes-written image out t r w e in
           let p : refusal (aboutBytes t) ≡ none = ap (λ x. refusal (aboutBytes x)) d
-              ∙ passes (imageBook image) (a .known) (omega (arith, i, k .some)) (omega (arith, i, k .few)) (omega (arith, j, k .many)) (a .fields) in
+          ∙ passes (imageBook image) (a .known) (omega (arith, i, k .some)) (omega (arith, i, k .few)) (omega (arith, j, k .many)) (a .fields) in
           let y : eqb (length lent) imageSize ≡ true = ap (λ (x : ℕ). eqb x imageSize) l ∙ refl in
-          let m : again ≡ imageOf t = o .part ∙ ap (λ (x : Bool). cond x (readImage t) lent) y ∙ ap (λ (z : Option ℕ). decided z (λ k. replicate imageSize 0) (imageOf t)) p in
-          (o .number ∙ ap (λ (x : Bool). cond x (bookNumber t) 255) y ∙ ap numberOf p,
-          ap imageBook (m ∙ ap imageOf d) ∙ image-back counts bytes (image-known image counts (a .known)));
+          let m : again ≡ imageOf t = o .part ∙ ap (λ (x : Bool). cond x (readImage t) lent) y ∙ ap (λ (z : Option ℕ). decided z (λ k. replicate imageSize 0) (imageOf t)) p in (
+            o .number ∙ ap (λ (x : Bool). cond x (bookNumber t) 255) y ∙ ap numberOf p,
+            ap imageBook (m ∙ ap imageOf d) ∙ image-back counts bytes (image-known image counts (a .known)),
+          );
     }

@@ -104,9 +104,9 @@ fn run_listed(
     totals
 }
 
-// Runs an accepted book, of whose trades the sellers and the buyers have these places (`own_sellers`, `own_buyers`) and those who bear their
-// risk these (`sellers`, `parties`), and whose users have these sums as their risk is borne: while some user that is short of cover has an
-// own sale to cut, the one of the lowest id is reduced.
+// Runs an accepted book, of whose trades the sellers and the buyers have these places (`own_sellers`, `own_buyers`) and those who bear
+// their risk these (`sellers`, `parties`), and whose users have these sums as their risk is borne: while some user that is short of cover
+// has an own sale to cut, the one of the lowest id is reduced.
 pub fn run_book(
     book: &mut [u8],
     own_sellers: &[u8; 256],

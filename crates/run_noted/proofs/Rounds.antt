@@ -1,41 +1,35 @@
 -- A run with a log, reduction after reduction: what is left of it, with the totals and the entries so far, is the run of as many reductions as the log has room for. Assumes nothing.
 use mathlib.Core.Bool.{Bool, true, false}
-use mathlib.Core.List.{List, [], _∷_}
+use mathlib.Core.List.{List, _∷_}
 use mathlib.Core.Option.{none, some}
-use mathlib.Core.Path.{_≡_, refl, sym, ap, ap₂, subst, _∙_}
+use mathlib.Core.Path.{_≡_, refl, sym, ap, subst, _∙_}
 use Prim.Native.Nat.{ℕ, suc, _+_, _-_, _≤_, _<_}
 use native.Mathlib.Omega.{arith}
-use lib.Dec.{T, ltb, ltb→lt}
-use lib.ListN.{length, getD, replicate}
+use lib.ListN.{length, getD}
 use lib.Seq.{length-sets}
 use Rattle.cut_worth.specs.Tallies.{asTally}
 use Rattle.cut_worth.specs.Totals.{totals}
 use Rattle.cut_worth.specs.declared.Tally.{Tally}
 use Rattle.cut_worth.specs.declared.Totals.{Totals}
-use Rattle.base.proofs.Fronts.{all-at}
 use Rattle.base.proofs.Linear.{by-order}
 use Rattle.book_format.proofs.Passed.{length-tradesOf}
 use Rattle.book_format.specs.Book.{bookOf, userCount}
 use Rattle.laws.proofs.Fuel.{run-answer}
-use Rattle.laws.proofs.Run.{reduced-law}
 use Rattle.laws.proofs.Settle.{pairs-length}
 use Rattle.laws.proofs.Trades.{framed}
 use Rattle.laws.specs.Sound.{Sound}
-use Rattle.laws.specs.Trades.{Lowered, Pairwise}
-use Rattle.laws_sales.proofs.Groups.{places-inside}
 use Rattle.laws_sales.proofs.Own.{own-sales}
 use Rattle.laws_sales.proofs.Standing.{places-stay}
 use Rattle.laws_sales.specs.Borne.{borneBook, borneUser}
 use Rattle.laws_sales.specs.Groups.{places}
 use Rattle.laws_sales.specs.Parts.{part}
 use Rattle.laws_sales.specs.Reduced.{ownCuts}
-use Rattle.laws_sales.specs.Sales.{ownSale}
 use Rattle.rules.specs.Areas.{Prices}
 use Rattle.rules.specs.Book.{Book, Party, User}
-use Rattle.rules.specs.Calls.{Answer, Result, nextReduced, ofRun, reduced, runFor}
+use Rattle.rules.specs.Calls.{Answer, Result, nextReduced, ofRun, runFor}
 use Rattle.rules.specs.Levels.{Limits}
 use Rattle.rules.specs.Reduction.{cuts, target}
-use Rattle.run_state.proofs.Left.{continued, next-here, next-nobody}
+use Rattle.run_state.proofs.Left.{continued, next-nobody}
 use Rattle.base.proofs.Tests.{by-case}
 use Rattle.risk_user.proofs.Borne.{members-borne, party-borne}
 use Rattle.run_state.proofs.Stays.{Alike, Stays, alike-borne, party-stays, stays, users-many}
@@ -46,29 +40,14 @@ use Rattle.run_reduction.proofs.Steps.{cut-within, part-few, part-rises, sales-
 use Rattle.run_reduction.specs.Reductions.{RunOf}
 use Rattle.run_turns.proofs.Turning.{reached-now}
 use Rattle.run_turns.proofs.Rounds.{RunTo, members, next, run-start, run-turn}
-use Rattle.run_turns.specs.Turns.{NoneCut, Ran, Turned}
-use Rattle.log_format.proofs.Noted.{start, noted-fit, reduction-noted}
-use Rattle.log_format.proofs.Parts.{EntryFits}
+use Rattle.run_turns.specs.Turns.{NoneCut, Turned}
 use Rattle.log_format.specs.Noted.{entryOf, noted}
-use Rattle.log_entries.proofs.Entries.{entry-noted}
-use Rattle.log_entries.proofs.Spread.{borne-many, cuts-entered}
-use Rattle.log_entries.specs.Entries.{EntriesIn, Notable, NotedAt, entered}
+use Rattle.log_entries.proofs.Reductions.{reduction-entered}
+use Rattle.log_entries.specs.Entries.{EntriesIn, Notable, NotedAt}
 use Rattle.run_noted.proofs.Budget.{budget-spent, budget-stops, budget-turn, noted-spent, noted-stops, noted-turn, same-totals}
 use Rattle.run_noted.specs.Noted.{NotedBy, OriginsIn}
 
 -- ---- the entry of a reduction
-
-module _ (limits : Limits) (b : Book) (u : User) where
-  -- the cuts of the sales as they are borne, entered at their places
-  entry-is : entryOf limits b u ≡ entered (places (borneBook b .trades) (u .party .id)) (ownCuts (borneBook b) (borneUser (b .users) u) (target limits b u)) (replicate (length (b .trades)) 0)
-  unfolding entryOf
-  entry-is = cuts-entered b u (target limits b u)
-
-  entry-fits : Sound b → {m : ℕ} → length (b .trades) ≡ m → EntryFits m (entryOf limits b u)
-  entry-fits sound same =
-      let there = noted-fit (reduction-noted limits u (start sound)) in
-      let long = pairs-length (framed (reduced-law limits b u sound .lowered)) ∙ same in
-      subst (λ (m : ℕ). EntryFits m (entryOf limits b u)) long (there .0)
 
 -- the cuts that a turn leaves can be noted
 module _ {limits : Limits} {f : Prices} {s sums ss areaCodes bs : List ℕ} (q : RunOf limits f s sums ss areaCodes bs) where
@@ -167,23 +146,11 @@ module _ {limits : Limits} {s : List ℕ} {n count : ℕ} {l₀ : List ℕ} (man
           {log' : List ℕ} (noted-at : NotedAt have origins ws (getD ss place 0) (getD ss (place + 1) 0) log log') where
         -- the entry
         entry-now : {now : List (List ℕ)} → EntriesIn (length (bookOf s .trades)) now log → length now ≡ have → EntriesIn (length (bookOf s .trades)) (entryOf limits (p .run .book) user ∷ now) log'
+        unfolding entryOf
         entry-now {now} h e =
-            let id = user .party .id in
-            let ts = borneBook (p .run .book) .trades in
-            let is = places ts id in
-            let inside : (j : ℕ) → j < length (part from to origins) → getD (part from to origins) j 0 < length (bookOf s .trades)
-            = λ j l. omega (
-              arith,
-              ltb→lt (getD is j 0) (length ts) (all-at (λ i. ltb i (length ts)) is (places-inside (ownSale id) ts) j 0 (omega (arith, ap length own-places))),
-              borne-many (p .run .book) ∙ trades-many,
-              ap (λ (xs : List ℕ). getD xs j 0) own-places,
-            ) in
-            let is-entry : entered (part from to origins) (part from to ws) (replicate (length (bookOf s .trades)) 0) ≡ entryOf limits (p .run .book) user
-            = ap₂ (λ (xs ys : List ℕ). entered xs ys (replicate (length (bookOf s .trades)) 0)) own-places (turn .cuts)
-            ∙ ap (λ (m : ℕ). entered is (ownCuts (borneBook (p .run .book)) (borneUser (p .run .book .users) user) (target limits (p .run .book) user)) (replicate m 0)) (sym trades-many)
-            ∙ sym (entry-is limits (p .run .book) user) in
-            entry-noted few h (omega arith) (subst (λ (i : ℕ). NotedAt i origins ws from to log log') (sym e) noted-at) inside (entryOf limits (p .run .book) user) is-entry
-            (entry-fits limits (p .run .book) user (p .run .going .sound) trades-many)
+            subst (λ (m : ℕ). EntriesIn m (entryOf limits (p .run .book) user ∷ now) log') trades-many
+            (reduction-entered (p .run .book) user (target limits (p .run .book) user) (p .run .going .sound) (omega (arith, few, trades-many))
+            (subst (λ (m : ℕ). EntriesIn m now log) (sym trades-many) h) e room own-places (turn .cuts) noted-at)
 
         pub noted-more : {cs′ rs′ : List ℕ} {u : Totals} {place′ : ℕ} → NoneCut cs′ → length rs′ ≡ 256
             → totals u ≡ ofRun (t .reductions + 1) (t .mwh .0 + tally .mwh .0) (t .worth .0 + tally .worth .0) → NextFrom us least n place′

@@ -140,7 +140,8 @@ module _ {limits : Limits} {f : Prices} {s sums ss areaCodes bs : List ℕ} (q :
             subst (λ (g : Prices). Going limits (bookOf s) (reduced limits b user .book) ms qs (set mid place (cond left (targetAt limits g (usersOf s) sums qs place) 0)) (set es place left)) (sym (q .prices-are))
             (turn-going (q .sound) h place (member-in q inside now) (left-room q inside now cs ms taken) (members-few q inside now) (rw (sf, se) at own)
             (rw (sf, se) at lp) (rw (sf, se) at lo) is-due (q .twelve) (q .sales) (rw (sf, se) at moved)
-            (subst (λ (g : Prices). LookedAgain (targetAt limits g (usersOf s) sums qs) es (part (starts (borneBook (bookOf s)) place) (starts (borneBook (bookOf s)) (suc place)) bs) (part (starts (borneBook (bookOf s)) place) (starts (borneBook (bookOf s)) (suc place)) cs) ts mid least) (q .prices-are) (rw (sf, se) at look))
+            (subst (λ (g : Prices). LookedAgain (targetAt limits g (usersOf s) sums qs) es (part (starts (borneBook (bookOf s)) place) (starts (borneBook (bookOf s)) (suc place)) bs) (part (starts (borneBook (bookOf s)) place) (starts (borneBook (bookOf s)) (suc place)) cs) ts mid least)
+            (q .prices-are) (rw (sf, se) at look))
             (rw (sf, se) at is-left))
 
         pub turned : (tally : Tally)

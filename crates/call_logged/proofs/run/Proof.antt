@@ -1,9 +1,8 @@
 -- `run` is refused by an opening question, or runs the book in its bytes, and the log holds the book that it leaves. Assumes nothing.
-use mathlib.Core.Path.{_≡_, refl, ap, _∙_}
-use Prim.Native.Nat.{ℕ, _≤_}
+use mathlib.Core.Path.{_≡_, refl, _∙_}
+use Prim.Native.Nat.{_≤_}
 use native.Mathlib.Omega.{arith}
 use lib.Dec.{T}
-use lib.ListN.{length}
 use borrow.Author.Needs.{needs}
 use denote.Ref.{now}
 use Rattle.book_format.proofs.Held.{accepted-of}
@@ -85,9 +84,13 @@ seal-requires c κs =
 
 returns-2 : tie.Need-returns-2
 returns-2 c =
-    let e = c .before .before .before .before .before .before .before .before .before .before .before .before .before .before .before .before .before .before .before .before .before .before .before .before .before .before .before in
+    let at-seal = c .before .before .before .before in
+    let at-run-book = at-seal .before .before .before .before .before .before .before .before in
+    let at-count = at-run-book .before .before .before .before .before .before .before .before .before .before .before in
+    let e = at-count .before .before .before .before in
     let a = start e .args in
-    run-logged (asLimits (a .limits)) (now (a .book)) (now (a .log)) (λ j. e .before .slice-known2 .given j .fits) (few e) (fits e) (e .if1 .left) (count (c .before .before .before .before .before .before .before .before .before .before .before .before .before .before .before .before .before .before .before .before .before .before .before)) (c .before .before .before .before .before .before .before .before .before .before .before .before .run-book .ensures) (c .before .before .before .before .seal .ensures) (c .ran .ensures)
+    run-logged (asLimits (a .limits)) (now (a .book)) (now (a .log)) (λ j. e .before .slice-known2 .given j .fits) (few e) (fits e) (e .if1 .left)
+    (count at-count) (at-run-book .run-book .ensures) (at-seal .seal .ensures) (c .ran .ensures)
 
 pub run-spec : {M : Type 1} → statement M
 run-spec =

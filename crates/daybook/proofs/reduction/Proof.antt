@@ -17,8 +17,13 @@ reduction-requires c κs =
 
 returns : tie.Need-returns
 returns c =
-    let a = c .before .before .before .before .before .before .before .before .before .before .before .before .before .before .before .before .before .before .before .before .before .before .before .before .args in
-    reduction-logged (a .with-log) (admitted-with (a .with-log) (c .before .before .before .before .before .before .before .before .before .before .before .before .before .before .before .before .admit-with-sums .ensures .0) (c .before .before .before .before .before .before .before .before .before .before .by-log .ensures)) (c .before .before .before .before .reduction .ensures)
+    let at-reduction = c .before .before .before .before in
+    let at-by-log = at-reduction .before .before .before .before .before .before in
+    let at-admit-with-sums = at-by-log .before .before .before .before .before .before in
+    let at-args = at-admit-with-sums .before .before .before .before .before .before .before .before in
+    let a = at-args .args in
+    reduction-logged (a .with-log) (admitted-with (a .with-log) (at-admit-with-sums .admit-with-sums .ensures .0) (at-by-log .by-log .ensures))
+    (at-reduction .reduction .ensures)
 
 pub reduction-spec : {M : Type 1} → statement M
 reduction-spec =

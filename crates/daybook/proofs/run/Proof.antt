@@ -18,8 +18,13 @@ run-requires c κs =
 
 returns : tie.Need-returns
 returns c =
-    let a = c .before .before .before .before .before .before .before .before .before .before .before .before .before .before .before .before .before .before .before .before .before .before .args in
-    called-without (a .with-log) (not-true _ (c .before .before .before .before .before .before .before .if1 .taken)) (admitted-with (a .with-log) (c .before .before .before .before .before .before .before .before .before .before .before .before .before .before .admit-with-sums .ensures .0) (c .before .before .before .before .before .before .before .before .by-log .ensures)) (c .before .before .run .ensures)
+    let at-passed = c .before .before .before .before .before .before .before in
+    let at-by-log = at-passed .before in
+    let at-admit-with-sums = at-by-log .before .before .before .before .before .before in
+    let at-args = at-admit-with-sums .before .before .before .before .before .before .before .before in
+    let a = at-args .args in
+    called-without (a .with-log) (not-true _ (at-passed .if1 .taken))
+    (admitted-with (a .with-log) (at-admit-with-sums .admit-with-sums .ensures .0) (at-by-log .by-log .ensures)) (c .before .before .run .ensures)
 
 run-requires-2 : tie.Need-run-requires-2
 run-requires-2 c κs =
@@ -30,8 +35,14 @@ run-requires-2 c κs =
 
 returns-2 : tie.Need-returns-2
 returns-2 c =
-    let a = c .before .before .before .before .before .before .before .before .before .before .before .before .before .before .before .before .before .before .before .before .before .before .before .before .before .args in
-    called-with (a .with-log) (not-false _ (c .before .before .before .before .before .before .before .before .before .before .if1 .left)) (admitted-with (a .with-log) (c .before .before .before .before .before .before .before .before .before .before .before .before .before .before .before .before .before .admit-with-sums .ensures .0) (c .before .before .before .before .before .before .before .before .before .before .before .by-log .ensures)) (c .before .before .before .before .run2 .ensures)
+    let at-run2 = c .before .before .before .before in
+    let at-passed = at-run2 .before .before .before .before .before .before in
+    let at-by-log = at-passed .before in
+    let at-admit-with-sums = at-by-log .before .before .before .before .before .before in
+    let at-args = at-admit-with-sums .before .before .before .before .before .before .before .before in
+    let a = at-args .args in
+    called-with (a .with-log) (not-false _ (at-passed .if1 .left))
+    (admitted-with (a .with-log) (at-admit-with-sums .admit-with-sums .ensures .0) (at-by-log .by-log .ensures)) (at-run2 .run2 .ensures)
 
 pub run-spec : {M : Type 1} → statement M
 run-spec =

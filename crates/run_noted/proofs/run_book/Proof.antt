@@ -15,7 +15,12 @@ trades-are c = c .trade-count .ensures
 
 fill-lists-requires : tie.Need-fill-lists-requires
 fill-lists-requires c κs =
-    ((c .before .before .before .before .before .before .before .before .before .before .before .before .pre .1 .0 .book, users-are (c .before .before .before .before .before .before .before .before), trades-are (c .before .before .before .before .before .before)), (refl, record { origins-room = refl; standing-room = refl; areas-room = refl; buyers-room = refl }))
+    let at-trades-are = c .before .before .before .before .before .before in
+    let at-users-are = at-trades-are .before .before in
+    let at-begun = at-users-are .before .before .before .before in (
+      (at-begun .pre .1 .0 .book, users-are at-users-are, trades-are at-trades-are),
+      (refl, record { origins-room = refl; standing-room = refl; areas-room = refl; buyers-room = refl }),
+    )
 
 run-listed-requires : tie.Need-run-listed-requires
 run-listed-requires c κs =

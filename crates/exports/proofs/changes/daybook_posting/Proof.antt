@@ -3,8 +3,8 @@ use mir.Syntax.{w64}
 use mir.ValLaws.{toZ-ofZ}
 use borrow.Author.Needs.{needs}
 use Rattle.exports.specs.Answers.{isYes}
-use Rattle.exports.proofs.daybook_posting.Statement.{statement}
-use Rattle.exports.proofs.daybook_posting.Tie as tie
+use Rattle.exports.proofs.changes.daybook_posting.Statement.{statement}
+use Rattle.exports.proofs.changes.daybook_posting.Tie as tie
 
 returns : tie.Need-returns
 unfolding isYes

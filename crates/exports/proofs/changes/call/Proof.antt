@@ -4,8 +4,8 @@ use Rattle.exports_answers.specs.Numbers.{callNumbers}
 use Rattle.exports.specs.Answers.{isYes}
 use Rattle.exports.proofs.Lent.{answered, not-called}
 use borrow.Author.Needs.{needs}
-use Rattle.exports.proofs.call.Statement.{statement}
-use Rattle.exports.proofs.call.Tie as tie
+use Rattle.exports.proofs.changes.call.Statement.{statement}
+use Rattle.exports.proofs.changes.call.Tie as tie
 
 returns : tie.Need-returns
 returns c = not-called 2 (now (c .before .before .before .before .before .args .answer)) callNumbers _ _ _ (c .if1 .taken)

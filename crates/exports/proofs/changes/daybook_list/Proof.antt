@@ -1,8 +1,8 @@
 -- `daybook_list` hands its columns and places on. Assumes nothing.
 use borrow.Author.Needs.{needs}
 use Rattle.exports.specs.Answers.{isYes}
-use Rattle.exports.proofs.daybook_list.Statement.{statement}
-use Rattle.exports.proofs.daybook_list.Tie as tie
+use Rattle.exports.proofs.changes.daybook_list.Statement.{statement}
+use Rattle.exports.proofs.changes.daybook_list.Tie as tie
 
 returns : tie.Need-returns
 unfolding isYes

@@ -4,8 +4,8 @@ use Rattle.exports_answers.specs.Numbers.{runNumbers}
 use Rattle.exports.specs.Answers.{isYes}
 use Rattle.exports.proofs.Lent.{answered, not-called}
 use borrow.Author.Needs.{needs}
-use Rattle.exports.proofs.daybook_run.Statement.{statement}
-use Rattle.exports.proofs.daybook_run.Tie as tie
+use Rattle.exports.proofs.changes.daybook_run.Statement.{statement}
+use Rattle.exports.proofs.changes.daybook_run.Tie as tie
 
 returns : tie.Need-returns
 returns c = not-called 3 (now (c .before .before .before .before .before .args .answer)) runNumbers _ _ _ (c .if1 .taken)
