@@ -98,7 +98,7 @@ module _ {f : Prices} {s : List ℕ} {place : ℕ} {ownSellers ownBuyers sellers
   pub own-noted : (lent : Bool) {log t m : List ℕ} {n : ℕ} → AllBytes log → (lent ≡ true → T (logFits log s)) → roomIn lent log ≡ true
       → NotedLent lent log t origins cs (getD ss place 0) (getD ss (place + 1) 0) m → n ≡ 0
       → m ≡ notedBy lent n (cuts (bookOf s) (getD (usersOf s) place nobody) asked) s t log
-  unfolding notedBy after roomIn room
+  unfolding notedBy after roomIn room bookOf usersOf
   own-noted false b fits free noted z = noted .stays refl
   own-noted true {log} {t} {m} b fits free noted z =
       let few = p .book .book .accepted .held .form .trades in

@@ -4,12 +4,14 @@ use mathlib.Core.Path.{_≡_}
 use Prim.Native.Nat.{ℕ, _<_}
 use lib.Dec.{T}
 use lib.IntN.{pos}
+use lib.ListN.{getD, length}
 use Rattle.laws.proofs.Members.{membersSum}
+use Rattle.laws.specs.Statements.{ownHolding}
 use Rattle.laws_sales.specs.Borne.{OwnRisk}
 use Rattle.rules.specs.Areas.{managersIn}
 use Rattle.rules.specs.Bearers.{asBorne}
-use Rattle.rules.specs.Book.{Book, Trade, User, bought, find, managerIn, sold}
-use Rattle.rules.specs.Levels.{Holding, holding, sells}
+use Rattle.rules.specs.Book.{Book, Trade, User, bought, find, managerIn, nobody, sold}
+use Rattle.rules.specs.Levels.{Holding, Limits, afternoonLevel, flagged, flaggedFrom, floored, holding, levelFrom, morningLevel, morningSum, sells}
 use Rattle.rules.specs.Questions.{accepted, known}
 
 -- nothing enters levels, flag and tiers
@@ -33,3 +35,15 @@ pub record InsideIsNobodys : Type 0 where
 -- versions 1 and 2: what the rules read of users and trades is document 01's
 pub record WithoutManagers : Type 0 where
   pub own : (b : Book) → T (accepted b) → managersIn (b .header .version) ≡ false → OwnRisk b
+
+-- so are the levels and the flag that calls and queries take of a user of the book: those of what it has by itself
+pub record LevelsAsBefore : Type 0 where
+  pub morning : (limits : Limits) (b : Book) (i : ℕ) → T (accepted b) → managersIn (b .header .version) ≡ false → i < length (b .users)
+      → let u = getD (b .users) i nobody in
+      morningLevel limits b u ≡ floored limits (morningSum (b .header .prices) (ownHolding b u) (u .party .charges))
+  pub afternoon : (limits : Limits) (b : Book) (i : ℕ) → T (accepted b) → managersIn (b .header .version) ≡ false → i < length (b .users)
+      → let u = getD (b .users) i nobody in
+      afternoonLevel limits b u ≡ levelFrom limits (b .header .prices) u (ownHolding b u)
+  pub flag : (limits : Limits) (b : Book) (i : ℕ) → T (accepted b) → managersIn (b .header .version) ≡ false → i < length (b .users)
+      → let u = getD (b .users) i nobody in
+      flagged limits b u ≡ flaggedFrom limits (b .header .prices) u (ownHolding b u)

@@ -18,6 +18,7 @@ use Rattle.laws.proofs.Fuel.{run-answer}
 use Rattle.laws.proofs.Settle.{pairs-length}
 use Rattle.laws.proofs.Trades.{framed}
 use Rattle.laws.specs.Sound.{Sound}
+use Rattle.laws.specs.Trades.{Lowered, Pairwise}
 use Rattle.laws_sales.proofs.Own.{own-sales}
 use Rattle.laws_sales.proofs.Standing.{places-stay}
 use Rattle.laws_sales.specs.Borne.{borneBook, borneUser}
