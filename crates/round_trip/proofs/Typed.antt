@@ -22,14 +22,13 @@ use Rattle.book_format.specs.Book.{headerValues, headerWidths, mark}
 use Rattle.round_trip.specs.RoundTrip.{Typed, TypedPrices, TypedRecord}
 
 -- what holds of every record holds, as it is taken, of the first n
-every-taken : {R M : Type 0} {P : R → Type 0} {Q : M → Type 0} (f : R → M) → ((r : R) → P r → Q (f r)) → (n : ℕ) (rs : List R) → Every P rs → Every Q (map f (take n rs))
-every-taken f g zero rs h = tt
-every-taken f g (suc n) [] h = tt
-every-taken f g (suc n) (r ∷ rs) h = (g r (h .0), every-taken f g n rs (h .1))
+every-taken : {R M : Type 0} (P : R → Type 0) (Q : M → Type 0) (f : R → M) → ((r : R) → P r → Q (f r)) → (n : ℕ) (rs : List R) → Every P rs → Every Q (map f (take n rs))
+every-taken P Q f g zero rs h = tt
+every-taken P Q f g (suc n) [] h = tt
+every-taken P Q f g (suc n) (r ∷ rs) h = (g r (h .0), every-taken P Q f g n rs (h .1))
 
 -- an id of 32 bits, or 0 in a version without managers
 kept-lt : (managed : Bool) (ms : model.Managers) → ms .pvb < 2 ^ 32 → ms .tvb < 2 ^ 32 → ms .avb < 2 ^ 32 → FitsManagers managed (cond managed ms model.unmanaged)
-unfolding model.unmanaged
 kept-lt true ms p t a = record { pvb = p; tvb = t; avb = a }
 kept-lt false ms p t a = record { pvb = omega arith; tvb = omega arith; avb = omega arith }
 
@@ -70,6 +69,6 @@ module _ (b : Book) (counts : InCounts b) (typed : Typed b) where
       record {
         header = (omega arith, (omega arith, (omega arith, (omega arith, (omega arith, (f .p, (f .q, (f .l, (f .x, (f .i, tt))))))))));
         selling = selling-kept (sellingIn (b .version)) refl;
-        users = every-taken (λ r. keptManagers (b .version) (asRecord r)) (record-fits (b .version)) (b .«user_count») (b .users) (typed .users);
-        trades = every-taken asTrade (λ t h. h) (b .«trade_count») (b .trades) (typed .trades);
+        users = every-taken TypedRecord (FitsRecord (managersIn (b .version))) (λ r. keptManagers (b .version) (asRecord r)) (record-fits (b .version)) (b .«user_count») (b .users) (typed .users);
+        trades = every-taken (λ t. FitsTrade (asTrade t)) FitsTrade asTrade (λ t h. h) (b .«trade_count») (b .trades) (typed .trades);
       }

@@ -30,9 +30,14 @@ use Rattle.exports.specs.Lent.{byLength}
 use Rattle.round_trip.specs.RoundTrip.{ImageWrittenAndRead, WrittenAndRead}
 use Rattle.round_trip.proofs.Typed.{trade-count, typed-fits, user-count}
 
+-- no question refuses nothing
+nothing-asked : refusal [] ≡ none
+unfolding refusal
+nothing-asked = refl
+
 -- bytes of the right form pass the questions of the form
 form-passes : (s : List ℕ) → Formed s → refusal (aboutForm s) ≡ none
-unfolding aboutForm marked versioned sized lengthOf lengthBy tradesAt userAt refusal
+unfolding aboutForm marked versioned sized lengthOf lengthBy tradesAt userAt
 form-passes s f =
     let n = userCount s in
     let m = tradeCount s in
@@ -41,6 +46,7 @@ form-passes s f =
     ∙ yes-first 3 (sized s) []
     (and-i (leb 1 n && leb n 64) (leb m 256 && eqb (length s) (lengthOf s)) (and-i (leb 1 n) (leb n 64) (le→leb 1 n (f .some)) (le→leb n 64 (f .users)))
     (and-i (leb m 256) (eqb (length s) (lengthOf s)) (le→leb m 256 (f .trades)) (eqb-of (length s) (lengthOf s) (f .whole))))
+    ∙ nothing-asked
 
 -- what was written of a book of a known version with counts in range passes, where its fields do
 module _ (b : model.Book) (known : T (versionKnown (b .header .version))) (some : 1 ≤ length (b .users)) (few : length (b .users) ≤ 64) (many : length (b .trades) ≤ 256) where
