@@ -243,7 +243,12 @@ module _ {b : Book} {s : List ℕ} (h : HeldAs b s) where
     user-trades =
         let H = headerSize (versionOf s) in
         let W = userSize (versionOf s) in
-        rw (same-version s with-user user-front, same-tradeCount s with-user user-front, same-userCount s with-user user-front, drop-sets (userRecord (b .header .version) u) s (H + W * i) (H + W * userCount s) (omega (arith, size-lies W i (userCount s) (omega (arith, held-userCount)), length-userRecord (b .header .version) u, held-size)))
+        rw (
+          same-version s with-user user-front,
+          same-tradeCount s with-user user-front,
+          same-userCount s with-user user-front,
+          drop-sets (userRecord (b .header .version) u) s (H + W * i) (H + W * userCount s) (omega (arith, size-lies W i (userCount s) (omega (arith, held-userCount)), length-userRecord (b .header .version) u, held-size)),
+        )
         held-trades
 
     -- one user is set

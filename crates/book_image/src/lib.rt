@@ -1,5 +1,5 @@
-// The fields of a book as an image of 9,512 bytes, for callers that have no struct `Book`: a header of 40 bytes, 64 users of 68 bytes and 256
-// trades in the book's format, 0 past the header and the user records of the book's version and past the counts. A book is read into an
+// The fields of a book as an image of 9,512 bytes, for callers that have no struct `Book`: a header of 40 bytes, 64 users of 68 bytes and
+// 256 trades in the book's format, 0 past the header and the user records of the book's version and past the counts. A book is read into an
 // image, and written from the fields of one: the bytes of that book are asked what any bytes are asked.
 ghost use mathlib.Core.Path.{_≡_};
 ghost use Prim.Native.Nat.{_-_, _≤_, _+_, _*_, min};

@@ -11,7 +11,8 @@ ghost use Rattle.rules.specs.Questions.{managersValid, usersValid};
 ghost use Rattle.book_format.specs.Book.{userSize, usersOf, tradesOf, tradeCount};
 ghost use Rattle.book_format.specs.Questions.{Formed, bookNumber};
 ghost use Rattle.book_parties.specs.Ids.{usersFrom, tradesFrom, Padded};
-ghost use Rattle.book_questions.specs.Asked.{allValid, managerGiven, managersGiven, GroupsIn, GroupsAsked, UsersAsked, TradesAsked, RecordsIn, RecordsAsked, FieldsPlaced, AskedOf, Summed};
+ghost use Rattle.book_questions.specs.Asked.{allValid, managerGiven, managersGiven, GroupsIn, GroupsAsked, UsersAsked};
+ghost use Rattle.book_questions.specs.Asked.{TradesAsked, RecordsIn, RecordsAsked, FieldsPlaced, AskedOf, Summed};
 
 // What was asked: the number of the first question that is answered by no, 0 where there is none, and how many trades were read.
 pub struct Answer {
@@ -21,8 +22,8 @@ pub struct Answer {
 
 // ---- 5
 
-// Do the ids of the n users, in records of a size, that bytes begin with rise from above 0, and is every field valid, positions and managers
-// apart? Their ids are listed where it is so.
+// Do the ids of the n users, in records of a size, that bytes begin with rise from above 0, and is every field valid, positions and
+// managers apart? Their ids are listed where it is so.
 fn fields_valid(s: &[u8], size: usize, n: usize, ids: &mut [u32]) -> bool
     requires { ⌜ (n ≤ 64) × (56 ≤ size) × (size * n ≤ length (now s)) × (now ids ≡ replicate 64 4294967295) ⌝ }
     ensures { λ r. ⌜ UsersAsked (usersFrom size 0 n (now (s .entry))) (usersValid (usersFrom size 0 n (now (s .entry)))) n r (now (ids .exit)) ⌝ }
@@ -150,9 +151,10 @@ fn valid_trades(
 
 // ---- 5 to 7
 
-// Asks the questions 5 to 7 of the n users, in records of a version's size, that bytes begin with and of the m trades from an offset, given whether their zero bytes are 0.
-// The places of the trades' parties are listed where they fail none, and the sums of the users told where they fail none before 7. The
-// bytes begin with the users, whatever stands before them in a book: so the walks have one offset less to keep.
+// Asks the questions 5 to 7 of the n users, in records of a version's size, that bytes begin with and of the m trades from an offset, given
+// whether their zero bytes are 0. The places of the trades' parties are listed where they fail none, and the sums of the users told where
+// they fail none before 7. The bytes begin with the users, whatever stands before them in a book: so the walks have one offset less to
+// keep.
 fn ask_records(
     s: &[u8],
     version: u16,

@@ -164,7 +164,8 @@ pub fn write_trades(out: &mut [u8], at: usize, trades: [Trade; 256], n: usize)
 // ---- the book
 
 // A book: the header's fields, the users up to `user_count` and the trades up to `trade_count`; what stands past the counts is not of the
-// book. Selling tariffs are 0 when a book of version 1 is read, managers when one of version 1 or 2 is, and not looked at when it is written.
+// book. Selling tariffs are 0 when a book of version 1 is read, managers when one of version 1 or 2 is, and not looked at when it is
+// written.
 pub struct Book {
     pub version: u16,
     pub user_count: u8,

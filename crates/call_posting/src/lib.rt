@@ -41,8 +41,8 @@ fn post(entry: u32, position: u32, amount: i64) -> Change
     }
 }
 
-// Adds an amount to the physical entry and the position of the user at a place, of the records of a size that begin at `at`, in an area: 0, or 10 and
-// nothing is changed. Of the user's record it reads and writes these two fields alone.
+// Adds an amount to the physical entry and the position of the user at a place, of the records of a size that begin at `at`, in an area: 0,
+// or 10 and nothing is changed. Of the user's record it reads and writes these two fields alone.
 pub fn post_at(book: &mut [u8], at: usize, size: usize, place: usize, area: u32, amount: i64) -> u32
     requires { ⌜ (bookNumber (now book) ≡ 0) × (place < userCount (now book)) × (at ≡ headerSize (versionOf (now book))) × (size ≡ userSize (versionOf (now book))) ⌝ }
     ensures { λ r. ⌜ PostedAt place area amount (now (book .entry)) r (now (book .exit)) ⌝ }

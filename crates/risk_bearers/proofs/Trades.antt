@@ -107,10 +107,22 @@ module _ (s table : List ℕ) where
     trade-area = area-lt (usersOf s) t valid
 
     pub seller-low : getD sellers i 0 < userCount s
-    seller-low = omega (arith, length-usersOf s, party-within (λ r. r .seller) (usersOf s) (tradesOf s) sellers (accepted-ids (b .accepted)) (all-by (tradeValid (usersOf s)) (λ x. known (usersOf s) (x .terms .seller)) (seller-known (usersOf s)) (tradesOf s) (accepted-trades (b .accepted))) (b .placed .of-sellers) {i = i} (omega (arith, length-tradesOf s)) refl)
+    seller-low =
+        omega (
+          arith,
+          length-usersOf s,
+          party-within (λ r. r .seller) (usersOf s) (tradesOf s) sellers (accepted-ids (b .accepted)) (all-by (tradeValid (usersOf s)) (λ x. known (usersOf s) (x .terms .seller)) (seller-known (usersOf s)) (tradesOf s) (accepted-trades (b .accepted)))
+              (b .placed .of-sellers) {i = i} (omega (arith, length-tradesOf s)) refl,
+        )
 
     pub buyer-low : getD buyers i 0 < userCount s
-    buyer-low = omega (arith, length-usersOf s, party-within (λ r. r .buyer) (usersOf s) (tradesOf s) buyers (accepted-ids (b .accepted)) (all-by (tradeValid (usersOf s)) (λ x. known (usersOf s) (x .terms .buyer)) (buyer-known (usersOf s)) (tradesOf s) (accepted-trades (b .accepted))) (b .placed .of-buyers) {i = i} (omega (arith, length-tradesOf s)) refl)
+    buyer-low =
+        omega (
+          arith,
+          length-usersOf s,
+          party-within (λ r. r .buyer) (usersOf s) (tradesOf s) buyers (accepted-ids (b .accepted)) (all-by (tradeValid (usersOf s)) (λ x. known (usersOf s) (x .terms .buyer)) (buyer-known (usersOf s)) (tradesOf s) (accepted-trades (b .accepted)))
+              (b .placed .of-buyers) {i = i} (omega (arith, length-tradesOf s)) refl,
+        )
 
     -- the trade as it is borne
     module _ {rs : List Trade} (borne : AllBorne (idsOf (usersOf s)) table (tradesOf s) rs) {p q : ℕ}

@@ -31,8 +31,8 @@ pub fn bearer_of(bearers: &[u8; 192], place: u8, area: u8) -> u8
     bearers[k]
 }
 
-// Lists the places of those who bear the risk of the sellers and of the buyers of the m trades of a book, which begin at `at`, and sums what
-// stands at each.
+// Lists the places of those who bear the risk of the sellers and of the buyers of the m trades of a book, which begin at `at`, and sums
+// what stands at each.
 pub fn bear_trades(
     book: &[u8],
     at: usize,

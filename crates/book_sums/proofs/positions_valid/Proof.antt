@@ -37,8 +37,9 @@ lies c =
 
 -- what the sums said of its positions is what the rules say
 asked : {answer : Bool} (c : tie.After-user-positions-valid Inv-loop μ-loop) → c .user-positions-valid .result ≡ answer → (ts : List Trade)
-    → TwelveOf (usersFrom (c .before .before .before .before .before .before .args .size) (c .before .before .before .before .before .before .args .at) (c .before .before .before .before .before .before .args .n) (now (c .before .before .before .before .before .before .args .s))) ts (now (c .before .before .before .before .before .before .args .sums))
-    → positionsValid ts (getD (usersFrom (c .before .before .before .before .before .before .args .size) (c .before .before .before .before .before .before .args .at) (c .before .before .before .before .before .before .args .n) (now (c .before .before .before .before .before .before .args .s))) (c .before .before .before .before .loop .i) nobody) ≡ answer
+    → let a = c .before .before .before .before .before .before .args in
+    TwelveOf (usersFrom (a .size) (a .at) (a .n) (now (a .s))) ts (now (a .sums))
+    → positionsValid ts (getD (usersFrom (a .size) (a .at) (a .n) (now (a .s))) (c .before .before .before .before .loop .i) nobody) ≡ answer
 asked c e ts sums =
     let l = c .before .before .before .before .loop in
     let a = c .before .before .before .before .before .before .args in

@@ -47,8 +47,10 @@ write-trades-requires c κs =
     let users = c .before .before .before in
     let selling = users .before .before .before .before in
     let prices = selling .before .before .before .before in
-    let start = prices .before .before .before .before in
-    (w .before .before .before .before .before .before .before .before .pre .1, rw (users .write-users .ensures .0, length-sets, selling .write-selling .ensures, length-sets, prices .write-prices .ensures, setFields-sets, length-sets, start .write-start .ensures, setFields-sets, length-sets) (omega (arith, l)))
+    let start = prices .before .before .before .before in (
+      w .before .before .before .before .before .before .before .before .pre .1,
+      rw (users .write-users .ensures .0, length-sets, selling .write-selling .ensures, length-sets, prices .write-prices .ensures, setFields-sets, length-sets, start .write-start .ensures, setFields-sets, length-sets) (omega (arith, l)),
+    )
 
 returns : tie.Need-returns
 returns c =
