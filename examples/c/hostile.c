@@ -256,13 +256,13 @@ static void random_bytes(const uint8_t *sample)
         uint8_t *bytes = block(size);
         for (size_t i = 0; i < size; i++)
             bytes[i] = (uint8_t)next();
-        if (size % 4 == 0 && size >= header + DAYBOOK_USER_SIZE) {
+        if (size % 4 == 0 && size >= header + DAYBOOK_USER_SIZE(sample)) {
             memcpy(bytes, sample, header);
-            size_t users = (size - header) / DAYBOOK_USER_SIZE;
+            size_t users = (size - header) / DAYBOOK_USER_SIZE(sample);
             users = users > DAYBOOK_MAX_USERS ? DAYBOOK_MAX_USERS : users;
-            while (users > 1 && (size - header - users * DAYBOOK_USER_SIZE) % DAYBOOK_TRADE_SIZE != 0)
+            while (users > 1 && (size - header - users * DAYBOOK_USER_SIZE(sample)) % DAYBOOK_TRADE_SIZE != 0)
                 users--;
-            size_t trades = (size - header - users * DAYBOOK_USER_SIZE) / DAYBOOK_TRADE_SIZE;
+            size_t trades = (size - header - users * DAYBOOK_USER_SIZE(sample)) / DAYBOOK_TRADE_SIZE;
             bytes[5] = (uint8_t)users;
             bytes[6] = (uint8_t)trades;
             bytes[7] = (uint8_t)(trades >> 8);
@@ -339,7 +339,7 @@ static void wrong_lengths(const uint8_t *sample, size_t size, uint32_t id)
 static void largest_book(const uint8_t *sample)
 {
     const size_t users = DAYBOOK_HEADER_SIZE(sample);
-    const size_t trades = users + DAYBOOK_USER_SIZE * DAYBOOK_MAX_USERS;
+    const size_t trades = users + DAYBOOK_USER_SIZE(sample) * DAYBOOK_MAX_USERS;
     const size_t size = trades + DAYBOOK_TRADE_SIZE * DAYBOOK_MAX_TRADES;
     uint8_t *book = calloc(1, size);
     memcpy(book, sample, users);
@@ -347,11 +347,11 @@ static void largest_book(const uint8_t *sample)
     book[6] = 0;
     book[7] = 1;
     for (size_t i = 0; i < DAYBOOK_MAX_USERS; i++)
-        book[users + DAYBOOK_USER_SIZE * i] = (uint8_t)(i + 1);
+        book[users + DAYBOOK_USER_SIZE(sample) * i] = (uint8_t)(i + 1);
     const int32_t sold = -256, bought = 256;
     for (size_t k = 0; k < 4; k++) {
         book[users + 20 + k] = (uint8_t)((uint32_t)sold >> (8 * k));
-        book[users + DAYBOOK_USER_SIZE + 20 + k] = (uint8_t)((uint32_t)bought >> (8 * k));
+        book[users + DAYBOOK_USER_SIZE(sample) + 20 + k] = (uint8_t)((uint32_t)bought >> (8 * k));
     }
     for (size_t i = 0; i < DAYBOOK_MAX_TRADES; i++) {
         uint8_t *trade = book + trades + DAYBOOK_TRADE_SIZE * i;
