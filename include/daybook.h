@@ -25,8 +25,8 @@
  *   15  list: at most 512 lines, and columns and places of one count? (asked after 7 and before 16)
  *   16  is the store well formed? (asked where a store is given, after 7 and before 8)
  *   17  has the store a set in force on the book's date? (the same)
- *   18  withdrawal: has the log an entry?
- *   19  is the log one for the book? (asked where a log is given, after 17 and before 8; by daybook_start_log: a log of DAYBOOK_LOG_SIZE bytes, and a book that fits in?)
+ *   18  withdrawal: has the log an entry? (asked last)
+ *   19  is the log one for the book? (asked where a log is given, after 17 and before 8; by daybook_start_log: a log of DAYBOOK_LOG_SIZE bytes, a book of at most 9,512?)
  *   20  reduction: has the log room for one more entry? (asked last; a run stops with it where one more reduction is due)
  *   24  cancellation: are all eligible trades together worth the target? (asked last)
  *   25  cancellation: 1 to 65,535 tries? (asked after 17 and before 8)
@@ -51,10 +51,11 @@
 #define DAYBOOK_NO_STORE 0, (const uint8_t *)"", 0
 #define DAYBOOK_STORE(store, store_len) 1, (store), (store_len)
 
-/* A call that may change the book takes a log of its reductions, as three arguments: a flag, the bytes and their length. A flag of 0 is no log, and the part is left as it
-   is. A log is DAYBOOK_LOG_SIZE bytes that daybook_start_log wrote and the calls since; it holds the book as the last call with it left the book, and is refused with 19
-   beside another. A reduction adds an entry, a run one for each of its own, a withdrawal drops the last; an accepted posting, list or guarantee call empties it. It has
-   room for DAYBOOK_MAX_ENTRIES. The part for no log is never written. These stand for all three arguments. */
+/* A call that may change the book takes a log of reductions, as three arguments: a flag, the bytes and their length. A flag of 0 is no log, and the part is left as it is;
+   any other flag is a log. A log is DAYBOOK_LOG_SIZE bytes that daybook_start_log wrote and the calls since. It holds the book as the last call with it left the book, and
+   beside another it is refused with 19: so give it to every call that changes the book, and keep the two together; after a change without it, or where it is lost, start
+   another. A reduction adds an entry, a run one for each of its own, a withdrawal drops the last; an accepted posting, list or guarantee call empties it. It has room for
+   DAYBOOK_MAX_ENTRIES, and the 32 bits at byte 4, the lowest first, tell how many it has. These stand for all three arguments; the part for no log is never written. */
 #define DAYBOOK_NO_LOG 0, (uint8_t *)"", 0
 #define DAYBOOK_LOG(log, log_len) 1, (log), (log_len)
 #define DAYBOOK_LOG_SIZE 271668
@@ -183,18 +184,19 @@ uint32_t daybook_cancellation(const uint8_t *book, size_t book_len, uint32_t wit
                               size_t store_len, uint32_t id, uint32_t tries, uint8_t *marks, size_t marks_len,
                               uint64_t *answer, size_t answer_len);
 
-/* Reduces the user of the lowest id that is short of cover and has an eligible trade, until there is none; DAYBOOK_RUN_NUMBERS: the reductions, the MWh cut, their worth.
-   It reports at most as many reductions as MWh stand, before the run, in trades of kind 0 and day 0, and leaves the book byte for byte where it reports none (proved:
-   crates/sequence/specs/RunLength.antt). So the most that a book can take is told from its bytes, before the run: add up the 32 bits at byte 16 of each trade whose bytes 9
-   and 10 are 0. That is 25,600,000 at most, and legal books take as many. */
+/* Reduces the user of the lowest id that is short of cover and has an eligible trade, until there is none, or until one is due and the log is full (20);
+   DAYBOOK_RUN_NUMBERS: the reductions, the MWh cut, their worth, after 20 too. It reports at most as many reductions as MWh stand, before the run, in trades of kind 0 and
+   day 0, and leaves the book byte for byte where it reports none (proved: crates/sequence/specs/RunLength.antt). So the most that a book can take is told from its bytes,
+   before the run: add up the 32 bits at byte 16 of each trade whose bytes 9 and 10 are 0. That is 25,600,000 at most, and legal books take as many. */
 uint32_t daybook_run(uint8_t *book, size_t book_len, uint32_t with_store, const uint8_t *store, size_t store_len,
                      uint32_t with_log, uint8_t *log, size_t log_len, uint64_t *answer, size_t answer_len);
 
-/* Starts a log, of DAYBOOK_LOG_SIZE bytes, that holds a book and has no entry; nothing but the lengths is asked (19). */
+/* Starts a log, of DAYBOOK_LOG_SIZE bytes, that holds a book and has no entry, whatever the bytes were; nothing but the lengths is asked (19). */
 uint32_t daybook_start_log(uint8_t *log, size_t log_len, const uint8_t *book, size_t book_len);
 
 /* Withdraws the last reduction that a log has noted: its cuts are given back, the positions settled, and the entry dropped; DAYBOOK_WITHDRAWAL_NUMBERS: its MWh and their
-   worth. Withdrawing every entry gives back the book before the first reduction noted, byte for byte (proved: crates/sequence/specs/Logs.antt). */
+   worth. A log is needed, so there is no flag. Withdrawing every entry of a log that daybook_start_log and the calls since wrote gives back the book before the first
+   reduction noted, byte for byte (proved: crates/sequence/specs/Logs.antt). Any log that 19 lets pass is taken: its entries raise no trade above what was notified. */
 uint32_t daybook_withdrawal(uint8_t *book, size_t book_len, uint32_t with_store, const uint8_t *store,
                             size_t store_len, uint8_t *log, size_t log_len, uint64_t *answer, size_t answer_len);
 

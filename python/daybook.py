@@ -32,7 +32,20 @@ have credit for long positions:
 >>> daybook.level_table(credit)[0]
 (201, 126000000, 116500000)
 
-Every call but `read` and `write` takes a store of parameter sets in bytes as
+A log of reductions is bytes, too. Calls that may change a book take one as
+`log=`, or none, and hand back the log after them beside the book; with it the
+last reduction is withdrawn:
+
+>>> day = daybook.run(book, log=daybook.start_log(book))
+>>> back = daybook.withdrawal(day.book, day.log)
+>>> back.mwh, back.worth, back.book == book
+(15000, 30000000, True)
+>>> daybook.withdrawal(back.book, back.log)
+Traceback (most recent call last):
+    ...
+daybook.Refused: refused by question 18: has the log an entry?
+
+Every call but `read`, `write` and `start_log` takes a store of parameter sets in bytes as
 `store=`, or none. `python/build` makes the shared object that is called, from
 the engine's archive; DAYBOOK_LIBRARY names another one.
 """
@@ -49,9 +62,10 @@ from typing import Callable, NamedTuple, Optional, Sequence, Tuple, Union
 __all__ = [
     "AVB", "BILATERAL", "Book", "CLEARING_HOUSE", "COUNTERPARTY", "Cancellation", "GuaranteeCall", "PLATFORM", "PVB",
     "Posting", "PostingList",
-    "Prices", "QUESTIONS", "Reduction", "Refused", "Return", "Run", "SHIPPER", "Share", "TVB", "Trade", "User",
+    "Prices", "QUESTIONS", "Reduction", "Refused", "Return", "Run", "SHIPPER", "Share", "TVB", "Trade", "User", "Withdrawal",
     "afternoon_call", "afternoon_level", "cancellation", "level_table", "morning_call", "morning_level", "most_reductions",
-    "over_days", "posting", "posting_list", "read", "reduction", "run", "show", "show_picked", "shrinkage_return", "warning", "write",
+    "over_days", "posting", "posting_list", "read", "reduction", "run", "show", "show_picked", "shrinkage_return", "start_log", "warning",
+    "withdrawal", "write",
 ]
 
 PVB, TVB, AVB = 0, 1, 2
@@ -81,6 +95,9 @@ QUESTIONS = {
     15: "at most 512 lines, columns and places of one count?",
     16: "is the store well formed?",
     17: "has the store a set in force on the book's date?",
+    18: "has the log an entry?",
+    19: "is the log one for the book?",
+    20: "has the log room for one more entry?",
     24: "are all eligible trades together worth the target?",
     25: "1 to 65,535 tries?",
     27: "every balance within ±500,000,000 kWh?",
@@ -91,13 +108,15 @@ QUESTIONS = {
 Bytes = Union[bytes, bytearray, memoryview]
 Areas = Tuple[int, int, int]
 
-_INTERFACE = 3
+_INTERFACE = 4
 _HEADER = struct.Struct("<3sHBH8I")
 _HEADER_SIZES = {1: 32, 2: _HEADER.size}
 _USER = struct.Struct("<IB3x6iqQQ")
 _TRADE = struct.Struct("<IIBBBxII")
 _MOST_USERS = 64
 _MOST_TRADES = 256
+_LOG_LENGTH = 271_668
+_LOG_FULL = 20
 _TRADES_AT = _HEADER.size + _MOST_USERS * _USER.size
 _IMAGE = _TRADES_AT + _MOST_TRADES * _TRADE.size
 
@@ -183,16 +202,18 @@ class Book:
 
 
 class Posting(NamedTuple):
-    """An accepted posting: the book after it."""
+    """An accepted posting: the book after it, and the log after it where one was given."""
 
     book: bytes
+    log: Optional[bytes] = None
 
 
 class PostingList(NamedTuple):
-    """An accepted list of postings: the number of each line, 0 where it was posted; the book after it."""
+    """An accepted list of postings: the number of each line, 0 where it was posted; book and log after it."""
 
     numbers: Tuple[int, ...]
     book: bytes
+    log: Optional[bytes] = None
 
 
 class Cancellation(NamedTuple):
@@ -206,16 +227,17 @@ class Cancellation(NamedTuple):
 
 
 class GuaranteeCall(NamedTuple):
-    """An accepted guarantee call: the level, what was added to blocked, the book after it."""
+    """An accepted guarantee call: the level, what was added to blocked, book and log after it."""
 
     level: int
     added: int
     book: bytes
+    log: Optional[bytes] = None
 
 
 class Reduction(NamedTuple):
     """An accepted reduction: MWh cut, their worth, the target T, by how much the worth is
-    short of it or over it, the book after it."""
+    short of it or over it, book and log after it."""
 
     mwh: int
     worth: int
@@ -223,15 +245,28 @@ class Reduction(NamedTuple):
     short: int
     over: int
     book: bytes
+    log: Optional[bytes] = None
 
 
 class Run(NamedTuple):
-    """A finished run: reductions, MWh cut, their worth, the book after it."""
+    """An accepted run: reductions, MWh cut, their worth, book and log after it, and whether it
+    stopped at a full log while one more reduction was due."""
 
     reductions: int
     mwh: int
     worth: int
     book: bytes
+    log: Optional[bytes] = None
+    log_full: bool = False
+
+
+class Withdrawal(NamedTuple):
+    """A withdrawn reduction: its MWh, their worth, book and log after it."""
+
+    mwh: int
+    worth: int
+    book: bytes
+    log: bytes
 
 
 class Share(NamedTuple):
@@ -284,6 +319,21 @@ class _Part:
 def _store(store: Optional[Bytes]) -> tuple[object, ...]:
     """A store, or none, as the three arguments of a C function."""
     return (ctypes.c_uint32(store is not None), *_Part(b"" if store is None else store).arguments)
+
+
+class _Log:
+    """A log, or none, as the three arguments of a C function, and as the call leaves it."""
+
+    def __init__(self, log: Optional[Bytes]) -> None:
+        self.part = None if log is None else _Part(log)
+
+    @property
+    def arguments(self) -> tuple[object, ...]:
+        return (ctypes.c_uint32(self.part is not None), *(self.part or _Part(b"")).arguments)
+
+    @property
+    def bytes(self) -> Optional[bytes]:
+        return None if self.part is None else self.part.bytes
 
 
 def _in_range(name: str, number: int, least: int, most: int) -> int:
@@ -373,19 +423,23 @@ def show_picked(
     return User._unpacked(record.bytes)
 
 
-def posting(book: Bytes, id: int, area: int, amount: int, store: Optional[Bytes] = None) -> Posting:
+def posting(
+    book: Bytes, id: int, area: int, amount: int, store: Optional[Bytes] = None, log: Optional[Bytes] = None
+) -> Posting:
     """Adds a signed amount of MWh to a user's physical entry and position in an area."""
+    lent = _Log(log)
     arguments = (
+        *lent.arguments,
         _id(id),
         ctypes.c_uint32(_in_range("area", area, 0, 2**32 - 1)),
         ctypes.c_int64(_in_range("amount", amount, -(2**63), 2**63 - 1)),
     )
     _, after = _called(_library.daybook_posting, book, store, arguments, 0)
-    return Posting(after)
+    return Posting(after, lent.bytes)
 
 
 def posting_list(
-    book: Bytes, lines: Sequence[Tuple[int, int, int]], store: Optional[Bytes] = None
+    book: Bytes, lines: Sequence[Tuple[int, int, int]], store: Optional[Bytes] = None, log: Optional[Bytes] = None
 ) -> PostingList:
     """Makes the postings of a list of id, area and amount one after another, at most 512."""
     ids = [_in_range("id", line[0], 0, 2**32 - 1) for line in lines]
@@ -393,12 +447,14 @@ def posting_list(
     amounts = [_in_range("amount", line[2], -(2**63), 2**63 - 1) for line in lines]
     count, room = ctypes.c_size_t(len(lines)), max(len(lines), 1)
     places = (ctypes.c_uint32 * room)()
+    lent = _Log(log)
     arguments = (
+        *lent.arguments,
         (ctypes.c_uint32 * room)(*ids), count, (ctypes.c_uint32 * room)(*areas), count,
         (ctypes.c_int64 * room)(*amounts), count, places, count,
     )
     _, after = _called(_library.daybook_list, book, store, arguments, 0)
-    return PostingList(tuple(places[: len(lines)]), after)
+    return PostingList(tuple(places[: len(lines)]), after, lent.bytes)
 
 
 def morning_level(book: Bytes, id: int, store: Optional[Bytes] = None) -> int:
@@ -419,16 +475,22 @@ def level_table(book: Bytes, store: Optional[Bytes] = None) -> list[tuple[int, i
     return [(id, morning_level(book, id, store), afternoon_level(book, id, store)) for id in shippers]
 
 
-def morning_call(book: Bytes, id: int, store: Optional[Bytes] = None) -> GuaranteeCall:
+def morning_call(
+    book: Bytes, id: int, store: Optional[Bytes] = None, log: Optional[Bytes] = None
+) -> GuaranteeCall:
     """Raises a shipper's blocked guarantee to the morning level."""
-    (level, added), after = _called(_library.daybook_morning_call, book, store, (_id(id),), 2)
-    return GuaranteeCall(level, added, after)
+    lent = _Log(log)
+    (level, added), after = _called(_library.daybook_morning_call, book, store, (*lent.arguments, _id(id)), 2)
+    return GuaranteeCall(level, added, after, lent.bytes)
 
 
-def afternoon_call(book: Bytes, id: int, store: Optional[Bytes] = None) -> GuaranteeCall:
+def afternoon_call(
+    book: Bytes, id: int, store: Optional[Bytes] = None, log: Optional[Bytes] = None
+) -> GuaranteeCall:
     """Raises a shipper's blocked guarantee to the afternoon level."""
-    (level, added), after = _called(_library.daybook_afternoon_call, book, store, (_id(id),), 2)
-    return GuaranteeCall(level, added, after)
+    lent = _Log(log)
+    (level, added), after = _called(_library.daybook_afternoon_call, book, store, (*lent.arguments, _id(id)), 2)
+    return GuaranteeCall(level, added, after, lent.bytes)
 
 
 def warning(book: Bytes, id: int, store: Optional[Bytes] = None) -> bool:
@@ -437,10 +499,11 @@ def warning(book: Bytes, id: int, store: Optional[Bytes] = None) -> bool:
     return warned != 0
 
 
-def reduction(book: Bytes, id: int, store: Optional[Bytes] = None) -> Reduction:
+def reduction(book: Bytes, id: int, store: Optional[Bytes] = None, log: Optional[Bytes] = None) -> Reduction:
     """Cuts a shipper's bilateral sales of the day until the level is covered."""
-    numbers, after = _called(_library.daybook_reduction, book, store, (_id(id),), 5)
-    return Reduction(*numbers, after)
+    lent = _Log(log)
+    numbers, after = _called(_library.daybook_reduction, book, store, (*lent.arguments, _id(id)), 5)
+    return Reduction(*numbers, after, lent.bytes)
 
 
 def cancellation(book: Bytes, id: int, tries: int = 65_535, store: Optional[Bytes] = None) -> Cancellation:
@@ -453,10 +516,28 @@ def cancellation(book: Bytes, id: int, tries: int = 65_535, store: Optional[Byte
     return Cancellation(trades, excess, made, complete != 0)
 
 
-def run(book: Bytes, store: Optional[Bytes] = None) -> Run:
-    """Reduces the lowest id that is short of cover and has an eligible trade, while there is one."""
-    numbers, after = _called(_library.daybook_run, book, store, (), 3)
-    return Run(*numbers, after)
+def run(book: Bytes, store: Optional[Bytes] = None, log: Optional[Bytes] = None) -> Run:
+    """Reduces the lowest id that is short of cover and has an eligible trade, while there is one, or
+    until the log is full."""
+    part, lent, answer = _Part(book), _Log(log), (ctypes.c_uint64 * 3)()
+    number = _library.daybook_run(*part.arguments, *_store(store), *lent.arguments, answer, ctypes.c_size_t(3))
+    if number != _LOG_FULL:
+        _answered(number)
+    return Run(*answer, part.bytes, lent.bytes, number == _LOG_FULL)
+
+
+def start_log(book: Bytes) -> bytes:
+    """A log of reductions that holds this book and has no entry."""
+    log = _Part(bytes(_LOG_LENGTH))
+    _answered(_library.daybook_start_log(*log.arguments, *_Part(book).arguments))
+    return log.bytes
+
+
+def withdrawal(book: Bytes, log: Bytes, store: Optional[Bytes] = None) -> Withdrawal:
+    """Withdraws the last reduction that the log has noted."""
+    part = _Part(log)
+    (mwh, worth), after = _called(_library.daybook_withdrawal, book, store, part.arguments, 2)
+    return Withdrawal(mwh, worth, after, part.bytes)
 
 
 def most_reductions(book: Bytes) -> int:

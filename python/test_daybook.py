@@ -50,7 +50,7 @@ def calls(name: str, words: list[str], book: bytes, store: bytes | None = None) 
         return [str(of(book, id, store))], book
 
     def call(of: Callable[..., daybook.GuaranteeCall]) -> tuple[list[str], bytes]:
-        level, added, after = of(book, id, store)
+        level, added, after, _ = of(book, id, store)
         return [str(level), str(added)], after
 
     def posted() -> tuple[list[str], bytes]:
@@ -60,11 +60,11 @@ def calls(name: str, words: list[str], book: bytes, store: bytes | None = None) 
         return [daybook.show(book, id, store)._packed().hex()], book
 
     def reduced() -> tuple[list[str], bytes]:
-        *figures, after = daybook.reduction(book, id, store)
+        *figures, after, _ = daybook.reduction(book, id, store)
         return [str(figure) for figure in figures], after
 
     def run() -> tuple[list[str], bytes]:
-        *figures, after = daybook.run(book, store)
+        *figures, after, _, _ = daybook.run(book, store)
         return [str(figure) for figure in figures], after
 
     def warned() -> tuple[list[str], bytes]:
@@ -241,13 +241,14 @@ class Books(unittest.TestCase):
             daybook.show_picked(b"", self.book, False, 102)
         self.assertEqual(caught.exception.number, 1)
 
-    def test_stores(self) -> None:
-        def store(date: int, least: int) -> bytes:
-            return b"GPS\x01\x00\x01" + struct.pack("<IIQQ", date, 30_000, 1_000_000, least)
+    @staticmethod
+    def store(date: int, least: int) -> bytes:
+        return b"GPS\x01\x00\x01" + struct.pack("<IIQQ", date, 30_000, 1_000_000, least)
 
+    def test_stores(self) -> None:
         date = daybook.read(self.book).date
-        self.assertEqual(daybook.afternoon_level(self.book, 102, store(date, 12)), 12)
-        for given, number in [(store(20_991_231, 12), 17), (store(20_260_230, 12), 16), (b"", 16)]:
+        self.assertEqual(daybook.afternoon_level(self.book, 102, self.store(date, 12)), 12)
+        for given, number in [(self.store(20_991_231, 12), 17), (self.store(20_260_230, 12), 16), (b"", 16)]:
             with self.assertRaises(daybook.Refused) as caught:
                 daybook.afternoon_level(self.book, 102, given)
             self.assertEqual(caught.exception.number, number)
@@ -258,7 +259,7 @@ class Books(unittest.TestCase):
         self.assertEqual(posted.numbers, (0, 8, 10, 0))
         after = daybook.posting(self.book, 101, 0, 500).book
         self.assertEqual(posted.book, daybook.posting(after, 102, 2, -20).book)
-        self.assertEqual(daybook.posting_list(self.book, []), ((), self.book))
+        self.assertEqual(daybook.posting_list(self.book, []), ((), self.book, None))
         with self.assertRaises(daybook.Refused) as caught:
             daybook.posting_list(self.book, lines * 129)
         self.assertEqual(caught.exception.number, 15)
@@ -269,6 +270,46 @@ class Books(unittest.TestCase):
         for id, tries, number in [(102, 1, 11), (101, 0, 25), (101, 65_536, 25)]:
             with self.assertRaises(daybook.Refused) as caught:
                 daybook.cancellation(self.book, id, tries)
+            self.assertEqual(caught.exception.number, number)
+
+    def test_logs(self) -> None:
+        """From the start to the first bytes again, and what empties a log."""
+        log = daybook.start_log(self.book)
+        self.assertEqual(len(log), 271_668)
+        self.assertEqual(log[:12], struct.pack("<4sII", b"GDL", 0, len(self.book)))
+        cut = daybook.reduction(self.book, 101, log=log)
+        run = daybook.run(self.book, log=log)
+        self.assertEqual((run.book, run.log, run.log_full), (cut.book, cut.log, False))
+        for kind in (bytes, bytearray, memoryview):
+            back = daybook.withdrawal(run.book, kind(run.log))
+            self.assertEqual(back, (15_000, 30_000_000, self.book, log))
+        self.assertEqual(daybook.withdrawal(run.book, run.log, self.store(daybook.read(self.book).date, 12)), back)
+        self.assertIsNone(daybook.run(self.book).log)
+        posted = daybook.posting(run.book, 101, 0, 5, log=run.log)
+        listed = daybook.posting_list(run.book, [(101, 0, 5)], log=run.log)
+        self.assertEqual((posted.log, listed.log), (daybook.start_log(posted.book),) * 2)
+        called = daybook.afternoon_call(run.book, 101, log=run.log)
+        self.assertEqual(called.log, daybook.start_log(called.book))
+        called = daybook.morning_call(run.book, 101, log=run.log)
+        self.assertEqual(called.log, daybook.start_log(called.book))
+
+    def test_refused_logs(self) -> None:
+        cut = daybook.reduction(self.book, 101, log=daybook.start_log(self.book))
+        full = bytearray(daybook.start_log(self.book))
+        full[4:8] = struct.pack("<I", 256)
+        run = daybook.run(self.book, log=full)
+        self.assertEqual(run, (0, 0, 0, self.book, bytes(full), True))
+        for call, number in [
+            (lambda: daybook.withdrawal(self.book, daybook.start_log(self.book)), 18),
+            (lambda: daybook.withdrawal(self.book, b""), 19),
+            (lambda: daybook.withdrawal(self.book, cut.log), 19),
+            (lambda: daybook.run(cut.book, log=cut.log[:-1]), 19),
+            (lambda: daybook.posting(cut.book, 101, 0, 1, log=cut.log + b"\0"), 19),
+            (lambda: daybook.start_log(bytes(9_513)), 19),
+            (lambda: daybook.reduction(self.book, 101, log=full), 20),
+        ]:
+            with self.assertRaises(daybook.Refused) as caught:
+                call()
             self.assertEqual(caught.exception.number, number)
 
     def test_arguments_are_not_cut_off(self) -> None:

@@ -25,7 +25,7 @@ static const char *state_of(const uint8_t *book, size_t size, uint32_t id)
     uint64_t answer[DAYBOOK_CALL_NUMBERS];
 
     memcpy(copy, book, size);
-    switch (daybook_afternoon_call(copy, size, DAYBOOK_NO_STORE, id, answer, DAYBOOK_CALL_NUMBERS)) {
+    switch (daybook_afternoon_call(copy, size, DAYBOOK_NO_STORE, DAYBOOK_NO_LOG, id, answer, DAYBOOK_CALL_NUMBERS)) {
     case 9:
         return "clear";
     case 12:
@@ -44,7 +44,7 @@ int main(void)
     uint64_t run[DAYBOOK_RUN_NUMBERS], level[DAYBOOK_LEVEL_NUMBERS];
 
     size_t size = fread(book, 1, sizeof book, stdin);
-    uint32_t number = daybook_run(book, size, DAYBOOK_NO_STORE, run, DAYBOOK_RUN_NUMBERS);
+    uint32_t number = daybook_run(book, size, DAYBOOK_NO_STORE, DAYBOOK_NO_LOG, run, DAYBOOK_RUN_NUMBERS);
     if (number != 0) {
         printf("refused %" PRIu32 "\n", number);
         return 0;

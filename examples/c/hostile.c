@@ -1,5 +1,5 @@
-/* Calls every function of daybook.h on hostile input, but daybook_list (hostile_lists.c) and daybook_cancellation (hostile_cancellations.c): hostile BOOK. Each part is a block of exactly its length, so that valgrind sees a byte read or written outside it
-   (the script `valgrind` beside this file). What a caller can tell is held against the header: the numbers, the 0 of a refused answer, and what stays unchanged. */
+/* Calls every function of daybook.h on hostile input, but daybook_list (hostile_lists.c) and daybook_cancellation (hostile_cancellations.c), and without a log (hostile_logs.c):
+   hostile BOOK. Each part is a block of exactly its length, so that valgrind sees a byte read or written outside it (the script `valgrind` beside this file). What a caller can tell is held against the header: the numbers, the 0 of a refused answer, and what stays unchanged. */
 #include "hostile.h"
 
 enum { LONGEST = 8800 };
@@ -23,11 +23,26 @@ static uint32_t warning(uint8_t *book, size_t size, uint32_t with_store, const u
     return daybook_warning(book, size, with_store, store, store_size, id, answer, count);
 }
 
+static uint32_t morning_call(uint8_t *book, size_t size, uint32_t with_store, const uint8_t *store, size_t store_size, uint32_t id, uint64_t *answer, size_t count)
+{
+    return daybook_morning_call(book, size, with_store, store, store_size, DAYBOOK_NO_LOG, id, answer, count);
+}
+
+static uint32_t afternoon_call(uint8_t *book, size_t size, uint32_t with_store, const uint8_t *store, size_t store_size, uint32_t id, uint64_t *answer, size_t count)
+{
+    return daybook_afternoon_call(book, size, with_store, store, store_size, DAYBOOK_NO_LOG, id, answer, count);
+}
+
+static uint32_t reduction(uint8_t *book, size_t size, uint32_t with_store, const uint8_t *store, size_t store_size, uint32_t id, uint64_t *answer, size_t count)
+{
+    return daybook_reduction(book, size, with_store, store, store_size, DAYBOOK_NO_LOG, id, answer, count);
+}
+
 /* A run is of no user. */
 static uint32_t run(uint8_t *book, size_t size, uint32_t with_store, const uint8_t *store, size_t store_size, uint32_t id, uint64_t *answer, size_t count)
 {
     (void)id;
-    return daybook_run(book, size, with_store, store, store_size, answer, count);
+    return daybook_run(book, size, with_store, store, store_size, DAYBOOK_NO_LOG, answer, count);
 }
 
 static const struct {
@@ -39,9 +54,9 @@ static const struct {
     {"morning_level", morning_level, DAYBOOK_LEVEL_NUMBERS, 0},
     {"afternoon_level", afternoon_level, DAYBOOK_LEVEL_NUMBERS, 0},
     {"warning", warning, DAYBOOK_WARNING_NUMBERS, 0},
-    {"morning_call", daybook_morning_call, DAYBOOK_CALL_NUMBERS, 1},
-    {"afternoon_call", daybook_afternoon_call, DAYBOOK_CALL_NUMBERS, 1},
-    {"reduction", daybook_reduction, DAYBOOK_REDUCTION_NUMBERS, 1},
+    {"morning_call", morning_call, DAYBOOK_CALL_NUMBERS, 1},
+    {"afternoon_call", afternoon_call, DAYBOOK_CALL_NUMBERS, 1},
+    {"reduction", reduction, DAYBOOK_REDUCTION_NUMBERS, 1},
     {"run", run, DAYBOOK_RUN_NUMBERS, 1},
 };
 
@@ -82,7 +97,7 @@ static void post(const uint8_t *bytes, size_t size, uint32_t id, uint32_t area, 
 {
     uint8_t *book = copy_of(bytes, size);
     give_store();
-    uint32_t number = daybook_posting(book, size, GIVEN, id, area, amount);
+    uint32_t number = daybook_posting(book, size, GIVEN, DAYBOOK_NO_LOG, id, area, amount);
     take_store_back();
     calls++;
     expect(number <= 10 || number == 16 || number == 17, "posting", "no number of a question", number);

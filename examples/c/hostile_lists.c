@@ -29,7 +29,7 @@ static void expect_postings(const uint8_t *bytes, const uint8_t *left, size_t si
 {
     uint8_t *book = copy_of(bytes, size);
     for (size_t i = 0; i < lines; i++) {
-        uint32_t number = daybook_posting(book, size, GIVEN, ids[i], areas[i], amounts[i]);
+        uint32_t number = daybook_posting(book, size, GIVEN, DAYBOOK_NO_LOG, ids[i], areas[i], amounts[i]);
         calls++;
         expect(number == places[i], "list", "another number than the line's posting", places[i]);
     }
@@ -52,7 +52,7 @@ static void list(const uint8_t *bytes, size_t size, uint32_t id, const size_t co
         amounts[i] = drawn_amount();
     memset(places, FILLER, counts[PLACES] * sizeof *places);
     give_store();
-    uint32_t number = daybook_list(book, size, GIVEN, ids, counts[IDS], areas, counts[AREAS], amounts, counts[AMOUNTS], places, counts[PLACES]);
+    uint32_t number = daybook_list(book, size, GIVEN, DAYBOOK_NO_LOG, ids, counts[IDS], areas, counts[AREAS], amounts, counts[AMOUNTS], places, counts[PLACES]);
     calls++;
     expect(number <= 7 || (number >= 15 && number <= 17), "list", "no number of a question", number);
     int fits = counts[PLACES] <= DAYBOOK_MAX_LINES;

@@ -45,7 +45,7 @@ int main(int argc, char **argv)
         areas[i] = (uint32_t)number_of(argv[3 + 3 * i]);
         amounts[i] = (int64_t)number_of(argv[4 + 3 * i]);
     }
-    uint32_t number = daybook_list(book, length, DAYBOOK_NO_STORE, ids, lines, areas, lines, amounts, lines, places, lines);
+    uint32_t number = daybook_list(book, length, DAYBOOK_NO_STORE, DAYBOOK_NO_LOG, ids, lines, areas, lines, amounts, lines, places, lines);
     if (number != 0) {
         printf("refused, question %" PRIu32 "\n", number);
         return 1;

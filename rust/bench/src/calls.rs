@@ -177,7 +177,7 @@ fn posting(subject: &Subject, options: &Options) -> Times {
     both(
         subject,
         options,
-        |book| expect(archive::posting(book, None, id, 0, 1)),
+        |book| expect(archive::posting(book, None, None, id, 0, 1)),
         |book| accept(tuned::posting(book, id, 0, 1)),
     )
 }
@@ -206,6 +206,7 @@ fn list(subject: &Subject, options: &Options) -> Times {
         |book| {
             expect(archive::list(
                 book,
+                None,
                 None,
                 black_box(&ids),
                 &areas,
@@ -293,7 +294,7 @@ fn call(subject: &Subject, options: &Options) -> Times {
     both(
         subject,
         options,
-        |book| expect(archive::afternoon_call(book, None, id, &mut answer)),
+        |book| expect(archive::afternoon_call(book, None, None, id, &mut answer)),
         |book| accept(tuned::afternoon_call(book, id)),
     )
 }
@@ -304,7 +305,7 @@ fn reduction(subject: &Subject, options: &Options) -> Times {
     both(
         subject,
         options,
-        |book| expect(archive::reduction(book, None, id, &mut answer)),
+        |book| expect(archive::reduction(book, None, None, id, &mut answer)),
         |book| accept(tuned::reduction(book, id)),
     )
 }
@@ -325,7 +326,7 @@ fn refused_reduction(subject: &Subject, options: &Options) -> Times {
     both(
         &refused,
         options,
-        |book| assert_eq!(archive::reduction(book, None, id, &mut answer), 13),
+        |book| assert_eq!(archive::reduction(book, None, None, id, &mut answer), 13),
         |book| assert_eq!(tuned::reduction(book, id), Err(13)),
     )
 }
@@ -362,7 +363,7 @@ fn run(subject: &Subject, options: &Options) -> Times {
     both(
         subject,
         options,
-        |book| expect(archive::run(book, None, &mut answer)),
+        |book| expect(archive::run(book, None, None, &mut answer)),
         |book| accept(tuned::run(book)),
     )
 }

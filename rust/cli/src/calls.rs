@@ -149,7 +149,7 @@ pub fn guarantee_call(arguments: &Arguments) -> Result<Outcome, Failure> {
         false => Asked::AfternoonCall,
     };
     let id = arguments.id(1)?;
-    changing(arguments, id, asked, |request, book| {
+    changing(arguments, id, asked, |mut request, book| {
         let called = match morning {
             true => request.morning_call(book, id)?,
             false => request.afternoon_call(book, id)?,
@@ -185,7 +185,7 @@ pub fn post(arguments: &Arguments) -> Result<Outcome, Failure> {
         arguments,
         id,
         Asked::Posting { area, amount },
-        |request, book| {
+        |mut request, book| {
             request.posting(book, id, area, amount)?;
             let user = request.show(book, id)?;
             let place = usize::try_from(area).unwrap_or(0).min(2);
@@ -209,7 +209,7 @@ pub fn reduce(arguments: &Arguments) -> Result<Outcome, Failure> {
     let usage = "reduce BOOK ID [-o FILE|--in-place] [--store FILE] [--json]";
     arguments.expect(2, 2, usage)?;
     let id = arguments.id(1)?;
-    changing(arguments, id, Asked::Reduction, |request, book| {
+    changing(arguments, id, Asked::Reduction, |mut request, book| {
         let done = request.reduction(book, id)?;
         Ok((
             reduction_line(id, &done),
@@ -259,7 +259,7 @@ pub fn run(arguments: &Arguments) -> Result<Outcome, Failure> {
     let users = daybook::read(&bytes).map_or_else(|_| Vec::new(), |book| book.users);
     let states = users
         .iter()
-        .map(|user| state(call.store.request(), &bytes, user));
+        .map(|user| state(&call.store.request(), &bytes, user));
     let states: Vec<(User, State)> = users.iter().copied().zip(states).collect();
     match call.json {
         true => states

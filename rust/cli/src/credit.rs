@@ -88,7 +88,7 @@ pub struct Credited {
 }
 
 /// The credit in the afternoon level of a user; none in a book without credit.
-pub fn credited(request: Request, book: &Book, user: &User) -> Result<Option<Credited>, Refusal> {
+pub fn credited(request: &Request, book: &Book, user: &User) -> Result<Option<Credited>, Refusal> {
     if !has_credit(book) {
         return Ok(None);
     }

@@ -36,23 +36,23 @@ pub fn report(arguments: &Arguments) -> Result<Outcome, Failure> {
         most: arguments.number("--steps")?.unwrap_or(MOST),
     };
     let refused = |refusal| of_call(&source, &store, None, Asked::Plain, refusal);
-    let request = store.request();
+    let mut request = store.request();
     let book = daybook::read(&source.bytes).map_err(refused)?;
     let figures = figures(store.bytes.as_deref(), book.date);
-    let trace = trace(request, &figures, &source.bytes, extent).map_err(refused)?;
+    let trace = trace(request.without_log(), &figures, &source.bytes, extent).map_err(refused)?;
     let mut after = source.bytes.clone();
     request.run(&mut after).map_err(refused)?;
     let day = Day {
         name: &source.name,
-        before: states(request, &source.bytes, &trace.opening),
-        after: states(request, &after, &trace.closing),
+        before: states(&request, &source.bytes, &trace.opening),
+        after: states(&request, &after, &trace.closing),
         trace: &trace,
         figures,
     };
     output(arguments, day.page().as_bytes())
 }
 
-fn states(request: Request, bytes: &[u8], book: &Book) -> Vec<State> {
+fn states(request: &Request, bytes: &[u8], book: &Book) -> Vec<State> {
     let users = book.users.iter();
     users.map(|user| state(request, bytes, user)).collect()
 }

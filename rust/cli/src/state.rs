@@ -14,10 +14,11 @@ pub struct State {
 /// The state of a user of an accepted book. A reduction asks for a shipper that
 /// is short of cover, then for a sale; an afternoon call for one that is called
 /// in and covered.
-pub fn state(request: Request, book: &[u8], user: &User) -> State {
+pub fn state(request: &Request, book: &[u8], user: &User) -> State {
     let level = request.afternoon_level(book, user.id);
     let level = level.ok().map(|Level(cents)| cents);
     let mut copy = book.to_vec();
+    let mut request = request.without_log();
     let word = match request.reduction(&mut copy, user.id) {
         Err(Refusal::Shipper) => "clear",
         Ok(_) | Err(Refusal::EligibleTrade) => "short",

@@ -130,9 +130,9 @@ pub fn trace(
     extent: Extent,
 ) -> Result<Trace, Refusal> {
     let mut after = bytes.to_vec();
-    let run = request.run(&mut after)?;
+    let run = request.without_log().run(&mut after)?;
     let opening = daybook::read(bytes)?;
-    let mut walk = Walk::new(request, bytes, &opening);
+    let mut walk = Walk::new(request.without_log(), bytes, &opening);
     let mut counts: Vec<(u32, u64)> = opening.users.iter().map(|user| (user.id, 0)).collect();
     let mut steps: Ends<Raw> = Ends::new(extent.first, extent.last);
     let mut chapters: Ends<Span> = Ends::new(extent.chapters.0, extent.chapters.1);
@@ -178,7 +178,7 @@ pub fn trace(
         last.clear();
         closed.clear();
     }
-    let step = |raw: &Raw| raw.step(request, figures);
+    let step = |raw: &Raw| raw.step(&request, figures);
     let chapter = |span: &Span| span.chapter();
     Ok(Trace {
         closing: daybook::read(&after)?,
@@ -296,7 +296,7 @@ struct Raw {
 }
 
 impl Raw {
-    fn step(&self, request: Request, figures: &Figures) -> Result<Step, Refusal> {
+    fn step(&self, request: &Request, figures: &Figures) -> Result<Step, Refusal> {
         let (before, after) = (daybook::read(&self.before)?, daybook::read(&self.after)?);
         let user = request.show(&self.before, self.id)?;
         let Level(level) = request.afternoon_level(&self.before, self.id)?;

@@ -367,7 +367,7 @@ fn states_are_those_of_the_printed_day() {
             daybook::run(&mut book).expect("a run");
             let users = daybook::read(&book).expect("a book").users;
             for (line, user) in printed.lines().skip(1).zip(&users) {
-                let state = cli::state::state(daybook::Request::new(), &book, user);
+                let state = cli::state::state(&daybook::Request::new(), &book, user);
                 let [a, b, c] = user.position;
                 let level = state.level.unwrap_or(0);
                 let told = format!("{} {} {level} {a} {b} {c}", user.id, state.word);

@@ -110,7 +110,7 @@ fn every_refusal_of_a_call_has_its_reason() {
         };
         let arguments = generator.arguments(&book);
         let (id, area, amount) = (arguments.id, arguments.area, arguments.amount);
-        let request = store.request();
+        let mut request = store.request();
         let mut copy = book.clone();
         let (asked, refusal) = match round % 4 {
             0 => (

@@ -219,7 +219,7 @@ fn credits_are_what_the_engine_takes_off() {
             let Ok(Level(level)) = request.afternoon_level(&bytes, user.id) else {
                 continue;
             };
-            let credit = credited(request, &book, user).expect("a level");
+            let credit = credited(&request, &book, user).expect("a level");
             assert_eq!(credit.is_some(), book.version == 2);
             let without = credit.as_ref().map_or(level, |credit| credit.without);
             let cents = credit.map_or([0; 3], |credit| by_area(&credit.credits));

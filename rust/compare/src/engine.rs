@@ -12,16 +12,17 @@ const BEFORE: u8 = 0xA5;
 /// the call says.
 pub fn answer(book: &mut [u8], store: Option<&[u8]>, call: &Call) -> Answer {
     match call {
-        Call::Posting { id, area, amount } => {
-            Answer::of_fields(archive::posting(book, store, *id, *area, *amount), &[])
-        }
+        Call::Posting { id, area, amount } => Answer::of_fields(
+            archive::posting(book, store, None, *id, *area, *amount),
+            &[],
+        ),
         Call::List {
             ids,
             areas,
             amounts,
             places,
         } => Answer::of_places(*places, |places| {
-            archive::list(book, store, ids, areas, amounts, places)
+            archive::list(book, store, None, ids, areas, amounts, places)
         }),
         Call::Show { id } => record(|part| archive::show(book, store, *id, part)),
         Call::ShowPicked {
@@ -38,10 +39,10 @@ pub fn answer(book: &mut [u8], store: Option<&[u8]>, call: &Call) -> Answer {
             fields::<1>(|part| archive::afternoon_level(book, store, *id, part))
         }
         Call::MorningCall { id } => {
-            fields::<2>(|part| archive::morning_call(book, store, *id, part))
+            fields::<2>(|part| archive::morning_call(book, store, None, *id, part))
         }
         Call::AfternoonCall { id } => {
-            fields::<2>(|part| archive::afternoon_call(book, store, *id, part))
+            fields::<2>(|part| archive::afternoon_call(book, store, None, *id, part))
         }
         Call::Warning { id } => fields::<1>(|part| archive::warning(book, store, *id, part)),
         Call::Read => {
@@ -54,7 +55,9 @@ pub fn answer(book: &mut [u8], store: Option<&[u8]>, call: &Call) -> Answer {
             let number = archive::write(&image[..], &mut part);
             Answer::of_part(number, &part)
         }
-        Call::Reduction { id } => fields::<5>(|part| archive::reduction(book, store, *id, part)),
+        Call::Reduction { id } => {
+            fields::<5>(|part| archive::reduction(book, store, None, *id, part))
+        }
         Call::Cancellation { id, tries } => {
             let mut marks = [BEFORE; MOST_TRADES];
             let found = fields::<3>(|part| {
@@ -65,7 +68,7 @@ pub fn answer(book: &mut [u8], store: Option<&[u8]>, call: &Call) -> Answer {
                 ..found
             }
         }
-        Call::Run => fields::<3>(|part| archive::run(book, store, part)),
+        Call::Run => fields::<3>(|part| archive::run(book, store, None, part)),
         Call::Day => crate::day::printed(book, answer),
     }
 }

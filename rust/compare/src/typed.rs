@@ -25,7 +25,7 @@ pub fn has(call: &Call) -> bool {
 /// The answer to a call that `daybook` has, with this store, or none; the book is
 /// changed as the call says.
 pub fn answer(book: &mut [u8], store: Option<&[u8]>, call: &Call) -> Answer {
-    let request = match store {
+    let mut request = match store {
         Some(store) => Request::new().store(store),
         None => Request::new(),
     };
@@ -99,7 +99,7 @@ fn lines(ids: &[u32], areas: &[u32], amounts: &[i64]) -> Vec<Line> {
 
 /// The number of a list and those of its lines; a refused list says nothing of
 /// its lines.
-fn list(request: Request<'_>, book: &mut [u8], lines: &[Line]) -> Answer {
+fn list(mut request: Request<'_>, book: &mut [u8], lines: &[Line]) -> Answer {
     let answer = request.list(book, lines);
     Answer::of_places(lines.len(), |places| {
         for (place, line) in places.iter_mut().zip(answer.iter().flatten()) {

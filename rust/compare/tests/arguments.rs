@@ -240,14 +240,20 @@ fn wrong_answer(book: &mut [u8], length: usize) {
         assert_eq!(archive::warning(book, None, 1, part), WRONG_LENGTH);
     }
     if length != 2 {
-        assert_eq!(archive::morning_call(book, None, 1, part), WRONG_LENGTH);
-        assert_eq!(archive::afternoon_call(book, None, 1, part), WRONG_LENGTH);
+        assert_eq!(
+            archive::morning_call(book, None, None, 1, part),
+            WRONG_LENGTH
+        );
+        assert_eq!(
+            archive::afternoon_call(book, None, None, 1, part),
+            WRONG_LENGTH
+        );
     }
     if length != 5 {
-        assert_eq!(archive::reduction(book, None, 1, part), WRONG_LENGTH);
+        assert_eq!(archive::reduction(book, None, None, 1, part), WRONG_LENGTH);
     }
     if length != 3 {
-        assert_eq!(archive::run(book, None, part), WRONG_LENGTH);
+        assert_eq!(archive::run(book, None, None, part), WRONG_LENGTH);
     }
     assert_eq!(answer, vec![7; length]);
 }

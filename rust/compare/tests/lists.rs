@@ -61,8 +61,15 @@ fn wrong_counts_of_places() {
         for count in [0, 1, 3, 255, 511, 513, 8_736] {
             let mut book = before.clone();
             let mut places = vec![PLACE_BEFORE; count];
-            let number =
-                archive::list(&mut book, Some(&[]), &[1; 2], &[0; 2], &[1; 2], &mut places);
+            let number = archive::list(
+                &mut book,
+                Some(&[]),
+                None,
+                &[1; 2],
+                &[0; 2],
+                &[1; 2],
+                &mut places,
+            );
             assert_eq!(number, if refused == 0 { 15 } else { refused });
             assert_eq!(places, vec![PLACE_BEFORE; count]);
             assert_eq!(book, before);

@@ -1,4 +1,4 @@
-//! The calls of document 01 without a store, and the types of their answers.
+//! The calls of document 01 without store and log, and the types of their answers.
 
 use crate::archive;
 use crate::book::{Book, User, IMAGE_LENGTH};
@@ -32,7 +32,7 @@ pub struct Reduction {
     pub over: u64,
 }
 
-/// A finished run.
+/// An accepted run.
 #[derive(Clone, Copy, Debug, Default, PartialEq, Eq)]
 pub struct Run {
     /// The number of reductions.
@@ -41,6 +41,9 @@ pub struct Run {
     pub mwh: u64,
     /// Cents that the cuts are worth.
     pub worth: u64,
+    /// Whether the log was full while one more reduction was due: the run stopped
+    /// there, with its cuts and their entries kept. Never without a log.
+    pub log_full: bool,
 }
 
 /// The fields of a book in bytes.

@@ -1,12 +1,13 @@
 //! The calls of documents 01 and 02 on a day book, answered by the proved engine.
 //!
 //! A book is lent as its bytes. A call answers what the documents say, or the
-//! [`Refusal`] of the first question that failed; a refused call leaves the
-//! book byte for byte the same. No call asks anything of its caller: any bytes
+//! [`Refusal`] of the first question that failed; a refused call leaves book and
+//! log byte for byte the same. No call asks anything of its caller: any bytes
 //! and any arguments get an answer.
 //!
-//! The functions take no store of parameter sets (document 02, ask 4); a
-//! [`Request`] takes one, or none.
+//! The functions take neither a store of parameter sets (document 02, ask 4) nor
+//! a log of reductions (ask 6); a [`Request`] takes each of them, or none. With a
+//! [`Log`] the last reduction can be withdrawn.
 //!
 //! The engine is the archive `libexports.a`, made by `rt staticlib exports`
 //! from crates that are proved to meet the documents. This package turns its C
@@ -35,6 +36,7 @@ mod book;
 mod calls;
 mod cancellation;
 mod list;
+mod log;
 mod refusal;
 mod request;
 pub mod shrinkage;
@@ -49,5 +51,6 @@ pub use calls::{
 };
 pub use cancellation::{cancellation, Cancellation, MOST_TRIES};
 pub use list::{list, Line, MOST_LINES};
+pub use log::{Log, Withdrawal, LOG_LENGTH, MOST_ENTRIES};
 pub use refusal::Refusal;
 pub use request::Request;

@@ -24,13 +24,16 @@ pub enum Refusal {
     Lines = 15,
     StoreForm = 16,
     SetInForce = 17,
+    LogEmpty = 18,
+    LogForm = 19,
+    LogFull = 20,
     WorthOfTrades = 24,
     Tries = 25,
 }
 
 impl Refusal {
     /// Every refusal, in the order of the numbers.
-    pub const ALL: [Refusal; 19] = [
+    pub const ALL: [Refusal; 22] = [
         Refusal::Mark,
         Refusal::Version,
         Refusal::CountsAndLength,
@@ -48,6 +51,9 @@ impl Refusal {
         Refusal::Lines,
         Refusal::StoreForm,
         Refusal::SetInForce,
+        Refusal::LogEmpty,
+        Refusal::LogForm,
+        Refusal::LogFull,
         Refusal::WorthOfTrades,
         Refusal::Tries,
     ];
@@ -89,6 +95,9 @@ impl Refusal {
             Refusal::Lines => "at most 512 lines, columns and places of one count?",
             Refusal::StoreForm => "is the store well formed?",
             Refusal::SetInForce => "has the store a set in force on the book's date?",
+            Refusal::LogEmpty => "has the log an entry?",
+            Refusal::LogForm => "is the log one for the book?",
+            Refusal::LogFull => "has the log room for one more entry?",
             Refusal::WorthOfTrades => "are all eligible trades together worth the target?",
             Refusal::Tries => "1 to 65,535 tries?",
         }

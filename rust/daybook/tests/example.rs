@@ -104,6 +104,7 @@ fn the_printed_run() {
         reductions: 1,
         mwh: 15_000,
         worth: 30_000_000,
+        log_full: false,
     };
     assert_eq!(daybook::run(&mut run), Ok(done));
     assert_eq!(reduced, run);
@@ -210,7 +211,7 @@ fn the_length_of_a_list() {
     let many = vec![up; MOST_LINES + 1];
     assert_eq!(daybook::list(&mut book, &many), Err(Refusal::Lines));
     let late = store(20_260_319, 12);
-    let request = Request::new().store(&late);
+    let mut request = Request::new().store(&late);
     assert_eq!(request.list(&mut book, &many), Err(Refusal::Lines));
     assert_eq!(request.list(&mut book, &[up]), Err(Refusal::SetInForce));
     assert_eq!(book, opening);
@@ -321,12 +322,12 @@ fn refused_writes() {
 
 #[test]
 fn refusals_have_the_numbers_of_the_questions() {
-    for (refusal, number) in Refusal::ALL.into_iter().zip((1..=17).chain(24..=25)) {
+    for (refusal, number) in Refusal::ALL.into_iter().zip((1..=20).chain(24..=25)) {
         assert_eq!(refusal.number(), number);
         assert_eq!(Refusal::from_number(number), Some(refusal));
     }
     assert_eq!(Refusal::from_number(0), None);
-    assert_eq!(Refusal::from_number(18), None);
+    assert_eq!(Refusal::from_number(21), None);
     assert_eq!(
         Refusal::Shipper.to_string(),
         "refused by question 9: a shipper?"

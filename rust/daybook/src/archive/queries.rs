@@ -1,0 +1,179 @@
+//! The functions that leave a book as it is, and those that involve none.
+
+use super::{
+    daybook_afternoon_level, daybook_cancellation, daybook_morning_level, daybook_read,
+    daybook_show, daybook_show_picked, daybook_shrinkage_days, daybook_shrinkage_return,
+    daybook_warning, daybook_write, lent,
+};
+
+/// Reads a book into an image of 8,744 bytes.
+pub fn read(book: &[u8], image: &mut [u8]) -> u32 {
+    // SAFETY: each pointer comes with the length of its slice, both slices live through the call,
+    // and the image, lent by &mut, does not overlap the book.
+    unsafe { daybook_read(book.as_ptr(), book.len(), image.as_mut_ptr(), image.len()) }
+}
+
+/// Writes an image of 8,744 bytes, up to its counts, into a part.
+pub fn write(image: &[u8], part: &mut [u8]) -> u32 {
+    // SAFETY: each pointer comes with the length of its slice, both slices live through the call,
+    // and the part, lent by &mut, does not overlap the image.
+    unsafe { daybook_write(image.as_ptr(), image.len(), part.as_mut_ptr(), part.len()) }
+}
+
+/// Copies a user's record into 56 bytes.
+pub fn show(book: &[u8], store: Option<&[u8]>, id: u32, record: &mut [u8]) -> u32 {
+    let (with_store, store, store_len) = lent(store);
+    // SAFETY: each pointer comes with the length of its slice, the slices live through the call,
+    // and the record, lent by &mut, overlaps neither book nor store.
+    unsafe {
+        daybook_show(
+            book.as_ptr(),
+            book.len(),
+            with_store,
+            store,
+            store_len,
+            id,
+            record.as_mut_ptr(),
+            record.len(),
+        )
+    }
+}
+
+/// Copies a user's record of the picked book into 56 bytes: the morning's
+/// where `afternoon_picked` is 0, else the afternoon's.
+pub fn show_picked(
+    morning: &[u8],
+    afternoon: &[u8],
+    store: Option<&[u8]>,
+    afternoon_picked: u32,
+    id: u32,
+    record: &mut [u8],
+) -> u32 {
+    let (with_store, store, store_len) = lent(store);
+    // SAFETY: each pointer comes with the length of its slice, the slices live through the call,
+    // and the record, lent by &mut, overlaps no other. Books and store are only read.
+    unsafe {
+        daybook_show_picked(
+            morning.as_ptr(),
+            morning.len(),
+            afternoon.as_ptr(),
+            afternoon.len(),
+            with_store,
+            store,
+            store_len,
+            afternoon_picked,
+            id,
+            record.as_mut_ptr(),
+            record.len(),
+        )
+    }
+}
+
+/// The morning level, as the one part of the answer.
+pub fn morning_level(book: &[u8], store: Option<&[u8]>, id: u32, answer: &mut [u64]) -> u32 {
+    let (with_store, store, store_len) = lent(store);
+    // SAFETY: each pointer comes with the length of its slice in elements, the slices live through
+    // the call, and the answer, lent by &mut, overlaps neither book nor store.
+    unsafe {
+        daybook_morning_level(
+            book.as_ptr(),
+            book.len(),
+            with_store,
+            store,
+            store_len,
+            id,
+            answer.as_mut_ptr(),
+            answer.len(),
+        )
+    }
+}
+
+/// The afternoon level, as the one part of the answer.
+pub fn afternoon_level(book: &[u8], store: Option<&[u8]>, id: u32, answer: &mut [u64]) -> u32 {
+    let (with_store, store, store_len) = lent(store);
+    // SAFETY: each pointer comes with the length of its slice in elements, the slices live through
+    // the call, and the answer, lent by &mut, overlaps neither book nor store.
+    unsafe {
+        daybook_afternoon_level(
+            book.as_ptr(),
+            book.len(),
+            with_store,
+            store,
+            store_len,
+            id,
+            answer.as_mut_ptr(),
+            answer.len(),
+        )
+    }
+}
+
+/// The midday warning; the answer is 1 for warned, else 0.
+pub fn warning(book: &[u8], store: Option<&[u8]>, id: u32, answer: &mut [u64]) -> u32 {
+    let (with_store, store, store_len) = lent(store);
+    // SAFETY: each pointer comes with the length of its slice in elements, the slices live through
+    // the call, and the answer, lent by &mut, overlaps neither book nor store.
+    unsafe {
+        daybook_warning(
+            book.as_ptr(),
+            book.len(),
+            with_store,
+            store,
+            store_len,
+            id,
+            answer.as_mut_ptr(),
+            answer.len(),
+        )
+    }
+}
+
+/// The whole cancellation: a mark for each of 256 trade places, 1 or 0; the answer
+/// is the excess, the tries made, and 1 for complete, else 0.
+pub fn cancellation(
+    book: &[u8],
+    store: Option<&[u8]>,
+    id: u32,
+    tries: u32,
+    marks: &mut [u8],
+    answer: &mut [u64],
+) -> u32 {
+    let (with_store, store, store_len) = lent(store);
+    // SAFETY: each pointer comes with the length of its slice in elements, the slices live through
+    // the call, and marks and answer, lent by &mut, overlap nothing. Book and store are only read.
+    unsafe {
+        daybook_cancellation(
+            book.as_ptr(),
+            book.len(),
+            with_store,
+            store,
+            store_len,
+            id,
+            tries,
+            marks.as_mut_ptr(),
+            marks.len(),
+            answer.as_mut_ptr(),
+            answer.len(),
+        )
+    }
+}
+
+/// The return of shrinkage for balances; the answer is H, the odd kWh, the
+/// rest, then the shares and the remainders of 64 users. Answers 0, 27 or 28.
+pub fn shrinkage_return(balances: &[i64], answer: &mut [u64]) -> u32 {
+    // SAFETY: each pointer comes with the length of its slice in elements, both slices live through
+    // the call, and the answer, lent by &mut, does not overlap the balances.
+    unsafe {
+        daybook_shrinkage_return(
+            balances.as_ptr(),
+            balances.len(),
+            answer.as_mut_ptr(),
+            answer.len(),
+        )
+    }
+}
+
+/// A share over 30 days, as the 30 parts of the answer. Answers 0.
+pub fn shrinkage_days(share: u64, answer: &mut [u64]) -> u32 {
+    // SAFETY: the pointer comes with the length of its slice in elements, which is lent by &mut and
+    // lives through the call.
+    unsafe { daybook_shrinkage_days(share, answer.as_mut_ptr(), answer.len()) }
+}
