@@ -107,7 +107,7 @@ class Vectors(unittest.TestCase):
                 got, book = calls(name, words, book)
                 self.assertEqual((got, sha(book)), (answer, after))
             count += 1
-        self.assertGreaterEqual(count, 1974)
+        self.assertGreaterEqual(count, 1971)
 
     def test_calls_with_stores(self) -> None:
         self.assertGreaterEqual(self.calls_of("version-1"), 2906)
