@@ -201,7 +201,7 @@ class Books(unittest.TestCase):
 
     def test_books_of_version_2(self) -> None:
         """The credit of 102, long by 30,000 MWh in PVB, which its morning level has not; the fields
-        of both versions there and back, version 1 without the selling tariffs."""
+        of versions 1 and 2 there and back, version 1 without the selling tariffs."""
         fields = daybook.read(self.book)
         first, second = fields.users
         owing = replace(second, charges=80_000_000)
