@@ -5,7 +5,8 @@
 
 use books::{Damage, Generator, Kind};
 use cli::faults::faults;
-use cli::fields::{header_length, Field, Place};
+use cli::fields::{Field, Place};
+use daybook::{header_length, user_length};
 
 /// The engine's number.
 fn number(book: &[u8]) -> u32 {
@@ -165,11 +166,12 @@ fn fields(damage: Damage) -> Vec<Field> {
 /// The record of the first byte that differs; none where the lengths do.
 fn changed_record(before: &[u8], after: &[u8], users: usize) -> Option<Place> {
     let place = before.iter().zip(after).position(|(a, b)| a != b)?;
-    let header = header_length(u16::from_le_bytes([before[3], before[4]]));
-    let trades = header + 56 * users;
+    let version = u16::from_le_bytes([before[3], before[4]]);
+    let (header, user) = (header_length(version), user_length(version));
+    let trades = header + user * users;
     Some(match place {
         _ if place < header => Place::Header,
-        _ if place < trades => Place::User((place - header) / 56),
+        _ if place < trades => Place::User((place - header) / user),
         _ => Place::Trade((place - trades) / 20),
     })
 }

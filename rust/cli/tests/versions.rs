@@ -50,11 +50,11 @@ fn the_selling_tariffs_of_a_text() {
     for (text, reason) in [
         (
             ONE.replace("I 0.50", "I 0.50 S 18.00"),
-            ":3:45: S: version 1 has no place for selling tariffs; version 2 has S and U",
+            ":3:45: S: version 1 has no place for selling tariffs; versions 2 and 3 have S and U",
         ),
         (
             ONE.replace("P 20.00", "U 0.00 P 20.00"),
-            ":3:8: U: version 1 has no place for selling tariffs; version 2 has S and U",
+            ":3:8: U: version 1 has no place for selling tariffs; versions 2 and 3 have S and U",
         ),
         (TWO.replace(" S 18.00", ""), ":3:52: S is missing"),
         (TWO.replace(" U 19.00", ""), ":3:52: U is missing"),
@@ -77,7 +77,7 @@ fn the_selling_tariffs_of_a_text() {
     // A version that the engine does not know is refused by it, with S and U or without.
     for start in [ONE, TWO] {
         let draft = read(&(format!("daybook 7{}", &start[9..]) + USER)).expect("a text");
-        let known = ":1:1: header: version 7, the engine knows versions 1 and 2";
+        let known = ":1:1: header: version 7, the engine knows versions 1, 2 and 3";
         assert_eq!(refused(draft), (2, known.to_string()));
     }
 }
@@ -100,11 +100,11 @@ fn the_selling_tariffs_of_csv_files() {
     for (header, reason) in [
         (
             format!("{start},S,U\n1,{row},18,19\n"),
-            "/header.csv:2:28: S: version 1 has no place for selling tariffs; version 2 has S and U",
+            "/header.csv:2:28: S: version 1 has no place for selling tariffs; versions 2 and 3 have S and U",
         ),
         (
             format!("{start},S,U\n1,{row},,0\n"),
-            "/header.csv:2:29: U: version 1 has no place for selling tariffs; version 2 has S and U",
+            "/header.csv:2:29: U: version 1 has no place for selling tariffs; versions 2 and 3 have S and U",
         ),
         (
             format!("{start}\n2,{row}\n"),
@@ -126,7 +126,7 @@ fn the_selling_tariffs_of_csv_files() {
         format!("{start},S\n7,{row},18\n"),
     ] {
         let draft = read(&header).expect("files");
-        let known = "/header.csv:2:1: header: version 7, the engine knows versions 1 and 2";
+        let known = "/header.csv:2:1: header: version 7, the engine knows versions 1, 2 and 3";
         assert_eq!(refused(draft), (2, known.to_string()));
     }
     let header = |bytes: &[u8]| csv::write(&daybook::read(bytes).expect("a book"))[0].clone();
@@ -162,12 +162,12 @@ fn faults_by_version() {
             "1 header: 31 bytes, a header has at least 32",
         ),
         (
-            with(&two, 3, &[3]),
-            "2 header: version 3, the engine knows versions 1 and 2",
+            with(&two, 3, &[4]),
+            "2 header: version 4, the engine knows versions 1, 2 and 3",
         ),
         (
             with(&two, 3, &[0]),
-            "2 header: version 0, the engine knows versions 1 and 2",
+            "2 header: version 0, the engine knows versions 1, 2 and 3",
         ),
         (
             two[..39].to_vec(),
@@ -220,7 +220,7 @@ fn credits_are_what_the_engine_takes_off() {
                 continue;
             };
             let credit = credited(&request, &book, user).expect("a level");
-            assert_eq!(credit.is_some(), book.version == 2);
+            assert_eq!(credit.is_some(), book.version > 1);
             let without = credit.as_ref().map_or(level, |credit| credit.without);
             let cents = credit.map_or([0; 3], |credit| by_area(&credit.credits));
             let cents: u64 = cents.into_iter().sum();
@@ -320,7 +320,7 @@ fn no_credit_and_the_floor() {
 #[test]
 fn an_unknown_version_is_question_2() {
     let bytes = fs::read(sample("credit.gdb")).expect("a sample");
-    for version in [0_u16, 3, 0xFFFF] {
+    for version in [0_u16, 4, 0xFFFF] {
         let mut changed = bytes.clone();
         changed[3..5].copy_from_slice(&version.to_le_bytes());
         assert_eq!(daybook::read(&changed), Err(Refusal::Version));
