@@ -269,7 +269,10 @@ fn called_in_words(step: &Step, figures: &Figures, least: u64) -> String {
         let members: Vec<String> = called_in.members.iter().map(u32::to_string).collect();
         let through = match members.is_empty() {
             true => String::new(),
-            false => format!(", through its member {}", members.join(", ")),
+            false => {
+                let ending = if members.len() == 1 { "" } else { "s" };
+                format!(", through its member{ending} {}", members.join(", "))
+            }
         };
         reasons.push(format!("party to a trade standing below notified{through}"));
     }
