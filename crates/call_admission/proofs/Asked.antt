@@ -12,7 +12,7 @@ use Rattle.store.specs.Asked.{ByStore}
 use Rattle.store.specs.Store.{storeNumber}
 use Rattle.requests.proofs.Opened.{opening-number}
 use Rattle.requests.specs.Carried.{Admitted}
-use Rattle.requests.specs.Request.{limitsOn, openingNumber, settingOf}
+use Rattle.requests.specs.Request.{limitsOn, settingOf}
 
 module _ (s : List ℕ) (store : Option (List ℕ)) {asked : ℕ} {limits : Limits} (e : asked ≡ bookNumber s) where
   -- a question of the book refuses: whatever the figures

@@ -69,6 +69,11 @@ module _ {s : List ℕ} {id place : ℕ} (f : Found s id place) where
 
 -- ---- a struct that is the user at the place
 
+-- the user of the id is the one at the place
+pub found-at : {s : List ℕ} {id place : ℕ} → Found s id place → getD (usersOf s) place nobody ≡ find (bookOf s .users) id
+unfolding bookOf
+found-at {s} {id} f = ap (λ (i : ℕ). getD (usersOf s) i nobody) (f .stands) ∙ sym (find-place (usersOf s) id)
+
 module _ {s : List ℕ} {id place : ℕ} (u : code.User) (f : Found s id place) (h : asUser u ≡ getD (usersOf s) place nobody) where
   -- it is the user of the id
   pub read-user : asUser u ≡ find (bookOf s .users) id

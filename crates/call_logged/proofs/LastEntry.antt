@@ -10,7 +10,7 @@ use lib.Seq.{take-take}
 use borrow.Author.Tests.{lt-ltb}
 use Rattle.base.proofs.Linear.{by-order}
 use Rattle.book_format.specs.After.{after}
-use Rattle.book_format.specs.Book.{bookOf, bytesOf, tradeCount, tradesOf}
+use Rattle.book_format.specs.Book.{bookOf, tradeCount, tradesOf}
 use Rattle.book_format.specs.Held.{HeldAs}
 use Rattle.cut_worth.specs.Tallies.{asTally}
 use Rattle.cut_worth.specs.declared.Tally.{Tally}
@@ -25,21 +25,19 @@ use Rattle.log_format.proofs.Raises.{raises-first}
 use Rattle.log_format.proofs.Read.{fits-facts, length-all-cuts, length-entries-in}
 use Rattle.log_format.specs.Fits.{allCuts, logFits, raisesWithin}
 use Rattle.log_format.specs.Log.{cutsAt, entriesIn, entriesOf, entryAt, entryCount, entrySize, logBytes}
-use Rattle.log_format.specs.Noted.{Entered, beforeLast, hasEntry, lastEntry, withdrawalEntered}
+use Rattle.log_format.specs.Noted.{beforeLast, hasEntry, lastEntry, withdrawalEntered}
 use Rattle.log_format.specs.Withdrawal.{returned, withdrawn, withdrawnTally}
 use Rattle.log_questions.specs.Form.{cutsFrom}
-use Rattle.requests.specs.Logged.{withdrawalAfter}
+use Rattle.requests.specs.Logged.{GivesLogged, withdrawalAfter}
 use Rattle.requests.specs.Request.{Outcome, enteredIn, refusedWith}
 use Rattle.rules.specs.Areas.{Prices}
-use Rattle.rules.specs.Book.{Book}
 use Rattle.rules.specs.Calls.{Answer, ofRun, only}
 use Rattle.rules.specs.Questions.{decided, refusal}
 use Rattle.rules.specs.Reduction.{nothing, tallyAll}
-use Rattle.call_logged.specs.Given.{Gives}
 
 -- ---- refused
 
-pub withdrawal-refused : (s l : List ℕ) (n : ℕ) → (n ≡ 0 → ⊥) → {a : Answer} → a ≡ only n → Gives (withdrawalAfter n l s) a s l
+pub withdrawal-refused : (s l : List ℕ) (n : ℕ) → (n ≡ 0 → ⊥) → {a : Answer} → a ≡ only n → GivesLogged (withdrawalAfter n l s) a s l
 unfolding withdrawalAfter after refusedWith
 withdrawal-refused s l zero h e = absurd (h refl)
 withdrawal-refused s l (suc n) h e = record { answer = e; bytes = refl; log = refl }
@@ -53,17 +51,17 @@ empty-refused : (s l : List ℕ) {n : ℕ} → n ≡ 0 → entryCount l ≡ 0 �
 unfolding withdrawalAfter after hasEntry refusal decided
 empty-refused s l z e = rw (z, no-entries s l e)
 
-pub withdrawal-none : (s l : List ℕ) {n : ℕ} → n ≡ 0 → entryCount l ≡ 0 → {a : Answer} → a ≡ only 18 → Gives (withdrawalAfter n l s) a s l
+pub withdrawal-none : (s l : List ℕ) {n : ℕ} → n ≡ 0 → entryCount l ≡ 0 → {a : Answer} → a ≡ only 18 → GivesLogged (withdrawalAfter n l s) a s l
 unfolding refusedWith
-withdrawal-none s l {n} z e {a} f = subst (λ (o : Outcome). Gives o a s l) (sym (empty-refused s l z e)) (record { answer = f; bytes = refl; log = refl })
+withdrawal-none s l {n} z e {a} f = subst (λ (o : Outcome). GivesLogged o a s l) (sym (empty-refused s l z e)) (record { answer = f; bytes = refl; log = refl })
 
 -- some number above 0
 pub some-left : {n : ℕ} → (n ≡ 0 → ⊥) → 1 ≤ n
 some-left {n} h = by-order n 1 (λ l. absurd (h (omega arith))) (λ l. l)
 
 -- the opening questions are passed
-pub by-number : (s l : List ℕ) {n : ℕ} {t m : List ℕ} {a : Answer} → n ≡ 0 → Gives (withdrawalAfter 0 l s) a t m → Gives (withdrawalAfter n l s) a t m
-by-number s l {t = t} {m = m} {a = a} z g = subst (λ (k : ℕ). Gives (withdrawalAfter k l s) a t m) (sym z) g
+pub by-number : (s l : List ℕ) {n : ℕ} {t m : List ℕ} {a : Answer} → n ≡ 0 → GivesLogged (withdrawalAfter 0 l s) a t m → GivesLogged (withdrawalAfter n l s) a t m
+by-number s l {t = t} {m = m} {a = a} z g = subst (λ (k : ℕ). GivesLogged (withdrawalAfter k l s) a t m) (sym z) g
 
 -- ---- the last entry
 
@@ -124,7 +122,7 @@ module _ (l s : List ℕ) (b : AllBytes l) (few : tradeCount s ≤ 256) (h : T (
       → asTally y ≡ tallyAll f (cutsFrom m 0 (take ((from + 1024) - from) (drop from l))) (bookOf s .trades) nothing
       → HeldAs (withdrawn (bookOf s) (cutsFrom m 0 (take ((from + 1024) - from) (drop from l)))) t
       → l' ≡ cleared (entryAt place) entrySize l → n ≡ sealed place t l' → {a : Answer} → a ≡ ofRun 0 (y .mwh .0) (y .worth .0)
-      → Gives (withdrawalAfter 0 l s) a t n
+      → GivesLogged (withdrawalAfter 0 l s) a t n
   unfolding enteredIn returned withdrawnTally
   withdrawal-gives fr k {f} p {t} {l'} {n} {y} ty hd c sl {a} an =
       let same = part-cuts fr k in

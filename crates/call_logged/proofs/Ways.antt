@@ -1,37 +1,35 @@
 -- The ways out of the calls with a log: refused by an opening question, or carried out and noted. Assumes nothing.
 use mathlib.Core.Bool.{Bool, true, false, cond}
-use mathlib.Core.List.{List, []}
+use mathlib.Core.List.{List}
 use mathlib.Core.Option.{Option, none, some}
 use mathlib.Core.Path.{_≡_, refl, sym, ap, subst, _∙_}
 use Prim.Native.Nat.{ℕ, zero, suc, _-_, _≤_}
 use lib.Dec.{T}
-use lib.ListN.{length}
-use Rattle.base.proofs.Tests.{by-case}
 use Rattle.fields.specs.Field.{AllBytes}
 use Rattle.book_format.specs.After.{after}
-use Rattle.book_format.specs.Book.{bookOf, bytesOf, tradeCount}
+use Rattle.book_format.specs.Book.{bookOf, tradeCount}
 use Rattle.call_run.specs.Call.{runCall}
 use Rattle.cut_worth.specs.Totals.{totals}
 use Rattle.cut_worth.specs.declared.Totals.{Totals}
 use Rattle.log_format.specs.Fits.{logFits}
 use Rattle.log_format.specs.Log.{entriesOf, entryCount, logBytes}
-use Rattle.log_format.specs.Noted.{Entered, callEntered, lastly, noted, room, runWithin, stopped}
+use Rattle.log_format.specs.Noted.{callEntered, lastly, noted, room, runWithin, stopped}
 use Rattle.log_entries.proofs.Entries.{log-sealed}
 use Rattle.log_entries.proofs.Fitting.{fitting-count, fitting-trades}
 use Rattle.log_entries.specs.Entries.{sealed}
-use Rattle.requests.specs.Logged.{loggedAfter}
+use Rattle.requests.specs.Logged.{GivesLogged, loggedAfter}
 use Rattle.requests.specs.Request.{Outcome, enteredIn, refusedWith}
-use Rattle.rules.specs.Book.{Book, User}
+use Rattle.rules.specs.Book.{User}
 use Rattle.rules.specs.Calls.{Answer, Call, about, nextReduced, ofRun, only, runFor}
 use Rattle.rules.specs.Levels.{Limits}
 use Rattle.rules.specs.Questions.{decided, refusal}
 use Rattle.run_noted.specs.Noted.{NotedIn}
-use Rattle.call_logged.specs.Given.{Gives, numbered}
+use Rattle.call_logged.specs.Given.{numbered}
 
 -- ---- refused
 
 module _ (limits : Limits) (s l : List ℕ) (c : Call) where
-  pub logged-refused : (n : ℕ) → (n ≡ 0 → ⊥) → {a : Answer} → a ≡ only n → Gives (loggedAfter n limits l s c) a s l
+  pub logged-refused : (n : ℕ) → (n ≡ 0 → ⊥) → {a : Answer} → a ≡ only n → GivesLogged (loggedAfter n limits l s c) a s l
   unfolding loggedAfter after refusedWith
   logged-refused zero h e = absurd (h refl)
   logged-refused (suc n) h e = record { answer = e; bytes = refl; log = refl }
@@ -51,7 +49,7 @@ module _ (limits : Limits) (s l : List ℕ) (b : AllBytes l) (few : tradeCount s
 
   pub run-logged : {n count : ℕ} → n ≡ 0 → count ≡ entryCount l → {l' m t : List ℕ} {r : Totals} {many : ℕ} {due : Bool}
       → NotedIn limits (bookOf s) count l l' t r many due → m ≡ sealed many t l' → {a : Answer} → a ≡ numbered (cond due 20 0) (totals r)
-      → Gives (loggedAfter n limits l s runCall) a t m
+      → GivesLogged (loggedAfter n limits l s runCall) a t m
   unfolding enteredIn callEntered runWithin room
   run-logged h e {l'} {m} {t} {r} {many} {due} p₀ k {a} f =
       let p = subst (λ (i : ℕ). NotedIn limits (bookOf s) i l l' t r many due) e p₀ in

@@ -1,12 +1,9 @@
--- A call with a log after its opening questions: what it is given, and what it gives. Assumes nothing.
-use mathlib.Core.Bool.{true}
+-- A call with a log after its opening questions: what it is given, and its answer with another number. Assumes nothing.
 use mathlib.Core.List.{List}
-use mathlib.Core.Option.{some}
 use mathlib.Core.Path.{_≡_}
 use Prim.Native.Nat.{ℕ}
 use lib.Dec.{T}
 use Rattle.rules.specs.Calls.{Answer}
-use Rattle.requests.specs.Request.{Outcome}
 use Rattle.book_format.specs.Questions.{bookNumber}
 use Rattle.log_format.specs.Fits.{logFits}
 
@@ -14,12 +11,6 @@ use Rattle.log_format.specs.Fits.{logFits}
 pub record Opened (number : ℕ) (s l : List ℕ) : Type 0 where
   pub book : number ≡ 0 → bookNumber s ≡ 0
   pub log : number ≡ 0 → T (logFits l s)
-
--- an answer, the bytes of the book and the log afterwards are those of an outcome
-pub record Gives (o : Outcome) (a : Answer) (t m : List ℕ) : Type 0 where
-  pub answer : a ≡ o .answer
-  pub bytes : t ≡ o .bytes
-  pub log : some m ≡ o .log
 
 -- an answer with another number
 unfoldable pub numbered : ℕ → Answer → Answer

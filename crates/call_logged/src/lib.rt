@@ -11,6 +11,7 @@ ghost use mathlib.Core.Bool.{cond};
 ghost use mathlib.Core.Path.{_≡_};
 ghost use Prim.Native.Nat.{suc};
 ghost use lib.Dec.{T};
+ghost use lib.ListN.{length};
 ghost use Rattle.book_parties.specs.Ids.{BookIn};
 ghost use Rattle.book_questions.specs.Asked.{PartiesFound};
 ghost use Rattle.log_format.specs.Fits.{logFits};
@@ -19,9 +20,9 @@ ghost use Rattle.call_answers.specs.Run.{answerOf};
 ghost use Rattle.call_run.specs.Call.{runCall};
 ghost use Rattle.cut_worth.specs.Totals.{totals};
 ghost use Rattle.rules.specs.Calls.{ofRun, only};
-ghost use Rattle.requests.specs.Logged.{loggedAfter, withdrawalAfter};
+ghost use Rattle.requests.specs.Logged.{GivesLogged, loggedAfter, withdrawalAfter};
 ghost use Rattle.units.specs.Limits.{asLimits, LimitsInRange};
-ghost use Rattle.call_logged.specs.Given.{Gives, Opened, numbered};
+ghost use Rattle.call_logged.specs.Given.{Opened, numbered};
 ghost use Rattle.call_logged.specs.Withdrawal.{withdrawalOf};
 
 // ---- a run
@@ -55,14 +56,15 @@ pub fn run(
     number: u32,
     limits: Limits,
     sellers: &[u8; 256],
-    parties: &[u8; 256],
-    sums: &[u32; 768],
+    buyers: &[u8; 256],
+    sums: &mut [u32; 768],
     log: &mut [u8],
 ) -> RunAnswer
     requires { ⌜ Opened number (now book) (now log) ⌝ }
     requires { ⌜ LimitsInRange (asLimits limits) ⌝ }
-    requires { ⌜ PartiesFound (now book) number (now sellers) (now parties) (now sums) ⌝ }
-    ensures { λ r. ⌜ Gives (loggedAfter number (asLimits limits) (now (log .entry)) (now (book .entry)) runCall) (answerOf r) (now (book .exit)) (now (log .exit)) ⌝ }
+    requires { ⌜ (length (now sellers) ≡ 256) × (length (now buyers) ≡ 256) ⌝ }
+    requires { ⌜ PartiesFound (now book) number (now sellers) (now buyers) (now sums) ⌝ }
+    ensures { λ r. ⌜ GivesLogged (loggedAfter number (asLimits limits) (now (log .entry)) (now (book .entry)) runCall) (answerOf r) (now (book .exit)) (now (log .exit)) ⌝ }
 {
     if number != 0 {
         return RunAnswer::refused(number);
@@ -72,7 +74,27 @@ pub fn run(
         prices: book_header::read_prices(book),
     };
     let count = fields::get_u32(log, 4) as usize;
-    let noted = run_noted::run_book(book, sellers, parties, sums, day, log, count);
+    let mut bearing_sellers = [0u8; 256];
+    let mut bearing_buyers = [0u8; 256];
+    call_parties::bear(
+        book,
+        sellers,
+        buyers,
+        &mut bearing_sellers,
+        &mut bearing_buyers,
+        sums,
+    );
+    let noted = run_noted::run_book(
+        book,
+        sellers,
+        buyers,
+        &bearing_sellers,
+        &bearing_buyers,
+        sums,
+        day,
+        log,
+        count,
+    );
     let many = noted.count as u32;
     log_entries::seal(log, book, many);
     let totals = noted.totals;
@@ -121,7 +143,7 @@ fn withdraw_last(
     place: usize,
 ) -> WithdrawalAnswer
     requires { ⌜ BookIn (now book) (now sellers) (now parties) × T (logFits (now log) (now book)) × (entryCount (now log) ≡ suc place) ⌝ }
-    ensures { λ r. ⌜ Gives (withdrawalAfter 0 (now (log .entry)) (now (book .entry))) (withdrawalOf r) (now (book .exit)) (now (log .exit)) ⌝ }
+    ensures { λ r. ⌜ GivesLogged (withdrawalAfter 0 (now (log .entry)) (now (book .entry))) (withdrawalOf r) (now (book .exit)) (now (log .exit)) ⌝ }
 {
     let n = book_format::user_count(book) as usize;
     let m = book_format::trade_count(book) as usize;
@@ -147,7 +169,7 @@ pub fn withdrawal(
 ) -> WithdrawalAnswer
     requires { ⌜ Opened number (now book) (now log) ⌝ }
     requires { ⌜ PartiesFound (now book) number (now sellers) (now parties) (now sums) ⌝ }
-    ensures { λ r. ⌜ Gives (withdrawalAfter number (now (log .entry)) (now (book .entry))) (withdrawalOf r) (now (book .exit)) (now (log .exit)) ⌝ }
+    ensures { λ r. ⌜ GivesLogged (withdrawalAfter number (now (log .entry)) (now (book .entry))) (withdrawalOf r) (now (book .exit)) (now (log .exit)) ⌝ }
 {
     if number != 0 {
         return not_withdrawn(number);

@@ -2,42 +2,29 @@
 use mathlib.Core.Bool.{Bool, true, false}
 use mathlib.Core.List.{List, [], _∷_, _++_, append-nil}
 use mathlib.Core.Option.{Option, none, some}
-use mathlib.Core.Path.{_≡_, refl, sym, ap, ap₂, subst, _∙_}
-use Prim.Native.Nat.{ℕ, zero, suc, _+_, _-_, _≤_, _<_}
+use mathlib.Core.Path.{_≡_, refl, sym, ap, subst, _∙_}
+use Prim.Native.Nat.{ℕ, zero, suc, _+_, _-_, _≤_}
 use native.Mathlib.Omega.{arith}
 use lib.Dec.{T, ltb, ltb→lt}
-use lib.ListN.{length, getD, replicate}
+use lib.ListN.{length, getD}
 use lib.Seq.{sets}
 use borrow.Author.Tests.{ltb-true}
-use Rattle.base.proofs.Fronts.{all-at}
 use Rattle.base.proofs.Tests.{all-append}
 use Rattle.base.specs.Lists.{all}
 use Rattle.book_format.proofs.Passed.{length-tradesOf}
-use Rattle.book_format.specs.After.{CalledAfter, after, stepAfter, unchanged}
-use Rattle.book_format.specs.Book.{bookOf, bytesOf, tradeCount, usersOf}
+use Rattle.book_format.specs.After.{after, stepAfter, unchanged}
+use Rattle.book_format.specs.Book.{bookOf, usersOf}
 use Rattle.book_format.specs.Steps.{InBytes, inBytes}
 use Rattle.cut_lists.proofs.Own.{own-origins}
 use Rattle.cut_tiers.specs.Tiers.{cutsOf}
 use Rattle.fields.specs.Field.{AllBytes}
-use Rattle.laws.proofs.Reduction.{cuts-lowered}
 use Rattle.laws.proofs.Refusals.{numbered, refusal-is}
-use Rattle.laws.proofs.Settle.{pairs-length}
-use Rattle.laws.proofs.Trades.{framed}
-use Rattle.laws.specs.Sound.{Sound}
-use Rattle.laws_sales.proofs.Cuts.{cuts-sales}
-use Rattle.laws_sales.proofs.FirstCuts.{own-cuts-length}
-use Rattle.laws_sales.proofs.Groups.{places-inside}
-use Rattle.laws_sales.proofs.Own.{own-eligible, own-sales}
+use Rattle.laws_sales.specs.Borne.{borneBook}
 use Rattle.laws_sales.specs.Groups.{places}
 use Rattle.laws_sales.specs.Parts.{part}
-use Rattle.laws_sales.specs.Reduced.{ownCuts}
-use Rattle.laws_sales.specs.Sales.{ownSale}
-use Rattle.log_entries.proofs.Entries.{entry-noted, log-sealed}
+use Rattle.log_entries.proofs.Entries.{log-sealed}
 use Rattle.log_entries.proofs.Fitting.{fitting-count, fitting-trades}
-use Rattle.log_entries.proofs.Spread.{spread-entered}
-use Rattle.log_entries.specs.Entries.{NotedAt, entered}
-use Rattle.log_format.proofs.Noted.{start, cut, cuts-bilateral, noted-fit}
-use Rattle.log_format.proofs.Parts.{EntryFits}
+use Rattle.log_entries.proofs.Reductions.{reduction-entered}
 use Rattle.log_format.proofs.Read.{fits-facts}
 use Rattle.log_format.specs.Fits.{logFits}
 use Rattle.log_format.specs.Log.{entriesOf, entryCount, logBytes}
@@ -47,37 +34,25 @@ use Rattle.requests.proofs.Emptied.{about-numbered}
 use Rattle.requests.specs.Logged.{loggedAfter}
 use Rattle.requests.specs.Request.{Outcome, enteredIn, refusedWith}
 use Rattle.rules.specs.Areas.{Prices}
-use Rattle.rules.specs.Book.{Book, User, find, nobody}
+use Rattle.risk_user.proofs.Borne.{party-borne}
+use Rattle.rules.specs.Book.{Party, User, find, nobody}
 use Rattle.rules.specs.Calls.{Answer, about, effect, ofCuts, only, reduced, reducedBy, reduction}
 use Rattle.rules.specs.Levels.{Limits}
 use Rattle.rules.specs.Questions.{Question, decided, refusal}
-use Rattle.rules.specs.Reduction.{cuts, withTrades}
+use Rattle.rules.specs.Reduction.{cuts}
 use Rattle.run_reduction.proofs.Steps.{cut-within, cuts-own, cuts-room, part-few, part-rises, sales-in}
 use Rattle.run_reduction.specs.Books.{Listed}
 use Rattle.run_reduction.specs.Reductions.{shortIn}
 use Rattle.call_reduction.specs.Books.{UserOf, allSales}
-use Rattle.call_reduction.specs.Call.{Gives, reductionOf, roomAsked}
+use Rattle.call_reduction.specs.Call.{Gives, roomAsked}
 use Rattle.call_reduction.specs.Log.{ReducedWith, notedBy}
 use Rattle.call_reduction.proofs.Cuts.{inside-users, lost, user-reached, user-run}
 use Rattle.call_reduction.proofs.Ways.{stepWith}
 
 -- ---- what each trade loses
 
-module _ (b : Book) (u : User) (asked : ℕ) where
-  entry-is : cuts b u asked ≡ entered (places (b .trades) (u .party .id)) (ownCuts b u asked) (replicate (length (b .trades)) 0)
-  entry-is =
-      cuts-sales b u (ownSale (u .party .id)) (own-eligible b u) asked
-      ∙ sym (spread-entered (ownSale (u .party .id)) (b .trades) (ownCuts b u asked) (own-cuts-length own-sales b u asked))
-
-  entry-fits : Sound b → EntryFits (length (b .trades)) (cuts b u asked)
-  unfolding withTrades
-  entry-fits sound =
-      let within = cuts-bilateral b u asked in
-      subst (λ (m : ℕ). EntryFits m (cuts b u asked)) (pairs-length (framed (cuts-lowered (cuts b u asked) (b .trades) within)))
-      (noted-fit (cut (cuts b u asked) (start sound) sound within) .0)
-
-module _ {f : Prices} {s : List ℕ} {place : ℕ} {sellers parties ps : List ℕ} (p : UserOf f s place sellers parties ps) {ss origins ns areaCodes bs : List ℕ}
-    (l : Listed (bookOf s) ss origins ns areaCodes bs (allSales (bookOf s))) (last : List Question) (asked : ℕ) (cs cs₀ : List ℕ)
+module _ {f : Prices} {s : List ℕ} {place : ℕ} {ownSellers ownBuyers sellers parties ps : List ℕ} (p : UserOf f s place ownSellers ownBuyers sellers parties ps) {ss origins ns areaCodes bs : List ℕ}
+    (l : Listed (borneBook (bookOf s)) ss origins ns areaCodes bs (allSales (borneBook (bookOf s)))) (last : List Question) (asked : ℕ) (cs cs₀ : List ℕ)
     (filled : cs ≡ sets cs₀ (getD ss place 0) (cutsOf f (shortIn ps place) asked (part (getD ss place 0) (getD ss (place + 1) 0) ns) (part (getD ss place 0) (getD ss (place + 1) 0) areaCodes)))
     (long : length cs₀ ≡ 256) where
   abbrev u : User
@@ -111,9 +86,9 @@ module _ {f : Prices} {s : List ℕ} {place : ℕ} {sellers parties ps : List �
       }
 
   -- where the user's own sales stand
-  own-places : part (getD ss place 0) (getD ss (place + 1) 0) origins ≡ places (bookOf s .trades) (getD (usersOf s) place nobody .party .id)
+  own-places : part (getD ss place 0) (getD ss (place + 1) 0) origins ≡ places (borneBook (bookOf s) .trades) (getD (usersOf s) place nobody .party .id)
   unfolding bookOf
-  own-places = own-origins (l .sales) place (inside-users p l)
+  own-places = own-origins (l .sales) place (inside-users p l) ∙ ap (λ (q : Party). places (borneBook (bookOf s) .trades) (q .id)) (party-borne (bookOf s) place)
 
   few-trades : length (bookOf s .trades) ≤ 256
   unfolding bookOf
@@ -123,26 +98,15 @@ module _ {f : Prices} {s : List ℕ} {place : ℕ} {sellers parties ps : List �
   pub own-noted : (lent : Bool) {log t m : List ℕ} {n : ℕ} → AllBytes log → (lent ≡ true → T (logFits log s)) → roomIn lent log ≡ true
       → NotedLent lent log t origins cs (getD ss place 0) (getD ss (place + 1) 0) m → n ≡ 0
       → m ≡ notedBy lent n (cuts (bookOf s) (getD (usersOf s) place nobody) asked) s t log
-  unfolding notedBy after roomIn room
+  unfolding notedBy after roomIn room bookOf usersOf
   own-noted false b fits free noted z = noted .stays refl
   own-noted true {log} {t} {m} b fits free noted z =
-      let ts = bookOf s .trades in
-      let is = places ts (u .party .id) in
       let few = p .book .book .accepted .held .form .trades in
-      let have = fitting-trades log s b few (fits refl) in
       let count = fitting-count log s b few (fits refl) in
-      let inside : (j : ℕ) → j < length (part from to origins) → getD (part from to origins) j 0 < length ts
-      = λ j k. omega (
-        arith,
-        ltb→lt (getD is j 0) (length ts) (all-at (λ i. ltb i (length ts)) is (places-inside (ownSale (u .party .id)) ts) j 0 (omega (arith, k, ap length own-places))),
-        ap (λ (xs : List ℕ). getD xs j 0) own-places,
-      ) in
-      let is-entry : entered (part from to origins) (part from to cs) (replicate (length ts) 0) ≡ cuts (bookOf s) u asked
-      = ap₂ (λ (xs ys : List ℕ). entered xs ys (replicate (length ts) 0)) own-places (lost p l last asked cs cs₀ filled long) ∙ sym (entry-is (bookOf s) u asked) in
-      let more = entry-noted few-trades have (omega (arith, count, ltb-true 0 (256 - entryCount log) free))
-      (subst (λ (i : ℕ). NotedAt i origins cs from to log (noted .last refl .noted)) (sym count) (noted .last refl .entry)) inside (cuts (bookOf s) u asked) is-entry
-      (entry-fits (bookOf s) u asked (p .book .book .accepted .sound)) in
-      rw z (log-sealed t more (ap suc (sym count)) (noted .last refl .whole))
+      let last-entry = noted .last refl in
+      let more = reduction-entered (bookOf s) u asked (p .book .book .accepted .sound) few-trades (fitting-trades log s b few (fits refl)) count (omega (arith, ltb-true 0 (256 - entryCount log) free))
+      own-places (lost p l last asked cs cs₀ filled long) (last-entry .entry) in
+      rw z (log-sealed t more (ap suc (sym count)) (last-entry .whole))
 
 -- a refused reduction leaves the log
 pub noted-refused : (lent : Bool) (loss s t l : List ℕ) {n : ℕ} {a : Answer} → (n ≡ 0 → ⊥) → a ≡ only n → l ≡ notedBy lent (a .number) loss s t l

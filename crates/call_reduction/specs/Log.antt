@@ -1,13 +1,11 @@
 -- A reduction with a lent log, given or not. Assumes nothing.
 use mathlib.Core.Bool.{Bool, true, false, cond}
 use mathlib.Core.List.{List, _∷_}
-use mathlib.Core.Option.{some}
 use mathlib.Core.Path.{_≡_}
 use Prim.Native.Nat.{ℕ}
 use Rattle.book_format.specs.After.{CalledAfter, after}
 use Rattle.log_format.specs.Log.{entriesOf, logBytes}
-use Rattle.requests.specs.Logged.{loggedAfter}
-use Rattle.requests.specs.Request.{Outcome}
+use Rattle.requests.specs.Logged.{GivesLogged, loggedAfter}
 use Rattle.rules.specs.Calls.{Answer}
 use Rattle.rules.specs.Levels.{Limits}
 use Rattle.call_reduction.specs.Call.{reductionOf}
@@ -16,12 +14,6 @@ use Rattle.call_reduction.specs.Call.{reductionOf}
 -- "a refused call leaves it"
 unfoldable pub notedBy : Bool → ℕ → List ℕ → List ℕ → List ℕ → List ℕ → List ℕ
 notedBy lent number loss s t l = cond lent (after number (λ n. l) (logBytes (loss ∷ entriesOf s l) t)) l
-
--- an answer, the bytes of the book and the log afterwards are those of an outcome
-pub record GivesLogged (o : Outcome) (a : Answer) (t m : List ℕ) : Type 0 where
-  pub answer : a ≡ o .answer
-  pub bytes : t ≡ o .bytes
-  pub log : some m ≡ o .log
 
 -- the contract of the function `reduction`: the call without a log, or with the one that is given
 pub record ReducedWith (lent : Bool) (number : ℕ) (limits : Limits) (l s : List ℕ) (id : ℕ) (a : Answer) (t m : List ℕ) : Type 0 where

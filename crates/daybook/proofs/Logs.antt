@@ -11,14 +11,13 @@ use Rattle.book_format.specs.After.{CalledAfter, after, stepAfter, unchanged}
 use Rattle.book_format.specs.Questions.{bookNumber}
 use Rattle.call_admission.specs.Log.{LogAsked}
 use Rattle.call_guarantee.specs.Times.{callOf}
-use Rattle.call_logged.specs.Given.{Gives}
 use Rattle.call_reduction.specs.Call.{reductionOf}
 use Rattle.call_reduction.specs.Log.{ReducedWith}
 use Rattle.log_format.proofs.Noted.{Empties, afternoon-empties, morning-empties}
 use Rattle.log_format.proofs.Read.{fits-facts}
 use Rattle.log_lent.specs.Lent.{Emptiable}
 use Rattle.requests.proofs.Logged.{actLent, logged-call, logged-without}
-use Rattle.requests.specs.Logged.{AdmittedWith, Logged, loggedAfter}
+use Rattle.requests.specs.Logged.{AdmittedWith, GivesLogged, Logged, loggedAfter}
 use Rattle.requests.specs.Request.{call, Setting}
 use Rattle.rules.specs.Calls.{Answer, Call, only}
 use Rattle.rules.specs.Levels.{Limits}
@@ -55,10 +54,10 @@ module _ {g : Setting} {l s : List ℕ} {number : ℕ} {limits : Limits} where
   called-without true e d k = absurd (subst T e tt)
   called-without false e d k = logged-without d k
 
-  pub called-with : (lent : Bool) {c : Call} {a : Answer} {t m : List ℕ} → lent ≡ true → AdmittedWith g (given lent l) s number limits → Gives (loggedAfter number limits l s c) a t m
+  pub called-with : (lent : Bool) {c : Call} {a : Answer} {t m : List ℕ} → lent ≡ true → AdmittedWith g (given lent l) s number limits → GivesLogged (loggedAfter number limits l s c) a t m
       → Logged (actLent g (given lent l) (call c)) s a t l m
   unfolding given
-  called-with true e d k = logged-call d (k .answer) (k .bytes) (k .log)
+  called-with true e d k = logged-call d k
   called-with false e d k = absurd (subst T (sym e) tt)
 
   pub reduction-logged : {id : ℕ} {a : Answer} {t m : List ℕ} (lent : Bool) → AdmittedWith g (given lent l) s number limits → ReducedWith lent number limits l s id a t m
@@ -66,4 +65,4 @@ module _ {g : Setting} {l s : List ℕ} {number : ℕ} {limits : Limits} where
   unfolding given
   reduction-logged {id} {a} {t} {m} false d k =
       subst (λ (x : List ℕ). Logged (actLent g (given false l) (call (reductionOf id))) s a t l x) (sym (k .stays refl)) (logged-without d (k .without refl))
-  reduction-logged true d k = let o = k .within refl in logged-call d (o .answer) (o .bytes) (o .log)
+  reduction-logged true d k = logged-call d (k .within refl)

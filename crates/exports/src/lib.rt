@@ -1,36 +1,30 @@
 // The C interface over the public calls of `daybook` and `shrinkage`; include/daybook.h declares it. A slice is a pointer and a length in
 // C. No function asks anything of what it is lent: a part for answers of another length than the function's gets the number 255, and
-// nothing is asked or changed. A store and a log come with a flag each, which is 0 where there is none.
+// nothing is asked or changed. A store and a log come with a flag each, which is 0 where there is none. The functions that can change a
+// book stand in changes.rt.
 ghost use mathlib.Core.Path.{_≡_};
-ghost use mathlib.Core.Option.{some};
-ghost use Rattle.rules.specs.Calls.{only, morningCall, afternoonCall};
 ghost use Rattle.rules.specs.Queries.{morningLevelOf, afternoonLevelOf};
-ghost use Rattle.requests.specs.Request.{actOf, settingOf};
-ghost use Rattle.requests.specs.Logged.{Logged, Posted};
-ghost use Rattle.log_format.specs.Fits.{startNumber, started};
-ghost use Rattle.daybook.specs.Acts.{called, withdrawing};
-ghost use Rattle.call_posting.specs.Posting.{postingOf};
+ghost use Rattle.requests.specs.Request.{settingOf};
 ghost use Rattle.call_level.specs.Times.{queryOf};
-ghost use Rattle.call_guarantee.specs.Times.{callOf};
 ghost use Rattle.call_warning.specs.Warned.{warningOf};
-ghost use Rattle.call_reduction.specs.Call.{reductionOf};
-ghost use Rattle.call_run.specs.Call.{runCall};
 ghost use Rattle.call_show.specs.Shown.{picked};
-ghost use Rattle.exports_answers.specs.Numbers.{levelNumbers, warningNumbers, callNumbers, reductionNumbers, runNumbers, withdrawalNumbers};
-ghost use Rattle.exports.specs.Answers.{isYes, logBy, storeBy, Replied, Answered, Copied};
+ghost use Rattle.exports_answers.specs.Numbers.{levelNumbers, warningNumbers};
+ghost use Rattle.exports.specs.Answers.{isYes, storeBy, Replied, Copied};
 ghost use Rattle.exports.specs.Answers.{ReadInto, WrittenFrom, ReturnedInto, SpreadInto, CancelledInto};
 use shrinkage::Kwh;
+
+mod changes;
 
 // The number for a lent part of another length than the function asks for.
 const WRONG_LENGTH: u32 = 255;
 
-// The number of this interface, raised with each change of a signature or of the image.
-const INTERFACE: u32 = 4;
+// The number of this interface, raised with each change of a signature, of the image or of a shown record.
+const INTERFACE: u32 = 5;
 
-// The bytes of an image, and of a shown record.
-const IMAGE_SIZE: usize = 8744;
+// The bytes of an image, and of the part for a shown record.
+const IMAGE_SIZE: usize = 9512;
 
-const RECORD_SIZE: usize = 56;
+const RECORD_SIZE: usize = 68;
 
 // The marks of a cancellation, one for each place of a trade.
 const MARKS: usize = 256;
@@ -40,15 +34,7 @@ const LEVEL_NUMBERS: usize = 1;
 
 const WARNING_NUMBERS: usize = 1;
 
-const CALL_NUMBERS: usize = 2;
-
-const REDUCTION_NUMBERS: usize = 5;
-
 const CANCELLATION_NUMBERS: usize = 3;
-
-const RUN_NUMBERS: usize = 3;
-
-const WITHDRAWAL_NUMBERS: usize = 2;
 
 const RETURN_NUMBERS: usize = 131;
 
@@ -59,12 +45,12 @@ const SHRINKAGE_DAYS: usize = 30;
 // The number of the interface, as the header has it in DAYBOOK_INTERFACE.
 #[no_mangle]
 pub extern "C" fn daybook_interface() -> u32
-    ensures { λ r. ⌜ r ≡ 4 ⌝ }
+    ensures { λ r. ⌜ r ≡ 5 ⌝ }
 {
     INTERFACE
 }
 
-// Reads a book's fields into an image of 8,744 bytes.
+// Reads a book's fields into an image of 9,512 bytes.
 #[no_mangle]
 pub extern "C" fn daybook_read(book: &[u8], image: &mut [u8]) -> u32
     ensures { λ r. ⌜ ReadInto (now (book .entry)) (now (image .entry)) r (now (image .exit)) ⌝ }
@@ -75,7 +61,7 @@ pub extern "C" fn daybook_read(book: &[u8], image: &mut [u8]) -> u32
     book_image::read(book, image)
 }
 
-// Writes the book whose fields an image of 8,744 bytes has.
+// Writes the book whose fields an image of 9,512 bytes has.
 #[no_mangle]
 pub extern "C" fn daybook_write(image: &[u8], out: &mut [u8]) -> u32
     ensures { λ r. ⌜ WrittenFrom (now (image .entry)) (now (out .entry)) r (now (out .exit)) ⌝ }
@@ -86,7 +72,7 @@ pub extern "C" fn daybook_write(image: &[u8], out: &mut [u8]) -> u32
     book_image::write(image, out)
 }
 
-// Copies the 56 bytes of a user's record.
+// Copies the bytes of a user's record to a part of 68; behind the 56 of versions 1 and 2 it is 0.
 #[no_mangle]
 pub extern "C" fn daybook_show(
     book: &[u8],
@@ -136,44 +122,6 @@ pub extern "C" fn daybook_show_picked<'a>(
     number
 }
 
-// Adds a signed amount to a user's physical entry and position in an area.
-#[no_mangle]
-pub extern "C" fn daybook_posting(
-    book: &mut [u8],
-    with_store: u32,
-    store: &[u8],
-    with_log: u32,
-    log: &mut [u8],
-    id: u32,
-    area: u32,
-    amount: i64,
-) -> u32
-    ensures { λ r. ⌜ Logged (actOf (storeBy «with_store» (now (store .entry))) (logBy «with_log» (now (log .entry))) (called (postingOf id area amount))) (now (book .entry)) (only r) (now (book .exit)) (now (log .entry)) (now (log .exit)) ⌝ }
-{
-    daybook::posting(book, with_store != 0, store, with_log != 0, log, id, area, amount)
-}
-
-// Posts a list of corrections, given as columns, and stores the number of each line in its place. Places of another count than the lines
-// are refused by question 15.
-#[no_mangle]
-pub extern "C" fn daybook_list(
-    book: &mut [u8],
-    with_store: u32,
-    store: &[u8],
-    with_log: u32,
-    log: &mut [u8],
-    ids: &[u32],
-    areas: &[u32],
-    amounts: &[i64],
-    places: &mut [u32],
-) -> u32
-    ensures { λ r. ⌜ Posted (storeBy «with_store» (now (store .entry))) (logBy «with_log» (now (log .entry))) (now (ids .entry)) (now (areas .entry)) (now (amounts .entry)) (now (places .entry)) (now (book .entry)) r (now (book .exit)) (now (places .exit)) (now (log .entry)) (now (log .exit)) ⌝ }
-{
-    daybook::list(
-        book, with_store != 0, store, with_log != 0, log, ids, areas, amounts, places,
-    )
-}
-
 // The level of a user at one time of the day: 1 number.
 fn level(
     book: &[u8],
@@ -220,58 +168,6 @@ pub extern "C" fn daybook_afternoon_level(
     level(book, with_store, store, id, true, answer)
 }
 
-// Raises a user's blocked guarantee to its level at one time of the day: 2 numbers, the level and what was added.
-fn call(
-    book: &mut [u8],
-    with_store: u32,
-    store: &[u8],
-    with_log: u32,
-    log: &mut [u8],
-    id: u32,
-    afternoon: bool,
-    answer: &mut [u64],
-) -> u32
-    ensures { λ r. ⌜ Answered 2 callNumbers (actOf (storeBy «with_store» (now (store .entry))) (logBy «with_log» (now (log .entry))) (called (callOf afternoon id))) (now (book .entry)) (now (answer .entry)) r (now (answer .exit)) (now (book .exit)) (now (log .entry)) (now (log .exit)) ⌝ }
-{
-    if answer.len() != CALL_NUMBERS {
-        return WRONG_LENGTH;
-    }
-    let call = daybook::call(book, with_store != 0, store, with_log != 0, log, id, afternoon);
-    exports_answers::store_call(answer, call)
-}
-
-// Raises a user's blocked guarantee to its morning level: 2 numbers, the level and what was added.
-#[no_mangle]
-pub extern "C" fn daybook_morning_call(
-    book: &mut [u8],
-    with_store: u32,
-    store: &[u8],
-    with_log: u32,
-    log: &mut [u8],
-    id: u32,
-    answer: &mut [u64],
-) -> u32
-    ensures { λ r. ⌜ Answered 2 callNumbers (actOf (storeBy «with_store» (now (store .entry))) (logBy «with_log» (now (log .entry))) (called (morningCall id))) (now (book .entry)) (now (answer .entry)) r (now (answer .exit)) (now (book .exit)) (now (log .entry)) (now (log .exit)) ⌝ }
-{
-    call(book, with_store, store, with_log, log, id, false, answer)
-}
-
-// Raises a user's blocked guarantee to its afternoon level: 2 numbers, the level and what was added.
-#[no_mangle]
-pub extern "C" fn daybook_afternoon_call(
-    book: &mut [u8],
-    with_store: u32,
-    store: &[u8],
-    with_log: u32,
-    log: &mut [u8],
-    id: u32,
-    answer: &mut [u64],
-) -> u32
-    ensures { λ r. ⌜ Answered 2 callNumbers (actOf (storeBy «with_store» (now (store .entry))) (logBy «with_log» (now (log .entry))) (called (afternoonCall id))) (now (book .entry)) (now (answer .entry)) r (now (answer .exit)) (now (book .exit)) (now (log .entry)) (now (log .exit)) ⌝ }
-{
-    call(book, with_store, store, with_log, log, id, true, answer)
-}
-
 // Whether a user is warned at midday: 1 number, 1 for yes and 0 for no.
 #[no_mangle]
 pub extern "C" fn daybook_warning(
@@ -288,27 +184,6 @@ pub extern "C" fn daybook_warning(
     }
     let reply = daybook::warning(book, with_store != 0, store, id);
     exports_answers::store_warning(answer, reply)
-}
-
-// Cuts a user's bilateral sales for its target: 5 numbers, the MWh cut, their worth, the target, and what the worth falls short of it or
-// exceeds it by.
-#[no_mangle]
-pub extern "C" fn daybook_reduction(
-    book: &mut [u8],
-    with_store: u32,
-    store: &[u8],
-    with_log: u32,
-    log: &mut [u8],
-    id: u32,
-    answer: &mut [u64],
-) -> u32
-    ensures { λ r. ⌜ Answered 5 reductionNumbers (actOf (storeBy «with_store» (now (store .entry))) (logBy «with_log» (now (log .entry))) (called (reductionOf id))) (now (book .entry)) (now (answer .entry)) r (now (answer .exit)) (now (book .exit)) (now (log .entry)) (now (log .exit)) ⌝ }
-{
-    if answer.len() != REDUCTION_NUMBERS {
-        return WRONG_LENGTH;
-    }
-    let reduction = daybook::reduction(book, with_store != 0, store, with_log != 0, log, id);
-    exports_answers::store_reduction(answer, reduction)
 }
 
 // Finds whole trades to cancel for a user's target: 256 marks by trade place, and 3 numbers, the excess, the tries made, and 1 where the
@@ -333,55 +208,6 @@ pub extern "C" fn daybook_cancellation(
     }
     let cancellation = daybook::cancellation(book, with_store != 0, store, id, tries);
     exports_cancellation::store_cancellation(marks, answer, cancellation)
-}
-
-// Reduces users until none that is short of cover has an eligible trade: 3 numbers, the reductions, the MWh cut and their worth. They are
-// stored beside 20 too, where a log that is given became full.
-#[no_mangle]
-pub extern "C" fn daybook_run(
-    book: &mut [u8],
-    with_store: u32,
-    store: &[u8],
-    with_log: u32,
-    log: &mut [u8],
-    answer: &mut [u64],
-) -> u32
-    ensures { λ r. ⌜ Answered 3 runNumbers (actOf (storeBy «with_store» (now (store .entry))) (logBy «with_log» (now (log .entry))) (called runCall)) (now (book .entry)) (now (answer .entry)) r (now (answer .exit)) (now (book .exit)) (now (log .entry)) (now (log .exit)) ⌝ }
-{
-    if answer.len() != RUN_NUMBERS {
-        return WRONG_LENGTH;
-    }
-    let run = daybook::run(book, with_store != 0, store, with_log != 0, log);
-    exports_answers::store_run(answer, run)
-}
-
-// ---- the log
-
-// Starts a log that holds a book.
-#[no_mangle]
-pub extern "C" fn daybook_start_log(log: &mut [u8], book: &[u8]) -> u32
-    ensures { λ r. ⌜ r ≡ startNumber (now (log .entry)) (now (book .entry)) ⌝ }
-    ensures { λ _. ⌜ now (log .exit) ≡ started (now (log .entry)) (now (book .entry)) ⌝ }
-{
-    daybook::start_log(log, book)
-}
-
-// Withdraws the last reduction that a log has noted: 2 numbers, its MWh and their worth.
-#[no_mangle]
-pub extern "C" fn daybook_withdrawal(
-    book: &mut [u8],
-    with_store: u32,
-    store: &[u8],
-    log: &mut [u8],
-    answer: &mut [u64],
-) -> u32
-    ensures { λ r. ⌜ Answered 2 withdrawalNumbers (actOf (storeBy «with_store» (now (store .entry))) (some (now (log .entry))) withdrawing) (now (book .entry)) (now (answer .entry)) r (now (answer .exit)) (now (book .exit)) (now (log .entry)) (now (log .exit)) ⌝ }
-{
-    if answer.len() != WITHDRAWAL_NUMBERS {
-        return WRONG_LENGTH;
-    }
-    let withdrawal = daybook::withdrawal(book, with_store != 0, store, log);
-    exports_answers::store_withdrawal(answer, withdrawal)
 }
 
 // ---- the return of shrinkage, without a book

@@ -3,16 +3,16 @@ use mathlib.Core.List.{List, [], _∷_, _++_}
 use mathlib.Core.Path.{_≡_, refl, sym, ap, ap₂, _∙_}
 use Prim.Native.Nat.{ℕ, zero, suc, _+_, _-_, _*_, _≤_, _<_}
 use native.Mathlib.Omega.{arith}
-use lib.ListN.{length, getD, take, drop, replicate, length-drop, length-replicate, replicate-append-replicate}
+use lib.ListN.{length, getD, take, drop, replicate, length-replicate, replicate-append-replicate}
 use lib.Seq.{drop-drop, length-sets, sets}
 use borrow.Rule.Slice.PartMut.{putMid}
 use Rattle.fields.proofs.Sets.{drop-sets-add, length-part, part-sets}
 use Rattle.fields.specs.Field.{toBytes}
-use Rattle.fields.specs.Layout.{Every, bytesOfRecords}
+use Rattle.fields.specs.Layout.{bytesOfRecords}
 use Rattle.laws_sales.specs.Parts.{part}
 use Rattle.log_format.proofs.Padded.{drop-padded, sets-padded, sets-zeros, take-replicate}
 use Rattle.log_format.proofs.Parts.{EntryFits, length-cuts, length-entries, length-entry}
-use Rattle.log_format.specs.Log.{cutBytes, entriesAt, entriesBytes, entriesRoom, entryAt, entryBytes, entrySize, heldRoom, logBytes, logHead, padded}
+use Rattle.log_format.specs.Log.{cutBytes, entriesAt, entriesBytes, entryAt, entryBytes, entrySize, heldRoom, logBytes, logHead, padded}
 use Rattle.log_entries.specs.Entries.{EntriesIn, Noted, NotedAt, cleared, entered, sealed}
 
 -- ---- an entry without a cut

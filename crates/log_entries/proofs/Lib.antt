@@ -3,4 +3,5 @@ pub mod Parts
 pub mod Cuts
 pub mod Entries
 pub mod Spread
+pub mod Reductions
 pub mod Fitting

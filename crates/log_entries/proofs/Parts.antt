@@ -1,10 +1,8 @@
 -- Parts of a log that are lent to be written: the held book, all that stands before the entries, bytes made 0. Assumes nothing.
-use mathlib.Core.Bool.{Bool, true, false, cond, _&&_}
 use mathlib.Core.List.{List, [], _∷_, _++_, append-assoc, append-nil}
 use mathlib.Core.Path.{_≡_, refl, sym, ap, ap₂, _∙_}
 use Prim.Native.Nat.{ℕ, _+_, _-_, _*_, _≤_, _<_}
 use native.Mathlib.Omega.{arith}
-use lib.Dec.{eqb, leb}
 use lib.ListN.{length, take, drop, replicate, length-append, length-take, length-drop, length-replicate, drop-of-length-le}
 use lib.Seq.{sets, take-all, take-length, take-at, drop-at, drop-drop}
 use borrow.Author.Tests.{eq-eqb, le-leb, lt-leb, ne-eqb}
@@ -16,7 +14,7 @@ use Rattle.fields.specs.Layout.{setFields, size}
 use Rattle.log_format.proofs.Padded.{length-padded}
 use Rattle.log_format.proofs.Parts.{length-head}
 use Rattle.log_format.specs.Fits.{startFits, startNumber, started}
-use Rattle.log_format.specs.Log.{entriesAt, entriesBytes, entriesRoom, entrySize, heldAt, heldRoom, logBytes, logHead, logMark, logSize, padded}
+use Rattle.log_format.specs.Log.{entriesAt, entriesBytes, entriesRoom, entrySize, heldRoom, logBytes, logHead, logMark, padded}
 use Rattle.log_entries.specs.Entries.{cleared, sealed}
 
 -- ---- the first 12 bytes

@@ -5,7 +5,6 @@ use mathlib.Core.Path.{_≡_, refl, sym, ap, subst, _∙_}
 use Prim.Native.Nat.{ℕ, zero, suc, _+_, _-_, _*_}
 use native.Mathlib.Omega.{arith}
 use lib.Dec.{T, ltb}
-use lib.ListN.{length}
 use borrow.Author.Tests.{le-ltb, lt-ltb}
 use Rattle.base.proofs.Linear.{by-order}
 use Rattle.book_format.specs.After.{after}
@@ -20,7 +19,7 @@ use Rattle.log_format.specs.Noted.{room}
 use Rattle.requests.specs.Logged.{emptiedBy}
 use Rattle.rules.specs.Questions.{numberOf, refusal}
 use Rattle.store.specs.Store.{given}
-use Rattle.log_lent.specs.Lent.{Emptiable, NotedLast, NotedLent, roomIn}
+use Rattle.log_lent.specs.Lent.{Emptiable, NotedLent, roomIn}
 
 -- ---- question 19
 

@@ -10,8 +10,9 @@ ghost use Rattle.book_format.specs.Book.{tradeCount, tradesAt, tradesOf};
 ghost use Rattle.book_format.specs.Questions.{Formed};
 ghost use Rattle.book_records.specs.Trade.{asTrade};
 ghost use Rattle.rules.specs.Reduction.{together};
-ghost use Rattle.log_format.specs.Log.{entriesIn, entriesOf, entryAt, entryCount};
-ghost use Rattle.log_format.specs.Fits.{allCuts, entriesRest, heldRest, holdsBook, logFits, logFormed, raiseWithin, raisesWithin, restsZero, unusedZero, zeros};
+ghost use Rattle.log_format.specs.Log.{entriesIn, entriesOf, entryAt};
+ghost use Rattle.log_format.specs.Fits.{allCuts, entriesRest, heldRest, holdsBook, logFits, logFormed};
+ghost use Rattle.log_format.specs.Fits.{raiseWithin, raisesWithin, restsZero, unusedZero, zeros};
 ghost use Rattle.log_questions.specs.Form.{LogFormed, Sums, cutsFrom};
 
 // ---- the form, and the held book

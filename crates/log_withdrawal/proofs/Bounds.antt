@@ -1,17 +1,17 @@
 -- Positions that move stay within a bound; the two positions of a trade that rises. Assumes nothing.
-use mathlib.Core.List.{List, map}
-use mathlib.Core.Path.{_≡_, refl, sym, ap, ap₂, subst, _∙_}
+use mathlib.Core.List.{List}
+use mathlib.Core.Path.{_≡_, sym, ap, ap₂, subst, _∙_}
 use Prim.Native.Nat.{ℕ, zero, suc, _+_, _≤_, _<_, _^_}
 use native.Mathlib.Omega.{arith}
 use lib.Dec.{T}
 use lib.IntN.{ℤ, pos, negℤ}
-use lib.ListN.{length, getD, set, length-map, length-set}
+use lib.ListN.{length, getD, length-map, length-set}
 use Rattle.base.proofs.Linear.{eq-parts, negPart-neg, negPart-pos, parts-sub, posPart-neg, posPart-pos}
 use Rattle.base.proofs.Stores.{set-each}
 use Rattle.base.specs.Parts.{negPart, posPart}
 use Rattle.book_format.proofs.Held.{held-itself, held-userCount, held-users}
 use Rattle.book_format.proofs.Passed.{length-usersOf}
-use Rattle.book_format.specs.Book.{bookOf, userCount, usersOf}
+use Rattle.book_format.specs.Book.{bookOf, usersOf}
 use Rattle.book_format.specs.Held.{HeldAs}
 use Rattle.cut_apply.proofs.Positions.{add-le}
 use Rattle.cut_apply.specs.Positions.{PositionIn, movedAt, positionOf}

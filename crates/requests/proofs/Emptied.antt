@@ -70,8 +70,13 @@ module _ {c : Call} (e : Empties c) where
   logged-emptied {g} {s} {number} {limits} {a} {t} {l} {m} false d k h = subst (λ (x : List ℕ). Logged (actLent g none (call c)) s a t l x) (sym h) (logged-without d k)
   logged-emptied {g} {s} {number} {limits} {a} {t} {l} {m} true d k h =
       let e = sym (emptied-after number limits l s) in
-      logged-call d (k .answer ∙ ap (λ (o : Outcome). o .answer) e) (k .bytes ∙ ap (λ (o : Outcome). o .bytes) e)
-      (ap some (h ∙ ap (λ (n : ℕ). after n (λ i. l) (logBytes [] t)) (ap (λ (r : Answer). r .number) (k .answer)) ∙ ap (λ (x : List ℕ). after (stepAfter number limits s c .answer .number) (λ i. l) (logBytes [] x)) (k .bytes)) ∙ ap (λ (o : Outcome). o .log) e)
+      let emptied = ap (λ (n : ℕ). after n (λ i. l) (logBytes [] t)) (ap (λ (r : Answer). r .number) (k .answer))
+      ∙ ap (λ (x : List ℕ). after (stepAfter number limits s c .answer .number) (λ i. l) (logBytes [] x)) (k .bytes) in
+      logged-call d (record {
+        answer = k .answer ∙ ap (λ (o : Outcome). o .answer) e;
+        bytes = k .bytes ∙ ap (λ (o : Outcome). o .bytes) e;
+        log = ap some (h ∙ emptied) ∙ ap (λ (o : Outcome). o .log) e;
+      })
 
 -- ---- lists
 

@@ -20,7 +20,7 @@ use Rattle.log_format.specs.Log.{entriesOf}
 use Rattle.log_format.specs.Noted.{callEntered, hasEntry, lastly, room, withdrawalEntered}
 use Rattle.requests.proofs.Lines.{lines-numbered}
 use Rattle.requests.proofs.Opened.{carried, opening-numbered, outcome, request-opened}
-use Rattle.requests.specs.Logged.{AdmittedWith, Logged, lentLog, linesNumberWith, loggedAfter, openingNumberWith, withdrawalAfter}
+use Rattle.requests.specs.Logged.{AdmittedWith, GivesLogged, Logged, lentLog, linesNumberWith, loggedAfter, openingNumberWith, withdrawalAfter}
 use Rattle.requests.specs.Request.{call, postings, withdrawal, Act, Lines, Outcome, Request, Setting, actBy, actIn, actWith, emptiedIn, enteredIn, limitsOn, linesIn, linesNumber, opening, openingLines, openingLinesWith, openingNumber, openingWith, refused, refusedWith, request}
 
 -- an act in a setting, with a log or none
@@ -145,26 +145,24 @@ admitted-logged {g} {l} {s} {number} {limits} c d =
 
 -- a call with a log, from its outcome after its opening questions
 pub logged-call : {g : Setting} {l s : List ℕ} {number : ℕ} {limits : Limits} {c : Call} {a : Answer} {t m : List ℕ} → AdmittedWith g (some l) s number limits
-    → a ≡ loggedAfter number limits l s c .answer → t ≡ loggedAfter number limits l s c .bytes → some m ≡ loggedAfter number limits l s c .log
-    → Logged (actLent g (some l) (call c)) s a t l m
+    → GivesLogged (loggedAfter number limits l s c) a t m → Logged (actLent g (some l) (call c)) s a t l m
 unfolding lentLog
-logged-call {l = l} {c = c} d x y z =
+logged-call {l = l} {c = c} d k =
     let e = sym (admitted-logged c d) in
     record {
-      carried = record { answer = x ∙ ap (λ (o : Outcome). o .answer) e; bytes = y ∙ ap (λ (o : Outcome). o .bytes) e };
-      log = ap (λ (o : Option (List ℕ)). lentLog o l) (z ∙ ap (λ (o : Outcome). o .log) e);
+      carried = record { answer = k .answer ∙ ap (λ (o : Outcome). o .answer) e; bytes = k .bytes ∙ ap (λ (o : Outcome). o .bytes) e };
+      log = ap (λ (o : Option (List ℕ)). lentLog o l) (k .log ∙ ap (λ (o : Outcome). o .log) e);
     }
 
 -- a withdrawal, from its outcome
 pub logged-withdrawal : {g : Setting} {l s : List ℕ} {number : ℕ} {a : Answer} {t m : List ℕ} → number ≡ openingNumberWith g (some l) s
-    → a ≡ withdrawalAfter number l s .answer → t ≡ withdrawalAfter number l s .bytes → some m ≡ withdrawalAfter number l s .log
-    → Logged (actLent g (some l) withdrawal) s a t l m
+    → GivesLogged (withdrawalAfter number l s) a t m → Logged (actLent g (some l) withdrawal) s a t l m
 unfolding lentLog
-logged-withdrawal {g} {l} {s} {number} d x y z =
+logged-withdrawal {g} {l} {s} {number} d k =
     let e : withdrawalAfter number l s ≡ request (actLent g (some l) withdrawal) s = ap (λ (n : ℕ). withdrawalAfter n l s) d ∙ sym (withdrawal-logged g l s) in
     record {
-      carried = record { answer = x ∙ ap (λ (o : Outcome). o .answer) e; bytes = y ∙ ap (λ (o : Outcome). o .bytes) e };
-      log = ap (λ (o : Option (List ℕ)). lentLog o l) (z ∙ ap (λ (o : Outcome). o .log) e);
+      carried = record { answer = k .answer ∙ ap (λ (o : Outcome). o .answer) e; bytes = k .bytes ∙ ap (λ (o : Outcome). o .bytes) e };
+      log = ap (λ (o : Option (List ℕ)). lentLog o l) (k .log ∙ ap (λ (o : Outcome). o .log) e);
     }
 
 -- a call that is given no log: what is lent stays

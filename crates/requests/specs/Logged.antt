@@ -45,6 +45,12 @@ withdrawalAfter number l s =
     after number (refusedWith l s)
     (decided (refusal (hasEntry (entriesOf s l) ∷ [])) (refusedWith l s) (enteredIn (withdrawalEntered (entriesOf s l) (bookOf s))))
 
+-- an answer, the bytes of the book and the log afterwards are those of an outcome
+pub record GivesLogged (o : Outcome) (a : Answer) (t m : List ℕ) : Type 0 where
+  pub answer : a ≡ o .answer
+  pub bytes : t ≡ o .bytes
+  pub log : some m ≡ o .log
+
 -- a lent log, given or not, after a call by its number: "an accepted posting, list or guarantee call empties it, a refused call leaves it"
 unfoldable pub emptiedBy : Bool → ℕ → List ℕ → List ℕ → List ℕ
 emptiedBy lent number t l = cond lent (after number (λ n. l) (logBytes [] t)) l

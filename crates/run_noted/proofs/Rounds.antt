@@ -1,43 +1,39 @@
 -- A run with a log, reduction after reduction: what is left of it, with the totals and the entries so far, is the run of as many reductions as the log has room for. Assumes nothing.
 use mathlib.Core.Bool.{Bool, true, false}
-use mathlib.Core.List.{List, [], _∷_}
+use mathlib.Core.List.{List, _∷_}
 use mathlib.Core.Option.{none, some}
-use mathlib.Core.Path.{_≡_, refl, sym, ap, ap₂, subst, _∙_}
+use mathlib.Core.Path.{_≡_, refl, sym, ap, subst, _∙_}
 use Prim.Native.Nat.{ℕ, suc, _+_, _-_, _≤_, _<_}
 use native.Mathlib.Omega.{arith}
-use lib.Dec.{T, ltb, ltb→lt}
-use lib.ListN.{length, getD, replicate, length-set}
+use lib.ListN.{length, getD}
 use lib.Seq.{length-sets}
 use Rattle.cut_worth.specs.Tallies.{asTally}
 use Rattle.cut_worth.specs.Totals.{totals}
 use Rattle.cut_worth.specs.declared.Tally.{Tally}
 use Rattle.cut_worth.specs.declared.Totals.{Totals}
-use Rattle.base.proofs.Fronts.{all-at}
 use Rattle.base.proofs.Linear.{by-order}
 use Rattle.book_format.proofs.Passed.{length-tradesOf}
 use Rattle.book_format.specs.Book.{bookOf, userCount}
 use Rattle.laws.proofs.Fuel.{run-answer}
-use Rattle.laws.proofs.Run.{reduced-law}
 use Rattle.laws.proofs.Settle.{pairs-length}
 use Rattle.laws.proofs.Trades.{framed}
 use Rattle.laws.specs.Sound.{Sound}
-use Rattle.laws_sales.proofs.Cuts.{cuts-sales}
-use Rattle.laws_sales.proofs.FirstCuts.{own-cuts-length}
-use Rattle.laws_sales.proofs.Groups.{places-inside}
-use Rattle.laws_sales.proofs.Own.{own-eligible, own-sales}
+use Rattle.laws.specs.Trades.{Lowered, Pairwise}
+use Rattle.laws_sales.proofs.Own.{own-sales}
 use Rattle.laws_sales.proofs.Standing.{places-stay}
+use Rattle.laws_sales.specs.Borne.{borneBook, borneUser}
 use Rattle.laws_sales.specs.Groups.{places}
 use Rattle.laws_sales.specs.Parts.{part}
 use Rattle.laws_sales.specs.Reduced.{ownCuts}
-use Rattle.laws_sales.specs.Sales.{ownSale}
 use Rattle.rules.specs.Areas.{Prices}
 use Rattle.rules.specs.Book.{Book, Party, User}
-use Rattle.rules.specs.Calls.{Answer, Result, nextReduced, ofRun, reduced, runFor}
+use Rattle.rules.specs.Calls.{Answer, Result, nextReduced, ofRun, runFor}
 use Rattle.rules.specs.Levels.{Limits}
 use Rattle.rules.specs.Reduction.{cuts, target}
-use Rattle.run_state.proofs.Left.{continued, next-here, next-nobody}
+use Rattle.run_state.proofs.Left.{continued, next-nobody}
 use Rattle.base.proofs.Tests.{by-case}
-use Rattle.run_state.proofs.Stays.{Stays, party-stays, stays, users-many}
+use Rattle.risk_user.proofs.Borne.{members-borne, party-borne}
+use Rattle.run_state.proofs.Stays.{Alike, Stays, alike-borne, party-stays, stays, users-many}
 use Rattle.run_state.specs.Asked.{memberAt}
 use Rattle.run_state.specs.Going.{Going, StandingIn}
 use Rattle.run_state.specs.Running.{NextFrom}
@@ -45,33 +41,14 @@ use Rattle.run_reduction.proofs.Steps.{cut-within, part-few, part-rises, sales-
 use Rattle.run_reduction.specs.Reductions.{RunOf}
 use Rattle.run_turns.proofs.Turning.{reached-now}
 use Rattle.run_turns.proofs.Rounds.{RunTo, members, next, run-start, run-turn}
-use Rattle.run_turns.specs.Turns.{NoneCut, Ran, Turned}
-use Rattle.log_format.proofs.Noted.{start, noted-fit, reduction-noted}
-use Rattle.log_format.proofs.Parts.{EntryFits}
+use Rattle.run_turns.specs.Turns.{NoneCut, Turned}
 use Rattle.log_format.specs.Noted.{entryOf, noted}
-use Rattle.log_entries.proofs.Entries.{entry-noted}
-use Rattle.log_entries.proofs.Spread.{spread-entered}
-use Rattle.log_entries.specs.Entries.{EntriesIn, Notable, NotedAt, entered}
+use Rattle.log_entries.proofs.Reductions.{reduction-entered}
+use Rattle.log_entries.specs.Entries.{EntriesIn, Notable, NotedAt}
 use Rattle.run_noted.proofs.Budget.{budget-spent, budget-stops, budget-turn, noted-spent, noted-stops, noted-turn, same-totals}
 use Rattle.run_noted.specs.Noted.{NotedBy, OriginsIn}
 
 -- ---- the entry of a reduction
-
-module _ (limits : Limits) (b : Book) (u : User) where
-  abbrev own : List ℕ
-  own = ownCuts b u (target limits b u)
-
-  entry-is : entryOf limits b u ≡ entered (places (b .trades) (u .party .id)) (ownCuts b u (target limits b u)) (replicate (length (b .trades)) 0)
-  unfolding entryOf
-  entry-is =
-      cuts-sales b u (ownSale (u .party .id)) (own-eligible b u) (target limits b u)
-      ∙ sym (spread-entered (ownSale (u .party .id)) (b .trades) own (own-cuts-length own-sales b u (target limits b u)))
-
-  entry-fits : Sound b → {m : ℕ} → length (b .trades) ≡ m → EntryFits m (entryOf limits b u)
-  entry-fits sound same =
-      let there = noted-fit (reduction-noted limits u (start sound)) in
-      let long = pairs-length (framed (reduced-law limits b u sound .lowered)) ∙ same in
-      subst (λ (m : ℕ). EntryFits m (entryOf limits b u)) long (there .0)
 
 -- the cuts that a turn leaves can be noted
 module _ {limits : Limits} {f : Prices} {s sums ss areaCodes bs : List ℕ} (q : RunOf limits f s sums ss areaCodes bs) where
@@ -80,7 +57,8 @@ module _ {limits : Limits} {f : Prices} {s sums ss areaCodes bs : List ℕ} (q :
   few-trades = omega (arith, length-tradesOf s, q .form .trades)
 
   pub cuts-notable : {place : ℕ} (inside : place < userCount s) {b : Book} {ns ps ts : List ℕ} {es : List Bool} → Going limits (bookOf s) b ns ps ts es → {origins ws : List ℕ}
-      → OriginsIn (bookOf s) ss origins → length ws ≡ 256 → part (getD ss place 0) (getD ss (place + 1) 0) ws ≡ ownCuts b (memberAt b place) (target limits b (memberAt b place))
+      → OriginsIn (borneBook (bookOf s)) ss origins → length ws ≡ 256
+      → part (getD ss place 0) (getD ss (place + 1) 0) ws ≡ ownCuts (borneBook b) (borneUser (b .users) (memberAt b place)) (target limits b (memberAt b place))
       → Notable origins ws (getD ss place 0) (getD ss (place + 1) 0)
   cuts-notable {place} inside {b} h {origins} {ws} at room own =
       let now = reached-now h in
@@ -143,7 +121,11 @@ module _ {limits : Limits} {s : List ℕ} {n count : ℕ} {l₀ : List ℕ} (man
     stays-now : Stays (bookOf s) (p .run .book)
     stays-now = stays (bookOf s) (p .run .book) sound (p .run .going .lowered) (p .run .going .same)
 
-    module _ (k : place < n) (room : have < 256) (few : length (bookOf s .trades) ≤ 256) {ss origins : List ℕ} (at : OriginsIn (bookOf s) ss origins) where
+    -- as the risk is borne
+    alike-now : Alike (borneBook (bookOf s)) (borneBook (p .run .book))
+    alike-now = alike-borne stays-now (framed (p .run .going .borne))
+
+    module _ (k : place < n) (room : have < 256) (few : length (bookOf s .trades) ≤ 256) {ss origins : List ℕ} (at : OriginsIn (borneBook (bookOf s)) ss origins) where
       abbrev user : User
       user = memberAt (p .run .book) place
 
@@ -154,33 +136,22 @@ module _ {limits : Limits} {s : List ℕ} {n count : ℕ} {l₀ : List ℕ} (man
       to = getD ss (place + 1) 0
 
       -- where the user's own sales stand
-      own-places : part (getD ss place 0) (getD ss (place + 1) 0) origins ≡ places (p .run .book .trades) (memberAt (p .run .book) place .party .id)
+      own-places : part (getD ss place 0) (getD ss (place + 1) 0) origins ≡ places (borneBook (p .run .book) .trades) (memberAt (p .run .book) place .party .id)
       own-places =
-          at .each place (omega (arith, k, members many sound (p .run), users-many stays-now))
-          ∙ ap (places (bookOf s .trades)) (sym (ap (λ (q : Party). q .id) (party-stays stays-now place)))
-          ∙ sym (places-stay own-sales (user .party .id) (stays-now .framed))
+          at .each place (omega (arith, k, members many sound (p .run), users-many stays-now, members-borne (bookOf s)))
+          ∙ ap (λ (q : Party). places (borneBook (bookOf s) .trades) (q .id)) (sym (party-stays alike-now place) ∙ party-borne (p .run .book) place)
+          ∙ sym (places-stay own-sales (user .party .id) (alike-now .framed))
 
       module _ {ms qs us : List ℕ} {ds : List Bool} {ws : List ℕ} {tally : Tally} {least : ℕ}
           (turn : Turned limits (bookOf s) (p .run .book) place ts ms qs us ds (part (getD ss place 0) (getD ss (place + 1) 0) ws) tally least)
           {log' : List ℕ} (noted-at : NotedAt have origins ws (getD ss place 0) (getD ss (place + 1) 0) log log') where
         -- the entry
         entry-now : {now : List (List ℕ)} → EntriesIn (length (bookOf s .trades)) now log → length now ≡ have → EntriesIn (length (bookOf s .trades)) (entryOf limits (p .run .book) user ∷ now) log'
+        unfolding entryOf
         entry-now {now} h e =
-            let id = user .party .id in
-            let is = places (p .run .book .trades) id in
-            let inside : (j : ℕ) → j < length (part from to origins) → getD (part from to origins) j 0 < length (bookOf s .trades)
-            = λ j l. omega (
-              arith,
-              ltb→lt (getD is j 0) (length (p .run .book .trades)) (all-at (λ i. ltb i (length (p .run .book .trades))) is (places-inside (ownSale id) (p .run .book .trades)) j 0 (omega (arith, ap length own-places))),
-              trades-many,
-              ap (λ (xs : List ℕ). getD xs j 0) own-places,
-            ) in
-            let is-entry : entered (part from to origins) (part from to ws) (replicate (length (bookOf s .trades)) 0) ≡ entryOf limits (p .run .book) user
-            = ap₂ (λ (xs ys : List ℕ). entered xs ys (replicate (length (bookOf s .trades)) 0)) own-places (turn .cuts)
-            ∙ ap (λ (m : ℕ). entered is (ownCuts (p .run .book) user (target limits (p .run .book) user)) (replicate m 0)) (sym trades-many)
-            ∙ sym (entry-is limits (p .run .book) user) in
-            entry-noted few h (omega arith) (subst (λ (i : ℕ). NotedAt i origins ws from to log log') (sym e) noted-at) inside (entryOf limits (p .run .book) user) is-entry
-            (entry-fits limits (p .run .book) user (p .run .going .sound) trades-many)
+            subst (λ (m : ℕ). EntriesIn m (entryOf limits (p .run .book) user ∷ now) log') trades-many
+            (reduction-entered (p .run .book) user (target limits (p .run .book) user) (p .run .going .sound) (omega (arith, few, trades-many))
+            (subst (λ (m : ℕ). EntriesIn m now log) (sym trades-many) h) e room own-places (turn .cuts) noted-at)
 
         pub noted-more : {cs′ rs′ : List ℕ} {u : Totals} {place′ : ℕ} → NoneCut cs′ → length rs′ ≡ 256
             → totals u ≡ ofRun (t .reductions + 1) (t .mwh .0 + tally .mwh .0) (t .worth .0 + tally .worth .0) → NextFrom us least n place′
@@ -224,7 +195,8 @@ module _ {limits : Limits} {s : List ℕ} {n count : ℕ} {l₀ : List ℕ} (man
             sound = subst Sound e (p .run .going .sound);
             lowered = rw e at (p .run .going .lowered);
             same = rw e at (p .run .going .same);
-            standing = subst (λ (x : Book). StandingIn (bookOf s) x ns) e (p .run .going .standing);
+            borne = subst (λ (x : Book). Pairwise Lowered (borneBook (bookOf s) .trades) (borneBook x .trades)) e (p .run .going .borne);
+            standing = subst (λ (x : Book). StandingIn (borneBook (bookOf s)) (borneBook x) ns) e (p .run .going .standing);
             room = p .run .going .rooms .standing;
           };
           rest = λ f. subst (λ (x : Book). nextReduced limits x (x .users) ≡ none) e (nobody-next f);

@@ -106,9 +106,7 @@ fn change(kind: u8, book: &mut [u8], id: u32, area: u32, amount: i64) {
         print_run(daybook::run(book, false, b"", false, &mut log));
         return;
     }
-    day_print::number(
-        daybook::posting(book, false, b"", false, &mut log, id, area, amount) as u64,
-    );
+    day_print::number(daybook::posting(book, false, b"", false, &mut log, id, area, amount) as u64);
 }
 
 // A call: 0 posting, 1 morning level, 2 afternoon level, 3 warning, 4 morning call, 5 afternoon call, 6 run, 7 whole cancellation, whose
@@ -206,7 +204,7 @@ fn print_users(b: Book)
     let mut i = 0;
     while i < n {
         let user = users[i];
-        print_user(user);
+        print_user(user.user);
         i += 1;
     }
 }

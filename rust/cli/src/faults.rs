@@ -7,7 +7,7 @@
 
 use std::fmt::{self, Display, Formatter};
 
-use daybook::{Book, Trade, User, MOST_TRADES, MOST_USERS, TRADE_LENGTH, USER_LENGTH};
+use daybook::{user_length, Book, Trade, User, MOST_TRADES, MOST_USERS, TRADE_LENGTH};
 
 use crate::fields::{
     date_fault, fields, has_selling_tariffs, header_length, prices, two, Field, Place, MARK,
@@ -152,7 +152,7 @@ fn counts_and_length(bytes: &[u8]) -> Vec<Fault> {
     };
     let (users, trades) = (usize::from(users), usize::from(trades));
     let mut faults = counts(users, trades);
-    let length = header_length(version) + USER_LENGTH * users + TRADE_LENGTH * trades;
+    let length = header_length(version) + user_length(version) * users + TRADE_LENGTH * trades;
     if faults.is_empty() && length != bytes.len() {
         let (users, trades) = (counted(users, "user"), counted(trades, "trade"));
         let (has, length) = (counted(bytes.len(), "byte"), counted(length, "byte"));
@@ -361,11 +361,12 @@ pub fn defined_position(book: &Book, user: &User, area: usize) -> i128 {
 /// The bytes of a user and of a trade that have to be 0 and are not.
 fn zero_bytes(bytes: &[u8], book: &Book) -> Vec<Fault> {
     let header = header_length(book.version);
-    let users = header..header + USER_LENGTH * book.users.len();
+    let users = header..header + user_length(book.version) * book.users.len();
     let trades = bytes.get(users.end..).unwrap_or(&[]);
     let users = bytes.get(users).unwrap_or(&[]);
     let mut faults = Vec::new();
-    for (place, (record, user)) in users.chunks(USER_LENGTH).zip(&book.users).enumerate() {
+    let records = users.chunks(user_length(book.version));
+    for (place, (record, user)) in records.zip(&book.users).enumerate() {
         let known_by = format!("id {}", user.id);
         faults.extend(nonzero(record, 5..8, Place::User(place), known_by));
     }

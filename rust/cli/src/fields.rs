@@ -2,7 +2,7 @@
 
 use std::fmt::{self, Display, Formatter};
 
-use daybook::{Book, Prices, Trade, User, USER_LENGTH};
+use daybook::{user_length, Book, Prices, Trade, User, RECORD_LENGTH};
 
 use crate::words::{self, AREAS};
 
@@ -149,18 +149,25 @@ pub fn fields(bytes: &[u8]) -> Option<Book> {
     let version = two(bytes, 3)?;
     let users = usize::from(*bytes.get(5)?);
     let records = bytes.get(header_length(version)..)?;
-    let (users, trades) = records.split_at_checked(USER_LENGTH * users)?;
+    let (users, trades) = records.split_at_checked(user_length(version) * users)?;
     let mut book = Book {
         version,
         date: four(bytes, 8)?,
         prices: Prices::default(),
-        users: users.as_chunks().0.iter().map(User::from_bytes).collect(),
+        users: users.chunks_exact(user_length(version)).map(user).collect(),
         trades: trades.as_chunks().0.iter().map(Trade::from_bytes).collect(),
     };
     for place in 0..prices(&book).len() {
         put_price(&mut book, place, four(bytes, 12 + 4 * place)?);
     }
     Some(book)
+}
+
+/// The fields of a user's record of any version.
+fn user(record: &[u8]) -> User {
+    let mut bytes = [0; RECORD_LENGTH];
+    bytes[..record.len()].copy_from_slice(record);
+    User::from_bytes(&bytes)
 }
 
 /// Two bytes at a place as a number.

@@ -1,5 +1,4 @@
 -- `by_log` asks 19 where no question before it refuses. Assumes nothing.
-use borrow.Author.Needs.{needs}
 use denote.Ref.{now}
 use Rattle.book_format.proofs.Passed.{passed}
 use Rattle.call_admission.proofs.Log.{log-asked, log-unasked}

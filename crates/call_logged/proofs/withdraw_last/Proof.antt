@@ -1,5 +1,5 @@
 -- `withdraw_last`: the cuts of the last entry are tallied and given back, the entry is dropped, and the log holds the book. Assumes nothing.
-use mathlib.Core.Path.{_≡_, subst, sym, _∙_}
+use mathlib.Core.Path.{_≡_, subst, sym}
 use Prim.Native.Nat.{_≤_}
 use native.Mathlib.Omega.{arith}
 use lib.ListN.{length-take, length-drop}
@@ -11,7 +11,7 @@ use Rattle.fields.specs.Field.{AllBytes}
 use Rattle.log_format.proofs.Read.{FitLog, fits-facts}
 use Rattle.risk_user.proofs.Accepted.{prices-in}
 use Rattle.units.specs.Prices.{InRange, asPrices}
-use Rattle.call_logged.proofs.LastEntry.{part-within, place-low, withdrawal-gives}
+use Rattle.call_logged.proofs.LastEntry.{part-within, withdrawal-gives}
 use Rattle.call_logged.proofs.withdraw_last.Statement.{statement}
 use Rattle.call_logged.proofs.withdraw_last.Tie as tie
 
@@ -56,9 +56,26 @@ part-tally-end c = omega (arith, low (c .before .before), facts (c .before .befo
 
 tally-requires : tie.Need-tally-requires
 tally-requires c κs =
-    let s = c .before .before .before .before .before .before .before .before .before .before .before .before .before .before in
-    let l = now (s .args .log) in
-    ((s .pre .0 .accepted, begin (c .before .before .before .before .before .before), trades-are (c .before .before .before .before .before .before .before .before), subst InRange (sym (prices-are (c .before .before .before .before))) (prices-in (bookOf (now (s .args .book))) (s .pre .0 .accepted .sound))), (simp (length-take, length-drop) (omega (arith, low (c .before .before .before), facts s .size)), part-within l (now (s .args .book)) (s-bytes (c .before .before .before .before .before .before .before .before .before .before .before .before)) (few s) (s .pre .1) (s .args .place) (s .pre .2) (c .before .before .before .entry-offset .ensures .0) (trades-are (c .before .before .before .before .before .before .before .before))))
+    let at-prices-are = c .before .before .before .before in
+    let at-begin = at-prices-are .before .before in
+    let at-trades-are = at-begin .before .before in
+    let at-s-bytes = at-trades-are .before .before .before .before in
+    let s = at-s-bytes .before .before in
+    let l = now (s .args .log) in (
+      (
+        s .pre .0 .accepted,
+        begin at-begin,
+        trades-are at-trades-are,
+        subst InRange (sym (prices-are at-prices-are))
+            (prices-in (bookOf (now (s .args .book))) (s .pre .0 .accepted .sound)),
+      ),
+      (
+        simp (length-take, length-drop) (omega (arith, low (c .before .before .before), facts s .size)),
+        part-within l (now (s .args .book))
+            (s-bytes at-s-bytes) (few s) (s .pre .1) (s .args .place) (s .pre .2) (c .before .before .before .entry-offset .ensures .0)
+            (trades-are at-trades-are),
+      ),
+    )
 
 add-give-back : tie.Need-add-give-back
 add-give-back c = omega (arith, low (c .before .before .before .before .before))
@@ -68,9 +85,19 @@ part-give-back-end c = omega (arith, low (c .before .before .before .before .bef
 
 give-back-requires : tie.Need-give-back-requires
 give-back-requires c κs =
-    let s = c .before .before .before .before .before .before .before .before .before .before .before .before .before .before .before .before .before .before in
-    let l = now (s .args .log) in
-    ((s .pre .0, begin (c .before .before .before .before .before .before .before .before .before .before), trades-are (c .before .before .before .before .before .before .before .before .before .before .before .before)), (simp (length-take, length-drop) (omega (arith, low (c .before .before .before .before .before .before .before), facts s .size)), part-within l (now (s .args .book)) (s-bytes (c .before .before .before .before .before .before .before .before .before .before .before .before .before .before .before .before)) (few s) (s .pre .1) (s .args .place) (s .pre .2) (c .before .before .before .before .before .before .before .entry-offset .ensures .0) (trades-are (c .before .before .before .before .before .before .before .before .before .before .before .before))))
+    let at-low = c .before .before .before .before .before .before .before in
+    let at-begin = at-low .before .before .before in
+    let at-trades-are = at-begin .before .before in
+    let at-s-bytes = at-trades-are .before .before .before .before in
+    let s = at-s-bytes .before .before in
+    let l = now (s .args .log) in (
+      (s .pre .0, begin at-begin, trades-are at-trades-are),
+      (
+        simp (length-take, length-drop) (omega (arith, low at-low, facts s .size)),
+        part-within l (now (s .args .book)) (s-bytes at-s-bytes)
+            (few s) (s .pre .1) (s .args .place) (s .pre .2) (at-low .entry-offset .ensures .0) (trades-are at-trades-are),
+      ),
+    )
 
 drop-entry-requires : tie.Need-drop-entry-requires
 drop-entry-requires c κs = let s = c .before .before .before .before .before .before .before .before .before .before .before .before .before .before .before .before .before .before .before .before .before .before in (facts s .size, omega (arith, s .pre .2, facts s .count))
@@ -79,14 +106,27 @@ cast-seal : tie.Need-cast-seal
 cast-seal c = let s = c .before .before .before .before .before .before .before .before .before .before .before .before .before .before .before .before .before .before .before .before .before .before .before .before .before .before .before in omega (arith, s .pre .2, facts s .count)
 
 seal-requires : tie.Need-seal-requires
-seal-requires c κs = let s = c .before .before .before .before .before .before .before .before .before .before .before .before .before .before .before .before .before .before .before .before .before .before .before .before .before .before .before in (omega (arith, c .before .before .before .before .drop-entry .kept .0, facts s .size), omega (arith, c .before .before .before .before .before .before .before .before .give-back .kept .0, facts s .room))
+seal-requires c κs =
+    let at-drop-entry = c .before .before .before .before in
+    let at-give-back = at-drop-entry .before .before .before .before in
+    let s = at-give-back .before .before .before .before .before .before .before .before .before .before .before .before .before .before .before .before .before .before .before in
+    (omega (arith, at-drop-entry .drop-entry .kept .0, facts s .size), omega (arith, at-give-back .give-back .kept .0, facts s .room))
 
 returns : tie.Need-returns
 returns c =
-    let s = c .before .before .before .before .before .before .before .before .before .before .before .before .before .before .before .before .before .before .before .before .before .before .before .before .before .before .before .before .before .before .before in
+    let at-drop-entry = c .before .before .before .before .before .before .before .before in
+    let at-give-back = at-drop-entry .before .before .before .before in
+    let at-tally = at-give-back .before .before .before .before in
+    let at-entry-offset = at-tally .before .before .before .before in
+    let at-prices-are = at-entry-offset .before in
+    let at-trades-are = at-prices-are .before .before .before .before in
+    let at-s-bytes = at-trades-are .before .before .before .before in
+    let s = at-s-bytes .before .before in
     let l = now (s .args .log) in
-    withdrawal-gives l (now (s .args .book)) (s-bytes (c .before .before .before .before .before .before .before .before .before .before .before .before .before .before .before .before .before .before .before .before .before .before .before .before .before .before .before .before .before)) (few s) (s .pre .1) (s .args .place) (s .pre .2) (c .before .before .before .before .before .before .before .before .before .before .before .before .before .before .before .before .before .before .before .before .entry-offset .ensures .0) (trades-are (c .before .before .before .before .before .before .before .before .before .before .before .before .before .before .before .before .before .before .before .before .before .before .before .before .before)) (prices-are (c .before .before .before .before .before .before .before .before .before .before .before .before .before .before .before .before .before .before .before .before .before))
-    (c .before .before .before .before .before .before .before .before .before .before .before .before .before .before .before .before .tally .ensures) (c .before .before .before .before .before .before .before .before .before .before .before .before .give-back .ensures) (c .before .before .before .before .before .before .before .before .drop-entry .ensures) (c .before .before .before .seal .ensures) (c .withdrawn .ensures)
+    withdrawal-gives l (now (s .args .book)) (s-bytes at-s-bytes) (few s) (s .pre .1) (s .args .place) (s .pre .2)
+    (at-entry-offset .entry-offset .ensures .0) (trades-are at-trades-are) (prices-are at-prices-are)
+    (at-tally .tally .ensures) (at-give-back .give-back .ensures) (at-drop-entry .drop-entry .ensures) (c .before .before .before .seal .ensures)
+    (c .withdrawn .ensures)
 
 pub withdraw-last-spec : {M : Type 1} → statement M
 withdraw-last-spec =

@@ -1,7 +1,7 @@
 -- `withdrawal` is refused by an opening question, has no entry to withdraw, or withdraws the last. Assumes nothing.
-use mathlib.Core.Path.{_≡_, sym, subst, _∙_}
+use mathlib.Core.Path.{_≡_, sym, _∙_}
 use native.Mathlib.Omega.{arith}
-use Prim.Native.Nat.{ℕ, suc, _-_}
+use Prim.Native.Nat.{_-_}
 use lib.Dec.{T}
 use borrow.Author.Needs.{needs}
 use denote.Ref.{now}

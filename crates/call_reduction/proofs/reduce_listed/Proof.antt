@@ -38,8 +38,7 @@ returns : tie.Need-returns
 returns c =
     let s = c .before .before .before .before .before .before .before .before in
     let a = s .args in
-    let left = c .before .before .any-left in
-    (
+    let left = c .before .before .any-left in (
       own-refused (s .pre .0) (s .pre .1 .0) (roomAsked (a .with-log) (now (a .log))) (a .asked .0) (left .ensures) (not-true (left .result) (c .before .if1 .taken)) (c .refused .ensures),
       noted-refused (a .with-log) (cuts (bookOf (now (a .book))) (getD (usersOf (now (a .book))) (a .place) nobody) (a .asked .0)) (now (a .book)) (now (a .book)) (now (a .log)) (λ z. omega (arith, z)) (c .refused .ensures),
     )
@@ -51,8 +50,7 @@ returns-2 : tie.Need-returns-2
 returns-2 c =
     let s = c .before .before .before .before .before .before .before .before .before .before .before in
     let a = s .args in
-    let left = c .before .before .before .before .before .any-left in
-    (
+    let left = c .before .before .before .before .before .any-left in (
       own-full (s .pre .0) (s .pre .1 .0) (roomAsked (a .with-log) (now (a .log))) (a .asked .0) (left .ensures) (not-false (left .result) (c .before .before .before .before .if1 .left))
           (room-full (now (a .log)) (a .with-log) (sym (c .before .before .has-room .ensures) ∙ not-true _ (c .before .if2 .taken))) (c .refused2 .ensures),
       noted-refused (a .with-log) (cuts (bookOf (now (a .book))) (getD (usersOf (now (a .book))) (a .place) nobody) (a .asked .0)) (now (a .book)) (now (a .book)) (now (a .log)) (λ z. omega (arith, z)) (c .refused2 .ensures),
@@ -73,26 +71,36 @@ apply-requires : tie.Need-apply-requires
 apply-requires c κs =
     let s = c .before .before .before .before .before .before .before .before .before .before .before .before .before .before .before .before .before .before .before in
     let a = s .args in
-    ((s .pre .0 .book .book, own-cuttable (s .pre .0) (s .pre .1 .0) (roomAsked (a .with-log) (now (a .log))) (a .asked .0) _ _ (c .before .before .before .before .reduce .ensures .0) refl), users-are (c .before .before))
+    ((s .pre .0 .own, own-cuttable (s .pre .0) (s .pre .1 .0) (roomAsked (a .with-log) (now (a .log))) (a .asked .0) _ _ (c .before .before .before .before .reduce .ensures .0) refl), users-are (c .before .before))
 
 note-requires : tie.Need-note-requires
 note-requires c κs =
-    let s = c .before .before .before .before .before .before .before .before .before .before .before .before .before .before .before .before .before .before .before .before .before .before .before .before .before in
+    let at-apply = c .before .before .before .before .before in
+    let at-reduce = at-apply .before .before .before .before .before in
+    let at-free = at-reduce .before .before .before .before .before in
+    let s = at-free .before .before .before .before .before .before .before .before .before .before in
     let a = s .args in
-    own-notable (s .pre .0) (s .pre .1 .0) (roomAsked (a .with-log) (now (a .log))) (a .asked .0) _ _ (c .before .before .before .before .before .before .before .before .before .before .reduce .ensures .0) refl (s .pre .1 .1) (free (c .before .before .before .before .before .before .before .before .before .before .before .before .before .before .before)) (c .before .before .before .before .before .apply .kept .0)
+    own-notable (s .pre .0) (s .pre .1 .0) (roomAsked (a .with-log) (now (a .log))) (a .asked .0) _ _ (at-reduce .reduce .ensures .0) refl
+    (s .pre .1 .1) (free at-free) (at-apply .apply .kept .0)
 
 returns-3 : tie.Need-returns-3
 unfolding ofCuts
 returns-3 c =
-    let s = c .before .before .before .before .before .before .before .before .before .before .before .before .before .before .before .before .before .before .before .before .before .before .before .before .before .before .before .before .before in
+    let at-apply = c .before .before .before .before .before .before .before .before .before in
+    let at-reduce = at-apply .before .before .before .before .before in
+    let at-free = at-reduce .before .before .before .before .before in
+    let at-passed = at-free .before .before .before in
+    let at-any-left = at-passed .before in
+    let at-slice-known2 = at-any-left .before .before .before .before in
+    let s = at-slice-known2 .before .before in
     let a = s .args in
-    let left = c .before .before .before .before .before .before .before .before .before .before .before .before .before .before .before .before .before .before .before .before .before .before .before .any-left in
-    let r = c .before .before .before .before .before .before .before .before .before .before .before .before .before .before .reduce .ensures in
-    let last = roomAsked (a .with-log) (now (a .log)) in
-    (
-      own-reduced (s .pre .0) (s .pre .1 .0) last (a .asked .0) _ _ (r .0) refl (left .ensures) (not-false (left .result) (c .before .before .before .before .before .before .before .before .before .before .before .before .before .before .before .before .before .before .before .before .before .before .if1 .left))
-          (room-free (now (a .log)) (a .with-log) (free (c .before .before .before .before .before .before .before .before .before .before .before .before .before .before .before .before .before .before .before))) (r .1 .1 .1 .0) (c .before .before .before .before .before .before .before .before .before .apply .ensures) (c .of-cuts .ensures),
-      own-noted (s .pre .0) (s .pre .1 .0) last (a .asked .0) _ _ (r .0) refl (a .with-log) (λ j. c .before .before .before .before .before .before .before .before .before .before .before .before .before .before .before .before .before .before .before .before .before .before .before .before .before .before .before .slice-known2 .given j .fits) (s .pre .1 .1) (free (c .before .before .before .before .before .before .before .before .before .before .before .before .before .before .before .before .before .before .before)) (c .before .before .before .note .ensures)
+    let left = at-any-left .any-left in
+    let r = at-reduce .reduce .ensures in
+    let last = roomAsked (a .with-log) (now (a .log)) in (
+      own-reduced (s .pre .0) (s .pre .1 .0) last (a .asked .0) _ _ (r .0) refl (left .ensures) (not-false (left .result) (at-passed .if1 .left))
+          (room-free (now (a .log)) (a .with-log) (free at-free)) (r .1 .1 .1 .0) (at-apply .apply .ensures) (c .of-cuts .ensures),
+      own-noted (s .pre .0) (s .pre .1 .0) last (a .asked .0) _ _ (r .0) refl (a .with-log) (λ j. at-slice-known2 .slice-known2 .given j .fits)
+          (s .pre .1 .1) (free at-free) (c .before .before .before .note .ensures)
           (ap (λ (x : Answer). x .number) (c .of-cuts .ensures)),
     )
 

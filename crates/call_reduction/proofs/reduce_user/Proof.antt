@@ -18,14 +18,13 @@ abbrev start : tie.After-shortfall-at → tie.Start
 start c = c .before .before .before .before .before
 
 shortfall-at-requires : tie.Need-shortfall-at-requires
-shortfall-at-requires c κs = let s = c .before .before .before .before in (s .pre .0 .0, s .pre .0 .1, refl)
+shortfall-at-requires c κs = let s = c .before .before .before .before in (s .pre .1 .0 .0, s .pre .1 .0 .1, refl)
 
 returns : tie.Need-returns
 returns c =
     let q = c .before .before in
     let a = start q .args in
-    let u = getD (usersOf (now (a .book))) (a .place) nobody in
-    (
+    let u = getD (usersOf (now (a .book))) (a .place) nobody in (
       gives-refused (q .shortfall-at .result .number)
           (user-refused (roomAsked (a .with-log) (now (a .log))) (asLimits (a .day .limits)) (now (a .book)) u (q .shortfall-at .ensures .0) (c .before .if1 .taken)) (c .refused .ensures),
       noted-refused (a .with-log) (entryOf (asLimits (a .day .limits)) (bookOf (now (a .book))) u) (now (a .book)) (now (a .book)) (now (a .log)) (c .before .if1 .taken) (c .refused .ensures),
@@ -36,7 +35,7 @@ reduce-sales-requires c κs =
     let q = c .before .before .before .before .before in
     let s = start q in
     let filled = q .shortfall-at .ensures .1 in
-    (record { limits = asLimits (s .args .day .limits); sums = now (s .args .sums); book = s .pre .0 .0; inside = s .pre .0 .1; positions = filled .0; room = filled .1 }, s .pre .1)
+    (record { limits = asLimits (s .args .day .limits); sums = now (s .args .sums); book = s .pre .1 .0 .0; own = s .pre .0; inside = s .pre .1 .0 .1; positions = filled .0; room = filled .1 }, s .pre .1 .1)
 
 returns-2 : tie.Need-returns-2
 unfolding entryOf
@@ -45,8 +44,7 @@ returns-2 c =
     let e = c .before .before .before .before .before .before .before .before .before in
     let a = start (e .before) .args in
     let u = getD (usersOf (now (a .book))) (a .place) nobody in
-    let q = e .before .shortfall-at .ensures .0 in
-    (
+    let q = e .before .shortfall-at .ensures .0 in (
       rw (user-asked (roomAsked (a .with-log) (now (a .log))) (asLimits (a .day .limits)) (now (a .book)) u q (e .if1 .left)) (r .ensures .0),
       rw (q .target-is (e .if1 .left)) at (r .ensures .1),
     )

@@ -13,7 +13,7 @@ call-requires : tie.Need-call-requires
 call-requires c κs =
     let k = c .before .before .before .before .before .before .before .before .admit-with-sums .ensures in
     let asked = c .before .before .by-log .ensures in
-    (λ z. k .1 .1 .0 (asked .before z), (k .1 .0, parties-with asked (k .1 .1 .1) .summed))
+    (λ z. k .1 .1 .0 (asked .before z), (k .1 .0, parties-with asked (k .1 .1 .1)))
 
 empty-requires : tie.Need-empty-requires
 empty-requires c κs =
@@ -24,8 +24,14 @@ empty-requires c κs =
 
 returns : tie.Need-returns
 returns c =
-    let a = c .before .before .before .before .before .before .before .before .before .before .before .before .before .before .before .before .before .before .before .before .before .before .before .before .args in
-    logged-emptied (call-empties (a .afternoon) (a .id)) (a .with-log) (admitted-with (a .with-log) (c .before .before .before .before .before .before .before .before .before .before .before .before .before .before .before .before .admit-with-sums .ensures .0) (c .before .before .before .before .before .before .before .before .before .before .by-log .ensures)) (c .before .before .before .before .before .before .before .call .ensures) (c .before .before .empty .ensures)
+    let at-call = c .before .before .before .before .before .before .before in
+    let at-by-log = at-call .before .before .before in
+    let at-admit-with-sums = at-by-log .before .before .before .before .before .before in
+    let at-args = at-admit-with-sums .before .before .before .before .before .before .before .before in
+    let a = at-args .args in
+    logged-emptied (call-empties (a .afternoon) (a .id)) (a .with-log)
+    (admitted-with (a .with-log) (at-admit-with-sums .admit-with-sums .ensures .0) (at-by-log .by-log .ensures)) (at-call .call .ensures)
+    (c .before .before .empty .ensures)
 
 pub call-spec : {M : Type 1} → statement M
 call-spec =

@@ -62,9 +62,11 @@ empty-requires c κs =
 
 returns : tie.Need-returns
 returns c =
-    let k = c .before .before .before .before .before .before .before .before .before .before .before .before in
+    let at-list = c .before .before .before .before .before .before .before .before .before in
+    let k = at-list .before .before .before in
     let a = start (k .before .before .before) .args in
-    list-posted (given (a .with-store) (now (a .store))) (now (a .ids)) (now (a .areas)) (now (a .amounts)) (now (a .places)) (now (a .book)) (a .with-log) (now (a .log)) (asked k) (c .before .before .before .before .before .before .before .before .before .list .ensures) (c .before .before .empty .ensures)
+    list-posted (given (a .with-store) (now (a .store))) (now (a .ids)) (now (a .areas)) (now (a .amounts)) (now (a .places)) (now (a .book))
+    (a .with-log) (now (a .log)) (asked k) (at-list .list .ensures) (c .before .before .empty .ensures)
 
 pub list-spec : {M : Type 1} → statement M
 list-spec =

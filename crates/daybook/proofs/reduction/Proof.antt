@@ -10,14 +10,20 @@ by-log-requires c κs = c .before .before .before .before .before .admit-with-su
 
 reduction-requires : tie.Need-reduction-requires
 reduction-requires c κs =
-    let k = c .before .before .before .before .before .before .before .before .before .before .before .admit-with-sums .ensures in
+    let a = c .before .before .before .before .before .before .before .before .before .before .before .admit-with-sums in
+    let k = a .ensures in
     let asked = c .before .before .before .before .before .by-log .ensures in
-    (λ z. k .1 .1 .0 (asked .before z), (asked .fits, (k .1 .0, parties-with asked (k .1 .1 .1))))
+    (λ z. k .1 .1 .0 (asked .before z), (asked .fits, (k .1 .0, ((a .kept .1 .1 .1 .0, a .kept .1 .1 .1 .1 .0), parties-with asked (k .1 .1 .1)))))
 
 returns : tie.Need-returns
 returns c =
-    let a = c .before .before .before .before .before .before .before .before .before .before .before .before .before .before .before .before .before .before .before .before .before .before .before .before .args in
-    reduction-logged (a .with-log) (admitted-with (a .with-log) (c .before .before .before .before .before .before .before .before .before .before .before .before .before .before .before .before .admit-with-sums .ensures .0) (c .before .before .before .before .before .before .before .before .before .before .by-log .ensures)) (c .before .before .before .before .reduction .ensures)
+    let at-reduction = c .before .before .before .before in
+    let at-by-log = at-reduction .before .before .before .before .before .before in
+    let at-admit-with-sums = at-by-log .before .before .before .before .before .before in
+    let at-args = at-admit-with-sums .before .before .before .before .before .before .before .before in
+    let a = at-args .args in
+    reduction-logged (a .with-log) (admitted-with (a .with-log) (at-admit-with-sums .admit-with-sums .ensures .0) (at-by-log .by-log .ensures))
+    (at-reduction .reduction .ensures)
 
 pub reduction-spec : {M : Type 1} → statement M
 reduction-spec =

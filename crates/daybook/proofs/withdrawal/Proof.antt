@@ -20,8 +20,10 @@ withdrawal-requires c κs =
 returns : tie.Need-returns
 unfolding given
 returns c =
-    let o = c .before .before .before .before .withdrawal .ensures in
-    logged-withdrawal (admitted-with true (c .before .before .before .before .before .before .before .before .before .before .before .before .before .before .before .admit-with-sums .ensures .0) (c .before .before .before .before .before .before .before .before .before .before .by-log .ensures) .asked) (o .answer) (o .bytes) (o .log)
+    let called = c .before .before .before .before in
+    let logged = called .before .before .before .before .before .before in
+    let admitted = logged .before .before .before .before .before in
+    logged-withdrawal (admitted-with true (admitted .admit-with-sums .ensures .0) (logged .by-log .ensures) .asked) (called .withdrawal .ensures)
 
 pub withdrawal-spec : {M : Type 1} → statement M
 withdrawal-spec =

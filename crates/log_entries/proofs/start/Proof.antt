@@ -1,5 +1,4 @@
 -- `start` writes a log that holds the book, and makes all entries 0. Assumes nothing.
-use native.Mathlib.Omega.{arith}
 use mathlib.Core.Path.{ap, _∙_}
 use Prim.Native.Nat.{_*_}
 use denote.Ref.{now}
@@ -19,7 +18,9 @@ returns-3 : tie.Need-returns-3
 returns-3 c =
     let emptied = c .before .before in
     let s = emptied .before .before .before .before .before .before .before .before .before .before in
-    start-done (now (s .args .log)) (now (s .args .book)) (emptied .before .before .before .before .before .before .before .if1 .left) (emptied .before .before .before .before .before .before .if2 .left) (emptied .drop-entries .ensures ∙ ap (cleared 9524 (1024 * 256)) (emptied .before .before .before .before .seal .ensures))
+    start-done (now (s .args .log)) (now (s .args .book)) (emptied .before .before .before .before .before .before .before .if1 .left)
+    (emptied .before .before .before .before .before .before .if2 .left)
+    (emptied .drop-entries .ensures ∙ ap (cleared 9524 (1024 * 256)) (emptied .before .before .before .before .seal .ensures))
 
 pub start-spec : {M : Type 1} → statement M
 start-spec = tie.close (tie.spec returns returns-2 (λ c κs. search needs) (λ c κs. search needs) (λ c. search needs) returns-3)

@@ -38,9 +38,15 @@ seal-requires c κs = (omega (arith, c .before .before .before .drop-entries .ke
 
 returns-3 : tie.Need-returns-3
 returns-3 c =
-    let e = c .before .before .before .before .before .before .before .before .before .before in
-    let a = c .before .before .before .before .before .before .before .before .before .before .before .before .before .before .args in
-    emptied (now (a .log)) (now (a .book)) (a .number) (not-false _ (c .before .before .before .before .before .before .before .before .before .before .before .if1 .left)) (e .if2 .left) (can e) (λ j. c .before .before .before .before .before .before .before .before .before .before .before .before .slice-known .given j .fits) (count (c .before .before .before .before .before .before .before .before)) (c .before .before .before .before .before .before .drop-entries .ensures) (c .before .before .seal .ensures)
+    let at-drop-entries = c .before .before .before .before .before .before in
+    let at-count = at-drop-entries .before .before in
+    let e = at-count .before .before in
+    let at-passed = e .before in
+    let at-slice-known = at-passed .before in
+    let at-args = at-slice-known .before .before in
+    let a = at-args .args in
+    emptied (now (a .log)) (now (a .book)) (a .number) (not-false _ (at-passed .if1 .left)) (e .if2 .left) (can e)
+    (λ j. at-slice-known .slice-known .given j .fits) (count at-count) (at-drop-entries .drop-entries .ensures) (c .before .before .seal .ensures)
 
 pub empty-spec : {M : Type 1} → statement M
 empty-spec =

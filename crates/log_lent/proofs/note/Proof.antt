@@ -1,5 +1,5 @@
 -- `note` leaves a log that is not given; else the cuts are its last entry, and it holds the book. Assumes nothing.
-use mathlib.Core.Path.{_≡_, refl}
+use mathlib.Core.Path.{_≡_}
 use native.Mathlib.Omega.{arith}
 use borrow.Author.Needs.{needs}
 use borrow.Author.Tests.{not-false, not-true}

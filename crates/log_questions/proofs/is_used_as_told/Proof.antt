@@ -3,7 +3,6 @@ use mathlib.Core.Path.{_≡_}
 use native.Mathlib.Omega.{arith}
 use borrow.Author.Needs.{needs}
 use denote.Ref.{now}
-use Rattle.book_format.specs.Book.{tradeCount}
 use Rattle.log_format.specs.Log.{entryCount}
 use Rattle.log_questions.proofs.Entries.{used-as-told}
 use Rattle.log_questions.proofs.is_used_as_told.Statement.{statement}

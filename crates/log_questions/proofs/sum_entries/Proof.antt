@@ -1,5 +1,5 @@
 -- `sum_entries`: the entries passed are summed, and the answer so far is theirs. Assumes nothing.
-use mathlib.Core.Path.{_≡_, sym, ap, _∙_}
+use mathlib.Core.Path.{ap, _∙_}
 use native.Mathlib.Omega.{arith}
 use Prim.Native.Nat.{_-_, _≤_}
 use borrow.Author.Needs.{needs}
@@ -55,10 +55,52 @@ pub sum-entries-spec : {M : Type 1} → statement M
 sum-entries-spec =
     tie.close
     (tie.spec Inv-loop μ-loop loop-holds entry-offset-requires add-cuts-requires
-    (λ c. omega (arith, c .before .before .entry-offset .ensures .1, c .before .before .before .loop-test .taken, c .before .before .before .before .before .before .pre .0 .2, c .before .before .before .before .before .before .pre .0 .1, c .before .before .before .before .before .before .pre .0 .0 .size))
-    (λ c. omega (arith, c .before .before .entry-offset .ensures .1, c .before .before .before .loop-test .taken, c .before .before .before .before .before .before .pre .0 .2, c .before .before .before .before .before .before .pre .0 .1, c .before .before .before .before .before .before .pre .0 .0 .size))
-    (λ c. omega (arith, c .before .before .entry-offset .ensures .1, c .before .before .before .loop-test .taken, c .before .before .before .before .before .before .pre .0 .2, c .before .before .before .before .before .before .pre .0 .1, c .before .before .before .before .before .before .pre .0 .0 .size))
-    (λ c. omega (arith, c .before .before .entry-offset .ensures .1, c .before .before .before .loop-test .taken, c .before .before .before .before .before .before .pre .0 .2, c .before .before .before .before .before .before .pre .0 .1, c .before .before .before .before .before .before .pre .0 .0 .size))
-    (λ c. omega (arith, c .before .before .entry-offset .ensures .1, c .before .before .before .loop-test .taken, c .before .before .before .before .before .before .pre .0 .2, c .before .before .before .before .before .before .pre .0 .1, c .before .before .before .before .before .before .pre .0 .0 .size))
-    (λ c. omega (arith, c .before .before .entry-offset .ensures .1, c .before .before .before .loop-test .taken, c .before .before .before .before .before .before .pre .0 .2, c .before .before .before .before .before .before .pre .0 .1, c .before .before .before .before .before .before .pre .0 .0 .size)) (λ c κs. search needs)
+    (λ c. omega (
+      arith,
+      c .before .before .entry-offset .ensures .1,
+      c .before .before .before .loop-test .taken,
+      c .before .before .before .before .before .before .pre .0 .2,
+      c .before .before .before .before .before .before .pre .0 .1,
+      c .before .before .before .before .before .before .pre .0 .0 .size,
+    ))
+    (λ c. omega (
+      arith,
+      c .before .before .entry-offset .ensures .1,
+      c .before .before .before .loop-test .taken,
+      c .before .before .before .before .before .before .pre .0 .2,
+      c .before .before .before .before .before .before .pre .0 .1,
+      c .before .before .before .before .before .before .pre .0 .0 .size,
+    ))
+    (λ c. omega (
+      arith,
+      c .before .before .entry-offset .ensures .1,
+      c .before .before .before .loop-test .taken,
+      c .before .before .before .before .before .before .pre .0 .2,
+      c .before .before .before .before .before .before .pre .0 .1,
+      c .before .before .before .before .before .before .pre .0 .0 .size,
+    ))
+    (λ c. omega (
+      arith,
+      c .before .before .entry-offset .ensures .1,
+      c .before .before .before .loop-test .taken,
+      c .before .before .before .before .before .before .pre .0 .2,
+      c .before .before .before .before .before .before .pre .0 .1,
+      c .before .before .before .before .before .before .pre .0 .0 .size,
+    ))
+    (λ c. omega (
+      arith,
+      c .before .before .entry-offset .ensures .1,
+      c .before .before .before .loop-test .taken,
+      c .before .before .before .before .before .before .pre .0 .2,
+      c .before .before .before .before .before .before .pre .0 .1,
+      c .before .before .before .before .before .before .pre .0 .0 .size,
+    ))
+    (λ c. omega (
+      arith,
+      c .before .before .entry-offset .ensures .1,
+      c .before .before .before .loop-test .taken,
+      c .before .before .before .before .before .before .pre .0 .2,
+      c .before .before .before .before .before .before .pre .0 .1,
+      c .before .before .before .before .before .before .pre .0 .0 .size,
+    )) (λ c κs. search needs)
     (λ c. search needs) (λ c. search needs) loop-again returns)

@@ -6,7 +6,7 @@ use lib.ListN.{drop, getD, length}
 use borrow.Author.Needs.{needs}
 use denote.Ref.{now}
 use Rattle.book_format.proofs.Passed.{length-tradesOf}
-use Rattle.book_format.specs.Book.{bookOf, tradeCount}
+use Rattle.book_format.specs.Book.{bookOf}
 use Rattle.fields.proofs.Records.{length-recordsOf}
 use Rattle.fields.specs.Field.{field}
 use Rattle.log_questions.proofs.Cuts.{cut-field}
@@ -56,19 +56,29 @@ element-copy-out-index-2 c = omega (arith, few (c .before .before .before .befor
 
 give-back-at-requires : tie.Need-give-back-at-requires Inv-loop μ-loop
 give-back-at-requires c κs =
-    let s = c .before .before .before .before .before .before .before .before .before .before in
-    back-here (s .pre .0 .0) (cutsFrom (s .args .m) 0 (now (s .args .entry))) (s .pre .1 .1) (cuts-are s) (c .before .before .before .before .before .before .before .loop .inv .0) (omega (arith, c .before .before .before .before .before .before .loop-test .taken, trades-are s)) (c .before .before .before .index .ensures .0)
-    (c .before .index2 .ensures .0) (cut-is (c .before .before .before .before .before)) (s .pre .0 .1)
+    let at-cut-is = c .before .before .before .before .before in
+    let at-tested = at-cut-is .before in
+    let at-loop = at-tested .before in
+    let s = at-loop .before .before .before in
+    back-here (s .pre .0 .0) (cutsFrom (s .args .m) 0 (now (s .args .entry))) (s .pre .1 .1) (cuts-are s) (at-loop .loop .inv .0)
+    (omega (arith, at-tested .loop-test .taken, trades-are s)) (c .before .before .before .index .ensures .0)
+    (c .before .index2 .ensures .0) (cut-is at-cut-is) (s .pre .0 .1)
 
 add-k : tie.Need-add-k Inv-loop μ-loop
 add-k c = omega (arith, few (c .before .before .before .before .before .before .before .before .before .before .before .before .before))
 
 loop-again : tie.Need-loop-again Inv-loop μ-loop
 loop-again c =
-    let s = c .before .before .before .before .before .before .before .before .before .before .before .before .before in (
-      given-more (s .pre .0 .0) (cutsFrom (s .args .m) 0 (now (s .args .entry))) (s .pre .1 .1) (cuts-are s) (c .before .before .before .before .before .before .before .before .before .before .loop .inv .0) (omega (arith, c .before .before .before .before .before .before .before .before .before .loop-test .taken, trades-are s)) (c .before .before .before .before .before .before .index .ensures .0)
-          (c .before .before .before .before .index2 .ensures .0) (cut-is (c .before .before .before .before .before .before .before .before)) (c .before .before .give-back-at .ensures),
-      omega (arith, c .before .before .give-back-at .kept .0, c .before .before .before .before .before .before .before .before .before .before .loop .inv .1),
+    let at-index2 = c .before .before .before .before in
+    let at-index = at-index2 .before .before in
+    let at-cut-is = at-index .before .before in
+    let at-tested = at-cut-is .before in
+    let at-loop = at-tested .before in
+    let s = at-loop .before .before .before in (
+      given-more (s .pre .0 .0) (cutsFrom (s .args .m) 0 (now (s .args .entry))) (s .pre .1 .1) (cuts-are s) (at-loop .loop .inv .0)
+          (omega (arith, at-tested .loop-test .taken, trades-are s)) (at-index .index .ensures .0)
+          (at-index2 .index2 .ensures .0) (cut-is at-cut-is) (c .before .before .give-back-at .ensures),
+      omega (arith, c .before .before .give-back-at .kept .0, at-loop .loop .inv .1),
     )
 
 same-length : tie.Need-same-length Inv-loop μ-loop

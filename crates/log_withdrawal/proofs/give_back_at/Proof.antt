@@ -28,8 +28,13 @@ put-trade-requires c κs = trade-back (c .before .before .before .before .before
 
 returns : tie.Need-returns
 returns c =
-    let s = c .before .before .before .before .before .before .before .before .before .before .before .before .before in
-    back-done (s .pre) (area-is (c .before .before .before .before .before .before .before .before .before)) (c .before .before .before .before .before .before .before .return-parties .ensures) (c .before .before .before .raised .ensures ∙ ap (raiseBy (s .args .cut)) (c .before .before .before .before .before .before .before .before .before .before .trade-at .ensures)) (c .before .before .put-trade .ensures)
+    let at-return-parties = c .before .before .before .before .before .before .before in
+    let at-area-is = at-return-parties .before .before in
+    let at-trade-at = at-area-is .before in
+    let s = at-trade-at .before .before .before in
+    back-done (s .pre) (area-is at-area-is) (at-return-parties .return-parties .ensures)
+    (c .before .before .before .raised .ensures ∙ ap (raiseBy (s .args .cut)) (at-trade-at .trade-at .ensures))
+    (c .before .before .put-trade .ensures)
 
 pub give-back-at-spec : {M : Type 1} → statement M
 give-back-at-spec =

@@ -1,12 +1,12 @@
 -- `tally`: what is left to tally, tallied, gives the whole. Assumes nothing.
-use mathlib.Core.Path.{_≡_, sym, ap, ap₂, _∙_}
+use mathlib.Core.Path.{_≡_, sym, ap, _∙_}
 use Prim.Native.Nat.{ℕ, _+_, _-_, _*_, _<_}
 use native.Mathlib.Omega.{arith}
 use lib.ListN.{drop, getD, length}
 use borrow.Author.Needs.{needs}
 use denote.Ref.{now}
 use Rattle.book_format.proofs.Passed.{length-tradesOf}
-use Rattle.book_format.specs.Book.{bookOf, tradesOf}
+use Rattle.book_format.specs.Book.{bookOf}
 use Rattle.book_records.specs.Trade.{asTrade}
 use Rattle.cut_worth.specs.Tallies.{asTally}
 use Rattle.fields.proofs.Records.{length-recordsOf}
@@ -41,9 +41,11 @@ few c = omega (arith, c .pre .0 .2, c .pre .0 .0 .held .form .trades)
 -- the cut that was read
 cut-is : (c : tie.After-get-u32 Inv-loop μ-loop) → c .get-u32 .result ≡ getD (cutsFrom (c .before .before .before .before .before .before .args .m) 0 (now (c .before .before .before .before .before .before .args .entry))) (c .before .before .loop .k) 0
 cut-is c =
+    let at-args = c .before .before .before .before .before .before in
     let k = c .before .before .loop .k in
     let none : 4 * k ≡ 0 + 4 * k = omega arith in
-    c .get-u32 .ensures ∙ ap (λ (n : ℕ). field 4 n (now (c .before .before .before .before .before .before .args .entry))) none ∙ sym (cut-field (c .before .before .before .before .before .before .args .m) 0 k (now (c .before .before .before .before .before .before .args .entry)) (c .before .loop-test .taken))
+    c .get-u32 .ensures ∙ ap (λ (n : ℕ). field 4 n (now (at-args .args .entry))) none ∙ sym
+    (cut-field (at-args .args .m) 0 k (now (at-args .args .entry)) (c .before .loop-test .taken))
 
 -- the trade that was read
 trade-is : (c : tie.After-trade-at Inv-loop μ-loop) → asTrade (c .trade-at .result) ≡ getD (bookOf (now (c .before .before .before .before .before .before .before .args .book)) .trades) (c .before .before .before .loop .k) noTrade

@@ -1,5 +1,5 @@
 -- `run_listed`: the arrays are those of the opening book; what the run's sales have lost, taken off in the bytes, gives the rules' book. Assumes nothing.
-use mathlib.Core.Path.{_≡_, refl, _∙_}
+use mathlib.Core.Path.{_≡_, refl}
 use borrow.Author.Needs.{needs}
 use denote.Ref.{now}
 use Rattle.book_format.specs.Book.{tradeCount, userCount}
@@ -19,49 +19,69 @@ trades-are : (c : tie.After-trade-count) → c .trade-count .result ≡ tradeCou
 trades-are c = c .trade-count .ensures
 
 fill-positions-requires : tie.Need-fill-positions-requires
-fill-positions-requires c κs = (c .before .before .before .before .before .before .before .before .pre .0 .book .accepted .held .form, users-are (c .before .before .before .before), refl)
+fill-positions-requires c κs = (c .before .before .before .before .before .before .before .before .pre .1 .0 .book .accepted, users-are (c .before .before .before .before), refl)
 
 fill-cut-requires : tie.Need-fill-cut-requires
-fill-cut-requires c κs = ((c .before .before .before .before .before .before .before .before .before .before .before .pre .0 .book, users-are (c .before .before .before .before .before .before .before), trades-are (c .before .before .before .before .before)), refl)
+fill-cut-requires c κs = ((c .before .before .before .before .before .before .before .before .before .before .before .pre .1 .0 .book, users-are (c .before .before .before .before .before .before .before), trades-are (c .before .before .before .before .before)), refl)
 
 fill-targets-requires : tie.Need-fill-targets-requires
 fill-targets-requires c κs =
-    let s = c .before .before .before .before .before .before .before .before .before .before .before .before .before .before .before .before .before in
-    let r = s .pre .0 in
-    let l = s .pre .1 .0 in
-    ((run-day (run-stays r l), r .low), (run-opening r l (users-are (c .before .before .before .before .before .before .before .before .before .before .before .before .before)) (c .before .before .before .before .before .before .before .before .fill-positions .ensures .0) (c .before .before .before .before .before .fill-cut .ensures), refl, refl))
+    let at-fill-cut = c .before .before .before .before .before in
+    let at-fill-positions = at-fill-cut .before .before .before in
+    let at-users-are = at-fill-positions .before .before .before .before .before in
+    let s = at-users-are .before .before .before .before in
+    let r = s .pre .1 .0 in
+    let l = s .pre .1 .1 .0 in (
+      (run-day (run-stays r l), r .low),
+      (run-opening r l (users-are at-users-are) (at-fill-positions .fill-positions .ensures .0) (at-fill-cut .fill-cut .ensures), refl, refl),
+    )
 
 copy-sales-requires : tie.Need-copy-sales-requires
 copy-sales-requires c κs =
-    let l = c .before .before .before .before .before .before .before .before .before .before .before .before .before .before .before .before .before .before .before .pre .1 .0 in
+    let l = c .before .before .before .before .before .before .before .before .before .before .before .before .before .before .before .before .before .before .before .pre .1 .1 .0 in
     (l .sales .few, l .room .standing-room, refl)
 
 run-on-requires : tie.Need-run-on-requires
 run-on-requires c κs =
-    let s = c .before .before .before .before .before .before .before .before .before .before .before .before .before .before .before .before .before .before .before .before .before .before .before .before .before .before in
-    let r = s .pre .0 in
-    let l = s .pre .1 .0 in
-    let copied = c .before .before .before .before .before .before .copy-sales .ensures in
-    let filled = c .before .before .before .before .before .before .before .before .before .before .before .before .before .before .before .before .before .fill-positions .ensures in
-    let owed = c .before .before .before .before .before .before .before .before .fill-targets .ensures in
-    ((run-stays r l, users-are (c .before .before .before .before .before .before .before .before .before .before .before .before .before .before .before .before .before .before .before .before .before .before)), (run-going r l (copied .0) (copied .1) (filled .0) (filled .1) (owed .0) (owed .1) (owed .2), (listed-origins l, s .pre .1 .1 .0, s .pre .1 .1 .1)))
+    let at-copy-sales = c .before .before .before .before .before .before in
+    let at-fill-targets = at-copy-sales .before .before in
+    let at-fill-positions = at-fill-targets .before .before .before .before .before .before .before .before .before in
+    let at-users-are = at-fill-positions .before .before .before .before .before in
+    let s = at-users-are .before .before .before .before in
+    let r = s .pre .1 .0 in
+    let l = s .pre .1 .1 .0 in
+    let copied = at-copy-sales .copy-sales .ensures in
+    let filled = at-fill-positions .fill-positions .ensures in
+    let owed = at-fill-targets .fill-targets .ensures in (
+      (run-stays r l, users-are at-users-are),
+      (
+        run-going r l (copied .0) (copied .1) (filled .0) (filled .1) (owed .0) (owed .1) (owed .2),
+        (listed-origins l, s .pre .1 .1 .1 .0, s .pre .1 .1 .1 .1),
+      ),
+    )
 
 lost-of-requires : tie.Need-lost-of-requires
 lost-of-requires c κs =
     let s = c .before .before .before .before .before .before .before .before .before .before .before .before .before .before .before .before .before .before .before .before .before .before .before .before .before .before .before .before .before .before in
-    ran-left (s .pre .0 .book .accepted .sound) (s .pre .1 .0) (c .before .before .before .run-on .ensures .ran)
+    ran-left (s .pre .1 .0 .book .accepted .sound) (s .pre .1 .1 .0) (c .before .before .before .run-on .ensures .ran)
 
 apply-requires : tie.Need-apply-requires
 apply-requires c κs =
-    let s = c .before .before .before .before .before .before .before .before .before .before .before .before .before .before .before .before .before .before .before .before .before .before .before .before .before .before .before .before .before .before .before .before .before in
-    let r = s .pre .0 in
-    ((r .book, lost-cuttable (r .book .accepted .sound) (s .pre .1 .0) (c .before .before .before .before .before .before .run-on .ensures .ran) (c .before .before .lost-of .ensures)), users-are (c .before .before .before .before .before .before .before .before .before .before .before .before .before .before .before .before .before .before .before .before .before .before .before .before .before .before .before .before .before))
+    let at-run-on = c .before .before .before .before .before .before in
+    let at-users-are = at-run-on .before .before .before .before .before .before .before .before .before .before .before .before .before .before .before .before .before .before .before .before .before .before .before in
+    let s = at-users-are .before .before .before .before in
+    let r = s .pre .1 .0 in (
+      (s .pre .0, lost-cuttable (r .book .accepted .sound) (s .pre .1 .1 .0) (at-run-on .run-on .ensures .ran) (c .before .before .lost-of .ensures)),
+      users-are at-users-are,
+    )
 
 returns : tie.Need-returns
 returns c =
-    let s = c .before .before .before .before .before .before .before .before .before .before .before .before .before .before .before .before .before .before .before .before .before .before .before .before .before .before .before .before .before .before .before .before .before .before .before .before in
-    let noted = c .before .before .before .before .before .before .before .before .before .run-on .ensures in
-    noted-in noted (ran-in (s .pre .0 .book .accepted .sound) (s .pre .1 .0) (noted .ran) (c .before .before .before .before .before .lost-of .ensures) (c .before .before .apply .ensures))
+    let at-lost-of = c .before .before .before .before .before in
+    let at-run-on = at-lost-of .before .before .before .before in
+    let s = at-run-on .before .before .before .before .before .before .before .before .before .before .before .before .before .before .before .before .before .before .before .before .before .before .before .before .before .before .before in
+    let noted = at-run-on .run-on .ensures in
+    noted-in noted (ran-in (s .pre .1 .0 .book .accepted .sound) (s .pre .1 .1 .0) (noted .ran) (at-lost-of .lost-of .ensures) (c .before .before .apply .ensures))
 
 pub run-listed-spec : {M : Type 1} → statement M
 run-listed-spec =

@@ -47,19 +47,34 @@ turn-requires c κs =
     ((q, omega (arith, k, many), p .here k), (run-ongoing many (q .sound) p, p .none-cut, p .rests-room))
 
 mul-from : tie.Need-mul-from Inv-loop μ-loop
-mul-from c = omega (arith, c .before .before .before .before .before .before .before .before .loop-test .taken, c .before .before .before .before .before .before .before .before .before .before .before .before .before .before .before .pre .0 .1, c .before .before .before .before .before .before .before .before .before .before .before .before .before .before .before .pre .0 .0 .form .users)
+mul-from c =
+    let at-tested = c .before .before .before .before .before .before .before .before in
+    let at-begun = at-tested .before .before .before .before .before .before .before in
+    omega (arith, at-tested .loop-test .taken, at-begun .pre .0 .1, at-begun .pre .0 .0 .form .users)
 
 element-copy-out-from : tie.Need-element-copy-out-from Inv-loop μ-loop
-element-copy-out-from c = omega (arith, c .before .before .before .before .before .before .before .before .loop-test .taken, c .before .before .before .before .before .before .before .before .before .before .before .before .before .before .before .pre .0 .1, c .before .before .before .before .before .before .before .before .before .before .before .before .before .before .before .pre .0 .0 .form .users)
+element-copy-out-from c =
+    let at-tested = c .before .before .before .before .before .before .before .before in
+    let at-begun = at-tested .before .before .before .before .before .before .before in
+    omega (arith, at-tested .loop-test .taken, at-begun .pre .0 .1, at-begun .pre .0 .0 .form .users)
 
 add-to : tie.Need-add-to Inv-loop μ-loop
-add-to c = omega (arith, c .before .before .before .before .before .before .before .before .before .loop-test .taken, c .before .before .before .before .before .before .before .before .before .before .before .before .before .before .before .before .pre .0 .1, c .before .before .before .before .before .before .before .before .before .before .before .before .before .before .before .before .pre .0 .0 .form .users)
+add-to c =
+    let at-tested = c .before .before .before .before .before .before .before .before .before in
+    let at-begun = at-tested .before .before .before .before .before .before .before in
+    omega (arith, at-tested .loop-test .taken, at-begun .pre .0 .1, at-begun .pre .0 .0 .form .users)
 
 mul-to : tie.Need-mul-to Inv-loop μ-loop
-mul-to c = omega (arith, c .before .before .before .before .before .before .before .before .before .loop-test .taken, c .before .before .before .before .before .before .before .before .before .before .before .before .before .before .before .before .pre .0 .1, c .before .before .before .before .before .before .before .before .before .before .before .before .before .before .before .before .pre .0 .0 .form .users)
+mul-to c =
+    let at-tested = c .before .before .before .before .before .before .before .before .before in
+    let at-begun = at-tested .before .before .before .before .before .before .before in
+    omega (arith, at-tested .loop-test .taken, at-begun .pre .0 .1, at-begun .pre .0 .0 .form .users)
 
 element-copy-out-to : tie.Need-element-copy-out-to Inv-loop μ-loop
-element-copy-out-to c = omega (arith, c .before .before .before .before .before .before .before .before .before .loop-test .taken, c .before .before .before .before .before .before .before .before .before .before .before .before .before .before .before .before .pre .0 .1, c .before .before .before .before .before .before .before .before .before .before .before .before .before .before .before .before .pre .0 .0 .form .users)
+element-copy-out-to c =
+    let at-tested = c .before .before .before .before .before .before .before .before .before in
+    let at-begun = at-tested .before .before .before .before .before .before .before in
+    omega (arith, at-tested .loop-test .taken, at-begun .pre .0 .1, at-begun .pre .0 .0 .form .users)
 
 note-requires : tie.Need-note-requires Inv-loop μ-loop
 note-requires c κs =
@@ -78,41 +93,64 @@ note-requires c κs =
 
 clear-requires : tie.Need-clear-requires Inv-loop μ-loop
 clear-requires c κs =
-    let s = c .before .before .before .before .before .before .before .before .before .before .before .before .before .before .before .before .before .before .before .before .before .before .before in
-    let inside : c .before .before .before .before .before .before .before .before .before .before .before .before .before .before .before .before .before .loop .place < userCount (now (s .args .book)) = omega (arith, c .before .before .before .before .before .before .before .before .before .before .before .before .before .before .before .before .loop-test .taken, s .pre .0 .1) in
-    (c .before .before .before .before .before .before .before .before .turn .ensures .1 .0, part-few (s .pre .0 .0) inside)
+    let at-turn = c .before .before .before .before .before .before .before .before in
+    let at-tested = at-turn .before .before .before .before .before .before .before .before in
+    let at-loop = at-tested .before in
+    let s = at-loop .before .before .before .before .before .before in
+    let inside : at-loop .loop .place < userCount (now (s .args .book)) = omega (arith, at-tested .loop-test .taken, s .pre .0 .1) in
+    (at-turn .turn .ensures .1 .0, part-few (s .pre .0 .0) inside)
 
 with-requires : tie.Need-with-requires Inv-loop μ-loop
 with-requires c κs =
-    let s = c .before .before .before .before .before .before .before .before .before .before .before .before .before .before .before .before .before .before .before .before .before .before .before .before .before in
+    let at-turn = c .before .before .before .before .before .before .before .before .before .before in
+    let at-tested = at-turn .before .before .before .before .before .before .before .before in
+    let at-loop = at-tested .before in
+    let s = at-loop .before .before .before .before .before .before in
     let many = s .pre .0 .1 in
     let sound = s .pre .0 .0 .sound in
-    let p = c .before .before .before .before .before .before .before .before .before .before .before .before .before .before .before .before .before .before .before .loop .inv .run in
-    (run-within many sound p, turn-within many sound p (c .before .before .before .before .before .before .before .before .before .before .before .before .before .before .before .before .before .before .loop-test .taken) (c .before .before .before .before .before .before .before .before .before .before .turn .ensures .0 (p .book) (p .going)))
+    let p = at-loop .loop .inv .run in
+    (run-within many sound p, turn-within many sound p (at-tested .loop-test .taken) (at-turn .turn .ensures .0 (p .book) (p .going)))
 
 add-noted : tie.Need-add-noted Inv-loop μ-loop
 add-noted c = omega (arith, c .before .before .before .before .before .before .before .before .before .before .before .before .before .before .before .before .before .before .before .before .loop .inv .few)
 
 next-from-requires-2 : tie.Need-next-from-requires-2 Inv-loop μ-loop
 next-from-requires-2 c κs =
-    let s = c .before .before .before .before .before .before .before .before .before .before .before .before .before .before .before .before .before .before .before .before .before .before .before .before .before .before .before in
-    let p = c .before .before .before .before .before .before .before .before .before .before .before .before .before .before .before .before .before .before .before .before .before .loop .inv .run in
-    (omega (arith, c .before .before .before .before .before .before .before .before .before .before .before .before .before .before .before .before .before .before .before .before .loop-test .taken, c .before .before .before .before .before .before .before .before .before .before .before .before .turn .ensures .0 (p .book) (p .going) .least-most), omega (arith, s .pre .0 .1, s .pre .0 .0 .form .users))
+    let at-turn = c .before .before .before .before .before .before .before .before .before .before .before .before in
+    let at-tested = at-turn .before .before .before .before .before .before .before .before in
+    let at-loop = at-tested .before in
+    let s = at-loop .before .before .before .before .before .before in
+    let p = at-loop .loop .inv .run in
+    (omega (arith, at-tested .loop-test .taken, at-turn .turn .ensures .0 (p .book) (p .going) .least-most), omega (arith, s .pre .0 .1, s .pre .0 .0 .form .users))
 
 loop-less : tie.Need-loop-less Inv-loop μ-loop
 unfolding ofRun
 loop-less c =
-    let s = c .before .before .before .before .before .before .before .before .before .before .before .before .before .before .before .before .before .before .before .before .before .before .before .before .before .before .before .before in
-    omega (arith, run-more (s .pre .0 .1) (s .pre .0 .0 .sound) (c .before .before .before .before .before .before .before .before .before .before .before .before .before .before .before .before .before .before .before .before .before .before .loop .inv .run) (c .before .before .before .before .before .before .before .before .before .before .before .before .before .before .before .before .before .before .before .before .before .loop-test .taken), ap (λ (z : Answer). z .reductions) (c .before .before .with .ensures))
+    let at-tested = c .before .before .before .before .before .before .before .before .before .before .before .before .before .before .before .before .before .before .before .before .before in
+    let at-loop = at-tested .before in
+    let s = at-loop .before .before .before .before .before .before in
+    omega (
+      arith,
+      run-more (s .pre .0 .1) (s .pre .0 .0 .sound) (at-loop .loop .inv .run) (at-tested .loop-test .taken),
+      ap
+          (λ (z : Answer). z .reductions) (c .before .before .with .ensures),
+    )
 
 loop-again : tie.Need-loop-again Inv-loop μ-loop
 loop-again c =
-    let s = c .before .before .before .before .before .before .before .before .before .before .before .before .before .before .before .before .before .before .before .before .before .before .before .before .before .before .before .before in
+    let at-clear = c .before .before .before .before in
+    let at-note = at-clear .before .before .before .before in
+    let at-turn = at-note .before .before .before .before .before in
+    let at-passed = at-turn .before .before .before .before .before .before .before in
+    let at-tested = at-passed .before in
+    let at-loop = at-tested .before in
+    let s = at-loop .before .before .before .before .before .before in
     let q = s .pre .0 .0 in
-    let p = c .before .before .before .before .before .before .before .before .before .before .before .before .before .before .before .before .before .before .before .before .before .before .loop .inv in
-    let turn = c .before .before .before .before .before .before .before .before .before .before .before .before .before .turn .ensures in
-    noted-more (s .pre .0 .1) (q .sound) p (c .before .before .before .before .before .before .before .before .before .before .before .before .before .before .before .before .before .before .before .before .before .loop-test .taken) (room-left (p .few) (c .before .before .before .before .before .before .before .before .before .before .before .before .before .before .before .before .before .before .before .before .if1 .left)) (few-trades q) (s .pre .1 .1 .0)
-    (turn .0 (p .run .book) (p .run .going)) (c .before .before .before .before .before .before .before .before .note .ensures) (c .before .before .before .before .clear .ensures) (turn .1 .1) (c .before .before .with .ensures) (c .next-from2 .ensures)
+    let p = at-loop .loop .inv in
+    let turn = at-turn .turn .ensures in
+    noted-more (s .pre .0 .1) (q .sound) p (at-tested .loop-test .taken) (room-left (p .few) (at-passed .if1 .left)) (few-trades q) (s .pre .1 .1 .0)
+    (turn .0 (p .run .book) (p .run .going)) (at-note .note .ensures) (at-clear .clear .ensures) (turn .1 .1) (c .before .before .with .ensures)
+    (c .next-from2 .ensures)
 
 same-length-2 : tie.Need-same-length-2 Inv-loop μ-loop
 same-length-2 c = c .before .loop .inv .size
