@@ -7,6 +7,7 @@
 
 mod calls;
 mod hard;
+mod logs;
 mod measure;
 mod options;
 mod subjects;
@@ -29,12 +30,14 @@ fn main() -> ExitCode {
     print_machine("before");
     for subject in subjects::usual_books(&options) {
         calls::print_table(&subject, &options);
+        logs::print_table(&subject, &options);
     }
     for version in &options.versions {
         if options.has_book("wide") {
             let wide = subjects::wide(*version);
             calls::print_beyond(&wide, &options);
             calls::print_cancellations(&wide, &options);
+            logs::print_table(&wide, &options);
         }
     }
     hard::print_tables(&options);

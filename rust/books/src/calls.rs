@@ -6,7 +6,7 @@ use reference::transfer::Image;
 /// What each place beside a list holds before the call.
 pub const PLACE_BEFORE: u32 = 99;
 
-/// One call, with its arguments. The book is lent apart.
+/// One call, with its arguments. Book, store and log are lent apart.
 #[derive(Clone, Debug, PartialEq, Eq)]
 pub enum Call {
     Posting {
@@ -53,6 +53,9 @@ pub enum Call {
         tries: u32,
     },
     Run,
+    Withdrawal,
+    /// The log lent is started from the book.
+    Start,
     Read,
     /// The image is written into a part of this length, each byte 0xAA before.
     Write {
@@ -63,7 +66,7 @@ pub enum Call {
 }
 
 impl Call {
-    pub const NAMES: [&'static str; 15] = [
+    pub const NAMES: [&'static str; 17] = [
         "posting",
         "list",
         "show",
@@ -76,6 +79,8 @@ impl Call {
         "reduction",
         "cancellation",
         "run",
+        "withdrawal",
+        "start",
         "read",
         "write",
         "day",
@@ -83,7 +88,24 @@ impl Call {
 
     /// Whether the call can be given a store.
     pub fn takes_store(&self) -> bool {
-        !matches!(self, Call::Read | Call::Write { .. } | Call::Day)
+        !matches!(
+            self,
+            Call::Start | Call::Read | Call::Write { .. } | Call::Day
+        )
+    }
+
+    /// Whether the call can be given a log: it can change a book.
+    pub fn takes_log(&self) -> bool {
+        matches!(
+            self,
+            Call::Posting { .. }
+                | Call::List { .. }
+                | Call::MorningCall { .. }
+                | Call::AfternoonCall { .. }
+                | Call::Reduction { .. }
+                | Call::Run
+                | Call::Withdrawal
+        )
     }
 
     pub fn name(&self) -> &'static str {
@@ -100,9 +122,11 @@ impl Call {
             Call::Reduction { .. } => 9,
             Call::Cancellation { .. } => 10,
             Call::Run => 11,
-            Call::Read => 12,
-            Call::Write { .. } => 13,
-            Call::Day => 14,
+            Call::Withdrawal => 12,
+            Call::Start => 13,
+            Call::Read => 14,
+            Call::Write { .. } => 15,
+            Call::Day => 16,
         };
         Call::NAMES[place]
     }
@@ -114,7 +138,8 @@ impl Call {
 pub struct Answer {
     pub number: u32,
     /// The places of a list; level; level, added; warned; MWh, worth, T, short,
-    /// over; excess, tries, complete; reductions, MWh, worth; else empty.
+    /// over; excess, tries, complete; reductions, MWh, worth; MWh, worth; else
+    /// empty.
     pub fields: Vec<i128>,
     /// The shown record, the 256 marks of a cancellation, the image read, the part
     /// written into, or the printed day; else empty.
@@ -151,12 +176,23 @@ impl Answer {
     }
 }
 
-/// The answer of the reference to a call with this store, or none; the book is
-/// changed as the call says. Reading, writing and a printed day take no store.
-pub fn answer(book: &mut [u8], store: Option<&[u8]>, call: &Call) -> Answer {
+/// What answers a call on a book with a store and a log, or none, and changes book
+/// and log. A withdrawal and a start without a log are given an empty part.
+pub type Implementation = fn(&mut [u8], Option<&[u8]>, Option<&mut [u8]>, &Call) -> Answer;
+
+/// The answer of the reference to a call with this store and log, or none; book and
+/// log are changed as the call says. A store or a log that the call does not take is
+/// not looked at.
+pub fn answer(
+    book: &mut [u8],
+    store: Option<&[u8]>,
+    log: Option<&mut [u8]>,
+    call: &Call,
+) -> Answer {
     match call {
         Call::Posting { id, area, amount } => {
-            Answer::of_fields(reference::posting(book, store, *id, *area, *amount), &[])
+            let number = reference::posting(book, store, log, *id, *area, *amount);
+            Answer::of_fields(number, &[])
         }
         Call::List {
             ids,
@@ -170,7 +206,7 @@ pub fn answer(book: &mut [u8], store: Option<&[u8]>, call: &Call) -> Answer {
                 amounts,
             };
             Answer::of_places(*places, |places| {
-                reference::list(book, store, columns, places)
+                reference::list(book, store, log, columns, places)
             })
         }
         Call::Show { id } => {
@@ -187,13 +223,15 @@ pub fn answer(book: &mut [u8], store: Option<&[u8]>, call: &Call) -> Answer {
         }
         Call::MorningLevel { id } => level(reference::morning_level(book, store, *id)),
         Call::AfternoonLevel { id } => level(reference::afternoon_level(book, store, *id)),
-        Call::MorningCall { id } => guarantee_call(reference::morning_call(book, store, *id)),
-        Call::AfternoonCall { id } => guarantee_call(reference::afternoon_call(book, store, *id)),
+        Call::MorningCall { id } => guarantee_call(reference::morning_call(book, store, log, *id)),
+        Call::AfternoonCall { id } => {
+            guarantee_call(reference::afternoon_call(book, store, log, *id))
+        }
         Call::Warning { id } => {
             let warning = reference::warning(book, store, *id);
             Answer::of_fields(warning.number, &[i128::from(warning.warned)])
         }
-        Call::Reduction { id } => reduction(reference::reduction(book, store, *id)),
+        Call::Reduction { id } => reduction(reference::reduction(book, store, log, *id)),
         Call::Cancellation { id, tries } => {
             let given = reference::cancellation(book, store, *id, *tries);
             let complete = i128::from(given.complete);
@@ -204,9 +242,17 @@ pub fn answer(book: &mut [u8], store: Option<&[u8]>, call: &Call) -> Answer {
             }
         }
         Call::Run => {
-            let run = reference::run(book, store);
+            let run = reference::run(book, store, log);
             let fields = [i128::from(run.reductions), run.mwh, run.worth];
             Answer::of_fields(run.number, &fields)
+        }
+        Call::Withdrawal => {
+            let done = reference::withdrawal(book, store, log.unwrap_or_default());
+            Answer::of_fields(done.number, &[done.mwh, done.worth])
+        }
+        Call::Start => {
+            let number = reference::start_log(log.unwrap_or_default(), book);
+            Answer::of_fields(number, &[])
         }
         Call::Read => {
             let (number, image) = reference::read(book);

@@ -1,17 +1,20 @@
-//! Test support: a seeded generator of day books, stores and calls that reach
+//! Test support: a seeded generator of day books, stores, logs and calls that reach
 //! every branch of document 01 and of the asks of document 02, the answers of the
 //! reference and of the tuned implementation to them, and the outside vectors.
 
 #![forbid(unsafe_code)]
 
 pub mod accepted;
+pub mod asks;
 pub mod calls;
 pub mod cancellations;
 pub mod credits;
 pub mod damage;
 pub mod generator;
+pub mod groups;
 pub mod hard;
 pub mod lists;
+pub mod logs;
 pub mod random;
 pub mod sha256;
 pub mod shrinkage;
@@ -21,7 +24,7 @@ pub mod vectors;
 pub mod versions;
 pub mod written;
 
-pub use calls::{answer, Answer, Call};
+pub use calls::{answer, Answer, Call, Implementation};
 pub use damage::Damage;
 pub use generator::{Arguments, Generator, Kind};
 pub use random::Random;

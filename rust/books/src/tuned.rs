@@ -1,11 +1,12 @@
-//! The answers of the tuned implementation to the calls that take a store.
+//! The answers of the tuned implementation to the calls that take a store, without
+//! a log.
 
 use tuned::requests;
 
 use crate::calls::{Answer, Call};
 
 /// The answer to a call with this store, or none; the book is changed as the
-/// call says. None for a call that takes no store.
+/// call says. None for a call that takes no store, and for a withdrawal.
 pub fn answer(book: &mut [u8], store: Option<&[u8]>, call: &Call) -> Option<Answer> {
     let answer = match call {
         Call::Posting { id, area, amount } => {
@@ -48,7 +49,9 @@ pub fn answer(book: &mut [u8], store: Option<&[u8]>, call: &Call) -> Option<Answ
             cancellation(tuned::cancellation(book, store, *id, *tries))
         }
         Call::Run => run(requests::run(book, store)),
-        Call::Read | Call::Write { .. } | Call::Day => return None,
+        Call::Withdrawal | Call::Start | Call::Read | Call::Write { .. } | Call::Day => {
+            return None
+        }
     };
     Some(answer)
 }
@@ -76,6 +79,8 @@ pub fn plain_answer(book: &mut [u8], call: &Call) -> Option<Answer> {
         Call::Run => run(tuned::run(book)),
         Call::List { .. }
         | Call::Cancellation { .. }
+        | Call::Withdrawal
+        | Call::Start
         | Call::Read
         | Call::Write { .. }
         | Call::Day => return None,

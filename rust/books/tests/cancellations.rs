@@ -113,7 +113,7 @@ fn cancelled(book: &Book, tries: u32) -> (u32, Vec<usize>, Vec<i128>) {
         number,
         fields,
         part,
-    } = answer(&mut bytes, None, &Call::Cancellation { id: 1, tries });
+    } = answer(&mut bytes, None, None, &Call::Cancellation { id: 1, tries });
     assert_eq!(bytes, book.to_bytes());
     assert_eq!(part.len(), 256);
     let marked = (0..256).filter(|place| part[*place] == 1).collect();
@@ -159,7 +159,7 @@ fn the_order_of_the_questions() {
     let bytes = five_sales().to_bytes();
     let number = |store: Option<&[u8]>, id: u32, tries: u32| {
         let call = Call::Cancellation { id, tries };
-        answer(&mut bytes.clone(), store, &call).number
+        answer(&mut bytes.clone(), store, None, &call).number
     };
     let store: &[u8] = b"GPS\x01\x00\x00";
     assert_eq!(number(Some(&[]), 9, 0), 16);
@@ -195,10 +195,10 @@ fn drawn_cancellations() {
             continue;
         };
         let before = bytes.clone();
-        let given = answer(&mut bytes, store, &call);
+        let given = answer(&mut bytes, store, None, &call);
         assert_eq!(bytes, before);
         *reached.entry(given.number).or_insert(0) += 1;
-        let reduction = reference::reduction(&mut bytes, store, id);
+        let reduction = reference::reduction(&mut bytes, store, None, id);
         match given.number {
             0 => {
                 let worth = worth_of(&before, &given.part);

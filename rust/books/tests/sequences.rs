@@ -83,7 +83,7 @@ fn sequence(generator: &mut Generator, opening: &[u8], store: Option<&[u8]>, cal
 
 fn step(bytes: &mut [u8], store: Option<&[u8]>, call: &Call, sums: &mut Sums) {
     let before = bytes.to_vec();
-    let answer = answer(bytes, store, call);
+    let answer = answer(bytes, store, None, call);
     if answer.number != 0 {
         assert_eq!(bytes, before, "a refused call leaves the book");
         let left = i128::from(match call {

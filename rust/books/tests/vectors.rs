@@ -3,7 +3,7 @@
 #![forbid(unsafe_code)]
 
 use books::sha256::sha256;
-use books::{answer, shrinkage, vectors};
+use books::{answer, asks, shrinkage, vectors};
 use reference::shrinkage::{over_days, shrinkage_return};
 
 #[test]
@@ -28,4 +28,9 @@ fn every_return_of_shrinkage() {
 #[test]
 fn every_call_with_a_store() {
     assert_eq!(vectors::replay_requests(answer), vectors::REQUESTS);
+}
+
+#[test]
+fn every_call_with_a_log() {
+    assert_eq!(asks::replay(answer), (asks::CALLS, asks::CALLS_WITH_LOG));
 }

@@ -5,8 +5,8 @@ use std::fmt::{self, Display, Formatter};
 use std::fs;
 use std::path::{Path, PathBuf};
 
-use books::vectors::Implementation;
-use books::{Answer, Call, Generator, Kind};
+use books::logs::{any_log, started};
+use books::{Answer, Call, Generator, Implementation, Kind};
 
 use crate::counts::{Counts, Version};
 use crate::{engine, tuned, typed};
@@ -16,6 +16,12 @@ const MOST_KEPT: usize = 10;
 
 /// The most calls made one after the other on one book.
 const LONGEST_SEQUENCE: usize = 24;
+
+/// One drawn sequence in so many has a log.
+const LOGGED_SEQUENCES: usize = 4;
+
+/// One call in so many of those on a chosen book is made with a log too.
+const LOGGED_CALLS: usize = 12;
 
 /// A call that a side answered otherwise than the reference.
 #[derive(Clone, Debug)]
@@ -29,6 +35,32 @@ pub struct Difference {
     what: String,
     /// Where the book before the call was written to.
     file: PathBuf,
+}
+
+/// One call, and what it is lent.
+#[derive(Clone, Copy)]
+struct Lent<'a> {
+    book: &'a [u8],
+    store: Option<&'a [u8]>,
+    log: Option<&'a [u8]>,
+    call: &'a Call,
+}
+
+/// What a call leaves.
+struct Left {
+    answer: Answer,
+    book: Vec<u8>,
+    log: Option<Vec<u8>>,
+}
+
+impl Lent<'_> {
+    /// The call made on copies of what it is lent.
+    fn left_by(&self, implementation: Implementation) -> Left {
+        let mut book = self.book.to_vec();
+        let mut log = self.log.map(<[u8]>::to_vec);
+        let answer = implementation(&mut book, self.store, log.as_deref_mut(), self.call);
+        Left { answer, book, log }
+    }
 }
 
 impl Display for Difference {
@@ -52,6 +84,7 @@ pub struct Comparison {
     generator: Generator,
     book: Vec<u8>,
     store: Option<Vec<u8>>,
+    log: Option<Vec<u8>>,
     calls_left: usize,
     folder: PathBuf,
     /// The calls compared so far.
@@ -72,6 +105,7 @@ impl Comparison {
             generator: Generator::new(seed),
             book: Vec::new(),
             store: None,
+            log: None,
             calls_left: 0,
             folder: folder.to_path_buf(),
             counts: Counts::default(),
@@ -86,20 +120,49 @@ impl Comparison {
     }
 
     /// Makes drawn calls until this many were compared: sequences of calls with
-    /// one store, or none, each on the book that the call before left.
+    /// one store, or none, each on the book that the call before left, and one
+    /// sequence of four with a log.
     pub fn random_calls(&mut self, calls: u64) {
         while self.counts.all() < calls {
             if self.calls_left == 0 {
                 self.book = self.generator.any_book();
                 self.store = self.generator.store(&self.book);
+                let with_log = self.generator.random().one_in(LOGGED_SEQUENCES);
+                self.log = with_log.then(|| started(&self.book));
                 self.calls_left = 1 + self.generator.random().below(LONGEST_SEQUENCE);
             }
             self.calls_left -= 1;
-            let store = self.store.clone();
-            let call = self.generator.call(&self.book, store.as_deref());
             let mut book = std::mem::take(&mut self.book);
-            self.request(&mut book, store.as_deref(), &call);
-            self.book = book;
+            let store = self.store.take();
+            match self.log.take() {
+                Some(kept) => {
+                    let kept = self.drawn_with_log(&mut book, store.as_deref(), kept);
+                    self.log = Some(kept);
+                }
+                None => {
+                    let call = self.generator.call(&book, store.as_deref());
+                    self.request(&mut book, store.as_deref(), &call);
+                }
+            }
+            (self.book, self.store) = (book, store);
+        }
+    }
+
+    /// A drawn call of a sequence with logs. Most are given the log kept so far; the
+    /// log that the call leaves is kept then, or a new one if it is not for the book.
+    fn drawn_with_log(&mut self, book: &mut [u8], store: Option<&[u8]>, kept: Vec<u8>) -> Vec<u8> {
+        let call = self.generator.logged_call(book, store);
+        if call == Call::Start {
+            let (mut source, mut log) = self.generator.start(book);
+            self.logged(&mut source, None, Some(&mut log), &call);
+            return kept;
+        }
+        let drawn = self.generator.log(book, &kept);
+        let mut lent = drawn.filter(|_| call.takes_log());
+        match (self.logged(book, store, lent.as_deref_mut(), &call), lent) {
+            (19, _) => started(book),
+            (_, Some(left)) => left,
+            (_, None) => kept,
         }
     }
 
@@ -111,43 +174,71 @@ impl Comparison {
 
     /// The same with this store, or none.
     pub fn request(&mut self, book: &mut [u8], store: Option<&[u8]>, call: &Call) {
-        let before = book.to_vec();
-        let given = (&before[..], store, call);
-        let expected = books::answer(book, store, call);
-        self.hold(given, (&expected, book), "archive", engine::answer);
-        if typed::has(call) {
-            self.hold(given, (&expected, book), "daybook", typed::answer);
+        self.logged(book, store, None, call);
+    }
+
+    /// The same with this log too, or none; the log becomes the reference's. The
+    /// tuned implementation, which knows no logs, has to leave the same book without
+    /// one, unless the log's own questions decide. The number is the reference's.
+    pub fn logged(
+        &mut self,
+        book: &mut [u8],
+        store: Option<&[u8]>,
+        log: Option<&mut [u8]>,
+        call: &Call,
+    ) -> u32 {
+        let lent = Lent {
+            book,
+            store,
+            log: log.as_deref(),
+            call,
+        };
+        let expected = lent.left_by(books::answer);
+        let number = expected.answer.number;
+        self.hold(lent, &expected, "archive", engine::answer);
+        if typed::has(call, lent.log) {
+            self.hold(lent, &expected, "daybook", typed::answer);
         }
-        self.hold(given, (&expected, book), "tuned", tuned::answer);
-        let version = Version::of(&before, call);
-        self.counts.add(version, call, expected.number);
+        if tuned::has(call) && ![19, 20].contains(&number) {
+            let without = Lent { log: None, ..lent };
+            self.hold(without, &expected, "tuned", tuned::answer);
+        }
+        self.counts.add(Version::of(book, call), call, number);
+        book.copy_from_slice(&expected.book);
+        if let (Some(log), Some(left)) = (log, &expected.log) {
+            log.copy_from_slice(left);
+        }
+        number
     }
 
     /// Holds the engine, called in one way, or the tuned implementation against
-    /// the expected answer and the expected book afterwards.
+    /// the expected answer, and the expected book and log afterwards.
     fn hold(
         &mut self,
-        (before, store, call): (&[u8], Option<&[u8]>, &Call),
-        (expected, after): (&Answer, &[u8]),
+        lent: Lent<'_>,
+        expected: &Left,
         side: &str,
         implementation: Implementation,
     ) {
-        let mut book = before.to_vec();
-        let found = implementation(&mut book, store, call);
-        let what = if found != *expected {
-            differing(side, &found, expected)
-        } else if book != after {
-            format!(
-                "{side}: another book afterwards, {}",
-                first_byte(&book, after)
-            )
+        let found = lent.left_by(implementation);
+        let what = if found.answer != expected.answer {
+            differing(side, &found.answer, &expected.answer)
+        } else if found.book != expected.book {
+            let bytes = first_byte(&found.book, &expected.book);
+            format!("{side}: another book afterwards, {bytes}")
         } else {
-            return;
+            match (&found.log, &expected.log) {
+                (Some(found), Some(expected)) if found != expected => {
+                    let bytes = first_byte(found, expected);
+                    format!("{side}: another log afterwards, {bytes}")
+                }
+                _ => return,
+            }
         };
-        self.keep((before, store, call), what);
+        self.keep(lent, what);
     }
 
-    fn keep(&mut self, (before, store, call): (&[u8], Option<&[u8]>, &Call), what: String) {
+    fn keep(&mut self, lent: Lent<'_>, what: String) {
         self.differences += 1;
         if self.kept.len() == MOST_KEPT {
             return;
@@ -155,11 +246,11 @@ impl Comparison {
         let place = self.counts.all();
         let file = format!("difference-{}-{}-{place}.gdb", self.name, self.seed);
         let file = self.folder.join(file);
-        fs::write(&file, before).expect("a file for the book");
+        fs::write(&file, lent.book).expect("a file for the book");
         let difference = Difference {
             seed: self.seed,
             place,
-            call: in_words(store, call, &file),
+            call: in_words(lent, &file),
             what,
             file,
         };
@@ -205,11 +296,22 @@ impl Comparison {
         }
         for call in calls {
             self.call(&mut book.to_vec(), &call);
+            if call.takes_log() && self.generator.random().one_in(LOGGED_CALLS) {
+                self.with_any_log(book, &call);
+            }
             let store = self.generator.store(book);
             let short = call != Call::Run || books::generator::is_short_run(book, store.as_deref());
             if call.takes_store() && short {
                 self.request(&mut book.to_vec(), store.as_deref(), &call);
             }
+        }
+    }
+
+    /// The call, and a withdrawal, without a store and with a drawn log.
+    fn with_any_log(&mut self, book: &[u8], call: &Call) {
+        let log = any_log(self.generator.random(), book).unwrap_or_default();
+        for call in [call, &Call::Withdrawal] {
+            self.logged(&mut book.to_vec(), None, Some(&mut log.clone()), call);
         }
     }
 }
@@ -242,29 +344,34 @@ fn first_byte(found: &[u8], expected: &[u8]) -> String {
     }
 }
 
-/// The call and its arguments. A store, an image or a second book is written
+/// The call and its arguments. A store, a log, an image or a second book is written
 /// beside the file of the book.
-fn in_words(store: Option<&[u8]>, call: &Call, file: &Path) -> String {
-    if let Some(store) = store {
-        let beside = file.with_extension("gps");
-        fs::write(&beside, store).expect("a file for the store");
-        let words = in_words(None, call, file);
-        return format!("{words}, with the store {}", beside.display());
-    }
-    let (extension, bytes, rest) = match call {
+fn in_words(lent: Lent<'_>, file: &Path) -> String {
+    let beside = |extension: &str, bytes: &[u8]| {
+        let beside = file.with_extension(extension);
+        fs::write(&beside, bytes).expect("a file for what the call is lent");
+        beside.display().to_string()
+    };
+    let mut words = match lent.call {
         Call::ShowPicked {
             afternoon,
             pick,
             id,
-        } => (
-            "afternoon",
-            &afternoon[..],
-            format!("afternoon picked {pick}, id {id}"),
-        ),
-        Call::Write { image, length } => ("image", &image[..], format!("length {length}")),
-        _ => return format!("{call:?}"),
+        } => {
+            let afternoon = beside("afternoon", afternoon);
+            format!("show picked of {afternoon}, afternoon picked {pick}, id {id}")
+        }
+        Call::Write { image, length } => {
+            let image = beside("image", &image[..]);
+            format!("write of {image}, length {length}")
+        }
+        call => format!("{call:?}"),
     };
-    let beside = file.with_extension(extension);
-    fs::write(&beside, bytes).expect("a file for the bytes of the call");
-    format!("{} of {}, {rest}", call.name(), beside.display())
+    let parts = [("store", "gps", lent.store), ("log", "gdl", lent.log)];
+    for (name, extension, part) in parts {
+        if let Some(bytes) = part {
+            words.push_str(&format!(", with the {name} {}", beside(extension, bytes)));
+        }
+    }
+    words
 }

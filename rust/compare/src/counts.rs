@@ -7,7 +7,7 @@ use reference::book::{Header, MARK};
 use reference::version::FIRST_HEADER_LENGTH;
 
 /// The numbers: 0 for an accepted call, 1 to 14 for a refusal of document 01, 15
-/// for one of ask 1, 16 and 17 of ask 4, 24 and 25 of ask 8.
+/// for one of ask 1, 16 and 17 of ask 4, 18 to 20 of ask 6, 24 and 25 of ask 8.
 pub const NUMBERS: usize = 26;
 
 /// What a call is made on.
@@ -130,14 +130,17 @@ fn kind(name: &str) -> usize {
 /// The numbers that a kind of call can get on a book of this version.
 pub fn possible(version: Version, name: &str) -> Vec<usize> {
     let (last, more): (usize, &[usize]) = match name {
-        "posting" => (8, &[10, 16, 17]),
-        "list" => (7, &[15, 16, 17]),
+        "posting" => (8, &[10, 16, 17, 19]),
+        "list" => (7, &[15, 16, 17, 19]),
         "show" | "show picked" => (8, &[16, 17]),
         "morning level" | "afternoon level" | "warning" => (9, &[16, 17]),
-        "morning call" | "afternoon call" => (9, &[11, 12, 16, 17]),
-        "reduction" => (9, &[11, 13, 14, 16, 17]),
+        "morning call" | "afternoon call" => (9, &[11, 12, 16, 17, 19]),
+        "reduction" => (9, &[11, 13, 14, 16, 17, 19, 20]),
         "cancellation" => (9, &[11, 13, 14, 16, 17, 24, 25]),
-        "run" => (7, &[16, 17]),
+        "run" => (7, &[16, 17, 19, 20]),
+        "withdrawal" => (7, &[16, 17, 18, 19]),
+        // It asks nothing of the book but its length.
+        "start" => return vec![0, 19],
         _ => (7, &[]),
     };
     let mut numbers: Vec<usize> = (0..=last).chain(more.iter().copied()).collect();

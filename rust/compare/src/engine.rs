@@ -10,21 +10,26 @@ use crate::images::{narrowed, shown, widened};
 /// there.
 const BEFORE: u8 = 0xA5;
 
-/// The engine's answer to a call with this store, or none; the book is changed as
-/// the call says.
-pub fn answer(book: &mut [u8], store: Option<&[u8]>, call: &Call) -> Answer {
+/// The engine's answer to a call with this store and log, or none; book and log are
+/// changed as the call says.
+pub fn answer(
+    book: &mut [u8],
+    store: Option<&[u8]>,
+    log: Option<&mut [u8]>,
+    call: &Call,
+) -> Answer {
     match call {
-        Call::Posting { id, area, amount } => Answer::of_fields(
-            archive::posting(book, store, None, *id, *area, *amount),
-            &[],
-        ),
+        Call::Posting { id, area, amount } => {
+            let number = archive::posting(book, store, log, *id, *area, *amount);
+            Answer::of_fields(number, &[])
+        }
         Call::List {
             ids,
             areas,
             amounts,
             places,
         } => Answer::of_places(*places, |places| {
-            archive::list(book, store, None, ids, areas, amounts, places)
+            archive::list(book, store, log, ids, areas, amounts, places)
         }),
         Call::Show { id } => record(|part| archive::show(book, store, *id, part)),
         Call::ShowPicked {
@@ -41,10 +46,10 @@ pub fn answer(book: &mut [u8], store: Option<&[u8]>, call: &Call) -> Answer {
             fields::<1>(|part| archive::afternoon_level(book, store, *id, part))
         }
         Call::MorningCall { id } => {
-            fields::<2>(|part| archive::morning_call(book, store, None, *id, part))
+            fields::<2>(|part| archive::morning_call(book, store, log, *id, part))
         }
         Call::AfternoonCall { id } => {
-            fields::<2>(|part| archive::afternoon_call(book, store, None, *id, part))
+            fields::<2>(|part| archive::afternoon_call(book, store, log, *id, part))
         }
         Call::Warning { id } => fields::<1>(|part| archive::warning(book, store, *id, part)),
         Call::Read => {
@@ -58,7 +63,7 @@ pub fn answer(book: &mut [u8], store: Option<&[u8]>, call: &Call) -> Answer {
             Answer::of_part(number, &part)
         }
         Call::Reduction { id } => {
-            fields::<5>(|part| archive::reduction(book, store, None, *id, part))
+            fields::<5>(|part| archive::reduction(book, store, log, *id, part))
         }
         Call::Cancellation { id, tries } => {
             let mut marks = [BEFORE; MOST_TRADES];
@@ -70,7 +75,15 @@ pub fn answer(book: &mut [u8], store: Option<&[u8]>, call: &Call) -> Answer {
                 ..found
             }
         }
-        Call::Run => fields::<3>(|part| archive::run(book, store, None, part)),
+        Call::Run => fields::<3>(|part| archive::run(book, store, log, part)),
+        Call::Withdrawal => {
+            let log = log.unwrap_or_default();
+            fields::<2>(|part| archive::withdrawal(book, store, log, part))
+        }
+        Call::Start => {
+            let number = archive::start_log(log.unwrap_or_default(), book);
+            Answer::of_fields(number, &[])
+        }
         Call::Day => crate::day::printed(book, answer),
     }
 }

@@ -6,10 +6,21 @@ use tuned::IMAGE_LENGTH;
 /// What an image holds before the call: a refusal has to put 0 there.
 const BEFORE: u8 = 0xA5;
 
-/// The answer of the tuned implementation to a call with this store, or none; the
-/// book is changed as the call says. Without a store its functions of document 01
-/// have to give the same to the calls of that document.
-pub fn answer(book: &mut [u8], store: Option<&[u8]>, call: &Call) -> Answer {
+/// Whether the tuned implementation has the call; it knows no logs.
+pub fn has(call: &Call) -> bool {
+    !matches!(call, Call::Withdrawal | Call::Start)
+}
+
+/// The answer of the tuned implementation to a call with this store, or none, and
+/// without a log; the book is changed as the call says. Without a store its
+/// functions of document 01 have to give the same to the calls of that document.
+pub fn answer(
+    book: &mut [u8],
+    store: Option<&[u8]>,
+    log: Option<&mut [u8]>,
+    call: &Call,
+) -> Answer {
+    assert!(log.is_none() && has(call), "a call without a log");
     let before = book.to_vec();
     if let Some(given) = books::tuned::answer(book, store, call) {
         if store.is_none() {

@@ -2,18 +2,19 @@
 
 use books::{Answer, Call};
 use daybook::{
-    Book, Cancellation, GuaranteeCall, Image, Level, Line, Refusal, Request, Trade, User,
-    IMAGE_LENGTH, MOST_TRADES,
+    Book, Cancellation, GuaranteeCall, Image, Level, Line, Log, Refusal, Request, Run, Trade, User,
+    IMAGE_LENGTH, LOG_LENGTH, MOST_TRADES,
 };
 
 use crate::images::{narrowed, shown, widened};
 
 /// Whether the call has a function of its own in `daybook`; a printed day is
-/// put together of others, and a list of lines has columns and places of one
-/// count.
-pub fn has(call: &Call) -> bool {
+/// put together of others, a list of lines has columns and places of one count,
+/// and a started log has the right length.
+pub fn has(call: &Call, log: Option<&[u8]>) -> bool {
     match call {
         Call::Day => false,
+        Call::Start => log.is_some_and(|log| log.len() == LOG_LENGTH),
         Call::List {
             ids,
             areas,
@@ -24,13 +25,40 @@ pub fn has(call: &Call) -> bool {
     }
 }
 
-/// The answer to a call that `daybook` has, with this store, or none; the book is
-/// changed as the call says.
-pub fn answer(book: &mut [u8], store: Option<&[u8]>, call: &Call) -> Answer {
-    let mut request = match store {
+/// The answer to a call that `daybook` has, with this store and log, or none; book
+/// and log are changed as the call says.
+pub fn answer(
+    book: &mut [u8],
+    store: Option<&[u8]>,
+    log: Option<&mut [u8]>,
+    call: &Call,
+) -> Answer {
+    let request = match store {
         Some(store) => Request::new().store(store),
         None => Request::new(),
     };
+    let Some(log) = log else {
+        return requested(request, book, call);
+    };
+    if *call == Call::Start {
+        return start(book, log);
+    }
+    let mut lent = Log::from_bytes(log.to_vec());
+    let answer = requested(request.log(&mut lent), book, call);
+    log.copy_from_slice(lent.as_bytes());
+    answer
+}
+
+/// A started log takes the place of the lent bytes; a refusal leaves them.
+fn start(book: &[u8], log: &mut [u8]) -> Answer {
+    let started = Log::start(book);
+    if let Ok(started) = &started {
+        log.copy_from_slice(started.as_bytes());
+    }
+    Answer::of_fields(number(&started), &[])
+}
+
+fn requested(mut request: Request<'_>, book: &mut [u8], call: &Call) -> Answer {
     match call {
         Call::Posting { id, area, amount } => {
             fields(request.posting(book, *id, *area, *amount).map(|()| []))
@@ -68,11 +96,12 @@ pub fn answer(book: &mut [u8], store: Option<&[u8]>, call: &Call) -> Answer {
             }))
         }
         Call::Cancellation { id, tries } => cancellation(request.cancellation(book, *id, *tries)),
-        Call::Run => {
-            let run = request.run(book);
-            fields(run.map(|done| [done.reductions, done.mwh, done.worth].map(i128::from)))
+        Call::Run => run(request.run(book)),
+        Call::Withdrawal => {
+            let done = request.withdraw(book);
+            fields(done.map(|done| [done.mwh, done.worth].map(i128::from)))
         }
-        Call::Day => panic!("a printed day has no function of its own"),
+        Call::Start | Call::Day => panic!("{} takes no request", call.name()),
     }
 }
 
@@ -130,6 +159,17 @@ fn cancellation(answer: Result<Cancellation, Refusal>) -> Answer {
         part: marks.to_vec(),
         ..found
     }
+}
+
+/// A run at a full log has its totals beside 20.
+fn run(answer: Result<Run, Refusal>) -> Answer {
+    let full = answer.is_ok_and(|done| done.log_full);
+    let mut found =
+        fields(answer.map(|done| [done.reductions, done.mwh, done.worth].map(i128::from)));
+    if full {
+        found.number = Refusal::LogFull.number();
+    }
+    found
 }
 
 fn record(answer: Result<User, Refusal>) -> Answer {

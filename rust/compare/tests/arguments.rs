@@ -2,6 +2,7 @@
 
 #![forbid(unsafe_code)]
 
+use books::logs::started;
 use books::versions::VERSIONS;
 use books::{Call, Generator, Kind};
 use compare::settings::{comparison, seed};
@@ -253,6 +254,11 @@ fn wrong_answer(book: &mut [u8], length: usize) {
     }
     if length != 3 {
         assert_eq!(archive::run(book, None, None, part), WRONG_LENGTH);
+    }
+    if length != 2 {
+        let mut log = started(book);
+        let number = archive::withdrawal(book, None, &mut log, part);
+        assert_eq!((number, log), (WRONG_LENGTH, started(book)));
     }
     assert_eq!(answer, vec![7; length]);
 }

@@ -3,35 +3,45 @@
 
 #![forbid(unsafe_code)]
 
-use books::vectors::{days, replay, replay_requests, Implementation, CALLS, DAYS, REQUESTS};
-use books::Call;
+use books::vectors::{days, replay, replay_requests, CALLS, DAYS, REQUESTS};
+use books::{answer, asks, Call, Implementation};
 use compare::{engine, tuned, typed};
 
 #[test]
 fn every_call_of_the_archive() {
     assert_eq!(replay(engine::answer), CALLS);
     assert_eq!(replay_requests(engine::answer), REQUESTS);
+    let with_log = (asks::CALLS, asks::CALLS_WITH_LOG);
+    assert_eq!(asks::replay(engine::answer), with_log);
 }
 
-/// What the types of `daybook` cannot say, lists with columns of several counts,
-/// goes to the archive.
+/// What the types of `daybook` cannot say, lists with columns of several counts and
+/// the start of a log of another length, goes to the archive.
 #[test]
 fn every_call_of_daybook() {
-    let answer: Implementation = |book, store, call| {
-        if typed::has(call) {
-            typed::answer(book, store, call)
+    let answer: Implementation = |book, store, log, call| {
+        if typed::has(call, log.as_deref()) {
+            typed::answer(book, store, log, call)
         } else {
-            engine::answer(book, store, call)
+            engine::answer(book, store, log, call)
         }
     };
     assert_eq!(replay(answer), CALLS);
     assert_eq!(replay_requests(answer), REQUESTS);
+    let with_log = (asks::CALLS, asks::CALLS_WITH_LOG);
+    assert_eq!(asks::replay(answer), with_log);
 }
 
+/// Calls with a log go to the reference, so that the lines after them have theirs.
 #[test]
 fn every_call_of_tuned() {
     assert_eq!(replay(tuned::answer), CALLS);
     assert_eq!(replay_requests(tuned::answer), REQUESTS);
+    let without_log: Implementation = |book, store, log, call| match log {
+        Some(log) => answer(book, store, Some(log), call),
+        None => tuned::answer(book, store, None, call),
+    };
+    assert_eq!(asks::replay(without_log).0, asks::CALLS);
 }
 
 /// The printed days, put together of the engine's calls.
@@ -51,7 +61,7 @@ fn every_day_of(implementation: Implementation) {
     assert_eq!(days.len(), DAYS);
     for day in days {
         let mut book = day.book.clone();
-        let printed = implementation(&mut book, None, &Call::Day).part;
+        let printed = implementation(&mut book, None, None, &Call::Day).part;
         assert_eq!(printed, day.printed, "{}", day.name);
         assert_eq!(book, day.book, "{}", day.name);
     }

@@ -1,7 +1,9 @@
 //! "Levels and calls": the two guarantee calls.
 
+use crate::book::Book;
 use crate::levels::{above_margin, afternoon_level_of, called_in, morning_level_of};
-use crate::questions::{ask, questions_to_9, Opened, ACCEPTED};
+use crate::logged::{empty, logged};
+use crate::questions::{ask, Opened, ACCEPTED};
 use crate::units::Cents;
 
 #[derive(Clone, Copy, Debug, Default, PartialEq, Eq)]
@@ -12,71 +14,78 @@ pub struct CallAnswer {
 }
 
 /// The guarantee call of the morning, at the morning level.
-pub fn morning_call(bytes: &mut [u8], store: Option<&[u8]>, id: u32) -> CallAnswer {
-    let called = morning_called(bytes, store, id);
-    answer(bytes, called)
+pub fn morning_call(
+    bytes: &mut [u8],
+    store: Option<&[u8]>,
+    log: Option<&mut [u8]>,
+    id: u32,
+) -> CallAnswer {
+    guarantee_call(bytes, store, log, |opened| call_in_the_morning(opened, id))
 }
 
 /// The guarantee call of the afternoon, at the afternoon level.
-pub fn afternoon_call(bytes: &mut [u8], store: Option<&[u8]>, id: u32) -> CallAnswer {
-    let called = afternoon_called(bytes, store, id);
-    answer(bytes, called)
-}
-
-/// A call accepted: the book afterwards, the level and the amount added.
-struct Called {
-    after: Vec<u8>,
-    level: Cents,
-    added: Cents,
-}
-
-fn answer(bytes: &mut [u8], called: Result<Called, u32>) -> CallAnswer {
-    match called {
-        Ok(called) => {
-            bytes.copy_from_slice(&called.after);
-            CallAnswer {
-                number: ACCEPTED,
-                level: called.level.0,
-                added: called.added.0,
-            }
-        }
-        Err(number) => CallAnswer {
-            number,
-            ..CallAnswer::default()
-        },
-    }
-}
-
-/// Question 11 of the morning call does not ask whether the user is called in.
-fn morning_called(bytes: &[u8], store: Option<&[u8]>, id: u32) -> Result<Called, u32> {
-    let (Opened { mut book, limits }, place) = questions_to_9(bytes, store, id)?;
-    let user = &book.users[place];
-    let level = morning_level_of(&limits, &book, user);
-    ask(11, above_margin(&limits, user, level))?;
-    ask(12, user.assigned >= level)?;
-    let added = level - user.blocked;
-    book.users[place].blocked = level;
-    Ok(Called {
-        after: book.to_bytes(),
-        level,
-        added,
+pub fn afternoon_call(
+    bytes: &mut [u8],
+    store: Option<&[u8]>,
+    log: Option<&mut [u8]>,
+    id: u32,
+) -> CallAnswer {
+    guarantee_call(bytes, store, log, |opened| {
+        call_in_the_afternoon(opened, id)
     })
 }
 
-fn afternoon_called(bytes: &[u8], store: Option<&[u8]>, id: u32) -> Result<Called, u32> {
-    let (Opened { mut book, limits }, place) = questions_to_9(bytes, store, id)?;
+fn guarantee_call(
+    bytes: &mut [u8],
+    store: Option<&[u8]>,
+    log: Option<&mut [u8]>,
+    call: impl FnOnce(&mut Opened) -> Result<CallAnswer, u32>,
+) -> CallAnswer {
+    let called = logged(bytes, store, log, true, |opened, log| {
+        let answer = call(opened)?;
+        empty(log);
+        Ok(answer)
+    });
+    called.unwrap_or_else(|number| CallAnswer {
+        number,
+        ..CallAnswer::default()
+    })
+}
+
+/// Questions 8, 9, 11 and 12, then the call of the morning. Its question 11 does
+/// not ask whether the user is called in.
+fn call_in_the_morning(opened: &mut Opened, id: u32) -> Result<CallAnswer, u32> {
+    let place = opened.questions_8_and_9(id)?;
+    let Opened { book, limits } = opened;
     let user = &book.users[place];
-    let level = afternoon_level_of(&limits, &book, user);
+    let level = morning_level_of(limits, book, user);
+    ask(11, above_margin(limits, user, level))?;
+    ask(12, user.assigned >= level)?;
+    Ok(block(book, place, level))
+}
+
+/// Questions 8, 9, 11 and 12, then the call of the afternoon.
+fn call_in_the_afternoon(opened: &mut Opened, id: u32) -> Result<CallAnswer, u32> {
+    let place = opened.questions_8_and_9(id)?;
+    let Opened { book, limits } = opened;
+    let user = &book.users[place];
+    let level = afternoon_level_of(limits, book, user);
     ask(
         11,
-        above_margin(&limits, user, level) && called_in(&limits, &book, user),
+        above_margin(limits, user, level) && called_in(limits, book, user),
     )?;
     ask(12, user.assigned >= level)?;
+    Ok(block(book, place, level))
+}
+
+/// "An accepted call adds to blocked what it lacks to reach the level."
+fn block(book: &mut Book, place: usize, level: Cents) -> CallAnswer {
+    let user = &mut book.users[place];
     let added = level - user.blocked;
-    book.users[place].blocked = level;
-    Ok(Called {
-        after: book.to_bytes(),
-        level,
-        added,
-    })
+    user.blocked = level;
+    CallAnswer {
+        number: ACCEPTED,
+        level: level.0,
+        added: added.0,
+    }
 }

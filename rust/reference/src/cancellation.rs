@@ -3,7 +3,7 @@
 
 use crate::book::{Book, User, MOST_TRADES};
 use crate::questions::{ask, opening_questions, Opened, ACCEPTED};
-use crate::reduction::{is_eligible, questions_11_to_14, target};
+use crate::reduction::{is_eligible, questions_8_to_14, target};
 use crate::units::Cents;
 
 /// "A number of tries from 1 to 65,535."
@@ -38,12 +38,11 @@ fn cancelled(
     id: u32,
     tries: u32,
 ) -> Result<CancellationAnswer, u32> {
-    let Opened { book, limits } = opening_questions(bytes, store)?;
+    let opened = opening_questions(bytes, store)?;
     ask(25, (1..=MOST_TRIES).contains(&tries))?;
-    let place = book.place_of(id).ok_or(8_u32)?;
+    let place = questions_8_to_14(&opened, id)?;
+    let Opened { book, limits } = opened;
     let user = &book.users[place];
-    ask(9, user.is_shipper())?;
-    questions_11_to_14(&limits, &book, user)?;
     let target = target(&limits, &book, user);
     let eligible = eligible_places(&book, user);
     let worths = worths(&book, &eligible);
@@ -66,7 +65,7 @@ fn cancelled(
 /// The places of the eligible trades, "from both tiers", in the order of the
 /// book.
 fn eligible_places(book: &Book, user: &User) -> Vec<usize> {
-    let eligible = |place: &usize| is_eligible(&book.trades[*place], user);
+    let eligible = |place: &usize| is_eligible(book, &book.trades[*place], user);
     (0..book.trades.len()).filter(eligible).collect()
 }
 

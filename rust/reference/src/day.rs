@@ -4,25 +4,25 @@ use std::fmt::Write;
 
 use crate::book::{Book, User};
 use crate::levels::{above_margin, afternoon_level_of, called_in};
-use crate::questions::questions_1_to_7;
+use crate::questions::{opening_questions, Opened};
 use crate::run::{run_book, short_of_cover};
 use crate::store::Limits;
 use crate::units::Cents;
 
 /// What the program `day` prints for this input.
 pub fn day(bytes: &[u8]) -> String {
-    match questions_1_to_7(bytes) {
-        Ok(book) => printed(book),
+    match opening_questions(bytes, None) {
+        Ok(opened) => printed(opened),
         Err(number) => format!("refused {number}\n"),
     }
 }
 
 /// Runs the book, then prints the totals and one line per user.
-fn printed(mut book: Book) -> String {
-    let run = run_book(&Limits::TODAY, &mut book);
+fn printed(mut opened: Opened) -> String {
+    let run = run_book(&mut opened, None);
     let mut text = format!("run {} {} {}\n", run.reductions, run.mwh, run.worth);
-    for user in &book.users {
-        text.push_str(&line(&book, user));
+    for user in &opened.book.users {
+        text.push_str(&line(&opened.book, user));
     }
     text
 }

@@ -1,7 +1,8 @@
 //! Reference implementation of document 01: the day book, imbalance risk,
 //! guarantee calls and reduced trades; and of document 02, asks 4 (parameters
-//! with a start date), 1 (a list of postings), 8 (whole cancellations) and 3
-//! (credit for long positions, version 2 of the book).
+//! with a start date), 1 (a list of postings), 8 (whole cancellations), 3 (credit
+//! for long positions, version 2 of the book), 6 (a log, and the withdrawal of a
+//! reduction) and 5 (group portfolios, version 3 of the book).
 //!
 //! It is plain and slow on purpose. The modules follow the order of the
 //! document, and the comments cite its sections in quotes. Every number is
@@ -11,8 +12,10 @@
 //! has nothing to do with a book.
 //!
 //! Every call takes the book as bytes, and a store as bytes or none; reading,
-//! writing and the printed day take no store. A refused call returns the number of
-//! the first question that failed, every other field 0, and leaves the book.
+//! writing, the printed day and the start of a log take no store. A call that can
+//! change a book takes a log as bytes, or none; a withdrawal always takes one. A
+//! refused call returns the number of the first question that failed, every other
+//! field 0, and leaves the book and the log.
 
 #![forbid(unsafe_code)]
 
@@ -21,8 +24,11 @@ pub mod calls;
 pub mod cancellation;
 pub mod credit;
 pub mod day;
+pub mod group;
 pub mod levels;
 pub mod list;
+pub mod log;
+pub mod logged;
 pub mod posting;
 pub mod questions;
 pub mod reduction;
@@ -34,12 +40,14 @@ pub mod transfer;
 pub mod units;
 pub mod version;
 pub mod warning;
+pub mod withdrawal;
 
 pub use calls::{afternoon_call, morning_call, CallAnswer};
 pub use cancellation::{cancellation, CancellationAnswer};
 pub use day::day;
 pub use levels::{afternoon_level, morning_level, LevelAnswer};
 pub use list::{list, Columns};
+pub use log::start as start_log;
 pub use posting::posting;
 pub use questions::check;
 pub use reduction::{reduction, ReductionAnswer};
@@ -47,3 +55,4 @@ pub use run::{run, RunAnswer};
 pub use show::{show, show_picked};
 pub use transfer::{read, write, Image};
 pub use warning::{warning, WarningAnswer};
+pub use withdrawal::{withdrawal, WithdrawalAnswer};

@@ -1,8 +1,10 @@
 //! "Reduction".
 
 use crate::book::{Book, Trade, User};
+use crate::group;
 use crate::levels::{above_margin, afternoon_level_of, called_in};
-use crate::questions::{ask, questions_to_9, Opened, ACCEPTED};
+use crate::logged::{has_room, logged, note};
+use crate::questions::{ask, Opened, ACCEPTED};
 use crate::store::Limits;
 use crate::units::{Area, Cents, Mwh, Price};
 
@@ -17,30 +19,35 @@ pub struct ReductionAnswer {
     pub over: i128,
 }
 
-/// Reduces the sales of one shipper.
-pub fn reduction(bytes: &mut [u8], store: Option<&[u8]>, id: u32) -> ReductionAnswer {
-    match reduced(bytes, store, id) {
-        Ok((after, answer)) => {
-            bytes.copy_from_slice(&after);
-            answer
-        }
-        Err(number) => ReductionAnswer {
-            number,
-            ..ReductionAnswer::default()
-        },
-    }
+/// Reduces the sales of one shipper. "A reduction with a full log" gives 20, asked
+/// last.
+pub fn reduction(
+    bytes: &mut [u8],
+    store: Option<&[u8]>,
+    log: Option<&mut [u8]>,
+    id: u32,
+) -> ReductionAnswer {
+    let reduced = logged(bytes, store, log, true, |opened, log| {
+        let place = questions_8_to_14(opened, id)?;
+        ask(20, has_room(log.as_deref()))?;
+        Ok(note(opened, place, log))
+    });
+    reduced.unwrap_or_else(|number| ReductionAnswer {
+        number,
+        ..ReductionAnswer::default()
+    })
 }
 
-/// The questions of a reduction, then the book afterwards and the answer.
-fn reduced(bytes: &[u8], store: Option<&[u8]>, id: u32) -> Result<(Vec<u8>, ReductionAnswer), u32> {
-    let (Opened { mut book, limits }, place) = questions_to_9(bytes, store, id)?;
-    questions_11_to_14(&limits, &book, &book.users[place])?;
-    let answer = reduce(&limits, &mut book, place);
-    Ok((book.to_bytes(), answer))
+/// The questions of a reduction after the opening ones: the user's place.
+pub fn questions_8_to_14(opened: &Opened, id: u32) -> Result<usize, u32> {
+    let place = opened.questions_8_and_9(id)?;
+    let user = &opened.book.users[place];
+    questions_11_to_14(&opened.limits, &opened.book, user)?;
+    Ok(place)
 }
 
 /// The questions 11, 13 and 14 of a reduction.
-pub fn questions_11_to_14(limits: &Limits, book: &Book, user: &User) -> Result<(), u32> {
+fn questions_11_to_14(limits: &Limits, book: &Book, user: &User) -> Result<(), u32> {
     let level = afternoon_level_of(limits, book, user);
     ask(
         11,
@@ -50,13 +57,15 @@ pub fn questions_11_to_14(limits: &Limits, book: &Book, user: &User) -> Result<(
     ask(14, has_eligible_trade(book, user))
 }
 
-/// "Eligible: the user's sales of kind 0, day 0, standing above 0."
-pub fn is_eligible(trade: &Trade, user: &User) -> bool {
-    trade.seller == user.id && trade.is_bilateral_today() && trade.standing > Mwh::ZERO
+/// "Eligible: the user's sales of kind 0, day 0, standing above 0"; a manager's
+/// are those of its group.
+pub fn is_eligible(book: &Book, trade: &Trade, user: &User) -> bool {
+    trade.is_bilateral_today() && trade.standing > Mwh::ZERO && group::is_sale_of(book, trade, user)
 }
 
 pub fn has_eligible_trade(book: &Book, user: &User) -> bool {
-    book.trades.iter().any(|trade| is_eligible(trade, user))
+    let mut trades = book.trades.iter();
+    trades.any(|trade| is_eligible(book, trade, user))
 }
 
 /// "Target T = afternoon level − assigned."
@@ -68,15 +77,15 @@ pub fn target(limits: &Limits, book: &Book, user: &User) -> Cents {
 /// book. "Tier one: those in areas where the position is negative at the
 /// start; tier two: the others."
 pub fn tiers(book: &Book, user: &User) -> (Vec<usize>, Vec<usize>) {
-    let eligible = |place: &usize| is_eligible(&book.trades[*place], user);
-    let negative = |place: &usize| in_negative_area(&book.trades[*place], user);
+    let eligible = |place: &usize| is_eligible(book, &book.trades[*place], user);
+    let negative = |place: &usize| in_negative_area(book, &book.trades[*place], user);
     (0..book.trades.len()).filter(eligible).partition(negative)
 }
 
-fn in_negative_area(trade: &Trade, user: &User) -> bool {
+fn in_negative_area(book: &Book, trade: &Trade, user: &User) -> bool {
     Area::ALL
         .iter()
-        .any(|area| trade.is_in(*area) && user.position[area.index()] < Mwh::ZERO)
+        .any(|area| trade.is_in(*area) && group::position(book, user, *area) < Mwh::ZERO)
 }
 
 /// One trade of a tier: what stands, and the tariff t of its area.
@@ -166,7 +175,7 @@ pub struct Tally {
 
 impl Tally {
     /// Takes one trade's cut and hands back the new tally.
-    fn with(self, cut: Mwh, tariff: Price) -> Tally {
+    pub fn with(self, cut: Mwh, tariff: Price) -> Tally {
         Tally {
             mwh: self.mwh + cut,
             worth: self.worth + cut * tariff,
@@ -206,7 +215,7 @@ fn cut_tier(book: &mut Book, places: &[usize], asked: Cents, tally: Tally) -> Ta
 }
 
 /// "The seller's position rises and the buyer's falls by each cut."
-fn settle(book: &mut Book, place: usize, cut: Mwh) {
+pub fn settle(book: &mut Book, place: usize, cut: Mwh) {
     let trade = &mut book.trades[place];
     trade.standing = trade.standing - cut;
     let area = usize::from(trade.area);

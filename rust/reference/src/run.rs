@@ -2,8 +2,10 @@
 
 use crate::book::{Book, User};
 use crate::levels::{above_margin, afternoon_level_of, called_in};
-use crate::questions::{opening_questions, Opened, ACCEPTED};
-use crate::reduction::{has_eligible_trade, reduce};
+use crate::log::Log;
+use crate::logged::{has_room, logged, note};
+use crate::questions::{Opened, ACCEPTED};
+use crate::reduction::has_eligible_trade;
 use crate::store::Limits;
 
 #[derive(Clone, Copy, Debug, Default, PartialEq, Eq)]
@@ -14,30 +16,32 @@ pub struct RunAnswer {
     pub worth: i128,
 }
 
-/// Reduces while some user short of cover has an eligible trade.
-pub fn run(bytes: &mut [u8], store: Option<&[u8]>) -> RunAnswer {
-    match opening_questions(bytes, store) {
-        Ok(Opened { mut book, limits }) => {
-            let answer = run_book(&limits, &mut book);
-            bytes.copy_from_slice(&book.to_bytes());
-            answer
-        }
-        Err(number) => RunAnswer {
-            number,
-            ..RunAnswer::default()
-        },
-    }
+/// Reduces while some user short of cover has an eligible trade; "a run" adds an
+/// entry to the log "for each of its own" reductions.
+pub fn run(bytes: &mut [u8], store: Option<&[u8]>, log: Option<&mut [u8]>) -> RunAnswer {
+    let run = logged(bytes, store, log, true, |opened, log| {
+        Ok(run_book(opened, log))
+    });
+    run.unwrap_or_else(|number| RunAnswer {
+        number,
+        ..RunAnswer::default()
+    })
 }
 
 /// The run of an accepted book. Each reduction cuts at least one MWh, so that
-/// the run ends.
-pub fn run_book(limits: &Limits, book: &mut Book) -> RunAnswer {
+/// the run ends. "A run that meets a full log while a reduction is due stops with
+/// 20 and its totals, keeps its cuts and counts as accepted."
+pub fn run_book(opened: &mut Opened, mut log: Option<&mut Log>) -> RunAnswer {
     let mut answer = RunAnswer {
         number: ACCEPTED,
         ..RunAnswer::default()
     };
-    while let Some(place) = next_reduction(limits, book) {
-        let reduction = reduce(limits, book, place);
+    while let Some(place) = next_reduction(&opened.limits, &opened.book) {
+        if !has_room(log.as_deref()) {
+            answer.number = 20;
+            break;
+        }
+        let reduction = note(opened, place, log.as_deref_mut());
         answer.reductions += 1;
         answer.mwh += reduction.mwh;
         answer.worth += reduction.worth;

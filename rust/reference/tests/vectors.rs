@@ -1,5 +1,5 @@
-//! Replays every printed day of `vectors/`, `vectors/version-1/` and
-//! `vectors/version-2/`.
+//! Replays every printed day of `vectors/`, `vectors/version-1/`,
+//! `vectors/version-2/` and `vectors/asks/`.
 
 #![forbid(unsafe_code)]
 
@@ -15,7 +15,7 @@ fn folder() -> PathBuf {
 #[test]
 fn every_printed_day() {
     let mut replayed = 0;
-    let folders = ["", "version-1", "version-2"].map(|name| folder().join(name));
+    let folders = ["", "version-1", "version-2", "asks"].map(|name| folder().join(name));
     let entries = folders
         .iter()
         .flat_map(|folder| fs::read_dir(folder).expect("folder of the test data"));
@@ -35,7 +35,7 @@ fn every_printed_day() {
         }
     }
     println!("printed days replayed: {replayed}");
-    assert_eq!(replayed, 154);
+    assert_eq!(replayed, 154 + 32);
 }
 
 /// What the program `day` prints for this input.

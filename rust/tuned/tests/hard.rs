@@ -58,7 +58,7 @@ fn short_runs() {
     for book in [one_seller(40), many_sellers(3), chain(5), widest(3)] {
         let mut bytes = book.to_bytes();
         let mut expected = bytes.clone();
-        let run = reference::run(&mut expected, None);
+        let run = reference::run(&mut expected, None, None);
         let found = tuned::run(&mut bytes).expect("an accepted book");
         assert_eq!(found.reductions, run.reductions);
         assert_eq!(i128::from(found.mwh.0), run.mwh);

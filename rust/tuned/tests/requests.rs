@@ -4,21 +4,27 @@
 #![forbid(unsafe_code)]
 
 use books::vectors::{replay, replay_requests, REQUESTS};
-use books::{answer, Answer, Call, Generator};
+use books::{answer, asks, Answer, Call, Generator, Implementation};
 
-/// The tuned implementation, or the reference where a call takes no store.
-fn requested(book: &mut [u8], store: Option<&[u8]>, call: &Call) -> Answer {
-    books::tuned::answer(book, store, call).unwrap_or_else(|| answer(book, store, call))
+/// The tuned implementation, or the reference where a call is given a log, or takes
+/// no store.
+fn requested(book: &mut [u8], store: Option<&[u8]>, log: Option<&mut [u8]>, call: &Call) -> Answer {
+    if log.is_some() {
+        return answer(book, store, log, call);
+    }
+    books::tuned::answer(book, store, call).unwrap_or_else(|| answer(book, store, None, call))
 }
 
 /// The same by the functions without a store.
-fn plain(book: &mut [u8], _: Option<&[u8]>, call: &Call) -> Answer {
-    books::tuned::plain_answer(book, call).unwrap_or_else(|| answer(book, None, call))
+fn plain(book: &mut [u8], _: Option<&[u8]>, log: Option<&mut [u8]>, call: &Call) -> Answer {
+    assert!(log.is_none(), "a call of document 01");
+    books::tuned::plain_answer(book, call).unwrap_or_else(|| answer(book, None, None, call))
 }
 
 #[test]
 fn every_call_with_a_store() {
     assert_eq!(replay_requests(requested), REQUESTS);
+    assert_eq!(asks::replay(requested).0, asks::CALLS);
 }
 
 #[test]
@@ -38,15 +44,15 @@ fn drawn_requests() {
         for _ in 0..6 {
             let call = generator.call(&bytes, store);
             let before = bytes.clone();
-            let expected = answer(&mut bytes, store, &call);
-            let mut sides = vec![requested as fn(&mut [u8], Option<&[u8]>, &Call) -> Answer];
+            let expected = answer(&mut bytes, store, None, &call);
+            let mut sides = vec![requested as Implementation];
             if store.is_none() {
                 sides.push(plain);
             }
             for side in sides {
                 let mut book = before.clone();
                 assert_eq!(
-                    side(&mut book, store, &call),
+                    side(&mut book, store, None, &call),
                     expected,
                     "{call:?} {store:02x?}"
                 );

@@ -40,7 +40,7 @@ fn main() {
         }
         let mut book = rest[19..19 + length].to_vec();
         rest = &rest[19 + length..];
-        let given = answer(&mut book, None, &call_of(kind, id, area, amount));
+        let given = answer(&mut book, None, None, &call_of(kind, id, area, amount));
         print!("{place} {kind} {}", given.number);
         for field in &given.fields {
             print!(" {field}");
@@ -52,7 +52,7 @@ fn main() {
             }
         } else if !(1..=3).contains(&kind) {
             print!(" ");
-            for byte in answer(&mut book, None, &Call::Show { id }).part {
+            for byte in answer(&mut book, None, None, &Call::Show { id }).part {
                 print!("{byte:02x}");
             }
         }

@@ -518,7 +518,7 @@ fn main() -> std::io::Result<()> {
     let mut index: String = lines.collect();
     let calls = [levels(), guarantees(), runs(), cancellations()];
     for (place, call) in (OF_DOCUMENT_01..).zip(calls.iter().flatten()) {
-        let given = answer(&mut call.book.clone(), None, &call.call);
+        let given = answer(&mut call.book.clone(), None, None, &call.call);
         let mut answers = vec![i128::from(given.number)];
         answers.extend(&given.fields);
         assert!(

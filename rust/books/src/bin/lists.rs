@@ -185,7 +185,7 @@ fn main() -> std::io::Result<()> {
     for (place, list) in accepted().iter().chain(&refused()).enumerate() {
         file.extend_from_slice(&bytes_of(&list.book, &list.call));
         let mut book = list.book.clone();
-        let given = answer(&mut book, None, &list.call);
+        let given = answer(&mut book, None, None, &list.call);
         assert_eq!(given.number, list.number, "{place} {}", list.shows);
         let _ = writeln!(index, "{place} {}: {}", list.shows, given.number);
         print!("{place} {}", given.number);

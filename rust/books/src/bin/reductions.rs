@@ -488,7 +488,7 @@ fn drawn() -> Vec<Reduction> {
                     again("the same book, the next user of its run", 0, id)
                 });
                 let mut bytes = b.to_bytes();
-                reference::reduction(&mut bytes, None, id);
+                reference::reduction(&mut bytes, None, None, id);
                 b = questions_1_to_7(&bytes).expect("an accepted book");
             }
         }
@@ -553,7 +553,7 @@ fn main() -> std::io::Result<()> {
             bytes = own;
         }
         let before = bytes.clone();
-        let answer = reference::reduction(&mut bytes, None, call.id);
+        let answer = reference::reduction(&mut bytes, None, None, call.id);
         assert_eq!(answer.number, call.number, "{place} {}", call.shows);
         let more = match answer.number {
             0 => tiers_of(&before, call.id),
