@@ -16,6 +16,9 @@ pub fn manager(book: &Book, user: &User, area: usize) -> Option<u32> {
 
 /// Who bears the risk of an id in an area: its manager, or itself.
 pub fn bearer(book: &Book, id: u32, area: usize) -> u32 {
+    if has_managers(book.version) != Some(true) {
+        return id;
+    }
     let user = book.users.iter().find(|user| user.id == id);
     let manager = user.and_then(|user| manager(book, user, area));
     manager.unwrap_or(id)

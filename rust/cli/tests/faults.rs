@@ -8,6 +8,8 @@ use cli::faults::faults;
 use cli::fields::{Field, Place};
 use daybook::{header_length, user_length};
 
+const MANAGERS: [Field; 3] = [Field::Manager(0), Field::Manager(1), Field::Manager(2)];
+
 /// The engine's number.
 fn number(book: &[u8]) -> u32 {
     daybook::read(book).map_or_else(|refusal| refusal.number(), |_| 0)
@@ -59,6 +61,7 @@ fn the_outside_vectors() {
         "/version-1/books",
         "/version-2",
         "/version-2/books",
+        "/asks",
     ] {
         let files = std::fs::read_dir(format!("{vectors}{folder}")).expect("a folder");
         let paths = files.map(|file| file.expect("a file").path());
@@ -90,8 +93,9 @@ fn books_of_every_kind() {
 #[test]
 fn every_byte_of_a_book() {
     let mut generator = Generator::new(22);
-    for _ in 0..4 {
-        let book = generator.book(Kind::Small);
+    let small = [(); 3].map(|()| generator.book(Kind::Small));
+    let sized = [1, 2, 3, 3].map(|version| generator.sized(version, 4, 3).to_bytes());
+    for book in small.into_iter().chain(sized) {
         for place in 0..book.len() {
             for change in [1, 2, 3, 0x80, 0xFF] {
                 let mut changed = book.clone();
@@ -124,7 +128,10 @@ fn the_damaged_field_is_the_one_at_fault() {
                 wanted.contains(&fault.field) && (place.is_none() || place == Some(fault.place))
             });
             let next = matches!(damage, Damage::IdNotRising | Damage::StandingAlone);
-            let of_field = found.iter().all(|fault| wanted.contains(&fault.field));
+            // A manager whose id is another one now is no user of the book.
+            let of_field = found
+                .iter()
+                .all(|fault| wanted.contains(&fault.field) || MANAGERS.contains(&fault.field));
             assert!(
                 at_fault || next && of_field,
                 "{damage:?} {place:?} {found:?}"
@@ -151,6 +158,7 @@ fn fields(damage: Damage) -> Vec<Field> {
         Damage::Charges => vec![Field::Charges],
         Damage::Assigned => vec![Field::Assigned],
         Damage::Blocked => vec![Field::Blocked],
+        Damage::Manager(_) => MANAGERS.to_vec(),
         Damage::Seller => vec![Field::Seller],
         Damage::Buyer | Damage::SameParties => vec![Field::Buyer],
         Damage::TradeArea => vec![Field::Area],
@@ -191,7 +199,7 @@ fn the_words() {
 
 #[test]
 fn refused_bytes_of_any_length_have_words() {
-    for version in [1, 2] {
+    for version in [1, 2, 3] {
         let book = Generator::new(25).sized(version, 4, 4).to_bytes();
         for length in 0..book.len() {
             let number = agree(&book[..length]);

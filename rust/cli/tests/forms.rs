@@ -39,7 +39,7 @@ fn book_to_text_to_book_and_back() {
             assert_eq!(again, written);
         }
     }
-    assert_eq!(versions, BTreeSet::from([1, 2]));
+    assert_eq!(versions, BTreeSet::from([1, 2, 3]));
 }
 
 #[test]
@@ -185,7 +185,7 @@ fn mistakes_are_told_with_line_and_column() {
         ),
         (
             "daybook 70000\n",
-            ":1:9: the version 70000 is not within 1 to 2",
+            ":1:9: the version 70000 is not within 1 to 3",
         ),
     ] {
         assert_eq!(mistakes(text.as_bytes())[0], told, "{text}");

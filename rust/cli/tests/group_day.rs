@@ -159,9 +159,6 @@ fn reasons() {
     let _ = fs::remove_file(&after);
     let after = after.display().to_string();
     out(&["run", &day, "-o", &after]);
-    let changed = "user 103 charges 200,000.00";
-    let charged = out(&["change", &after, changed, "-o", "-"].map(|it| it));
-    assert!(charged.starts_with("GDB"));
     for (words, told) in [
         (
             "user 103 charges 200,000.00",
@@ -240,7 +237,7 @@ fn the_page_of_a_day_with_a_group() {
     assert_eq!(page.matches("class=\"life\"").count(), 3);
     let sample = concat!(env!("CARGO_MANIFEST_DIR"), "/../../samples/chain.txt");
     let page = out(&["report", sample, "-o", "-"]);
-    for part in ["manager", "group", "class=\"lead\""] {
+    for part in ["manager", "bears", "borne", "class=\"lead\""] {
         assert!(!page.contains(part), "{part}");
     }
 }

@@ -1,4 +1,4 @@
-//! Books of both versions: the selling tariffs in text and CSV, what is said of a
+//! Books of each version: the selling tariffs in text and CSV, what is said of a
 //! fault by version, and the credit beside the engine's levels.
 
 #![forbid(unsafe_code)]
@@ -43,6 +43,8 @@ fn the_selling_tariffs_of_a_text() {
         bytes(&format!("{TWO}{USER}")),
     );
     assert_eq!((one.len(), two.len()), (32 + 56, 40 + 56));
+    let three = bytes(&format!("daybook 3{}{USER}", &TWO[9..]));
+    assert_eq!((three.len(), &three[5..96]), (40 + 68, &two[5..]));
     assert_eq!(two[32..36], 1_800_u32.to_le_bytes());
     assert_eq!(two[36..40], 1_900_u32.to_le_bytes());
     assert_eq!((&one[..3], &one[5..32]), (&two[..3], &two[5..32]));
@@ -182,6 +184,10 @@ fn faults_by_version() {
             "3 header: 88 bytes, but a version 2 book of 1 user and 0 trades has 96 bytes",
         ),
         (
+            with(&two, 3, &[3]),
+            "3 header: 96 bytes, but a version 3 book of 1 user and 0 trades has 108 bytes",
+        ),
+        (
             with(&two, 32, &100_001_u32.to_le_bytes()),
             "4 header: S 1,000.01 EUR/MWh is not within 0.00 to 1,000.00 EUR/MWh",
         ),
@@ -228,12 +234,11 @@ fn credits_are_what_the_engine_takes_off() {
             seen.insert((book.version, cents > 0, level > floor));
         }
     }
-    let both = [false, true];
-    for kind in both.into_iter().flat_map(|above| {
-        let credited = both.map(|credited| (2, credited, above));
-        credited.into_iter().chain([(1, false, above)])
-    }) {
-        assert!(seen.contains(&kind), "{kind:?} of {seen:?}");
+    for above in [false, true] {
+        for (version, is_credited) in [(1, false), (2, false), (2, true), (3, false), (3, true)] {
+            let kind = (version, is_credited, above);
+            assert!(seen.contains(&kind), "{kind:?} of {seen:?}");
+        }
     }
 }
 
