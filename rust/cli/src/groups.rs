@@ -32,13 +32,13 @@ pub fn has_groups(book: &Book) -> bool {
 
 /// Those whose risk a user bears in an area, in the order of the book: itself and
 /// its members, or nobody where it is managed.
-pub fn borne<'a>(book: &'a Book, id: u32, area: usize) -> impl Iterator<Item = &'a User> {
+pub fn borne(book: &Book, id: u32, area: usize) -> impl Iterator<Item = &User> {
     let is_borne = move |user: &&User| manager(book, user, area).unwrap_or(user.id) == id;
     book.users.iter().filter(is_borne)
 }
 
 /// The members of a user in an area.
-pub fn members<'a>(book: &'a Book, id: u32, area: usize) -> impl Iterator<Item = &'a User> {
+pub fn members(book: &Book, id: u32, area: usize) -> impl Iterator<Item = &User> {
     borne(book, id, area).filter(move |user| user.id != id)
 }
 

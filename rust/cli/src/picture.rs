@@ -63,8 +63,8 @@ pub fn pictures(trace: &Trace, states: &[(u32, &'static str)]) -> Vec<String> {
     parts.iter().enumerate().map(picture).collect()
 }
 
-/// A chapter in pieces of as many users as a picture has room for; all cuts of a
-/// buyer stand in one, unless its sellers alone are too many.
+/// A chapter in pieces of as many users as a picture has room for, its cuts taken
+/// buyer by buyer.
 fn in_pieces(chapter: &Chapter) -> Vec<Chapter> {
     let mut buyers: Vec<u32> = Vec::new();
     for cut in &chapter.cuts {
@@ -115,9 +115,8 @@ struct Part<'a> {
 
 impl<'a> Part<'a> {
     fn has_room(&self, chapter: &Chapter) -> bool {
-        let new = involved(chapter)
-            .filter(|id| !self.ids.contains(id))
-            .count();
+        let involved = involved(chapter);
+        let new = involved.iter().filter(|id| !self.ids.contains(id)).count();
         let height = self.height + chapter_height(chapter);
         self.ids.len() + new <= MOST_USERS && height <= MOST_HEIGHT
     }
@@ -205,10 +204,17 @@ fn chapter_height(chapter: &Chapter) -> usize {
     ARROW * (chapter.cuts.len() + 1) + BETWEEN
 }
 
-/// The user who was reduced, those who lost a sale or a purchase.
-fn involved(chapter: &Chapter) -> impl Iterator<Item = u32> + '_ {
-    let parties = chapter.cuts.iter().flat_map(|it| [it.seller, it.buyer]);
-    std::iter::once(chapter.id).chain(parties)
+/// The user who was reduced, and those who lost a sale or a purchase, each once.
+fn involved(chapter: &Chapter) -> Vec<u32> {
+    let mut ids = vec![chapter.id];
+    for cut in &chapter.cuts {
+        for id in [cut.seller, cut.buyer] {
+            if !ids.contains(&id) {
+                ids.push(id);
+            }
+        }
+    }
+    ids
 }
 
 /// The number of a chapter's reduction, or of the first and the last.
@@ -283,10 +289,10 @@ fn arrow(from: usize, to: usize, beside: usize, y: usize, cut: &Cut, picture: us
 /// From the line of a manager to that of the member whose sale is cut for it, a
 /// little below the cut.
 fn lead(from: usize, to: usize, y: usize) -> String {
-    let y = y + LEAD;
+    let below = y + LEAD;
     format!(
-        "<line class=\"lead\" x1=\"{from}\" y1=\"{y}\" x2=\"{to}\" y2=\"{y}\"/>\
-         <circle class=\"lead\" cx=\"{to}\" cy=\"{y}\" r=\"4\"/>\n"
+        "<path class=\"lead\" d=\"M{from} {y}V{below}H{to}V{y}\"/>\
+         <circle class=\"member\" cx=\"{to}\" cy=\"{y}\" r=\"3\"/>\n"
     )
 }
 

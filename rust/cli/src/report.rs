@@ -7,7 +7,7 @@ use crate::convert::output;
 use crate::credit::{by_area, credits, has_credit};
 use crate::explain::MOST;
 use crate::fields::{prices, PRICES};
-use crate::groups::{has_groups, shares};
+use crate::groups::{area_of, bearer, has_groups, shares};
 use crate::outcome::{Failure, Outcome};
 use crate::picture::pictures;
 use crate::reasons::Asked;
@@ -200,33 +200,38 @@ impl Day<'_> {
         let Trace {
             opening, closing, ..
         } = self.trace;
-        let tariffs = tariffs(&opening.prices);
+        let (tariffs, has_groups) = (tariffs(&opening.prices), has_groups(opening));
         let mut rows = String::new();
         for (place, (trade, later)) in opening.trades.iter().zip(&closing.trades).enumerate() {
             let cut = u64::from(trade.standing.saturating_sub(later.standing));
             if cut == 0 {
                 continue;
             }
-            let area = usize::from(trade.area).min(2);
-            let cells = [
+            let area = area_of(trade);
+            let mut cells = vec![
                 (place + 1).to_string(),
                 trade.seller.to_string(),
                 trade.buyer.to_string(),
+            ];
+            if has_groups {
+                cells.push(bearer(opening, trade.seller, area).to_string());
+            }
+            cells.extend([
                 AREAS[area].to_string(),
                 grouped(trade.notified),
                 grouped(trade.standing),
                 grouped(later.standing),
                 grouped(cut),
                 euros(cut * tariffs[area]),
-            ];
+            ]);
             rows.push_str(&row(&cells));
         }
         if rows.is_empty() {
             return String::new();
         }
-        let names = [
-            "trade", "seller", "buyer", "area", "notified", "before", "after", "cut", "worth",
-        ];
+        let mut names = vec!["trade", "seller", "buyer"];
+        names.extend(has_groups.then_some("cut for"));
+        names.extend(["area", "notified", "before", "after", "cut", "worth"]);
         table("Trades that were cut", &names, &rows)
     }
 

@@ -229,7 +229,8 @@ fn the_page_of_a_day_with_a_group() {
         "<td>PVB borne by 101; bears TVB of 103</td>",
         "A dashed line leads from a manager",
         "a managed user counts 0 there",
-        "<line class=\"lead\"",
+        "<path class=\"lead\" d=\"M80 79V86H250V79\"/>",
+        "<td>103</td><td>104</td><td>101</td><td>PVB</td>",
         "6,000 MWh PVB</text>",
     ] {
         assert!(page.contains(part), "{part} of {page}");
