@@ -10,9 +10,9 @@
  *
  *    1  at least 32 bytes, starting with the mark?
  *    2  version 1, 2 or 3?
- *    3  counts in range, and length exactly 32 (versions 2 and 3: 40) + 56 (version 3: 68) * users + 20 * trades?
+ *    3  counts in range and length exactly 32 (versions 2 and 3: 40) + 56 (version 3: 68) * users + 20 * trades?
  *    4  date, prices, tolls and selling tariffs in range?
- *    5  every user field valid, positions apart? (version 3: each manager id 0, or that of another user; both shippers, and the manager's own id in that area 0)
+ *    5  every user field valid, managers too, positions apart? (a manager is 0 or the id of another user; both are shippers, and the manager has none in that area)
  *    6  every trade valid?
  *    7  every position as defined?
  *    8  id in the book?
@@ -65,7 +65,8 @@
 #define DAYBOOK_WRONG_LENGTH 255
 
 /* Sizes in bytes: a book is a header, its users and its trades. The header of versions 2 and 3 ends with the selling tariffs S and U, 4 bytes each, which version 1 has
-   not. A user of version 3 ends with the ids of its managers in PVB, TVB and AVB, 4 bytes each, 0 for none, which versions 1 and 2 have not. */
+   not. A user of version 3 ends with the ids of its managers in PVB, TVB and AVB, 4 bytes each, 0 for none, which versions 1 and 2 have not. A manager bears the risk of its
+   group in an area: what enters its levels, flag and tiers there is the sum over itself and its members, and a member counts 0; charges and guarantees are each one's own. */
 #define DAYBOOK_HEADER_SIZE_1 32
 #define DAYBOOK_HEADER_SIZE_2 40
 #define DAYBOOK_USER_SIZE_1 56
@@ -120,7 +121,8 @@ uint32_t daybook_interface(void);
 uint32_t daybook_read(const uint8_t *book, size_t book_len, uint8_t *image, size_t image_len);
 
 /* Writes the book whose fields the image has, up to its counts, to `out`, which must have exactly the book's length. The mark and the zero bytes are written whatever the
-   image has there; S and U of version 1 and the managers of versions 1 and 2 are neither written nor looked at. Refused with the first of the questions 2 to 7 that the bytes so written would fail, 3 where `out` is of another length; `out` is then unchanged. */
+   image has there; S and U of version 1 and the managers of versions 1 and 2 are neither written nor looked at. Refused with the first of the questions 2 to 7 that the
+   bytes so written would fail, 3 where `out` is of another length; `out` is then unchanged. */
 uint32_t daybook_write(const uint8_t *image, size_t image_len, uint8_t *out, size_t out_len);
 
 /* Copies the record of the user of an id to a part of DAYBOOK_RECORD_SIZE bytes, with 0 behind it where the book's version has the shorter record. */
@@ -149,9 +151,9 @@ uint32_t daybook_list(uint8_t *book, size_t book_len, uint32_t with_store, const
 uint32_t daybook_morning_level(const uint8_t *book, size_t book_len, uint32_t with_store, const uint8_t *store,
                                size_t store_len, uint32_t id, uint64_t *answer, size_t answer_len);
 
-/* The afternoon level of a user; DAYBOOK_LEVEL_NUMBERS: the level. In versions 2 and 3 it is lowered by a credit, each long position at its selling tariff (S for PVB, U for TVB
-   and AVB), but not below the least level. The credit is in the target of a reduction and in whatever else asks for the afternoon level; not in the morning level, not in
-   the warning. */
+/* The afternoon level of a user; DAYBOOK_LEVEL_NUMBERS: the level. In versions 2 and 3 it is lowered by a credit, each long position at its selling tariff (S for PVB, U for
+   TVB and AVB), but not below the least level. The credit is in the target of a reduction and in whatever else asks for the afternoon level; not in the morning level, not
+   in the warning. */
 uint32_t daybook_afternoon_level(const uint8_t *book, size_t book_len, uint32_t with_store, const uint8_t *store,
                                  size_t store_len, uint32_t id, uint64_t *answer, size_t answer_len);
 
@@ -165,12 +167,13 @@ uint32_t daybook_afternoon_call(uint8_t *book, size_t book_len, uint32_t with_st
                                 size_t store_len, uint32_t with_log, uint8_t *log, size_t log_len, uint32_t id,
                                 uint64_t *answer, size_t answer_len);
 
-/* Whether a user is warned at midday; DAYBOOK_WARNING_NUMBERS: 1 for yes, 0 for no. */
+/* Whether a user is warned at midday; DAYBOOK_WARNING_NUMBERS: 1 for yes, 0 for no. A seller that is managed in the trade's area has its manager's flag. */
 uint32_t daybook_warning(const uint8_t *book, size_t book_len, uint32_t with_store, const uint8_t *store,
                          size_t store_len, uint32_t id, uint64_t *answer, size_t answer_len);
 
 /* Cuts a user's bilateral sales for what its afternoon level exceeds its assigned guarantee by, and settles the positions; DAYBOOK_REDUCTION_NUMBERS: the MWh cut, their
-   worth, the target, and what the worth falls short of the target or exceeds it by. */
+   worth, the target, and what the worth falls short of the target or exceeds it by. In an area with a group the sales that its members made to others are the manager's,
+   and not their own; a sale between two of one group is cut for nobody. */
 uint32_t daybook_reduction(uint8_t *book, size_t book_len, uint32_t with_store, const uint8_t *store,
                            size_t store_len, uint32_t with_log, uint8_t *log, size_t log_len, uint32_t id,
                            uint64_t *answer, size_t answer_len);

@@ -118,14 +118,19 @@ fn both(
 }
 
 fn read_image(subject: &Subject, options: &Options) -> Times {
-    let (mut one, mut other) = ([0; IMAGE_LENGTH], [0; IMAGE_LENGTH]);
+    let (mut one, mut other) = ([0; IMAGE_LENGTH], [0; tuned::IMAGE_LENGTH]);
     let times = both(
         subject,
         options,
         |book| expect(archive::read(black_box(book), &mut one)),
         |book| accept(tuned::read_image(black_box(book), &mut other)),
     );
-    assert_eq!(one, other, "{}: the image", subject.name);
+    let users = |image: &[u8], length: usize| -> Vec<Vec<u8>> {
+        let places = image[40..].chunks(length).take(64);
+        places.map(|place| place[..56].to_vec()).collect()
+    };
+    let same = users(&one, 68) == users(&other, 56) && one[..40] == other[..40];
+    assert!(same, "{}: the image", subject.name);
     times
 }
 
@@ -139,13 +144,14 @@ fn read(subject: &Subject, options: &Options) -> Times {
 }
 
 fn write_image(subject: &Subject, options: &Options) -> Times {
-    let mut image = [0; IMAGE_LENGTH];
-    accept(tuned::read_image(&subject.book, &mut image));
+    let (mut image, mut other) = ([0; IMAGE_LENGTH], [0; tuned::IMAGE_LENGTH]);
+    expect(archive::read(&subject.book, &mut image));
+    accept(tuned::read_image(&subject.book, &mut other));
     both(
         subject,
         options,
         |book| expect(archive::write(black_box(&image), book)),
-        |book| accept(tuned::write_image(black_box(&image), book)),
+        |book| accept(tuned::write_image(black_box(&other), book)),
     )
 }
 

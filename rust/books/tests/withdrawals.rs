@@ -195,7 +195,7 @@ fn withdrawing_every_reduction() {
     let mut generator = Generator::new(71);
     let (mut noted, mut longest) = (0, 0);
     let kinds = [Kind::Small, Kind::Usual, Kind::Chain, Kind::Shares];
-    for turn in 0..400 {
+    for turn in 0..600 {
         let mut bytes = match turn % 20 {
             0 => generator.book(Kind::Long),
             place => generator.book(kinds[place % kinds.len()]),

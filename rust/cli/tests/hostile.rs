@@ -151,7 +151,7 @@ fn swapped_lines(random: &mut Random, bytes: &[u8]) -> Vec<u8> {
 /// A text of words and lines without any order.
 fn soup(random: &mut Random) -> Vec<u8> {
     let mut text = random
-        .pick(&["daybook 1\n", "daybook 2\n", "", ""])
+        .pick(&["daybook 1\n", "daybook 2\n", "daybook 3\n", ""])
         .to_string();
     for _ in 0..random.below(60) {
         text.push_str(random.pick(&WORDS));

@@ -64,7 +64,7 @@ fn the_reductions_are_those_of_the_run() {
                 .eq(next.chain((!steps.is_empty()).then_some(None))));
             for step in steps {
                 shares_agree(step, &tariffs(&trace.opening.prices));
-                assert!(step.called_in.is_flagged() || step.called_in.party);
+                assert!(step.called_in.is_flagged() || step.called_in.is_party());
                 assert_eq!(step.answer.target, step.level - step.user.assigned);
             }
             chapters_agree(&trace);
@@ -86,7 +86,7 @@ fn chapters_agree(trace: &Trace) {
             assert_eq!((step.number, step.user.id), (number, chapter.id));
             mwh += step.answer.mwh;
         }
-        assert_eq!(chapter.cuts.iter().map(|cut| cut.2).sum::<u64>(), mwh);
+        assert_eq!(chapter.cuts.iter().map(|cut| cut.mwh).sum::<u64>(), mwh);
         before = Some(chapter.id);
     }
     assert_eq!(steps.next(), None);
@@ -141,7 +141,7 @@ fn flags_are_the_references() {
             let flagged = reference::levels::flagged(&opened.limits, &opened.book, user);
             assert_eq!(step.called_in.is_flagged(), flagged);
             let party = reference::levels::party_to_cut_trade(&opened.book, user);
-            assert_eq!(step.called_in.party, party);
+            assert_eq!(step.called_in.is_party(), party);
         }
     }
 }

@@ -2,7 +2,9 @@
 
 use books::{Answer, Call};
 use daybook::archive;
-use daybook::{IMAGE_LENGTH, MOST_TRADES, USER_LENGTH};
+use daybook::{IMAGE_LENGTH, MOST_TRADES, RECORD_LENGTH};
+
+use crate::images::{narrowed, shown, widened};
 
 /// What a part for an answer holds before the call: a refusal has to put 0
 /// there.
@@ -53,11 +55,11 @@ pub fn answer(
         Call::Read => {
             let mut image = [BEFORE; IMAGE_LENGTH];
             let number = archive::read(book, &mut image);
-            Answer::of_part(number, &image)
+            Answer::of_part(number, &narrowed(&image))
         }
         Call::Write { image, length } => {
             let mut part = vec![0xAA; *length];
-            let number = archive::write(&image[..], &mut part);
+            let number = archive::write(&widened(image), &mut part);
             Answer::of_part(number, &part)
         }
         Call::Reduction { id } => {
@@ -96,11 +98,11 @@ fn fields<const COUNT: usize>(call: impl FnOnce(&mut [u64]) -> u32) -> Answer {
 /// The number and the record shown. The reference's part is empty after a
 /// refusal, the record of the C interface is then 0.
 fn record(call: impl FnOnce(&mut [u8]) -> u32) -> Answer {
-    let mut part = [BEFORE; USER_LENGTH];
+    let mut part = [BEFORE; RECORD_LENGTH];
     let number = call(&mut part);
-    if number != 0 && part == [0; USER_LENGTH] {
+    if number != 0 && part == [0; RECORD_LENGTH] {
         Answer::of_part(number, &[])
     } else {
-        Answer::of_part(number, &part)
+        Answer::of_part(number, shown(&part))
     }
 }

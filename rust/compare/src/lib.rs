@@ -11,6 +11,7 @@ pub mod comparison;
 pub mod counts;
 pub mod day;
 pub mod engine;
+pub mod images;
 pub mod settings;
 pub mod tuned;
 pub mod typed;

@@ -1,7 +1,7 @@
 //! The answers of the tuned implementation.
 
 use books::{Answer, Call};
-use daybook::IMAGE_LENGTH;
+use tuned::IMAGE_LENGTH;
 
 /// What an image holds before the call: a refusal has to put 0 there.
 const BEFORE: u8 = 0xA5;
@@ -74,7 +74,7 @@ fn write(image: &[u8; IMAGE_LENGTH], length: usize) -> Answer {
 
 /// The fields of an image with any counts; records past its places are 0.
 fn book_of(image: &[u8; IMAGE_LENGTH]) -> tuned::Book {
-    let engine = crate::typed::book_of(image);
+    let engine = crate::typed::book_of(&crate::images::widened(image));
     tuned::Book {
         version: engine.version,
         date: engine.date,

@@ -6,6 +6,8 @@ use daybook::{
     IMAGE_LENGTH, LOG_LENGTH, MOST_TRADES,
 };
 
+use crate::images::{narrowed, shown, widened};
+
 /// Whether the call has a function of its own in `daybook`; a printed day is
 /// put together of others, a list of lines has columns and places of one count,
 /// and a started log has the right length.
@@ -79,12 +81,12 @@ fn requested(mut request: Request<'_>, book: &mut [u8], call: &Call) -> Answer {
         Call::AfternoonCall { id } => guarantee_call(request.afternoon_call(book, *id)),
         Call::Warning { id } => fields(request.warning(book, *id).map(|warned| [warned.into()])),
         Call::Read => match daybook::read(book) {
-            Ok(fields) => Answer::of_part(0, &fields.to_image()),
-            Err(refusal) => Answer::of_part(refusal.number(), &[0; IMAGE_LENGTH]),
+            Ok(fields) => Answer::of_part(0, &narrowed(&fields.to_image())),
+            Err(refusal) => Answer::of_part(refusal.number(), &narrowed(&[0; IMAGE_LENGTH])),
         },
         Call::Write { image, length } => {
             let mut part = vec![0xAA; *length];
-            let written = daybook::write(&book_of(image), &mut part);
+            let written = daybook::write(&book_of(&widened(image)), &mut part);
             Answer::of_part(number(&written), &part)
         }
         Call::Reduction { id } => {
@@ -172,7 +174,7 @@ fn run(answer: Result<Run, Refusal>) -> Answer {
 
 fn record(answer: Result<User, Refusal>) -> Answer {
     match answer {
-        Ok(user) => Answer::of_part(0, &user.to_bytes()),
+        Ok(user) => Answer::of_part(0, shown(&user.to_bytes())),
         Err(refusal) => Answer::of_part(refusal.number(), &[]),
     }
 }

@@ -8,7 +8,6 @@ use books::{Call, Generator, Kind};
 use compare::settings::{comparison, seed};
 use compare::Comparison;
 use daybook::archive::{self, WRONG_LENGTH};
-use daybook::IMAGE_LENGTH;
 use reference::book::Book;
 use reference::units::Price;
 
@@ -126,7 +125,7 @@ fn writes() {
     }
     for _ in 0..500 {
         let random = comparison.generator().random();
-        let mut image: Vec<u8> = random.bytes(IMAGE_LENGTH);
+        let mut image: Vec<u8> = random.bytes(reference::book::LONGEST);
         image[3..5].copy_from_slice(&random.pick(&[[1, 0], [2, 0], [3, 0]]));
         let image = Box::new(image.try_into().expect("an image"));
         let length = random.below(9_000);
@@ -272,9 +271,9 @@ fn picks_of_c() {
     let id = generator.arguments(&afternoon).id;
     let expected = reference::show(&afternoon, None, id);
     for pick in [1, 2, 255, 256, 1 << 31, u32::MAX] {
-        let mut record = [0; 56];
+        let mut record = [0; 68];
         let number = archive::show_picked(&morning, &afternoon, None, pick, id, &mut record);
         assert_eq!(number, expected.0);
-        assert!(number != 0 || record == expected.1);
+        assert!(number != 0 || record.starts_with(expected.1));
     }
 }
