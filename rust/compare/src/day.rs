@@ -2,7 +2,10 @@
 
 use books::vectors::Implementation;
 use books::{Answer, Call};
-use daybook::{Book, Image};
+use daybook::Book;
+use reference::transfer::Image;
+
+use crate::images::widened;
 
 /// The day that an implementation's calls print, on a copy of the book. A run
 /// that left a book which is refused has its number.
@@ -22,7 +25,7 @@ pub fn printed(book: &[u8], implementation: Implementation) -> Answer {
         "run {} {} {}\n",
         run.fields[0], run.fields[1], run.fields[2]
     );
-    for user in Book::from_image(&image).users {
+    for user in Book::from_image(&widened(&image)).users {
         let (state, level) = state(&book, user.id, implementation);
         let [pvb, tvb, avb] = user.position;
         text.push_str(&format!("{} {state} {level} {pvb} {tvb} {avb}\n", user.id));
