@@ -4,7 +4,7 @@
 #include "hostile.h"
 
 /* The parts of a log: its numbers, 32 bits each, the held book and the entries. */
-enum { COUNT_AT = 4, LENGTH_AT = 8, HELD_AT = 12, HELD_ROOM = 9512, ENTRIES_AT = HELD_AT + HELD_ROOM, ENTRY_SIZE = 1024 };
+enum { COUNT_AT = 4, LENGTH_AT = 8, HELD_AT = 12, HELD_ROOM = DAYBOOK_IMAGE_SIZE, ENTRIES_AT = HELD_AT + HELD_ROOM, ENTRY_SIZE = 1024 };
 
 enum { SIZE = DAYBOOK_LOG_SIZE, MOST = DAYBOOK_MAX_ENTRIES };
 

@@ -3,7 +3,7 @@
 use std::hint::black_box;
 
 use books::stores::longest;
-use daybook::{archive, IMAGE_LENGTH};
+use daybook::{archive, IMAGE_LENGTH, RECORD_LENGTH};
 use tuned::requests;
 
 use crate::measure::{times, Times};
@@ -125,11 +125,7 @@ fn read_image(subject: &Subject, options: &Options) -> Times {
         |book| expect(archive::read(black_box(book), &mut one)),
         |book| accept(tuned::read_image(black_box(book), &mut other)),
     );
-    let users = |image: &[u8], length: usize| -> Vec<Vec<u8>> {
-        let places = image[40..].chunks(length).take(64);
-        places.map(|place| place[..56].to_vec()).collect()
-    };
-    let same = users(&one, 68) == users(&other, 56) && one[..40] == other[..40];
+    let same = books::tuned::widened(&other) == one;
     assert!(same, "{}: the image", subject.name);
     times
 }
@@ -168,7 +164,7 @@ fn write(subject: &Subject, options: &Options) -> Times {
 
 fn show(subject: &Subject, options: &Options) -> Times {
     let id = subject.called;
-    let mut record = [0; 56];
+    let mut record = [0; RECORD_LENGTH];
     both(
         subject,
         options,

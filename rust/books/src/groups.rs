@@ -13,6 +13,7 @@ use crate::accepted::{
 use crate::cancellations::whole;
 use crate::credits::credited;
 use crate::random::Random;
+use crate::versions::in_version_2;
 
 /// The most that a physical entry may be.
 const MOST_PHYSICAL: i128 = 1_000_000;
@@ -144,6 +145,12 @@ pub fn split(random: &mut Random, book: &Book) -> Split {
         members,
         inside,
     }
+}
+
+/// The book in version 3, its selling tariffs as in version 2, with members where it
+/// has room for them.
+pub fn in_version_3(book: &Book) -> Book {
+    split(&mut Random::new(3), &in_version_2(book)).book
 }
 
 /// The first of the ids in half of the cases.

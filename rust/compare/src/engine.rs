@@ -4,7 +4,7 @@ use books::{Answer, Call};
 use daybook::archive;
 use daybook::{IMAGE_LENGTH, MOST_TRADES, RECORD_LENGTH};
 
-use crate::images::{narrowed, shown, widened};
+use crate::shown::shown;
 
 /// What a part for an answer holds before the call: a refusal has to put 0
 /// there.
@@ -31,14 +31,14 @@ pub fn answer(
         } => Answer::of_places(*places, |places| {
             archive::list(book, store, log, ids, areas, amounts, places)
         }),
-        Call::Show { id } => record(|part| archive::show(book, store, *id, part)),
+        Call::Show { id } => record(book, |part| archive::show(book, store, *id, part)),
         Call::ShowPicked {
             afternoon,
             pick,
             id,
-        } => {
-            record(|part| archive::show_picked(book, afternoon, store, u32::from(*pick), *id, part))
-        }
+        } => record(if *pick { afternoon } else { book }, |part| {
+            archive::show_picked(book, afternoon, store, u32::from(*pick), *id, part)
+        }),
         Call::MorningLevel { id } => {
             fields::<1>(|part| archive::morning_level(book, store, *id, part))
         }
@@ -55,11 +55,11 @@ pub fn answer(
         Call::Read => {
             let mut image = [BEFORE; IMAGE_LENGTH];
             let number = archive::read(book, &mut image);
-            Answer::of_part(number, &narrowed(&image))
+            Answer::of_part(number, &image)
         }
         Call::Write { image, length } => {
             let mut part = vec![0xAA; *length];
-            let number = archive::write(&widened(image), &mut part);
+            let number = archive::write(&image[..], &mut part);
             Answer::of_part(number, &part)
         }
         Call::Reduction { id } => {
@@ -95,14 +95,13 @@ fn fields<const COUNT: usize>(call: impl FnOnce(&mut [u64]) -> u32) -> Answer {
     Answer::of_fields(number, &part.map(i128::from))
 }
 
-/// The number and the record shown. The reference's part is empty after a
-/// refusal, the record of the C interface is then 0.
-fn record(call: impl FnOnce(&mut [u8]) -> u32) -> Answer {
+/// The number and the record shown of the questioned book. The reference's part is
+/// empty after a refusal, the record of the C interface is then 0.
+fn record(book: &[u8], call: impl FnOnce(&mut [u8]) -> u32) -> Answer {
     let mut part = [BEFORE; RECORD_LENGTH];
-    let number = call(&mut part);
-    if number != 0 && part == [0; RECORD_LENGTH] {
-        Answer::of_part(number, &[])
-    } else {
-        Answer::of_part(number, shown(&part))
+    match call(&mut part) {
+        0 => Answer::of_part(0, shown(book, &part)),
+        number if part == [0; RECORD_LENGTH] => Answer::of_part(number, &[]),
+        number => Answer::of_part(number, &part),
     }
 }

@@ -6,7 +6,7 @@ use daybook::{
     IMAGE_LENGTH, LOG_LENGTH, MOST_TRADES,
 };
 
-use crate::images::{narrowed, shown, widened};
+use crate::shown::shown;
 
 /// Whether the call has a function of its own in `daybook`; a printed day is
 /// put together of others, a list of lines has columns and places of one count,
@@ -69,24 +69,27 @@ fn requested(mut request: Request<'_>, book: &mut [u8], call: &Call) -> Answer {
             amounts,
             ..
         } => list(request, book, &lines(ids, areas, amounts)),
-        Call::Show { id } => record(request.show(book, *id)),
+        Call::Show { id } => record(book, request.show(book, *id)),
         Call::ShowPicked {
             afternoon,
             pick,
             id,
-        } => record(request.show_picked(book, afternoon, *pick, *id)),
+        } => {
+            let picked = if *pick { afternoon } else { &*book };
+            record(picked, request.show_picked(book, afternoon, *pick, *id))
+        }
         Call::MorningLevel { id } => level(request.morning_level(book, *id)),
         Call::AfternoonLevel { id } => level(request.afternoon_level(book, *id)),
         Call::MorningCall { id } => guarantee_call(request.morning_call(book, *id)),
         Call::AfternoonCall { id } => guarantee_call(request.afternoon_call(book, *id)),
         Call::Warning { id } => fields(request.warning(book, *id).map(|warned| [warned.into()])),
         Call::Read => match daybook::read(book) {
-            Ok(fields) => Answer::of_part(0, &narrowed(&fields.to_image())),
-            Err(refusal) => Answer::of_part(refusal.number(), &narrowed(&[0; IMAGE_LENGTH])),
+            Ok(fields) => Answer::of_part(0, &fields.to_image()),
+            Err(refusal) => Answer::of_part(refusal.number(), &[0; IMAGE_LENGTH]),
         },
         Call::Write { image, length } => {
             let mut part = vec![0xAA; *length];
-            let written = daybook::write(&book_of(&widened(image)), &mut part);
+            let written = daybook::write(&book_of(image), &mut part);
             Answer::of_part(number(&written), &part)
         }
         Call::Reduction { id } => {
@@ -172,9 +175,10 @@ fn run(answer: Result<Run, Refusal>) -> Answer {
     found
 }
 
-fn record(answer: Result<User, Refusal>) -> Answer {
+/// The record of the questioned book.
+fn record(book: &[u8], answer: Result<User, Refusal>) -> Answer {
     match answer {
-        Ok(user) => Answer::of_part(0, shown(&user.to_bytes())),
+        Ok(user) => Answer::of_part(0, shown(book, &user.to_bytes())),
         Err(refusal) => Answer::of_part(refusal.number(), &[]),
     }
 }

@@ -82,6 +82,28 @@ pub struct Prices {
 }
 
 /// A user's record. What it has per area stands in the order PVB, TVB, AVB.
+///
+/// In a group the manager bears the risk, and its levels are those of what it and
+/// its members have together; a member's are those of its charges:
+///
+/// ```
+/// use daybook::{Book, Level, Prices, User};
+///
+/// let short = |id: u32, mwh: i32| {
+///     let physical = [-mwh, 0, 0];
+///     User { id, physical, position: physical, ..User::default() }
+/// };
+/// let member = User { managers: [101, 0, 0], ..short(102, 3_000) };
+/// let prices = Prices { pvb_tariff: 2_000, tank_and_store_tariff: 2_100, ..Prices::default() };
+/// let users = vec![short(101, 5_000), member];
+/// let book = Book { version: 3, date: 20_260_318, prices, users, trades: vec![] };
+/// let mut bytes = vec![0; book.length()];
+/// daybook::write(&book, &mut bytes)?;
+/// assert_eq!(daybook::afternoon_level(&bytes, 101), Ok(Level(16_000_000)));
+/// assert_eq!(daybook::afternoon_level(&bytes, 102), Ok(Level(10_000_000)));
+/// assert_eq!(daybook::show(&bytes, 102)?.managers, [101, 0, 0]);
+/// # Ok::<(), daybook::Refusal>(())
+/// ```
 #[derive(Clone, Copy, Debug, Default, PartialEq, Eq)]
 pub struct User {
     pub id: u32,
