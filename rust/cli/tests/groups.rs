@@ -27,33 +27,16 @@ const KINDS: [Kind; 6] = [
     Kind::Credit,
 ];
 
-/// A book of the generator with managers drawn into it: of each area some shippers
-/// manage, and of the others every other one is managed by one of them.
+/// A book of the generator that has a group.
 fn grouped(generator: &mut Generator) -> (Vec<u8>, Book) {
-    let kind = generator.random().pick(&KINDS);
-    let mut book = daybook::read(&generator.book(kind)).expect("a book");
-    book.version = 3;
-    let shippers = book.users.iter().filter(|user| user.role == 0);
-    let shippers: Vec<u32> = shippers.map(|user| user.id).collect();
-    for area in 0..3 {
-        let random = generator.random();
-        let mut managers = shippers.clone();
-        managers.retain(|_| random.below(3) == 0);
-        for user in &mut book.users {
-            user.managers[area] = 0;
-            let may_be = user.role == 0 && !managers.contains(&user.id) && !managers.is_empty();
-            if may_be && random.below(2) == 0 {
-                user.managers[area] = random.pick(&managers);
-            }
+    loop {
+        let kind = generator.random().pick(&KINDS);
+        let bytes = generator.book(kind);
+        let book = daybook::read(&bytes).expect("a book");
+        if has_groups(&book) {
+            return (bytes, book);
         }
     }
-    (written(&book), book)
-}
-
-fn written(book: &Book) -> Vec<u8> {
-    let mut bytes = vec![0; book.length()];
-    daybook::write(book, &mut bytes).expect("an accepted book");
-    bytes
 }
 
 fn file(name: &str, bytes: &[u8]) -> String {
@@ -208,7 +191,7 @@ fn calls_on_books_with_groups() {
             assert_eq!(worth - found.excess, target.target);
             cancelled += 1;
         }
-        assert!(out(&["status", &name]).contains("borne by") == has_groups(&book));
+        assert!(out(&["status", &name]).contains("borne by"));
     }
     assert!(cancelled > 20 && refused > 500, "{cancelled} {refused}");
 }

@@ -18,7 +18,7 @@ fn setting(name: &str, else_this: u64) -> u64 {
 }
 
 /// Words that a text or a table may have, and some that it may not.
-const WORDS: [&str; 67] = [
+const WORDS: [&str; 71] = [
     "daybook",
     "date",
     "prices",
@@ -31,6 +31,10 @@ const WORDS: [&str; 67] = [
     "charges",
     "assigned",
     "blocked",
+    "manager",
+    "none",
+    "manager_PVB",
+    "manager_AVB",
     "shipper",
     "clearing-house",
     "PVB",
