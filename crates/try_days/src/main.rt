@@ -1,5 +1,5 @@
-// Days: the books of the files `vectors`, `books`, `versions` and `groups` are run, and for each a line `day` and its place are printed, and
-// then its day, as the program `day` prints it. data/index says what each book shows. In a file a book stands behind its place and its
+// Days: the books of the files `vectors`, `books`, `versions` and `groups` are run, and for each a line `day` and its place are printed,
+// and then its day, as the program `day` prints it. data/index says what each book shows. In a file a book stands behind its place and its
 // length, two bytes each.
 
 use libc::STDOUT_FILENO;
