@@ -9,10 +9,10 @@
  * Every function returns 0 where it did what is asked, or the number of the first question that is answered by no:
  *
  *    1  at least 32 bytes, starting with the mark?
- *    2  version 1 or 2?
- *    3  counts in range, and length exactly 32 (version 2: 40) + 56 * users + 20 * trades?
+ *    2  version 1, 2 or 3?
+ *    3  counts in range and length exactly 32 (versions 2 and 3: 40) + 56 (version 3: 68) * users + 20 * trades?
  *    4  date, prices, tolls and selling tariffs in range?
- *    5  every user field valid, positions apart?
+ *    5  every user field valid, managers too, positions apart? (a manager is 0 or the id of another user; both are shippers, and the manager has none in that area)
  *    6  every trade valid?
  *    7  every position as defined?
  *    8  id in the book?
@@ -44,7 +44,7 @@
 #include <stdint.h>
 
 /* The interface that this header describes; daybook_interface() tells the archive's, which must be the same. */
-#define DAYBOOK_INTERFACE 4
+#define DAYBOOK_INTERFACE 5
 
 /* A call takes a store of parameter sets, as three arguments: a flag, the bytes and their length. A flag of 0 is no store, and the call's figures are today's; any other
    flag is a store, one of length 0 too. These stand for all three arguments. */
@@ -64,14 +64,18 @@
 /* The number for a lent part of another length than the function asks for. */
 #define DAYBOOK_WRONG_LENGTH 255
 
-/* Sizes in bytes: a book is a header, its users and its trades. The header of version 2 ends with the selling tariffs S and U, 4 bytes each, which version 1 has not. */
+/* Sizes in bytes: a book is a header, its users and its trades. The header of versions 2 and 3 ends with the selling tariffs S and U, 4 bytes each, which version 1 has
+   not. A user of version 3 ends with the ids of its managers in PVB, TVB and AVB, 4 bytes each, 0 for none, which versions 1 and 2 have not. A manager bears the risk of its
+   group in an area: what enters its levels, flag and tiers there is the sum over itself and its members, and a member counts 0; charges and guarantees are each one's own. */
 #define DAYBOOK_HEADER_SIZE_1 32
 #define DAYBOOK_HEADER_SIZE_2 40
-#define DAYBOOK_USER_SIZE 56
+#define DAYBOOK_USER_SIZE_1 56
+#define DAYBOOK_USER_SIZE_3 68
 #define DAYBOOK_TRADE_SIZE 20
 
-/* The size of the header of an accepted book, by its version; the users stand behind it. */
-#define DAYBOOK_HEADER_SIZE(book) ((book)[3] == 2 ? DAYBOOK_HEADER_SIZE_2 : DAYBOOK_HEADER_SIZE_1)
+/* The size of the header of an accepted book, by its version, and that of each user; the users stand behind the header. */
+#define DAYBOOK_HEADER_SIZE(book) ((book)[3] == 1 ? DAYBOOK_HEADER_SIZE_1 : DAYBOOK_HEADER_SIZE_2)
+#define DAYBOOK_USER_SIZE(book) ((book)[3] == 3 ? DAYBOOK_USER_SIZE_3 : DAYBOOK_USER_SIZE_1)
 
 /* A book has 1 to 64 users and at most 256 trades. */
 #define DAYBOOK_MAX_USERS 64
@@ -80,12 +84,13 @@
 /* A list of postings has at most 512 lines. */
 #define DAYBOOK_MAX_LINES 512
 
-/* A shown record: the user's bytes. */
-#define DAYBOOK_RECORD_SIZE DAYBOOK_USER_SIZE
+/* The part for a shown record: the user's bytes, all 68 of version 3; behind the 56 of versions 1 and 2 it is 0. */
+#define DAYBOOK_RECORD_SIZE DAYBOOK_USER_SIZE_3
 
-/* An image: a header of 40 bytes, then always 64 users and 256 trades, those past the counts 0, and so are S and U of version 1. The largest book has as many bytes. */
+/* An image: a header of 40 bytes, then always 64 users of 68 bytes and 256 trades, those past the counts 0, and so are S and U of version 1 and the managers of versions
+   1 and 2. The largest book has as many bytes. */
 #define DAYBOOK_IMAGE_SIZE \
-    (DAYBOOK_HEADER_SIZE_2 + DAYBOOK_USER_SIZE * DAYBOOK_MAX_USERS + DAYBOOK_TRADE_SIZE * DAYBOOK_MAX_TRADES)
+    (DAYBOOK_HEADER_SIZE_2 + DAYBOOK_USER_SIZE_3 * DAYBOOK_MAX_USERS + DAYBOOK_TRADE_SIZE * DAYBOOK_MAX_TRADES)
 
 /* How many numbers an answer has. */
 #define DAYBOOK_LEVEL_NUMBERS 1
@@ -116,10 +121,11 @@ uint32_t daybook_interface(void);
 uint32_t daybook_read(const uint8_t *book, size_t book_len, uint8_t *image, size_t image_len);
 
 /* Writes the book whose fields the image has, up to its counts, to `out`, which must have exactly the book's length. The mark and the zero bytes are written whatever the
-   image has there; S and U of version 1 are neither written nor looked at. Refused with the first of the questions 2 to 7 that the bytes so written would fail, 3 where `out` is of another length; `out` is then unchanged. */
+   image has there; S and U of version 1 and the managers of versions 1 and 2 are neither written nor looked at. Refused with the first of the questions 2 to 7 that the
+   bytes so written would fail, 3 where `out` is of another length; `out` is then unchanged. */
 uint32_t daybook_write(const uint8_t *image, size_t image_len, uint8_t *out, size_t out_len);
 
-/* Copies the record of the user of an id, DAYBOOK_RECORD_SIZE bytes. */
+/* Copies the record of the user of an id to a part of DAYBOOK_RECORD_SIZE bytes, with 0 behind it where the book's version has the shorter record. */
 uint32_t daybook_show(const uint8_t *book, size_t book_len, uint32_t with_store, const uint8_t *store,
                       size_t store_len, uint32_t id, uint8_t *record, size_t record_len);
 
@@ -145,9 +151,9 @@ uint32_t daybook_list(uint8_t *book, size_t book_len, uint32_t with_store, const
 uint32_t daybook_morning_level(const uint8_t *book, size_t book_len, uint32_t with_store, const uint8_t *store,
                                size_t store_len, uint32_t id, uint64_t *answer, size_t answer_len);
 
-/* The afternoon level of a user; DAYBOOK_LEVEL_NUMBERS: the level. In version 2 it is lowered by a credit, each long position at its selling tariff (S for PVB, U for TVB
-   and AVB), but not below the least level. The credit is in the target of a reduction and in whatever else asks for the afternoon level; not in the morning level, not in
-   the warning. */
+/* The afternoon level of a user; DAYBOOK_LEVEL_NUMBERS: the level. In versions 2 and 3 it is lowered by a credit, each long position at its selling tariff (S for PVB, U for
+   TVB and AVB), but not below the least level. The credit is in the target of a reduction and in whatever else asks for the afternoon level; not in the morning level, not
+   in the warning. */
 uint32_t daybook_afternoon_level(const uint8_t *book, size_t book_len, uint32_t with_store, const uint8_t *store,
                                  size_t store_len, uint32_t id, uint64_t *answer, size_t answer_len);
 
@@ -161,12 +167,13 @@ uint32_t daybook_afternoon_call(uint8_t *book, size_t book_len, uint32_t with_st
                                 size_t store_len, uint32_t with_log, uint8_t *log, size_t log_len, uint32_t id,
                                 uint64_t *answer, size_t answer_len);
 
-/* Whether a user is warned at midday; DAYBOOK_WARNING_NUMBERS: 1 for yes, 0 for no. */
+/* Whether a user is warned at midday; DAYBOOK_WARNING_NUMBERS: 1 for yes, 0 for no. A seller that is managed in the trade's area has its manager's flag. */
 uint32_t daybook_warning(const uint8_t *book, size_t book_len, uint32_t with_store, const uint8_t *store,
                          size_t store_len, uint32_t id, uint64_t *answer, size_t answer_len);
 
 /* Cuts a user's bilateral sales for what its afternoon level exceeds its assigned guarantee by, and settles the positions; DAYBOOK_REDUCTION_NUMBERS: the MWh cut, their
-   worth, the target, and what the worth falls short of the target or exceeds it by. */
+   worth, the target, and what the worth falls short of the target or exceeds it by. In an area with a group the sales that its members made to others are the manager's,
+   and not their own; a sale between two of one group is cut for nobody. */
 uint32_t daybook_reduction(uint8_t *book, size_t book_len, uint32_t with_store, const uint8_t *store,
                            size_t store_len, uint32_t with_log, uint8_t *log, size_t log_len, uint32_t id,
                            uint64_t *answer, size_t answer_len);

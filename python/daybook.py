@@ -6,6 +6,7 @@ that change a book leave the one they are given and hand back the book after
 them. Money is in cents, gas in MWh; the return of shrinkage is in kWh.
 
 >>> import daybook
+>>> from dataclasses import replace
 >>> with open("../samples/day.gdb", "rb") as file:
 ...     book = file.read()
 >>> daybook.afternoon_level(book, 101)
@@ -31,6 +32,21 @@ have credit for long positions:
 1900
 >>> daybook.level_table(credit)[0]
 (201, 126000000, 116500000)
+
+A book of version 3 has group portfolios, too: a user has the id of its manager
+in each area, or 0, and the manager bears its risk there. Here 201 manages 204
+in PVB; 204 keeps its charges. Without a manager it bears its own risk:
+
+>>> with open("../samples/group.gdb", "rb") as file:
+...     group = daybook.read(file.read())
+>>> [user.managers for user in group.users]
+[(0, 0, 0), (0, 0, 0), (0, 0, 0), (201, 0, 0)]
+>>> daybook.level_table(daybook.write(group))[::3]
+[(201, 146000000, 136500000), (204, 12000000, 12000000)]
+>>> *others, member = group.users
+>>> alone = replace(group, users=(*others, replace(member, managers=(0, 0, 0))))
+>>> daybook.level_table(daybook.write(alone))[::3]
+[(201, 130000000, 120500000), (204, 28000000, 28000000)]
 
 A log of reductions is bytes, too. Calls that may change a book take one as
 `log=`, or none, and hand back the log after them beside the book; with it the
@@ -79,10 +95,10 @@ BILATERAL, PLATFORM, COUNTERPARTY = 0, 1, 2
 
 QUESTIONS = {
     1: "at least 32 bytes, starting with the mark?",
-    2: "version 1 or 2?",
-    3: "counts in range and length exactly 32 (version 2: 40) + 56 × users + 20 × trades?",
+    2: "version 1, 2 or 3?",
+    3: "counts in range and length exactly 32 (versions 2 and 3: 40) + 56 (version 3: 68) × users + 20 × trades?",
     4: "date, prices, tolls and selling tariffs in range?",
-    5: "every user field valid, positions apart?",
+    5: "every user field valid, managers too, positions apart?",
     6: "every trade valid?",
     7: "every position as defined?",
     8: "id in the book?",
@@ -108,10 +124,11 @@ QUESTIONS = {
 Bytes = Union[bytes, bytearray, memoryview]
 Areas = Tuple[int, int, int]
 
-_INTERFACE = 4
+_INTERFACE = 5
 _HEADER = struct.Struct("<3sHBH8I")
-_HEADER_SIZES = {1: 32, 2: _HEADER.size}
-_USER = struct.Struct("<IB3x6iqQQ")
+_HEADER_SIZES = {1: 32, 2: _HEADER.size, 3: _HEADER.size}
+_USER = struct.Struct("<IB3x6iqQQ3I")
+_USER_SIZES = {1: 56, 2: 56, 3: _USER.size}
 _TRADE = struct.Struct("<IIBBBxII")
 _MOST_USERS = 64
 _MOST_TRADES = 256
@@ -133,8 +150,8 @@ class Refused(Exception):
 @dataclass(frozen=True)
 class Prices:
     """Prices in cents per MWh: the tariffs P and Q, the tolls L, X and I, and the selling tariffs
-    S of PVB and U of TVB and AVB, which version 2 has; version 1 reads them as 0 and has no bytes
-    for them."""
+    S of PVB and U of TVB and AVB, which versions 2 and 3 have; version 1 reads them as 0 and has no
+    bytes for them."""
 
     p: int
     q: int
@@ -147,7 +164,9 @@ class Prices:
 
 @dataclass(frozen=True)
 class User:
-    """A user's record. Amounts by area stand in the order PVB, TVB, AVB."""
+    """A user's record. What it has by area stands in the order PVB, TVB, AVB. `managers` are the ids
+    of the shippers that bear its risk, 0 for none, which version 3 has; versions 1 and 2 read them
+    as 0 and have no bytes for them."""
 
     id: int
     role: int = SHIPPER
@@ -156,15 +175,17 @@ class User:
     charges: int = 0
     assigned: int = 0
     blocked: int = 0
+    managers: Areas = (0, 0, 0)
 
     @classmethod
     def _unpacked(cls, record: Bytes) -> User:
-        id_, role, a, b, c, d, e, f, charges, assigned, blocked = _USER.unpack(record)
-        return cls(id_, role, (a, b, c), (d, e, f), charges, assigned, blocked)
+        id_, role, a, b, c, d, e, f, charges, assigned, blocked, g, h, i = _USER.unpack(record)
+        return cls(id_, role, (a, b, c), (d, e, f), charges, assigned, blocked, (g, h, i))
 
     def _packed(self) -> bytes:
         return _USER.pack(
-            self.id, self.role, *self.physical, *self.position, self.charges, self.assigned, self.blocked
+            self.id, self.role, *self.physical, *self.position, self.charges, self.assigned, self.blocked,
+            *self.managers,
         )
 
 
@@ -192,7 +213,7 @@ class Trade:
 
 @dataclass(frozen=True)
 class Book:
-    """The fields of a book of version 1 or 2. The date is year × 10,000 + month × 100 + day."""
+    """The fields of a book of version 1, 2 or 3. The date is year × 10,000 + month × 100 + day."""
 
     date: int
     prices: Prices
@@ -396,8 +417,8 @@ def write(book: Book) -> bytes:
     for place, trade in enumerate(book.trades[:_MOST_TRADES]):
         at = _TRADES_AT + _TRADE.size * place
         image[at : at + _TRADE.size] = trade._packed()
-    start = _HEADER_SIZES.get(book.version, 0)
-    part = _Part(bytes(start + _USER.size * users + _TRADE.size * trades))
+    start, user_size = _HEADER_SIZES.get(book.version, 0), _USER_SIZES.get(book.version, 0)
+    part = _Part(bytes(start + user_size * users + _TRADE.size * trades))
     _answered(_library.daybook_write(*_Part(image).arguments, *part.arguments))
     return part.bytes
 
@@ -464,7 +485,7 @@ def morning_level(book: Bytes, id: int, store: Optional[Bytes] = None) -> int:
 
 
 def afternoon_level(book: Bytes, id: int, store: Optional[Bytes] = None) -> int:
-    """The afternoon level of a shipper, in cents; in version 2 less the credit for long positions."""
+    """The afternoon level of a shipper, in cents; in versions 2 and 3 less the credit for long positions."""
     (level,), _ = _called(_library.daybook_afternoon_level, book, store, (_id(id),), 1)
     return level
 

@@ -8,7 +8,7 @@
 /* A 32-bit field of a trade of an accepted book. */
 static uint32_t field(const uint8_t *book, size_t trade, size_t at)
 {
-    const uint8_t *p = book + DAYBOOK_HEADER_SIZE(book) + DAYBOOK_USER_SIZE * (size_t)book[5] + DAYBOOK_TRADE_SIZE * trade + at;
+    const uint8_t *p = book + DAYBOOK_HEADER_SIZE(book) + DAYBOOK_USER_SIZE(book) * (size_t)book[5] + DAYBOOK_TRADE_SIZE * trade + at;
     return p[0] | (uint32_t)p[1] << 8 | (uint32_t)p[2] << 16 | (uint32_t)p[3] << 24;
 }
 

@@ -51,7 +51,7 @@ int main(void)
     }
     printf("run %" PRIu64 " %" PRIu64 " %" PRIu64 "\n", run[0], run[1], run[2]);
     for (size_t place = 0; place < book[5]; place++) {
-        const uint8_t *user = book + DAYBOOK_HEADER_SIZE(book) + DAYBOOK_USER_SIZE * place;
+        const uint8_t *user = book + DAYBOOK_HEADER_SIZE(book) + DAYBOOK_USER_SIZE(book) * place;
         uint32_t id = field(user);
         /* a refused level is 0, as a clearing house's is printed */
         daybook_afternoon_level(book, size, DAYBOOK_NO_STORE, id, level, DAYBOOK_LEVEL_NUMBERS);

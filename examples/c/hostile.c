@@ -1,8 +1,9 @@
 /* Calls every function of daybook.h on hostile input, but daybook_list (hostile_lists.c) and daybook_cancellation (hostile_cancellations.c), and without a log (hostile_logs.c):
-   hostile BOOK. Each part is a block of exactly its length, so that valgrind sees a byte read or written outside it (the script `valgrind` beside this file). What a caller can tell is held against the header: the numbers, the 0 of a refused answer, and what stays unchanged. */
+   hostile BOOK. Each part is a block of exactly its length, so that valgrind sees a byte read or written outside it (the script `valgrind` beside this file). What a caller
+   can tell is held against the header: the numbers, the 0 of a refused answer, and what stays unchanged. */
 #include "hostile.h"
 
-enum { LONGEST = 8800 };
+enum { LONGEST = DAYBOOK_IMAGE_SIZE + 60 };
 
 /* ---- the functions with an answer in numbers, under one type */
 
@@ -114,6 +115,8 @@ static void show(const uint8_t *bytes, size_t size, uint32_t id, size_t lent)
     give_store();
     uint32_t number = daybook_show(book, size, GIVEN, id, record, lent);
     expect_part("show", number, record, lent, DAYBOOK_RECORD_SIZE);
+    if (number == 0)
+        expect(all_bytes(record + DAYBOOK_USER_SIZE(book), DAYBOOK_RECORD_SIZE - DAYBOOK_USER_SIZE(book), 0), "show", "bytes behind the record are not 0", number);
 
     /* picked from two, the other of which is one byte long */
     uint8_t *other = block(1);
@@ -256,13 +259,13 @@ static void random_bytes(const uint8_t *sample)
         uint8_t *bytes = block(size);
         for (size_t i = 0; i < size; i++)
             bytes[i] = (uint8_t)next();
-        if (size % 4 == 0 && size >= header + DAYBOOK_USER_SIZE) {
+        if (size % 4 == 0 && size >= header + DAYBOOK_USER_SIZE(sample)) {
             memcpy(bytes, sample, header);
-            size_t users = (size - header) / DAYBOOK_USER_SIZE;
+            size_t users = (size - header) / DAYBOOK_USER_SIZE(sample);
             users = users > DAYBOOK_MAX_USERS ? DAYBOOK_MAX_USERS : users;
-            while (users > 1 && (size - header - users * DAYBOOK_USER_SIZE) % DAYBOOK_TRADE_SIZE != 0)
+            while (users > 1 && (size - header - users * DAYBOOK_USER_SIZE(sample)) % DAYBOOK_TRADE_SIZE != 0)
                 users--;
-            size_t trades = (size - header - users * DAYBOOK_USER_SIZE) / DAYBOOK_TRADE_SIZE;
+            size_t trades = (size - header - users * DAYBOOK_USER_SIZE(sample)) / DAYBOOK_TRADE_SIZE;
             bytes[5] = (uint8_t)users;
             bytes[6] = (uint8_t)trades;
             bytes[7] = (uint8_t)(trades >> 8);
@@ -285,17 +288,18 @@ static void damaged_books(const uint8_t *sample, size_t size, uint32_t id)
         }
 }
 
-/* The image of the sample with one byte of the header, of the first users or of the first trades changed, written to a part of the sample's length. */
+/* The image of the sample with one byte of the header, of the first users, around the first trades or of the last one changed, written to a part of the sample's length. */
 static void damaged_images(const uint8_t *sample, size_t size)
 {
     uint8_t *image = block(DAYBOOK_IMAGE_SIZE);
     uint32_t number = daybook_read(sample, size, image, DAYBOOK_IMAGE_SIZE);
     expect(number == 0, "read", "the sample is refused", number);
+    const size_t users = DAYBOOK_HEADER_SIZE_2, trades = users + DAYBOOK_USER_SIZE_3 * DAYBOOK_MAX_USERS;
     for (size_t at = 0; at < DAYBOOK_IMAGE_SIZE; at++) {
-        if (at == 200)
-            at = 3600;
-        if (at == 3700)
-            at = DAYBOOK_IMAGE_SIZE - 50;
+        if (at == users + 4 * DAYBOOK_USER_SIZE_3)
+            at = trades - DAYBOOK_USER_SIZE_3;
+        if (at == trades + 4 * DAYBOOK_TRADE_SIZE)
+            at = DAYBOOK_IMAGE_SIZE - 2 * DAYBOOK_TRADE_SIZE;
         image[at] ^= 0xFF;
         write_book(image, DAYBOOK_IMAGE_SIZE, size);
         image[at] ^= 0xFF;
@@ -325,7 +329,7 @@ static void wrong_lengths(const uint8_t *sample, size_t size, uint32_t id)
             ask(which, sample, size, id, count);
     for (size_t lent = 0; lent <= 2 * DAYBOOK_RECORD_SIZE; lent++)
         show(sample, size, id, lent);
-    const size_t lengths[] = {0, 1, 31, 32, 40, DAYBOOK_IMAGE_SIZE - 8, DAYBOOK_IMAGE_SIZE - 1, DAYBOOK_IMAGE_SIZE, DAYBOOK_IMAGE_SIZE + 1, 2 * DAYBOOK_IMAGE_SIZE};
+    const size_t lengths[] = {0, 1, 31, 32, 40, 8744, DAYBOOK_IMAGE_SIZE - 8, DAYBOOK_IMAGE_SIZE - 1, DAYBOOK_IMAGE_SIZE, DAYBOOK_IMAGE_SIZE + 1, 2 * DAYBOOK_IMAGE_SIZE};
     uint8_t *zeros = calloc(2, DAYBOOK_IMAGE_SIZE);
     for (size_t i = 0; i < sizeof lengths / sizeof lengths[0]; i++) {
         read_book(sample, size, lengths[i]);
@@ -335,11 +339,11 @@ static void wrong_lengths(const uint8_t *sample, size_t size, uint32_t id)
     free(zeros);
 }
 
-/* The largest book of the sample's version: 64 users with the ids 1 to 64, and 256 sales of 1 MWh from the first to the second. */
+/* The largest book of the sample's version: 64 users with the ids 1 to 64, and 256 sales of 1 MWh from the first to the second, which in version 3 manage all others. */
 static void largest_book(const uint8_t *sample)
 {
     const size_t users = DAYBOOK_HEADER_SIZE(sample);
-    const size_t trades = users + DAYBOOK_USER_SIZE * DAYBOOK_MAX_USERS;
+    const size_t trades = users + DAYBOOK_USER_SIZE(sample) * DAYBOOK_MAX_USERS;
     const size_t size = trades + DAYBOOK_TRADE_SIZE * DAYBOOK_MAX_TRADES;
     uint8_t *book = calloc(1, size);
     memcpy(book, sample, users);
@@ -347,11 +351,14 @@ static void largest_book(const uint8_t *sample)
     book[6] = 0;
     book[7] = 1;
     for (size_t i = 0; i < DAYBOOK_MAX_USERS; i++)
-        book[users + DAYBOOK_USER_SIZE * i] = (uint8_t)(i + 1);
+        book[users + DAYBOOK_USER_SIZE(sample) * i] = (uint8_t)(i + 1);
+    for (size_t i = 2; sample[3] == 3 && i < DAYBOOK_MAX_USERS; i++)
+        for (size_t area = 0; area < 3; area++)
+            book[users + DAYBOOK_USER_SIZE_3 * i + DAYBOOK_USER_SIZE_1 + 4 * area] = (uint8_t)((i + area) % 3);
     const int32_t sold = -256, bought = 256;
     for (size_t k = 0; k < 4; k++) {
         book[users + 20 + k] = (uint8_t)((uint32_t)sold >> (8 * k));
-        book[users + DAYBOOK_USER_SIZE + 20 + k] = (uint8_t)((uint32_t)bought >> (8 * k));
+        book[users + DAYBOOK_USER_SIZE(sample) + 20 + k] = (uint8_t)((uint32_t)bought >> (8 * k));
     }
     for (size_t i = 0; i < DAYBOOK_MAX_TRADES; i++) {
         uint8_t *trade = book + trades + DAYBOOK_TRADE_SIZE * i;

@@ -104,7 +104,7 @@ static size_t read_sample(int argc, char **argv, uint8_t *sample, uint32_t *id)
     }
     size_t size = fread(sample, 1, DAYBOOK_IMAGE_SIZE, file);
     fclose(file);
-    if (size < DAYBOOK_HEADER_SIZE_2 + DAYBOOK_USER_SIZE) {
+    if (size < DAYBOOK_HEADER_SIZE_2 + DAYBOOK_USER_SIZE_1) {
         fprintf(stderr, "%s: no book\n", argv[1]);
         exit(2);
     }

@@ -4,7 +4,7 @@
 #include "hostile.h"
 
 /* The parts of a log: its numbers, 32 bits each, the held book and the entries. */
-enum { COUNT_AT = 4, LENGTH_AT = 8, HELD_AT = 12, HELD_ROOM = 9512, ENTRIES_AT = HELD_AT + HELD_ROOM, ENTRY_SIZE = 1024 };
+enum { COUNT_AT = 4, LENGTH_AT = 8, HELD_AT = 12, HELD_ROOM = DAYBOOK_IMAGE_SIZE, ENTRIES_AT = HELD_AT + HELD_ROOM, ENTRY_SIZE = 1024 };
 
 enum { SIZE = DAYBOOK_LOG_SIZE, MOST = DAYBOOK_MAX_ENTRIES };
 
@@ -313,21 +313,27 @@ static void flags_and_answers(struct part book, struct part log, uint32_t id)
     }
 }
 
-/* A seller one cent short of cover whatever is cut, and a sale of 299 MWh, of which a reduction cuts one: a run fills a log, and withdrawals empty it. */
+/* A seller one cent short of cover whatever is cut, and a sale of 299 MWh, of which a reduction cuts one: a run fills a log, and withdrawals empty it. In version 3 the
+   third user is short, as manager of the seller. */
 static void life(const uint8_t *sample)
 {
-    const size_t users = DAYBOOK_HEADER_SIZE(sample), trade = users + 2 * DAYBOOK_USER_SIZE;
+    const int managed = sample[3] == 3;
+    const uint32_t id = managed ? 3 : 1;
+    const size_t users = DAYBOOK_HEADER_SIZE(sample), user = DAYBOOK_USER_SIZE(sample), trade = users + (managed ? 3 : 2) * user;
     struct part book = {calloc(1, trade + DAYBOOK_TRADE_SIZE), trade + DAYBOOK_TRADE_SIZE};
     memcpy(book.bytes, sample, DAYBOOK_HEADER_SIZE_1);
-    book.bytes[5] = 2;
+    book.bytes[5] = managed ? 3 : 2;
     book.bytes[6] = 1;
     book.bytes[7] = 0;
-    uint8_t *seller = book.bytes + users, *buyer = seller + DAYBOOK_USER_SIZE;
+    uint8_t *seller = book.bytes + users, *buyer = seller + user, *bearer = managed ? buyer + user : seller;
     put_number(seller, 1);
     put_number(seller + 8, 300);
     put_number(seller + 20, 1);
-    put_number(seller + 32, 20000000);
-    put_number(seller + 40, 19999999);
+    if (managed)
+        put_number(seller + DAYBOOK_USER_SIZE_1, id);
+    put_number(bearer, id);
+    put_number(bearer + 32, 20000000);
+    put_number(bearer + 40, 19999999);
     put_number(buyer, 2);
     put_number(buyer + 20, 299);
     put_number(book.bytes + trade, 1);
@@ -336,18 +342,18 @@ static void life(const uint8_t *sample)
     put_number(book.bytes + trade + 16, 299);
 
     struct part first = part_of(book.bytes, book.size), log = started(book, SIZE);
-    expect(ask(REDUCTION, book, 1, log, 1, DAYBOOK_REDUCTION_NUMBERS) == 0, "reduction", "refused", 0);
-    expect(ask(RUN, book, 1, log, 1, DAYBOOK_RUN_NUMBERS) == 20, "run", "a log does not fill", 0);
+    expect(ask(REDUCTION, book, 1, log, id, DAYBOOK_REDUCTION_NUMBERS) == 0, "reduction", "refused", 0);
+    expect(ask(RUN, book, 1, log, id, DAYBOOK_RUN_NUMBERS) == 20, "run", "a log does not fill", 0);
     expect(number_at(log.bytes + COUNT_AT) == MOST, "run", "a log is not full", 0);
-    expect(ask(REDUCTION, book, 1, log, 1, DAYBOOK_REDUCTION_NUMBERS) == 20, "reduction", "not refused by a full log", 0);
-    expect(ask(RUN, book, 1, log, 1, DAYBOOK_RUN_NUMBERS) == 20, "run", "not stopped by a full log", 0);
+    expect(ask(REDUCTION, book, 1, log, id, DAYBOOK_REDUCTION_NUMBERS) == 20, "reduction", "not refused by a full log", 0);
+    expect(ask(RUN, book, 1, log, id, DAYBOOK_RUN_NUMBERS) == 20, "run", "not stopped by a full log", 0);
     for (uint32_t left = MOST; left != 0; left--)
-        expect(ask(WITHDRAWAL, book, 1, log, 1, DAYBOOK_WITHDRAWAL_NUMBERS) == 0, "withdrawal", "refused", left);
+        expect(ask(WITHDRAWAL, book, 1, log, id, DAYBOOK_WITHDRAWAL_NUMBERS) == 0, "withdrawal", "refused", left);
     expect(same(first, book), "withdrawal", "the book is not the first one", 0);
-    expect(ask(WITHDRAWAL, book, 1, log, 1, DAYBOOK_WITHDRAWAL_NUMBERS) == 18, "withdrawal", "an empty log is not refused", 0);
-    expect(ask(RUN, book, 1, log, 1, DAYBOOK_RUN_NUMBERS) == 20, "run", "a log does not fill again", 0);
+    expect(ask(WITHDRAWAL, book, 1, log, id, DAYBOOK_WITHDRAWAL_NUMBERS) == 18, "withdrawal", "an empty log is not refused", 0);
+    expect(ask(RUN, book, 1, log, id, DAYBOOK_RUN_NUMBERS) == 20, "run", "a log does not fill again", 0);
     expect(ask(POSTING, book, 1, log, 2, 0) == 0, "posting", "refused", 0);
-    expect(ask(RUN, book, 1, log, 1, DAYBOOK_RUN_NUMBERS) == 0, "run", "a log that was emptied is full", 0);
+    expect(ask(RUN, book, 1, log, id, DAYBOOK_RUN_NUMBERS) == 0, "run", "a log that was emptied is full", 0);
     free(log.bytes);
     free(first.bytes);
     free(book.bytes);

@@ -1,10 +1,11 @@
--- Question 1 asks for 32 bytes in every version: a book of version 2 that ends before its header does is judged by 3. Assumes nothing.
+-- Question 1 asks for 32 bytes in every version: a book of version 2 or 3 that ends before its header does is judged by 3. Assumes nothing.
 use mathlib.Core.List.{List, _∷_}
 use mathlib.Core.Path.{_≡_, refl}
 use Prim.Native.Nat.{ℕ}
 use lib.ListN.{replicate}
 use Rattle.fields.specs.Field.{field, fromBytes}
-use Rattle.rules.specs.Areas.{sellingIn}
+use Rattle.rules.specs.Areas.{managersIn, sellingIn}
+use Rattle.book_records.specs.User.{recordSize}
 use Rattle.rules.specs.Questions.{numberOf, refusal, versionKnown}
 use Rattle.book_format.specs.Book.{headerSize, lengthBy, lengthOf, mark, markOf, tradeCount, userCount, userSize, versionOf}
 use Rattle.book_format.specs.Questions.{aboutForm, formNumber, marked, sized, versioned}
@@ -19,17 +20,20 @@ pub record Beginnings : Type 0 where
   pub bytes-32 : formNumber (beginning 2 24) ≡ 3
   pub bytes-39 : formNumber (beginning 2 31) ≡ 3
   pub bytes-40 : formNumber (beginning 2 32) ≡ 3
-  -- one user behind its header, in each version and in the other's length
+  -- one user behind its header, in each version and in another's length
   pub whole-1 : formNumber (beginning 1 80) ≡ 0
   pub whole-2 : formNumber (beginning 2 88) ≡ 0
+  pub whole-3 : formNumber (beginning 3 100) ≡ 0
   pub exchanged-1 : formNumber (beginning 1 88) ≡ 3
   pub exchanged-2 : formNumber (beginning 2 80) ≡ 3
+  pub exchanged-3 : formNumber (beginning 3 88) ≡ 3
+  pub exchanged-23 : formNumber (beginning 2 100) ≡ 3
   -- another version
   pub version-0 : formNumber (beginning 0 80) ≡ 2
-  pub version-3 : formNumber (beginning 3 88) ≡ 2
+  pub version-4 : formNumber (beginning 4 100) ≡ 2
 
 pub beginnings : Beginnings
-unfolding beginning formNumber aboutForm refusal numberOf marked mark markOf versioned versionKnown versionOf sized userCount tradeCount lengthOf lengthBy headerSize sellingIn userSize field fromBytes
+unfolding beginning formNumber aboutForm refusal numberOf marked mark markOf versioned versionKnown versionOf sized userCount tradeCount lengthOf lengthBy headerSize sellingIn managersIn userSize recordSize field fromBytes
 beginnings =
     record {
       bytes-31 = refl;
@@ -38,8 +42,11 @@ beginnings =
       bytes-40 = refl;
       whole-1 = refl;
       whole-2 = refl;
+      whole-3 = refl;
       exchanged-1 = refl;
       exchanged-2 = refl;
+      exchanged-3 = refl;
+      exchanged-23 = refl;
       version-0 = refl;
-      version-3 = refl;
+      version-4 = refl;
     }

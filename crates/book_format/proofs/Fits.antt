@@ -1,21 +1,27 @@
 -- A user that is read from bytes fits them, and so do the users and trades of an accepted book. Assumes nothing.
+use mathlib.Core.Bool.{Bool, true, false, cond}
+use mathlib.Core.Path.{_≡_, ap}
 use mathlib.Core.List.{List, [], _∷_}
 use Prim.Native.Nat.{ℕ, _*_, _<_, _^_}
 use native.Mathlib.Omega.{arith}
-use lib.Dec.{T, leb→le, ltb→lt}
+use lib.Dec.{T, T-not, eqb, leb→le, ltb→lt}
 use lib.IntN.{ℤ}
-use Rattle.base.proofs.Tests.{and-l, and-r}
+use lib.ListN.{length}
+use borrow.Author.Tests.{eqb-true}
+use Rattle.base.proofs.Tests.{and-l, and-r, by-case, by-test, fails, or-second}
 use Rattle.base.specs.Lists.{all}
 use Rattle.fields.proofs.Field.{field-lt}
 use Rattle.fields.specs.Field.{AllBytes}
 use Rattle.fields.specs.Layout.{Every}
+use Rattle.book_records.proofs.Users.{managers-past}
 use Rattle.book_records.specs.Trade.{FitsTrade}
-use Rattle.book_records.specs.User.{FitsAmounts, FitsSigned, FitsUser, amountsAt, userOf}
+use Rattle.book_records.specs.User.{FitsAmounts, FitsManagers, FitsRecord, FitsSigned, FitsUser, amountsAt, managersAt, recordSize, userOf}
 use Rattle.laws.proofs.Bounds.{entry-le, position-bound, within-le}
 use Rattle.laws.proofs.Users.{all-find, known-id}
 use Rattle.laws.specs.Sound.{Sound}
-use Rattle.rules.specs.Book.{Book, Trade, User, at, find}
-use Rattle.rules.specs.Questions.{amountsValid, codesValid, guaranteesValid, known, partiesValid, positionsValid, tradeValid, userValid}
+use Rattle.rules.specs.Areas.{managersIn}
+use Rattle.rules.specs.Book.{Book, Managers, Trade, User, at, find, managerIn}
+use Rattle.rules.specs.Questions.{amountsValid, codesValid, groupsValid, guaranteesValid, known, managerValid, managersValid, manages, partiesValid, positionsValid, tradeValid, userValid}
 use Rattle.rules.specs.Signed.{signedOf, within}
 use Rattle.units.proofs.TwosComplement.{posPart-signedOf-lt, negPart-signedOf-le}
 
@@ -69,7 +75,7 @@ user-fits b s u h p =
       blocked = omega arith;
     }
 
-pub every-user : (b : Book) → Sound b → (us : List User) → T (all userValid us) → T (all (positionsValid (b .trades)) us) → Every FitsUser us
+every-user : (b : Book) → Sound b → (us : List User) → T (all userValid us) → T (all (positionsValid (b .trades)) us) → Every FitsUser us
 unfolding all
 every-user b s [] h p = tt
 every-user b s (u ∷ us) h p =
@@ -104,3 +110,46 @@ unfolding all
 every-trade us [] h k = tt
 every-trade us (t ∷ ts) h k =
     (trade-fits us t h (and-l (tradeValid us t) (all (tradeValid us) ts) k), every-trade us ts h (and-r (tradeValid us t) (all (tradeValid us) ts) k))
+
+-- ---- the managers of a user of an accepted book are users, or 0
+
+manager-fits : (b : Book) → Sound b → (u : User) (area : ℕ) → T (managerValid (b .header .version) (b .users) u area)
+    → managerIn (u .party .managers) area < cond (managersIn (b .header .version)) (2 ^ 32) 1
+unfolding managerValid manages
+manager-fits b s u area h =
+    let m = managerIn (u .party .managers) area in
+    by-case (eqb m 0)
+    (λ e. by-test (λ (n : ℕ). m < n) (managersIn (b .header .version)) (λ t. omega (arith, eqb-true m 0 e)) (λ t. omega (arith, eqb-true m 0 e)))
+    (λ e.
+    let k = or-second (eqb m 0) _ (fails e) h in
+    by-test (λ (n : ℕ). m < n) (managersIn (b .header .version)) (λ t. known-lt (b .users) m (s .users) (search (and-l, and-r)))
+    (λ t. absurd (T-not (managersIn (b .header .version)) t (and-l (managersIn (b .header .version)) _ k))))
+
+every-managers : (b : Book) → Sound b → (us : List User) → T (all (managersValid (b .header .version) (b .users)) us) → Every (λ u. FitsManagers (managersIn (b .header .version)) (u .party .managers)) us
+unfolding all managersValid managerIn
+every-managers b s [] h = tt
+every-managers b s (u ∷ us) h =
+    let v = managersValid (b .header .version) (b .users) in
+    let one = and-l (v u) (all v us) h in
+    (record { pvb = manager-fits b s u 0 (search (and-l, and-r)); tvb = manager-fits b s u 1 (search (and-l, and-r)); avb = manager-fits b s u 2 (search (and-l, and-r)) }, every-managers b s us (and-r (v u) (all v us) h))
+
+-- a record fits where its user and its managers do
+both-fit : (managed : Bool) (us : List User) → Every FitsUser us → Every (λ u. FitsManagers managed (u .party .managers)) us → Every (FitsRecord managed) us
+both-fit managed [] h k = tt
+both-fit managed (u ∷ us) h k = (record { user = h .0; managers = k .0 }, both-fit managed us (h .1) (k .1))
+
+pub every-record : (b : Book) → Sound b → Every (FitsRecord (managersIn (b .header .version))) (b .users)
+unfolding groupsValid
+every-record b s =
+    both-fit (managersIn (b .header .version)) (b .users) (every-user b s (b .users) (s .users) (s .positions)) (every-managers b s (b .users) (s .groups))
+
+-- managers that are read; a record of 56 bytes ends before them
+pub managersAt-fit : (managed : Bool) (c : List ℕ) → length c ≡ recordSize managed → AllBytes c → FitsManagers managed (userOf c .party .managers)
+unfolding recordSize userOf managersAt
+managersAt-fit true c l b = record { pvb = field-lt 4 _ c b; tvb = field-lt 4 _ c b; avb = field-lt 4 _ c b }
+managersAt-fit false c l b =
+    let e = managers-past c (omega (arith, l)) in
+    record { pvb = below (ap (λ (m : Managers). m .pvb) e); tvb = below (ap (λ (m : Managers). m .tvb) e); avb = below (ap (λ (m : Managers). m .avb) e) }
+  where
+    below : {n : ℕ} → n ≡ 0 → n < 1
+    below e = omega arith

@@ -9,14 +9,16 @@ use lib.Dec.{T, eqb, eqb→eq, leb·suc-suc, ltb}
 use lib.ListN.{getD, length, length-set, set}
 use lib.Seq.{sets}
 use borrow.Author.Tests.{le-ltb, lt-ltb}
-use Rattle.fields.proofs.Records.{bytesOfRecords-set, length-bytesOfRecords}
-use Rattle.fields.proofs.Sets.{sets-left, sets-right}
+use Rattle.fields.proofs.Sets.{sets-whole}
 use Rattle.fields.specs.Field.{AllBytes}
 use Rattle.fields.specs.Layout.{bytesOfRecords}
+use Rattle.book_format.proofs.Held.{record-part}
+use Rattle.book_format.proofs.Offsets.{length-userRecord, user-range}
+use Rattle.book_format.proofs.Parts.{records-part}
 use Rattle.book_format.proofs.Passed.{Passed, length-usersOf}
 use Rattle.book_format.proofs.Round.{bytesOf-bookOf}
 use Rattle.book_format.proofs.Written.{length-header}
-use Rattle.book_format.specs.Book.{bookOf, bytesOf, headerBytes, headerSize, headerValues, tradesOf, userAt, userCount, userSize, usersOf, versionOf}
+use Rattle.book_format.specs.Book.{bookOf, bytesOf, headerBytes, headerSize, headerValues, tradesOf, userAt, userCount, userRecord, userSize, usersOf, versionOf}
 use Rattle.book_format.specs.Steps.{placeOf}
 use Rattle.base.proofs.Tests.{and-r}
 use Rattle.laws.proofs.Users.{change-absent}
@@ -71,24 +73,27 @@ module _ (s : List ℕ) (id : ℕ) where
   pub unknown-place : userCount s ≤ placeOf (usersOf s) id → known (usersOf s) id ≡ false
   unknown-place h = sym (place-known (usersOf s) id) ∙ rw (length-usersOf s) (le-ltb (placeOf (usersOf s) id) (userCount s) h)
 
-pub changed-bytes : (s : List ℕ) → AllBytes s → Passed s → (id : ℕ) (f : User → User) → placeOf (usersOf s) id < userCount s
+pub changed-bytes : (s : List ℕ) → AllBytes s → Passed s → (id : ℕ) (f : User → User) → placeOf (usersOf s) id < userCount s → f (find (usersOf s) id) .party .managers ≡ find (usersOf s) id .party .managers
     → bytesOf (withUsers (bookOf s) (change id f (usersOf s))) ≡ sets s (userAt s (placeOf (usersOf s) id)) (userBytes (f (find (usersOf s) id)))
-unfolding bytesOf headerBytes withUsers headerValues bookOf userAt userSize
-changed-bytes s b p id f k =
+unfolding bytesOf headerBytes withUsers headerValues bookOf userAt
+changed-bytes s b p id f k kept =
     let us = usersOf s in
     let i = placeOf us id in
     let v = f (find us id) in
+    let x = getD us i nobody in
+    let R = userRecord (versionOf s) in
+    let W = userSize (versionOf s) in
     let H = headerBytes (bookOf s) in
-    let U = bytesOfRecords userBytes us in
+    let U = bytesOfRecords R us in
     let Q = bytesOfRecords tradeBytes (tradesOf s) in
     let n : length us ≡ userCount s = length-usersOf s in
     let g : i < length us = omega arith in
     let e : change id f us ≡ set us i v = change-place f us 0 id (p .sound .ids) in
-    let l : length U ≡ 56 * length us = length-bytesOfRecords userBytes 56 length-userBytes us in
-    let m : 56 * i + length (userBytes v) ≤ length U = omega (arith, length-userBytes v) in
     let h : length H ≡ headerSize (versionOf s) = length-header (bookOf s) in
-    rw (e, length-set, bytesOfRecords-set userBytes 56 length-userBytes us i v g)
-    (sym (ap (λ (x : List ℕ). sets x (headerSize (versionOf s) + 56 * i) (userBytes v)) (sym (bytesOf-bookOf s b p))
-    ∙ ap (λ (x : ℕ). sets (H ++ (U ++ Q)) (x + 56 * i) (userBytes v)) (sym h)
-    ∙ sets-right (userBytes v) H (U ++ Q) (56 * i)
-    ∙ ap (λ (x : List ℕ). H ++ x) (sets-left (userBytes v) U Q (56 * i) m)))
+    let same : v .party .managers ≡ x .party .managers = kept ∙ ap (λ (u : User). u .party .managers) (find-place us id) in
+    let whole : userBytes v ≡ sets (userBytes x) 0 (userBytes v) = sym (sets-whole (userBytes v) (userBytes x) (length-userBytes x ∙ sym (length-userBytes v))) in
+    let here : R v ≡ sets (R x) 0 (userBytes v) = record-part (versionOf s) v x same 0 (userBytes v) (omega (arith, length-userBytes v)) whole in
+    rw (e, length-set)
+    (records-part R W (length-userRecord (versionOf s)) H Q us i 0 v nobody (userBytes v) g (omega (arith, length-userBytes v, user-range (versionOf s))) here
+    ∙ ap (λ (l : List ℕ). sets l (length H + (W * i + 0)) (userBytes v)) (bytesOf-bookOf s b p)
+    ∙ ap (λ (a : ℕ). sets s a (userBytes v)) (omega (arith, h)))

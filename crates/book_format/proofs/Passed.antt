@@ -18,11 +18,11 @@ use Rattle.base.proofs.Tests.{and-i, and-l, and-r}
 use Rattle.book_records.specs.Trade.{tradeOf, tradeZeros}
 use Rattle.book_records.specs.User.{userOf, userZeros}
 use Rattle.base.specs.Lists.{all}
-use Rattle.rules.specs.Questions.{countsValid, idsRise, refusal, tradeValid, userValid, usersValid, versionValid}
+use Rattle.rules.specs.Questions.{countsValid, groupsValid, idsRise, refusal, tradeValid, userValid, usersValid, versionValid}
 
 pub record Passed (s : List ℕ) : Type 0 where
   pub form : Formed s
-  pub user-zeros : EveryPart (λ c. userZeros c ≡ 0) 56 (userCount s) (drop (headerSize (versionOf s)) s)
+  pub user-zeros : EveryPart (λ c. userZeros c ≡ 0) (userSize (versionOf s)) (userCount s) (drop (headerSize (versionOf s)) s)
   pub trade-zeros : EveryPart (λ c. tradeZeros c ≡ 0) 20 (tradeCount s) (drop (tradesAt s) s)
   pub sound : Sound (bookOf s)
 
@@ -35,8 +35,8 @@ each-zero z len (suc n) s h =
     (eqb→eq (z (take len s)) 0 (and-l a b h), each-zero z len n (drop len s) (and-r a b h))
 
 pub length-usersOf : (s : List ℕ) → length (usersOf s) ≡ userCount s
-unfolding usersOf userSize
-length-usersOf s = length-recordsOf 56 userOf (userCount s) (drop (headerSize (versionOf s)) s)
+unfolding usersOf
+length-usersOf s = length-recordsOf (userSize (versionOf s)) userOf (userCount s) (drop (headerSize (versionOf s)) s)
 
 pub length-tradesOf : (s : List ℕ) → length (tradesOf s) ≡ tradeCount s
 unfolding tradesOf
@@ -55,7 +55,7 @@ unfolding versionValid bookOf
 version-valid s f = f .version
 
 pub passed-of : (s : List ℕ) → refusal (aboutBytes s) ≡ none → Passed s
-unfolding aboutBytes aboutFields userZerosValid tradeZerosValid usersValid bookOf userSize
+unfolding aboutBytes aboutFields userZerosValid tradeZerosValid usersValid bookOf
 passed-of s h =
     let e = append-yes (aboutForm s) (aboutFields s) h in
     let f = formed-of s (e .0) in
@@ -66,18 +66,21 @@ passed-of s h =
     let uz = userZerosValid s in
     let ur = idsRise 0 (usersOf s) in
     let uv = all userValid (usersOf s) in
+    let ug = groupsValid (bookOf s) in
+    let q5u = and-r uz ((ur && uv) && ug) (q5 .0) in
     let tz = tradeZerosValid s in
     let tv = all (tradeValid (usersOf s)) (tradesOf s) in
     record {
       form = f;
-      user-zeros = each-zero userZeros 56 (userCount s) (drop (headerSize (versionOf s)) s) (and-l uz (ur && uv) (q5 .0));
+      user-zeros = each-zero userZeros (userSize (versionOf s)) (userCount s) (drop (headerSize (versionOf s)) s) (and-l uz ((ur && uv) && ug) (q5 .0));
       trade-zeros = each-zero tradeZeros 20 (tradeCount s) (drop (tradesAt s) s) (and-l tz tv (q6 .0));
       sound = record {
         version = version-valid s f;
         counts = counts-valid s f;
         header = q4 .0;
-        ids = and-l ur uv (and-r uz (ur && uv) (q5 .0));
-        users = and-r ur uv (and-r uz (ur && uv) (q5 .0));
+        ids = and-l ur uv (and-l (ur && uv) ug q5u);
+        users = and-r ur uv (and-l (ur && uv) ug q5u);
+        groups = and-r (ur && uv) ug q5u;
         trades = and-r tz tv (q6 .0);
         positions = q7 .0;
       };

@@ -1,7 +1,8 @@
 -- A user and a trade at their places: their bytes lie in the book, and are read as them; a field of them, and others in their place. Assumes nothing.
-use mathlib.Core.List.{List}
-use mathlib.Core.Path.{_≡_, sym, ap, _∙_}
-use Prim.Native.Nat.{ℕ, _+_, _-_, _*_, _≤_, _<_}
+use mathlib.Core.List.{List, [], _∷_}
+use mathlib.Core.Path.{_≡_, refl, sym, ap, _∙_}
+use Prim.Native.Nat.{ℕ, zero, suc, _+_, _-_, _*_, _≤_, _<_}
+use native.Mathlib.Nat.{le-of-suc-le-suc, not-suc-le-zero}
 use native.Mathlib.Omega.{arith}
 use lib.ListN.{length, take, drop, getD, set}
 use lib.Seq.{drop-drop, sets}
@@ -11,6 +12,7 @@ use Rattle.fields.proofs.Records.{every-part-at}
 use Rattle.fields.proofs.Sets.{length-part, part-sets}
 use Rattle.fields.specs.Field.{AllBytes, field}
 use Rattle.book_format.proofs.Held.{held-trade-set, held-userCount}
+use Rattle.book_format.proofs.Offsets.{size-lies, user-range}
 use Rattle.book_format.proofs.Parts.{record-at}
 use Rattle.book_format.proofs.Passed.{Passed, length-tradesOf}
 use Rattle.book_format.proofs.Positions.{position-bytes}
@@ -19,11 +21,18 @@ use Rattle.book_format.specs.Held.{HeldAs, tradesReplaced}
 use Rattle.book_format.specs.Questions.{Formed}
 use Rattle.book_format.specs.Places.{HeaderIn, TradeIn, UserIn, positionAt}
 use Rattle.book_records.proofs.Trades.{length-tradeBytes, trade-of-bytes}
-use Rattle.book_records.proofs.Users.{length-userBytes, user-bytes-of}
+use Rattle.book_records.proofs.Users.{length-userBytes, user-bytes-of, user-of-front}
 use Rattle.book_records.specs.Trade.{FitsTrade, tradeBytes, tradeOf}
-use Rattle.book_records.specs.User.{userBytes, userOf, userZeros}
+use Rattle.book_records.specs.User.{alone, userBytes, userOf, userZeros}
 use Rattle.rules.specs.Book.{Trade, User, at, noTrade, nobody}
 use Rattle.rules.specs.Signed.{signedOf}
+
+-- the front of a front
+pub take-front : (k n : ℕ) (l : List ℕ) → k ≤ n → take k (take n l) ≡ take k l
+take-front zero n l h = refl
+take-front (suc k) zero l h = absurd (not-suc-le-zero h)
+take-front (suc k) (suc n) [] h = refl
+take-front (suc k) (suc n) (x ∷ l) h = ap (λ (r : List ℕ). x ∷ r) (take-front k n l (le-of-suc-le-suc h))
 
 -- ---- the header
 
@@ -39,26 +48,34 @@ module _ {s : List ℕ} {place : ℕ} (p : UserIn s place) where
   pub user-low : place < 64
   user-low = omega (arith, p .form .users, p .inside)
 
-  -- its bytes
+  -- its record
+  pub record-lies : userAt s place + userSize (versionOf s) ≤ length s
+  unfolding userAt tradesAt
+  record-lies = omega (arith, p .form .whole, size-lies (userSize (versionOf s)) place (userCount s) (p .inside))
+
+  -- its 56 bytes
   pub user-lies : userAt s place + 56 ≤ length s
-  unfolding userAt userSize tradesAt
-  user-lies = omega (arith, p .form .whole, p .inside)
+  user-lies = omega (arith, record-lies, user-range (versionOf s))
 
-  user-is : userOf (take 56 (drop (userAt s place) s)) ≡ getD (usersOf s) place nobody
-  unfolding usersOf userAt userSize
-  user-is = record-at 56 userOf (userCount s) place (headerSize (versionOf s)) s nobody (p .inside)
+  pub user-is : userOf (take (userSize (versionOf s)) (drop (userAt s place) s)) ≡ getD (usersOf s) place nobody
+  unfolding usersOf userAt
+  user-is = record-at (userSize (versionOf s)) userOf (userCount s) place (headerSize (versionOf s)) s nobody (p .inside)
 
-  -- the user is read from them
-  pub user-read : {a : ℕ} {u : User} → a ≡ userAt s place → u ≡ userOf (take (a + 56 - a) (drop a s)) → u ≡ getD (usersOf s) place nobody
+  -- its 56 bytes are the first of its record
+  first-56 : take 56 (take (userSize (versionOf s)) (drop (userAt s place) s)) ≡ take 56 (drop (userAt s place) s)
+  first-56 = take-front 56 (userSize (versionOf s)) (drop (userAt s place) s) (user-range (versionOf s) .0)
+
+  -- the user is read from them, without its managers
+  pub user-read : {a : ℕ} {u : User} → a ≡ userAt s place → u ≡ userOf (take (a + 56 - a) (drop a s)) → u ≡ alone (getD (usersOf s) place nobody)
   user-read {a} e f =
       let l : a + 56 - a ≡ 56 = omega arith in
-      (rw (l, e) at f) ∙ user-is
+      (rw (l, e) at f) ∙ ap userOf (sym first-56) ∙ user-of-front (take (userSize (versionOf s)) (drop (userAt s place) s)) ∙ ap alone user-is
 
   -- a field of the user
   pub user-field : (w i : ℕ) {A : Type 0} (g : User → A) (f : ℕ → A) → i + w ≤ 56 → ((c : List ℕ) → f (field w i c) ≡ g (userOf c))
       → f (field w (userAt s place + i) s) ≡ g (getD (usersOf s) place nobody)
   user-field w i g f h e =
-      ap f (sym (field-part w i (userAt s place) 56 s h)) ∙ e (take 56 (drop (userAt s place) s)) ∙ ap g user-is
+      ap f (sym (field-part w i (userAt s place) (userSize (versionOf s)) s (omega (arith, h, user-range (versionOf s))))) ∙ e (take (userSize (versionOf s)) (drop (userAt s place) s)) ∙ ap g user-is
 
   -- its position in an area
   pub position-read : {area : ℕ} → area < 3 → signedOf 32 (field 4 (positionAt s place area) s) ≡ at (getD (usersOf s) place nobody .position) area
@@ -68,13 +85,16 @@ module _ {s : List ℕ} {place : ℕ} (p : UserIn s place) where
 
   -- its bytes are those that it was read from
   pub user-part : AllBytes s → Passed s → userBytes (getD (usersOf s) place nobody) ≡ take 56 (drop (userAt s place) s)
-  unfolding userZeros userAt userSize
+  unfolding userZeros userAt
   user-part b q =
       let H = headerSize (versionOf s) in
-      let zeros = every-part-at (λ c. userZeros c ≡ 0) 56 (userCount s) (drop H s) place (q .user-zeros) (p .inside) in
+      let W = userSize (versionOf s) in
+      let a = H + W * place in
+      let zeros = every-part-at (λ c. userZeros c ≡ 0) W (userCount s) (drop H s) place (q .user-zeros) (p .inside) in
       ap userBytes (sym user-is)
-      ∙ user-bytes-of (take 56 (drop (H + 56 * place) s)) (length-part s (H + 56 * place) 56 user-lies) (all-bytes-part (H + 56 * place) 56 s b)
-      (ap (λ (x : List ℕ). userZeros (take 56 x)) (sym (drop-drop (56 * place) H s)) ∙ zeros)
+      ∙ user-bytes-of (take W (drop a s)) (omega (arith, length-part s a W record-lies, user-range (versionOf s))) (all-bytes-part a W s b)
+      (ap (λ (x : List ℕ). userZeros (take W x)) (sym (drop-drop (W * place) H s)) ∙ zeros)
+      ∙ first-56
 
   -- another user's bytes in their place
   pub user-put : {a : ℕ} {part : List ℕ} (u : User) → a ≡ userAt s place → part ≡ userBytes u → putMid a (a + 56 - a) s part ≡ sets s (userAt s place) (userBytes u)
@@ -104,9 +124,9 @@ module _ {s : List ℕ} {at place : ℕ} (p : TradeIn s at place) where
   -- another trade's bytes in their place
   pub trade-put : HeldAs (bookOf s) s → {a : ℕ} {part : List ℕ} (t : Trade) → a ≡ at + 20 * place → FitsTrade t → part ≡ tradeBytes t
       → HeldAs (tradesReplaced (bookOf s) (set (tradesOf s) place t)) (putMid a (a + 20 - a) s part)
-  unfolding bookOf tradesAt userAt userSize
+  unfolding bookOf tradesAt userAt
   trade-put h {a} t e fits f =
-      let m : a ≡ headerSize (versionOf s) + 56 * length (usersOf s) + 20 * place = omega (arith, p .begin, held-userCount h) in
+      let m : a ≡ headerSize (versionOf s) + userSize (versionOf s) * length (usersOf s) + 20 * place = rw (held-userCount h) (omega (arith, p .begin)) in
       let l : a + 20 - a ≡ 20 = omega arith in
       rw (l, f, part-sets s (tradeBytes t) a 20 (length-tradeBytes t) (omega (arith, trade-lies)), m)
       (held-trade-set h place t (omega (arith, length-tradesOf s, p .inside)) (trade-of-bytes t fits))

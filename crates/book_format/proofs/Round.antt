@@ -14,13 +14,13 @@ use Rattle.fields.specs.Field.{AllBytes}
 use Rattle.fields.specs.Layout.{bytesOfRecords, fieldsAt, pack, size}
 use Rattle.book_format.proofs.Offsets.{header-plain, header-selling, selling-none, users-end}
 use Rattle.book_format.proofs.Passed.{Passed, length-tradesOf, length-usersOf}
-use Rattle.book_format.specs.Book.{bookOf, bytesOf, headerBytes, headerSize, headerValues, headerWidths, markOf, pricesOf, sellingAt, sellingBytes, sellingWidths, tradeCount, tradesAt, tradesOf, userAt, userCount, userSize, usersOf, versionOf}
+use Rattle.book_format.specs.Book.{bookOf, bytesOf, headerBytes, headerSize, headerValues, headerWidths, markOf, pricesOf, sellingAt, sellingBytes, sellingWidths, tradeCount, tradesAt, tradesOf, userAt, userCount, userRecord, userSize, usersOf, versionOf}
 use Rattle.book_format.specs.Questions.{Formed}
 use Rattle.book_records.proofs.Trades.{trade-bytes-of}
-use Rattle.book_records.proofs.Users.{user-bytes-of}
+use Rattle.book_records.proofs.Users.{record-bytes-of}
 use Rattle.book_records.specs.Trade.{tradeBytes, tradeOf, tradeZeros}
-use Rattle.book_records.specs.User.{userBytes, userOf, userZeros}
-use Rattle.rules.specs.Areas.{sellingIn}
+use Rattle.book_records.specs.User.{userOf, userZeros}
+use Rattle.rules.specs.Areas.{managersIn, sellingIn}
 
 -- the fields that every version has
 start-back : (s : List ℕ) → AllBytes s → Formed s → pack headerWidths (headerValues (bookOf s)) ≡ take 32 s
@@ -38,18 +38,19 @@ pub header-back : (s : List ℕ) → AllBytes s → Formed s → headerBytes (bo
 unfolding headerBytes bookOf
 header-back s b f =
     by-case (sellingIn (versionOf s))
-    (λ e. ap₂ (λ (x y : List ℕ). x ++ y) (start-back s b f) (selling-back s b (omega (arith, f .whole, users-end s refl refl)) e) ∙ sym (take-add 32 8 s) ∙ ap (λ (n : ℕ). take n s) (sym (header-selling (versionOf s) e)))
+    (λ e. ap₂ (λ (x y : List ℕ). x ++ y) (start-back s b f) (selling-back s b (omega (arith, f .whole, users-end s {n = userCount s} refl refl refl)) e) ∙ sym (take-add 32 8 s) ∙ ap (λ (n : ℕ). take n s) (sym (header-selling (versionOf s) e)))
     (λ e.
     ap₂ (λ (x y : List ℕ). x ++ y) (start-back s b f) (selling-none (versionOf s) (pricesOf s) e)
     ∙ append-nil (take 32 s)
     ∙ ap (λ (n : ℕ). take n s) (sym (header-plain (versionOf s) e)))
 
-users-back : (s : List ℕ) → AllBytes s → Passed s → bytesOfRecords userBytes (usersOf s) ≡ take (56 * userCount s) (drop (headerSize (versionOf s)) s)
-unfolding usersOf userSize tradesAt userAt
+users-back : (s : List ℕ) → AllBytes s → Passed s → bytesOfRecords (userRecord (versionOf s)) (usersOf s) ≡ take (userSize (versionOf s) * userCount s) (drop (headerSize (versionOf s)) s)
+unfolding usersOf userSize userRecord tradesAt userAt
 users-back s b h =
     let H = headerSize (versionOf s) in
-    bytesOfRecords-recordsOf 56 userOf userBytes (userCount s) (drop H s)
-    (every-part-map (λ c. userZeros c ≡ 0) (λ c. userBytes (userOf c) ≡ c) 56 (userCount s) (drop H s) user-bytes-of (rw length-drop (omega (arith, h .form .whole))) (all-bytes-drop H s b) (h .user-zeros))
+    let W = userSize (versionOf s) in
+    bytesOfRecords-recordsOf W userOf (userRecord (versionOf s)) (userCount s) (drop H s)
+    (every-part-map (λ c. userZeros c ≡ 0) (λ c. userRecord (versionOf s) (userOf c) ≡ c) W (userCount s) (drop H s) (record-bytes-of (managersIn (versionOf s))) (rw length-drop (omega (arith, h .form .whole))) (all-bytes-drop H s b) (h .user-zeros))
 
 trades-back : (s : List ℕ) → AllBytes s → Passed s → bytesOfRecords tradeBytes (tradesOf s) ≡ take (20 * tradeCount s) (drop (tradesAt s) s)
 unfolding tradesOf
@@ -59,12 +60,13 @@ trades-back s b h =
     (every-part-map (λ c. tradeZeros c ≡ 0) (λ c. tradeBytes (tradeOf c) ≡ c) 20 (tradeCount s) (drop a s) trade-bytes-of (rw length-drop (omega (arith, h .form .whole))) (all-bytes-drop a s b) (h .trade-zeros))
 
 pub bytesOf-bookOf : (s : List ℕ) → AllBytes s → Passed s → bytesOf (bookOf s) ≡ s
-unfolding bytesOf bookOf tradesAt userAt userSize
+unfolding bytesOf bookOf tradesAt userAt
 bytesOf-bookOf s b h =
     let H = headerSize (versionOf s) in
     let n = userCount s in
     let m = tradeCount s in
-    let a = H + 56 * n in
-    let q : drop (56 * n) (drop H s) ≡ drop a s = drop-drop (56 * n) H s in
+    let users = userSize (versionOf s) * n in
+    let a = H + users in
+    let q : drop users (drop H s) ≡ drop a s = drop-drop users H s in
     let k : take (20 * m) (drop a s) ≡ drop a s = take-all (20 * m) (drop a s) (rw length-drop (omega (arith, h .form .whole))) in
     rw (header-back s b (h .form), users-back s b h, trades-back s b h, k, ← q, take-append-drop, take-append-drop)

@@ -3,8 +3,9 @@ use mathlib.Core.Bool.{false}
 use mathlib.Core.List.{append-nil}
 use mathlib.Core.Path.{_≡_, ap, refl, _∙_}
 use Prim.Native.Nat.{ℕ, _+_, _*_}
-use Rattle.rules.specs.Areas.{sellingIn}
-use Rattle.book_format.specs.Book.{headerBytes, headerSize, lengthBy, pricesOf, sellingAt, userSize}
+use Rattle.rules.specs.Areas.{managersIn, sellingIn}
+use Rattle.book_records.specs.User.{recordBytes, recordSize, userBytes}
+use Rattle.book_format.specs.Book.{headerBytes, headerSize, lengthBy, pricesOf, sellingAt, userRecord, userSize}
 use Rattle.book_format.specs.Versions.{KeepsBytes}
 use Rattle.book_format.proofs.Offsets.{selling-none}
 
@@ -14,10 +15,13 @@ unfolding sellingIn
 none-in-1 version e = rw e refl
 
 pub keeps-bytes : KeepsBytes
-unfolding lengthBy headerSize userSize sellingIn headerBytes pricesOf sellingAt
+unfolding lengthBy headerSize userSize recordSize sellingIn managersIn headerBytes pricesOf sellingAt userRecord recordBytes
 keeps-bytes =
     record {
       size = λ n m. refl;
       header = λ b e. rw (selling-none (b .header .version) (b .header .prices) (none-in-1 (b .header .version) e)) (append-nil _);
       prices = λ s e. rw e (refl, refl);
+      size-2 = λ n m. refl;
+      size-3 = λ n m. refl;
+      records = λ version u e. rw e (append-nil (userBytes u));
     }

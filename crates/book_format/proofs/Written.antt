@@ -15,23 +15,23 @@ use Rattle.fields.proofs.Records.{all-bytes-records, length-bytesOfRecords, rec
 use Rattle.fields.proofs.Sets.{sets-append, sets-three}
 use Rattle.fields.specs.Field.{AllBytes, field, toBytes}
 use Rattle.fields.specs.Layout.{Every, bytesOfRecords, pack, recordsOf, size, FitAll, fieldsAt, setFields}
-use Rattle.book_format.specs.Book.{bytesOf, headerBytes, headerSize, headerValues, headerWidths, bookOf, lengthBy, lengthOf, mark, markOf, pricesOf, sellingAt, sellingBytes, sellingWidths, tradeCount, tradesAt, tradesOf, userAt, userCount, userSize, usersOf, versionOf}
+use Rattle.book_format.specs.Book.{bytesOf, headerBytes, headerSize, headerValues, headerWidths, bookOf, lengthBy, lengthOf, mark, markOf, pricesOf, sellingAt, sellingBytes, sellingWidths, tradeCount, tradesAt, tradesOf, userAt, userCount, userRecord, userSize, usersOf, versionOf}
 use Rattle.book_format.specs.Questions.{partsOf, aboutBytes, aboutFields, aboutForm, bookNumber, marked, sized, tradeZerosValid, userZerosValid, versioned, Formed}
-use Rattle.book_format.proofs.Offsets.{header-plain, header-range, header-selling, known-lt, length-by}
-use Rattle.book_format.proofs.Fits.{every-trade, every-user}
+use Rattle.book_format.proofs.Offsets.{header-plain, header-range, header-selling, known-lt, length-by, length-userRecord, zeros-userRecord}
+use Rattle.book_format.proofs.Fits.{every-record, every-trade}
 use Rattle.laws.proofs.Bounds.{prices-le, selling-le, selling-most}
 use Rattle.laws.proofs.Refusals.{yes-first}
 use Rattle.laws.specs.Sound.{Sound}
 use Rattle.base.proofs.Tests.{and-l, and-r, and-i, by-case, eqb-of, same-test}
 use Rattle.book_records.proofs.Trades.{all-bytes-tradeBytes, length-tradeBytes, trade-of-bytes, tradeZeros-tradeBytes}
-use Rattle.book_records.proofs.Users.{all-bytes-userBytes, length-userBytes, user-of-bytes, userZeros-userBytes}
+use Rattle.book_records.proofs.Users.{all-bytes-recordBytes, user-of-record}
 use Rattle.book_records.specs.Trade.{FitsTrade, tradeBytes, tradeOf, tradeZeros}
-use Rattle.book_records.specs.User.{FitsUser, userBytes, userOf, userZeros}
-use Rattle.rules.specs.Areas.{Prices, sellingIn}
+use Rattle.book_records.specs.User.{FitsRecord, userOf, userZeros}
+use Rattle.rules.specs.Areas.{Prices, managersIn, sellingIn}
 use Rattle.rules.specs.Book.{Book, Trade, User}
 use Rattle.rules.specs.Calendar.{realDay, yearOf}
 use Rattle.base.specs.Lists.{all}
-use Rattle.rules.specs.Questions.{positionsValid, tradeValid, userValid, countsValid, headerValid, idsRise, numberOf, refusal, sellingMost, usersValid, versionKnown, versionValid}
+use Rattle.rules.specs.Questions.{positionsValid, tradeValid, userValid, countsValid, groupsValid, headerValid, idsRise, numberOf, refusal, sellingMost, usersValid, versionKnown, versionValid}
 
 -- ---- what was written are bytes, as many as the counts say
 
@@ -49,7 +49,7 @@ length-header b =
 pub length-bytesOf : (b : Book) → length (bytesOf b) ≡ lengthBy (b .header .version) (length (b .users)) (length (b .trades))
 unfolding bytesOf
 length-bytesOf b =
-    rw (length-append, length-append, length-header b, length-bytesOfRecords userBytes 56 length-userBytes (b .users), length-bytesOfRecords tradeBytes 20 length-tradeBytes (b .trades), length-by)
+    rw (length-append, length-append, length-header b, length-bytesOfRecords (userRecord (b .header .version)) (userSize (b .header .version)) (length-userRecord (b .header .version)) (b .users), length-bytesOfRecords tradeBytes 20 length-tradeBytes (b .trades), length-by)
     (omega arith)
 
 -- ---- written part by part
@@ -61,8 +61,7 @@ module _ (b : Book) where
 
   -- the prices and tolls of the header
   abbrev pub priceValues : List ℕ
-  priceValues =
-      b .header .prices .p ∷ b .header .prices .q ∷ b .header .prices .l ∷ b .header .prices .x ∷ b .header .prices .i ∷ []
+  priceValues = b .header .prices .p ∷ b .header .prices .q ∷ b .header .prices .l ∷ b .header .prices .x ∷ b .header .prices .i ∷ []
 
   -- with the selling tariffs behind them
   pub header-written : (out : List ℕ)
@@ -79,15 +78,15 @@ module _ (b : Book) where
 
   -- header, users and trades, over bytes of the book's length
   pub parts-written : (out : List ℕ) {at : ℕ} → at ≡ headerSize (b .header .version) → length out ≡ lengthBy (b .header .version) (length (b .users)) (length (b .trades))
-      → sets (sets (sets out 0 (headerBytes b)) at (bytesOfRecords userBytes (b .users))) (at + 56 * length (b .users)) (bytesOfRecords tradeBytes (b .trades)) ≡ bytesOf b
+      → sets (sets (sets out 0 (headerBytes b)) at (bytesOfRecords (userRecord (b .header .version)) (b .users))) (at + userSize (b .header .version) * length (b .users)) (bytesOfRecords tradeBytes (b .trades)) ≡ bytesOf b
   unfolding bytesOf
   parts-written out {at} e h =
-      let us = bytesOfRecords userBytes (b .users) in
+      let us = bytesOfRecords (userRecord (b .header .version)) (b .users) in
       let ts = bytesOfRecords tradeBytes (b .trades) in
-      let eu = length-bytesOfRecords userBytes 56 length-userBytes (b .users) in
+      let eu = length-bytesOfRecords (userRecord (b .header .version)) (userSize (b .header .version)) (length-userRecord (b .header .version)) (b .users) in
       let et = length-bytesOfRecords tradeBytes 20 length-tradeBytes (b .trades) in
       let n = length-by (b .header .version) (length (b .users)) (length (b .trades)) in
-      sets-three (headerBytes b) us ts out at (at + 56 * length (b .users)) (length-header b ∙ sym e) (omega arith) (omega arith)
+      sets-three (headerBytes b) us ts out at (at + userSize (b .header .version) * length (b .users)) (length-header b ∙ sym e) (omega arith) (omega arith)
 
 every-of : {R : Type 0} (P : R → Type 0) → ((r : R) → P r) → (rs : List R) → Every P rs
 every-of P h [] = tt
@@ -101,12 +100,12 @@ all-bytes-header b =
     by-case (sellingIn (b .header .version)) (λ e. rw e (all-bytes-append start selling (all-bytes-pack _ _) (all-bytes-pack _ _))) (λ e. rw (e, append-nil) (all-bytes-pack _ _))
 
 pub all-bytes-bytesOf : (b : Book) → AllBytes (bytesOf b)
-unfolding bytesOf
+unfolding bytesOf userRecord
 all-bytes-bytesOf b =
-    let us = bytesOfRecords userBytes (b .users) in
+    let us = bytesOfRecords (userRecord (b .header .version)) (b .users) in
     let ts = bytesOfRecords tradeBytes (b .trades) in
     all-bytes-append (headerBytes b) (us ++ ts) (all-bytes-header b)
-    (all-bytes-append us ts (all-bytes-records userBytes (b .users) (every-of (λ u. AllBytes (userBytes u)) all-bytes-userBytes (b .users)))
+    (all-bytes-append us ts (all-bytes-records (userRecord (b .header .version)) (b .users) (every-of (λ u. AllBytes (userRecord (b .header .version) u)) (all-bytes-recordBytes (managersIn (b .header .version))) (b .users)))
     (all-bytes-records tradeBytes (b .trades) (every-of (λ t. AllBytes (tradeBytes t)) all-bytes-tradeBytes (b .trades))))
 
 -- the zero bytes of every record that was written
@@ -126,7 +125,7 @@ module _ (b : Book) where
   from-trades =
       let h = b .header in
       pack (4 ∷ 4 ∷ 4 ∷ 4 ∷ 4 ∷ 4 ∷ []) (h .date ∷ h .prices .p ∷ h .prices .q ∷ h .prices .l ∷ h .prices .x ∷ h .prices .i ∷ [])
-      ++ (sellingBytes (h .version) (h .prices) ++ (bytesOfRecords userBytes (b .users) ++ bytesOfRecords tradeBytes (b .trades)))
+      ++ (sellingBytes (h .version) (h .prices) ++ (bytesOfRecords (userRecord (b .header .version)) (b .users) ++ bytesOfRecords tradeBytes (b .trades)))
 
   start-bytes : bytesOf b
       ≡ toBytes 3 mark ++ (toBytes 2 (b .header .version) ++ (toBytes 1 (length (b .users)) ++ (toBytes 2 (length (b .trades)) ++ from-trades)))
@@ -168,15 +167,16 @@ pub record FitsSelling (version : ℕ) (f : Prices) : Type 0 where
 pub record FitsBook (b : Book) : Type 0 where
   pub header : FitAll headerWidths (headerValues b)
   pub selling : FitsSelling (b .header .version) (b .header .prices)
-  pub users : Every FitsUser (b .users)
+  pub users : Every (FitsRecord (managersIn (b .header .version))) (b .users)
   pub trades : Every FitsTrade (b .trades)
 
 every-map : {R : Type 0} {P Q : R → Type 0} → ((r : R) → P r → Q r) → (rs : List R) → Every P rs → Every Q rs
 every-map f [] h = tt
 every-map f (r ∷ rs) h = (f r (h .0), every-map f rs (h .1))
 
-user-back : (u : User) → FitsUser u → (userOf (userBytes u) ≡ u) × (length (userBytes u) ≡ 56)
-user-back u f = (user-of-bytes u f, length-userBytes u)
+user-back : (version : ℕ) (u : User) → FitsRecord (managersIn version) u → (userOf (userRecord version u) ≡ u) × (length (userRecord version u) ≡ userSize version)
+unfolding userRecord
+user-back version u f = (user-of-record (managersIn version) u (f .user) (f .managers), length-userRecord version u)
 
 trade-back : (t : Trade) → FitsTrade t → (tradeOf (tradeBytes t) ≡ t) × (length (tradeBytes t) ≡ 20)
 trade-back t f = (trade-of-bytes t f, length-tradeBytes t)
@@ -184,7 +184,7 @@ trade-back t f = (trade-of-bytes t f, length-tradeBytes t)
 module _ (b : Book) (f : FitsBook b) where
   -- what stands behind the header
   records : List ℕ
-  records = bytesOfRecords userBytes (b .users) ++ bytesOfRecords tradeBytes (b .trades)
+  records = bytesOfRecords (userRecord (b .header .version)) (b .users) ++ bytesOfRecords tradeBytes (b .trades)
 
   header-fields : fieldsAt headerWidths 0 (bytesOf b) ≡ headerValues b
   unfolding bytesOf headerBytes records
@@ -234,30 +234,32 @@ module _ (b : Book) (f : FitsBook b) where
       (λ e. rw (header .version, e) (ap (λ (vs : List ℕ). getD vs 0 0) (selling-fields e), ap (λ (vs : List ℕ). getD vs 1 0) (selling-fields e)))
       (λ e. rw (header .version, e) (sym (f .selling .none e .0), sym (f .selling .none e .1)))
 
-  -- the header's size is that of the book's version
-  size-written : headerSize (versionOf (bytesOf b)) ≡ headerSize (b .header .version)
-  size-written = ap headerSize (header .version)
+  -- the sizes are those of the book's version
+  users-size : userSize (versionOf (bytesOf b)) ≡ userSize (b .header .version)
+  users-size = ap userSize (header .version)
 
   -- ---- the records
 
-  users-part : drop (headerSize (versionOf (bytesOf b))) (bytesOf b) ≡ bytesOfRecords userBytes (b .users) ++ bytesOfRecords tradeBytes (b .trades)
+  users-part : drop (headerSize (versionOf (bytesOf b))) (bytesOf b) ≡ bytesOfRecords (userRecord (b .header .version)) (b .users) ++ bytesOfRecords tradeBytes (b .trades)
   unfolding bytesOf records
-  users-part = drop-at (headerBytes b) records (headerSize (versionOf (bytesOf b))) (length-header b ∙ sym size-written)
+  users-part = drop-at (headerBytes b) records (headerSize (versionOf (bytesOf b))) (length-header b ∙ ap headerSize (sym (header .version)))
 
   trades-part : drop (tradesAt (bytesOf b)) (bytesOf b) ≡ bytesOfRecords tradeBytes (b .trades)
-  unfolding tradesAt userAt userSize
+  unfolding tradesAt userAt
   trades-part =
       let n = length (b .users) in
       let H = headerSize (versionOf (bytesOf b)) in
-      let e : drop (56 * n) (drop H (bytesOf b)) ≡ drop (H + 56 * n) (bytesOf b) = drop-drop (56 * n) H (bytesOf b) in
-      rw (header .users, ← e, users-part)
-      (drop-at (bytesOfRecords userBytes (b .users)) (bytesOfRecords tradeBytes (b .trades)) (56 * n) (length-bytesOfRecords userBytes 56 length-userBytes (b .users)))
+      let users = userSize (b .header .version) * n in
+      let e : drop users (drop H (bytesOf b)) ≡ drop (H + users) (bytesOf b) = drop-drop users H (bytesOf b) in
+      rw (header .users, users-size, ← e, users-part)
+      (drop-at (bytesOfRecords (userRecord (b .header .version)) (b .users)) (bytesOfRecords tradeBytes (b .trades)) users (length-bytesOfRecords (userRecord (b .header .version)) (userSize (b .header .version)) (length-userRecord (b .header .version)) (b .users)))
 
   users-written : usersOf (bytesOf b) ≡ b .users
-  unfolding usersOf userSize
+  unfolding usersOf
   users-written =
-      rw (header .users, users-part)
-      (recordsOf-bytesOfRecords 56 userOf userBytes (b .users) (bytesOfRecords tradeBytes (b .trades)) (every-map user-back (b .users) (f .users)))
+      rw (header .users, users-size, users-part)
+      (recordsOf-bytesOfRecords (userSize (b .header .version)) userOf (userRecord (b .header .version)) (b .users) (bytesOfRecords tradeBytes (b .trades))
+      (every-map (user-back (b .header .version)) (b .users) (f .users)))
 
   trades-written : tradesOf (bytesOf b) ≡ b .trades
   unfolding tradesOf
@@ -272,9 +274,11 @@ module _ (b : Book) (f : FitsBook b) where
       rw (selling-written .0, selling-written .1, header .version, header .date, header .p, header .q, header .l, header .x, header .i, users-written, trades-written)
 
   user-zeros-written : T (userZerosValid (bytesOf b))
-  unfolding userZerosValid userSize
+  unfolding userZerosValid
   user-zeros-written =
-      rw (header .users, users-part) (written-zeros userZeros 56 userBytes length-userBytes userZeros-userBytes (b .users) (bytesOfRecords tradeBytes (b .trades)))
+      rw (header .users, users-size, users-part)
+      (written-zeros userZeros (userSize (b .header .version)) (userRecord (b .header .version)) (length-userRecord (b .header .version)) (zeros-userRecord (b .header .version)) (b .users)
+      (bytesOfRecords tradeBytes (b .trades)))
 
   trade-zeros-written : T (tradeZerosValid (bytesOf b))
   unfolding tradeZerosValid
@@ -285,7 +289,7 @@ module _ (b : Book) (f : FitsBook b) where
   -- the questions 4 to 7 of its bytes are those of its fields: every zero byte is written
   pub fields-written : aboutFields (bytesOf b)
       ≡ record { number = 4; holds = headerValid (b .header) }
-      ∷ (record { number = 5; holds = usersValid (b .users) }
+      ∷ (record { number = 5; holds = usersValid (b .users) && groupsValid b }
       ∷ (record { number = 6; holds = all (tradeValid (b .users)) (b .trades) }
       ∷ (record { number = 7; holds = all (positionsValid (b .trades)) (b .users) } ∷ [])))
   unfolding aboutFields
@@ -338,7 +342,7 @@ module _ (b : Book) (s : Sound b) where
       record {
         header = (omega arith, (omega arith, (omega arith, (omega arith, (omega arith, (omega arith, (omega arith, (omega arith, (omega arith, (omega arith, tt))))))))));
         selling = selling-fits;
-        users = every-user b s (b .users) (s .users) (s .positions);
+        users = every-record b s;
         trades = every-trade (b .users) (b .trades) (s .users) (s .trades);
       }
 
@@ -371,9 +375,10 @@ module _ (b : Book) (s : Sound b) where
       (and-i (leb 1 n) (leb n 64) (le→leb 1 n (c .some)) (le→leb n 64 (c .users)))
       (and-i (leb m 256) (eqb l l) (le→leb m 256 (c .trades)) (eqb-refl l)))
 
-  users-valid : T (usersValid (b .users))
+  users-valid : T (usersValid (b .users) && groupsValid b)
   unfolding usersValid
-  users-valid = and-i (idsRise 0 (b .users)) (all userValid (b .users)) (s .ids) (s .users)
+  users-valid =
+      and-i (usersValid (b .users)) (groupsValid b) (and-i (idsRise 0 (b .users)) (all userValid (b .users)) (s .ids) (s .users)) (s .groups)
 
   -- what was written passes every question
   pub none-refuses-written : refusal (aboutBytes (bytesOf b)) ≡ none
@@ -385,7 +390,7 @@ module _ (b : Book) (s : Sound b) where
         yes-first 3 _ _ sized-written,
         fields-written b sound-fits,
         yes-first 4 (headerValid (b .header)) _ (s .header),
-        yes-first 5 (usersValid (b .users)) _ users-valid,
+        yes-first 5 (usersValid (b .users) && groupsValid b) _ users-valid,
         yes-first 6 (all (tradeValid (b .users)) (b .trades)) _ (s .trades),
         yes-first 7 (all (positionsValid (b .trades)) (b .users)) _ (s .positions),
       )

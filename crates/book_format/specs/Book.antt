@@ -1,32 +1,33 @@
--- Document 01, "The book in bytes", and version 2 of document 02's ask 3: the book that bytes hold, and the bytes of a book. The sizes by version are said here, a record's fields in `book_records`. Assumes nothing.
+-- Document 01, "The book in bytes", with versions 2 and 3 of document 02's asks 3 and 5: the book that bytes hold, and the bytes of a book. The sizes by version are said here, a record's fields in `book_records`. Assumes nothing.
 use mathlib.Core.Bool.{cond}
 use mathlib.Core.List.{List, [], _∷_, _++_}
 use Prim.Native.Nat.{ℕ, _+_, _*_}
 use lib.ListN.{length, drop}
-use Rattle.rules.specs.Areas.{Prices, sellingIn}
+use Rattle.rules.specs.Areas.{Prices, managersIn, sellingIn}
 use Rattle.rules.specs.Book.{User, Trade, Book}
 use Rattle.fields.specs.Field.{field}
 use Rattle.fields.specs.Layout.{pack, recordsOf, bytesOfRecords}
-use Rattle.book_records.specs.User.{userOf, userBytes}
+use Rattle.book_records.specs.User.{recordBytes, recordSize, userOf}
 use Rattle.book_records.specs.Trade.{tradeOf, tradeBytes}
 
 -- ---- sizes in bytes, by the version of the book
 
--- "Version 2 of the book has a 40-byte header"
+-- "Version 2 of the book has a 40-byte header", and "Version 3 reads as version 2"
 unfoldable pub headerSize : ℕ → ℕ
 headerSize version = cond (sellingIn version) 40 32
 
+-- "A record is then 68 bytes", in version 3
 unfoldable pub userSize : ℕ → ℕ
-userSize version = 56
+userSize version = recordSize (managersIn version)
 
 abbrev pub tradeSize : ℕ → ℕ
 tradeSize version = 20
 
--- the length of a book: "exactly 32 + 56 × users + 20 × trades", of version 2 with its header
+-- the length of a book: "exactly 32 + 56 × users + 20 × trades", of versions 2 and 3 with their header, of version 3 with its records
 unfoldable pub lengthBy : ℕ → ℕ → ℕ → ℕ
 lengthBy version users trades = headerSize version + userSize version * users + tradeSize version * trades
 
--- ---- the header: mark `GDB`, version, user count, trade count, date, P, Q, L, X, I; in version 2 also S and U
+-- ---- the header: mark `GDB`, version, user count, trade count, date, P, Q, L, X, I; from version 2 on also S and U
 
 unfoldable pub headerWidths : List ℕ
 headerWidths = 3 ∷ 2 ∷ 1 ∷ 2 ∷ 4 ∷ 4 ∷ 4 ∷ 4 ∷ 4 ∷ 4 ∷ []
@@ -120,5 +121,9 @@ sellingBytes version f = cond (sellingIn version) (pack sellingWidths (f .s ∷ 
 unfoldable pub headerBytes : Book → List ℕ
 headerBytes b = pack headerWidths (headerValues b) ++ sellingBytes (b .header .version) (b .header .prices)
 
+-- a user's record in a version
+unfoldable pub userRecord : ℕ → User → List ℕ
+userRecord version u = recordBytes (managersIn version) u
+
 unfoldable pub bytesOf : Book → List ℕ
-bytesOf b = headerBytes b ++ (bytesOfRecords userBytes (b .users) ++ bytesOfRecords tradeBytes (b .trades))
+bytesOf b = headerBytes b ++ (bytesOfRecords (userRecord (b .header .version)) (b .users) ++ bytesOfRecords tradeBytes (b .trades))

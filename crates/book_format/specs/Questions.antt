@@ -10,17 +10,17 @@ use Rattle.book_format.specs.Book.{headerSize, userSize, tradeSize, mark
 use Rattle.book_records.specs.Trade.{tradeZeros}
 use Rattle.book_records.specs.User.{userZeros}
 use Rattle.base.specs.Lists.{all}
-use Rattle.rules.specs.Questions.{Question, refusal, numberOf, versionKnown, headerValid, usersValid, tradeValid, positionsValid}
+use Rattle.rules.specs.Questions.{Question, refusal, numberOf, versionKnown, groupsValid, headerValid, usersValid, tradeValid, positionsValid}
 
 -- 1: "At least 32 bytes, starting with the mark?"
 unfoldable pub marked : List ℕ → Bool
 marked s = leb 32 (length s) && eqb (markOf s) mark
 
--- 2: "Version 1?", or version 2
+-- 2: "Version 1?", or version 2 or 3
 unfoldable pub versioned : List ℕ → Bool
 versioned s = versionKnown (versionOf s)
 
--- 3: "Counts in range and length exactly 32 + 56 × users + 20 × trades?", with 40 for 32 in version 2
+-- 3: "Counts in range and length exactly 32 + 56 × users + 20 × trades?", with 40 for 32 from version 2 on, and 68 for 56 in version 3
 unfoldable pub sized : List ℕ → Bool
 sized s =
     (leb 1 (userCount s) && leb (userCount s) 64) && (leb (tradeCount s) 256 && eqb (length s) (lengthOf s))
@@ -49,7 +49,7 @@ aboutForm s =
 unfoldable pub aboutFields : List ℕ → List Question
 aboutFields s =
     record { number = 4; holds = headerValid (bookOf s .header) }
-    ∷ (record { number = 5; holds = userZerosValid s && usersValid (usersOf s) }
+    ∷ (record { number = 5; holds = userZerosValid s && (usersValid (usersOf s) && groupsValid (bookOf s)) }
     ∷ (record { number = 6; holds = tradeZerosValid s && all (tradeValid (usersOf s)) (tradesOf s) }
     ∷ (record { number = 7; holds = all (positionsValid (tradesOf s)) (usersOf s) } ∷ [])))
 

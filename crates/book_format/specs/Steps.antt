@@ -46,7 +46,7 @@ unfoldable pub placeOf : List User → ℕ → ℕ
 placeOf [] id = 0
 placeOf (u ∷ us) id = cond (eqb (u .party .id) id) 0 (suc (placeOf us id))
 
--- "A user's 56 bytes are handed back as that part of the book"; "an empty part where a part is due"
+-- "A user's 56 bytes are handed back as that part of the book", 68 in version 3, "all shown"; "an empty part where a part is due"
 unfoldable pub shownPart : List ℕ → ℕ → List ℕ
 shownPart s id =
     decided (refusal (aboutBytes s ++ aboutQuery (bookOf s) (shownRecord id))) (λ n. [])

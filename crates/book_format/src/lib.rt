@@ -6,12 +6,12 @@ ghost use Prim.Native.Nat.{_+_, _*_, _≤_, _<_};
 ghost use lib.ListN.{length, getD, set};
 ghost use lib.Seq.{sets};
 ghost use Rattle.rules.specs.Book.{nobody, noTrade};
-ghost use Rattle.book_records.specs.User.{asUser, userBytes};
+ghost use Rattle.book_records.specs.User.{alone, asUser, userBytes};
 ghost use Rattle.book_records.specs.Trade.{asTrade};
-ghost use Rattle.rules.specs.Areas.{sellingIn};
+ghost use Rattle.rules.specs.Areas.{managersIn, sellingIn};
 ghost use Rattle.rules.specs.Questions.{versionKnown};
 ghost use Rattle.book_format.specs.Book.{bookOf, headerSize, lengthBy, versionOf, userCount, tradeCount};
-ghost use Rattle.book_format.specs.Book.{userAt, usersOf, tradesAt, tradesOf};
+ghost use Rattle.book_format.specs.Book.{userAt, userSize, usersOf, tradesAt, tradesOf};
 ghost use Rattle.book_format.specs.Questions.{Formed};
 ghost use Rattle.book_format.specs.Held.{HeldAs, tradesReplaced};
 ghost use Rattle.book_format.specs.Places.{UserIn, TradeIn, positionAt};
@@ -24,14 +24,21 @@ use book_records::User;
 pub fn is_known(version: u16) -> bool
     ensures { λ r. ⌜ r ≡ versionKnown version ⌝ }
 {
-    (version == 1) | (version == 2)
+    (version == 1) | ((version == 2) | (version == 3))
 }
 
 // Has a version selling tariffs?
 pub fn has_selling(version: u16) -> bool
     ensures { λ r. ⌜ r ≡ sellingIn version ⌝ }
 {
-    version == 2
+    (version == 2) | (version == 3)
+}
+
+// Has a version managers?
+pub fn has_managers(version: u16) -> bool
+    ensures { λ r. ⌜ r ≡ managersIn version ⌝ }
+{
+    version == 3
 }
 
 // The bytes of a header.
@@ -45,12 +52,23 @@ pub fn header_size(version: u16) -> usize
     32
 }
 
+// The bytes of a user's record.
+pub fn user_size(version: u16) -> usize
+    ensures { λ r. ⌜ r ≡ userSize version ⌝ }
+    ensures { λ r. ⌜ (56 ≤ r) × (r ≤ 68) ⌝ }
+{
+    if has_managers(version) {
+        return 68;
+    }
+    56
+}
+
 // The length of a book of n users and m trades.
 pub fn book_length(version: u16, n: usize, m: usize) -> usize
     requires { ⌜ (n ≤ 255) × (m ≤ 65535) ⌝ }
     ensures { λ r. ⌜ r ≡ lengthBy version n m ⌝ }
 {
-    header_size(version) + 56 * n + 20 * m
+    header_size(version) + user_size(version) * n + 20 * m
 }
 
 // ---- the version and the counts of a header
@@ -90,32 +108,41 @@ pub fn users_offset(s: &[u8]) -> usize
     header_size(version(s))
 }
 
-// Where the 56 bytes of the user at a place begin, of those that begin at `at`.
-pub fn user_offset_from(s: &[u8], at: usize, place: usize) -> usize
-    requires { ⌜ UserIn (now s) place × (at ≡ headerSize (versionOf (now s))) ⌝ }
-    ensures { λ r. ⌜ (r ≡ userAt (now (s .entry)) place) × (r + 56 ≤ length (now (s .entry))) ⌝ }
+// The bytes of each user's record.
+pub fn users_size(s: &[u8]) -> usize
+    requires { ⌜ 32 ≤ length (now s) ⌝ }
+    ensures { λ r. ⌜ r ≡ userSize (versionOf (now (s .entry))) ⌝ }
+    ensures { λ r. ⌜ (56 ≤ r) × (r ≤ 68) ⌝ }
 {
-    at + 56 * place
+    user_size(version(s))
 }
 
-// The same, for a caller that does not have where the users begin.
+// Where the record of the user at a place begins, of those of a size that begin at `at`.
+pub fn user_offset_from(s: &[u8], at: usize, size: usize, place: usize) -> usize
+    requires { ⌜ UserIn (now s) place × (at ≡ headerSize (versionOf (now s))) × (size ≡ userSize (versionOf (now s))) ⌝ }
+    ensures { λ r. ⌜ (r ≡ userAt (now (s .entry)) place) × (r + 56 ≤ length (now (s .entry))) ⌝ }
+{
+    at + size * place
+}
+
+// The same, for a caller that has neither where the users begin nor their size.
 pub fn user_offset(s: &[u8], place: usize) -> usize
     requires { ⌜ UserIn (now s) place ⌝ }
     ensures { λ r. ⌜ (r ≡ userAt (now (s .entry)) place) × (r + 56 ≤ length (now (s .entry))) ⌝ }
 {
-    user_offset_from(s, users_offset(s), place)
+    user_offset_from(s, users_offset(s), users_size(s), place)
 }
 
-// The user at a place.
+// The user at a place, its managers apart.
 pub fn user_at(s: &[u8], place: usize) -> User
     requires { ⌜ UserIn (now s) place ⌝ }
-    ensures { λ r. ⌜ asUser r ≡ getD (usersOf (now (s .entry))) place nobody ⌝ }
+    ensures { λ r. ⌜ asUser r ≡ alone (getD (usersOf (now (s .entry))) place nobody) ⌝ }
 {
     let a = user_offset(s, place);
     book_records::read_user(&s[a..a + 56])
 }
 
-// Writes a user over the one at a place.
+// Writes a user over the one at a place, whose managers stay.
 pub fn put_user(s: &mut [u8], place: usize, u: User)
     requires { ⌜ UserIn (now s) place ⌝ }
     ensures { λ _. ⌜ now (s .exit) ≡ sets (now (s .entry)) (userAt (now (s .entry)) place) (userBytes (asUser u)) ⌝ }
@@ -139,7 +166,7 @@ pub fn trades_offset(s: &[u8], n: usize) -> usize
     requires { ⌜ Formed (now s) × (n ≡ userCount (now s)) ⌝ }
     ensures { λ r. ⌜ r ≡ tradesAt (now (s .entry)) ⌝ }
 {
-    users_offset(s) + 56 * n
+    users_offset(s) + users_size(s) * n
 }
 
 // Where the 20 bytes of the trade at a place begin, of those that begin at `at`.

@@ -119,12 +119,12 @@ fn zeros_valid(s: &[u8], at: usize, n: usize, size: usize, offset: usize, width:
     true
 }
 
-// Are the zero bytes of the n users from byte `at` on 0?
-pub fn user_zeros_valid(s: &[u8], at: usize, n: usize) -> bool
-    requires { ⌜ at + 56 * n ≤ length (now s) ⌝ }
-    ensures { λ r. ⌜ r ≡ zerosIn (λ c. field 3 5 c) 56 n (drop at (now (s .entry))) ⌝ }
+// Are the zero bytes of the n users, of a size, from byte `at` on 0?
+pub fn user_zeros_valid(s: &[u8], at: usize, n: usize, size: usize) -> bool
+    requires { ⌜ (8 ≤ size) × (at + size * n ≤ length (now s)) ⌝ }
+    ensures { λ r. ⌜ r ≡ zerosIn (λ c. field 3 5 c) size n (drop at (now (s .entry))) ⌝ }
 {
-    zeros_valid(s, at, n, 56, 5, 3)
+    zeros_valid(s, at, n, size, 5, 3)
 }
 
 // Are the zero bytes of the m trades from byte `at` on 0?

@@ -1,37 +1,19 @@
--- Three parts filled one after the other make the image of a book. Assumes nothing.
-use mathlib.Core.Path.{_≡_, refl, ap, _∙_}
-use mathlib.Core.List.{List, _++_, append-nil}
+-- The parts of a book filled one after the other make its image. Assumes nothing.
+use mathlib.Core.Path.{_≡_, refl, sym, ap, _∙_}
+use mathlib.Core.List.{List, _++_}
 use Prim.Native.Nat.{ℕ, _+_, _-_, _*_, _≤_}
 use native.Mathlib.Omega.{arith}
-use lib.ListN.{length, take, drop, replicate, length-append, length-take, length-drop, length-replicate, drop-of-length-le}
-use lib.Seq.{sets, take-all, take-length, take-at, drop-at}
+use lib.ListN.{length, take, drop, replicate, length-append, length-take, length-drop, length-replicate}
+use lib.Seq.{sets, length-sets, length-take-le, take-all}
 use borrow.Rule.Slice.PartMut.{putMid}
-use Rattle.fields.proofs.Sets.{part-sets, sets-three, length-part}
-use Rattle.book_format.specs.Book.{versionOf, userCount, headerSize, tradesAt}
+use Rattle.fields.proofs.Sets.{length-part, part-sets, sets-append, sets-three}
+use Rattle.book_format.specs.Book.{versionOf, userCount, headerSize, tradesAt, userSize}
 use Rattle.book_format.specs.Questions.{Formed}
 use Rattle.book_format.proofs.Offsets.{header-range, users-end}
-use Rattle.book_image.specs.Image.{imageUsersAt, imageTradesAt, imageSize, padded, imageHeader, imageUsers, imageTrades, imageOf}
-
--- bytes copied to the front of a list, with 0 in the place of all that is behind them
-pub front-filled : (front l copied rest : List ℕ) → length front ≤ length l
-    → copied ≡ take (length front) front ++ drop (length front) (take (length front) l)
-    → rest ≡ replicate (length (take (length (copied ++ drop (length front) l) - length front) (drop (length front) (copied ++ drop (length front) l)))) 0
-    → putMid (length front) (length (copied ++ drop (length front) l) - length front) (copied ++ drop (length front) l) rest ≡ padded (length l) front
-unfolding padded
-front-filled front l copied rest fits at-front behind =
-    let n = length front in
-    let back = drop n l in
-    let k : length (take n l) ≤ n = rw length-take (omega arith) in
-    let same : copied ≡ front = at-front ∙ rw (take-length, drop-of-length-le (take n l) k, append-nil) in
-    let m : length (front ++ back) - n ≡ length l - n = rw (length-append, length-drop) (omega (arith, fits)) in
-    let end : drop n (front ++ back) ≡ back = drop-at front back n refl in
-    let short : length back ≤ length l - n = rw length-drop (omega arith) in
-    let zeros : rest ≡ replicate (length l - n) 0 = behind ∙ rw (same, m, end, take-all (length l - n) back short, length-drop) in
-    rw (same, m, end, take-at front back n refl, zeros, drop-of-length-le back {i = length l - n} short, append-nil)
-
-pub length-padded : (room : ℕ) (s : List ℕ) → length s ≤ room → length (padded room s) ≡ room
-unfolding padded
-length-padded room s h = rw (length-append, length-replicate) (omega (arith, h))
+use Rattle.book_image.specs.Fitted.{refitted}
+use Rattle.book_image.specs.Image.{imageUsersAt, imageUserSize, imageTradesAt, imageSize, padded, imageHeader, imageUsers, imageTrades, imageOf}
+use Rattle.book_image.proofs.Filled.{length-padded}
+use Rattle.book_image.proofs.Fitted.{length-refitted}
 
 -- ---- the parts of a book fill their rooms in an image
 
@@ -42,7 +24,9 @@ length-header s =
 module _ (s : List ℕ) (f : Formed s) where
   pub length-users : length (imageUsers s) ≡ imageTradesAt - imageUsersAt
   length-users =
-      length-padded (imageTradesAt - imageUsersAt) (take (56 * userCount s) (drop (headerSize (versionOf s)) s)) (rw length-take (omega (arith, f .users)))
+      let n = userCount s in
+      let rs = refitted imageUserSize (userSize (versionOf s)) n (drop (headerSize (versionOf s)) s) in
+      length-padded (imageTradesAt - imageUsersAt) rs (omega (arith, f .users, length-refitted imageUserSize (userSize (versionOf s)) n (drop (headerSize (versionOf s)) s)))
 
   pub length-trades : length (imageTrades s) ≡ imageSize - imageTradesAt
   length-trades =
@@ -50,11 +34,21 @@ module _ (s : List ℕ) (f : Formed s) where
 
 -- ---- filled one after the other
 
--- a part of k bytes that was lent and came back filled
-pub part-filled : (l : List ℕ) (a k : ℕ) (vs front : List ℕ) → a + k ≤ length l → length front ≤ k → vs ≡ padded (length (take k (drop a l))) front → take a l ++ (vs ++ drop k (drop a l)) ≡ sets l a (padded k front)
-part-filled l a k vs front inside fits e =
-    let v : vs ≡ padded k front = e ∙ ap (λ (n : ℕ). padded n front) (length-part l a k inside) in
-    rw v (part-sets l (padded k front) a k (length-padded k front fits) inside)
+-- the room of the users: their records, and 0 behind them
+pub users-filled : {part written : List ℕ} (l rs : List ℕ) (n : ℕ) → length l ≡ imageSize → n ≤ 64 → length rs ≡ imageUserSize * n → written ≡ sets l imageUsersAt rs
+    → part ≡ replicate (length (take (imageTradesAt - (imageUsersAt + imageUserSize * n)) (drop (imageUsersAt + imageUserSize * n) written))) 0
+    → putMid (imageUsersAt + imageUserSize * n) (imageTradesAt - (imageUsersAt + imageUserSize * n)) written part ≡ sets l imageUsersAt (padded (imageTradesAt - imageUsersAt) rs)
+unfolding padded
+users-filled {part} {written} l rs n whole few sized w e =
+    let a = imageUsersAt + imageUserSize * n in
+    let k = imageTradesAt - a in
+    let m = sets l imageUsersAt rs in
+    let lm : length m ≡ imageSize = length-sets l imageUsersAt rs ∙ whole in
+    let z : part ≡ replicate k 0 = e ∙ ap (λ (t : List ℕ). replicate (length (take k (drop a t))) 0) w ∙ ap (λ (i : ℕ). replicate i 0) (length-part m a k (omega (arith, lm))) in
+    let r : imageTradesAt - imageUsersAt - length rs ≡ k = omega (arith, sized) in
+    let b : imageUsersAt + length rs ≡ a = omega (arith, sized) in
+    rw (w, z) (part-sets m (replicate k 0) a k (length-replicate k 0) (omega (arith, lm)))
+    ∙ sym (ap (λ (i : ℕ). sets l imageUsersAt (rs ++ replicate i 0)) r ∙ sets-append rs (replicate k 0) l imageUsersAt ∙ ap (λ (i : ℕ). sets m i (replicate k 0)) b)
 
 -- header, users and trades, over the whole of an image
 copied : (s l : List ℕ) → Formed s → length l ≡ imageSize → sets (sets (sets l 0 (imageHeader s)) imageUsersAt (imageUsers s)) imageTradesAt (imageTrades s) ≡ imageOf s
@@ -63,11 +57,10 @@ copied s l f e =
     sets-three (imageHeader s) (imageUsers s) (imageTrades s) l imageUsersAt imageTradesAt (length-header s) (omega (arith, length-users s f)) (omega (arith, e, length-trades s f))
 
 -- the same of the parts of a book of n users, as they are lent
-pub all-filled : (s l : List ℕ) {from n : ℕ} → Formed s → from ≡ headerSize (versionOf s) → n ≡ userCount s → length l ≡ imageSize
-    → sets (sets (sets l 0 (padded imageUsersAt (take from s))) imageUsersAt (padded (imageTradesAt - imageUsersAt) (take (from + 56 * n - from) (drop from s)))) imageTradesAt
-    (padded (imageSize - imageTradesAt) (take (length s - (from + 56 * n)) (drop (from + 56 * n) s))) ≡ imageOf s
-all-filled s l {from} {n} f begin users whole =
-    let at = from + 56 * n in
-    let k : at - from ≡ 56 * userCount s = omega (arith, users) in
-    let rest : take (length s - at) (drop at s) ≡ drop (tradesAt s) s = take-all (length s - at) (drop at s) (rw length-drop (omega arith)) ∙ ap (λ (i : ℕ). drop i s) (users-end s begin users) in
-    rw (rest, k, begin) (copied s l f whole)
+pub all-filled : (s l : List ℕ) {from size n : ℕ} → Formed s → from ≡ headerSize (versionOf s) → size ≡ userSize (versionOf s) → n ≡ userCount s → length l ≡ imageSize
+    → sets (sets (sets l 0 (padded imageUsersAt (take from s))) imageUsersAt (padded (imageTradesAt - imageUsersAt) (refitted imageUserSize size n (drop from s)))) imageTradesAt
+    (padded (imageSize - imageTradesAt) (take (length s - (from + size * n)) (drop (from + size * n) s))) ≡ imageOf s
+all-filled s l {from} {size} {n} f begin sized users whole =
+    let at = from + size * n in
+    let rest : take (length s - at) (drop at s) ≡ drop (tradesAt s) s = take-all (length s - at) (drop at s) (rw length-drop (omega arith)) ∙ ap (λ (i : ℕ). drop i s) (users-end s begin sized users) in
+    rw (rest, begin, sized, users) (copied s l f whole)

@@ -1,41 +1,40 @@
--- The book of an image's fields: its records, that they fit their bytes, what it is written as, and the questions 4 to 7 of that. Assumes nothing.
+-- The book of an image's fields: its records, that they fit their bytes, and what it is written as. Assumes nothing.
 use mathlib.Core.Bool.{Bool, true, false, _&&_}
 use mathlib.Core.List.{List, [], _∷_, _++_, append-nil}
 use mathlib.Core.Path.{_≡_, refl, sym, ap, _∙_}
 use Prim.Native.Nat.{ℕ, zero, suc, _+_, _*_, _<_, _≤_, _^_}
 use native.Mathlib.Omega.{arith}
-use native.Mathlib.Nat.{le-of-suc-le-suc, not-suc-le-zero}
+use native.Mathlib.Nat.{le-of-suc-le-suc, mul-suc, not-suc-le-zero}
 use lib.Dec.{T, leb, leb→le}
-use lib.ListN.{length, take, drop}
+use lib.ListN.{length, take, drop, length-drop}
 use lib.Seq.{sets, length-take-le, take-add}
-use Rattle.rules.specs.Areas.{Prices, sellingIn}
-use Rattle.rules.specs.Questions.{headerValid, refusal, numberOf}
+use Rattle.rules.specs.Areas.{managersIn, sellingIn}
+use Rattle.rules.specs.Questions.{versionKnown}
 use Rattle.base.proofs.Tests.{and-l, and-r, by-case}
-use Rattle.fields.specs.Field.{field, toBytes, setField, AllBytes}
+use Rattle.fields.specs.Field.{toBytes, setField, AllBytes}
 use Rattle.fields.specs.Layout.{recordsOf, bytesOfRecords, fieldsAt, pack, size, Every}
 use Rattle.fields.proofs.Field.{field-lt, length-toBytes, all-bytes-take, all-bytes-drop}
 use Rattle.fields.proofs.Pack.{fit-fieldsAt, pack-fieldsAt}
 use Rattle.book_format.proofs.Round.{selling-back}
 use Rattle.fields.proofs.Records.{length-recordsOf}
 use Rattle.fields.proofs.Sets.{part-sets, sets-left, take-of-drop}
-use Rattle.book_records.specs.User.{userOf, userBytes, FitsUser}
+use Rattle.book_records.specs.User.{FitsRecord}
 use Rattle.book_records.specs.Trade.{tradeOf, tradeBytes, FitsTrade}
-use Rattle.book_format.specs.Book.{mark, headerWidths, headerValues, headerBytes, headerSize, lengthBy, sellingWidths, sellingBytes, sellingAt, versionOf, userCount, tradeCount, pricesOf, bookOf, bytesOf}
-use Rattle.book_format.specs.Places.{HeaderIn}
-use Rattle.book_format.proofs.Fits.{userOf-fits}
-use Rattle.book_format.proofs.Offsets.{header-plain, header-range, header-selling, selling-none}
-use Rattle.book_format.proofs.Written.{FitsBook, FitsSelling, fields-written, parts-written}
-use Rattle.book_parties.specs.Ids.{usersFrom, tradesFrom}
-use Rattle.book_questions.specs.Asked.{recordsNumber, fieldsNumber}
+use Rattle.book_format.specs.Book.{mark, headerWidths, headerValues, headerBytes, headerSize, lengthBy, sellingWidths, sellingBytes, sellingAt, versionOf, userCount, tradeCount, pricesOf, userRecord, userSize, bookOf, bytesOf}
+use Rattle.book_format.specs.Questions.{Formed}
+use Rattle.book_format.proofs.Fits.{managersAt-fit, userOf-fits}
+use Rattle.book_format.proofs.Offsets.{header-plain, header-range, header-selling, selling-none, user-range}
+use Rattle.book_format.proofs.Written.{FitsBook, FitsSelling, formed-bytesOf, length-bytesOf, parts-written}
+use Rattle.book_parties.specs.Ids.{tradesFrom}
 use Rattle.book_value.specs.Written.{countsInRange}
-use Rattle.book_image.specs.Image.{imageUsersAt, imageTradesAt, imageSize}
-use Rattle.book_image.specs.ImageBook.{imageBook, CountsOf}
+use Rattle.book_image.specs.Image.{imageUsersAt, imageUserSize, imageTradesAt, imageSize}
+use Rattle.book_image.specs.ImageBook.{imageBook, imageUserOf, CountsOf}
 
 -- ---- what is read from bytes fits them
 
-trade-fits : (c : List ℕ) → AllBytes c → FitsTrade (tradeOf c)
+trade-fits : (c : List ℕ) → length c ≡ 20 → AllBytes c → FitsTrade (tradeOf c)
 unfolding tradeOf
-trade-fits c bytes =
+trade-fits c l bytes =
     record {
       seller = field-lt 4 0 c bytes;
       buyer = field-lt 4 4 c bytes;
@@ -46,12 +45,26 @@ trade-fits c bytes =
       standing = field-lt 4 16 c bytes;
     }
 
+-- the user of a record in an image
+user-fits : (version : ℕ) (c : List ℕ) → length c ≡ imageUserSize → AllBytes c → FitsRecord (managersIn version) (imageUserOf version c)
+unfolding imageUserOf userSize
+user-fits version c l bytes =
+    let k = userSize version in
+    let b = all-bytes-take k c bytes in
+    record {
+      user = userOf-fits (take k c) b;
+      managers = managersAt-fit (managersIn version) (take k c) (length-take-le k c (omega (arith, l, user-range version))) b;
+    }
+
 module _ {R : Type 0} (len : ℕ) (one : List ℕ → R) where
-  every-record : (P : R → Type 0) → ((c : List ℕ) → AllBytes c → P (one c)) → (n : ℕ) (s : List ℕ) → AllBytes s → Every P (recordsOf len one n s)
+  every-record : (P : R → Type 0) → ((c : List ℕ) → length c ≡ len → AllBytes c → P (one c)) → (n : ℕ) (s : List ℕ) → len * n ≤ length s → AllBytes s → Every P (recordsOf len one n s)
   unfolding recordsOf
-  every-record P f zero s bytes = tt
-  every-record P f (suc n) s bytes =
-      (f (take len s) (all-bytes-take len s bytes), every-record P f n (drop len s) (all-bytes-drop len s bytes))
+  every-record P f zero s h bytes = tt
+  every-record P f (suc n) s h bytes =
+      let e = mul-suc len n in (
+        f (take len s) (length-take-le len s (omega (arith, e))) (all-bytes-take len s bytes),
+        every-record P f n (drop len s) (rw length-drop (omega (arith, e))) (all-bytes-drop len s bytes),
+      )
 
   -- the first n of m records are n records
   pub take-records : (n m : ℕ) (s : List ℕ) → n ≤ m → take n (recordsOf len one m s) ≡ recordsOf len one n s
@@ -93,19 +106,19 @@ selling-fits s bytes =
 
 module _ {s : List ℕ} {n m : ℕ} (counts : CountsOf s n m) where
   -- a header of any version lies in an image
-  pub header-in : HeaderIn s
-  header-in = record { start = omega (arith, counts .whole); whole = omega (arith, counts .whole, header-range (versionOf s)) }
+  header-lies : headerSize (versionOf s) ≤ length s
+  header-lies = omega (arith, counts .whole, header-range (versionOf s))
 
-  users-are : imageBook s .users ≡ usersFrom imageUsersAt n s
+  users-are : imageBook s .users ≡ recordsOf imageUserSize (imageUserOf (versionOf s)) n (drop imageUsersAt s)
   unfolding imageBook
-  users-are = rw (← counts .users) (take-records 56 userOf n 64 (drop imageUsersAt s) (counts .few))
+  users-are = rw (← counts .users) (take-records imageUserSize (imageUserOf (versionOf s)) n 64 (drop imageUsersAt s) (counts .few))
 
   trades-are : imageBook s .trades ≡ tradesFrom imageTradesAt m s
   unfolding imageBook
   trades-are = rw (← counts .trades) (take-records 20 tradeOf m 256 (drop imageTradesAt s) (counts .many))
 
   pub user-count : length (imageBook s .users) ≡ n
-  user-count = ap length users-are ∙ length-recordsOf 56 userOf n (drop imageUsersAt s)
+  user-count = ap length users-are ∙ length-recordsOf imageUserSize (imageUserOf (versionOf s)) n (drop imageUsersAt s)
 
   pub trade-count : length (imageBook s .trades) ≡ m
   trade-count = ap length trades-are ∙ length-recordsOf 20 tradeOf m (drop imageTradesAt s)
@@ -139,20 +152,31 @@ module _ {s : List ℕ} {n m : ℕ} (counts : CountsOf s n m) where
     header-copied =
         let v = versionOf s in
         by-case (sellingIn v)
-        (λ e. rw (header-selling v e, selling-back s bytes (header-in .whole) e, ← start-copied) mark-first)
+        (λ e. rw (header-selling v e, selling-back s bytes (header-lies) e, ← start-copied) mark-first)
         (λ e. rw (header-plain v e, selling-none v (pricesOf s) e, append-nil) start-copied)
 
     -- header, users and trades of the image copied one after the other, over bytes of the book's length
-    pub image-written : (out : List ℕ) {at : ℕ} → at ≡ headerSize (versionOf s) → length out ≡ lengthBy (versionOf s) n m
-        → sets (sets (sets out 0 (setField 3 0 mark (take at s))) at (bytesOfRecords userBytes (usersFrom imageUsersAt n s))) (at + 56 * n) (bytesOfRecords tradeBytes (tradesFrom imageTradesAt m s)) ≡ bytesOf (imageBook s)
+    pub image-written : (out : List ℕ) {version at size : ℕ} → version ≡ versionOf s → at ≡ headerSize version → size ≡ userSize version → length out ≡ lengthBy (versionOf s) n m
+        → sets (sets (sets out 0 (setField 3 0 mark (take at s))) at (bytesOfRecords (userRecord version) (recordsOf imageUserSize (imageUserOf version) n (drop imageUsersAt s)))) (at + size * n) (bytesOfRecords tradeBytes (tradesFrom imageTradesAt m s)) ≡ bytesOf (imageBook s)
     unfolding imageBook bookOf
-    image-written out {at} begin h =
+    image-written out {version} {at} {size} v begin sized h =
         let b = imageBook s in
-        let same : sets (sets (sets out 0 (setField 3 0 mark (take at s))) at (bytesOfRecords userBytes (usersFrom imageUsersAt n s))) (at + 56 * n)
+        let same : sets (sets (sets out 0 (setField 3 0 mark (take at s))) at (bytesOfRecords (userRecord version) (recordsOf imageUserSize (imageUserOf version) n (drop imageUsersAt s)))) (at + size * n)
         (bytesOfRecords tradeBytes (tradesFrom imageTradesAt m s)) ≡ sets
-        (sets (sets out 0 (headerBytes b)) at (bytesOfRecords userBytes (b .users))) (at + 56 * length (b .users))
-        (bytesOfRecords tradeBytes (b .trades)) = rw (begin, header-copied, user-count, users-are, trades-are) in
-        same ∙ parts-written b out begin (rw (user-count, trade-count) h)
+        (sets (sets out 0 (headerBytes b)) at (bytesOfRecords (userRecord (versionOf s)) (b .users))) (at + userSize (versionOf s) * length (b .users))
+        (bytesOfRecords tradeBytes (b .trades)) = rw (begin, sized, v, header-copied, user-count, users-are, trades-are) in
+        same ∙ parts-written b out (begin ∙ ap headerSize v) (rw (user-count, trade-count) h)
+
+    -- so many bytes
+    pub image-sized : length (bytesOf (imageBook s)) ≡ lengthBy (versionOf s) n m
+    unfolding imageBook bookOf
+    image-sized = length-bytesOf (imageBook s) ∙ rw (user-count, trade-count)
+
+    -- of the right form
+    pub image-formed : T (versionKnown (versionOf s)) → Formed (bytesOf (imageBook s))
+    unfolding imageBook bookOf
+    image-formed known =
+        formed-bytesOf (imageBook s) known (omega (arith, user-count, counts .some)) (omega (arith, user-count, counts .few)) (omega (arith, trade-count, counts .many))
 
     pub book-fits : FitsBook (imageBook s)
     unfolding headerWidths mark imageBook bookOf
@@ -160,23 +184,6 @@ module _ {s : List ℕ} {n m : ℕ} (counts : CountsOf s n m) where
         record {
           header = rw values-are (omega arith, fit-fieldsAt (2 ∷ 1 ∷ 2 ∷ 4 ∷ 4 ∷ 4 ∷ 4 ∷ 4 ∷ 4 ∷ []) 3 s bytes);
           selling = selling-fits s bytes;
-          users = rw users-are (every-record 56 userOf FitsUser userOf-fits n (drop imageUsersAt s) (all-bytes-drop imageUsersAt s bytes));
-          trades = rw trades-are (every-record 20 tradeOf FitsTrade trade-fits m (drop imageTradesAt s) (all-bytes-drop imageTradesAt s bytes));
+          users = rw users-are (every-record imageUserSize (imageUserOf (versionOf s)) (FitsRecord (managersIn (versionOf s))) (user-fits (versionOf s)) n (drop imageUsersAt s) (rw length-drop (omega (arith, counts .whole, counts .few))) (all-bytes-drop imageUsersAt s bytes));
+          trades = rw trades-are (every-record 20 tradeOf FitsTrade trade-fits m (drop imageTradesAt s) (rw length-drop (omega (arith, counts .whole, counts .many))) (all-bytes-drop imageTradesAt s bytes));
         }
-
-    module _ {version date : ℕ} {prices : Prices} {valid : Bool} (v : version ≡ versionOf s) (d : date ≡ field 4 8 s) (p : prices ≡ pricesOf s)
-        (e : valid ≡ headerValid (record { version = version; date = date; prices = prices })) where
-      -- what was asked of the header's fields is asked of the book's
-      header-asked : valid ≡ headerValid (imageBook s .header)
-      unfolding imageBook bookOf
-      header-asked = e ∙ rw (v, d, p)
-
-      -- 4: the header is not in range
-      pub fields-4 : valid ≡ false → 4 ≡ fieldsNumber (bytesOf (imageBook s))
-      unfolding fieldsNumber refusal numberOf
-      fields-4 f = rw (fields-written (imageBook s) book-fits, sym header-asked ∙ f)
-
-      -- 5 to 7: those of its users and trades
-      pub fields-rest : {r : ℕ} → valid ≡ true → r ≡ recordsNumber true true (usersFrom imageUsersAt n s) (tradesFrom imageTradesAt m s) → r ≡ fieldsNumber (bytesOf (imageBook s))
-      unfolding fieldsNumber refusal numberOf recordsNumber
-      fields-rest f a = rw (fields-written (imageBook s) book-fits, sym header-asked ∙ f, users-are, trades-are) a

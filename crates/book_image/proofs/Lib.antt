@@ -1,4 +1,6 @@
--- Parts filled one after the other.
+-- Parts filled up, records cut or filled up to another size, and both one after the other.
+pub mod Filled
+pub mod Fitted
 pub mod Copied
 -- Records whose zero bytes are 0; parts copied whole, and the loop that makes a field 0 in each record.
 pub mod Zeroed

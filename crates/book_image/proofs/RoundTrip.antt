@@ -1,38 +1,63 @@
 -- The image of a book's bytes has that book's fields: what `read` writes to an image, `write` reads from it, and the other way round. Assumes nothing.
-use mathlib.Core.Path.{_≡_, refl, sym, ap, _∙_}
-use mathlib.Core.List.{List, _++_, append-assoc}
-use Prim.Native.Nat.{ℕ, _+_, _-_, _*_, _≤_}
-use native.Mathlib.Nat.{zero-add}
+use mathlib.Core.Path.{_≡_, refl, sym, ap, ap₂, _∙_}
+use mathlib.Core.List.{List, _∷_, _++_, append-assoc}
+use Prim.Native.Nat.{ℕ, zero, suc, _+_, _-_, _*_, _≤_}
+use native.Mathlib.Nat.{mul-suc, zero-add}
 use native.Mathlib.Omega.{arith}
 use lib.Dec.{T}
-use lib.ListN.{length, take, drop, length-append, length-take, length-drop, take-append-drop}
+use lib.ListN.{length, take, drop, replicate, length-append, length-drop}
 use lib.Seq.{length-take-le, take-at, drop-at}
 use Rattle.fields.specs.Field.{field, AllBytes}
-use Rattle.fields.specs.Layout.{recordsOf}
+use Rattle.fields.specs.Layout.{bytesOfRecords, recordsOf}
 use Rattle.fields.proofs.Field.{field-part}
 use Rattle.book_records.specs.User.{userOf}
 use Rattle.book_records.specs.Trade.{tradeOf}
 use Rattle.rules.specs.Areas.{sellingIn}
+use Rattle.rules.specs.Book.{User}
 use Rattle.rules.specs.Questions.{versionKnown}
 use Rattle.base.proofs.Tests.{by-case}
-use Rattle.book_format.specs.Book.{userCount, tradeCount, versionOf, tradesAt, usersOf, tradesOf, sellingAt, pricesOf, bookOf, bytesOf, headerSize}
+use Rattle.book_format.specs.Book.{userCount, tradeCount, versionOf, tradesAt, usersOf, tradesOf, sellingAt, pricesOf, bookOf, bytesOf, headerSize, userSize}
 use Rattle.book_format.specs.Questions.{Formed}
-use Rattle.book_format.proofs.Offsets.{header-range, header-selling, users-end, users-there, trades-there}
+use Rattle.book_format.proofs.Offsets.{header-range, header-selling, user-range, users-end, users-there, trades-there}
 use Rattle.book_format.proofs.Passed.{Passed}
 use Rattle.book_format.proofs.Places.{header-lies}
 use Rattle.book_format.proofs.Round.{bytesOf-bookOf}
-use Rattle.book_format.proofs.Written.{bookOf-fits, formed-bytesOf}
+use Rattle.book_format.proofs.Written.{bookOf-fits}
+use Rattle.book_image.specs.Fitted.{fitted, refitted}
+use Rattle.book_image.proofs.Fitted.{fitted-more, length-fitted, length-refitted}
 use Rattle.book_image.proofs.Turns.{records-front}
-use Rattle.book_image.specs.Image.{imageUsersAt, imageTradesAt, imageSize, padded, imageHeader, imageUsers, imageTrades, imageOf}
+use Rattle.book_image.specs.Image.{imageUsersAt, imageUserSize, imageTradesAt, imageSize, padded, imageHeader, imageUsers, imageTrades, imageOf}
 use Rattle.book_image.proofs.Copied.{length-header, length-users, length-trades}
-use Rattle.book_image.specs.ImageBook.{imageBook, CountsOf}
-use Rattle.book_image.proofs.Fields.{take-records, user-count, trade-count, book-fits}
+use Rattle.book_image.specs.ImageBook.{imageBook, imageUserOf, CountsOf}
+use Rattle.book_image.proofs.Fields.{take-records, image-formed, book-fits}
 
 module _ {R : Type 0} (len : ℕ) (one : List ℕ → R) where
   -- records that fill the front of a list do not depend on what they are padded with
   records-padded : (n room : ℕ) (p q : List ℕ) → length p ≡ len * n → recordsOf len one n (padded room p ++ q) ≡ recordsOf len one n p
   unfolding padded
   records-padded n room p q h = rw append-assoc (records-front len one n p _ h)
+
+-- a user's record in an image is that of its version
+user-back : (version : ℕ) (c : List ℕ) → length c ≡ userSize version → imageUserOf version (fitted imageUserSize c) ≡ userOf c
+unfolding imageUserOf
+user-back version c l =
+    let k = userSize version in
+    let h = user-range version in
+    ap (λ (x : List ℕ). userOf (take k x)) (fitted-more imageUserSize (imageUserSize - k) c (omega (arith, l, h)))
+    ∙ ap userOf (take-at c (replicate (imageUserSize - k) 0) k l)
+
+users-refitted : (version n : ℕ) (s : List ℕ) → userSize version * n ≤ length s
+    → recordsOf imageUserSize (imageUserOf version) n (refitted imageUserSize (userSize version) n s) ≡ recordsOf (userSize version) userOf n s
+unfolding refitted recordsOf bytesOfRecords
+users-refitted version zero s h = refl
+users-refitted version (suc n) s h =
+    let k = userSize version in
+    let e = mul-suc k n in
+    let c = take k s in
+    let rest = refitted imageUserSize k n (drop k s) in
+    let l = length-fitted imageUserSize c in
+    rw (take-at (fitted imageUserSize c) rest imageUserSize l, drop-at (fitted imageUserSize c) rest imageUserSize l)
+    (ap₂ (λ (x : User) (y : List User). x ∷ y) (user-back version c (length-take-le k s (omega (arith, e)))) (users-refitted version n (drop k s) (rw length-drop (omega (arith, e)))))
 
 module _ (s : List ℕ) (f : Formed s) where
   -- the header of the book's version
@@ -62,19 +87,20 @@ module _ (s : List ℕ) (f : Formed s) where
   same-selling at h =
       by-case (sellingIn (versionOf s)) (λ e. rw (same-version, e) (same-field 4 at (omega (arith, h, header-selling (versionOf s) e)))) (λ e. rw (same-version, e))
 
-  users-back : take (userCount s) (recordsOf 56 userOf 64 (drop imageUsersAt (imageOf s))) ≡ usersOf s
+  -- the users, each read from as many bytes as its version has
+  users-back : take (userCount s) (recordsOf imageUserSize (imageUserOf (versionOf s)) 64 (drop imageUsersAt (imageOf s))) ≡ usersOf s
   unfolding imageOf
   users-back =
       let n = userCount s in
-      let H = headerSize (versionOf s) in
-      let all = take (56 * n) (drop H s) in
-      let k : length all ≡ 56 * n = rw (length-take, length-drop) (omega (arith, f .whole, users-end s {at = H} refl refl)) in
-      take-records 56 userOf n 64 (drop imageUsersAt (imageOf s)) (f .users)
-      ∙ ap (recordsOf 56 userOf n) (drop-at (imageHeader s) (imageUsers s ++ imageTrades s) imageUsersAt (length-header s))
-      ∙ records-padded 56 userOf n (imageTradesAt - imageUsersAt) all (imageTrades s) k
-      ∙ sym (records-front 56 userOf n all (drop (56 * n) (drop H s)) k)
-      ∙ ap (recordsOf 56 userOf n) (take-append-drop (56 * n) (drop H s))
-      ∙ users-there s refl refl
+      let v = versionOf s in
+      let one = imageUserOf v in
+      let d = drop (headerSize v) s in
+      let all = refitted imageUserSize (userSize v) n d in
+      take-records imageUserSize one n 64 (drop imageUsersAt (imageOf s)) (f .users)
+      ∙ ap (recordsOf imageUserSize one n) (drop-at (imageHeader s) (imageUsers s ++ imageTrades s) imageUsersAt (length-header s))
+      ∙ records-padded imageUserSize one n (imageTradesAt - imageUsersAt) all (imageTrades s) (length-refitted imageUserSize (userSize v) n d)
+      ∙ users-refitted v n d (rw length-drop (omega (arith, f .whole, users-end s {at = headerSize v} refl refl refl)))
+      ∙ users-there s refl refl refl
 
   trades-back : take (tradeCount s) (recordsOf 20 tradeOf 256 (drop imageTradesAt (imageOf s))) ≡ tradesOf s
   unfolding imageOf padded
@@ -110,7 +136,7 @@ module _ (s : List ℕ) (f : Formed s) where
   -- the book of the image of a book's bytes
   pub image-book : imageBook (imageOf s) ≡ bookOf s
   unfolding imageBook bookOf
-  image-book = rw (same-counts .0, same-counts .1, users-back, trades-back, same-version, start-field 4 8 (omega arith), same-prices)
+  image-book = rw (same-counts .0, same-counts .1, same-version, users-back, trades-back, start-field 4 8 (omega arith), same-prices)
 
 -- an accepted book that is read into an image is written from it as the same bytes
 pub image-bytes : (s : List ℕ) → AllBytes s → Passed s → bytesOf (imageBook (imageOf s)) ≡ s
@@ -121,7 +147,4 @@ pub image-back : {s : List ℕ} {n m : ℕ} → CountsOf s n m → AllBytes s �
 unfolding imageBook bookOf
 image-back {s} counts bytes known =
     let b = imageBook s in
-    let n = user-count counts in
-    let m = trade-count counts in
-    image-book (bytesOf b) (formed-bytesOf b known (omega (arith, n, counts .some)) (omega (arith, n, counts .few)) (omega (arith, m, counts .many)))
-    ∙ bookOf-fits b (book-fits counts bytes)
+    image-book (bytesOf b) (image-formed counts bytes known) ∙ bookOf-fits b (book-fits counts bytes)

@@ -5,14 +5,16 @@ use mathlib.Core.List.{List, _++_, append-assoc, append-nil}
 use native.Mathlib.Omega.{arith}
 use native.Mathlib.Nat.{mul-zero, mul-suc, sub-zero, zero-add}
 use lib.ListN.{length, take, drop, length-drop, take-append-drop}
-use lib.Seq.{sets, drop-drop, take-at, take-add, take-length, drop-length, length-take-le, take-append-le, drop-append-le}
+use lib.Seq.{sets, length-sets, drop-at, drop-drop, take-at, take-add, take-length, drop-length, length-take-le, take-append-le, drop-append-le}
 use borrow.Rule.Slice.PartMut.{putMid}
 use Rattle.fields.specs.Field.{setField, toBytes, AllBytes}
 use Rattle.fields.specs.Layout.{recordsOf, bytesOfRecords}
 use Rattle.fields.proofs.Field.{length-setField, length-toBytes, all-bytes-take, all-bytes-drop}
 use Rattle.fields.proofs.Records.{length-recordsOf, length-bytesOfRecords}
-use Rattle.fields.proofs.Sets.{part-sets, sets-left, take-sets, drop-sets, drop-sets-add}
+use Rattle.fields.proofs.Sets.{part-of-sets, part-sets, sets-left, take-sets, drop-sets, drop-sets-add}
+use Rattle.book_image.specs.Fitted.{fitted, refitted}
 use Rattle.book_image.specs.Zeroed.{zeroedRecords}
+use Rattle.book_image.proofs.Fitted.{length-fitted, length-refitted}
 
 -- ---- parts
 
@@ -27,6 +29,13 @@ front-set k l v n h e = rw e (part-sets l v 0 k n (omega (arith, h)))
 -- a part from a to a + k, lent and come back as others of its length
 part-set : {part : List ℕ} (a k : ℕ) (l v : List ℕ) → length v ≡ k → a + k ≤ length l → part ≡ v → putMid a (a + k - a) l part ≡ sets l a v
 part-set a k l v n h e = let m : a + k - a ≡ k = omega arith in rw (m, e) (part-sets l v a k n h)
+
+-- bytes set twice in one place
+sets-twice : (l x y : List ℕ) (i k : ℕ) → length x ≡ k → length y ≡ k → i + k ≤ length l → sets (sets l i x) i y ≡ sets l i y
+sets-twice l x y i k n m h =
+    let s = sets l i x in
+    let d : drop k (drop i s) ≡ drop k (drop i l) = drop-drop k i s ∙ drop-sets x l i (i + k) (omega (arith, n)) ∙ sym (drop-drop k i l) in
+    sym (part-sets s y i k m (rw length-sets h)) ∙ rw (take-sets x l i i (omega arith), d) (part-sets l y i k m h)
 
 -- ---- a field made 0 in each record
 
@@ -127,3 +136,35 @@ module _ {R : Type 0} (len : ℕ) (one : List ℕ → R) where
       (sym (records-front n (take m d) (drop m d) l) ∙ ap (recordsOf len one n) (take-append-drop m d)) in
       let r : length (bytesOfRecords bytes (recordsOf len one n d)) ≡ m = length-bytesOfRecords bytes len sized (recordsOf len one n d) ∙ ap (λ (j : ℕ). len * j) (length-recordsOf len one n d) in
       part-set at m out (bytesOfRecords bytes (recordsOf len one n d)) r k ((rw q at e) ∙ z)
+
+-- ---- records of another size
+
+module _ {R : Type 0} (len k : ℕ) (one : List ℕ → R) (width offset : ℕ) (bytes : R → List ℕ)
+    (f : (c : List ℕ) → AllBytes c → length c ≡ len → setField width offset 0 (fitted k c) ≡ bytes (one c)) where
+  -- records that are read, and written again in another size, are their bytes of that size with a field as 0
+  refitted-zeroed : (n : ℕ) (s : List ℕ) → len * n ≤ length s → AllBytes s → zeroedRecords width offset k n (refitted k len n s) ≡ bytesOfRecords bytes (recordsOf len one n s)
+  unfolding zeroedRecords refitted recordsOf bytesOfRecords
+  refitted-zeroed zero s h b = refl
+  refitted-zeroed (suc n) s h b =
+      let e : len * suc n ≡ len * n + len = mul-suc len n in
+      let c = take len s in
+      let rest = refitted k len n (drop len s) in
+      rw (take-at (fitted k c) rest k (length-fitted k c), drop-at (fitted k c) rest k (length-fitted k c))
+      (ap₂ (λ (x y : List ℕ). x ++ y) (f c (all-bytes-take len s b) (length-take-le len s (omega (arith, e, h))))
+      (refitted-zeroed n (drop len s) (rw length-drop (omega (arith, e, h))) (all-bytes-drop len s b)))
+
+  -- written over a part of another, and then cleared there
+  pub records-refitted : {part written : List ℕ} (s : List ℕ) (from n : ℕ) (out : List ℕ) (at : ℕ) → AllBytes s → from + len * n ≤ length s → at + k * n ≤ length out
+      → ((r : R) → length (bytes r) ≡ k)
+      → written ≡ sets out at (refitted k len n (drop from s)) → part ≡ zeroedRecords width offset k n (take (at + k * n - at) (drop at written))
+      → putMid at (at + k * n - at) written part ≡ sets out at (bytesOfRecords bytes (recordsOf len one n (drop from s)))
+  records-refitted {part} {written} s from n out at b h j sized w e =
+      let m = k * n in
+      let d = drop from s in
+      let x = refitted k len n d in
+      let y = bytesOfRecords bytes (recordsOf len one n d) in
+      let q : at + m - at ≡ m = omega arith in
+      let lx : length x ≡ m = length-refitted k len n d in
+      let ly : length y ≡ m = length-bytesOfRecords bytes k sized (recordsOf len one n d) ∙ ap (λ (i : ℕ). k * i) (length-recordsOf len one n d) in
+      let p : part ≡ y = e ∙ rw (q, w, part-of-sets out x at m lx j) (refitted-zeroed n d (rw length-drop (omega (arith, h))) (all-bytes-drop from s b)) in
+      rw w (part-set at m (sets out at x) y ly (rw length-sets j) p) ∙ sets-twice out x y at m lx ly j

@@ -1,19 +1,27 @@
 -- A record that is read and written again is its bytes with the zero bytes as 0. Assumes nothing.
-use mathlib.Core.List.{List, [], _∷_, _++_, append-assoc}
-use mathlib.Core.Path.{_≡_, refl, sym, _∙_}
-use Prim.Native.Nat.{ℕ, _+_}
+use mathlib.Core.List.{List, [], _∷_, _++_, append-assoc, append-nil}
+use mathlib.Core.Bool.{Bool, true, false}
+use mathlib.Core.Path.{_≡_, refl, sym, ap, ap₂, _∙_}
+use Prim.Native.Nat.{ℕ, _+_, _≤_}
 use native.Mathlib.Omega.{arith}
-use lib.ListN.{length, take, drop, length-drop}
-use lib.Seq.{drop-drop, take-all}
+use lib.ListN.{length, take, drop, length-drop, take-append-drop}
+use lib.Seq.{sets, drop-drop, length-take-le, take-all}
 use Rattle.fields.specs.Field.{field, toBytes, setField, AllBytes}
 use Rattle.fields.specs.Layout.{fieldsAt, pack, size}
-use Rattle.fields.proofs.Field.{field-lt, length-toBytes}
+use Rattle.fields.proofs.Field.{all-bytes-take, field-lt, length-toBytes}
 use Rattle.fields.proofs.Pack.{length-fieldsAt, pack-fieldsAt}
-use Rattle.fields.proofs.Sets.{part-sets}
+use Rattle.fields.proofs.Sets.{part-sets, sets-left}
 use Rattle.units.proofs.TwosComplement.{bitsOf-signedOf}
-use Rattle.book_records.specs.User.{amountWidths, userOf, userWidths, userValues, userBytes}
+use Rattle.book_records.specs.User.{alone, amountWidths, managerBytes, managerValues, managerWidths, managersAt, recordBytes, recordSize, userBytes, userOf, userValues, userWidths}
 use Rattle.book_records.specs.Trade.{tradeOf, tradeWidths, tradeValues, tradeBytes}
 use Rattle.book_records.proofs.Amounts.{amountValues-amountsAt}
+use Rattle.book_records.proofs.Users.{user-of-front}
+use Rattle.rules.specs.Areas.{managersIn}
+use Rattle.book_format.specs.Book.{userRecord, userSize}
+use Rattle.book_format.proofs.Offsets.{user-range}
+use Rattle.book_image.specs.Fitted.{fitted}
+use Rattle.book_image.specs.ImageBook.{imageUserOf}
+use Rattle.book_image.proofs.Fitted.{fitted-less}
 
 -- fields of two lists of widths stand one behind the other
 pack-append : (ws us vs xs : List ℕ) → length vs ≡ length ws → pack (ws ++ us) (vs ++ xs) ≡ pack ws vs ++ pack us xs
@@ -34,7 +42,7 @@ zeroed front back z c l b =
     ∙ rw (pack-fieldsAt front 0 c (omega arith) b, pack-fieldsAt back (n + z) c (omega arith) b, rest) (part-sets c (toBytes z 0) n z (length-toBytes z 0) (omega arith))
 
 module _ (c : List ℕ) (b : AllBytes c) where
-  pub user-zeroed : length c ≡ 56 → setField 3 5 0 c ≡ userBytes (userOf c)
+  user-zeroed : length c ≡ 56 → setField 3 5 0 c ≡ userBytes (userOf c)
   unfolding userBytes userWidths userValues userOf amountWidths size fieldsAt
   user-zeroed l =
       sym
@@ -44,3 +52,34 @@ module _ (c : List ℕ) (b : AllBytes c) where
   pub trade-zeroed : length c ≡ 20 → setField 1 11 0 c ≡ tradeBytes (tradeOf c)
   unfolding tradeBytes tradeWidths tradeValues tradeOf size fieldsAt
   trade-zeroed l = sym (zeroed (4 ∷ 4 ∷ 1 ∷ 1 ∷ 1 ∷ []) (4 ∷ 4 ∷ []) 1 c l b)
+
+-- the managers of a record of 68 bytes stand behind the others
+manager-bytes : (c : List ℕ) → length c ≡ 68 → AllBytes c → managerBytes (managersAt 56 c) ≡ drop 56 c
+unfolding managerBytes managerWidths managerValues managersAt fieldsAt size
+manager-bytes c l b = pack-fieldsAt managerWidths 56 c (omega arith) b ∙ take-all 12 (drop 56 c) (rw length-drop (omega arith))
+
+-- the first 56 bytes of a record are written from its user
+front-zeroed : (c : List ℕ) → AllBytes c → 56 ≤ length c → setField 3 5 0 (take 56 c) ≡ userBytes (userOf c)
+unfolding alone userBytes userValues
+front-zeroed c b l =
+    user-zeroed (take 56 c) (all-bytes-take 56 c b) (length-take-le 56 c l) ∙ ap userBytes (user-of-front c)
+
+-- a whole record
+record-zeroed : (managed : Bool) (c : List ℕ) → length c ≡ recordSize managed → AllBytes c → setField 3 5 0 c ≡ recordBytes managed (userOf c)
+unfolding recordBytes recordSize userOf setField
+record-zeroed true c l b =
+    let n = length-take-le 56 c (omega (arith, l)) in
+    ap (λ (x : List ℕ). sets x 5 (toBytes 3 0)) (sym (take-append-drop 56 c))
+    ∙ sets-left (toBytes 3 0) (take 56 c) (drop 56 c) 5 (omega (arith, n, length-toBytes 3 0))
+    ∙ ap₂ (λ (x y : List ℕ). x ++ y) (front-zeroed c b (omega (arith, l))) (sym (manager-bytes c l b))
+record-zeroed false c l b = user-zeroed c b l ∙ sym (append-nil (userBytes (userOf c)))
+
+-- a user's record in an image, as the record of a version
+pub image-zeroed : (version : ℕ) {k : ℕ} → k ≡ userSize version → (c : List ℕ) → AllBytes c → length c ≡ 68 → setField 3 5 0 (fitted k c) ≡ userRecord version (imageUserOf version c)
+unfolding userRecord userSize imageUserOf
+image-zeroed version e c b l =
+    let k = userSize version in
+    let h : k ≤ length c = omega (arith, l, user-range version) in
+    ap (λ (i : ℕ). setField 3 5 0 (fitted i c)) e
+    ∙ ap (λ (x : List ℕ). setField 3 5 0 x) (fitted-less k c h)
+    ∙ record-zeroed (managersIn version) (take k c) (length-take-le k c h) (all-bytes-take k c b)

@@ -1,12 +1,13 @@
--- An image is the fields of a book in 8,744 bytes, whatever its version and counts: a header of 40 bytes, then 64 users and 256 trades in
--- the book's format. Where the parts of an image stand is said here alone. Assumes nothing.
+-- An image is the fields of a book in 9,512 bytes, whatever its version and counts: a header of 40 bytes, then 64 users of 68 bytes and 256
+-- trades in the book's format. Where the parts of an image stand is said here alone. Assumes nothing.
 use mathlib.Core.Path.{_≡_}
 use mathlib.Core.List.{List, _++_}
 use Prim.Native.Nat.{ℕ, _+_, _-_, _*_}
 use lib.ListN.{length, take, drop, replicate}
 use Rattle.rules.specs.Questions.{refusal, decided}
-use Rattle.book_format.specs.Book.{versionOf, userCount, headerSize, tradesAt}
+use Rattle.book_format.specs.Book.{versionOf, userCount, headerSize, tradesAt, userSize}
 use Rattle.book_format.specs.Questions.{aboutBytes, bookNumber}
+use Rattle.book_image.specs.Fitted.{refitted}
 
 -- ---- where the parts stand (abbreviations, so that arithmetic knows the numbers)
 
@@ -14,9 +15,13 @@ use Rattle.book_format.specs.Questions.{aboutBytes, bookNumber}
 abbrev pub imageUsersAt : ℕ
 imageUsersAt = 40
 
+-- the bytes of a user's record, the longest
+abbrev pub imageUserSize : ℕ
+imageUserSize = 68
+
 -- the trades, behind the room for 64 users
 abbrev pub imageTradesAt : ℕ
-imageTradesAt = imageUsersAt + 56 * 64
+imageTradesAt = imageUsersAt + imageUserSize * 64
 
 -- the length, with the room for 256 trades
 abbrev pub imageSize : ℕ
@@ -32,9 +37,10 @@ padded room s = s ++ replicate (room - length s) 0
 abbrev pub imageHeader : List ℕ → List ℕ
 imageHeader s = padded imageUsersAt (take (headerSize (versionOf s)) s)
 
--- users and trades: "records past the counts are 0"
+-- the users' records, each with 0 behind it where the version's is shorter; users and trades: "records past the counts are 0"
 abbrev pub imageUsers : List ℕ → List ℕ
-imageUsers s = padded (imageTradesAt - imageUsersAt) (take (56 * userCount s) (drop (headerSize (versionOf s)) s))
+imageUsers s =
+    padded (imageTradesAt - imageUsersAt) (refitted imageUserSize (userSize (versionOf s)) (userCount s) (drop (headerSize (versionOf s)) s))
 
 abbrev pub imageTrades : List ℕ → List ℕ
 imageTrades s = padded (imageSize - imageTradesAt) (drop (tradesAt s) s)

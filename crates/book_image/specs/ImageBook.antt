@@ -1,4 +1,4 @@
--- The book of an image's fields: of its header those that its version has, of its 64 users and 256 trades those up to the counts. Assumes nothing.
+-- The book of an image's fields: of its header and its users' records those that its version has, of its 64 users and 256 trades those up to the counts. Assumes nothing.
 use mathlib.Core.Path.{_≡_}
 use mathlib.Core.List.{List}
 use Prim.Native.Nat.{ℕ, _≤_}
@@ -7,15 +7,19 @@ use Rattle.rules.specs.Book as model
 use Rattle.fields.specs.Layout.{recordsOf}
 use Rattle.book_records.specs.User.{userOf}
 use Rattle.book_records.specs.Trade.{tradeOf}
-use Rattle.book_format.specs.Book.{userCount, tradeCount, bookOf}
-use Rattle.book_image.specs.Image.{imageUsersAt, imageTradesAt, imageSize}
+use Rattle.book_format.specs.Book.{userCount, tradeCount, userSize, versionOf, bookOf}
+use Rattle.book_image.specs.Image.{imageUsersAt, imageUserSize, imageTradesAt, imageSize}
+
+-- the user of a record in an image, in a version: what the version lacks is 0 whatever stands there
+unfoldable pub imageUserOf : ℕ → List ℕ → model.User
+imageUserOf version c = userOf (take (userSize version) c)
 
 -- the book that an image's fields are: its header, where what a version lacks is 0 whatever stands there, and its records up to the counts
 unfoldable pub imageBook : List ℕ → model.Book
 imageBook s =
     record {
       header = bookOf s .header;
-      users = take (userCount s) (recordsOf 56 userOf 64 (drop imageUsersAt s));
+      users = take (userCount s) (recordsOf imageUserSize (imageUserOf (versionOf s)) 64 (drop imageUsersAt s));
       trades = take (tradeCount s) (recordsOf 20 tradeOf 256 (drop imageTradesAt s));
     }
 

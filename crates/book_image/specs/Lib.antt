@@ -1,3 +1,5 @@
+-- Records cut or filled up to another size.
+pub mod Fitted
 -- The fields of a book as bytes of one length.
 pub mod Image
 -- Records with a field as 0.

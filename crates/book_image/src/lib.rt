@@ -1,32 +1,36 @@
-// The fields of a book as an image of 8,744 bytes, for callers that have no struct `Book`: a header of 40 bytes, 64 users and 256 trades in
-// the book's format, 0 past the header of the book's version and past the counts. A book is read into an image, and written from the fields
-// of one: the image is asked what the bytes of that book would be asked.
+// The fields of a book as an image of 9,512 bytes, for callers that have no struct `Book`: a header of 40 bytes, 64 users of 68 bytes and
+// 256 trades in the book's format, 0 past the header and the user records of the book's version and past the counts. A book is read into an
+// image, and written from the fields of one: the bytes of that book are asked what any bytes are asked.
 ghost use mathlib.Core.Path.{_≡_};
-ghost use Prim.Native.Nat.{_-_, _≤_, _+_, _*_};
+ghost use Prim.Native.Nat.{_-_, _≤_, _+_, _*_, min};
+ghost use lib.Dec.{T};
 ghost use lib.ListN.{length, replicate, take, drop};
 ghost use lib.Seq.{sets};
-ghost use Rattle.book_format.specs.Book.{lengthBy, versionOf, userCount, mark, tradeCount, bytesOf};
+ghost use Rattle.book_format.specs.Book.{lengthBy, versionOf, userCount, mark, tradeCount, userRecord, userSize, bytesOf};
+ghost use Rattle.rules.specs.Questions.{versionKnown};
 ghost use Rattle.book_format.specs.Questions.{Formed};
-ghost use Rattle.book_image.specs.Image.{padded, imageSize, imageOf, ImageRead};
+ghost use Rattle.book_image.specs.Image.{padded, imageUsersAt, imageUserSize, imageTradesAt, imageSize, imageOf, ImageRead};
 ghost use Rattle.fields.specs.Field.{setField};
 ghost use Rattle.fields.specs.Layout.{recordsOf, bytesOfRecords};
-ghost use Rattle.book_records.specs.User.{userOf, userBytes};
 ghost use Rattle.book_records.specs.Trade.{tradeOf, tradeBytes};
+ghost use Rattle.book_image.specs.Fitted.{refitted};
 ghost use Rattle.book_image.specs.Zeroed.{zeroedRecords};
 ghost use Rattle.book_questions.specs.Asked.{fieldsNumber};
 ghost use Rattle.book_value.specs.Written.{WrittenAs};
-ghost use Rattle.book_image.specs.ImageBook.{imageBook, CountsOf};
+ghost use Rattle.book_image.specs.ImageBook.{imageBook, imageUserOf, CountsOf};
 
 // ---- the parts of an image, the same in every version
 
 // Where the room for 64 users begins, behind a header of 40 bytes.
 const USERS_AT: usize = 40;
+// The bytes of a user's record, the longest of any version.
+const USER_SIZE: usize = 68;
 // Where the room for 256 trades begins, behind 64 users.
-const TRADES_AT: usize = 3624;
+const TRADES_AT: usize = 4392;
 // The length of an image, with 256 trades.
-const SIZE: usize = 8744;
+const SIZE: usize = 9512;
 
-// ---- a book read into an image
+// ---- parts filled up
 
 // Makes every byte of a part 0.
 fn clear(out: &mut [u8])
@@ -57,15 +61,89 @@ fn fill_part(image: &mut [u8], at: usize, end: usize, front: &[u8])
     fill(&mut image[at..end], front);
 }
 
+// ---- records of another size
+
+// The lesser of two sizes.
+fn least(a: usize, b: usize) -> usize
+    ensures { λ r. ⌜ r ≡ min a b ⌝ }
+{
+    if a < b {
+        return a;
+    }
+    b
+}
+
+// Writes the first `kept` bytes that stand from `from` on as `size` bytes from `to` on, with 0 behind them.
+fn fit(s: &[u8], from: usize, kept: usize, out: &mut [u8], to: usize, size: usize)
+    requires { ⌜ (from + kept ≤ length (now s)) × (to + size ≤ length (now out)) × (kept ≤ size) ⌝ }
+    ensures { λ _. ⌜ now (out .exit) ≡ sets (now (out .entry)) to (padded size (take kept (drop from (now (s .entry))))) ⌝ }
+{
+    fill(&mut out[to..to + size], &s[from..from + kept]);
+}
+
+// Writes the n records of `size` bytes that stand from `from` on as records of `new_size` bytes from `to` on: each cut, or with 0 behind.
+fn fit_each(
+    s: &[u8],
+    from: usize,
+    n: usize,
+    size: usize,
+    out: &mut [u8],
+    to: usize,
+    new_size: usize,
+)
+    requires { ⌜ (from + size * n ≤ length (now s)) × (to + «new_size» * n ≤ length (now out)) ⌝ }
+    ensures { λ _. ⌜ now (out .exit) ≡ sets (now (out .entry)) to (refitted «new_size» size n (drop from (now (s .entry)))) ⌝ }
+{
+    let kept = least(size, new_size);
+    let mut i = 0;
+    while i < n {
+        fit(s, from + size * i, kept, out, to + new_size * i, new_size);
+        i += 1;
+    }
+}
+
+// The same; records of the size that they are to have are one copy.
+pub fn fit_records(
+    s: &[u8],
+    from: usize,
+    n: usize,
+    size: usize,
+    out: &mut [u8],
+    to: usize,
+    new_size: usize,
+)
+    requires { ⌜ (from + size * n ≤ length (now s)) × (to + «new_size» * n ≤ length (now out)) ⌝ }
+    ensures { λ _. ⌜ now (out .exit) ≡ sets (now (out .entry)) to (refitted «new_size» size n (drop from (now (s .entry)))) ⌝ }
+{
+    if size == new_size {
+        let k = size * n;
+        fit(s, from, k, out, to, k);
+    } else {
+        fit_each(s, from, n, size, out, to, new_size);
+    }
+}
+
+// ---- a book read into an image
+
+// Fills the room of an image's users with n records of a size that stand from `from` on.
+fn fill_users(image: &mut [u8], s: &[u8], from: usize, n: usize, size: usize)
+    requires { ⌜ (n ≤ 64) × (from + size * n ≤ length (now s)) × (length (now image) ≡ imageSize) ⌝ }
+    ensures { λ _. ⌜ now (image .exit) ≡ sets (now (image .entry)) imageUsersAt (padded (imageTradesAt - imageUsersAt) (refitted imageUserSize size n (drop from (now (s .entry))))) ⌝ }
+{
+    fit_records(s, from, n, size, image, USERS_AT, USER_SIZE);
+    clear(&mut image[USERS_AT + USER_SIZE * n..TRADES_AT]);
+}
+
 // Copies the bytes of a book of n users to an image.
 fn copy_book(image: &mut [u8], s: &[u8], n: usize)
     requires { ⌜ Formed (now s) × (n ≡ userCount (now s)) × (length (now image) ≡ imageSize) ⌝ }
     ensures { λ _. ⌜ now (image .exit) ≡ imageOf (now (s .entry)) ⌝ }
 {
     let from = book_format::users_offset(s);
-    let at = from + 56 * n;
+    let size = book_format::users_size(s);
+    let at = from + size * n;
     fill_part(image, 0, USERS_AT, &s[..from]);
-    fill_part(image, USERS_AT, TRADES_AT, &s[from..at]);
+    fill_users(image, s, from, n, size);
     fill_part(image, TRADES_AT, SIZE, &s[at..]);
 }
 
@@ -127,13 +205,14 @@ fn copy_records(s: &[u8], out: &mut [u8], n: usize, size: usize, offset: usize, 
     clear_fields(out, n, size, offset, width);
 }
 
-// Writes the n users that stand from byte `from` on to another part, from its byte `at` on.
-pub fn copy_users(s: &[u8], from: usize, n: usize, out: &mut [u8], at: usize)
-    requires { ⌜ (from + 56 * n ≤ length (now s)) × (at + 56 * n ≤ length (now out)) ⌝ }
-    ensures { λ _. ⌜ now (out .exit) ≡ sets (now (out .entry)) at (bytesOfRecords userBytes (recordsOf 56 userOf n (drop from (now (s .entry))))) ⌝ }
+// Writes the n users of an image that stand from byte `from` on to another part, from its byte `at` on, in records of a version.
+pub fn copy_users(s: &[u8], from: usize, n: usize, out: &mut [u8], at: usize, version: u16)
+    requires { ⌜ (from + imageUserSize * n ≤ length (now s)) × (at + userSize version * n ≤ length (now out)) ⌝ }
+    ensures { λ _. ⌜ now (out .exit) ≡ sets (now (out .entry)) at (bytesOfRecords (userRecord version) (recordsOf imageUserSize (imageUserOf version) n (drop from (now (s .entry))))) ⌝ }
 {
-    let size = 56 * n;
-    copy_records(&s[from..from + size], &mut out[at..at + size], n, 56, 5, 3);
+    let size = book_format::user_size(version);
+    fit_records(s, from, n, USER_SIZE, out, at, size);
+    clear_fields(&mut out[at..at + size * n], n, size, 5, 3);
 }
 
 // Writes the m trades that stand from byte `from` on to another part, from its byte `at` on.
@@ -147,43 +226,38 @@ pub fn copy_trades(s: &[u8], from: usize, m: usize, out: &mut [u8], at: usize)
 
 // ---- a book written from an image
 
-// The number of the first of the questions 4 to 7 that the book of an image's fields would fail in bytes, 0 where it fails none; neither
-// the mark of the image nor its zero bytes are looked at.
-fn fields_number(image: &[u8], n: usize, m: usize) -> u32
-    requires { ⌜ CountsOf (now image) n m ⌝ }
-    ensures { λ r. ⌜ r ≡ fieldsNumber (bytesOf (imageBook (now (image .entry)))) ⌝ }
-{
-    let prices = book_header::read_prices(image);
-    let version = book_format::version(image);
-    if !book_header::header_valid(version, fields::get_u32(image, 8), prices) {
-        return 4;
-    }
-    // The zero bytes of an image are not looked at: they are taken for 0, as they are written.
-    let zeros = true;
-    let mut sellers = [0u8; 256];
-    let mut buyers = [0u8; 256];
-    book_questions::records_number(
-        image,
-        USERS_AT,
-        n,
-        TRADES_AT,
-        m,
-        zeros,
-        zeros,
-        &mut sellers,
-        &mut buyers,
-    )
-}
-
 // Writes the book of an image's fields to a part of its length.
 fn write_fields(image: &[u8], n: usize, m: usize, out: &mut [u8])
     requires { ⌜ CountsOf (now image) n m × (length (now out) ≡ lengthBy (versionOf (now image)) n m) ⌝ }
     ensures { λ _. ⌜ now (out .exit) ≡ bytesOf (imageBook (now (image .entry))) ⌝ }
 {
-    let at = book_format::users_offset(image);
+    let version = book_format::version(image);
+    let at = book_format::header_size(version);
+    let size = book_format::user_size(version);
     copy_header(image, at, out);
-    copy_users(image, USERS_AT, n, out, at);
-    copy_trades(image, TRADES_AT, m, out, at + 56 * n);
+    copy_users(image, USERS_AT, n, out, at, version);
+    copy_trades(image, TRADES_AT, m, out, at + size * n);
+}
+
+// The number of the first of the questions 4 to 7 that the bytes of the book of an image's fields fail, 0 where they fail none; they are
+// written to a part lent for it. Neither the mark of the image nor its zero bytes are looked at.
+fn ask_in(scratch: &mut [u8], image: &[u8], n: usize, m: usize, len: usize) -> u32
+    requires { ⌜ CountsOf (now image) n m × T (versionKnown (versionOf (now image))) × (len ≡ lengthBy (versionOf (now image)) n m) × (len ≤ length (now scratch)) ⌝ }
+    ensures { λ r. ⌜ r ≡ fieldsNumber (bytesOf (imageBook (now (image .entry)))) ⌝ }
+{
+    write_fields(image, n, m, &mut scratch[..len]);
+    let mut sellers = [0u8; 256];
+    let mut buyers = [0u8; 256];
+    book_questions::fields_number(&scratch[..len], &mut sellers, &mut buyers)
+}
+
+// The same, with a place of its own to write to.
+fn ask_written(image: &[u8], n: usize, m: usize, len: usize) -> u32
+    requires { ⌜ CountsOf (now image) n m × T (versionKnown (versionOf (now image))) × (len ≡ lengthBy (versionOf (now image)) n m) ⌝ }
+    ensures { λ r. ⌜ r ≡ fieldsNumber (bytesOf (imageBook (now (image .entry)))) ⌝ }
+{
+    let mut scratch = [0u8; SIZE];
+    ask_in(&mut scratch, image, n, m, len)
 }
 
 // Writes the book that an image's fields are to a part of exactly its length, and answers 0; or leaves the part and answers the first
@@ -202,12 +276,13 @@ pub fn write(image: &[u8], out: &mut [u8]) -> u32
     if !counted {
         return 3;
     }
-    if out.len() != book_format::book_length(version, n, m) {
+    let len = book_format::book_length(version, n, m);
+    if out.len() != len {
         return 3;
     }
-    let question = fields_number(image, n, m);
-    if question != 0 {
-        return question;
+    let asked = ask_written(image, n, m, len);
+    if asked != 0 {
+        return asked;
     }
     write_fields(image, n, m, out);
     0

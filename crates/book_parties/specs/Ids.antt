@@ -13,9 +13,9 @@ use Rattle.book_format.specs.Held.{Accepted}
 use Rattle.book_records.specs.User.{userOf}
 use Rattle.book_records.specs.Trade.{tradeOf}
 
--- the n users that stand in bytes from an offset
-abbrev pub usersFrom : ℕ → ℕ → List ℕ → List User
-usersFrom at n s = recordsOf 56 userOf n (drop at s)
+-- the n users, in records of a size, that stand in bytes from an offset
+abbrev pub usersFrom : ℕ → ℕ → ℕ → List ℕ → List User
+usersFrom size at n s = recordsOf size userOf n (drop at s)
 
 -- the m trades
 abbrev pub tradesFrom : ℕ → ℕ → List ℕ → List Trade

@@ -11,13 +11,13 @@ use lib.Seq.{drop-drop, take-all}
 use Rattle.rules.specs.Areas.{Prices}
 use Rattle.rules.specs.Book.{User, Trade}
 use Rattle.base.specs.Lists.{all}
-use Rattle.rules.specs.Questions.{headerValid, numberOf, positionsValid, refusal, tradeValid}
-use Rattle.base.proofs.Tests.{and-r}
+use Rattle.rules.specs.Questions.{groupsValid, headerValid, managersValid, numberOf, positionsValid, refusal, tradeValid, usersValid}
+use Rattle.base.proofs.Tests.{and-l, and-r}
 use Rattle.fields.specs.Field.{field}
 use Rattle.fields.specs.Layout.{recordsOf}
 use Rattle.book_records.specs.Trade.{tradeOf, tradeZeros}
 use Rattle.book_records.specs.User.{userOf, userZeros}
-use Rattle.book_format.proofs.Offsets.{trades-there, users-end, users-there}
+use Rattle.book_format.proofs.Offsets.{trades-there, user-range, users-end, users-there}
 use Rattle.book_format.specs.Book.{bookOf, headerSize, pricesOf, tradeCount, tradesAt, tradesOf, userCount, userSize, usersOf, versionOf}
 use Rattle.book_format.specs.Questions.{Formed, aboutFields, aboutForm, formNumber, marked, sized, tradeZerosValid, userZerosValid, versioned}
 use Rattle.book_parties.specs.Ids.{usersFrom, tradesFrom, idsOf}
@@ -25,7 +25,7 @@ use Rattle.book_header.specs.Zeros.{zerosIn}
 use Rattle.book_sums.specs.Sums.{placesOf}
 use Rattle.book_sums.specs.Twelve.{Twelve, TwelveOf, Low}
 use Rattle.book_sums.proofs.Twelve.{twelve-of}
-use Rattle.book_questions.specs.Asked.{UsersAsked, TradesAsked, RecordsIn, RecordsAsked, FieldsPlaced, AskedOf, Summed, SumsFound, PartiesFound, pastSix, tradeAmong, recordsNumber, fieldsNumber}
+use Rattle.book_questions.specs.Asked.{allValid, UsersAsked, TradesAsked, RecordsIn, RecordsAsked, FieldsPlaced, AskedOf, Summed, SumsFound, PartiesFound, pastSix, tradeAmong, recordsNumber, fieldsNumber}
 use Rattle.book_questions.proofs.Known.{all-tradeAmong, all-parties, valid-rising}
 
 -- ---- 5 to 7
@@ -54,9 +54,9 @@ sums-told {number = number} summed e = let past : T (pastSix number) = past-none
     past-none : {k : ℕ} → k ≡ 0 → T (pastSix k)
     past-none h = rw h tt
 
-module _ {us : List User} {ts : List Trade} {n : ℕ} {valid : Bool} {ids sellers buyers : List ℕ} (users : UsersAsked us n valid ids) where
+module _ (version : ℕ) {us : List User} {ts : List Trade} {n : ℕ} {valid : Bool} {ids sellers buyers : List ℕ} (users : UsersAsked us (allValid version us) n valid ids) where
   -- question 5 is answered by no
-  pub records-5 : {userZeros tradeZeros : Bool} → (userZeros && valid) ≡ false → RecordsAsked userZeros tradeZeros us ts 5 sellers buyers
+  pub records-5 : {userZeros tradeZeros : Bool} → (userZeros && valid) ≡ false → RecordsAsked version userZeros tradeZeros us ts 5 sellers buyers
   unfolding recordsNumber refusal numberOf
   records-5 {userZeros} h = record { asked = rw (and-same userZeros (users .answer) h); placed = λ e. absurd (omega arith) }
 
@@ -68,7 +68,7 @@ module _ {us : List User} {ts : List Trade} {n : ℕ} {valid : Bool} {ids seller
     -- the sums are what the users sold and bought: question 7 can be asked
     pub records-sums : T valid → T allowed → TwelveOf us ts sums
     records-sums u t =
-        twelve-of us ts (valid-rising us (rw (← users .answer) u)) (all-parties (idsOf us) ts (rw (← users .listed u, ← trades .answer) t))
+        twelve-of us ts (valid-rising us (and-l (usersValid us) (all (managersValid version us) us) (rw (← users .answer) u))) (all-parties (idsOf us) ts (rw (← users .listed u, ← trades .answer) t))
         (subst (λ (xs : List ℕ). Twelve (placesOf xs (λ r. r .seller) ts) (placesOf xs (λ r. r .buyer) ts) ts 25600000 sums) (users .listed u) (trades .twelve t))
 
     -- and they are told, whatever it gives
@@ -78,7 +78,7 @@ module _ {us : List User} {ts : List Trade} {n : ℕ} {valid : Bool} {ids seller
 
     module _ {userZeros tradeZeros : Bool} (u : (userZeros && valid) ≡ true) where
       -- question 6 is answered by no
-      pub records-6 : (tradeZeros && allowed) ≡ false → RecordsAsked userZeros tradeZeros us ts 6 sellers buyers
+      pub records-6 : (tradeZeros && allowed) ≡ false → RecordsAsked version userZeros tradeZeros us ts 6 sellers buyers
       unfolding recordsNumber refusal numberOf
       records-6 h =
           record {
@@ -88,7 +88,7 @@ module _ {us : List User} {ts : List Trade} {n : ℕ} {valid : Bool} {ids seller
 
       module _ {right : Bool} (t : (tradeZeros && allowed) ≡ true) (e : right ≡ all (positionsValid ts) us) where
         -- question 7 is answered by no
-        pub records-7 : right ≡ false → RecordsAsked userZeros tradeZeros us ts 7 sellers buyers
+        pub records-7 : right ≡ false → RecordsAsked version userZeros tradeZeros us ts 7 sellers buyers
         unfolding recordsNumber refusal numberOf
         records-7 h =
             record {
@@ -97,7 +97,7 @@ module _ {us : List User} {ts : List Trade} {n : ℕ} {valid : Bool} {ids seller
             }
 
         -- none is
-        pub records-0 : right ≡ true → RecordsAsked userZeros tradeZeros us ts 0 sellers buyers
+        pub records-0 : right ≡ true → RecordsAsked version userZeros tradeZeros us ts 0 sellers buyers
         unfolding recordsNumber refusal numberOf
         records-0 h =
             record {
@@ -113,8 +113,8 @@ module _ (s : List ℕ) (at : ℕ) where
   part-all = take-all (length s - at) (drop at s) (rw length-drop (omega arith))
 
   -- the users that it begins with
-  same-users : (n : ℕ) → usersFrom 0 n (take (length s - at) (drop at s)) ≡ usersFrom at n s
-  same-users n = ap (recordsOf 56 userOf n) part-all
+  same-users : (size n : ℕ) → usersFrom size 0 n (take (length s - at) (drop at s)) ≡ usersFrom size at n s
+  same-users size n = ap (recordsOf size userOf n) part-all
 
   module _ (to : ℕ) (behind : at ≤ to) where
     -- and the trades in it
@@ -123,35 +123,37 @@ module _ (s : List ℕ) (at : ℕ) where
         let k : at + (to - at) ≡ to = omega arith in
         ap (recordsOf 20 tradeOf m) (ap (drop (to - at)) part-all ∙ drop-drop (to - at) at s ∙ ap (λ (i : ℕ). drop i s) k)
 
-    pub records-within : {n m : ℕ} → RecordsIn at n to m s → RecordsIn 0 n (to - at) m (take (length s - at) (drop at s))
+    pub records-within : {size n m : ℕ} → RecordsIn size at n to m s → RecordsIn size 0 n (to - at) m (take (length s - at) (drop at s))
     records-within r =
         record {
           few = r .few;
           many = r .many;
+          wide = r .wide;
           users = rw (part-all, length-drop) (omega (arith, r .users));
           trades = rw (part-all, length-drop) (omega (arith, r .trades));
         }
 
     -- so what is asked of it is asked of them
-    pub records-from : (n m : ℕ) {u t : Bool} {r : ℕ} {sellers buyers : List ℕ}
-        → RecordsAsked u t (usersFrom 0 n (take (length s - at) (drop at s))) (tradesFrom (to - at) m (take (length s - at) (drop at s))) r sellers buyers
-        → RecordsAsked u t (usersFrom at n s) (tradesFrom to m s) r sellers buyers
-    records-from n m h = rw (← same-users n, ← same-trades m) h
+    pub records-from : (version size n m : ℕ) {u t : Bool} {r : ℕ} {sellers buyers : List ℕ}
+        → RecordsAsked version u t (usersFrom size 0 n (take (length s - at) (drop at s))) (tradesFrom (to - at) m (take (length s - at) (drop at s))) r sellers buyers
+        → RecordsAsked version u t (usersFrom size at n s) (tradesFrom to m s) r sellers buyers
+    records-from version size n m h = rw (← same-users size n, ← same-trades m) h
 
-    pub summed-from : (n m : ℕ) {r read : ℕ} {sums : List ℕ}
-        → Summed (usersFrom 0 n (take (length s - at) (drop at s))) (tradesFrom (to - at) m (take (length s - at) (drop at s))) m r read sums
-        → Summed (usersFrom at n s) (tradesFrom to m s) m r read sums
-    summed-from n m h = rw (← same-users n, ← same-trades m) h
+    pub summed-from : (size n m : ℕ) {r read : ℕ} {sums : List ℕ}
+        → Summed (usersFrom size 0 n (take (length s - at) (drop at s))) (tradesFrom (to - at) m (take (length s - at) (drop at s))) m r read sums
+        → Summed (usersFrom size at n s) (tradesFrom to m s) m r read sums
+    summed-from size n m h = rw (← same-users size n, ← same-trades m) h
 
 -- ---- 4 to 7 of bytes
 
 -- users and trades of bytes of the right form stand in them
-pub formed-bytes : {s : List ℕ} {n m at to : ℕ} → Formed s → n ≡ userCount s → m ≡ tradeCount s → at ≡ headerSize (versionOf s) → to ≡ tradesAt s → RecordsIn at n to m s
-formed-bytes {s} form e f begin behind =
+pub formed-bytes : {s : List ℕ} {n m at to size : ℕ} → Formed s → n ≡ userCount s → m ≡ tradeCount s → at ≡ headerSize (versionOf s) → size ≡ userSize (versionOf s) → to ≡ tradesAt s → RecordsIn size at n to m s
+formed-bytes {s} form e f begin sized behind =
     record {
       few = omega (arith, form .users);
       many = omega (arith, form .trades);
-      users = omega (arith, form .whole, users-end s begin e);
+      wide = omega (arith, sized, user-range (versionOf s));
+      users = omega (arith, form .whole, users-end s begin sized e);
       trades = omega (arith, form .whole, behind);
     }
 
@@ -167,20 +169,20 @@ module _ (s : List ℕ) {version date : ℕ} {prices : Prices} {valid : Bool} (v
   fields-4 h = record { asked = rw (sym header-answer ∙ h); placed = λ f. absurd (omega arith) }
 
   -- it is yes: the number is that of the users and trades
-  pub fields-rest : {n m at to r : ℕ} {userZeros tradeZeros : Bool} {sellers buyers : List ℕ} → valid ≡ true → n ≡ userCount s → m ≡ tradeCount s → at ≡ headerSize (versionOf s) → to ≡ tradesAt s
-      → userZeros ≡ zerosIn (λ c. field 3 5 c) 56 n (drop at s) → tradeZeros ≡ zerosIn (λ c. field 1 11 c) 20 m (drop to s)
-      → RecordsAsked userZeros tradeZeros (usersFrom at n s) (tradesFrom to m s) r sellers buyers → FieldsPlaced s r sellers buyers
-  unfolding fieldsNumber aboutFields refusal numberOf recordsNumber zerosIn userZerosValid tradeZerosValid userZeros tradeZeros usersOf tradesOf userSize
-  fields-rest h f g begin behind uz tz asked =
+  pub fields-rest : {n m at to size r : ℕ} {userZeros tradeZeros : Bool} {sellers buyers : List ℕ} → valid ≡ true → n ≡ userCount s → m ≡ tradeCount s → at ≡ headerSize (versionOf s) → size ≡ userSize (versionOf s) → to ≡ tradesAt s
+      → userZeros ≡ zerosIn (λ c. field 3 5 c) size n (drop at s) → tradeZeros ≡ zerosIn (λ c. field 1 11 c) 20 m (drop to s)
+      → RecordsAsked version userZeros tradeZeros (usersFrom size at n s) (tradesFrom to m s) r sellers buyers → FieldsPlaced s r sellers buyers
+  unfolding fieldsNumber aboutFields refusal numberOf recordsNumber zerosIn userZerosValid tradeZerosValid userZeros tradeZeros usersOf tradesOf bookOf groupsValid
+  fields-rest h f g begin sized behind uz tz asked =
       record {
-        asked = asked .asked ∙ rw (uz, tz, f, g, begin, behind, sym header-answer ∙ h);
-        placed = λ k. rw (← f, ← g, ← begin, ← behind) (asked .placed k);
+        asked = asked .asked ∙ rw (uz, tz, f, g, begin, sized, behind, v, sym header-answer ∙ h);
+        placed = λ k. rw (← f, ← g, ← begin, ← sized, ← behind) (asked .placed k);
       }
 
 -- so are the sums
-pub fields-summed : (s : List ℕ) {n m at to r read : ℕ} {sums : List ℕ} → n ≡ userCount s → m ≡ tradeCount s → at ≡ headerSize (versionOf s) → to ≡ tradesAt s
-    → Summed (usersFrom at n s) (tradesFrom to m s) m r read sums → Summed (usersOf s) (tradesOf s) (tradeCount s) r read sums
-fields-summed s f g begin behind w = rw (← users-there s begin f, ← trades-there s behind g, ← g) w
+pub fields-summed : (s : List ℕ) {n m at to size r read : ℕ} {sums : List ℕ} → n ≡ userCount s → m ≡ tradeCount s → at ≡ headerSize (versionOf s) → size ≡ userSize (versionOf s) → to ≡ tradesAt s
+    → Summed (usersFrom size at n s) (tradesFrom to m s) m r read sums → Summed (usersOf s) (tradesOf s) (tradeCount s) r read sums
+fields-summed s f g begin sized behind w = rw (← users-there s begin sized f, ← trades-there s behind g, ← g) w
 
 -- the number of a form that is refused is below 4
 pub form-before : (s : List ℕ) {k : ℕ} → k ≡ formNumber s → (k ≡ 0 → ⊥) → T (pastSix k) → ⊥

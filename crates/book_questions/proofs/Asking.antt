@@ -1,6 +1,6 @@
 -- Users and trades in bytes that are asked one by one: where a walk over them stands, its start, a turn and its ends. Assumes nothing.
 use Prim.Native.Nat.{ℕ, _+_, _-_, _*_, _<_, _≤_}
-use mathlib.Core.Path.{_≡_, sym, ap, subst, _∙_}
+use mathlib.Core.Path.{_≡_, refl, sym, ap, subst, _∙_}
 use mathlib.Core.Bool.{Bool, true, false}
 use mathlib.Core.List.{List, []}
 use native.Mathlib.Omega.{arith}
@@ -8,87 +8,101 @@ use lib.Dec.{T, eqb}
 use borrow.Author.Tests.{eq-eqb, ne-eqb}
 use lib.ListN.{length, take, drop, getD, set, replicate, length-replicate}
 use Rattle.rules.specs.Book.{User, Trade}
-use Rattle.rules.specs.Questions.{userValid}
+use Rattle.rules.specs.Questions.{guaranteesValid, userValid, usersValid}
 use Rattle.fields.proofs.Records.{length-recordsOf}
-use Rattle.book_records.specs.User.{userOf}
+use Rattle.book_records.specs.User.{alone, userOf}
 use Rattle.book_records.specs.Trade.{tradeOf}
 use Rattle.book_parties.specs.Ids.{usersFrom, tradesFrom, idsOf, placeIn}
 use Rattle.book_questions.specs.Asked.{UsersAsked, TradesAsked, tradeAmong}
 use Rattle.book_sums.specs.Sums.{placesOf}
 use Rattle.book_sums.specs.Twelve.{added, Addable, Twelve}
 use Rattle.book_sums.proofs.Twelve.{twelve-none, addable-sold, addable-bought, twelve-next, twelve-all}
-use Rattle.book_sums.proofs.Walk.{record-at, Passed, passed-start, passed-no, passed-turn, passed-end}
+use Rattle.book_sums.proofs.Walk.{record-at, record-first, record-next, user-at, Passed, passed-start, passed-no, passed-turn, passed-end}
 use Rattle.book_questions.proofs.Loops.{UsersLeft, users-start, users-id-no, users-no, users-turn, users-end, Listed, listed-start, listed-turn, listed-end, rest-set}
 use Rattle.book_questions.proofs.Known.{valid-rising, tradeAmong-parties, tradeAmong-day, tradeAmong-small}
 
 -- ---- users
 
 -- where i of n users were valid, of which the next stands at a: those left have the whole answer, and the ids of those passed are listed
-pub record UsersWalk (s : List ℕ) (at n : ℕ) (ids : List ℕ) (last i a : ℕ) : Type 0 where
-  pub place : a ≡ at + 56 * i
+pub record UsersWalk (s : List ℕ) (size at n : ℕ) (ids : List ℕ) (last i a : ℕ) : Type 0 where
+  pub place : a ≡ at + size * i
   pub within : i ≤ n
-  pub left : UsersLeft (usersFrom at n s) last i
-  pub listed : Listed (λ u. u .party .id) (usersFrom at n s) 64 ids i
+  pub left : UsersLeft (usersFrom size at n s) last i
+  pub listed : Listed (λ u. u .party .id) (usersFrom size at n s) 64 ids i
   pub rest : drop i ids ≡ replicate (64 - i) 4294967295
 
 -- there are n users
-users-length : (s : List ℕ) (at n : ℕ) → length (usersFrom at n s) ≡ n
-users-length s at n = length-recordsOf 56 userOf n (drop at s)
+users-length : (s : List ℕ) (size at n : ℕ) → length (usersFrom size at n s) ≡ n
+users-length s size at n = length-recordsOf size userOf n (drop at s)
 
-module _ {s : List ℕ} {at n : ℕ} where
+module _ {s : List ℕ} {size at n : ℕ} where
   -- before the first
-  pub users-walk-start : {ids : List ℕ} → ids ≡ replicate 64 4294967295 → UsersWalk s at n ids 0 0 at
+  pub users-walk-start : {ids : List ℕ} → ids ≡ replicate 64 4294967295 → UsersWalk s size at n ids 0 0 at
   users-walk-start e =
       record {
-        place = omega arith;
+        place = record-first size at;
         within = omega arith;
-        left = users-start (usersFrom at n s);
+        left = users-start (usersFrom size at n s);
         listed = listed-start (ap length e ∙ length-replicate {A = ℕ} 64 4294967295);
         rest = e;
       }
 
-  module _ {ids : List ℕ} {last i a : ℕ} (walk : UsersWalk s at n ids last i a) (h : i < n) {u : User} (e : u ≡ userOf (take (a + 56 - a) (drop a s))) where
+  module _ {ids : List ℕ} {last i a : ℕ} (wide : 56 ≤ size) (walk : UsersWalk s size at n ids last i a) (h : i < n) {u : User} (e : u ≡ userOf (take (a + 56 - a) (drop a s))) where
     -- the next user is the one that was read
-    user-inside : i < length (usersFrom at n s)
-    user-inside = rw (users-length s at n) h
+    user-inside : i < length (usersFrom size at n s)
+    user-inside = rw (users-length s size at n) h
 
-    user-read : u ≡ getD (usersFrom at n s) i (userOf [])
-    user-read = record-at 56 userOf s at n i (userOf []) (walk .place) h e
+    user-read : u ≡ alone (getD (usersFrom size at n s) i (userOf []))
+    user-read = user-at size s at n i (userOf []) wide (walk .place) h e
+
+    -- whose id and fields are read
+    abbrev next : User
+    next = getD (usersFrom size at n s) i (userOf [])
+
+    same-id : u .party .id ≡ next .party .id
+    unfolding alone
+    same-id = ap (λ (x : User). x .party .id) user-read
+
+    same-valid : userValid u ≡ userValid next
+    unfolding alone userValid guaranteesValid
+    same-valid = ap userValid user-read
 
     -- its id is not above the last, or a field of it is not valid
-    pub users-walk-id-no : u .party .id ≤ last → UsersAsked (usersFrom at n s) n false ids
+    pub users-walk-id-no : u .party .id ≤ last → UsersAsked (usersFrom size at n s) (usersValid (usersFrom size at n s)) n false ids
     users-walk-id-no k =
-        record { answer = users-id-no (usersFrom at n s) (userOf []) (walk .left) user-inside user-read k; padded = λ t. absurd t; listed = λ t. absurd t }
+        record { answer = users-id-no (usersFrom size at n s) (userOf []) (walk .left) user-inside refl (omega (arith, k, same-id)); padded = λ t. absurd t; listed = λ t. absurd t }
 
-    pub users-walk-no : userValid u ≡ false → UsersAsked (usersFrom at n s) n false ids
+    pub users-walk-no : userValid u ≡ false → UsersAsked (usersFrom size at n s) (usersValid (usersFrom size at n s)) n false ids
     users-walk-no k =
-        record { answer = users-no (usersFrom at n s) (userOf []) (walk .left) user-inside user-read k; padded = λ t. absurd t; listed = λ t. absurd t }
+        record { answer = users-no (usersFrom size at n s) (userOf []) (walk .left) user-inside refl (sym same-valid ∙ k); padded = λ t. absurd t; listed = λ t. absurd t }
 
     -- its id is, and its fields are: its id is stored
-    pub users-walk-turn : n ≤ 64 → last < u .party .id → userValid u ≡ true → UsersWalk s at n (set ids i (u .party .id)) (u .party .id) (i + 1) (a + 56)
+    pub users-walk-turn : n ≤ 64 → last < u .party .id → userValid u ≡ true → UsersWalk s size at n (set ids i (u .party .id)) (u .party .id) (i + 1) (a + size)
     users-walk-turn few k v =
         record {
-          place = omega (arith, walk .place);
+          place = record-next size at i (walk .place);
           within = omega arith;
-          left = users-turn (usersFrom at n s) (userOf []) (walk .left) user-inside user-read k v;
-          listed = listed-turn (userOf []) (walk .listed) user-inside (omega arith) (ap (λ (x : User). x .party .id) user-read);
+          left =
+              subst (λ (id : ℕ). UsersLeft (usersFrom size at n s) id (i + 1)) (sym same-id)
+              (users-turn (usersFrom size at n s) (userOf []) (walk .left) user-inside refl (omega (arith, k, same-id)) (sym same-valid ∙ v));
+          listed = listed-turn (userOf []) (walk .listed) user-inside (omega arith) same-id;
           rest = rest-set 64 i 4294967295 (u .party .id) ids (walk .rest);
         }
 
   -- none is left
-  pub users-walk-end : {ids : List ℕ} {last i a : ℕ} → UsersWalk s at n ids last i a → n ≤ i → n ≤ 64 → UsersAsked (usersFrom at n s) n true ids
+  pub users-walk-end : {ids : List ℕ} {last i a : ℕ} → UsersWalk s size at n ids last i a → n ≤ i → n ≤ 64 → UsersAsked (usersFrom size at n s) (usersValid (usersFrom size at n s)) n true ids
   unfolding idsOf
   users-walk-end {ids} {last} {i} walk h few =
       let over : i ≡ n = omega (arith, walk .within) in
-      let past : length (usersFrom at n s) ≤ i = rw (users-length s at n) h in
-      let valid = users-end (usersFrom at n s) (walk .left) past in
-      let ids-are : take n ids ≡ idsOf (usersFrom at n s) = rw over at (listed-end (walk .listed) past) in
+      let past : length (usersFrom size at n s) ≤ i = rw (users-length s size at n) h in
+      let valid = users-end (usersFrom size at n s) (walk .left) past in
+      let ids-are : take n ids ≡ idsOf (usersFrom size at n s) = rw over at (listed-end (walk .listed) past) in
       record {
         answer = valid;
         padded = λ t. record {
           full = walk .listed .full;
           few = few;
-          rising = rw ids-are (valid-rising (usersFrom at n s) (rw (← valid) tt));
+          rising = rw ids-are (valid-rising (usersFrom size at n s) (rw (← valid) tt));
           rest = rw over at (walk .rest);
         };
         listed = λ t. ids-are;

@@ -3,3 +3,4 @@ pub mod Loops
 pub mod Known
 pub mod Asked
 pub mod Asking
+pub mod Managers

@@ -5,23 +5,47 @@ use mathlib.Core.List.{List, [], _∷_}
 use Prim.Native.Nat.{ℕ, _+_, _*_, _≤_}
 use lib.Dec.{T, eqb}
 use lib.ListN.{length, take}
-use Rattle.rules.specs.Book.{User, Trade}
+use Rattle.rules.specs.Book.{User, Trade, managerIn}
 use Rattle.base.specs.Lists.{all}
-use Rattle.rules.specs.Questions.{refusal, numberOf, usersValid, tradeValid, positionsValid}
+use Rattle.rules.specs.Questions.{refusal, numberOf, managersValid, manages, usersValid, tradeValid, positionsValid}
 use Rattle.book_valid.specs.Given.{tradeValidGiven}
-use Rattle.book_format.specs.Book.{usersOf, tradesOf}
+use Rattle.book_format.specs.Book.{userSize, usersOf, tradesOf}
 use Rattle.book_format.specs.Questions.{aboutFields, bookNumber}
-use Rattle.book_parties.specs.Ids.{idsOf, among, Padded, Placed}
+use Rattle.book_parties.specs.Ids.{idsOf, among, usersFrom, Padded, Placed}
 use Rattle.book_sums.specs.Sums.{placesOf}
 use Rattle.book_sums.specs.Twelve.{Twelve, TwelveOf, Low}
 
 -- ---- one question
 
--- users that were asked question 5: the answer, and where it is yes, a list of their ids
-pub record UsersAsked (us : List User) (n : ℕ) (valid : Bool) (ids : List ℕ) : Type 0 where
-  pub answer : valid ≡ usersValid us
+-- question 5 of users, in a version: their fields, positions apart, and their managers
+abbrev pub allValid : ℕ → List User → Bool
+allValid version us = usersValid us && all (managersValid version us) us
+
+-- the id of a manager in an area, in a version that has managers
+unfoldable pub managerGiven : List User → User → ℕ → Bool
+managerGiven us u area = let manager = managerIn (u .party .managers) area in eqb manager 0 || manages us manager u area
+
+-- of each area
+unfoldable pub managersGiven : List User → User → Bool
+managersGiven us u = managerGiven us u 0 && (managerGiven us u 1 && managerGiven us u 2)
+
+-- users that were asked a question: the answer, and where it is yes, a list of their ids
+pub record UsersAsked (us : List User) (test : Bool) (n : ℕ) (valid : Bool) (ids : List ℕ) : Type 0 where
+  pub answer : valid ≡ test
   pub padded : T valid → Padded ids n
   pub listed : T valid → take n ids ≡ idsOf us
+
+-- bytes begin with n users in records of 68 bytes, which have these ids
+pub record GroupsIn (s : List ℕ) (n : ℕ) (ids : List ℕ) : Type 0 where
+  pub padded : Padded ids n
+  pub users : 68 * n ≤ length s
+  pub listed : take n ids ≡ idsOf (usersFrom 68 0 n s)
+
+-- bytes begin with n users in the records of a version, which have these ids
+pub record GroupsAsked (s : List ℕ) (version n : ℕ) (ids : List ℕ) : Type 0 where
+  pub padded : Padded ids n
+  pub users : userSize version * n ≤ length s
+  pub listed : take n ids ≡ idsOf (usersFrom (userSize version) 0 n s)
 
 -- a trade is valid between users of these ids
 unfoldable pub tradeAmong : List ℕ → Trade → Bool
@@ -46,25 +70,26 @@ pub record Summed (us : List User) (ts : List Trade) (count number read : ℕ) (
 
 -- ---- 5 to 7
 
--- n users and m trades, at most 64 and 256, stand in bytes from two offsets
-pub record RecordsIn (users-at n trades-at m : ℕ) (s : List ℕ) : Type 0 where
+-- n users, in records of a size, and m trades, at most 64 and 256, stand in bytes from two offsets
+pub record RecordsIn (size users-at n trades-at m : ℕ) (s : List ℕ) : Type 0 where
   pub few : n ≤ 64
   pub many : m ≤ 256
-  pub users : users-at + 56 * n ≤ length s
+  pub wide : 56 ≤ size
+  pub users : users-at + size * n ≤ length s
   pub trades : trades-at + 20 * m ≤ length s
 
--- the number of the first of the questions 5 to 7 that users and trades fail, 0 where they fail none, given whether their zero bytes are 0
-unfoldable pub recordsNumber : Bool → Bool → List User → List Trade → ℕ
-recordsNumber userZeros tradeZeros us ts =
+-- in a version, the number of the first of the questions 5 to 7 that users and trades fail, 0 where they fail none, given whether their zero bytes are 0
+unfoldable pub recordsNumber : ℕ → Bool → Bool → List User → List Trade → ℕ
+recordsNumber version userZeros tradeZeros us ts =
     numberOf
     (refusal
-    (record { number = 5; holds = userZeros && usersValid us }
+    (record { number = 5; holds = userZeros && allValid version us }
     ∷ (record { number = 6; holds = tradeZeros && all (tradeValid us) ts }
     ∷ (record { number = 7; holds = all (positionsValid ts) us } ∷ []))))
 
 -- users and trades that were asked the questions 5 to 7: the number, and the places of the parties where no question refuses
-pub record RecordsAsked (userZeros tradeZeros : Bool) (us : List User) (ts : List Trade) (number : ℕ) (sellers buyers : List ℕ) : Type 0 where
-  pub asked : number ≡ recordsNumber userZeros tradeZeros us ts
+pub record RecordsAsked (version : ℕ) (userZeros tradeZeros : Bool) (us : List User) (ts : List Trade) (number : ℕ) (sellers buyers : List ℕ) : Type 0 where
+  pub asked : number ≡ recordsNumber version userZeros tradeZeros us ts
   pub placed : number ≡ 0 → Placed us ts sellers buyers
 
 -- ---- 4 to 7

@@ -2,13 +2,17 @@
 // there is none. One walk over the trades serves the questions 6 and 7, and tells for every user what was sold and bought in the three
 // areas, for d and for d+1.
 ghost use mathlib.Core.Path.{_≡_};
-ghost use Prim.Native.Nat.{_+_, _*_, _≤_};
+ghost use Prim.Native.Nat.{_+_, _*_, _≤_, _<_};
 ghost use lib.Dec.{eqb};
-ghost use lib.ListN.{length, take, replicate};
-ghost use Rattle.book_format.specs.Book.{usersOf, tradesOf, tradeCount};
+ghost use lib.ListN.{getD, length, take, replicate};
+ghost use Rattle.base.specs.Lists.{all};
+ghost use Rattle.rules.specs.Book.{nobody};
+ghost use Rattle.rules.specs.Questions.{managersValid, usersValid};
+ghost use Rattle.book_format.specs.Book.{userSize, usersOf, tradesOf, tradeCount};
 ghost use Rattle.book_format.specs.Questions.{Formed, bookNumber};
 ghost use Rattle.book_parties.specs.Ids.{usersFrom, tradesFrom, Padded};
-ghost use Rattle.book_questions.specs.Asked.{UsersAsked, TradesAsked, RecordsIn, RecordsAsked, FieldsPlaced, AskedOf, Summed};
+ghost use Rattle.book_questions.specs.Asked.{allValid, managerGiven, managersGiven, GroupsIn, GroupsAsked, UsersAsked};
+ghost use Rattle.book_questions.specs.Asked.{TradesAsked, RecordsIn, RecordsAsked, FieldsPlaced, AskedOf, Summed};
 
 // What was asked: the number of the first question that is answered by no, 0 where there is none, and how many trades were read.
 pub struct Answer {
@@ -18,14 +22,15 @@ pub struct Answer {
 
 // ---- 5
 
-// Do the ids of the n users from `at` on rise from above 0, and is every field valid, positions apart? Their ids are listed where it is so.
-fn users_valid(s: &[u8], at: usize, n: usize, ids: &mut [u32]) -> bool
-    requires { ⌜ (n ≤ 64) × (at + 56 * n ≤ length (now s)) × (now ids ≡ replicate 64 4294967295) ⌝ }
-    ensures { λ r. ⌜ UsersAsked (usersFrom at n (now (s .entry))) n r (now (ids .exit)) ⌝ }
+// Do the ids of the n users, in records of a size, that bytes begin with rise from above 0, and is every field valid, positions and
+// managers apart? Their ids are listed where it is so.
+fn fields_valid(s: &[u8], size: usize, n: usize, ids: &mut [u32]) -> bool
+    requires { ⌜ (n ≤ 64) × (56 ≤ size) × (size * n ≤ length (now s)) × (now ids ≡ replicate 64 4294967295) ⌝ }
+    ensures { λ r. ⌜ UsersAsked (usersFrom size 0 n (now (s .entry))) (usersValid (usersFrom size 0 n (now (s .entry)))) n r (now (ids .exit)) ⌝ }
 {
     let mut last = 0;
     let mut i = 0;
-    let mut a = at;
+    let mut a = 0;
     while i < n {
         let u = book_records::read_user(&s[a..a + 56]);
         if u.id <= last {
@@ -36,10 +41,74 @@ fn users_valid(s: &[u8], at: usize, n: usize, ids: &mut [u32]) -> bool
         }
         last = u.id;
         ids[i] = last;
-        a += 56;
+        a += size;
         i += 1;
     }
     true
+}
+
+// Is the manager in an area of the user at a place 0, or a shipper of the book other than the user, which is one too, and managed by nobody
+// there? The n users that bytes begin with have these ids.
+fn manager_valid(s: &[u8], n: usize, ids: &[u32], place: usize, area: usize) -> bool
+    requires { ⌜ GroupsIn (now s) n (now ids) × (place < n) × (area < 3) ⌝ }
+    ensures { λ r. ⌜ r ≡ managerGiven (usersFrom 68 0 n (now (s .entry))) (getD (usersFrom 68 0 n (now (s .entry))) place nobody) area ⌝ }
+{
+    let at = 68 * place;
+    let field = 56 + 4 * area;
+    let id = fields::get_u32(s, at + field);
+    if id == 0 {
+        return true;
+    }
+    let manager = book_parties::place_of(ids, n, id);
+    if n <= manager {
+        return false;
+    }
+    let there = 68 * manager;
+    let own = fields::get_u32(s, at);
+    let role = fields::get_u8(s, at + 4);
+    let manager_role = fields::get_u8(s, there + 4);
+    let managed = fields::get_u32(s, there + field);
+    (id != own) & (((role == 0) & (manager_role == 0)) & (managed == 0))
+}
+
+// Are the managers of the n users valid that bytes begin with, and that have these ids?
+fn managers_valid(s: &[u8], n: usize, ids: &[u32]) -> bool
+    requires { ⌜ GroupsIn (now s) n (now ids) ⌝ }
+    ensures { λ r. ⌜ r ≡ all (managersGiven (usersFrom 68 0 n (now (s .entry)))) (usersFrom 68 0 n (now (s .entry))) ⌝ }
+{
+    let mut i = 0;
+    while i < n {
+        let pvb = manager_valid(s, n, ids, i, 0);
+        let tvb = manager_valid(s, n, ids, i, 1);
+        let avb = manager_valid(s, n, ids, i, 2);
+        if !(pvb & (tvb & avb)) {
+            return false;
+        }
+        i += 1;
+    }
+    true
+}
+
+// The same in a version: one without managers has none that are not valid.
+fn groups_valid(s: &[u8], version: u16, n: usize, ids: &[u32]) -> bool
+    requires { ⌜ GroupsAsked (now s) version n (now ids) ⌝ }
+    ensures { λ r. ⌜ r ≡ all (managersValid version (usersFrom (userSize version) 0 n (now (s .entry)))) (usersFrom (userSize version) 0 n (now (s .entry))) ⌝ }
+{
+    if !book_format::has_managers(version) {
+        return true;
+    }
+    managers_valid(s, n, ids)
+}
+
+// Question 5 of the n users, in records of a size, that bytes begin with.
+fn users_valid(s: &[u8], version: u16, size: usize, n: usize, ids: &mut [u32]) -> bool
+    requires { ⌜ (size ≡ userSize version) × (n ≤ 64) × (size * n ≤ length (now s)) × (now ids ≡ replicate 64 4294967295) ⌝ }
+    ensures { λ r. ⌜ UsersAsked (usersFrom size 0 n (now (s .entry))) (allValid version (usersFrom size 0 n (now (s .entry)))) n r (now (ids .exit)) ⌝ }
+{
+    if !fields_valid(s, size, n, ids) {
+        return false;
+    }
+    groups_valid(s, version, n, ids)
 }
 
 // ---- 6
@@ -82,11 +151,14 @@ fn valid_trades(
 
 // ---- 5 to 7
 
-// Asks the questions 5 to 7 of the n users that bytes begin with and of the m trades from an offset, given whether their zero bytes are 0.
-// The places of the trades' parties are listed where they fail none, and the sums of the users told where they fail none before 7. The
-// bytes begin with the users, whatever stands before them in a book: so the walks have one offset less to keep.
+// Asks the questions 5 to 7 of the n users, in records of a version's size, that bytes begin with and of the m trades from an offset, given
+// whether their zero bytes are 0. The places of the trades' parties are listed where they fail none, and the sums of the users told where
+// they fail none before 7. The bytes begin with the users, whatever stands before them in a book: so the walks have one offset less to
+// keep.
 fn ask_records(
     s: &[u8],
+    version: u16,
+    size: usize,
     n: usize,
     trades_at: usize,
     m: usize,
@@ -96,13 +168,13 @@ fn ask_records(
     buyers: &mut [u8],
     sums: &mut [u32; 768],
 ) -> Answer
-    requires { ⌜ RecordsIn 0 n «trades_at» m (now s) ⌝ }
+    requires { ⌜ RecordsIn size 0 n «trades_at» m (now s) × (size ≡ userSize version) ⌝ }
     requires { ⌜ (length (now sellers) ≡ 256) × (length (now buyers) ≡ 256) × (now sums ≡ replicate 768 0) ⌝ }
-    ensures { λ r. ⌜ RecordsAsked «user_zeros» «trade_zeros» (usersFrom 0 n (now (s .entry))) (tradesFrom «trades_at» m (now (s .entry))) (r .number) (now (sellers .exit)) (now (buyers .exit)) ⌝ }
-    ensures { λ r. ⌜ Summed (usersFrom 0 n (now (s .entry))) (tradesFrom «trades_at» m (now (s .entry))) m (r .number) (r .read) (now (sums .exit)) ⌝ }
+    ensures { λ r. ⌜ RecordsAsked version «user_zeros» «trade_zeros» (usersFrom size 0 n (now (s .entry))) (tradesFrom «trades_at» m (now (s .entry))) (r .number) (now (sellers .exit)) (now (buyers .exit)) ⌝ }
+    ensures { λ r. ⌜ Summed (usersFrom size 0 n (now (s .entry))) (tradesFrom «trades_at» m (now (s .entry))) m (r .number) (r .read) (now (sums .exit)) ⌝ }
 {
     let mut ids = [0xffff_ffffu32; 64];
-    if !(user_zeros & users_valid(s, 0, n, &mut ids)) {
+    if !(user_zeros & users_valid(s, version, size, n, &mut ids)) {
         return Answer { number: 5, read: 0 };
     }
     let mut guesses = [0u8; 1024];
@@ -114,7 +186,7 @@ fn ask_records(
             read: read,
         };
     }
-    if !book_sums::positions_valid(s, 0, n, sums) {
+    if !book_sums::positions_valid(s, 0, size, n, sums) {
         return Answer {
             number: 7,
             read: read,
@@ -137,15 +209,19 @@ pub fn ask_fields(s: &[u8], sellers: &mut [u8], buyers: &mut [u8], sums: &mut [u
     let n = book_format::user_count(s) as usize;
     let m = book_format::trade_count(s) as usize;
     let prices = book_header::read_prices(s);
-    if !book_header::header_valid(book_format::version(s), fields::get_u32(s, 8), prices) {
+    let version = book_format::version(s);
+    if !book_header::header_valid(version, fields::get_u32(s, 8), prices) {
         return Answer { number: 4, read: 0 };
     }
+    let size = book_format::user_size(version);
     let users_at = book_format::users_offset(s);
     let trades_at = book_format::trades_offset(s, n);
-    let user_zeros = book_header::user_zeros_valid(s, users_at, n);
+    let user_zeros = book_header::user_zeros_valid(s, users_at, n, size);
     let trade_zeros = book_header::trade_zeros_valid(s, trades_at, m);
     ask_records(
         &s[users_at..],
+        version,
+        size,
         n,
         trades_at - users_at,
         m,
@@ -173,37 +249,6 @@ pub fn ask(s: &[u8], sellers: &mut [u8], buyers: &mut [u8], sums: &mut [u32; 768
 }
 
 // ---- without the sums
-
-// The number of the first of the questions 5 to 7 that the records fail, 0 where they fail none, and the places of the trades' parties.
-pub fn records_number(
-    s: &[u8],
-    users_at: usize,
-    n: usize,
-    trades_at: usize,
-    m: usize,
-    user_zeros: bool,
-    trade_zeros: bool,
-    sellers: &mut [u8],
-    buyers: &mut [u8],
-) -> u32
-    requires { ⌜ RecordsIn «users_at» n «trades_at» m (now s) × («users_at» ≤ «trades_at») ⌝ }
-    requires { ⌜ (length (now sellers) ≡ 256) × (length (now buyers) ≡ 256) ⌝ }
-    ensures { λ r. ⌜ RecordsAsked «user_zeros» «trade_zeros» (usersFrom «users_at» n (now (s .entry))) (tradesFrom «trades_at» m (now (s .entry))) r (now (sellers .exit)) (now (buyers .exit)) ⌝ }
-{
-    let mut sums = [0u32; 768];
-    let answer = ask_records(
-        &s[users_at..],
-        n,
-        trades_at - users_at,
-        m,
-        user_zeros,
-        trade_zeros,
-        sellers,
-        buyers,
-        &mut sums,
-    );
-    answer.number
-}
 
 // The number of the first of the questions 4 to 7 that is answered by no, 0 where there is none, and the places of the trades' parties.
 pub fn fields_number(s: &[u8], sellers: &mut [u8], buyers: &mut [u8]) -> u32

@@ -1,11 +1,12 @@
--- A user in 56 bytes, in the rules, and as the code's struct. Assumes nothing.
+-- A user in 56 bytes, with its managers in 68, in the rules, and as the code's struct. Assumes nothing.
+use mathlib.Core.Bool.{Bool, cond}
 use mathlib.Core.List.{List, [], _∷_, _++_}
 use Prim.Native.Nat.{ℕ, _+_, _*_, _<_, _≤_, _^_}
 use lib.IntN.{ℤ}
 use lib.ListN.{getD, replicate}
 use Rattle.base.specs.Parts.{posPart, negPart}
 use Rattle.rules.specs.Signed.{signedOf, bitsOf}
-use Rattle.rules.specs.Book.{PerArea}
+use Rattle.rules.specs.Book.{PerArea, Managers, unmanaged}
 use Rattle.rules.specs.Book as model
 use Rattle.fields.specs.Field.{field}
 use Rattle.fields.specs.Layout.{pack}
@@ -20,11 +21,21 @@ unfoldable pub amountsAt : ℕ → List ℕ → PerArea
 amountsAt at c =
     record { pvb = signedOf 32 (field 4 at c); tvb = signedOf 32 (field 4 (at + 4) c); avb = signedOf 32 (field 4 (at + 8) c) }
 
--- the user that 56 bytes hold
+-- "three 32-bit manager ids, one per area", from an offset
+unfoldable pub managersAt : ℕ → List ℕ → Managers
+managersAt at c = record { pvb = field 4 at c; tvb = field 4 (at + 4) c; avb = field 4 (at + 8) c }
+
+-- the user that a record holds; one of 56 bytes ends before the managers, so that these read 0
 unfoldable pub userOf : List ℕ → model.User
 userOf c =
     record {
-      party = record { id = field 4 0 c; role = field 1 4 c; charges = signedOf 64 (field 8 32 c); assigned = field 8 40 c };
+      party = record {
+        id = field 4 0 c;
+        role = field 1 4 c;
+        charges = signedOf 64 (field 8 32 c);
+        assigned = field 8 40 c;
+        managers = managersAt 56 c;
+      };
       physical = amountsAt 8 c;
       position = amountsAt 20 c;
       blocked = field 8 48 c;
@@ -54,9 +65,27 @@ userValues u =
     ∷ (amountValues (u .physical)
     ++ (amountValues (u .position) ++ (bitsOf 64 (u .party .charges) ∷ u .party .assigned ∷ u .blocked ∷ [])))
 
--- a user's 56 bytes
+-- a user's 56 bytes, without its managers
 unfoldable pub userBytes : model.User → List ℕ
 userBytes u = pack userWidths (userValues u)
+
+unfoldable pub managerWidths : List ℕ
+managerWidths = 4 ∷ 4 ∷ 4 ∷ []
+
+unfoldable pub managerValues : Managers → List ℕ
+managerValues ms = ms .pvb ∷ ms .tvb ∷ ms .avb ∷ []
+
+-- the 12 bytes of managers
+unfoldable pub managerBytes : Managers → List ℕ
+managerBytes ms = pack managerWidths (managerValues ms)
+
+-- "A record is then 68 bytes": by whether the version has managers
+unfoldable pub recordSize : Bool → ℕ
+recordSize managed = cond managed 68 56
+
+-- a user's record
+unfoldable pub recordBytes : Bool → model.User → List ℕ
+recordBytes managed u = userBytes u ++ cond managed (managerBytes (u .party .managers)) []
 
 -- ---- the code's struct
 
@@ -69,11 +98,27 @@ asAmounts v =
       avb = net (getD v 2 (record { 0 = 0 }));
     }
 
--- the user of the rules that a struct is
+-- the user without its managers: what the first 56 bytes hold
+unfoldable pub alone : model.User → model.User
+alone u =
+    record {
+      party = record {
+        id = u .party .id;
+        role = u .party .role;
+        charges = u .party .charges;
+        assigned = u .party .assigned;
+        managers = unmanaged;
+      };
+      physical = u .physical;
+      position = u .position;
+      blocked = u .blocked;
+    }
+
+-- the user of the rules that a struct is; its managers are kept apart
 unfoldable pub asUser : User → model.User
 asUser u =
     record {
-      party = record { id = u .id; role = u .role; charges = balance (u .charges); assigned = u .assigned .0 };
+      party = record { id = u .id; role = u .role; charges = balance (u .charges); assigned = u .assigned .0; managers = unmanaged };
       physical = asAmounts (u .physical);
       position = asAmounts (u .position);
       blocked = u .blocked .0;
@@ -105,7 +150,13 @@ pub record FitsAmounts (v : PerArea) : Type 0 where
   pub tvb : FitsSigned 32 (v .tvb)
   pub avb : FitsSigned 32 (v .avb)
 
--- each field of a user fits its bytes
+-- each manager id fits its bytes; where a record has none of them, it is 0
+pub record FitsManagers (managed : Bool) (ms : Managers) : Type 0 where
+  pub pvb : ms .pvb < cond managed (2 ^ 32) 1
+  pub tvb : ms .tvb < cond managed (2 ^ 32) 1
+  pub avb : ms .avb < cond managed (2 ^ 32) 1
+
+-- each field of a user but its managers fits its bytes
 pub record FitsUser (u : model.User) : Type 0 where
   pub id : u .party .id < 2 ^ 32
   pub role : u .party .role < 256
@@ -114,3 +165,8 @@ pub record FitsUser (u : model.User) : Type 0 where
   pub charges : FitsSigned 64 (u .party .charges)
   pub assigned : u .party .assigned < 2 ^ 64
   pub blocked : u .blocked < 2 ^ 64
+
+-- each field of a record fits its bytes
+pub record FitsRecord (managed : Bool) (u : model.User) : Type 0 where
+  pub user : FitsUser u
+  pub managers : FitsManagers managed (u .party .managers)

@@ -10,6 +10,7 @@ use lib.IntN.{pos, _+ℤ_, _-ℤ_}
 use lib.ListN.{length, take, getD, set, replicate, length-map, length-set, length-replicate, List·getD-map}
 use lib.Seq.{getD-set-same, getD-set-other, take-all}
 use Rattle.base.specs.Lists.{all}
+use Rattle.book_records.specs.User.{alone}
 use Rattle.rules.specs.Book.{Terms, Trade, User, nobody, at, definedPosition}
 use Rattle.rules.specs.Questions.{eqbℤ, positionValid, positionsValid}
 use Rattle.base.proofs.Fronts.{getD-inside}
@@ -227,5 +228,6 @@ module _ {us : List User} {ts : List Trade} {sums : List ℕ} (w : TwelveOf us t
   positions-are = rw (position-is 0 (omega arith), position-is 1 (omega arith), position-is 2 (omega arith))
 
   -- the test of the positions, by what was found of the sums
-  pub as-asked : {u : User} {found answer : Bool} → u ≡ getD us i nobody → found ≡ positionsFrom u sums i → found ≡ answer → positionsValid ts (getD us i nobody) ≡ answer
+  pub as-asked : {u : User} {found answer : Bool} → u ≡ alone (getD us i nobody) → found ≡ positionsFrom u sums i → found ≡ answer → positionsValid ts (getD us i nobody) ≡ answer
+  unfolding alone positionsFrom positionFrom
   as-asked is f a = sym positions-are ∙ ap (λ (v : User). positionsFrom v sums i) (sym is) ∙ sym f ∙ a

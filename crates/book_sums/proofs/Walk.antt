@@ -1,8 +1,9 @@
 -- A walk over records in bytes: the record at hand, and a test of each of which those that are left have the whole answer. Assumes nothing.
 use mathlib.Core.Bool.{Bool, true, false, _&&_}
 use mathlib.Core.List.{List}
-use mathlib.Core.Path.{_≡_, refl, sym, _∙_}
+use mathlib.Core.Path.{_≡_, refl, sym, ap, _∙_}
 use Prim.Native.Nat.{ℕ, _+_, _-_, _*_, _≤_, _<_}
+use native.Mathlib.Nat.{mul-zero}
 use native.Mathlib.Omega.{arith}
 use native.Mathlib.Numerals.{add-one}
 use lib.ListN.{length, take, drop, getD, drop-of-length-le}
@@ -11,6 +12,11 @@ use Rattle.base.specs.Lists.{all}
 use Rattle.fields.specs.Layout.{recordsOf}
 use Rattle.fields.proofs.Records.{getD-recordsOf}
 use Rattle.base.proofs.Every.{all-next, all-none}
+use Rattle.book_format.proofs.Offsets.{size-lies, size-next}
+use Rattle.book_format.proofs.Places.{take-front}
+use Rattle.book_records.proofs.Users.{user-of-front}
+use Rattle.book_records.specs.User.{alone, userOf}
+use Rattle.rules.specs.Book.{User}
 
 -- what was read from the part at the i-th offset is the i-th record
 pub record-at : {R : Type 0} (len : ℕ) (one : List ℕ → R) (s : List ℕ) (at n i : ℕ) {a : ℕ} {r : R} (d : R) → a ≡ at + len * i → i < n
@@ -18,6 +24,29 @@ pub record-at : {R : Type 0} (len : ℕ) (one : List ℕ → R) (s : List ℕ) (
 record-at len one s at n i {a} d place h e =
     let l : a + len - a ≡ len = omega arith in
     (rw (l, place) at e) ∙ sym (rw drop-drop at (getD-recordsOf len one n i (drop at s) d h))
+
+-- what was read from the first 56 bytes at the i-th offset is the i-th user, without its managers
+pub user-at : (size : ℕ) (s : List ℕ) (at n i : ℕ) {a : ℕ} {u : User} (d : User) → 56 ≤ size → a ≡ at + size * i → i < n
+    → u ≡ userOf (take (a + 56 - a) (drop a s)) → u ≡ alone (getD (recordsOf size userOf n (drop at s)) i d)
+user-at size s at n i {a} d wide place h e =
+    let l : a + 56 - a ≡ 56 = omega arith in
+    let part = drop (at + size * i) s in
+    (rw (l, place) at e)
+    ∙ ap userOf (sym (take-front 56 size part wide))
+    ∙ user-of-front (take size part)
+    ∙ ap alone (sym (rw drop-drop at (getD-recordsOf size userOf n i (drop at s) d h)))
+
+-- a record lies among those before its end
+pub record-lies : (size at n i : ℕ) {a len : ℕ} → 56 ≤ size → a ≡ at + size * i → i < n → at + size * n ≤ len → (a + 56 ≤ len) × (a + size ≤ len)
+record-lies size at n i wide place h l = let k = size-lies size i n h in (omega arith, omega arith)
+
+-- the first one's offset
+pub record-first : (size at : ℕ) → at ≡ at + size * 0
+record-first size at = omega (arith, mul-zero size)
+
+-- the next one's
+pub record-next : (size at i : ℕ) {a : ℕ} → a ≡ at + size * i → a + size ≡ at + size * (i + 1)
+record-next size at i place = omega (arith, size-next size i)
 
 -- where i records of a list passed a test: those that are left have the whole answer
 pub record Passed {A : Type 0} (p : A → Bool) (xs : List A) (i : ℕ) : Type 0 where

@@ -50,10 +50,11 @@ fn user_positions_valid(u: User, sums: &[u32; 768], i: usize) -> bool
     pvb & (tvb & avb)
 }
 
-// Are all positions of the n users from byte `at` on as defined, over trades of which these sums have what each user sold and bought?
-pub fn positions_valid(s: &[u8], at: usize, n: usize, sums: &[u32; 768]) -> bool
-    requires { ⌜ (n ≤ 64) × (at + 56 * n ≤ length (now s)) ⌝ }
-    ensures { λ r. ⌜ PositionsAsked (usersFrom at n (now (s .entry))) (now (sums .entry)) r ⌝ }
+// Are all positions of the n users, in records of a size, from byte `at` on as defined, over trades of which these sums have what each user
+// sold and bought?
+pub fn positions_valid(s: &[u8], at: usize, size: usize, n: usize, sums: &[u32; 768]) -> bool
+    requires { ⌜ (n ≤ 64) × (56 ≤ size) × (at + size * n ≤ length (now s)) ⌝ }
+    ensures { λ r. ⌜ PositionsAsked (usersFrom size at n (now (s .entry))) (now (sums .entry)) r ⌝ }
 {
     let mut i = 0;
     let mut a = at;
@@ -62,7 +63,7 @@ pub fn positions_valid(s: &[u8], at: usize, n: usize, sums: &[u32; 768]) -> bool
         if !user_positions_valid(u, sums, i) {
             return false;
         }
-        a += 56;
+        a += size;
         i += 1;
     }
     true

@@ -4,3 +4,4 @@ pub mod RecordsWritten
 -- Laws of a book that is written part by part, and of the records of one that was read.
 pub mod BookWritten
 pub mod Records
+pub mod Managed

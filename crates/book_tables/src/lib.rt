@@ -5,7 +5,9 @@ ghost use Prim.Native.Nat.{_+_, _*_, _≤_};
 ghost use lib.ListN.{length, take, drop};
 ghost use lib.Seq.{sets};
 ghost use Rattle.fields.specs.Layout.{bytesOfRecords};
-ghost use Rattle.book_records.specs.User.{userOf, userBytes, asUser, blankUser};
+ghost use lib.Dec.{eqb};
+ghost use Rattle.book_records.specs.User.{managersAt, recordBytes, recordSize, userOf};
+ghost use Rattle.book_tables.specs.Record.{asManagers, asRecord, blankRecord, SizeOfRecord};
 ghost use Rattle.book_records.specs.Trade.{tradeOf, tradeBytes, asTrade, blankTrade};
 ghost use Rattle.book_tables.specs.Filled.{Filled};
 ghost use Rattle.book_format.specs.Book.{lengthBy};
@@ -17,18 +19,95 @@ use units::Prices;
 
 // ---- users and trades
 
-// The n users that stand from `at`, and blank ones past them.
-pub fn read_users(s: &[u8], at: usize, n: usize) -> [User; 64]
-    requires { ⌜ (n ≤ 64) × (at + 56 * n ≤ length (now s)) ⌝ }
-    ensures { λ r. ⌜ Filled asUser 56 userOf 64 blankUser n (drop at (now (s .entry))) r ⌝ }
+// The ids of a user's managers, one per area, 0 for none.
+pub struct Managers {
+    pub pvb: u32,
+    pub tvb: u32,
+    pub avb: u32,
+}
+
+// A user with its managers: all that its record holds.
+pub struct Record {
+    pub user: User,
+    pub managers: Managers,
+}
+
+// The managers that a record holds, none where it has no bytes for them.
+fn read_managers(c: &[u8], managed: bool) -> Managers
+    requires { ⌜ length (now c) ≡ recordSize managed ⌝ }
+    ensures { λ r. ⌜ asManagers r ≡ managersAt 56 (now (c .entry)) ⌝ }
 {
-    let blank = book_records::no_user();
+    if managed {
+        return Managers {
+            pvb: fields::get_u32(c, 56),
+            tvb: fields::get_u32(c, 60),
+            avb: fields::get_u32(c, 64),
+        };
+    }
+    Managers {
+        pvb: 0,
+        tvb: 0,
+        avb: 0,
+    }
+}
+
+// The record that 56 bytes hold, or 68 with managers.
+fn read_record(c: &[u8], managed: bool) -> Record
+    requires { ⌜ length (now c) ≡ recordSize managed ⌝ }
+    ensures { λ r. ⌜ asRecord r ≡ userOf (now (c .entry)) ⌝ }
+{
+    let user = book_records::read_user(&c[..56]);
+    let managers = read_managers(c, managed);
+    Record {
+        user: user,
+        managers: managers,
+    }
+}
+
+// Writes a record, without its managers where there are no bytes for them.
+fn write_record(c: &mut [u8], r: Record, managed: bool)
+    requires { ⌜ length (now c) ≡ recordSize managed ⌝ }
+    ensures { λ _. ⌜ now (c .exit) ≡ recordBytes managed (asRecord r) ⌝ }
+{
+    let user = r.user;
+    let managers = r.managers;
+    book_records::write_user(&mut c[..56], user);
+    if managed {
+        fields::put_u32(c, 56, managers.pvb);
+        fields::put_u32(c, 60, managers.tvb);
+        fields::put_u32(c, 64, managers.avb);
+    }
+}
+
+// The record whose every field is 0.
+fn no_record() -> Record
+    ensures { λ r. ⌜ r ≡ blankRecord ⌝ }
+{
+    let user = book_records::no_user();
+    let managers = Managers {
+        pvb: 0,
+        tvb: 0,
+        avb: 0,
+    };
+    Record {
+        user: user,
+        managers: managers,
+    }
+}
+
+// The n users that stand from `at` in records of a size, and blank ones past them.
+pub fn read_users(s: &[u8], at: usize, size: usize, n: usize) -> [Record; 64]
+    requires { ⌜ (n ≤ 64) × SizeOfRecord size × (at + size * n ≤ length (now s)) ⌝ }
+    ensures { λ r. ⌜ Filled asRecord size userOf 64 blankRecord n (drop at (now (s .entry))) r ⌝ }
+{
+    let blank = no_record();
     let mut users = [blank; 64];
+    let managed = size == 68;
     let mut i = 0;
     let mut a = at;
     while i < n {
-        users[i] = book_records::read_user(&s[a..a + 56]);
-        a += 56;
+        users[i] = read_record(&s[a..a + size], managed);
+        a += size;
         i += 1;
     }
     users
@@ -51,17 +130,18 @@ pub fn read_trades(s: &[u8], at: usize, n: usize) -> [Trade; 256]
     trades
 }
 
-// Writes the first n users from `at`.
-pub fn write_users(out: &mut [u8], at: usize, users: [User; 64], n: usize)
-    requires { ⌜ (n ≤ 64) × (at + 56 * n ≤ length (now out)) ⌝ }
-    ensures { λ _. ⌜ (now (out .exit) ≡ sets (now (out .entry)) at (bytesOfRecords (λ u. userBytes (asUser u)) (take n users))) × (length users ≡ 64) ⌝ }
+// Writes the first n users from `at`, in records of a size.
+pub fn write_users(out: &mut [u8], at: usize, size: usize, users: [Record; 64], n: usize)
+    requires { ⌜ (n ≤ 64) × SizeOfRecord size × (at + size * n ≤ length (now out)) ⌝ }
+    ensures { λ _. ⌜ (now (out .exit) ≡ sets (now (out .entry)) at (bytesOfRecords (λ u. recordBytes (eqb size 68) (asRecord u)) (take n users))) × (length users ≡ 64) ⌝ }
 {
+    let managed = size == 68;
     let mut i = 0;
     let mut a = at;
     while i < n {
         let u = users[i];
-        book_records::write_user(&mut out[a..a + 56], u);
-        a += 56;
+        write_record(&mut out[a..a + size], u, managed);
+        a += size;
         i += 1;
     }
 }
@@ -84,14 +164,15 @@ pub fn write_trades(out: &mut [u8], at: usize, trades: [Trade; 256], n: usize)
 // ---- the book
 
 // A book: the header's fields, the users up to `user_count` and the trades up to `trade_count`; what stands past the counts is not of the
-// book. Selling tariffs are 0 when a book of version 1 is read, and not looked at when one is written.
+// book. Selling tariffs are 0 when a book of version 1 is read, managers when one of version 1 or 2 is, and not looked at when it is
+// written.
 pub struct Book {
     pub version: u16,
     pub user_count: u8,
     pub trade_count: u16,
     pub date: u32,
     pub prices: Prices,
-    pub users: [User; 64],
+    pub users: [Record; 64],
     pub trades: [Trade; 256],
 }
 
@@ -104,7 +185,12 @@ pub fn read_book(s: &[u8]) -> Book
     let trade_count = book_format::trade_count(s);
     let prices = book_header::read_prices(s);
     let n = user_count as usize;
-    let users = read_users(s, book_format::users_offset(s), n);
+    let users = read_users(
+        s,
+        book_format::users_offset(s),
+        book_format::users_size(s),
+        n,
+    );
     let trades = read_trades(s, book_format::trades_offset(s, n), trade_count as usize);
     Book {
         version: book_format::version(s),
@@ -121,7 +207,7 @@ pub fn read_book(s: &[u8]) -> Book
 pub fn no_book() -> Book
     ensures { λ r. ⌜ r ≡ blankBook ⌝ }
 {
-    let user = book_records::no_user();
+    let user = no_record();
     let trade = book_records::no_trade();
     let prices = Prices {
         p: 0,
@@ -156,9 +242,10 @@ pub fn write_book(out: &mut [u8], b: Book)
     let users = b.users;
     let trades = b.trades;
     let at = book_format::header_size(b.version);
+    let size = book_format::user_size(b.version);
     book_header::write_start(out, b.version, b.user_count, b.trade_count, b.date);
     book_header::write_prices(out, prices);
     book_header::write_selling(out, b.version, prices);
-    write_users(out, at, users, n);
-    write_trades(out, at + 56 * n, trades, m);
+    write_users(out, at, size, users, n);
+    write_trades(out, at + size * n, trades, m);
 }

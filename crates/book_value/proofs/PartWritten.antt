@@ -7,7 +7,7 @@ use Prim.Native.Nat.{ℕ}
 use native.Mathlib.Omega.{arith}
 use lib.Dec.{T, eqb, leb, leb→le}
 use lib.ListN.{length, length-map, length-take, take}
-use Rattle.book_tables.specs.Book.{asBook}
+use Rattle.book_tables.specs.Book.{asBook, keptManagers}
 use Rattle.book_tables.specs.declared.Book.{Book}
 use Rattle.book_format.proofs.Written.{formed-bytesOf, length-bytesOf}
 use Rattle.book_format.specs.Book.{bytesOf, lengthBy}
@@ -16,7 +16,7 @@ use Rattle.laws.proofs.Refusals.{number-none, number-some, numbered}
 use Rattle.base.proofs.Tests.{and-l, and-r, holds}
 use Rattle.book_questions.specs.Asked.{fieldsNumber}
 use Rattle.book_records.specs.Trade.{asTrade}
-use Rattle.book_records.specs.User.{asUser}
+use Rattle.book_tables.specs.Record.{asRecord}
 use Rattle.rules.specs.Book as model
 use Rattle.base.specs.Lists.{all}
 use Rattle.rules.specs.Questions.{decided, numberOf, refusal, versionKnown}
@@ -38,7 +38,7 @@ in-counts b v k =
 pub formed-written : (b : Book) → InCounts b → length (b .users) ≡ 64 → length (b .trades) ≡ 256 → Formed (bytesOf (asBook b))
 unfolding asBook
 formed-written b c u t =
-    let n : length (map asUser (take (b .«user_count») (b .users))) ≡ b .«user_count» = rw (length-map, length-take) (omega (arith, c .users)) in
+    let n : length (map (λ u. keptManagers (b .version) (asRecord u)) (take (b .«user_count») (b .users))) ≡ b .«user_count» = rw (length-map, length-take) (omega (arith, c .users)) in
     let m : length (map asTrade (take (b .«trade_count») (b .trades))) ≡ b .«trade_count» = rw (length-map, length-take) (omega (arith, c .trades)) in
     formed-bytesOf (asBook b) (c .version) (omega (arith, c .some)) (omega (arith, c .users)) (omega (arith, c .trades))
 
@@ -46,7 +46,7 @@ formed-written b c u t =
 pub length-written : (b : Book) → InCounts b → length (b .users) ≡ 64 → length (b .trades) ≡ 256 → length (bytesOf (asBook b)) ≡ lengthBy (b .version) (b .«user_count») (b .«trade_count»)
 unfolding asBook
 length-written b c u t =
-    let n : length (map asUser (take (b .«user_count») (b .users))) ≡ b .«user_count» = rw (length-map, length-take) (omega (arith, c .users)) in
+    let n : length (map (λ u. keptManagers (b .version) (asRecord u)) (take (b .«user_count») (b .users))) ≡ b .«user_count» = rw (length-map, length-take) (omega (arith, c .users)) in
     let m : length (map asTrade (take (b .«trade_count») (b .trades))) ≡ b .«trade_count» = rw (length-map, length-take) (omega (arith, c .trades)) in
     length-bytesOf (asBook b) ∙ rw (n, m)
 

@@ -72,7 +72,7 @@ fn ask_written(b: Book, len: usize) -> u32
     requires { ⌜ InCounts b × (len ≡ lengthBy (b .version) (b .«user_count») (b .«trade_count»)) ⌝ }
     ensures { λ r. ⌜ r ≡ fieldsNumber (bytesOf (asBook b)) ⌝ }
 {
-    let mut scratch = [0u8; 8744];
+    let mut scratch = [0u8; 9512];
     ask_in(&mut scratch, b, len)
 }
 

@@ -6,19 +6,17 @@ use Prim.Native.Nat.{ℕ, _-_, _<_, _^_}
 use lib.ListN.{take}
 use Rattle.cut_sets.specs.Found.{Given}
 use Rattle.cut_sets.specs.Places.{countOf, worthsOf}
-use Rattle.book_format.specs.Book.{tradeCount, tradesAt, tradesOf, userCount, usersOf}
-use Rattle.book_format.specs.Held.{Accepted}
-use Rattle.book_parties.specs.Ids.{PlacedOn}
+use Rattle.book_format.specs.Book.{tradeCount, tradesAt, userCount}
 use Rattle.requests.specs.Cancellation.{marksOf, wholeWorth}
+use Rattle.risk_bearers.specs.Bearers.{BorneIn}
 use Rattle.rules.specs.Book.{Book, User}
 use Rattle.rules.specs.Reduction.{eligible}
 
--- bytes hold an accepted book, whose m trades begin at an offset; the places of the sellers of its trades, and the place of a user
-pub record Selling (at m : ℕ) (s sellers : List ℕ) (place : ℕ) : Type 0 where
-  pub accepted : Accepted s
+-- bytes hold an accepted book, whose m trades begin at an offset; the places of those who bear the risk of their parties, and the place of a user
+pub record Selling (at m : ℕ) (s sellers buyers : List ℕ) (place : ℕ) : Type 0 where
+  pub borne : BorneIn s sellers buyers
   pub begin : at ≡ tradesAt s
   pub trades-are : m ≡ tradeCount s
-  pub placed : PlacedOn (λ r. r .seller) (usersOf s) (tradesOf s) sellers
   pub inside : place < userCount s
 
 -- the number of sets of the user's eligible trades

@@ -1,18 +1,18 @@
 // A whole cancellation on a lent book in bytes: its questions, the worths of the user's eligible trades, of both tiers, the search among
 // their sets (`cut_sets`), and the marks of the set that it found, by trade place. It changes no book. Everywhere `book` has m trades,
-// which begin at `at`, and `sellers` has the places of their sellers.
+// which begin at `at`, and `sellers` and `buyers` have the places of those who bear the risk of their sellers and of their buyers.
 use risk_user::Day;
 use units::Area;
 use units::Cents;
 use units::Limits;
 use units::Mwh;
 use units::Prices;
-ghost use mathlib.Core.Bool.{cond, _&&_};
+ghost use mathlib.Core.Bool.{cond, not, _&&_};
 ghost use mathlib.Core.List.{[], _∷_};
 ghost use mathlib.Core.Path.{_≡_};
 ghost use Prim.Native.Nat.{_*_, _/_, _%_, _≤_, _<_};
 ghost use lib.Dec.{eqb, ltb};
-ghost use lib.ListN.{getD, replicate};
+ghost use lib.ListN.{getD, length, replicate};
 ghost use Rattle.book_format.specs.After.{after};
 ghost use Rattle.book_format.specs.Book.{bookOf, tradeCount, tradesAt, tradesOf, userCount, usersOf};
 ghost use Rattle.book_format.specs.Places.{TradeIn};
@@ -55,12 +55,16 @@ impl CancellationAnswer {
 
 // ---- the eligible trades
 
-// Is the trade i, with its seller at a place, an eligible trade of the user at a place?
-fn eligible_at(book: &[u8], at: usize, i: usize, seller: u8, place: usize) -> bool
+// Is the trade i, whose parties' risk is borne by users at two places, an eligible trade of the user at a place? A sale inside its group is
+// not.
+fn eligible_at(book: &[u8], at: usize, i: usize, seller: u8, buyer: u8, place: usize) -> bool
     requires { ⌜ TradeIn (now book) at i ⌝ }
-    ensures { λ r. ⌜ r ≡ (eqb seller place && (bilateralForDay (getD (tradesOf (now (book .entry))) i noTrade) && ltb 0 (getD (tradesOf (now (book .entry))) i noTrade .standing))) ⌝ }
+    ensures { λ r. ⌜ r ≡ ((eqb seller place && not (eqb buyer place)) && (bilateralForDay (getD (tradesOf (now (book .entry))) i noTrade) && ltb 0 (getD (tradesOf (now (book .entry))) i noTrade .standing))) ⌝ }
 {
     if cut_lists::index(seller) != place {
+        return false;
+    }
+    if cut_lists::index(buyer) == place {
         return false;
     }
     let t = book_format::trade_at(book, at, i);
@@ -88,11 +92,12 @@ fn fill_worths(
     at: usize,
     m: usize,
     sellers: &[u8; 256],
+    buyers: &[u8; 256],
     place: usize,
     prices: Prices,
     worths: &mut [u64; 256],
 ) -> usize
-    requires { ⌜ Selling at m (now book) (now sellers) place × (now worths ≡ replicate 256 0) ⌝ }
+    requires { ⌜ Selling at m (now book) (now sellers) (now buyers) place × (now worths ≡ replicate 256 0) ⌝ }
     requires { ⌜ InRange (asPrices prices) × (asPrices prices ≡ bookOf (now book) .header .prices) ⌝ }
     ensures { λ r. ⌜ Worths (bookOf (now (book .entry))) (getD (usersOf (now (book .entry))) place nobody) r (now (worths .exit)) ⌝ }
 {
@@ -100,7 +105,7 @@ fn fill_worths(
     let mut i = 0;
     while i < m {
         worths[k] = worth_at(book, at, i, prices);
-        k = cut_lists::place_after(k, eligible_at(book, at, i, sellers[i], place));
+        k = cut_lists::place_after(k, eligible_at(book, at, i, sellers[i], buyers[i], place));
         i += 1;
     }
     k
@@ -131,10 +136,11 @@ fn marks_of(
     at: usize,
     m: usize,
     sellers: &[u8; 256],
+    buyers: &[u8; 256],
     place: usize,
     left: usize,
 ) -> [bool; 256]
-    requires { ⌜ Selling at m (now book) (now sellers) place × (left < setsOf (bookOf (now book)) (getD (usersOf (now book)) place nobody)) ⌝ }
+    requires { ⌜ Selling at m (now book) (now sellers) (now buyers) place × (left < setsOf (bookOf (now book)) (getD (usersOf (now book)) place nobody)) ⌝ }
     ensures { λ r. ⌜ r ≡ unmarked (bookOf (now (book .entry))) (getD (usersOf (now (book .entry))) place nobody) left ⌝ }
 {
     let mut marks = [false; 256];
@@ -142,7 +148,7 @@ fn marks_of(
     let mut i = m;
     while 0 < i {
         i -= 1;
-        let eligible = eligible_at(book, at, i, sellers[i], place);
+        let eligible = eligible_at(book, at, i, sellers[i], buyers[i], place);
         marks[i] = is_marked(eligible, rest);
         rest = left_before(eligible, rest);
     }
@@ -158,18 +164,19 @@ fn cancel_among(
     at: usize,
     m: usize,
     sellers: &[u8; 256],
+    buyers: &[u8; 256],
     place: usize,
     asked: Cents,
     prices: Prices,
     tries: u32,
     worths: &mut [u64; 256],
 ) -> CancellationAnswer
-    requires { ⌜ Selling at m (now book) (now sellers) place × (now worths ≡ replicate 256 0) ⌝ }
+    requires { ⌜ Selling at m (now book) (now sellers) (now buyers) place × (now worths ≡ replicate 256 0) ⌝ }
     requires { ⌜ InRange (asPrices prices) × (asPrices prices ≡ bookOf (now book) .header .prices) ⌝ }
     requires { ⌜ (0 < tries) × (tries < 65536) ⌝ }
     ensures { λ r. ⌜ cancellationOf r ≡ onSales (bookOf (now (book .entry))) (getD (usersOf (now (book .entry))) place nobody) (asked .0) tries ⌝ }
 {
-    let count = fill_worths(book, at, m, sellers, place, prices, worths);
+    let count = fill_worths(book, at, m, sellers, buyers, place, prices, worths);
     if count == 0 {
         return CancellationAnswer::refused(14);
     }
@@ -178,7 +185,7 @@ fn cancel_among(
         return CancellationAnswer::refused(24);
     }
     let found = cut_sets::search(worths, count, together, asked.0, tries as usize);
-    let marks = marks_of(book, at, m, sellers, place, found.left);
+    let marks = marks_of(book, at, m, sellers, buyers, place, found.left);
     CancellationAnswer {
         number: 0,
         marks: marks,
@@ -192,12 +199,13 @@ fn cancel_among(
 fn cancel_sales(
     book: &[u8],
     sellers: &[u8; 256],
+    buyers: &[u8; 256],
     place: usize,
     asked: Cents,
     prices: Prices,
     tries: u32,
 ) -> CancellationAnswer
-    requires { ⌜ Selling (tradesAt (now book)) (tradeCount (now book)) (now book) (now sellers) place ⌝ }
+    requires { ⌜ Selling (tradesAt (now book)) (tradeCount (now book)) (now book) (now sellers) (now buyers) place ⌝ }
     requires { ⌜ InRange (asPrices prices) × (asPrices prices ≡ bookOf (now book) .header .prices) ⌝ }
     requires { ⌜ (0 < tries) × (tries < 65536) ⌝ }
     ensures { λ r. ⌜ cancellationOf r ≡ onSales (bookOf (now (book .entry))) (getD (usersOf (now (book .entry))) place nobody) (asked .0) tries ⌝ }
@@ -211,6 +219,7 @@ fn cancel_sales(
         at,
         m,
         sellers,
+        buyers,
         place,
         asked,
         prices,
@@ -223,13 +232,13 @@ fn cancel_sales(
 fn cancel_user(
     book: &[u8],
     sellers: &[u8; 256],
-    parties: &[u8; 256],
+    buyers: &[u8; 256],
     sums: &[u32; 768],
     place: usize,
     day: Day,
     tries: u32,
 ) -> CancellationAnswer
-    requires { ⌜ Runnable (asLimits (day .limits)) (asPrices (day .prices)) (now book) (now sellers) (now parties) (now sums) × (place < userCount (now book)) ⌝ }
+    requires { ⌜ Runnable (asLimits (day .limits)) (asPrices (day .prices)) (now book) (now sellers) (now buyers) (now sums) × (place < userCount (now book)) ⌝ }
     requires { ⌜ (0 < tries) × (tries < 65536) ⌝ }
     ensures { λ r. ⌜ cancellationOf r ≡ onUser (asLimits (day .limits)) (bookOf (now (book .entry))) (getD (usersOf (now (book .entry))) place nobody) tries ⌝ }
 {
@@ -237,7 +246,7 @@ fn cancel_user(
     let shortfall = call_questions::shortfall_at(
         book,
         sellers,
-        parties,
+        buyers,
         sums,
         &mut positions,
         place,
@@ -248,7 +257,7 @@ fn cancel_user(
         return CancellationAnswer::refused(number);
     }
     let target = shortfall.target;
-    cancel_sales(book, sellers, place, target, day.prices, tries)
+    cancel_sales(book, sellers, buyers, place, target, day.prices, tries)
 }
 
 // Question 25, after the opening questions: their number where one is answered by no.
@@ -268,20 +277,21 @@ fn ask_tries(number: u32, tries: u32) -> u32
 }
 
 // The whole cancellation for the user of an id with a number of tries, after the opening questions, whose number is given with the places
-// of the trades' parties and the sums of the users.
+// of the trades' parties and the sums of the users, which become the sums as the risk is borne.
 pub fn cancellation(
     book: &[u8],
     number: u32,
     limits: Limits,
     sellers: &[u8; 256],
-    parties: &[u8; 256],
-    sums: &[u32; 768],
+    buyers: &[u8; 256],
+    sums: &mut [u32; 768],
     id: u32,
     tries: u32,
 ) -> CancellationAnswer
     requires { ⌜ (number ≡ 0 → bookNumber (now book) ≡ 0) ⌝ }
     requires { ⌜ LimitsInRange (asLimits limits) ⌝ }
-    requires { ⌜ PartiesFound (now book) number (now sellers) (now parties) (now sums) ⌝ }
+    requires { ⌜ (length (now sellers) ≡ 256) × (length (now buyers) ≡ 256) ⌝ }
+    requires { ⌜ PartiesFound (now book) number (now sellers) (now buyers) (now sums) ⌝ }
     ensures { λ r. ⌜ cancellationOf r ≡ cancellationAfter number (asLimits limits) (now (book .entry)) id tries ⌝ }
 {
     let entry = call_entry::seek(book, ask_tries(number, tries), id);
@@ -294,5 +304,23 @@ pub fn cancellation(
         limits: limits,
         prices: book_header::read_prices(book),
     };
-    cancel_user(book, sellers, parties, sums, place, day, tries)
+    let mut bearing_sellers = [0u8; 256];
+    let mut bearing_buyers = [0u8; 256];
+    call_parties::bear(
+        book,
+        sellers,
+        buyers,
+        &mut bearing_sellers,
+        &mut bearing_buyers,
+        sums,
+    );
+    cancel_user(
+        book,
+        &bearing_sellers,
+        &bearing_buyers,
+        sums,
+        place,
+        day,
+        tries,
+    )
 }

@@ -2,24 +2,20 @@
 use mathlib.Core.List.{List, _∷_}
 use mathlib.Core.Path.{_≡_, _∙_, ap, sym}
 use Prim.Native.Nat.{ℕ}
-use lib.Dec.{T}
 use lib.ListN.{getD}
 use Rattle.call_entry.proofs.Asked.{entry-found, entry-refused}
 use Rattle.call_entry.specs.Entered.{Entered, Found}
-use Rattle.book_format.proofs.OneUser.{find-place, known-place}
+use Rattle.book_format.proofs.OneUser.{find-place}
 use Rattle.book_format.proofs.Passed.{passed}
 use Rattle.book_format.specs.After.{CalledAfter, after, replyAfter, stepAfter, unchanged}
-use Rattle.book_format.specs.Book.{bookOf, tradesOf, usersOf}
+use Rattle.book_format.specs.Book.{bookOf, usersOf}
 use Rattle.book_format.specs.Places.{UserIn}
 use Rattle.book_format.specs.Steps.{InBytes, inBytes}
-use Rattle.laws.proofs.Users.{all-find}
-use Rattle.book_records.specs.User.{asUser}
-use Rattle.book_records.specs.declared.User as code
-use Rattle.rules.specs.Book.{User, find, nobody}
+use Rattle.rules.specs.Book.{find, nobody}
 use Rattle.rules.specs.Calls.{Answer, Call, about, effect, idKnown, only}
 use Rattle.rules.specs.Levels.{Limits}
 use Rattle.rules.specs.Queries.{Query, aboutQuery, found, onlyNumber}
-use Rattle.rules.specs.Questions.{Question, decided, known, positionsValid, refusal, userValid}
+use Rattle.rules.specs.Questions.{Question, decided, refusal}
 
 -- what a call gives is its contract
 pub called : {before : ℕ} {limits : Limits} {s t : List ℕ} {a x : Answer} (c : Call) → a ≡ x → stepAfter before limits s c ≡ record { answer = x; bytes = t } → CalledAfter before limits s c a t
@@ -56,25 +52,7 @@ module _ {s : List ℕ} {id place : ℕ} (f : Found s id place) where
   pub found-user : UserIn s place
   found-user = record { form = passed s (f .passes) .form; inside = f .known }
 
-  pub found-known : T (known (usersOf s) id)
-  found-known = rw (known-place s id (rw (f .stands) at (f .known))) tt
-
-  pub found-valid : T (userValid (find (usersOf s) id))
-  unfolding bookOf
-  found-valid = all-find userValid (usersOf s) id (passed s (f .passes) .sound .users) found-known
-
-  pub found-positions : T (positionsValid (tradesOf s) (find (usersOf s) id))
-  unfolding bookOf
-  found-positions = all-find (positionsValid (tradesOf s)) (usersOf s) id (passed s (f .passes) .sound .positions) found-known
-
--- ---- a struct that is the user at the place
-
-module _ {s : List ℕ} {id place : ℕ} (u : code.User) (f : Found s id place) (h : asUser u ≡ getD (usersOf s) place nobody) where
-  -- it is the user of the id
-  pub read-user : asUser u ≡ find (bookOf s .users) id
-  unfolding bookOf
-  read-user = h ∙ ap (λ (i : ℕ). getD (usersOf s) i nobody) (f .stands) ∙ sym (find-place (usersOf s) id)
-
-  pub read-role : u .role ≡ find (bookOf s .users) id .party .role
-  unfolding asUser
-  read-role = ap (λ (v : User). v .party .role) read-user
+-- the user of the id is the one at the place
+pub found-at : {s : List ℕ} {id place : ℕ} → Found s id place → getD (usersOf s) place nobody ≡ find (bookOf s .users) id
+unfolding bookOf
+found-at {s} {id} f = ap (λ (i : ℕ). getD (usersOf s) i nobody) (f .stands) ∙ sym (find-place (usersOf s) id)

@@ -12,13 +12,14 @@ pub fn place_of(s: &[u8], id: u32) -> usize
     ensures { λ r. ⌜ (r ≡ placeOf (usersOf (now (s .entry))) id) × (r ≤ userCount (now (s .entry))) ⌝ }
 {
     let n = book_format::user_count(s) as usize;
+    let size = book_format::users_size(s);
     let mut i = 0;
     let mut a = book_format::users_offset(s);
     while i < n {
         if fields::get_u32(s, a) == id {
             return i;
         }
-        a += 56;
+        a += size;
         i += 1;
     }
     n

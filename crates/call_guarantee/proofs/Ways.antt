@@ -12,7 +12,7 @@ use Rattle.rules.specs.Questions.{Question, refusal, decided}
 use Rattle.rules.specs.Calls.{about, assignedSuffices, calledInBeyondMargin, effect, guaranteed, idKnown, isShipper, marginExceeded, ofLevel, only}
 use Rattle.rules.specs.Changes.{blockedTo}
 use Rattle.fields.specs.Field.{AllBytes}
-use Rattle.book_records.specs.User.{asUser, userBytes}
+use Rattle.book_records.specs.User.{alone, asUser, userBytes, userValues}
 use Rattle.book_records.specs.declared.User as code
 use Rattle.book_format.specs.Book.{bookOf, userAt, usersOf}
 use Rattle.book_format.specs.Steps.{inBytes}
@@ -20,10 +20,10 @@ use Rattle.book_format.proofs.OneUser.{changed-bytes}
 use Rattle.book_format.proofs.Passed.{passed}
 use Rattle.book_format.specs.After.{stepAfter}
 use Rattle.call_entry.specs.Entered.{Entered, Found}
-use Rattle.call_entry.proofs.Calls.{call-found, call-refused, read-role, read-user}
+use Rattle.call_entry.proofs.Calls.{call-found, call-refused, found-at}
 use Rattle.call_level.specs.Times.{levelOf}
 use Rattle.call_guarantee.specs.Times.{dueOf, callOf}
-use Rattle.call_guarantee.specs.Raised.{lastQuestions, raised}
+use Rattle.call_guarantee.specs.Raised.{calledAt, lastQuestions, raised}
 
 -- ---- question 11
 
@@ -89,11 +89,11 @@ module _ (before : ℕ) (limits : Limits) (s : List ℕ) (id : ℕ) (afternoon :
     -- one user's record is changed
     effect-bytes : AllBytes s → inBytes (effect limits (bookOf s) (callOf afternoon id))
         ≡ record { answer = ofLevel level (level - user .blocked); bytes = sets s (userAt s place) (userBytes (blockedTo level user)) }
-    unfolding inBytes guaranteed bookOf
+    unfolding inBytes guaranteed bookOf blockedTo
     effect-bytes h =
         rw (call-effects limits (bookOf s) id afternoon, f .stands)
         (ap (λ (l : List ℕ). record { answer = ofLevel level (level - user .blocked); bytes = l })
-        (changed-bytes s h (passed s (f .passes)) id (blockedTo level) (rw (f .stands) at (f .known))))
+        (changed-bytes s h (passed s (f .passes)) id (blockedTo level) (rw (f .stands) at (f .known)) refl))
 
     pub call-raised : AllBytes s → user .party .role ≡ 0 → stepAfter before limits s (callOf afternoon id) ≡ raised s place user level due
     unfolding isShipper shipper refusal raised
@@ -101,10 +101,23 @@ module _ (before : ℕ) (limits : Limits) (s : List ℕ) (id : ℕ) (afternoon :
         rw (call-found before limits s id rest (callOf afternoon id) (call-asks limits (bookOf s) id afternoon) o f, eq-eqb (user .party .role) 0 k)
         (ap (decided (refusal (lastQuestions due level user)) (λ n. record { answer = only n; bytes = s })) (effect-bytes h))
 
-    -- with the record that was read of the user, its level and its answer to question 11
-    pub call-ends : AllBytes s → (u : code.User) {n : ℕ} {d : Bool} → asUser u ≡ getD (usersOf s) place nobody → u .role ≡ 0
-        → n ≡ levelOf afternoon limits (bookOf s) (asUser u) → d ≡ dueOf afternoon limits (bookOf s) n (asUser u)
-        → raised s place (asUser u) n d ≡ stepAfter before limits s (callOf afternoon id)
-    call-ends h u {n} {d} is k m w =
-        let x : raised s place (asUser u) n d ≡ raised s place user level due = cc (m, w, read-user u f is) in
-        x ∙ sym (call-raised h (sym (read-role u f is) ∙ k))
+    -- what the questions 11 and 12 leave of the user at the place
+    pub call-ends : AllBytes s → find (bookOf s .users) id .party .role ≡ 0 → calledAt afternoon limits s place ≡ stepAfter before limits s (callOf afternoon id)
+    unfolding calledAt
+    call-ends h k =
+        ap (λ (u : User). raised s place u (levelOf afternoon limits (bookOf s) u) (dueOf afternoon limits (bookOf s) (levelOf afternoon limits (bookOf s) u) u)) (found-at f) ∙ sym (call-raised h k)
+
+-- ---- with the record that was read of the user, its level and its answer to question 11
+
+module _ (limits : Limits) (s : List ℕ) (place : ℕ) (afternoon : Bool) where
+  without-managers : (v : User) (n : ℕ) (d : Bool) → raised s place (alone v) n d ≡ raised s place v n d
+  unfolding raised lastQuestions assignedSuffices blockedTo userBytes userValues alone
+  without-managers v n d = refl
+
+  pub called-with : (u : code.User) {n : ℕ} {d : Bool} → asUser u ≡ alone (getD (usersOf s) place nobody) → n ≡ levelOf afternoon limits (bookOf s) (getD (usersOf s) place nobody)
+      → d ≡ dueOf afternoon limits (bookOf s) n (getD (usersOf s) place nobody) → raised s place (asUser u) n d ≡ calledAt afternoon limits s place
+  unfolding calledAt
+  called-with u {n} {d} h m w =
+      let v = getD (usersOf s) place nobody in
+      let x : raised s place v n d ≡ raised s place v (levelOf afternoon limits (bookOf s) v) (dueOf afternoon limits (bookOf s) (levelOf afternoon limits (bookOf s) v) v) = cc (m, w) in
+      ap (λ (y : User). raised s place y n d) h ∙ without-managers v n d ∙ x

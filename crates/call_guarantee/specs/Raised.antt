@@ -2,13 +2,17 @@
 use mathlib.Core.Bool.{Bool}
 use mathlib.Core.List.{List, [], _∷_}
 use Prim.Native.Nat.{ℕ, _-_}
+use lib.ListN.{getD}
 use lib.Seq.{sets}
-use Rattle.rules.specs.Book.{User}
+use Rattle.rules.specs.Book.{User, nobody}
+use Rattle.rules.specs.Levels.{Limits}
 use Rattle.rules.specs.Questions.{Question, refusal, decided}
 use Rattle.rules.specs.Changes.{blockedTo}
 use Rattle.rules.specs.Calls.{only, ofLevel, assignedSuffices}
 use Rattle.book_records.specs.User.{userBytes}
-use Rattle.book_format.specs.Book.{userAt}
+use Rattle.book_format.specs.Book.{bookOf, userAt, usersOf}
+use Rattle.call_level.specs.Times.{levelOf}
+use Rattle.call_guarantee.specs.Times.{dueOf}
 use Rattle.book_format.specs.Steps.{InBytes}
 
 -- the questions 11, with its answer, and 12
@@ -20,3 +24,10 @@ unfoldable pub raised : List ℕ → ℕ → User → ℕ → Bool → InBytes
 raised s place u level due =
     decided (refusal (lastQuestions due level u)) (λ n. record { answer = only n; bytes = s })
     (record { answer = ofLevel level (level - u .blocked); bytes = sets s (userAt s place) (userBytes (blockedTo level u)) })
+
+-- what they leave of the user at a place
+unfoldable pub calledAt : Bool → Limits → List ℕ → ℕ → InBytes
+calledAt afternoon limits s place =
+    let u = getD (usersOf s) place nobody in
+    let level = levelOf afternoon limits (bookOf s) u in
+    raised s place u level (dueOf afternoon limits (bookOf s) level u)

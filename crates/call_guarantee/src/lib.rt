@@ -4,24 +4,41 @@ use book_records::User;
 use call_answers::CallAnswer;
 use units::Cents;
 use units::Limits;
+use units::Net;
 ghost use mathlib.Core.Path.{_≡_};
-ghost use Prim.Native.Nat.{_≤_};
+ghost use Prim.Native.Nat.{_<_};
+ghost use lib.ListN.{getD};
 ghost use Rattle.units.specs.Limits.{asLimits, LimitsInRange};
-ghost use Rattle.book_records.specs.User.{asUser};
+ghost use Rattle.book_records.specs.User.{alone, asAmounts, asUser};
 ghost use Rattle.book_format.specs.After.{CalledAfter};
-ghost use Rattle.book_format.specs.Book.{bookOf};
+ghost use Rattle.book_format.specs.Book.{bookOf, userCount, usersOf};
+ghost use Rattle.risk_bearers.specs.Bearers.{BorneIn, usersIn};
+ghost use Rattle.risk_user.specs.UserAt.{UserRead};
+ghost use Rattle.rules.specs.Book.{nobody};
 ghost use Rattle.book_format.specs.Places.{UserIn};
 ghost use Rattle.book_format.specs.Questions.{bookNumber};
 ghost use Rattle.call_answers.specs.Call.{answerOf};
-ghost use Rattle.book_questions.specs.Asked.{SumsFound};
+ghost use Rattle.book_questions.specs.Asked.{PartiesFound};
 ghost use Rattle.call_guarantee.specs.Times.{dueOf, callOf};
-ghost use Rattle.call_guarantee.specs.Raised.{raised};
+ghost use Rattle.call_guarantee.specs.Raised.{calledAt, raised};
 
-// Question 11 of a user of an accepted book: does the level exceed blocked by more than the margin, and in the afternoon, is the user
-// called in?
-fn is_due(book: &[u8], user: User, limits: Limits, level: Cents, afternoon: bool) -> bool
-    requires { ⌜ (bookNumber (now book) ≡ 0) × (user .blocked .0 ≤ 1000000000000) × LimitsInRange (asLimits limits) ⌝ }
-    ensures { λ r. ⌜ r ≡ dueOf afternoon (asLimits limits) (bookOf (now (book .entry))) (level .0) (asUser user) ⌝ }
+// Question 11 of a user whose record was read at a place, of an accepted book with the places of those who bear the risk of its trades'
+// parties: does the level exceed blocked by more than the margin, and in the afternoon, is the user called in, with its positions as its
+// risk is borne?
+fn is_due(
+    book: &[u8],
+    sellers: &[u8; 256],
+    buyers: &[u8; 256],
+    place: usize,
+    user: User,
+    position: [Net; 3],
+    limits: Limits,
+    level: Cents,
+    afternoon: bool,
+) -> bool
+    requires { ⌜ BorneIn (now book) (now sellers) (now buyers) × (place < userCount (now book)) × (bookNumber (now book) ≡ 0) × LimitsInRange (asLimits limits) ⌝ }
+    requires { ⌜ (asUser user ≡ alone (getD (usersOf (now book)) place nobody)) × (asAmounts position ≡ getD (usersIn (now book)) place nobody .position) ⌝ }
+    ensures { λ r. ⌜ r ≡ dueOf afternoon (asLimits limits) (bookOf (now (book .entry))) (level .0) (getD (usersOf (now (book .entry))) place nobody) ⌝ }
 {
     let blocked = user.blocked;
     if !risk_levels::exceeds_margin(limits, level, blocked) {
@@ -29,8 +46,9 @@ fn is_due(book: &[u8], user: User, limits: Limits, level: Cents, afternoon: bool
     }
     if afternoon {
         let prices = book_header::read_prices(book);
-        let position = user.position;
-        let cut = risk_user::cut_before(book, user.id);
+        let n = book_format::user_count(book) as usize;
+        let m = book_format::trade_count(book) as usize;
+        let cut = cut_parties::cut_at(book, n, m, sellers, buyers, place);
         return risk_levels::called_in(limits, prices, blocked, position, cut);
     }
     true
@@ -61,19 +79,54 @@ fn raise(book: &mut [u8], place: usize, user: User, level: Cents, due: bool) -> 
     }
 }
 
-// The guarantee call on the user of an id, at one time of the day, after the opening questions, whose number is given with the sums of the
-// users.
+// The guarantee call on the shipper at a place, whose record was read, with the places of those who bear the risk of the trades' parties
+// and the sums of what stands at these.
+fn call_at(
+    book: &mut [u8],
+    sellers: &[u8; 256],
+    buyers: &[u8; 256],
+    sums: &[u32; 768],
+    place: usize,
+    user: User,
+    limits: Limits,
+    afternoon: bool,
+) -> CallAnswer
+    requires { ⌜ BorneIn (now book) (now sellers) (now buyers) × UserRead (now book) (now sums) place × LimitsInRange (asLimits limits) × (asUser user ≡ alone (getD (usersOf (now book)) place nobody)) ⌝ }
+    ensures { λ r. ⌜ answerOf r ≡ calledAt afternoon (asLimits limits) (now (book .entry)) place .answer ⌝ }
+    ensures { λ _. ⌜ now (book .exit) ≡ calledAt afternoon (asLimits limits) (now (book .entry)) place .bytes ⌝ }
+{
+    let amounts = risk_members::amounts_of(book, place, user);
+    let position = amounts.position;
+    let level = call_level::level_of(book, sums, place, user, amounts, limits, afternoon);
+    let due = is_due(
+        book,
+        sellers,
+        buyers,
+        place,
+        user,
+        position,
+        limits,
+        level,
+        afternoon,
+    );
+    raise(book, place, user, level, due)
+}
+
+// The guarantee call on the user of an id, at one time of the day, after the opening questions, whose number is given with the places of
+// the trades' parties and the sums of the users.
 pub fn call(
     book: &mut [u8],
     number: u32,
     limits: Limits,
-    sums: &[u32; 768],
+    sellers: &[u8; 256],
+    buyers: &[u8; 256],
+    sums: &mut [u32; 768],
     id: u32,
     afternoon: bool,
 ) -> CallAnswer
     requires { ⌜ (number ≡ 0 → bookNumber (now book) ≡ 0) ⌝ }
     requires { ⌜ LimitsInRange (asLimits limits) ⌝ }
-    requires { ⌜ SumsFound (now book) number (now sums) ⌝ }
+    requires { ⌜ PartiesFound (now book) number (now sellers) (now buyers) (now sums) ⌝ }
     ensures { λ r. ⌜ CalledAfter number (asLimits limits) (now (book .entry)) (callOf afternoon id) (answerOf r) (now (book .exit)) ⌝ }
 {
     let entry = call_entry::seek(book, number, id);
@@ -86,7 +139,27 @@ pub fn call(
     if user.role != 0 {
         return CallAnswer::refused(9);
     }
-    let level = call_level::level_of(book, sums, place, user, limits, afternoon);
-    let due = is_due(book, user, limits, level, afternoon);
-    raise(book, place, user, level, due)
+    if book_format::has_managers(book_format::version(book)) {
+        let mut bearing_sellers = [0u8; 256];
+        let mut bearing_buyers = [0u8; 256];
+        call_parties::bear_managed(
+            book,
+            sellers,
+            buyers,
+            &mut bearing_sellers,
+            &mut bearing_buyers,
+            sums,
+        );
+        return call_at(
+            book,
+            &bearing_sellers,
+            &bearing_buyers,
+            sums,
+            place,
+            user,
+            limits,
+            afternoon,
+        );
+    }
+    call_at(book, sellers, buyers, sums, place, user, limits, afternoon)
 }

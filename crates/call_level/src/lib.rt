@@ -1,34 +1,41 @@
 // The morning or the afternoon level of a user, on a lent book in bytes. Both times of the day go one way, with the level of the time.
 use book_records::User;
 use call_answers::LevelAnswer;
+use risk_members::Amounts;
 use units::Cents;
 use units::Limits;
 ghost use mathlib.Core.Path.{_≡_};
 ghost use Rattle.units.specs.Limits.{asLimits, LimitsInRange};
-ghost use Rattle.book_records.specs.User.{asUser};
-ghost use Rattle.book_format.specs.Book.{bookOf};
+ghost use lib.ListN.{getD};
+ghost use Rattle.rules.specs.Book.{nobody};
+ghost use Rattle.book_records.specs.User.{alone, asUser};
+ghost use Rattle.book_format.specs.Book.{bookOf, usersOf};
 ghost use Rattle.book_format.specs.After.{replyAfter};
 ghost use Rattle.book_format.specs.Questions.{bookNumber};
 ghost use Rattle.call_answers.specs.Level.{replyOf};
 ghost use Rattle.risk_user.specs.UserAt.{UserRead};
-ghost use Rattle.book_questions.specs.Asked.{SumsFound};
+ghost use Rattle.risk_members.specs.Members.{AmountsOf};
+ghost use Rattle.book_questions.specs.Asked.{PartiesFound};
 ghost use Rattle.call_level.specs.Times.{levelOf, queryOf};
 
-// The level of the user whose record was read at a place, the afternoon's or the morning's.
+// The level of the user whose record was read at a place, the afternoon's or the morning's, by its amounts and its sums as its risk is
+// borne.
 pub fn level_of(
     book: &[u8],
     sums: &[u32; 768],
     place: usize,
     user: User,
+    amounts: Amounts,
     limits: Limits,
     afternoon: bool,
 ) -> Cents
-    requires { ⌜ UserRead (now book) (now sums) place user × LimitsInRange (asLimits limits) ⌝ }
-    ensures { λ r. ⌜ r .0 ≡ levelOf afternoon (asLimits limits) (bookOf (now (book .entry))) (asUser user) ⌝ }
+    requires { ⌜ UserRead (now book) (now sums) place × LimitsInRange (asLimits limits) ⌝ }
+    requires { ⌜ (asUser user ≡ alone (getD (usersOf (now book)) place nobody)) × AmountsOf (now book) place (amounts .physical) (amounts .position) ⌝ }
+    ensures { λ r. ⌜ r .0 ≡ levelOf afternoon (asLimits limits) (bookOf (now (book .entry))) (getD (usersOf (now (book .entry))) place nobody) ⌝ }
 {
     let prices = book_header::read_prices(book);
-    let physical = user.physical;
-    let position = user.position;
+    let physical = amounts.physical;
+    let position = amounts.position;
     let holdings = risk_user::holdings_at(sums, place, physical, position);
     let charges = user.charges;
     if afternoon {
@@ -37,18 +44,21 @@ pub fn level_of(
     risk_levels::morning_level(limits, prices, charges, holdings)
 }
 
-// The level of the user of an id, at one time of the day, after the opening questions, whose number is given with the sums of the users.
+// The level of the user of an id, at one time of the day, after the opening questions, whose number is given with the places of the trades'
+// parties and the sums of the users.
 pub fn level(
     book: &[u8],
     number: u32,
     limits: Limits,
-    sums: &[u32; 768],
+    sellers: &[u8; 256],
+    buyers: &[u8; 256],
+    sums: &mut [u32; 768],
     id: u32,
     afternoon: bool,
 ) -> LevelAnswer
     requires { ⌜ (number ≡ 0 → bookNumber (now book) ≡ 0) ⌝ }
     requires { ⌜ LimitsInRange (asLimits limits) ⌝ }
-    requires { ⌜ SumsFound (now book) number (now sums) ⌝ }
+    requires { ⌜ PartiesFound (now book) number (now sellers) (now buyers) (now sums) ⌝ }
     ensures { λ r. ⌜ replyOf r ≡ replyAfter number (asLimits limits) (now (book .entry)) (queryOf afternoon id) ⌝ }
 {
     let entry = call_entry::seek(book, number, id);
@@ -67,7 +77,9 @@ pub fn level(
             level: Cents(0),
         };
     }
-    let level = level_of(book, sums, place, user, limits, afternoon);
+    let amounts = risk_members::amounts_of(book, place, user);
+    call_parties::bear_sums(book, sellers, buyers, sums);
+    let level = level_of(book, sums, place, user, amounts, limits, afternoon);
     LevelAnswer {
         number: 0,
         level: level,

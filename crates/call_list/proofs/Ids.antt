@@ -2,13 +2,14 @@
 use mathlib.Core.List.{List, [], _∷_, map}
 use mathlib.Core.Path.{_≡_, _∙_, ap, refl, sym}
 use Prim.Native.Nat.{ℕ, suc, _+_, _*_, _-_, _<_, _≤_}
+use native.Mathlib.Nat.{mul-zero}
 use native.Mathlib.Omega.{arith}
 use lib.ListN.{length, take, drop, getD, set, replicate, length-replicate}
 use Rattle.fields.specs.Field.{field}
 use Rattle.book_format.proofs.Passed.{length-usersOf, passed}
 use Rattle.book_format.proofs.Offsets.{user-next, user-there}
 use Rattle.book_format.proofs.Places.{user-field}
-use Rattle.book_format.specs.Book.{bookOf, headerSize, userAt, userCount, usersOf, versionOf}
+use Rattle.book_format.specs.Book.{bookOf, headerSize, userAt, userCount, userSize, usersOf, versionOf}
 use Rattle.book_format.specs.Places.{UserIn}
 use Rattle.book_format.specs.Questions.{Formed, bookNumber}
 use Rattle.book_parties.proofs.Rising.{rising-ids}
@@ -31,10 +32,10 @@ pub record Filling (s : List ℕ) (n : ℕ) (known : List ℕ) (i a : ℕ) : Typ
 module _ {s : List ℕ} {n : ℕ} where
   pub filling-start : {known : List ℕ} {a : ℕ} → known ≡ replicate 64 4294967295 → a ≡ headerSize (versionOf s) → Filling s n known 0 a
   filling-start e begin =
-      record { place = omega (arith, user-there s 0 begin); within = omega arith; listed = listed-start (ap length e ∙ length-replicate {A = ℕ} 64 4294967295); rest = e }
+      record { place = omega (arith, mul-zero (userSize (versionOf s)), user-there s 0 begin refl); within = omega arith; listed = listed-start (ap length e ∙ length-replicate {A = ℕ} 64 4294967295); rest = e }
 
   -- the id of the next user is the first field of its record
-  pub filling-turn : {known : List ℕ} {i a x : ℕ} → Filling s n known i a → i < n → n ≡ userCount s → Formed s → x ≡ field 4 a s → Filling s n (set known i x) (i + 1) (a + 56)
+  pub filling-turn : {known : List ℕ} {i a x : ℕ} → Filling s n known i a → i < n → n ≡ userCount s → Formed s → x ≡ field 4 a s → Filling s n (set known i x) (i + 1) (a + userSize (versionOf s))
   unfolding userOf
   filling-turn {known} {i} {a} {x} before h count form e =
       let at : a ≡ userAt s i + 0 = omega (arith, before .place) in
@@ -47,15 +48,16 @@ module _ {s : List ℕ} {n : ℕ} where
         rest = rest-set 64 i 4294967295 x known (before .rest);
       }
 
-  pub filling-end : {known : List ℕ} {i a at : ℕ} → Filling s n known i a → n ≤ i → n ≡ userCount s → at ≡ headerSize (versionOf s) → bookNumber s ≡ 0 → Known known n at s
+  pub filling-end : {known : List ℕ} {i a at size : ℕ} → Filling s n known i a → n ≤ i → n ≡ userCount s → at ≡ headerSize (versionOf s) → size ≡ userSize (versionOf s) → bookNumber s ≡ 0 → Known known n at size s
   unfolding idsOf bookOf
-  filling-end {known} {i} before h count begin e =
+  filling-end {known} {i} before h count begin sized e =
       let over : i ≡ n = omega (arith, before .within) in
       let p = passed s e in
       let ids : take n known ≡ idsOf (usersOf s) = rw over at (listed-end (before .listed) (omega (arith, length-usersOf s))) in
       record {
         passes = e;
         begin = begin;
+        sized = sized;
         count = count;
         listed = ids;
         padded = record {
@@ -78,12 +80,13 @@ count-parties : (us : List User) → length us ≡ length (map (λ u. u .party) 
 count-parties [] = refl
 count-parties (u ∷ us) = ap suc (count-parties us)
 
-pub known-onward : {known : List ℕ} {n at : ℕ} {s t : List ℕ} → Onward s t → Known known n at s → Known known n at t
+pub known-onward : {known : List ℕ} {n at size : ℕ} {s t : List ℕ} → Onward s t → Known known n at size s → Known known n at size t
 unfolding bookOf
 known-onward {s = s} {t = t} w k =
     record {
       passes = w .number;
       begin = k .begin ∙ ap (λ (h : Header). headerSize (h .version)) (sym (w .header));
+      sized = k .sized ∙ ap (λ (h : Header). userSize (h .version)) (sym (w .header));
       count =
           k .count
           ∙ sym (length-usersOf s)

@@ -27,11 +27,11 @@ use Rattle.call_list.specs.Lines.{Known, LinesPosted, ListedAfter}
 -- ---- the user of a line
 
 -- the place that was searched is the user's
-pub place-searched : {known : List ℕ} {n at : ℕ} {s : List ℕ} (id : ℕ) {place : ℕ} → Known known n at s → place ≡ placeIn (take n known) id → place ≡ placeOf (usersOf s) id
+pub place-searched : {known : List ℕ} {n at size : ℕ} {s : List ℕ} (id : ℕ) {place : ℕ} → Known known n at size s → place ≡ placeIn (take n known) id → place ≡ placeOf (usersOf s) id
 place-searched {s = s} id k e = e ∙ ap (λ (xs : List ℕ). placeIn xs id) (k .listed) ∙ placeIn-placeOf (usersOf s) id
 
 -- past the last there is none
-pub line-refused : {known : List ℕ} {n at : ℕ} {s : List ℕ} (id area : ℕ) (z : ℤ) {place : ℕ} → Known known n at s → place ≡ placeIn (take n known) id → n ≤ place
+pub line-refused : {known : List ℕ} {n at size : ℕ} {s : List ℕ} (id area : ℕ) (z : ℤ) {place : ℕ} → Known known n at size s → place ≡ placeIn (take n known) id → n ≤ place
     → (limits : Limits) → CalledAfter 0 limits s (postingOf id area z) (only 8) s
 unfolding after
 line-refused {s = s} id area z {place} k e h limits =
@@ -46,9 +46,9 @@ line-refused {s = s} id area z {place} k e h limits =
 -- ---- line by line
 
 -- i lines are posted
-pub record Going (known : List ℕ) (n at : ℕ) (ids areas : List ℕ) (amounts : List ℤ) (s₀ s places : List ℕ) (i : ℕ) : Type 0 where
+pub record Going (known : List ℕ) (n at size : ℕ) (ids areas : List ℕ) (amounts : List ℤ) (s₀ s places : List ℕ) (i : ℕ) : Type 0 where
   pub bytes : AllBytes s
-  pub searched : Known known n at s
+  pub searched : Known known n at size s
   pub whole : length s ≡ length s₀
   pub room : length places ≡ length ids
   pub within : i ≤ length ids
@@ -56,12 +56,12 @@ pub record Going (known : List ℕ) (n at : ℕ) (ids areas : List ℕ) (amounts
   pub onBytes : (g : Setting) → openingNumber g s₀ ≡ 0 → linesIn g s (drop i ids) (drop i areas) (drop i amounts) .bytes ≡ linesIn g s₀ ids areas amounts .bytes
   pub onNumbers : (g : Setting) → openingNumber g s₀ ≡ 0 → take i places ++ linesIn g s (drop i ids) (drop i areas) (drop i amounts) .numbers ≡ linesIn g s₀ ids areas amounts .numbers
 
-module _ {known : List ℕ} {n at : ℕ} {ids areas : List ℕ} {amounts : List ℤ} {s₀ : List ℕ} where
-  pub going-start : {places : List ℕ} → AllBytes s₀ → Known known n at s₀ → length places ≡ length ids → Going known n at ids areas amounts s₀ s₀ places 0
+module _ {known : List ℕ} {n at size : ℕ} {ids areas : List ℕ} {amounts : List ℤ} {s₀ : List ℕ} where
+  pub going-start : {places : List ℕ} → AllBytes s₀ → Known known n at size s₀ → length places ≡ length ids → Going known n at size ids areas amounts s₀ s₀ places 0
   going-start b k r =
       record { bytes = b; searched = k; whole = refl; room = r; within = omega arith; opened = λ g e. e; onBytes = λ g e. refl; onNumbers = λ g e. refl }
 
-  module _ {s t places : List ℕ} {i : ℕ} (r : ℕ) (p : Going known n at ids areas amounts s₀ s places i) (h : i < length ids) (ar : length areas ≡ length ids) (am : length amounts ≡ length ids)
+  module _ {s t places : List ℕ} {i : ℕ} (r : ℕ) (p : Going known n at size ids areas amounts s₀ s places i) (h : i < length ids) (ar : length areas ≡ length ids) (am : length amounts ≡ length ids)
       (c : (limits : Limits) → CalledAfter 0 limits s (postingOf (getD ids i 0) (getD areas i 0) (getD amounts i (pos 0))) (only r) t) where
     onward : Onward s t
     onward =
@@ -85,7 +85,7 @@ module _ {known : List ℕ} {n at : ℕ} {ids areas : List ℕ} {amounts : List 
         rw (add-one, drop-cons ids i 0 h, drop-cons areas i 0 (omega arith), drop-cons amounts i (pos 0) (omega arith))
         (one-line g s t (getD ids i 0) (getD areas i 0) (getD amounts i (pos 0)) r (drop (suc i) ids) (drop (suc i) areas) (drop (suc i) amounts) (first g e .0) (first g e .1))
 
-    pub going-more : length t ≡ length s → Going known n at ids areas amounts s₀ t (set places i r) (i + 1)
+    pub going-more : length t ≡ length s → Going known n at size ids areas amounts s₀ t (set places i r) (i + 1)
     going-more l =
         record {
           bytes = onward .bytes;
@@ -103,7 +103,7 @@ module _ {known : List ℕ} {n at : ℕ} {ids areas : List ℕ} {amounts : List 
               ∙ p .onNumbers g e;
         }
 
-  pub going-end : {s places : List ℕ} {i : ℕ} → Going known n at ids areas amounts s₀ s places i → length ids ≤ i → LinesPosted ids areas amounts s₀ s places
+  pub going-end : {s places : List ℕ} {i : ℕ} → Going known n at size ids areas amounts s₀ s places i → length ids ≤ i → LinesPosted ids areas amounts s₀ s places
   unfolding linesIn
   going-end {s} {places} {i} p h =
       record {

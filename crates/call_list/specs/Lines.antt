@@ -5,7 +5,7 @@ use Prim.Native.Nat.{ℕ}
 use lib.IntN.{ℤ}
 use lib.ListN.{length, take}
 use Rattle.book_format.specs.After.{after}
-use Rattle.book_format.specs.Book.{headerSize, userCount, usersOf, versionOf}
+use Rattle.book_format.specs.Book.{headerSize, userCount, userSize, usersOf, versionOf}
 use Rattle.book_format.specs.Questions.{bookNumber}
 use Rattle.book_parties.specs.Ids.{Padded, idsOf}
 use Rattle.requests.specs.Request.{Setting, linesIn, openingNumber}
@@ -16,10 +16,11 @@ pub record Even (ids areas : List ℕ) (amounts : List ℤ) (places : List ℕ) 
   pub of-amounts : length amounts ≡ length ids
   pub of-places : length places ≡ length ids
 
--- the bytes pass their questions, their users begin at an offset, and the first n of 64 numbers are the ids of these, which can be searched
-pub record Known (known : List ℕ) (n at : ℕ) (s : List ℕ) : Type 0 where
+-- the bytes pass their questions, their users begin at an offset and have a size, and the first n of 64 numbers are the ids of these, which can be searched
+pub record Known (known : List ℕ) (n at size : ℕ) (s : List ℕ) : Type 0 where
   pub passes : bookNumber s ≡ 0
   pub begin : at ≡ headerSize (versionOf s)
+  pub sized : size ≡ userSize (versionOf s)
   pub count : n ≡ userCount s
   pub listed : take n known ≡ idsOf (usersOf s)
   pub padded : Padded known n

@@ -4,7 +4,7 @@ ghost use mathlib.Core.Path.{_≡_};
 ghost use lib.ListN.{length, replicate};
 ghost use Rattle.rules.specs.Levels.{Limits};
 ghost use Rattle.rules.specs.Calls.{only};
-ghost use Rattle.book_format.specs.Book.{userCount, headerSize, versionOf};
+ghost use Rattle.book_format.specs.Book.{userCount, userSize, headerSize, versionOf};
 ghost use Rattle.book_format.specs.Questions.{bookNumber};
 ghost use Rattle.book_format.specs.After.{CalledAfter};
 ghost use Rattle.call_posting.specs.Posting.{postingOf};
@@ -22,16 +22,16 @@ pub fn fits(ids: &[u32], areas: &[u32], amounts: &[i64], places: &[u32]) -> bool
     (n <= MOST) & ((areas.len() == n) & ((amounts.len() == n) & (places.len() == n)))
 }
 
-// Lists the ids of the n users of a book, which begin at `at`.
-fn fill_ids(book: &[u8], at: usize, n: usize, known: &mut [u32])
-    requires { ⌜ (bookNumber (now book) ≡ 0) × (n ≡ userCount (now book)) × (at ≡ headerSize (versionOf (now book))) × (now known ≡ replicate 64 4294967295) ⌝ }
-    ensures { λ _. ⌜ Known (now (known .exit)) n at (now (book .entry)) ⌝ }
+// Lists the ids of the n users of a book, whose records, of a size, begin at `at`.
+fn fill_ids(book: &[u8], at: usize, size: usize, n: usize, known: &mut [u32])
+    requires { ⌜ (bookNumber (now book) ≡ 0) × (n ≡ userCount (now book)) × (at ≡ headerSize (versionOf (now book))) × (size ≡ userSize (versionOf (now book))) × (now known ≡ replicate 64 4294967295) ⌝ }
+    ensures { λ _. ⌜ Known (now (known .exit)) n at size (now (book .entry)) ⌝ }
 {
     let mut i = 0;
     let mut a = at;
     while i < n {
         known[i] = fields::get_u32(book, a);
-        a += 56;
+        a += size;
         i += 1;
     }
 }
@@ -43,18 +43,19 @@ fn line(
     guesses: &[u8; 1024],
     n: usize,
     at: usize,
+    size: usize,
     id: u32,
     area: u32,
     amount: i64,
 ) -> u32
-    requires { ⌜ Known (now known) n at (now book) ⌝ }
+    requires { ⌜ Known (now known) n at size (now book) ⌝ }
     ensures { λ r. ⌜ ((limits : Limits) → CalledAfter 0 limits (now (book .entry)) (postingOf id area amount) (only r) (now (book .exit))) ⌝ }
 {
     let place = book_parties::find(known, guesses, n, id);
     if n <= place {
         return 8;
     }
-    call_posting::post_at(book, at, place, area, amount)
+    call_posting::post_at(book, at, size, place, area, amount)
 }
 
 // The lines one after another, each on the book that the last one left, and the number of each in its place.
@@ -64,18 +65,29 @@ fn post_lines(
     guesses: &[u8; 1024],
     n: usize,
     at: usize,
+    size: usize,
     ids: &[u32],
     areas: &[u32],
     amounts: &[i64],
     places: &mut [u32],
 )
-    requires { ⌜ Known (now known) n at (now book) ⌝ }
+    requires { ⌜ Known (now known) n at size (now book) ⌝ }
     requires { ⌜ Even (now ids) (now areas) (now amounts) (now places) ⌝ }
     ensures { λ _. ⌜ LinesPosted (now (ids .entry)) (now (areas .entry)) (now (amounts .entry)) (now (book .entry)) (now (book .exit)) (now (places .exit)) ⌝ }
 {
     let mut i = 0;
     while i < ids.len() {
-        let number = line(book, known, guesses, n, at, ids[i], areas[i], amounts[i]);
+        let number = line(
+            book,
+            known,
+            guesses,
+            n,
+            at,
+            size,
+            ids[i],
+            areas[i],
+            amounts[i],
+        );
         places[i] = number;
         i += 1;
     }
@@ -100,10 +112,22 @@ pub fn list(
     }
     let n = book_format::user_count(book) as usize;
     let at = book_format::users_offset(book);
+    let size = book_format::users_size(book);
     let mut known = [0xffff_ffffu32; 64];
     let mut guesses = [0u8; 1024];
-    fill_ids(book, at, n, &mut known);
+    fill_ids(book, at, size, n, &mut known);
     book_parties::fill_guesses(&known, n, &mut guesses);
-    post_lines(book, &known, &guesses, n, at, ids, areas, amounts, places);
+    post_lines(
+        book,
+        &known,
+        &guesses,
+        n,
+        at,
+        size,
+        ids,
+        areas,
+        amounts,
+        places,
+    );
     0
 }

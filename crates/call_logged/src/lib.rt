@@ -11,6 +11,7 @@ ghost use mathlib.Core.Bool.{cond};
 ghost use mathlib.Core.Path.{_≡_};
 ghost use Prim.Native.Nat.{suc};
 ghost use lib.Dec.{T};
+ghost use lib.ListN.{length};
 ghost use Rattle.book_parties.specs.Ids.{BookIn};
 ghost use Rattle.book_questions.specs.Asked.{PartiesFound};
 ghost use Rattle.log_format.specs.Fits.{logFits};
@@ -55,13 +56,14 @@ pub fn run(
     number: u32,
     limits: Limits,
     sellers: &[u8; 256],
-    parties: &[u8; 256],
-    sums: &[u32; 768],
+    buyers: &[u8; 256],
+    sums: &mut [u32; 768],
     log: &mut [u8],
 ) -> RunAnswer
     requires { ⌜ Opened number (now book) (now log) ⌝ }
     requires { ⌜ LimitsInRange (asLimits limits) ⌝ }
-    requires { ⌜ PartiesFound (now book) number (now sellers) (now parties) (now sums) ⌝ }
+    requires { ⌜ (length (now sellers) ≡ 256) × (length (now buyers) ≡ 256) ⌝ }
+    requires { ⌜ PartiesFound (now book) number (now sellers) (now buyers) (now sums) ⌝ }
     ensures { λ r. ⌜ GivesLogged (loggedAfter number (asLimits limits) (now (log .entry)) (now (book .entry)) runCall) (answerOf r) (now (book .exit)) (now (log .exit)) ⌝ }
 {
     if number != 0 {
@@ -72,7 +74,27 @@ pub fn run(
         prices: book_header::read_prices(book),
     };
     let count = fields::get_u32(log, 4) as usize;
-    let noted = run_noted::run_book(book, sellers, parties, sums, day, log, count);
+    let mut bearing_sellers = [0u8; 256];
+    let mut bearing_buyers = [0u8; 256];
+    call_parties::bear(
+        book,
+        sellers,
+        buyers,
+        &mut bearing_sellers,
+        &mut bearing_buyers,
+        sums,
+    );
+    let noted = run_noted::run_book(
+        book,
+        sellers,
+        buyers,
+        &bearing_sellers,
+        &bearing_buyers,
+        sums,
+        day,
+        log,
+        count,
+    );
     let many = noted.count as u32;
     log_entries::seal(log, book, many);
     let totals = noted.totals;

@@ -73,13 +73,13 @@ module _ (before : ℕ) (limits : Limits) (s : List ℕ) (id area : ℕ) (amount
     -- accepted: the user's record is changed where it stands
     accepted : AllBytes s → area < 3 → within 1000000 (at (find (usersOf s) id .physical) area +ℤ amount) ≡ true
         → CalledAfter before limits s (postingOf id area amount) (only 0) (sets s (userAt s place) (userBytes (posted area amount (find (usersOf s) id))))
-    unfolding rest entryInRange refusal decided inBytes effect bookOf
+    unfolding rest entryInRange refusal decided inBytes effect bookOf posted
     accepted bytes k w =
         given _ 0
         (found-step
         ∙ rw (lt-ltb area 3 k, w, f .stands)
         (ap (λ (l : List ℕ). record { answer = only 0; bytes = l })
-        (changed-bytes s bytes (passed s (f .passes)) id (posted area amount) (rw (f .stands) at (f .known)))))
+        (changed-bytes s bytes (passed s (f .passes)) id (posted area amount) (rw (f .stands) at (f .known)) refl)))
 
 -- ---- at a place
 

@@ -3,7 +3,7 @@ ghost use mathlib.Core.Path.{_≡_};
 ghost use Prim.Native.Nat.{_<_};
 ghost use Rattle.rules.specs.Levels.{Limits};
 ghost use Rattle.rules.specs.Calls.{only};
-ghost use Rattle.book_format.specs.Book.{userCount, headerSize, versionOf};
+ghost use Rattle.book_format.specs.Book.{userCount, headerSize, versionOf, userSize};
 ghost use Rattle.book_format.specs.Questions.{bookNumber};
 ghost use Rattle.book_format.specs.After.{CalledAfter};
 ghost use Rattle.call_posting.specs.Posting.{Ready, PostedTo, PostedAt, postingOf};
@@ -41,16 +41,16 @@ fn post(entry: u32, position: u32, amount: i64) -> Change
     }
 }
 
-// Adds an amount to the physical entry and the position of the user at a place, of those that begin at `at`, in an area: 0, or 10 and
-// nothing is changed. Of the user's record it reads and writes these two fields alone.
-pub fn post_at(book: &mut [u8], at: usize, place: usize, area: u32, amount: i64) -> u32
-    requires { ⌜ (bookNumber (now book) ≡ 0) × (place < userCount (now book)) × (at ≡ headerSize (versionOf (now book))) ⌝ }
+// Adds an amount to the physical entry and the position of the user at a place, of the records of a size that begin at `at`, in an area: 0,
+// or 10 and nothing is changed. Of the user's record it reads and writes these two fields alone.
+pub fn post_at(book: &mut [u8], at: usize, size: usize, place: usize, area: u32, amount: i64) -> u32
+    requires { ⌜ (bookNumber (now book) ≡ 0) × (place < userCount (now book)) × (at ≡ headerSize (versionOf (now book))) × (size ≡ userSize (versionOf (now book))) ⌝ }
     ensures { λ r. ⌜ PostedAt place area amount (now (book .entry)) r (now (book .exit)) ⌝ }
 {
     if 2 < area {
         return 10;
     }
-    let a = book_format::user_offset_from(book, at, place) + (8 + 4 * area as usize);
+    let a = book_format::user_offset_from(book, at, size, place) + (8 + 4 * area as usize);
     let entry = fields::get_u32(book, a);
     let position = fields::get_u32(book, a + 12);
     let change = post(entry, position, amount);
@@ -75,5 +75,6 @@ pub fn posting(book: &mut [u8], number: u32, id: u32, area: u32, amount: i64) ->
         return number;
     }
     let at = book_format::users_offset(book);
-    post_at(book, at, place, area, amount)
+    let size = book_format::users_size(book);
+    post_at(book, at, size, place, area, amount)
 }

@@ -12,7 +12,9 @@ use borrow.Author.Tests.{lt-ltb, le-ltb, le-leb}
 use Rattle.book_parties.specs.Ids.{idAt}
 use Rattle.risk_holdings.specs.Parties.{cutBefore}
 use Rattle.book_format.proofs.Passed.{length-usersOf}
-use Rattle.book_format.specs.Book.{bookOf, tradesOf, userCount, usersOf}
+use Rattle.book_format.specs.Book.{bookOf, userCount, usersOf}
+use Rattle.risk_bearers.proofs.Borne.{id-in}
+use Rattle.risk_bearers.specs.Bearers.{tradesIn, usersIn}
 use Rattle.base.proofs.Linear.{by-order}
 use Rattle.laws.proofs.Refusals.{number-none, number-some, numbered, refusal-first, refusal-next}
 use Rattle.risk_user.proofs.Rules.{called-own, level-own, state-own}
@@ -82,7 +84,7 @@ short-target limits u level called h =
     go false c m a n k = absurd (omega (arith, k))
 
 module _ {limits : Limits} {f : Prices} {s sellers parties sums : List ℕ} (r : Runnable limits f s sellers parties sums) {place : ℕ} (inside : place < userCount s)
-    {ps : List ℕ} (p : PositionsOf (usersOf s) ps) where
+    {ps : List ℕ} (p : PositionsOf (usersIn s) ps) where
   abbrev user : User
   user = getD (usersOf s) place nobody
 
@@ -96,10 +98,11 @@ module _ {limits : Limits} {f : Prices} {s sellers parties sums : List ℕ} (r :
 
   -- and whether it is called in
   pub asked-called : {called cut : Bool} → called ≡ (flaggedAt limits f (usersOf s) ps place || cut)
-      → cut ≡ cutBefore (idAt (usersOf s) place) (tradesOf s) → called ≡ calledIn limits (bookOf s) (getD (usersOf s) place nobody)
+      → cut ≡ cutBefore (idAt (usersIn s) place) (tradesIn s) → called ≡ calledIn limits (bookOf s) (getD (usersOf s) place nobody)
   unfolding bookOf
   asked-called {called} {cut} e c =
-      called-own (bookOf s) (r .twelve) p place member limits (e ∙ ap (λ (g : Prices). flaggedAt limits g (usersOf s) ps place || cut) (r .prices-are)) c
+      called-own (bookOf s) (r .twelve) p place member limits (e ∙ ap (λ (g : Prices). flaggedAt limits g (usersOf s) ps place || cut) (r .prices-are))
+      (c ∙ ap (λ (id : ℕ). cutBefore id (tradesIn s)) (id-in s place))
 
   module _ {level : ℕ} {called : Bool} (le : level ≡ afternoonLevel limits (bookOf s) (getD (usersOf s) place nobody)) (ce : called ≡ calledIn limits (bookOf s) (getD (usersOf s) place nobody))
       {number : ℕ} {state : State} (ne : number ≡ refusedBy state) (se : state ≡ stateBy limits (getD (usersOf s) place nobody) level called) where

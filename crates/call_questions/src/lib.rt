@@ -8,6 +8,7 @@ ghost use Prim.Native.Nat.{_<_};
 ghost use lib.ListN.{getD, length};
 ghost use Rattle.book_format.specs.Book.{bookOf, userCount, usersOf};
 ghost use Rattle.units.specs.Limits.{asLimits};
+ghost use Rattle.risk_bearers.specs.Bearers.{usersIn};
 ghost use Rattle.risk_user.specs.UserAt.{PositionsOf};
 ghost use Rattle.risk_user.specs.States.{stateOf};
 ghost use Rattle.rules.specs.Book.{nobody};
@@ -46,12 +47,12 @@ pub fn shortfall_at(
 ) -> Shortfall
     requires { ⌜ Runnable (asLimits (day .limits)) (asPrices (day .prices)) (now book) (now sellers) (now parties) (now sums) × (place < userCount (now book)) × (length (now positions) ≡ 192) ⌝ }
     ensures { λ r. ⌜ ShortfallOf (asLimits (day .limits)) (bookOf (now (book .entry))) (getD (usersOf (now (book .entry))) place nobody) (r .number) (r .target .0) ⌝ }
-    ensures { λ _. ⌜ PositionsOf (usersOf (now (book .entry))) (now (positions .exit)) × (length (now (positions .exit)) ≡ 192) ⌝ }
+    ensures { λ _. ⌜ PositionsOf (usersIn (now (book .entry))) (now (positions .exit)) × (length (now (positions .exit)) ≡ 192) ⌝ }
 {
     let n = book_format::user_count(book) as usize;
     let m = book_format::trade_count(book) as usize;
     run_positions::fill_positions(book, n, positions);
-    let cut = run_targets::cut_at(book, n, m, sellers, parties, place);
+    let cut = cut_parties::cut_at(book, n, m, sellers, parties, place);
     let called = risk_user::called_at(book, positions, place, cut, day);
     let level = risk_user::level_at(book, sums, positions, place, day);
     let number = refused_by(risk_user::state_of(book, place, level, called, day));

@@ -19,6 +19,7 @@ use Rattle.cut_lists.proofs.Own.{own-origins}
 use Rattle.cut_tiers.specs.Tiers.{cutsOf}
 use Rattle.fields.specs.Field.{AllBytes}
 use Rattle.laws.proofs.Refusals.{numbered, refusal-is}
+use Rattle.laws_sales.specs.Borne.{borneBook}
 use Rattle.laws_sales.specs.Groups.{places}
 use Rattle.laws_sales.specs.Parts.{part}
 use Rattle.log_entries.proofs.Entries.{log-sealed}
@@ -33,7 +34,8 @@ use Rattle.requests.proofs.Emptied.{about-numbered}
 use Rattle.requests.specs.Logged.{loggedAfter}
 use Rattle.requests.specs.Request.{Outcome, enteredIn, refusedWith}
 use Rattle.rules.specs.Areas.{Prices}
-use Rattle.rules.specs.Book.{User, find, nobody}
+use Rattle.risk_user.proofs.Borne.{party-borne}
+use Rattle.rules.specs.Book.{Party, User, find, nobody}
 use Rattle.rules.specs.Calls.{Answer, about, effect, ofCuts, only, reduced, reducedBy, reduction}
 use Rattle.rules.specs.Levels.{Limits}
 use Rattle.rules.specs.Questions.{Question, decided, refusal}
@@ -49,8 +51,8 @@ use Rattle.call_reduction.proofs.Ways.{stepWith}
 
 -- ---- what each trade loses
 
-module _ {f : Prices} {s : List ℕ} {place : ℕ} {sellers parties ps : List ℕ} (p : UserOf f s place sellers parties ps) {ss origins ns areaCodes bs : List ℕ}
-    (l : Listed (bookOf s) ss origins ns areaCodes bs (allSales (bookOf s))) (last : List Question) (asked : ℕ) (cs cs₀ : List ℕ)
+module _ {f : Prices} {s : List ℕ} {place : ℕ} {ownSellers ownBuyers sellers parties ps : List ℕ} (p : UserOf f s place ownSellers ownBuyers sellers parties ps) {ss origins ns areaCodes bs : List ℕ}
+    (l : Listed (borneBook (bookOf s)) ss origins ns areaCodes bs (allSales (borneBook (bookOf s)))) (last : List Question) (asked : ℕ) (cs cs₀ : List ℕ)
     (filled : cs ≡ sets cs₀ (getD ss place 0) (cutsOf f (shortIn ps place) asked (part (getD ss place 0) (getD ss (place + 1) 0) ns) (part (getD ss place 0) (getD ss (place + 1) 0) areaCodes)))
     (long : length cs₀ ≡ 256) where
   abbrev u : User
@@ -84,9 +86,9 @@ module _ {f : Prices} {s : List ℕ} {place : ℕ} {sellers parties ps : List �
       }
 
   -- where the user's own sales stand
-  own-places : part (getD ss place 0) (getD ss (place + 1) 0) origins ≡ places (bookOf s .trades) (getD (usersOf s) place nobody .party .id)
+  own-places : part (getD ss place 0) (getD ss (place + 1) 0) origins ≡ places (borneBook (bookOf s) .trades) (getD (usersOf s) place nobody .party .id)
   unfolding bookOf
-  own-places = own-origins (l .sales) place (inside-users p l)
+  own-places = own-origins (l .sales) place (inside-users p l) ∙ ap (λ (q : Party). places (borneBook (bookOf s) .trades) (q .id)) (party-borne (bookOf s) place)
 
   few-trades : length (bookOf s .trades) ≤ 256
   unfolding bookOf
@@ -96,7 +98,7 @@ module _ {f : Prices} {s : List ℕ} {place : ℕ} {sellers parties ps : List �
   pub own-noted : (lent : Bool) {log t m : List ℕ} {n : ℕ} → AllBytes log → (lent ≡ true → T (logFits log s)) → roomIn lent log ≡ true
       → NotedLent lent log t origins cs (getD ss place 0) (getD ss (place + 1) 0) m → n ≡ 0
       → m ≡ notedBy lent n (cuts (bookOf s) (getD (usersOf s) place nobody) asked) s t log
-  unfolding notedBy after roomIn room
+  unfolding notedBy after roomIn room bookOf usersOf
   own-noted false b fits free noted z = noted .stays refl
   own-noted true {log} {t} {m} b fits free noted z =
       let few = p .book .book .accepted .held .form .trades in

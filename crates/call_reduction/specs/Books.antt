@@ -3,7 +3,9 @@ use mathlib.Core.List.{List}
 use mathlib.Core.Path.{_≡_}
 use Prim.Native.Nat.{ℕ, _<_}
 use lib.ListN.{length}
-use Rattle.book_format.specs.Book.{userCount, usersOf}
+use Rattle.book_format.specs.Book.{userCount}
+use Rattle.book_parties.specs.Ids.{BookIn}
+use Rattle.risk_bearers.specs.Bearers.{usersIn}
 use Rattle.risk_user.specs.UserAt.{PositionsOf}
 use Rattle.rules.specs.Areas.{Prices}
 use Rattle.rules.specs.Book.{Book}
@@ -12,12 +14,13 @@ use Rattle.run_reduction.specs.Books.{Runnable}
 use Rattle.laws_sales.specs.Groups.{starts}
 
 -- an accepted book, a user's place in it, and the positions of its users; the limits and sums that the user's questions were asked by are of no use to the cuts
-pub record UserOf (f : Prices) (s : List ℕ) (place : ℕ) (sellers parties ps : List ℕ) : Type 0 where
+pub record UserOf (f : Prices) (s : List ℕ) (place : ℕ) (ownSellers ownBuyers sellers parties ps : List ℕ) : Type 0 where
   pub limits : Limits
   pub sums : List ℕ
   pub book : Runnable limits f s sellers parties sums
+  pub own : BookIn s ownSellers ownBuyers
   pub inside : place < userCount s
-  pub positions : PositionsOf (usersOf s) ps
+  pub positions : PositionsOf (usersIn s) ps
   pub room : length ps ≡ 192
 
 -- the number of own sales of all users

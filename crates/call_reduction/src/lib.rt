@@ -10,7 +10,9 @@ ghost use mathlib.Core.Bool.{true};
 ghost use mathlib.Core.Path.{_≡_};
 ghost use Prim.Native.Nat.{_<_};
 ghost use lib.Dec.{T};
-ghost use lib.ListN.{getD};
+ghost use lib.ListN.{getD, length};
+ghost use Rattle.book_parties.specs.Ids.{BookIn};
+ghost use Rattle.laws_sales.specs.Borne.{borneBook};
 ghost use Rattle.call_answers.specs.Reduction.{answerOf};
 ghost use Rattle.book_format.specs.Book.{bookOf, userCount, usersOf};
 ghost use Rattle.book_format.specs.Questions.{bookNumber};
@@ -31,6 +33,8 @@ ghost use Rattle.call_reduction.specs.Log.{ReducedWith, notedBy};
 // Asks question 14 of the user at a place and 20 of a log that is given, and reduces the user for an amount, by the lists of all own sales.
 fn reduce_listed(
     book: &mut [u8],
+    own_sellers: &[u8; 256],
+    own_buyers: &[u8; 256],
     sellers: &[u8; 256],
     parties: &[u8; 256],
     starts: &[usize; 65],
@@ -45,8 +49,8 @@ fn reduce_listed(
     with_log: bool,
     log: &mut [u8],
 ) -> ReductionAnswer
-    requires { ⌜ UserOf (asPrices prices) (now book) place (now sellers) (now parties) (now positions) ⌝ }
-    requires { ⌜ Listed (bookOf (now book)) (now starts) (now origins) (now standing) (now areas) (now buyers) (allSales (bookOf (now book))) ⌝ }
+    requires { ⌜ UserOf (asPrices prices) (now book) place (now «own_sellers») (now «own_buyers») (now sellers) (now parties) (now positions) ⌝ }
+    requires { ⌜ Listed (borneBook (bookOf (now book))) (now starts) (now origins) (now standing) (now areas) (now buyers) (allSales (borneBook (bookOf (now book)))) ⌝ }
     requires { ⌜ («with_log» ≡ true → T (logFits (now log) (now book))) ⌝ }
     ensures { λ r. ⌜ Gives (onSales (roomAsked «with_log» (now (log .entry))) (now (book .entry)) (getD (usersOf (now (book .entry))) place nobody) (asked .0)) (answerOf r) (now (book .exit)) ⌝ }
     ensures { λ r. ⌜ now (log .exit) ≡ notedBy «with_log» (answerOf r .number) (cuts (bookOf (now (book .entry))) (getD (usersOf (now (book .entry))) place nobody) (asked .0)) (now (book .entry)) (now (book .exit)) (now (log .entry)) ⌝ }
@@ -75,7 +79,7 @@ fn reduce_listed(
         to,
     );
     let n = book_format::user_count(book) as usize;
-    cut_apply::apply(book, n, sellers, parties, origins, &cuts, from, to);
+    cut_apply::apply(book, n, own_sellers, own_buyers, origins, &cuts, from, to);
     log_lent::note(book, with_log, log, origins, &cuts, from, to);
     ReductionAnswer::of_cuts(asked, tally)
 }
@@ -83,6 +87,8 @@ fn reduce_listed(
 // Asks question 14 of the user at a place and 20 of a log that is given, and reduces the user for an amount.
 fn reduce_sales(
     book: &mut [u8],
+    own_sellers: &[u8; 256],
+    own_buyers: &[u8; 256],
     sellers: &[u8; 256],
     parties: &[u8; 256],
     positions: &mut [u32; 192],
@@ -92,7 +98,7 @@ fn reduce_sales(
     with_log: bool,
     log: &mut [u8],
 ) -> ReductionAnswer
-    requires { ⌜ UserOf (asPrices prices) (now book) place (now sellers) (now parties) (now positions) ⌝ }
+    requires { ⌜ UserOf (asPrices prices) (now book) place (now «own_sellers») (now «own_buyers») (now sellers) (now parties) (now positions) ⌝ }
     requires { ⌜ («with_log» ≡ true → T (logFits (now log) (now book))) ⌝ }
     ensures { λ r. ⌜ Gives (onSales (roomAsked «with_log» (now (log .entry))) (now (book .entry)) (getD (usersOf (now (book .entry))) place nobody) (asked .0)) (answerOf r) (now (book .exit)) ⌝ }
     ensures { λ r. ⌜ now (log .exit) ≡ notedBy «with_log» (answerOf r .number) (cuts (bookOf (now (book .entry))) (getD (usersOf (now (book .entry))) place nobody) (asked .0)) (now (book .entry)) (now (book .exit)) (now (log .entry)) ⌝ }
@@ -118,6 +124,8 @@ fn reduce_sales(
     );
     reduce_listed(
         book,
+        own_sellers,
+        own_buyers,
         sellers,
         parties,
         &starts,
@@ -139,6 +147,8 @@ fn reduce_sales(
 // Asks the questions 9, 11, 13 and 14 of the user at a place and 20 of a log that is given, and reduces the user for its target.
 fn reduce_user(
     book: &mut [u8],
+    own_sellers: &[u8; 256],
+    own_buyers: &[u8; 256],
     sellers: &[u8; 256],
     parties: &[u8; 256],
     sums: &[u32; 768],
@@ -147,6 +157,7 @@ fn reduce_user(
     with_log: bool,
     log: &mut [u8],
 ) -> ReductionAnswer
+    requires { ⌜ BookIn (now book) (now «own_sellers») (now «own_buyers») ⌝ }
     requires { ⌜ Runnable (asLimits (day .limits)) (asPrices (day .prices)) (now book) (now sellers) (now parties) (now sums) × (place < userCount (now book)) ⌝ }
     requires { ⌜ («with_log» ≡ true → T (logFits (now log) (now book))) ⌝ }
     ensures { λ r. ⌜ Gives (onUser (roomAsked «with_log» (now (log .entry))) (asLimits (day .limits)) (now (book .entry)) (getD (usersOf (now (book .entry))) place nobody)) (answerOf r) (now (book .exit)) ⌝ }
@@ -169,6 +180,8 @@ fn reduce_user(
     let target = shortfall.target;
     reduce_sales(
         book,
+        own_sellers,
+        own_buyers,
         sellers,
         parties,
         &mut positions,
@@ -187,8 +200,8 @@ pub fn reduction(
     number: u32,
     limits: Limits,
     sellers: &[u8; 256],
-    parties: &[u8; 256],
-    sums: &[u32; 768],
+    buyers: &[u8; 256],
+    sums: &mut [u32; 768],
     id: u32,
     with_log: bool,
     log: &mut [u8],
@@ -196,7 +209,8 @@ pub fn reduction(
     requires { ⌜ (number ≡ 0 → bookNumber (now book) ≡ 0) ⌝ }
     requires { ⌜ (number ≡ 0 → «with_log» ≡ true → T (logFits (now log) (now book))) ⌝ }
     requires { ⌜ LimitsInRange (asLimits limits) ⌝ }
-    requires { ⌜ PartiesFound (now book) number (now sellers) (now parties) (now sums) ⌝ }
+    requires { ⌜ (length (now sellers) ≡ 256) × (length (now buyers) ≡ 256) ⌝ }
+    requires { ⌜ PartiesFound (now book) number (now sellers) (now buyers) (now sums) ⌝ }
     ensures { λ r. ⌜ ReducedWith «with_log» number (asLimits limits) (now (log .entry)) (now (book .entry)) id (answerOf r) (now (book .exit)) (now (log .exit)) ⌝ }
 {
     let entry = call_entry::seek(book, number, id);
@@ -209,5 +223,26 @@ pub fn reduction(
         limits: limits,
         prices: book_header::read_prices(book),
     };
-    reduce_user(book, sellers, parties, sums, place, day, with_log, log)
+    let mut bearing_sellers = [0u8; 256];
+    let mut bearing_buyers = [0u8; 256];
+    call_parties::bear(
+        book,
+        sellers,
+        buyers,
+        &mut bearing_sellers,
+        &mut bearing_buyers,
+        sums,
+    );
+    reduce_user(
+        book,
+        sellers,
+        buyers,
+        &bearing_sellers,
+        &bearing_buyers,
+        sums,
+        place,
+        day,
+        with_log,
+        log,
+    )
 }

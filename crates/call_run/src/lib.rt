@@ -4,6 +4,7 @@ use cut_worth::Totals;
 use risk_user::Day;
 use units::Limits;
 ghost use mathlib.Core.Path.{_≡_};
+ghost use lib.ListN.{length};
 ghost use Rattle.book_format.specs.After.{CalledAfter};
 ghost use Rattle.book_format.specs.Questions.{bookNumber};
 ghost use Rattle.units.specs.Limits.{asLimits, LimitsInRange};
@@ -33,12 +34,13 @@ pub fn run(
     number: u32,
     limits: Limits,
     sellers: &[u8; 256],
-    parties: &[u8; 256],
-    sums: &[u32; 768],
+    buyers: &[u8; 256],
+    sums: &mut [u32; 768],
 ) -> RunAnswer
     requires { ⌜ (number ≡ 0 → bookNumber (now book) ≡ 0) ⌝ }
     requires { ⌜ LimitsInRange (asLimits limits) ⌝ }
-    requires { ⌜ PartiesFound (now book) number (now sellers) (now parties) (now sums) ⌝ }
+    requires { ⌜ (length (now sellers) ≡ 256) × (length (now buyers) ≡ 256) ⌝ }
+    requires { ⌜ PartiesFound (now book) number (now sellers) (now buyers) (now sums) ⌝ }
     ensures { λ r. ⌜ CalledAfter number (asLimits limits) (now (book .entry)) runCall (answerOf r) (now (book .exit)) ⌝ }
 {
     if number != 0 {
@@ -48,6 +50,24 @@ pub fn run(
         limits: limits,
         prices: book_header::read_prices(book),
     };
-    let totals = run_book::run_book(book, sellers, parties, sums, day);
+    let mut bearing_sellers = [0u8; 256];
+    let mut bearing_buyers = [0u8; 256];
+    call_parties::bear(
+        book,
+        sellers,
+        buyers,
+        &mut bearing_sellers,
+        &mut bearing_buyers,
+        sums,
+    );
+    let totals = run_book::run_book(
+        book,
+        sellers,
+        buyers,
+        &bearing_sellers,
+        &bearing_buyers,
+        sums,
+        day,
+    );
     accepted(totals)
 }

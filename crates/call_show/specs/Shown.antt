@@ -16,7 +16,7 @@ use Rattle.book_format.specs.Steps.{placeOf}
 unfoldable pub showing : {R : Type 0} → ℕ → List ℕ → ℕ → (ℕ → R) → R → R
 showing opened s id refused found = after opened refused (decided (refusal (aboutQuery (bookOf s) (shownRecord id))) refused found)
 
--- the number, and the 56 bytes of the user's record or the empty part
+-- the number, and the bytes of the user's record or the empty part
 pub record ShownAfter (opened : ℕ) (s : List ℕ) (id number : ℕ) (part : List ℕ) : Type 0 where
   pub asked : number ≡ after opened (λ n. n) (numberOf (refusal (aboutQuery (bookOf s) (shownRecord id))))
   pub shows : part ≡ showing opened s id (λ n. []) (take (userSize (versionOf s)) (drop (userAt s (placeOf (bookOf s .users) id)) s))

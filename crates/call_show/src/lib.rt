@@ -1,4 +1,4 @@
-// The shown record: a user's 56 bytes as that part of the lent book, no copy and no offset.
+// The shown record: a user's bytes, 56 or in version 3 all 68, as that part of the lent book, no copy and no offset.
 ghost use mathlib.Core.Path.{_≡_};
 ghost use Rattle.book_format.specs.Questions.{bookNumber};
 ghost use Rattle.call_show.specs.Shown.{ShownAfter, PartAfter, picked, pickedAt};
@@ -17,7 +17,8 @@ pub fn show<'a>(book: &'a [u8], opened: u32, id: u32, number: &mut u32) -> &'a [
         return &book[..0];
     }
     let a = book_format::user_offset(book, place);
-    &book[a..a + 56]
+    let size = book_format::users_size(book);
+    &book[a..a + size]
 }
 
 // The picked one of two books of one lifetime: the afternoon's where `afternoon_picked` is yes, else the morning's.

@@ -2,51 +2,48 @@
 use mathlib.Core.Bool.{Bool, true, false, _&&_}
 use mathlib.Core.List.{List, [], _∷_}
 use mathlib.Core.Path.{_≡_, refl, sym, ap, subst, _∙_}
-use Prim.Native.Nat.{ℕ, _+_, _*_, _≤_}
-use native.Mathlib.Nat.{zero-mul}
+use Prim.Native.Nat.{ℕ, _≤_, _<_}
 use native.Mathlib.Omega.{arith}
-use lib.ListN.{List·getD-eq-default, getD, length}
+use lib.Dec.{T}
+use lib.ListN.{getD}
 use borrow.Author.Tests.{eq-eqb, le-ltb, lt-ltb, ne-eqb}
-use Rattle.base.specs.Sums.{sum}
-use Rattle.base.specs.Parts.{negPart}
-use Rattle.rules.specs.Areas.{areas}
-use Rattle.rules.specs.Book.{Book, Trade, User, at, bilateralForDay, find, nobody}
-use Rattle.rules.specs.Calls.{idKnown, isShipper}
-use Rattle.rules.specs.Levels.{Limits, buys, exposure, flagged, holding, leastReferencePrice, sellerOf, shipper}
+use Rattle.base.proofs.Linear.{by-order}
 use Rattle.base.specs.Lists.{any}
+use Rattle.rules.specs.Areas.{managersIn}
+use Rattle.rules.specs.Bearers.{asBorne, bearer}
+use Rattle.rules.specs.Book.{Book, Trade, User, bilateralForDay, find, nobody}
+use Rattle.rules.specs.Calls.{idKnown, isShipper}
+use Rattle.rules.specs.Levels.{Limits, buys, flagged, flaggedFrom, sellerOf, shipper}
 use Rattle.rules.specs.Queries.{aWarning, aboutQuery, found, onlyNumber, warned, warning, warns}
-use Rattle.rules.specs.Questions.{Question, decided, refusal}
+use Rattle.rules.specs.Questions.{Question, decided, known, refusal, tradeValid}
+use Rattle.laws.proofs.Managers.{bearer-known}
+use Rattle.laws.proofs.Positions.{seller-known}
+use Rattle.laws.proofs.Settle.{area-lt}
+use Rattle.laws_sales.proofs.Alone.{own-risk}
 use Rattle.units.specs.Prices.{asPrices, InRange}
+use Rattle.units.specs.declared.Net.{Net}
 use Rattle.units.specs.declared.Prices.{Prices}
-use Rattle.book_records.specs.User.{asUser}
+use Rattle.book_records.specs.User.{alone, asAmounts, asUser}
 use Rattle.book_records.specs.declared.User as code
-use Rattle.book_format.specs.Book.{bookOf, usersOf}
+use Rattle.book_format.specs.Book.{bookOf, userCount, usersOf, versionOf}
+use Rattle.book_format.specs.Held.{Accepted}
+use Rattle.book_format.specs.Questions.{bookNumber}
 use Rattle.book_format.specs.Steps.{placeOf}
 use Rattle.book_format.specs.After.{replyAfter}
-use Rattle.book_format.proofs.OneUser.{find-place}
-use Rattle.call_entry.proofs.Calls.{query-found, query-refused, read-user}
+use Rattle.book_format.proofs.OneUser.{find-place, unknown-place}
+use Rattle.book_format.proofs.Passed.{length-usersOf}
+use Rattle.call_entry.proofs.Calls.{query-found, query-refused}
 use Rattle.call_entry.specs.Entered.{Entered, Found}
-use Rattle.risk_user.proofs.Accepted.{prices-within, record-blocked}
+use Rattle.risk_bearers.specs.Bearers.{usersIn}
+use Rattle.risk_holdings.specs.Holdings.{positioned}
+use Rattle.risk_members.proofs.Members.{read-blocked}
+use Rattle.risk_user.proofs.Accepted.{blocked-within, prices-within}
+use Rattle.risk_user.proofs.Held.{flagged-row}
 use Rattle.call_warning.specs.Warned.{Priced, flaggedShipper, warnsBuyer}
 
 -- ---- a flagged shipper
 
--- nobody has no short position
-unflagged-nobody : (limits : Limits) (b : Book) → flagged limits b nobody ≡ false
-unfolding flagged exposure holding nobody at sum areas negPart
-unflagged-nobody limits b = simp zero-mul (le-ltb (limits .flagMwh * leastReferencePrice (b .header .prices) + nobody .blocked) (0 + (0 + (0 + 0))) (omega arith))
-
 module _ (limits : Limits) (b : Book) where
-  pub shipper-unknown : (id : ℕ) → length (b .users) ≤ placeOf (b .users) id → false ≡ flaggedShipper limits b (find (b .users) id)
-  unfolding flaggedShipper
-  shipper-unknown id h =
-      let e : find (b .users) id ≡ nobody = find-place (b .users) id ∙ List·getD-eq-default (b .users) nobody h in
-      rw (e, unflagged-nobody limits b) (go (shipper nobody))
-    where
-      go : (p : Bool) → false ≡ (p && false)
-      go true = refl
-      go false = refl
-
   pub shipper-no : (u : User) → (u .party .role ≡ 0 → ⊥) → false ≡ flaggedShipper limits b u
   unfolding flaggedShipper shipper
   shipper-no u h = rw (ne-eqb (u .party .role) 0 h)
@@ -71,8 +68,8 @@ module _ (limits : Limits) (b : Book) where
       unfolding warnsBuyer warns
       nothing-stands e = rw (eq-eqb (t .terms .buyer) id h, k, le-ltb 0 (t .standing) (omega arith))
 
-      pub by-seller : (t .standing ≡ 0 → ⊥) → flaggedShipper limits b (find (b .users) (t .terms .seller)) ≡ warnsBuyer limits b id t
-      unfolding warnsBuyer warns flaggedShipper sellerOf
+      pub by-seller : (t .standing ≡ 0 → ⊥) → flaggedShipper limits b (sellerOf b t) ≡ warnsBuyer limits b id t
+      unfolding warnsBuyer warns flaggedShipper
       by-seller e = rw (eq-eqb (t .terms .buyer) id h, k, lt-ltb 0 (t .standing) (omega arith))
 
   -- ---- who is warned
@@ -90,13 +87,39 @@ module _ (limits : Limits) (b : Book) where
 pub prices-range : {s : List ℕ} {prices : Prices} → Priced s prices → InRange (asPrices prices)
 prices-range {s} p = subst InRange (p .same) (prices-within s (p .passes))
 
-module _ {s : List ℕ} {id place : ℕ} (u : code.User) (f : Found s id place) (h : asUser u ≡ getD (usersOf s) place nobody) where
-  pub read-blocked : u .blocked .0 ≤ 1000000000000
-  read-blocked = record-blocked s (f .passes) (f .known) u h
+-- the user of a known id has a place
+pub known-inside : (s : List ℕ) (id : ℕ) → T (known (usersOf s) id) → placeOf (usersOf s) id < userCount s
+known-inside s id k = by-order (placeOf (usersOf s) id) (userCount s) (λ h. h) (λ h. absurd (subst T (unknown-place s id h) k))
 
-  -- its warning is that of the user of the id
-  pub read-warned : (limits : Limits) → warned limits (bookOf s) (asUser u) ≡ warned limits (bookOf s) (find (bookOf s .users) id)
-  read-warned limits = ap (warned limits (bookOf s)) (read-user u f h)
+module _ (s : List ℕ) (passes : bookNumber s ≡ 0) {place : ℕ} (h : place < userCount s) where
+  pub blocked-most : (u : code.User) → asUser u ≡ alone (getD (usersOf s) place nobody) → u .blocked .0 ≤ 1000000000000
+  blocked-most u e = omega (arith, read-blocked u (getD (usersOf s) place nobody) e, blocked-within s passes h)
+
+  -- whether it is flagged, by its positions as its risk is borne
+  pub flag-at : (limits : Limits) (prices : Prices) → asPrices prices ≡ bookOf s .header .prices → (v : List Net) → asAmounts v ≡ getD (usersIn s) place nobody .position
+      → flaggedFrom limits (asPrices prices) (getD (usersOf s) place nobody) (positioned v) ≡ flagged limits (bookOf s) (getD (usersOf s) place nobody)
+  unfolding bookOf
+  flag-at limits prices priced v e = flagged-row (bookOf s) place (omega (arith, length-usersOf s)) limits priced v e
+
+-- ---- who bears the seller's risk
+
+module _ (s : List ℕ) (a : Accepted s) (t : Trade) (valid : T (tradeValid (usersOf s) t)) where
+  pub seller-itself : managersIn (versionOf s) ≡ false → (find (bookOf s .users) (t .terms .seller) ≡ sellerOf (bookOf s) t) × T (known (usersOf s) (t .terms .seller))
+  unfolding bookOf
+  seller-itself none = (sym (own-risk (bookOf s) (a .sound) none .seller t valid), seller-known (usersOf s) t valid)
+
+  pub seller-place : {place : ℕ} → place ≡ placeOf (usersOf s) (t .terms .seller) → place < userCount s
+  seller-place e = omega (arith, e, known-inside s (t .terms .seller) (seller-known (usersOf s) t valid))
+
+  pub seller-borne : {place r : ℕ} → place ≡ placeOf (usersOf s) (t .terms .seller) → r ≡ bearer (getD (usersOf s) place nobody) (t .terms .area)
+      → (find (bookOf s .users) r ≡ sellerOf (bookOf s) t) × T (known (usersOf s) r)
+  unfolding bookOf sellerOf asBorne
+  seller-borne {place} {r} e k =
+      let us = usersOf s in
+      let id = t .terms .seller in
+      let area = t .terms .area in
+      let is : r ≡ bearer (find us id) area = k ∙ ap (λ (i : ℕ). bearer (getD us i nobody) area) e ∙ ap (λ (u : User). bearer u area) (sym (find-place us id)) in
+      (ap (find us) is, subst (λ (n : ℕ). T (known us n)) (sym is) (bearer-known (bookOf s) (a .sound) id area (area-lt us t valid) (seller-known us t valid)))
 
 -- ---- a warning
 

@@ -10,6 +10,7 @@ use Rattle.rules.specs.Queries.{Query, warning, warns}
 use Rattle.units.specs.Prices.{asPrices}
 use Rattle.units.specs.declared.Prices.{Prices}
 use Rattle.book_format.specs.Book.{bookOf}
+use Rattle.book_format.specs.Held.{Accepted}
 use Rattle.book_format.specs.Questions.{bookNumber}
 
 -- the user is a flagged shipper
@@ -24,7 +25,8 @@ warnsBuyer limits b id t = eqb (t .terms .buyer) id && warns limits b t
 abbrev pub warningOf : ℕ → Query
 warningOf id = warning id
 
--- the bytes pass the questions of a book, and the prices are that book's
+-- the bytes hold an accepted book, and the prices are that book's
 pub record Priced (s : List ℕ) (prices : Prices) : Type 0 where
   pub passes : bookNumber s ≡ 0
+  pub accepted : Accepted s
   pub same : bookOf s .header .prices ≡ asPrices prices

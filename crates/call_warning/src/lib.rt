@@ -4,38 +4,53 @@ use call_answers::WarningAnswer;
 use units::Limits;
 use units::Prices;
 ghost use mathlib.Core.Path.{_≡_};
+ghost use lib.Dec.{T};
 ghost use Rattle.rules.specs.Book.{find};
+ghost use Rattle.rules.specs.Levels.{sellerOf};
+ghost use Rattle.rules.specs.Questions.{known, tradeValid};
 ghost use Rattle.base.specs.Lists.{any};
 ghost use Rattle.units.specs.Limits.{asLimits, LimitsInRange};
 ghost use Rattle.book_records.specs.Trade.{asTrade};
-ghost use Rattle.book_format.specs.Book.{bookOf};
+ghost use Rattle.book_format.specs.Book.{bookOf, usersOf};
+ghost use Rattle.book_format.specs.Held.{Accepted};
 ghost use Rattle.book_format.specs.Questions.{bookNumber};
 ghost use Rattle.book_format.specs.After.{replyAfter};
 ghost use Rattle.call_answers.specs.Warning.{replyOf};
 ghost use Rattle.call_warning.specs.Warned.{Priced, flaggedShipper, warnsBuyer, warningOf};
 
-// Is the seller of an id a flagged shipper?
+// Is the user of an id, who is in the book, a flagged shipper?
 fn is_flagged_shipper(book: &[u8], prices: Prices, id: u32, limits: Limits) -> bool
-    requires { ⌜ Priced (now book) prices ⌝ }
+    requires { ⌜ Priced (now book) prices × T (known (usersOf (now book)) id) ⌝ }
     requires { ⌜ LimitsInRange (asLimits limits) ⌝ }
     ensures { λ r. ⌜ r ≡ flaggedShipper (asLimits limits) (bookOf (now (book .entry))) (find (bookOf (now (book .entry)) .users) id) ⌝ }
 {
     let place = call_entry::place_of(book, id);
-    let n = book_format::user_count(book) as usize;
-    if n <= place {
-        return false;
-    }
     let seller = book_format::user_at(book, place);
     if seller.role != 0 {
         return false;
     }
-    let position = seller.position;
+    let amounts = risk_members::amounts_of(book, place, seller);
+    let position = amounts.position;
     risk_levels::flagged(limits, prices, seller.blocked, position)
+}
+
+// The id of who bears the risk of the seller of a trade of the book: "at midday the manager's flag stands for a managed seller's". In a
+// version without managers it is the seller.
+fn bearer_of(book: &[u8], t: Trade) -> u32
+    requires { ⌜ Accepted (now book) × T (tradeValid (usersOf (now book)) (asTrade t)) ⌝ }
+    ensures { λ r. ⌜ (find (bookOf (now (book .entry)) .users) r ≡ sellerOf (bookOf (now (book .entry))) (asTrade t)) × T (known (usersOf (now (book .entry))) r) ⌝ }
+{
+    if !book_format::has_managers(book_format::version(book)) {
+        return t.seller;
+    }
+    let place = call_entry::place_of(book, t.seller);
+    let seller = book_format::user_at(book, place);
+    risk_members::bearer_of(book, place, seller, t.area as usize)
 }
 
 // Is the user of an id the buyer of the trade, and does the trade warn its buyer?
 fn warns_buyer(book: &[u8], prices: Prices, t: Trade, id: u32, limits: Limits) -> bool
-    requires { ⌜ Priced (now book) prices ⌝ }
+    requires { ⌜ Priced (now book) prices × T (tradeValid (usersOf (now book)) (asTrade t)) ⌝ }
     requires { ⌜ LimitsInRange (asLimits limits) ⌝ }
     ensures { λ r. ⌜ r ≡ warnsBuyer (asLimits limits) (bookOf (now (book .entry))) id (asTrade t) ⌝ }
 {
@@ -48,7 +63,8 @@ fn warns_buyer(book: &[u8], prices: Prices, t: Trade, id: u32, limits: Limits) -
     if t.standing == 0 {
         return false;
     }
-    is_flagged_shipper(book, prices, t.seller, limits)
+    let seller = bearer_of(book, t);
+    is_flagged_shipper(book, prices, seller, limits)
 }
 
 // Does one of the trades warn the user of an id?
@@ -96,7 +112,8 @@ pub fn warning(book: &[u8], number: u32, limits: Limits, id: u32) -> WarningAnsw
         };
     }
     let prices = book_header::read_prices(book);
-    let position = user.position;
+    let amounts = risk_members::amounts_of(book, place, user);
+    let position = amounts.position;
     if risk_levels::flagged(limits, prices, user.blocked, position) {
         return WarningAnswer {
             number: 0,

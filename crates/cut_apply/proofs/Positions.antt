@@ -18,7 +18,6 @@ use Rattle.book_format.specs.Held.{HeldAs}
 use Rattle.book_format.specs.Places.{UserIn, positionAt}
 use Rattle.base.proofs.Linear.{negPart-neg, negPart-of, negPart-pos, parts-add, posPart-neg, posPart-of, posPart-pos}
 use Rattle.base.specs.Parts.{negPart, posPart}
-use Rattle.book_records.proofs.Users.{user-of-bytes}
 use Rattle.book_records.specs.User.{FitsAmounts, FitsSigned, FitsUser, amountValues, amountWidths, userBytes, userValues, userWidths}
 use Rattle.rules.specs.Book.{PerArea, User, at, nobody}
 use Rattle.rules.specs.Changes.{add, moved, withUsers}
@@ -82,12 +81,12 @@ module _ (s : List ℕ) {place area : ℕ} (p : PositionIn s place area) where
   -- with them set, the user is moved
   position-set : (z : ℤ) → FitsSigned 32 (positionOf (usersOf s) place area +ℤ z)
       → HeldAs (withUsers (bookOf s) (movedAt place area z (usersOf s))) (setField 4 (positionAt s place area) (bitsOf 32 (positionOf (usersOf s) place area +ℤ z)) s)
-  unfolding bookOf setField positionAt
+  unfolding bookOf setField positionAt moved
   position-set z f =
       let u = getD (usersOf s) place nobody in
       let v = toBytes 4 (bitsOf 32 (at (u .position) area +ℤ z)) in
-      held-user-part (p .held) place (moved area z u) among-users (user-of-bytes (moved area z u) (fits-moved u z area (held-user-fits (p .held) place nobody among-users) f)) (20 + 4 * area)
-      (positionAt s place area) nobody v refl (omega (arith, length-toBytes 4 (bitsOf 32 (at (u .position) area +ℤ z)), p .area-inside)) (bytes-moved u z area (p .area-inside))
+      held-user-part (p .held) place (moved area z u) nobody among-users (fits-moved u z area (held-user-fits (p .held) place nobody among-users .user) f) refl (20 + 4 * area)
+      (positionAt s place area) v refl (omega (arith, length-toBytes 4 (bitsOf 32 (at (u .position) area +ℤ z)), p .area-inside)) (bytes-moved u z area (p .area-inside))
 
   -- what is read stands for the position
   pub position-is : {a bits : ℕ} → a ≡ positionAt s place area → bits ≡ field 4 a s → signedOf 32 bits ≡ positionOf (usersOf s) place area

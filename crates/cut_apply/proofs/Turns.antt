@@ -9,13 +9,14 @@ use lib.Dec.{T, ltb}
 use lib.ListN.{drop, getD, length, length-set, set, take}
 use lib.Seq.{length-take-le, take-all, take-suc-set}
 use borrow.Author.Tests.{eq-eqb, eqb-true, ltb-false, ltb-true}
-use Rattle.base.proofs.Tests.{by-case}
-use Rattle.cut_lists.proofs.Trades.{party-inside, party-is}
+use Rattle.base.proofs.Tests.{all-by, by-case}
+use Rattle.risk_bearers.proofs.Places.{party-is, party-within}
 use Rattle.book_parties.specs.Ids.{BookIn, PlacedOn, idAt}
 use Rattle.book_format.proofs.Passed.{length-tradesOf, length-usersOf}
 use Rattle.book_format.specs.Book.{bookOf, tradeCount, tradesAt, tradesOf, userCount, usersOf}
-use Rattle.book_format.proofs.Held.{held-itself, held-tradeCount, held-trades, held-userCount, held-users, held-begin}
+use Rattle.book_format.proofs.Held.{accepted-ids, accepted-trades, held-itself, held-tradeCount, held-trades, held-userCount, held-users, held-begin}
 use Rattle.book_format.specs.Held.{HeldAs}
+use Rattle.base.specs.Lists.{all}
 use Rattle.base.specs.Parts.{negPart, posPart}
 use Rattle.laws.proofs.Bounds.{position-bound, standing-le}
 use Rattle.laws.proofs.Positions.{buyer-known, seller-known}
@@ -123,15 +124,19 @@ module _ {s₀ sellers parties : List ℕ} (a : BookIn s₀ sellers parties) {is
     place-low = omega (arith, p .inside j h, length-tradesOf s₀)
 
     -- a party of the sale stands at its place
+    -- all parties on a side are users
+    sides-known : (side : Terms → ℕ) → ((us : List User) (t : Trade) → T (tradeValid us t) → T (known us (side (t .terms)))) → T (all (λ t. known (usersOf s₀) (side (t .terms))) (tradesOf s₀))
+    sides-known side isKnown = all-by (tradeValid (usersOf s₀)) (λ t. known (usersOf s₀) (side (t .terms))) (isKnown (usersOf s₀)) (tradesOf s₀) (accepted-trades (a .accepted))
+
     module _ (side : Terms → ℕ) (side-known : (us : List User) (t : Trade) → T (tradeValid us t) → T (known us (side (t .terms)))) (ps : List ℕ)
         (placed : PlacedOn side (usersOf s₀) (tradesOf s₀) ps) {party : ℕ} (e : party ≡ getD ps place 0) where
       party-low : party < userCount s₀
-      party-low = party-inside side side-known s₀ ps (a .accepted) placed place-low e
+      party-low = omega (arith, length-usersOf s₀, party-within side (usersOf s₀) (tradesOf s₀) ps (accepted-ids (a .accepted)) (sides-known side side-known) placed {i = place} (omega (arith, place-low, length-tradesOf s₀)) e)
 
       party-id : getD (withTrades (bookOf s₀) so-far .users) party nobody .party .id ≡ side (sale .terms)
       unfolding bookOf
       party-id =
-          let here = party-is side side-known s₀ ps (a .accepted) placed place-low e party party-low in
+          let here = party-is side (usersOf s₀) (tradesOf s₀) ps (accepted-ids (a .accepted)) (sides-known side side-known) placed {i = place} (omega (arith, place-low, length-tradesOf s₀)) e party (omega (arith, party-low, length-usersOf s₀)) in
           ap (λ (q : Party). q .id) (party-at (bookOf s₀ .users) (withTrades (bookOf s₀) so-far .users) (parties-at j) party nobody)
           ∙ sym (eqb-true (side (sale .terms)) (idAt (usersOf s₀) party) (sym here ∙ eq-eqb party party refl))
 

@@ -5,10 +5,11 @@ use mathlib.Core.Path.{_≡_}
 use Prim.Native.Nat.{ℕ, _<_}
 use lib.ListN.{getD}
 use Rattle.risk_holdings.specs.Parties.{cutBefore}
-use Rattle.book_format.specs.Book.{bookOf, tradesOf, userCount, usersOf}
+use Rattle.book_format.specs.Book.{bookOf, userCount, usersOf}
 use Rattle.book_format.specs.Questions.{bookNumber}
 use Rattle.book_sums.specs.Twelve.{Low, TwelveOf}
 use Rattle.book_records.specs.User.{asAmounts}
+use Rattle.risk_bearers.specs.Bearers.{tradesIn, usersIn}
 use Rattle.risk_user.specs.UserAt.{PositionsOf}
 use Rattle.risk_user.specs.States.{stateOf}
 use Rattle.rules.specs.Areas.{Prices}
@@ -26,13 +27,14 @@ asLine l = record { id = l .id; state = stateOf (l .state); level = l .level .0;
 unfoldable pub lineIn : Limits → Book → ℕ → day.Line
 lineIn limits b i = getD (day.lines limits b) i (day.line limits b nobody)
 
--- an accepted book with a user at a place, limits and the book's prices, the sums and the positions of its users, and whether the user is party to a trade standing below notified
+-- an accepted book with a user at a place, limits and the book's prices; as the risk is borne, the sums and the positions of its users, and whether the user is party to a trade
+-- standing below notified
 pub record LineAsked (limits : Limits) (f : Prices) (s sums ps : List ℕ) (place : ℕ) (cut : Bool) : Type 0 where
   pub passes : bookNumber s ≡ 0
   pub inside : place < userCount s
   pub limits-in : LimitsInRange limits
   pub prices-are : f ≡ bookOf s .header .prices
-  pub twelve : TwelveOf (usersOf s) (tradesOf s) sums
+  pub twelve : TwelveOf (usersIn s) (tradesIn s) sums
   pub low : Low sums
-  pub positions : PositionsOf (usersOf s) ps
-  pub cut-is : cut ≡ cutBefore (getD (usersOf s) place nobody .party .id) (tradesOf s)
+  pub positions : PositionsOf (usersIn s) ps
+  pub cut-is : cut ≡ cutBefore (getD (usersOf s) place nobody .party .id) (tradesIn s)

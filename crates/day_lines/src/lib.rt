@@ -1,5 +1,5 @@
-// What is printed of a user after the run: id, state, afternoon level and the three positions. A line is told from the book's bytes, and
-// from the sums and the positions of its users, which are gathered once for all lines.
+// What is printed of a user after the run: id, state, afternoon level and the three positions of its record. A line is told from the book's
+// bytes, and from the sums and the positions of its users as their risk is borne, which are gathered once for all lines.
 use book_records::User;
 use risk_user::Day;
 use risk_user::State;
@@ -32,7 +32,7 @@ pub struct Line {
     pub position: [Net; 3],
 }
 
-// The line of the user at a place of an accepted book. `cut`: the user is party to a trade standing below notified.
+// The line of the user at a place of an accepted book. `cut`: as the risk is borne, the user is party to a trade standing below notified.
 pub fn line_at(
     book: &[u8],
     sums: &[u32; 768],

@@ -71,7 +71,8 @@ fn line(line: Line) {
     io::write_all(STDOUT_FILENO, b"\n");
 }
 
-// The line of every user of an accepted book in bytes, in its order; `cut` says which of them are party to a trade standing below notified.
+// The line of every user of an accepted book in bytes, in its order; `cut` says which of them are, as the risk is borne, party to a trade
+// standing below notified.
 fn lines_of(
     book: &[u8],
     n: usize,
@@ -89,14 +90,24 @@ fn lines_of(
     }
 }
 
-// The lines of an accepted book: its users' sums, positions and cut trades are gathered once for all of them.
+// The lines of an accepted book: its users' sums, positions and cut trades, as their risk is borne, are gathered once for all of them.
 fn lines(book: &[u8])
     requires { ⌜ bookNumber (now book) ≡ 0 ⌝ }
 {
     let mut sellers = [0u8; 256];
-    let mut parties = [0u8; 256];
+    let mut buyers = [0u8; 256];
     let mut sums = [0u32; 768];
-    book_questions::ask(book, &mut sellers, &mut parties, &mut sums);
+    book_questions::ask(book, &mut sellers, &mut buyers, &mut sums);
+    let mut bearing_sellers = [0u8; 256];
+    let mut bearing_buyers = [0u8; 256];
+    call_parties::bear(
+        book,
+        &sellers,
+        &buyers,
+        &mut bearing_sellers,
+        &mut bearing_buyers,
+        &mut sums,
+    );
     let day = Day {
         limits: Limits::today(),
         prices: book_header::read_prices(book),
@@ -106,7 +117,7 @@ fn lines(book: &[u8])
     let mut positions = [0u32; 192];
     run_positions::fill_positions(book, n, &mut positions);
     let mut cut = [false; 64];
-    run_targets::fill_cut(book, n, m, &sellers, &parties, &mut cut);
+    cut_parties::fill_cut(book, n, m, &bearing_sellers, &bearing_buyers, &mut cut);
     lines_of(book, n, &sums, &positions, &cut, day);
 }
 
@@ -133,16 +144,16 @@ fn run(book: &mut [u8]) -> RunAnswer
     ensures { λ r. ⌜ Called today (now (book .entry)) runCall (answerOf r) (now (book .exit)) ⌝ }
 {
     let mut sellers = [0u8; 256];
-    let mut parties = [0u8; 256];
+    let mut buyers = [0u8; 256];
     let mut sums = [0u32; 768];
-    let asked = book_questions::ask(book, &mut sellers, &mut parties, &mut sums);
+    let asked = book_questions::ask(book, &mut sellers, &mut buyers, &mut sums);
     call_run::run(
         book,
         asked.number,
         Limits::today(),
         &sellers,
-        &parties,
-        &sums,
+        &buyers,
+        &mut sums,
     )
 }
 

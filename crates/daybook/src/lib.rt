@@ -55,8 +55,8 @@ pub fn write(book: Book, out: &mut [u8]) -> u32
     book_value::write(book, out)
 }
 
-// The 56 bytes of a user's record as that part of the book, and 0; or the empty part and the number of the first question that is answered
-// by no.
+// The bytes of a user's record, 56 or in version 3 68, as that part of the book, and 0; or the empty part and the number of the first
+// question that is answered by no.
 pub fn show<'a>(
     book: &'a [u8],
     with_store: bool,
@@ -147,7 +147,16 @@ pub fn level(book: &[u8], with_store: bool, store: &[u8], id: u32, afternoon: bo
         &mut sums,
     );
     let limits = admission.limits;
-    call_level::level(book, admission.number, limits, &sums, id, afternoon)
+    call_level::level(
+        book,
+        admission.number,
+        limits,
+        &sellers,
+        &buyers,
+        &mut sums,
+        id,
+        afternoon,
+    )
 }
 
 // The morning level of a user.
@@ -189,7 +198,16 @@ pub fn call(
     );
     let limits = admission.limits;
     let asked = call_admission::by_log(book, admission.number, with_log, log);
-    let answer = call_guarantee::call(book, asked, limits, &sums, id, afternoon);
+    let answer = call_guarantee::call(
+        book,
+        asked,
+        limits,
+        &sellers,
+        &buyers,
+        &mut sums,
+        id,
+        afternoon,
+    );
     log_lent::empty(book, with_log, log, answer.number);
     answer
 }
@@ -261,7 +279,7 @@ pub fn reduction(
         limits,
         &sellers,
         &buyers,
-        &sums,
+        &mut sums,
         id,
         with_log,
         log,
@@ -297,7 +315,7 @@ pub fn cancellation(
         limits,
         &sellers,
         &buyers,
-        &sums,
+        &mut sums,
         id,
         tries,
     )
@@ -328,9 +346,9 @@ pub fn run(
     let limits = admission.limits;
     let asked = call_admission::by_log(book, admission.number, with_log, log);
     if !with_log {
-        return call_run::run(book, asked, limits, &sellers, &buyers, &sums);
+        return call_run::run(book, asked, limits, &sellers, &buyers, &mut sums);
     }
-    call_logged::run(book, asked, limits, &sellers, &buyers, &sums, log)
+    call_logged::run(book, asked, limits, &sellers, &buyers, &mut sums, log)
 }
 
 // ---- the log

@@ -56,11 +56,11 @@ pub record CancelledInto (g : Setting) (s : List ℕ) (id tries : ℕ) (marks an
   pub marked : marks-after ≡ byLength 256 marks (byLength 3 answer (markNumbers (cancellation g s id tries)) marks) marks
   pub numbers : answer-after ≡ byLength 256 marks (byLength 3 answer (cancellationNumbers (cancellation g s id tries)) answer) answer
 
--- a shown record: the user's 56 bytes, or 56 times 0
+-- a shown record in a part of 68 bytes, those of version 3: the user's bytes with 0 behind them, or 68 times 0
 abbrev pub Copied : Setting → List ℕ → ℕ → List ℕ → ℕ → List ℕ → Type 0
 Copied g s id lent result after =
     let number = enquiry g s (shownRecord id) .number in
-    Stored 56 lent number (padded 56 (partShown number s id)) result after
+    Stored 68 lent number (padded 68 (partShown number s id)) result after
 
 -- a book read into an image
 abbrev pub ReadInto : List ℕ → List ℕ → ℕ → List ℕ → Type 0

@@ -18,13 +18,13 @@ mod changes;
 // The number for a lent part of another length than the function asks for.
 const WRONG_LENGTH: u32 = 255;
 
-// The number of this interface, raised with each change of a signature or of the image.
-const INTERFACE: u32 = 4;
+// The number of this interface, raised with each change of a signature, of the image or of a shown record.
+const INTERFACE: u32 = 5;
 
-// The bytes of an image, and of a shown record.
-const IMAGE_SIZE: usize = 8744;
+// The bytes of an image, and of the part for a shown record.
+const IMAGE_SIZE: usize = 9512;
 
-const RECORD_SIZE: usize = 56;
+const RECORD_SIZE: usize = 68;
 
 // The marks of a cancellation, one for each place of a trade.
 const MARKS: usize = 256;
@@ -45,12 +45,12 @@ const SHRINKAGE_DAYS: usize = 30;
 // The number of the interface, as the header has it in DAYBOOK_INTERFACE.
 #[no_mangle]
 pub extern "C" fn daybook_interface() -> u32
-    ensures { λ r. ⌜ r ≡ 4 ⌝ }
+    ensures { λ r. ⌜ r ≡ 5 ⌝ }
 {
     INTERFACE
 }
 
-// Reads a book's fields into an image of 8,744 bytes.
+// Reads a book's fields into an image of 9,512 bytes.
 #[no_mangle]
 pub extern "C" fn daybook_read(book: &[u8], image: &mut [u8]) -> u32
     ensures { λ r. ⌜ ReadInto (now (book .entry)) (now (image .entry)) r (now (image .exit)) ⌝ }
@@ -61,7 +61,7 @@ pub extern "C" fn daybook_read(book: &[u8], image: &mut [u8]) -> u32
     book_image::read(book, image)
 }
 
-// Writes the book whose fields an image of 8,744 bytes has.
+// Writes the book whose fields an image of 9,512 bytes has.
 #[no_mangle]
 pub extern "C" fn daybook_write(image: &[u8], out: &mut [u8]) -> u32
     ensures { λ r. ⌜ WrittenFrom (now (image .entry)) (now (out .entry)) r (now (out .exit)) ⌝ }
@@ -72,7 +72,7 @@ pub extern "C" fn daybook_write(image: &[u8], out: &mut [u8]) -> u32
     book_image::write(image, out)
 }
 
-// Copies the 56 bytes of a user's record.
+// Copies the bytes of a user's record to a part of 68; behind the 56 of versions 1 and 2 it is 0.
 #[no_mangle]
 pub extern "C" fn daybook_show(
     book: &[u8],

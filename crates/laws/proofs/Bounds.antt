@@ -1,4 +1,4 @@
--- Numeric bounds of an accepted book: positions within ±26,600,000, so that they fit their 32 bits, and levels below 2^44. Assumes nothing.
+-- Numeric bounds of an accepted book: what was sold and bought, positions within ±26,600,000, so that they fit their 32 bits. Assumes nothing.
 use mathlib.Core.Bool.{Bool, true, false, cond, _&&_}
 use mathlib.Core.List.{List, [], _∷_}
 use mathlib.Core.Path.{_≡_, refl}
@@ -110,12 +110,12 @@ entry-valid u (suc (suc (suc a))) k h = absurd (omega arith)
 pub entry-le : (u : User) (a : ℕ) → a < 3 → T (userValid u) → (posPart (at (u .physical) a) ≤ 1000000) × (negPart (at (u .physical) a) ≤ 1000000)
 entry-le u a k h = within-le 1000000 (at (u .physical) a) (entry-valid u a k h)
 
-charges-le : (u : User) → T (userValid u) → posPart (u .party .charges) ≤ 1000000000000
+pub charges-le : (u : User) → T (userValid u) → posPart (u .party .charges) ≤ 1000000000000
 unfolding userValid
 charges-le u h = within-le 1000000000000 (u .party .charges) (search (and-l, and-r)) .0
 
 -- one side of a difference
-below-parts : (z : ℤ) (a b : ℕ) → posPart z + b ≡ negPart z + a → (posPart z ≤ a) × (negPart z ≤ b)
+pub below-parts : (z : ℤ) (a b : ℕ) → posPart z + b ≡ negPart z + a → (posPart z ≤ a) × (negPart z ≤ b)
 below-parts z a b e = (omega (arith, posPart-of z a b (omega arith)), omega (arith, negPart-of z a b (omega arith)))
 
 -- and the blocked guarantee
@@ -188,104 +188,3 @@ module _ (b : Book) (s : Sound b) (u : User) (v : T (userValid u)) (p : T (posit
   position-bound (suc zero) k = let l = position-parts 1 k in (omega (arith, bought-le), omega (arith, sold-le))
   position-bound (suc (suc zero)) k = let l = position-parts 2 k in (omega (arith, bought-le), omega (arith, sold-le))
   position-bound (suc (suc (suc a))) k = absurd (omega arith)
-
-  -- ---- levels
-
-  price-le : (a : ℕ) → referencePrice (b .header .prices) a ≤ 300000
-  unfolding referencePrice
-  price-le a =
-      let h = s .header in
-      by-test (λ (n : ℕ). n ≤ 300000) (eqb a 0) (λ t. omega (arith, prices .0))
-      (λ t. by-test (λ (n : ℕ). n ≤ 300000) (eqb a 1) (λ k. omega (arith, prices)) (λ k. omega (arith, prices)))
-    where
-      prices : (b .header .prices .p ≤ 100000) × (b .header .prices .q ≤ 100000) × (b .header .prices .l ≤ 100000) × (b .header .prices .x ≤ 100000) × (b .header .prices .i ≤ 100000)
-      prices = prices-le b s
-
-  -- an amount at its reference price
-  worth-le : (a n m : ℕ) → n ≤ m → n * referencePrice (b .header .prices) a ≤ m * 300000
-  worth-le a n m h = mul-le-mul h (price-le a)
-
-  afternoon-need : (a : ℕ) → posPart (afternoonNeed a (holding b u a)) ≤ sold (b .trades) (u .party .id) a 1
-  unfolding afternoonNeed holding
-  afternoon-need a =
-      let x = sold (b .trades) (u .party .id) a 1 in
-      let y = bought (b .trades) (u .party .id) a 1 in
-      let z = stock a (holding b u a) in
-      below-parts (pos x -ℤ pos y -ℤ pos z) x (y + z)
-      (omega (arith, parts-sub (pos x) (pos y), parts-sub (pos x -ℤ pos y) (pos z), posPart-pos x, negPart-pos x, posPart-pos y, negPart-pos y, posPart-pos z, negPart-pos z)) .0
-
-  exposure-le : exposure (b .header .prices) (holding b u)
-      ≤ (3000000 + (sold (b .trades) (u .party .id) 0 0 + sold (b .trades) (u .party .id) 1 0 + sold (b .trades) (u .party .id) 2 0)) * 300000
-  unfolding exposure areas sum holding
-  exposure-le =
-      omega (
-        arith,
-        worth-le 0 (negPart (at (u .position) 0)) (1000000 + sold (b .trades) (u .party .id) 0 0) (position-parts 0 (omega arith) .1),
-        worth-le 1 (negPart (at (u .position) 1)) (1000000 + sold (b .trades) (u .party .id) 1 0) (position-parts 1 (omega arith) .1),
-        worth-le 2 (negPart (at (u .position) 2)) (1000000 + sold (b .trades) (u .party .id) 2 0) (position-parts 2 (omega arith) .1),
-      )
-
-  morning-need : (a : ℕ) → a < 3
-      → posPart (morningNeed (holding b u a)) ≤ 1000000 + (sold (b .trades) (u .party .id) a 0 + sold (b .trades) (u .party .id) a 1)
-  unfolding morningNeed holding
-  morning-need a k =
-      let p = at (u .physical) a in
-      let x = sold (b .trades) (u .party .id) a 0 + sold (b .trades) (u .party .id) a 1 in
-      let y = bought (b .trades) (u .party .id) a 0 + bought (b .trades) (u .party .id) a 1 in
-      let l = below-parts (negℤ p +ℤ pos x -ℤ pos y) (negPart p + x) (posPart p + y)
-      (omega (arith, parts-add (negℤ p) (pos x), parts-sub (negℤ p +ℤ pos x) (pos y), posPart-neg p, negPart-neg p, posPart-pos x, negPart-pos x, posPart-pos y, negPart-pos y)) in
-      omega (arith, entry-le u a k v)
-
-  module _ (limits : Limits) (low : limits .floor ≤ 9580000000000) where
-    -- charges of at most 10^12, and 28,600,000 MWh at a price of at most 300,000
-    pub morning-level-le : morningLevel limits b u ≤ 9580000000000
-    unfolding morningLevel morningSum floored areas sum dealtInAll
-    morning-level-le =
-        let id = u .party .id in
-        let ts = b .trades in
-        let n0 = sold ts id 0 0 + sold ts id 0 1 in
-        let n1 = sold ts id 1 0 + sold ts id 1 1 in
-        let n2 = sold ts id 2 0 + sold ts id 2 1 in
-        let needs = sum (λ a. posPart (morningNeed (holding b u a)) * referencePrice (b .header .prices) a) areas in
-        omega (
-          arith,
-          charges-le u v,
-          sold-le,
-          parts-add (u .party .charges) (pos needs),
-          posPart-of (u .party .charges +ℤ pos needs) (posPart (u .party .charges) + needs) (negPart (u .party .charges)) (omega (arith, parts-add (u .party .charges) (pos needs), posPart-pos needs, negPart-pos needs)),
-          worth-le 0 (posPart (morningNeed (holding b u 0))) (1000000 + n0) (morning-need 0 (omega arith)),
-          worth-le 1 (posPart (morningNeed (holding b u 1))) (1000000 + n1) (morning-need 1 (omega arith)),
-          worth-le 2 (posPart (morningNeed (holding b u 2))) (1000000 + n2) (morning-need 2 (omega arith)),
-        )
-
-    pub afternoon-level-le : afternoonLevel limits b u ≤ 9580000000000
-    unfolding afternoonLevel afternoonSum floored areas sum dealtInAll
-    afternoon-level-le =
-        let id = u .party .id in
-        let ts = b .trades in
-        let needs = sum (λ a. posPart (afternoonNeed a (holding b u a)) * referencePrice (b .header .prices) a) areas in
-        let short = exposure (b .header .prices) (holding b u) in
-        let long = credit (b .header .prices) (holding b u) in
-        let c = u .party .charges in
-        omega (
-          arith,
-          charges-le u v,
-          sold-le,
-          exposure-le,
-          posPart-of (c +ℤ pos needs +ℤ pos short -ℤ pos long) (posPart c + needs + short) (negPart c + long)
-              (omega (
-                arith,
-                parts-add c (pos needs),
-                parts-add (c +ℤ pos needs) (pos short),
-                parts-sub (c +ℤ pos needs +ℤ pos short) (pos long),
-                posPart-pos needs,
-                negPart-pos needs,
-                posPart-pos short,
-                negPart-pos short,
-                posPart-pos long,
-                negPart-pos long,
-              )),
-          worth-le 0 (posPart (afternoonNeed 0 (holding b u 0))) (sold ts id 0 1) (afternoon-need 0),
-          worth-le 1 (posPart (afternoonNeed 1 (holding b u 1))) (sold ts id 1 1) (afternoon-need 1),
-          worth-le 2 (posPart (afternoonNeed 2 (holding b u 2))) (sold ts id 2 1) (afternoon-need 2),
-        )

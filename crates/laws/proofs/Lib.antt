@@ -4,6 +4,8 @@ pub mod Sound
 -- users, positions, trades, and what a call did to a book
 pub mod Areas
 pub mod Users
+pub mod Bearers
+pub mod Managers
 pub mod Positions
 pub mod Trades
 pub mod Moved
@@ -19,6 +21,9 @@ pub mod Reduction
 pub mod Run
 -- numeric bounds
 pub mod Bounds
+-- what is borne by a user
+pub mod Members
+pub mod Levels
 -- a version without selling tariffs
 pub mod Credit
 -- a run whose fuel suffices

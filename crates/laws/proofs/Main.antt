@@ -7,7 +7,8 @@ use lib.Dec.{leb→le, le→leb, ltb, ltb→lt}
 use lib.IntN.{_+ℤ_, natAbs}
 use Rattle.base.proofs.Linear.{abs-parts, posPart-of}
 use Rattle.base.specs.Parts.{negPart, posPart}
-use Rattle.laws.proofs.Bounds.{afternoon-level-le, morning-level-le, position-bound, tariffs-pos}
+use Rattle.laws.proofs.Bounds.{position-bound, tariffs-pos}
+use Rattle.laws.proofs.Levels.{afternoon-level-le, morning-level-le}
 use Rattle.laws.proofs.Credit.{level-uncredited}
 use Rattle.laws.proofs.Cuts.{cuts-bilateral, cuts-pos, cuts-within, tally-mwh, tally-near, tally-reaches}
 use Rattle.laws.proofs.Guarantee.{guarantee-sound}
@@ -179,11 +180,11 @@ module _ (limits : Limits) where
         morning = λ b id t k l.
             let s = sound b t in
             let u = find (b .users) id in
-            omega (arith, morning-level-le b s u (all-find userValid (b .users) id (s .users) k) (all-find (positionsValid (b .trades)) (b .users) id (s .positions) k) limits l);
+            omega (arith, morning-level-le b s u (all-find userValid (b .users) id (s .users) k) limits l);
         afternoon = λ b id t k l.
             let s = sound b t in
             let u = find (b .users) id in
-            omega (arith, afternoon-level-le b s u (all-find userValid (b .users) id (s .users) k) (all-find (positionsValid (b .trades)) (b .users) id (s .positions) k) limits l);
+            omega (arith, afternoon-level-le b s u (all-find userValid (b .users) id (s .users) k) limits l);
       }
 
   -- ---- versions

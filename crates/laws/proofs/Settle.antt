@@ -12,6 +12,7 @@ use Rattle.base.proofs.Linear.{parts-add, eq-parts, posPart-neg, negPart-neg, p
 use Rattle.base.specs.Parts.{posPart, negPart}
 use Rattle.base.specs.Sums.{sum, sumℤ}
 use Rattle.laws.proofs.Areas.{at-add}
+use Rattle.laws.proofs.Bearers.{groups-map}
 use Rattle.laws.proofs.Moved.{Moved}
 use Rattle.laws.proofs.Positions.{parts-defined, position-is, eqbℤ-refl}
 use Rattle.laws.specs.Sound.{Sound}
@@ -23,7 +24,7 @@ use Rattle.laws.specs.Trades.{Framed, Pairwise, ended, then, leftMwh, le
 use Rattle.rules.specs.Book.{at, User, Trade, Book, sold, bought, definedPosition, dealt, bilateralForDay}
 use Rattle.rules.specs.Changes.{change, moved}
 use Rattle.base.specs.Lists.{all}
-use Rattle.rules.specs.Questions.{countsValid, userValid, tradeValid, positionsValid, codesValid, guaranteesValid, positionValid, versionValid}
+use Rattle.rules.specs.Questions.{countsValid, groupsValid, userValid, tradeValid, positionsValid, codesValid, guaranteesValid, positionValid, versionValid}
 use Rattle.rules.specs.Reduction.{lost, settleOne, settle, withTrades}
 
 -- ---- one user's part of it
@@ -237,7 +238,7 @@ pairs-length ended = refl
 pairs-length (then p ps) = ap suc (pairs-length ps)
 
 anew-sound : (b : Book) (ns : List Trade) → Sound b → Pairwise Framed (b .trades) ns → T (all (tradeValid (b .users)) ns) → Sound (anew b ns)
-unfolding anew versionValid countsValid
+unfolding anew versionValid countsValid groupsValid
 anew-sound b ns s h k =
     let same = repositioned-same ns in
     record {
@@ -246,6 +247,7 @@ anew-sound b ns s h k =
       header = s .header;
       ids = rw (idsRise-map (repositioned ns) same 0 (b .users)) (s .ids);
       users = all-of userValid (repositioned ns) (repositioned-user ns) (b .users) (s .users);
+      groups = groups-map (repositioned ns) same (b .header .version) (b .users) (s .groups);
       trades = trades-map (repositioned ns) same (b .users) ns k;
       positions = all-after (positionsValid ns) (repositioned ns) (repositioned-ok ns) (b .users);
     }

@@ -1,4 +1,5 @@
 -- A book passes the questions 2 to 7 exactly when it is sound. Assumes nothing.
+use mathlib.Core.Bool.{_&&_}
 use mathlib.Core.Option.{Option, none, some}
 use mathlib.Core.Path.{_≡_, refl}
 use Prim.Native.Nat.{ℕ}
@@ -8,7 +9,7 @@ use Rattle.laws.specs.Sound.{Sound}
 use Rattle.base.proofs.Tests.{and-l, and-r, and-i}
 use Rattle.rules.specs.Book.{Book}
 use Rattle.base.specs.Lists.{all}
-use Rattle.rules.specs.Questions.{refusal, aboutBook, isNone, accepted, countsValid, idsRise, userValid, tradeValid, positionsValid, headerValid, usersValid, versionValid}
+use Rattle.rules.specs.Questions.{refusal, aboutBook, isNone, accepted, countsValid, idsRise, userValid, tradeValid, positionsValid, headerValid, usersValid, groupsValid, versionValid}
 
 pub sound-of : (b : Book) → refusal (aboutBook b) ≡ none → Sound b
 unfolding aboutBook usersValid
@@ -21,7 +22,17 @@ sound-of b h =
     let q7 = first-yes _ _ (q6 .1) in
     let u = idsRise 0 (b .users) in
     let v = all userValid (b .users) in
-    record { version = q2 .0; counts = q3 .0; header = q4 .0; ids = and-l u v (q5 .0); users = and-r u v (q5 .0); trades = q6 .0; positions = q7 .0 }
+    let each = and-l (u && v) (groupsValid b) (q5 .0) in
+    record {
+      version = q2 .0;
+      counts = q3 .0;
+      header = q4 .0;
+      ids = and-l u v each;
+      users = and-r u v each;
+      groups = and-r (u && v) (groupsValid b) (q5 .0);
+      trades = q6 .0;
+      positions = q7 .0;
+    }
 
 pub sound : (b : Book) → T (accepted b) → Sound b
 unfolding accepted isNone
@@ -34,7 +45,9 @@ sound b t = go (refusal (aboutBook b)) refl t
 pub none-refuses : (b : Book) → Sound b → refusal (aboutBook b) ≡ none
 unfolding aboutBook usersValid refusal
 none-refuses b s =
-    rw (yes-first 2 _ _ (s .version), yes-first 3 _ _ (s .counts), yes-first 4 _ _ (s .header), yes-first 5 _ _ (and-i (idsRise 0 (b .users)) (all userValid (b .users)) (s .ids) (s .users)), yes-first 6 _ _ (s .trades), yes-first 7 _ _ (s .positions))
+    let u = idsRise 0 (b .users) in
+    let v = all userValid (b .users) in
+    rw (yes-first 2 _ _ (s .version), yes-first 3 _ _ (s .counts), yes-first 4 _ _ (s .header), yes-first 5 _ _ (and-i (u && v) (groupsValid b) (and-i u v (s .ids) (s .users)) (s .groups)), yes-first 6 _ _ (s .trades), yes-first 7 _ _ (s .positions))
 
 pub accept : (b : Book) → Sound b → T (accepted b)
 unfolding accepted isNone

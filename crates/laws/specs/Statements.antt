@@ -10,9 +10,9 @@ use Rattle.base.specs.Sums.{sum, sumℤ}
 use Rattle.laws.specs.Books.{anew}
 use Rattle.laws.specs.Trades.{cutsWithin, Lowered, Pairwise, eligibleWorth}
 use Rattle.rules.specs.Areas.{areas, referencePrice}
-use Rattle.rules.specs.Book.{Book, User, at, find}
+use Rattle.rules.specs.Book.{Book, User, at, bought, find, sold}
 use Rattle.rules.specs.Calls.{Call, cuttable, effect, reduced, reducedBy, run, runFor, step}
-use Rattle.rules.specs.Levels.{Limits, afternoonLevel, afternoonNeed, exposure, floored, holding, morningLevel, shortOfCover}
+use Rattle.rules.specs.Levels.{Holding, Limits, afternoonLevel, afternoonNeed, exposure, floored, holding, morningLevel, shortOfCover}
 use Rattle.rules.specs.Questions.{accepted, known}
 use Rattle.rules.specs.Reduction.{cutAll, cuts, eligible, hasEligible, target}
 use Rattle.rules.specs.Signed.{within}
@@ -60,14 +60,26 @@ pub record RunCounts (limits : Limits) : Type 0 where
   pub most : (b : Book) → effect limits b run .answer .reductions ≤ cuttable (b .trades)
   pub none : (b : Book) → effect limits b run .answer .reductions ≡ 0 → effect limits b run .book ≡ b
 
--- Positions of an accepted book are within ±26,600,000, and levels are below 2^44 where the least level is.
+-- Positions of an accepted book are within ±26,600,000, and levels are below 2^46 where the least level is.
 pub record Bounded (limits : Limits) : Type 0 where
   pub position : (b : Book) (id a : ℕ) → T (accepted b) → T (known (b .users) id) → a < 3
       → T (within 26600000 (at (find (b .users) id .position) a))
-  pub morning : (b : Book) (id : ℕ) → T (accepted b) → T (known (b .users) id) → limits .floor ≤ 9580000000000
-      → morningLevel limits b (find (b .users) id) < 2 ^ 44
-  pub afternoon : (b : Book) (id : ℕ) → T (accepted b) → T (known (b .users) id) → limits .floor ≤ 9580000000000
-      → afternoonLevel limits b (find (b .users) id) < 2 ^ 44
+  pub morning : (b : Book) (id : ℕ) → T (accepted b) → T (known (b .users) id) → limits .floor ≤ 66280000000000
+      → morningLevel limits b (find (b .users) id) < 2 ^ 46
+  pub afternoon : (b : Book) (id : ℕ) → T (accepted b) → T (known (b .users) id) → limits .floor ≤ 66280000000000
+      → afternoonLevel limits b (find (b .users) id) < 2 ^ 46
+
+-- what a user holds by its own record and its own trades, as in document 01
+unfoldable pub ownHolding : Book → User → ℕ → Holding
+ownHolding b u area =
+    record {
+      physical = at (u .physical) area;
+      position = at (u .position) area;
+      sold = sold (b .trades) (u .party .id) area 0;
+      bought = bought (b .trades) (u .party .id) area 0;
+      soldNext = sold (b .trades) (u .party .id) area 1;
+      boughtNext = bought (b .trades) (u .party .id) area 1;
+    }
 
 -- document 01's afternoon level: "charges + sum of max(0, need) × w + sum of max(0, −position) × w", with its floor
 unfoldable pub uncreditedLevel : Limits → Book → User → ℕ

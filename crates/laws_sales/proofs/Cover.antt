@@ -1,6 +1,6 @@
 -- After the cuts of a reduction: who is party to a trade standing below notified, who is short of cover and who has an eligible trade. Assumes nothing.
 use mathlib.Core.Bool.{Bool, true, false, not, cond, _&&_, _||_}
-use mathlib.Core.List.{List, [], _∷_, map}
+use mathlib.Core.List.{List, [], _∷_, map, map-map}
 use mathlib.Core.Path.{_≡_, refl, sym, ap, ap₂, fun-ext, _∙_}
 use Prim.Native.Nat.{ℕ, _+_, _-_, _*_, _≤_}
 use native.Mathlib.Omega.{arith}
@@ -13,16 +13,20 @@ use Rattle.base.specs.Parts.{posPart, negPart}
 use Rattle.base.specs.Sums.{sum}
 use Rattle.laws.proofs.Shares.{eachWithin}
 use Rattle.base.proofs.Tests.{and-l, and-r, or-l, all-by, sum-by, by-case, fails}
+use Rattle.laws.specs.Statements.{ownHolding}
 use Rattle.laws.specs.Trades.{Framed, Pairwise, ended, then}
 use Rattle.rules.specs.Areas.{Prices, areas, referencePrice, sellingTariff}
+use Rattle.rules.specs.Bearers.{asBorne}
 use Rattle.rules.specs.Book.{Party, Terms, Book, User, Trade, bilateralForDay, dealt, sold, bought}
-use Rattle.rules.specs.Levels.{Limits, Holding, holding, sells, buys, partyTo, floored, stock, afternoonNeed, afternoonSum, credit, exposure, leastReferencePrice, levelFrom, flaggedFrom, afternoonLevel, flagged, calledIn, shortOfCover}
+use Rattle.rules.specs.Levels.{Limits, Holding, partyTo, floored, stock, afternoonNeed, afternoonSum, credit, exposure, leastReferencePrice, levelFrom, flaggedFrom, afternoonLevel, flagged, calledIn, exceedsMargin, shipper, shortOfCover}
 use Rattle.base.specs.Lists.{all, any}
 use Rattle.rules.specs.Questions.{tradeValid, amountsValid}
 use Rattle.rules.specs.Reduction.{hasEligible, target, cutBy, cutAll}
 use Rattle.laws_sales.proofs.Cuts.{cut-yes, cut-no}
-use Rattle.laws_sales.proofs.Kept.{kept-yes, kept-no, any-kept}
+use Rattle.laws_sales.proofs.Kept.{kept-map, kept-yes, kept-no, any-kept}
 use Rattle.laws_sales.proofs.Own.{own-eligible}
+use Rattle.laws_sales.proofs.Sums.{held-borne}
+use Rattle.laws_sales.specs.Borne.{borneBook, borneTrade, borneUser, shut}
 use Rattle.laws_sales.specs.Cover.{SameNext, AllNext, shortFrom}
 use Rattle.laws_sales.specs.Kept.{kept, spread}
 use Rattle.laws_sales.specs.Own.{EligibleBy}
@@ -33,10 +37,6 @@ use Rattle.laws_sales.specs.Sales.{ownSale, salesOf, isParty, someCut}
 -- no more stands than was notified
 unfoldable pub asNotified : Trade → Bool
 asNotified t = leb (t .standing) (t .terms .notified)
-
-pub valid-notified : (us : List User) (ts : List Trade) → T (all (tradeValid us) ts) → T (all asNotified ts)
-unfolding tradeValid amountsValid asNotified
-valid-notified us ts h = all-by (tradeValid us) asNotified (λ t k. search (and-l, and-r)) ts h
 
 -- a cut leaves less than was notified where less stood, or where it is above 0
 below-cut : (c s n : ℕ) → c ≤ s → s ≤ n → ltb (s - c) n ≡ ltb s n || ltb 0 c
@@ -140,10 +140,11 @@ some-cut-buyer id other n cs ss h =
 
 -- ---- eligible trades
 
-any-map : {A : Type 0} (q : ℕ → Bool) (g : A → ℕ) (xs : List A) → any (λ x. q (g x)) xs ≡ any q (map g xs)
+-- a test of what each becomes
+any-through : {A B : Type 0} (q : B → Bool) (f : A → B) (xs : List A) → any (λ x. q (f x)) xs ≡ any q (map f xs)
 unfolding any
-any-map q g [] = refl
-any-map q g (x ∷ xs) = ap (λ (c : Bool). q (g x) || c) (any-map q g xs)
+any-through q f [] = refl
+any-through q f (x ∷ xs) = ap (λ (c : Bool). q (f x) || c) (any-through q f xs)
 
 -- the user has an eligible trade where an own sale stands above 0
 has-eligible-kept : (b : Book) (u : User) (p : Trade → Bool) → EligibleBy b u p → hasEligible b u ≡ any (λ n. ltb 0 n) (map (λ s. s .standing) (kept p (b .trades)))
@@ -151,10 +152,15 @@ unfolding hasEligible EligibleBy
 has-eligible-kept b u p own =
     ap (λ (q : Trade → Bool). any q (b .trades)) (fun-ext own)
     ∙ any-kept p (λ t. ltb 0 (t .standing)) (b .trades)
-    ∙ any-map (λ n. ltb 0 n) (λ t. t .standing) (kept p (b .trades))
+    ∙ any-through (λ n. ltb 0 n) (λ t. t .standing) (kept p (b .trades))
 
-pub has-eligible-sales : (b : Book) (u : User) → hasEligible b u ≡ any (λ n. ltb 0 n) (map (λ s. s .standing) (salesOf (b .trades) (u .party .id)))
-has-eligible-sales b u = has-eligible-kept b u (ownSale (u .party .id)) (own-eligible b u)
+pub has-eligible-sales : (b : Book) (u : User) → hasEligible b u ≡ any (λ n. ltb 0 n) (map (λ s. s .standing) (salesOf (borneBook b .trades) (u .party .id)))
+unfolding borneBook borneTrade shut asBorne
+has-eligible-sales b u =
+    let own = ownSale (u .party .id) in
+    let f = borneTrade (b .users) in
+    has-eligible-kept b u (λ t. own (f t)) (own-eligible b u)
+    ∙ ap (any (λ n. ltb 0 n)) (sym (ap (map (λ s. s .standing)) (kept-map own f (b .trades)) ∙ map-map (λ s. s .standing) f (kept (λ t. own (f t)) (b .trades))))
 
 -- ---- what was sold and bought for d+1
 
@@ -197,8 +203,8 @@ module _ (id area : ℕ) {ts ns : List Trade} (h : Pairwise Framed ts ns) where
 
 -- a user's holdings after, where its record is v and before it was u
 pub next-holding : (b n : Book) (u v : User) → v .party ≡ u .party → Pairwise Framed (b .trades) (n .trades) → (area : ℕ) (h : Holding)
-    → h .position ≡ holding n v area .position → h .soldNext ≡ holding b u area .soldNext → h .boughtNext ≡ holding b u area .boughtNext → SameNext h (holding n v area)
-unfolding holding
+    → h .position ≡ ownHolding n v area .position → h .soldNext ≡ ownHolding b u area .soldNext → h .boughtNext ≡ ownHolding b u area .boughtNext → SameNext h (ownHolding n v area)
+unfolding ownHolding
 next-holding b n u v e p area h z s t =
     record {
       position = z;
@@ -244,11 +250,18 @@ module _ {g h : ℕ → Holding} (same : AllNext g h) where
     unfolding shortFrom
     short-next cut = rw (level-next, flagged-next)
 
+-- by the book as its risk is borne
 module _ (limits : Limits) (b : Book) (u : User) where
-  pub target-from : target limits b u ≡ levelFrom limits (b .header .prices) u (holding b u) - u .party .assigned
-  unfolding target afternoonLevel
-  target-from = refl
+  pub target-from : target limits b u ≡ levelFrom limits (b .header .prices) (borneUser (b .users) u) (ownHolding (borneBook b) (borneUser (b .users) u)) - u .party .assigned
+  unfolding target afternoonLevel borneUser
+  target-from = ap (λ (h : ℕ → Holding). levelFrom limits (b .header .prices) u h - u .party .assigned) (fun-ext (held-borne b u))
 
-  pub short-from : shortOfCover limits b u ≡ shortFrom limits (b .header .prices) u (holding b u) (cutBefore (u .party .id) (b .trades))
-  unfolding shortOfCover shortFrom afternoonLevel calledIn flagged partyTo sells buys cutBefore isCut
-  short-from = refl
+  -- party to a trade standing below notified, as it is borne
+  pub cut-borne-before : any (λ t. partyTo b u t && ltb (t .standing) (t .terms .notified)) (b .trades) ≡ cutBefore (u .party .id) (borneBook b .trades)
+  unfolding partyTo cutBefore isCut borneBook borneTrade shut asBorne
+  cut-borne-before = any-through (isCut (u .party .id)) (borneTrade (b .users)) (b .trades)
+
+  pub short-from : shortOfCover limits b u ≡ shortFrom limits (b .header .prices) (borneUser (b .users) u) (ownHolding (borneBook b) (borneUser (b .users) u)) (cutBefore (u .party .id) (borneBook b .trades))
+  unfolding shortOfCover shortFrom afternoonLevel calledIn flagged borneUser shipper exceedsMargin
+  short-from =
+      ap₂ (λ (h : ℕ → Holding) (cut : Bool). shortFrom limits (b .header .prices) u h cut) (fun-ext (held-borne b u)) cut-borne-before

@@ -1,27 +1,34 @@
 -- The cuts of a reduction are those of the user's own sales, spread over the trades; what they do to the sales of each user and to the tally. Assumes nothing.
-use mathlib.Core.Bool.{Bool, true, false, not, cond, _&&_}
-use mathlib.Core.List.{List, [], _∷_, map}
+use mathlib.Core.Bool.{Bool, true, false, not, cond, _&&_, _||_}
+use mathlib.Core.List.{List, [], _∷_, map, map-map}
 use mathlib.Core.Path.{_≡_, refl, sym, ap, ap₂, subst, fun-ext, _∙_}
 use Prim.Native.Nat.{ℕ, _+_, _-_}
 use native.Mathlib.Nat.{sub-zero, zero-mul}
 use native.Mathlib.Omega.{arith}
-use lib.Dec.{T, ltb}
+use lib.Dec.{T, eqb, leb, ltb}
+use lib.IntN.{ℤ}
 use lib.ListN.{length, length-map}
 use borrow.Author.Tests.{ltb-false}
 use Rattle.laws.proofs.Cuts.{together-within, lot-standings}
 use Rattle.laws.proofs.Shares.{eachWithin, within-length, tier-length, tier-within}
-use Rattle.base.proofs.Tests.{map-by, by-case, holds}
-use Rattle.laws.specs.Trades.{standingIf}
+use Rattle.base.proofs.Tests.{and-i, and-l, and-r, map-by, by-case, holds}
+use Rattle.laws.specs.Trades.{cutWithin, cutsWithin, standingIf}
+use Rattle.base.specs.Parts.{negPart}
 use Rattle.rules.specs.Areas.{Prices, tariff}
-use Rattle.rules.specs.Book.{Book, User, Trade}
+use Rattle.rules.specs.Bearers.{asBorne}
+use Rattle.rules.specs.Book.{Book, User, Trade, bilateralForDay}
 use Rattle.rules.specs.Levels.{holding}
 use Rattle.rules.specs.Reduction.{eligible, shortIn, lot, tierOne, tierTwo, together, cuts, cutBy, cutAll, Tally, tallied, tallyAll}
 use Rattle.rules.specs.Shares.{Lot, tierWorth, tierCuts}
-use Rattle.laws_sales.proofs.Kept.{kept-yes, kept-no, kept-pass, spread-yes, spread-no, spread-together}
+use Rattle.laws_sales.proofs.Kept.{kept-map, kept-yes, kept-no, kept-pass, spread-yes, spread-no, spread-through, spread-together}
+use Rattle.laws_sales.proofs.Own.{own-eligible}
+use Rattle.laws_sales.proofs.Sums.{at-sums}
 use Rattle.laws_sales.proofs.Tiers.{tier-kept, worth-kept}
+use Rattle.laws_sales.specs.Borne.{borneBook, borneTrade, borneUser, shut}
 use Rattle.laws_sales.specs.Kept.{kept, spread}
 use Rattle.laws_sales.specs.Own.{EligibleBy, OfTerms, Owned}
-use Rattle.laws_sales.specs.Sales.{shortAt, saleLots, saleCuts}
+use Rattle.laws_sales.specs.Reduced.{cutsBy}
+use Rattle.laws_sales.specs.Sales.{ownSale, shortAt, saleLots, saleCuts}
 
 -- ---- the cuts of own sales
 
@@ -103,17 +110,96 @@ module _ (b : Book) (u : User) (p : Trade → Bool) (own : EligibleBy b u p) whe
         ∙ ap (λ (xs : List Lot). spread p (b .trades) (tierCuts asked xs)) lots-sales
 
   -- the cuts of a reduction are the cuts of the user's own sales, each at its place, and 0 elsewhere
-  pub cuts-sales : (asked : ℕ) → cuts b u asked ≡ spread p (b .trades) (saleCuts (b .header .prices) (shortAt u) asked (kept p (b .trades)))
-  unfolding cuts tierOne tierTwo shortIn holding shortAt saleCuts lotIn
-  cuts-sales asked =
+  cuts-kept : (short : ℕ → Bool) → ((t : Trade) → shortIn b u t ≡ short (t .terms .area)) → (asked : ℕ)
+      → cuts b u asked ≡ spread p (b .trades) (saleCuts (b .header .prices) short asked (kept p (b .trades)))
+  unfolding cuts tierOne tierTwo saleCuts lotIn
+  cuts-kept short is asked =
       let ss = kept p (b .trades) in
-      let long : ℕ → Bool = λ area. not (shortAt u area) in
-      let one = saleLots (b .header .prices) (shortAt u) ss in
+      let long : ℕ → Bool = λ area. not (short area) in
+      let one = saleLots (b .header .prices) short ss in
       let two = saleLots (b .header .prices) long ss in
-      ap₂ together (tier-sales (shortAt u) asked)
-      (ap (λ (n : ℕ). tierCuts (asked - n) (map (lotIn long) (b .trades))) (tier-worth-sales (shortAt u)) ∙ tier-sales long (asked - tierWorth one))
+      let tiers : (Trade → Bool) → List ℕ
+      = λ (q : Trade → Bool).
+      let first = map (lot (b .header .prices) (λ t. eligible b u t && q t)) (b .trades) in
+      together (tierCuts asked first) (tierCuts (asked - tierWorth first) (map (lot (b .header .prices) (λ t. eligible b u t && not (q t))) (b .trades))) in
+      ap tiers (fun-ext is)
+      ∙ ap₂ together (tier-sales short asked)
+      (ap (λ (n : ℕ). tierCuts (asked - n) (map (lotIn long) (b .trades))) (tier-worth-sales short) ∙ tier-sales long (asked - tierWorth one))
       ∙ spread-together p (b .trades) (tierCuts asked one) (tierCuts (asked - tierWorth one) two)
-      (tier-count (b .header .prices) (shortAt u) asked ss ∙ sym (tier-count (b .header .prices) long (asked - tierWorth one) ss))
+      (tier-count (b .header .prices) short asked ss ∙ sym (tier-count (b .header .prices) long (asked - tierWorth one) ss))
+
+-- ---- trades as they are borne
+
+module _ (us : List User) where
+  -- what a tier reads of a sale is as it was
+  lots-borne : (f : Prices) (belongs : ℕ → Bool) (ss : List Trade) → saleLots f belongs (map (borneTrade us) ss) ≡ saleLots f belongs ss
+  unfolding saleLots lot borneTrade shut asBorne
+  lots-borne f belongs ss = map-map (lot f (λ t. belongs (t .terms .area))) (borneTrade us) ss
+
+  sale-cuts-borne : (f : Prices) (short : ℕ → Bool) (asked : ℕ) (ss : List Trade) → saleCuts f short asked (map (borneTrade us) ss) ≡ saleCuts f short asked ss
+  unfolding saleCuts
+  sale-cuts-borne f short asked ss = rw (lots-borne f short ss, lots-borne f (λ area. not (short area)) ss)
+
+  -- cuts of trades as they are borne
+  pub cut-borne : (cs : List ℕ) (ts : List Trade) → map (borneTrade us) (cutAll cs ts) ≡ cutAll cs (map (borneTrade us) ts)
+  unfolding cutAll cutBy borneTrade shut asBorne
+  cut-borne [] ts = refl
+  cut-borne (c ∷ cs) [] = refl
+  cut-borne (c ∷ cs) (t ∷ ts) = ap (λ (ns : List Trade). borneTrade us (cutBy c t) ∷ ns) (cut-borne cs ts)
+
+  -- what may be cut as it is borne may be cut
+  pub within-borne : (cs : List ℕ) (ts : List Trade) → T (cutsWithin bilateralForDay cs (map (borneTrade us) ts)) → T (cutsWithin bilateralForDay cs ts)
+  unfolding cutsWithin cutWithin bilateralForDay borneTrade shut asBorne
+  within-borne [] [] h = h
+  within-borne [] (t ∷ ts) h = h
+  within-borne (c ∷ cs) [] h = h
+  within-borne (c ∷ cs) (t ∷ ts) h =
+      let one = cutWithin bilateralForDay c (borneTrade us t) in
+      let rest = cutsWithin bilateralForDay cs (map (borneTrade us) ts) in
+      and-i (cutWithin bilateralForDay c t) (cutsWithin bilateralForDay cs ts) (here c t (and-l one rest h)) (within-borne cs ts (and-r one rest h))
+    where
+      kind : (x : Bool) (n d : ℕ) → T (eqb (cond x 1 n) 0 && eqb d 0) → T (eqb n 0 && eqb d 0)
+      kind true n d h = absurd h
+      kind false n d h = h
+
+      either : (a b c : Bool) → (T b → T c) → T (a || b) → T (a || c)
+      either true b c f h = tt
+      either false b c f h = f h
+
+      here : (c : ℕ) (t : Trade) → T (cutWithin bilateralForDay c (borneTrade us t)) → T (cutWithin bilateralForDay c t)
+      here c t h =
+          let r = asBorne us t .terms in
+          let low = leb c (t .standing) in
+          let all = eqb c 0 || bilateralForDay (borneTrade us t) in
+          and-i low (eqb c 0 || bilateralForDay t) (and-l low all h)
+          (either (eqb c 0) (bilateralForDay (borneTrade us t)) (bilateralForDay t) (kind (eqb (r .seller) (r .buyer)) (t .terms .kind) (t .terms .day)) (and-r low all h))
+
+  -- and their tally
+  pub tally-borne : (f : Prices) (cs : List ℕ) (ts : List Trade) (tally : Tally) → tallyAll f cs (map (borneTrade us) ts) tally ≡ tallyAll f cs ts tally
+  unfolding tallyAll tallied borneTrade shut asBorne
+  tally-borne f [] ts tally = refl
+  tally-borne f (c ∷ cs) [] tally = refl
+  tally-borne f (c ∷ cs) (t ∷ ts) tally = tally-borne f cs ts (tallied f c t tally)
+
+-- the position as it is borne is negative in the trade's area
+short-borne : (b : Book) (u : User) (t : Trade) → shortIn b u t ≡ shortAt (borneUser (b .users) u) (t .terms .area)
+unfolding shortIn holding shortAt borneUser
+short-borne b u t = ap (λ (z : ℤ). ltb 0 (negPart z)) (sym (at-sums (λ v. v .position) (b .users) (u .party .id) (t .terms .area)))
+
+-- the cuts of a reduction, of the sales as they are borne
+pub cuts-sales : (b : Book) (u : User) (asked : ℕ)
+    → cuts b u asked ≡ spread (ownSale (u .party .id)) (borneBook b .trades) (cutsBy ownSale (borneBook b) (borneUser (b .users) u) asked)
+unfolding borneBook borneUser
+cuts-sales b u asked =
+    let own = ownSale (u .party .id) in
+    let f = borneTrade (b .users) in
+    let short = shortAt (borneUser (b .users) u) in
+    let real = kept (λ t. own (f t)) (b .trades) in
+    cuts-kept b u (λ t. own (f t)) (own-eligible b u) short (short-borne b u) asked
+    ∙ ap (spread (λ t. own (f t)) (b .trades))
+    (sym (sale-cuts-borne (b .users) (b .header .prices) short asked real)
+    ∙ ap (saleCuts (b .header .prices) short asked) (sym (kept-map own f (b .trades))))
+    ∙ sym (spread-through own f (b .trades) (cutsBy ownSale (borneBook b) (borneUser (b .users) u) asked))
 
 -- ---- cuts of trades
 

@@ -6,33 +6,37 @@ use mathlib.Core.Path.{_≡_, sym, ap, subst, _∙_}
 use Prim.Native.Nat.{ℕ, suc, _≤_, _<_}
 use native.Mathlib.Omega.{arith}
 use lib.Dec.{T, eqb, leb, le→leb}
-use lib.ListN.{length, take, getD, length-map, length-take, List·getD-eq-default}
+use lib.ListN.{length, take, getD, length-map, length-take, List·getD-eq-default, List·getD-map}
 use lib.Seq.{take-all, getD-take}
-use Rattle.base.proofs.Fronts.{all-at}
+use Rattle.base.proofs.Fronts.{getD-inside}
 use Rattle.base.proofs.Linear.{by-order}
 use Rattle.base.specs.Parts.{posPart, negPart}
-use Rattle.laws.proofs.Bounds.{position-bound}
+use Rattle.laws.proofs.Levels.{borne-bound}
 use Rattle.laws.proofs.Reduction.{cuts-sound}
 use Rattle.laws.proofs.Shares.{within-at}
 use Rattle.laws.specs.Sound.{Sound}
 use Rattle.base.proofs.Tests.{and-i, or-r, by-case, holds}
 use Rattle.laws.specs.Trades.{cutWithin, cutsWithin}
 use Rattle.rules.specs.Book.{at, Party, Book, User, Trade, bilateralForDay, nobody}
-use Rattle.rules.specs.Questions.{positionsValid, userValid}
+use Rattle.rules.specs.Questions.{idsRise}
 use Rattle.rules.specs.Reduction.{cutAll, settle, withTrades}
-use Rattle.laws_sales.proofs.Cuts.{sale-length, sale-within}
+use Rattle.laws_sales.proofs.Borne.{borne-with}
+use Rattle.laws_sales.proofs.Cuts.{cut-borne, sale-length, sale-within, within-borne}
 use Rattle.laws_sales.proofs.Kept.{kept-yes, kept-no}
 use Rattle.laws_sales.proofs.Numbers.{read-at}
+use Rattle.laws_sales.proofs.Own.{own-sales}
+use Rattle.laws_sales.proofs.Sums.{at-sums}
 use Rattle.laws_sales.proofs.Settled.{settle-none, settle-kept, settle-front, settle-parties, settle-rise, settle-one-at, party-at}
+use Rattle.laws_sales.specs.Borne.{borneBook, borneUser}
 use Rattle.laws_sales.specs.Kept.{kept, spread}
 use Rattle.laws_sales.specs.Own.{Owned}
 use Rattle.laws_sales.specs.Reduced.{cutsBy, salesBy, settledFirst}
-use Rattle.laws_sales.specs.Sales.{shortAt, settledAt}
+use Rattle.laws_sales.specs.Sales.{ownSale, shortAt, settledAt}
 
 -- ---- cuts of some of the sales
 
 -- cuts of trades that pass, each at most what stands, leave the other trades
-spread-within : (p q : Trade → Bool) → ((t : Trade) → T (p t) → T (q t)) → (ts : List Trade) (cs : List ℕ)
+pub spread-within : (p q : Trade → Bool) → ((t : Trade) → T (p t) → T (q t)) → (ts : List Trade) (cs : List ℕ)
     → ((i : ℕ) → getD cs i 0 ≤ getD (map (λ t. t .standing) (kept p ts)) i 0) → T (cutsWithin q (spread p ts cs) ts)
 unfolding cutsWithin cutWithin spread kept
 spread-within p q f [] cs h = tt
@@ -68,14 +72,6 @@ module _ {own : ℕ → Trade → Bool} (o : Owned own) (b : Book) (u : User) (a
   pub own-cuts-length : length (cutsBy own b u asked) ≡ length (salesBy own b u)
   own-cuts-length = sale-length (b .header .prices) (shortAt u) asked (salesBy own b u)
 
-  -- the book after the first cuts
-  bookAfter : ℕ → Book
-  bookAfter n = withTrades b (cutAll (spread (own (u .party .id)) (b .trades) (take n (cutsBy own b u asked))) (b .trades))
-
-  after-users : (n : ℕ) → bookAfter n .users ≡ settledFirst own b u asked n
-  unfolding bookAfter withTrades
-  after-users n = settle-kept (own (u .party .id)) (b .trades) (take n (cutsBy own b u asked)) (b .users)
-
   -- before the first cut
   pub first-none : settledFirst own b u asked 0 ≡ b .users
   unfolding cutAll
@@ -94,44 +90,68 @@ module _ {own : ℕ → Trade → Bool} (o : Owned own) (b : Book) (u : User) (a
   first-length n =
       sym (length-map (settledFirst own b u asked n) (λ v. v .party)) ∙ ap length (first-parties n) ∙ length-map (b .users) (λ v. v .party)
 
-  module _ (s : Sound b) where
-    after-sound : (n : ℕ) → Sound (bookAfter n)
-    unfolding bookAfter
-    after-sound n =
-        cuts-sound b (spread (own (u .party .id)) (b .trades) (take n (cutsBy own b u asked))) s
-        (spread-within (own (u .party .id)) bilateralForDay (o .bilateral (u .party .id)) (b .trades) (take n (cutsBy own b u asked))
-        (λ i. omega (arith, take-le n (cutsBy own b u asked) i, own-cut-le i)))
+  -- one cut more, by the places of the sale's seller and buyer
+  pub first-next : T (idsRise 0 (b .users)) → (n seller buyer : ℕ) (d : Trade) → n < length (salesBy own b u) → seller < length (b .users) → buyer < length (b .users)
+      → getD (b .users) seller nobody .party .id ≡ getD (salesBy own b u) n d .terms .seller → getD (b .users) buyer nobody .party .id ≡ getD (salesBy own b u) n d .terms .buyer
+      → settledFirst own b u asked (suc n) ≡ settledAt seller buyer (getD (salesBy own b u) n d .terms .area) (getD (cutsBy own b u asked) n 0) (settledFirst own b u asked n)
+  first-next rise n seller buyer d h k l e g =
+      let ss = salesBy own b u in
+      let cs = cutsBy own b u asked in
+      let vs = settledFirst own b u asked n in
+      let t = getD ss n d in
+      let same = first-parties n in
+      let stands : getD (map (λ s. s .standing) ss) n 0 ≡ t .standing
+      = read-at (λ s. s .standing) ss n d 0 h in
+      settle-front cs ss (b .users) n d h (omega (arith, own-cuts-length))
+      ∙ settle-one-at (getD cs n 0) t vs 0 seller buyer
+      (rw (settle-rise ss (cutAll (take n cs) ss) 0 (b .users)) rise) (omega (arith, first-length n)) (omega (arith, first-length n))
+      (ap (λ (q : Party). q .id) (party-at (b .users) vs same seller nobody) ∙ e)
+      (ap (λ (q : Party). q .id) (party-at (b .users) vs same buyer nobody) ∙ g)
+      (omega (arith, own-cut-le n))
 
-    -- each position is that of an accepted book
-    pub first-bound : (n i area : ℕ) → i < length (b .users) → area < 3
-        → (posPart (at (getD (settledFirst own b u asked n) i nobody .position) area) ≤ 26600000)
-        × (negPart (at (getD (settledFirst own b u asked n) i nobody .position) area) ≤ 26600000)
-    first-bound n i area h k =
-        let vs = settledFirst own b u asked n in
-        let users = after-users n in
-        let valid = after-sound n in
-        let inside : i < length vs = omega (arith, first-length n) in
-        let x = getD vs i nobody in
-        position-bound (bookAfter n) valid x
-        (all-at userValid vs (rw users at (valid .users)) i nobody inside)
-        (all-at (positionsValid (bookAfter n .trades)) vs (rw users at (valid .positions)) i nobody inside)
-        area k
+-- ---- an accepted book as its risk is borne
 
-    -- one cut more, by the places of the sale's seller and buyer
-    pub first-next : (n seller buyer : ℕ) (d : Trade) → n < length (salesBy own b u) → seller < length (b .users) → buyer < length (b .users)
-        → getD (b .users) seller nobody .party .id ≡ getD (salesBy own b u) n d .terms .seller → getD (b .users) buyer nobody .party .id ≡ getD (salesBy own b u) n d .terms .buyer
-        → settledFirst own b u asked (suc n) ≡ settledAt seller buyer (getD (salesBy own b u) n d .terms .area) (getD (cutsBy own b u asked) n 0) (settledFirst own b u asked n)
-    first-next n seller buyer d h k l e g =
-        let ss = salesBy own b u in
-        let cs = cutsBy own b u asked in
-        let vs = settledFirst own b u asked n in
-        let t = getD ss n d in
-        let same = first-parties n in
-        let stands : getD (map (λ s. s .standing) ss) n 0 ≡ t .standing
-        = read-at (λ s. s .standing) ss n d 0 h in
-        settle-front cs ss (b .users) n d h (omega (arith, own-cuts-length))
-        ∙ settle-one-at (getD cs n 0) t vs 0 seller buyer
-        (rw (settle-rise ss (cutAll (take n cs) ss) 0 (b .users)) (s .ids)) (omega (arith, first-length n)) (omega (arith, first-length n))
-        (ap (λ (q : Party). q .id) (party-at (b .users) vs same seller nobody) ∙ e)
-        (ap (λ (q : Party). q .id) (party-at (b .users) vs same buyer nobody) ∙ g)
-        (omega (arith, own-cut-le n))
+module _ (b : Book) (u : User) (asked : ℕ) (s : Sound b) where
+  abbrev bb : Book
+  bb = borneBook b
+
+  abbrev ub : User
+  ub = borneUser (b .users) u
+
+  -- the first cuts
+  abbrev firstCuts : ℕ → List ℕ
+  firstCuts n = spread (ownSale (u .party .id)) (bb .trades) (take n (cutsBy ownSale bb ub asked))
+
+  first-within : (n : ℕ) → T (cutsWithin bilateralForDay (firstCuts n) (bb .trades))
+  unfolding borneUser
+  first-within n =
+      spread-within (ownSale (u .party .id)) bilateralForDay (own-sales .bilateral (u .party .id)) (bb .trades) (take n (cutsBy ownSale bb ub asked))
+      (λ i. omega (arith, take-le n (cutsBy ownSale bb ub asked) i, own-cut-le own-sales bb ub asked i))
+
+  -- the book after them
+  bookAfter : ℕ → Book
+  bookAfter n = withTrades b (cutAll (firstCuts n) (b .trades))
+
+  after-sound : (n : ℕ) → Sound (bookAfter n)
+  unfolding bookAfter borneBook
+  after-sound n = cuts-sound b (firstCuts n) s (within-borne (b .users) (firstCuts n) (b .trades) (first-within n))
+
+  after-users : (n : ℕ) → borneBook (bookAfter n) .users ≡ settledFirst ownSale bb ub asked n
+  unfolding bookAfter borneBook borneUser withTrades
+  after-users n =
+      ap (λ (x : Book). x .users) (borne-with b (cutAll (firstCuts n) (b .trades)) s)
+      ∙ ap (λ (ns : List Trade). settle (bb .trades) ns (bb .users)) (cut-borne (b .users) (firstCuts n) (b .trades))
+      ∙ settle-kept (ownSale (u .party .id)) (bb .trades) (take n (cutsBy ownSale bb ub asked)) (bb .users)
+
+  -- each position is that of an accepted book
+  pub first-bound : (n i area : ℕ) → i < length (b .users) → area < 3
+      → (posPart (at (getD (settledFirst ownSale bb ub asked n) i nobody .position) area) ≤ 89600000)
+      × (negPart (at (getD (settledFirst ownSale bb ub asked n) i nobody .position) area) ≤ 89600000)
+  unfolding borneBook borneUser
+  first-bound n i area h k =
+      let us = bookAfter n .users in
+      let many : length us ≡ length (b .users) = sym (length-map us (borneUser us)) ∙ ap length (after-users n) ∙ first-length own-sales bb ub asked n ∙ length-map (b .users) (borneUser (b .users)) in
+      let x = getD us i nobody in
+      let here : getD (settledFirst ownSale bb ub asked n) i nobody ≡ borneUser us x
+      = ap (λ (vs : List User). getD vs i nobody) (sym (after-users n)) ∙ getD-inside (map (borneUser us) us) i nobody (borneUser us nobody) (omega (arith, length-map us (borneUser us), many)) ∙ List·getD-map (borneUser us) us i nobody in
+      rw (here, at-sums (λ v. v .position) us (x .party .id) area) (borne-bound (bookAfter n) (after-sound n) (x .party .id) area k)

@@ -83,3 +83,19 @@ module _ {A : Type 0} (p : A → Bool) where
       by-case (p x)
       (λ h. rw h (ap (λ (ks : List ℕ). (m + n) ∷ ks) (spread-together xs ms ns (omega arith))))
       (λ h. rw h (ap (λ (ks : List ℕ). 0 ∷ ks) (spread-together xs (m ∷ ms) (n ∷ ns) e)))
+
+-- the elements that pass after a change, and numbers spread over those
+module _ {A : Type 0} (p : A → Bool) (f : A → A) where
+  pub kept-map : (xs : List A) → kept p (map f xs) ≡ map f (kept (λ x. p (f x)) xs)
+  unfolding kept
+  kept-map [] = refl
+  kept-map (x ∷ xs) = by-case (p (f x)) (λ e. rw e (ap (λ (ys : List A). f x ∷ ys) (kept-map xs))) (λ e. rw e (kept-map xs))
+
+  pub spread-through : (xs : List A) (ns : List ℕ) → spread p (map f xs) ns ≡ spread (λ x. p (f x)) xs ns
+  unfolding spread
+  spread-through [] ns = refl
+  spread-through (x ∷ xs) [] = ap (λ (ks : List ℕ). 0 ∷ ks) (spread-through xs [])
+  spread-through (x ∷ xs) (n ∷ ns) =
+      by-case (p (f x))
+      (λ e. rw e (ap (λ (ks : List ℕ). n ∷ ks) (spread-through xs ns)))
+      (λ e. rw e (ap (λ (ks : List ℕ). 0 ∷ ks) (spread-through xs (n ∷ ns))))

@@ -5,6 +5,10 @@ pub mod Kept
 -- the trades of a tier by their numbers
 pub mod Lots
 pub mod Ranges
+-- the book as its risk is borne
+pub mod Sums
+pub mod Borne
+pub mod Alone
 -- whose sale a trade is
 pub mod Own
 -- the cuts of a tier

@@ -1,17 +1,18 @@
--- A sale is its seller's: the test is one of the terms, no trade is a sale of two users, each is one of some user, and those that stand above 0 are eligible. Assumes nothing.
-use mathlib.Core.Bool.{Bool, true, false, _&&_}
+-- A sale is its seller's, of trades as they are borne: the test is one of the terms, no trade is a sale of two users, each is one of some user, and those that stand above 0 are eligible. Assumes nothing.
+use mathlib.Core.Bool.{Bool, true, false, not, cond, _&&_}
 use mathlib.Core.List.{List, [], _∷_}
 use mathlib.Core.Path.{_≡_, refl, sym, ap, _∙_}
 use Prim.Native.Nat.{ℕ}
 use lib.Dec.{T, eqb, eqb→eq, ltb}
 use borrow.Author.Tests.{ne-eqb}
-use Rattle.laws.proofs.Positions.{seller-known}
 use Rattle.base.proofs.Tests.{and-l, and-r, eqb-comm, or-l, by-case}
+use Rattle.rules.specs.Bearers.{asBorne}
 use Rattle.rules.specs.Book.{Book, Terms, Trade, User, bilateralForDay}
 use Rattle.rules.specs.Levels.{sells}
 use Rattle.base.specs.Lists.{any}
 use Rattle.rules.specs.Questions.{known}
 use Rattle.rules.specs.Reduction.{eligible}
+use Rattle.laws_sales.specs.Borne.{borneTrade, borneValid, shut}
 use Rattle.laws_sales.specs.Own.{EligibleBy, OfTerms, Owned, OwnedAmong}
 use Rattle.laws_sales.specs.Sales.{ownSale}
 
@@ -39,12 +40,25 @@ known-owned (u ∷ us) t e h =
     (λ k. rw (eqb-comm (t .terms .seller) (u .party .id) ∙ k) (known-owned us t e (rw k at h)))
 
 pub own-among : (us : List User) → OwnedAmong ownSale us
-own-among us = record { some = λ t v e. known-owned us t e (seller-known us t v) }
+unfolding borneValid
+own-among us = record { some = λ t v e. known-owned us t e (search (and-l, and-r)) }
 
-and-assoc : (a b c : Bool) → (a && (b && c)) ≡ ((a && b) && c)
-and-assoc true b c = refl
-and-assoc false b c = refl
-
-pub own-eligible : (b : Book) (u : User) → EligibleBy b u (ownSale (u .party .id))
-unfolding EligibleBy eligible sells ownSale
-own-eligible b u t = and-assoc (eqb (t .terms .seller) (u .party .id)) (bilateralForDay t) (ltb 0 (t .standing))
+-- a sale to another than the bearer of the seller's risk
+pub own-eligible : (b : Book) (u : User) → EligibleBy b u (λ t. ownSale (u .party .id) (borneTrade (b .users) t))
+unfolding EligibleBy eligible sells ownSale borneTrade shut bilateralForDay asBorne
+own-eligible b u t =
+    let r = asBorne (b .users) t .terms in
+    go (eqb (r .seller) (u .party .id)) (λ e. eqb→eq (r .seller) (u .party .id) e)
+  where
+    go : (c : Bool) → (T c → asBorne (b .users) t .terms .seller ≡ u .party .id)
+        → ((c && not (eqb (asBorne (b .users) t .terms .buyer) (u .party .id))) && ((eqb (t .terms .kind) 0 && eqb (t .terms .day) 0) && ltb 0 (t .standing)))
+        ≡ ((c && (eqb (cond (eqb (asBorne (b .users) t .terms .seller) (asBorne (b .users) t .terms .buyer)) 1 (t .terms .kind)) 0 && eqb (t .terms .day) 0)) && ltb 0 (t .standing))
+    go true e =
+        let buyer = asBorne (b .users) t .terms .buyer in
+        pick (eqb buyer (u .party .id))
+        ∙ ap (λ (c : Bool). ((eqb (cond c 1 (t .terms .kind)) 0 && eqb (t .terms .day) 0) && ltb 0 (t .standing))) (eqb-comm buyer (u .party .id) ∙ ap (λ (n : ℕ). eqb n buyer) (sym (e tt)))
+      where
+        pick : (c : Bool) → (not c && ((eqb (t .terms .kind) 0 && eqb (t .terms .day) 0) && ltb 0 (t .standing))) ≡ ((eqb (cond c 1 (t .terms .kind)) 0 && eqb (t .terms .day) 0) && ltb 0 (t .standing))
+        pick true = refl
+        pick false = refl
+    go false e = refl

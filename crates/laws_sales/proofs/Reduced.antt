@@ -10,70 +10,91 @@ use lib.IntN.{negℤ}
 use lib.ListN.{getD}
 use borrow.Author.Tests.{ltb-false}
 use Rattle.risk_holdings.specs.Parties.{cutBefore}
-use Rattle.laws.proofs.Run.{reducedBy-law}
+use Rattle.laws.proofs.Reduction.{cuts-lowered}
 use Rattle.laws.specs.Sound.{Sound}
+use Rattle.laws.specs.Statements.{ownHolding}
+use Rattle.laws.specs.Trades.{Lowered, Pairwise}
 use Rattle.base.proofs.Tests.{eqb-comm, by-case}
 use Rattle.laws.proofs.Trades.{framed}
-use Rattle.rules.specs.Book.{Header, Book, User, Trade}
+use Rattle.rules.specs.Book.{Header, Book, User, Trade, bilateralForDay}
 use Rattle.rules.specs.Calls.{Result, reducedBy, ofCuts}
 use Rattle.rules.specs.Changes.{change, moved}
-use Rattle.rules.specs.Levels.{Limits, Holding, holding, shortOfCover}
-use Rattle.rules.specs.Reduction.{cutBy, cutAll, settleOne, settle, tallyAll, nothing, withTrades, lost}
-use Rattle.laws_sales.proofs.Cover.{valid-notified, cut-before-kept, next-holding, or-false, short-from, short-next}
-use Rattle.laws_sales.proofs.Cuts.{sale-within, cuts-sales, sales-cut, sales-other, tally-kept, cut-zero}
-use Rattle.laws_sales.proofs.Own.{own-eligible, own-sales}
+use Rattle.rules.specs.Levels.{Limits, Holding, shortOfCover}
+use Rattle.rules.specs.Reduction.{cutBy, cutAll, cuts, settleOne, settle, tallyAll, nothing, withTrades, lost}
+use Rattle.laws_sales.proofs.Cover.{cut-before-kept, next-holding, or-false, short-from, short-next}
+use Rattle.laws_sales.proofs.Cuts.{cut-borne, sale-within, cuts-sales, sales-cut, sales-other, tally-borne, tally-kept, cut-zero}
+use Rattle.laws_sales.proofs.Borne.{borne-with}
+use Rattle.laws_sales.proofs.FirstCuts.{own-cut-le, spread-within}
+use Rattle.laws_sales.proofs.Valid.{borne-notified}
+use Rattle.laws_sales.proofs.Own.{own-sales}
 use Rattle.laws_sales.proofs.Settled.{settle-kept, settle-parties, settle-one-none, settle-none}
+use Rattle.laws_sales.specs.Borne.{borneBook, borneResult, borneUser}
 use Rattle.laws_sales.specs.Cover.{AllNext, shortFrom}
 use Rattle.laws_sales.specs.Kept.{kept, spread}
-use Rattle.laws_sales.specs.Own.{EligibleBy, Owned}
 use Rattle.laws_sales.specs.Reduced.{ReducedOf, SalesReduced, cutsBy, salesBy}
-use Rattle.laws_sales.specs.Sales.{shortAt, isParty, someCut}
+use Rattle.laws_sales.specs.Sales.{ownSale, shortAt, isParty, someCut}
 
-module _ {own : ℕ → Trade → Bool} (o : Owned own) (b : Book) (u : User) (mine : EligibleBy b u (own (u .party .id))) (asked : ℕ) where
-  -- the trades after the reduction
-  trades-reduced : reducedBy b u asked .book .trades ≡ cutAll (spread (own (u .party .id)) (b .trades) (cutsBy own b u asked)) (b .trades)
-  unfolding reducedBy withTrades
-  trades-reduced = ap (λ (cs : List ℕ). cutAll cs (b .trades)) (cuts-sales b u (own (u .party .id)) mine asked)
+module _ (b : Book) (u : User) (asked : ℕ) (s : Sound b) where
+  -- the book, the user and what a reduction makes of the book, as the risk is borne
+  abbrev bb : Book
+  bb = borneBook b
 
-  users-reduced : reducedBy b u asked .book .users ≡ settle (salesBy own b u) (cutAll (cutsBy own b u asked) (salesBy own b u)) (b .users)
-  unfolding reducedBy withTrades
+  abbrev ub : User
+  ub = borneUser (b .users) u
+
+  abbrev cs : List ℕ
+  cs = spread (ownSale (u .party .id)) (bb .trades) (cutsBy ownSale bb ub asked)
+
+  book-reduced : borneBook (reducedBy b u asked .book) ≡ withTrades bb (cutAll cs (bb .trades))
+  unfolding reducedBy borneBook
+  book-reduced =
+      borne-with b (cutAll (cuts b u asked) (b .trades)) s
+      ∙ ap (withTrades bb) (cut-borne (b .users) (cuts b u asked) (b .trades) ∙ ap (λ (ds : List ℕ). cutAll ds (bb .trades)) (cuts-sales b u asked))
+
+  trades-reduced : borneBook (reducedBy b u asked .book) .trades ≡ cutAll cs (bb .trades)
+  unfolding withTrades
+  trades-reduced = ap (λ (n : Book). n .trades) book-reduced
+
+  users-reduced : borneBook (reducedBy b u asked .book) .users ≡ settle (salesBy ownSale bb ub) (cutAll (cutsBy ownSale bb ub asked) (salesBy ownSale bb ub)) (bb .users)
+  unfolding withTrades borneUser
   users-reduced =
-      ap (λ (cs : List ℕ). settle (b .trades) (cutAll cs (b .trades)) (b .users)) (cuts-sales b u (own (u .party .id)) mine asked)
-      ∙ settle-kept (own (u .party .id)) (b .trades) (cutsBy own b u asked) (b .users)
+      ap (λ (n : Book). n .users) book-reduced ∙ settle-kept (ownSale (u .party .id)) (bb .trades) (cutsBy ownSale bb ub asked) (bb .users)
 
-  answer-reduced : reducedBy b u asked .answer ≡ ofCuts asked (tallyAll (b .header .prices) (cutsBy own b u asked) (salesBy own b u) nothing)
-  unfolding reducedBy
+  answer-reduced : reducedBy b u asked .answer ≡ ofCuts asked (tallyAll (b .header .prices) (cutsBy ownSale bb ub asked) (salesBy ownSale bb ub) nothing)
+  unfolding reducedBy borneBook borneUser
   answer-reduced =
-      ap (λ (cs : List ℕ). ofCuts asked (tallyAll (b .header .prices) cs (b .trades) nothing)) (cuts-sales b u (own (u .party .id)) mine asked)
-      ∙ ap (ofCuts asked) (tally-kept (b .header .prices) (own (u .party .id)) (b .trades) (cutsBy own b u asked) nothing)
+      ap (ofCuts asked)
+      (sym (tally-borne (b .users) (b .header .prices) (cuts b u asked) (b .trades) nothing)
+      ∙ ap (λ (ds : List ℕ). tallyAll (b .header .prices) ds (bb .trades) nothing) (cuts-sales b u asked)
+      ∙ tally-kept (b .header .prices) (ownSale (u .party .id)) (bb .trades) (cutsBy ownSale bb ub asked) nothing)
 
-  header-reduced : reducedBy b u asked .book .header ≡ b .header
-  unfolding reducedBy withTrades
-  header-reduced = refl
+  -- each cut is at most what stands
+  lowered-reduced : Pairwise Lowered (bb .trades) (borneBook (reducedBy b u asked .book) .trades)
+  unfolding borneUser
+  lowered-reduced =
+      rw trades-reduced
+      (cuts-lowered cs (bb .trades)
+      (spread-within (ownSale (u .party .id)) bilateralForDay (own-sales .bilateral (u .party .id)) (bb .trades) (cutsBy ownSale bb ub asked)
+      (own-cut-le own-sales bb ub asked)))
 
-  reduced-of : Sound b → ReducedOf own b u asked (reducedBy b u asked)
-  reduced-of s =
+  pub sales-reduced : SalesReduced b u asked (reducedBy b u asked)
+  unfolding borneResult borneBook borneUser reducedBy withTrades
+  sales-reduced =
       let id = u .party .id in
-      let ts = b .trades in
-      let cs = cutsBy own b u asked in
-      let law = reducedBy-law b u asked s in
+      let ts = bb .trades in
+      let ds = cutsBy ownSale bb ub asked in
       record {
-        header = header-reduced;
+        header = refl;
         trades = trades-reduced;
-        lowered = law .lowered;
+        lowered = lowered-reduced;
         users = users-reduced;
-        parties = ap (map (λ v. v .party)) users-reduced ∙ settle-parties (salesBy own b u) (cutAll cs (salesBy own b u)) (b .users);
+        parties = ap (map (λ v. v .party)) users-reduced ∙ settle-parties (salesBy ownSale bb ub) (cutAll ds (salesBy ownSale bb ub)) (bb .users);
         answer = answer-reduced;
-        own = ap (kept (own id)) trades-reduced ∙ sales-cut o id ts cs;
-        other = λ other n. ap (kept (own other)) trades-reduced ∙ sales-other o id ts cs other n;
+        own = ap (kept (ownSale id)) trades-reduced ∙ sales-cut own-sales id ts ds;
+        other = λ other n. ap (kept (ownSale other)) trades-reduced ∙ sales-other own-sales id ts ds other n;
         cut = λ other. ap (cutBefore other) trades-reduced
-            ∙ cut-before-kept other (own id) ts cs (valid-notified (b .users) ts (s .trades)) (sale-within (b .header .prices) (shortAt u) asked (salesBy own b u));
-        sound = law .sound;
+            ∙ cut-before-kept other (ownSale id) ts ds (borne-notified b s) (sale-within (b .header .prices) (shortAt ub) asked (salesBy ownSale bb ub));
       }
-
--- what the step of a run cites: a sale is its seller's
-pub sales-reduced : (b : Book) (u : User) (asked : ℕ) → Sound b → SalesReduced b u asked (reducedBy b u asked)
-sales-reduced b u asked s = reduced-of own-sales b u (own-eligible b u) asked s
 
 -- ---- users that are left as they were
 
@@ -132,28 +153,42 @@ module _ {own : ℕ → Trade → Bool} {b : Book} {u : User} {asked : ℕ} {r :
   user-left i d e =
       ap (λ (vs : List User). getD vs i d) (h .users) ∙ settle-other (cutsBy own b u asked) (salesBy own b u) (b .users) i d e
 
-  module _ (limits : Limits) (v : User) where
-    -- short of cover after the reduction, from the position and what was sold and bought for d+1
-    pub cover-after : {g : ℕ → Holding} → AllNext g (holding (r .book) v)
-        → shortOfCover limits (r .book) v
-        ≡ shortFrom limits (b .header .prices) v g (cutBefore (v .party .id) (b .trades) || someCut (isParty (v .party .id)) (cutsBy own b u asked) (salesBy own b u))
-    cover-after {g} same =
-        short-from limits (r .book) v
-        ∙ ap (λ (x : Header). shortFrom limits (x .prices) v (holding (r .book) v) (cutBefore (v .party .id) (r .book .trades))) (h .header)
-        ∙ sym (short-next same limits (b .header .prices) v (cutBefore (v .party .id) (r .book .trades)))
-        ∙ ap (shortFrom limits (b .header .prices) v g) (h .cut (v .party .id))
+-- short of cover after the reduction
+module _ (limits : Limits) (b : Book) (u : User) (asked : ℕ) (s : Sound b) where
+  abbrev after : Book
+  after = reducedBy b u asked .book
 
-    -- what the user held before serves, where the position is that of the record
-    held-before : AllNext (holding b v) (holding (r .book) v)
-    unfolding holding
-    held-before = record {
-      each = λ area k. next-holding b (r .book) v v refl (framed (h .lowered)) area (holding b v area) refl refl refl;
-    }
+  -- some sale of the reduced that has the user for a party loses something
+  abbrev touched : ℕ → Bool
+  touched id = someCut (isParty id) (cutsBy ownSale (borneBook b) (borneUser (b .users) u) asked) (salesBy ownSale (borneBook b) (borneUser (b .users) u))
 
-    -- the cover of a user that is party to no sale that lost something
-    pub cover-left : someCut (isParty (v .party .id)) (cutsBy own b u asked) (salesBy own b u) ≡ false → shortOfCover limits (r .book) v ≡ shortOfCover limits b v
-    cover-left e =
-        cover-after held-before
-        ∙ ap (shortFrom limits (b .header .prices) v (holding b v))
-        (or-false (cutBefore (v .party .id) (b .trades)) (someCut (isParty (v .party .id)) (cutsBy own b u asked) (salesBy own b u)) e)
-        ∙ sym (short-from limits b v)
+  -- from the position and what was sold and bought for d+1
+  pub cover-after : (v : User) {g : ℕ → Holding} → AllNext g (ownHolding (borneBook after) (borneUser (after .users) v))
+      → shortOfCover limits after v
+      ≡ shortFrom limits (b .header .prices) (borneUser (after .users) v) g (cutBefore (v .party .id) (borneBook b .trades) || touched (v .party .id))
+  unfolding borneResult borneBook
+  cover-after v {g} same =
+      let w = borneUser (after .users) v in
+      let h = sales-reduced b u asked s in
+      short-from limits after v
+      ∙ ap (λ (x : Header). shortFrom limits (x .prices) w (ownHolding (borneBook after) w) (cutBefore (v .party .id) (borneBook after .trades))) (h .header)
+      ∙ sym (short-next same limits (b .header .prices) w (cutBefore (v .party .id) (borneBook after .trades)))
+      ∙ ap (shortFrom limits (b .header .prices) w g) (h .cut (v .party .id))
+
+  -- what a user held before serves, where the position is that of the record
+  held-before : (w : User) → AllNext (ownHolding (borneBook b) w) (ownHolding (borneBook after) w)
+  unfolding ownHolding borneResult
+  held-before w = record {
+    each = λ area k. next-holding (borneBook b) (borneBook after) w w refl (framed (sales-reduced b u asked s .lowered)) area (ownHolding (borneBook b) w area) refl refl refl;
+  }
+
+  -- the cover of a user that is party to no sale that lost something, and stands as it did
+  pub cover-left : (v w : User) → borneUser (after .users) w ≡ borneUser (b .users) v → touched (v .party .id) ≡ false → shortOfCover limits after w ≡ shortOfCover limits b v
+  unfolding borneUser
+  cover-left v w same e =
+      let before = borneBook b in
+      cover-after w (held-before (borneUser (after .users) w))
+      ∙ ap (λ (x : User). shortFrom limits (b .header .prices) x (ownHolding before x) (cutBefore (x .party .id) (before .trades) || touched (x .party .id))) same
+      ∙ ap (shortFrom limits (b .header .prices) (borneUser (b .users) v) (ownHolding before (borneUser (b .users) v)))
+      (or-false (cutBefore (v .party .id) (before .trades)) (touched (v .party .id)) e)
+      ∙ sym (short-from limits b v)

@@ -1,19 +1,25 @@
--- What is known of each own sale of an accepted book, and of its tiers. Assumes nothing.
-use mathlib.Core.Bool.{not}
+-- What is known of each own sale of an accepted book as its risk is borne, and of its tiers. Assumes nothing.
+use mathlib.Core.Bool.{Bool, true, false, not, cond, _&&_}
 use mathlib.Core.List.{List}
-use mathlib.Core.Path.{_≡_, sym, _∙_}
+use mathlib.Core.Path.{_≡_, refl, sym, ap, _∙_}
 use Prim.Native.Nat.{ℕ, _≤_, _<_}
-use lib.Dec.{T, eqb, eqb→eq, T-not}
+use native.Mathlib.Omega.{arith}
+use lib.Dec.{T, eqb, eqb→eq, leb→le, ltb→lt, T-not}
 use lib.ListN.{length, getD}
 use Rattle.base.proofs.Fronts.{all-at}
-use Rattle.laws.proofs.Bounds.{standing-le}
-use Rattle.laws.proofs.Positions.{buyer-known}
+use Rattle.laws.proofs.Managers.{bearer-known}
+use Rattle.laws.proofs.Positions.{buyer-known, seller-known}
 use Rattle.laws.proofs.Settle.{area-lt}
-use Rattle.base.proofs.Tests.{and-l, and-r, eqb-of}
-use Rattle.rules.specs.Book.{User, Trade, bilateralForDay}
+use Rattle.laws.proofs.Users.{idsRise-map, known-map}
+use Rattle.laws.specs.Sound.{Sound}
+use Rattle.base.proofs.Tests.{and-false, and-i, and-l, and-r, all-by, all-map, eqb-of}
+use Rattle.rules.specs.Bearers.{asBorne}
+use Rattle.rules.specs.Book.{Book, User, Trade, bilateralForDay}
 use Rattle.base.specs.Lists.{all}
-use Rattle.rules.specs.Questions.{known, tradeValid, partiesValid}
+use Rattle.rules.specs.Questions.{amountsValid, codesValid, idsRise, known, tradeValid}
+use Rattle.laws_sales.proofs.Cover.{asNotified}
 use Rattle.laws_sales.proofs.Kept.{kept-all, kept-pass}
+use Rattle.laws_sales.specs.Borne.{borneBook, borneTrade, borneUser, borneValid, shut}
 use Rattle.laws_sales.specs.Sales.{ownSale, salesOf}
 
 -- a sale of the user of an id, to another user
@@ -28,25 +34,65 @@ pub record Sale (us : List User) (id : ℕ) (s : Trade) : Type 0 where
 pub sales-own : (ts : List Trade) (id : ℕ) → T (all (ownSale id) (salesOf ts id))
 sales-own ts id = kept-pass (ownSale id) ts
 
-pub sales-valid : (us : List User) (ts : List Trade) (id : ℕ) → T (all (tradeValid us) ts) → T (all (tradeValid us) (salesOf ts id))
-sales-valid us ts id v = kept-all (ownSale id) (tradeValid us) ts v
+pub sales-valid : (us : List User) (ts : List Trade) (id : ℕ) → T (all (borneValid us) ts) → T (all (borneValid us) (salesOf ts id))
+sales-valid us ts id v = kept-all (ownSale id) (borneValid us) ts v
 
-sale-of : (us : List User) (id : ℕ) (s : Trade) → T (ownSale id s) → T (tradeValid us s) → Sale us id s
-unfolding ownSale tradeValid partiesValid
+sale-of : (us : List User) (id : ℕ) (s : Trade) → T (ownSale id s) → T (borneValid us s) → Sale us id s
+unfolding ownSale borneValid
 sale-of us id s h v =
-    let e = eqb→eq (s .terms .seller) id (and-l (eqb (s .terms .seller) id) (bilateralForDay s) h) in
-    let n : T (not (eqb (s .terms .seller) (s .terms .buyer))) = search (and-l, and-r) in
+    let r = s .terms in
+    let e = eqb→eq (r .seller) id (and-l (eqb (r .seller) id) (bilateralForDay s) h) in
+    let n : T (not (bilateralForDay s && eqb (r .seller) (r .buyer))) = search (and-l, and-r) in
+    let l = leb→le (s .standing) (r .notified) (search (and-l, and-r)) in
+    let m = leb→le (r .notified) 100000 (search (and-l, and-r)) in
     record {
       seller = e;
-      buyer = buyer-known us s v;
-      apart = λ g. T-not (eqb (s .terms .seller) (s .terms .buyer)) n (eqb-of (s .terms .seller) (s .terms .buyer) (e ∙ sym g));
-      area = area-lt us s v;
-      standing = standing-le us s v;
+      buyer = search (and-l, and-r);
+      apart = λ g.
+          T-not (bilateralForDay s && eqb (r .seller) (r .buyer)) n
+          (and-i (bilateralForDay s) (eqb (r .seller) (r .buyer)) (and-r (eqb (r .seller) id) (bilateralForDay s) h) (eqb-of (r .seller) (r .buyer) (e ∙ sym g)));
+      area = ltb→lt (r .area) 3 (search (and-l, and-r));
+      standing = omega arith;
     }
 
 -- the sale at a place
-pub sale-at : (us : List User) (ts : List Trade) (id i : ℕ) (d : Trade) → T (all (tradeValid us) ts) → i < length (salesOf ts id) → Sale us id (getD (salesOf ts id) i d)
+pub sale-at : (us : List User) (ts : List Trade) (id i : ℕ) (d : Trade) → T (all (borneValid us) ts) → i < length (salesOf ts id) → Sale us id (getD (salesOf ts id) i d)
 sale-at us ts id i d v h =
     sale-of us id (getD (salesOf ts id) i d)
     (all-at (ownSale id) (salesOf ts id) (sales-own ts id) i d h)
-    (all-at (tradeValid us) (salesOf ts id) (sales-valid us ts id v) i d h)
+    (all-at (borneValid us) (salesOf ts id) (sales-valid us ts id v) i d h)
+
+-- ---- an accepted book as its risk is borne
+
+module _ (b : Book) (s : Sound b) where
+  borne-one : (t : Trade) → T (tradeValid (b .users) t) → T (borneValid (borneBook b .users) (borneTrade (b .users) t))
+  unfolding borneValid borneTrade shut asBorne borneBook borneUser bilateralForDay tradeValid codesValid amountsValid
+  borne-one t v =
+      let us = b .users in
+      let r = asBorne us t .terms in
+      let inside = area-lt us t v in
+      let isKnown : (n : ℕ) → T (known us n) → T (known (borneBook b .users) n) = λ n k. rw (known-map (borneUser us) (λ u. refl) us n) k in
+      and-i (known (borneBook b .users) (r .seller) && known (borneBook b .users) (r .buyer)) _
+      (and-i (known (borneBook b .users) (r .seller)) (known (borneBook b .users) (r .buyer))
+      (isKnown (r .seller) (bearer-known b s (t .terms .seller) (t .terms .area) inside (seller-known us t v)))
+      (isKnown (r .buyer) (bearer-known b s (t .terms .buyer) (t .terms .area) inside (buyer-known us t v))))
+      (and-i (not ((eqb (cond (eqb (r .seller) (r .buyer)) 1 (t .terms .kind)) 0 && eqb (t .terms .day) 0) && eqb (r .seller) (r .buyer))) _ (two (eqb (r .seller) (r .buyer)))
+      (search (and-l, and-r, and-i)))
+    where
+      two : (c : Bool) → T (not ((eqb (cond c 1 (t .terms .kind)) 0 && eqb (t .terms .day) 0) && c))
+      two true = tt
+      two false = rw (and-false (eqb (t .terms .kind) 0 && eqb (t .terms .day) 0)) tt
+
+  pub borne-valid : T (all (borneValid (borneBook b .users)) (borneBook b .trades))
+  unfolding borneBook
+  borne-valid =
+      rw (all-map (borneValid (borneBook b .users)) (borneTrade (b .users)) (b .trades))
+      (all-by (tradeValid (b .users)) (λ t. borneValid (borneBook b .users) (borneTrade (b .users) t)) borne-one (b .trades) (s .trades))
+
+  pub borne-notified : T (all asNotified (borneBook b .trades))
+  unfolding asNotified borneValid
+  borne-notified = all-by (borneValid (borneBook b .users)) asNotified (λ t k. search (and-l, and-r)) (borneBook b .trades) borne-valid
+
+  pub borne-ids : T (idsRise 0 (borneBook b .users))
+  unfolding borneBook borneUser
+  borne-ids = rw (idsRise-map (borneUser (b .users)) (λ u. refl) 0 (b .users)) (s .ids)

@@ -10,10 +10,10 @@ use Rattle.laws.proofs.Trades.{framed-refl}
 use Rattle.laws.specs.Trades.{Framed, Pairwise, ended, then}
 use Rattle.rules.specs.Book.{Terms, Trade, User, bilateralForDay}
 use Rattle.base.specs.Lists.{all, any}
-use Rattle.rules.specs.Questions.{tradeValid}
 use Rattle.laws_sales.proofs.Groups.{places-length}
 use Rattle.laws_sales.proofs.Origins.{grouped-ext}
 use Rattle.laws_sales.proofs.Standing.{places-stay, written-append, written-past}
+use Rattle.laws_sales.specs.Borne.{borneValid}
 use Rattle.laws_sales.specs.Groups.{grouped, standingAt, written}
 use Rattle.laws_sales.specs.Kept.{kept, placesOf}
 use Rattle.laws_sales.specs.Own.{OfTerms, Owned, OwnedAmong}
@@ -95,21 +95,21 @@ module _ {own : ℕ → Trade → Bool} (o : Owned own) where
       ∙ mixed-twice (own id) (ofSome us) f
 
   -- of valid trades the others have nothing that differs
-  mixed-all : (us : List User) → OwnedAmong own us → {ts ns : List Trade} → Pairwise Framed ts ns → T (all (tradeValid us) ts) → mixed (ofSome us) ts ns ≡ ns
+  mixed-all : (us : List User) → OwnedAmong own us → {ts ns : List Trade} → Pairwise Framed ts ns → T (all (borneValid us) ts) → mixed (ofSome us) ts ns ≡ ns
   unfolding mixed all ofSome
   mixed-all us a ended v = refl
   mixed-all us a (then {t = t} {n = n} {ts = ts} f fs) v =
-      let valid = and-l (tradeValid us t) (all (tradeValid us) ts) v in
+      let valid = and-l (borneValid us t) (all (borneValid us) ts) v in
       ap₂ (λ (x : Trade) (xs : List Trade). x ∷ xs)
       (by-case (ofSome us t) (λ k. rw k refl)
       (λ k. rw k (same-trade (f .terms) (f .other (not-by (bilateralForDay t) (λ h. T-not (ofSome us t) (fails k) (a .some t valid h)))))))
-      (mixed-all us a fs (and-r (tradeValid us t) (all (tradeValid us) ts) v))
+      (mixed-all us a fs (and-r (borneValid us t) (all (borneValid us) ts) v))
     where
       not-by : (c : Bool) → (T c → ⊥) → T (not c)
       not-by true h = h tt
       not-by false h = tt
 
   -- trades that differ in what stands of kind 0 and day 0 only: with what stands of the others' own sales written, they are the others
-  pub whole : (d : Trade) (us : List User) → OwnedAmong own us → {ts ns : List Trade} → Pairwise Framed ts ns → T (all (tradeValid us) ts)
+  pub whole : (d : Trade) (us : List User) → OwnedAmong own us → {ts ns : List Trade} → Pairwise Framed ts ns → T (all (borneValid us) ts)
       → written d (grouped (λ id. placesOf (own id) ts) us) (grouped (λ id. map (λ s. s .standing) (kept (own id) ns)) us) ts ≡ ns
   whole d us a f v = written-users d us f ∙ mixed-all us a f v

@@ -6,8 +6,8 @@ use Prim.Native.Nat.{ℕ}
 use lib.Dec.{T, ltb}
 use Rattle.rules.specs.Book.{Book, Trade, User, bilateralForDay}
 use Rattle.base.specs.Lists.{any}
-use Rattle.rules.specs.Questions.{tradeValid}
 use Rattle.rules.specs.Reduction.{eligible}
+use Rattle.laws_sales.specs.Borne.{borneValid}
 
 -- a test of the terms alone
 unfoldable pub OfTerms : (Trade → Bool) → Type 0
@@ -23,6 +23,6 @@ pub record Owned (own : ℕ → Trade → Bool) : Type 0 where
   pub bilateral : (id : ℕ) (t : Trade) → T (own id t) → T (bilateralForDay t)
   pub apart : (id other : ℕ) → (other ≡ id → ⊥) → (t : Trade) → T (own id t) → own other t ≡ false
 
--- each valid trade of kind 0 and day 0 passes the test of one of some users
+-- each trade of kind 0 and day 0, as it is borne, passes the test of one of some users
 pub record OwnedAmong (own : ℕ → Trade → Bool) (us : List User) : Type 0 where
-  pub some : (t : Trade) → T (tradeValid us t) → T (bilateralForDay t) → T (any (λ u. own (u .party .id) t) us)
+  pub some : (t : Trade) → T (borneValid us t) → T (bilateralForDay t) → T (any (λ u. own (u .party .id) t) us)

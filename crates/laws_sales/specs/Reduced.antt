@@ -5,11 +5,11 @@ use mathlib.Core.Path.{_≡_}
 use Prim.Native.Nat.{ℕ}
 use lib.ListN.{take}
 use Rattle.risk_holdings.specs.Parties.{cutBefore}
-use Rattle.laws.specs.Sound.{Sound}
 use Rattle.laws.specs.Trades.{Lowered, Pairwise}
 use Rattle.rules.specs.Book.{Book, User, Trade}
 use Rattle.rules.specs.Calls.{Result, ofCuts}
 use Rattle.rules.specs.Reduction.{cutAll, settle, tallyAll, nothing}
+use Rattle.laws_sales.specs.Borne.{borneBook, borneResult, borneUser}
 use Rattle.laws_sales.specs.Kept.{kept, spread}
 use Rattle.laws_sales.specs.Sales.{ownSale, shortAt, saleCuts, isParty, someCut}
 
@@ -48,9 +48,7 @@ pub record ReducedOf (sale : ℕ → Trade → Bool) (b : Book) (u : User) (aske
   pub other : (id : ℕ) → (id ≡ u .party .id → ⊥) → kept (sale id) (r .book .trades) ≡ kept (sale id) (b .trades)
   -- who is party to a trade standing below notified: who was, and who is party to an own sale that lost something
   pub cut : (id : ℕ) → cutBefore id (r .book .trades) ≡ cutBefore id (b .trades) || someCut (isParty id) (cutsBy sale b u asked) (salesBy sale b u)
-  -- the book is accepted
-  pub sound : Sound (r .book)
 
--- by the seller
+-- of the book as its risk is borne, by the seller
 abbrev pub SalesReduced : Book → User → ℕ → Result → Type 0
-SalesReduced b u asked r = ReducedOf ownSale b u asked r
+SalesReduced b u asked r = ReducedOf ownSale (borneBook b) (borneUser (b .users) u) asked (borneResult r)

@@ -1,13 +1,22 @@
--- The cuts of a user's own sales, entered at their places, are the cuts of all trades. Assumes nothing.
+-- The cuts of a user's own sales, entered at their places, are the cuts of all trades; so are those of the sales as they are borne. Assumes nothing.
 use mathlib.Core.Bool.{Bool, true}
 use mathlib.Core.List.{List, [], _∷_, map}
-use mathlib.Core.Path.{_≡_, refl, ap, _∙_}
+use mathlib.Core.Path.{_≡_, refl, sym, ap, _∙_}
 use Prim.Native.Nat.{ℕ, suc}
 use native.Mathlib.Omega.{arith}
-use lib.ListN.{length, set, replicate}
+use lib.ListN.{length, set, replicate, length-map}
 use Rattle.base.proofs.Tests.{by-case}
+use Rattle.laws_sales.proofs.Cuts.{cuts-sales}
+use Rattle.laws_sales.proofs.FirstCuts.{own-cuts-length}
 use Rattle.laws_sales.proofs.Kept.{spread-no}
+use Rattle.laws_sales.proofs.Own.{own-sales}
+use Rattle.laws_sales.specs.Borne.{borneBook, borneTrade, borneUser}
+use Rattle.laws_sales.specs.Groups.{places}
 use Rattle.laws_sales.specs.Kept.{kept, placesOf, spread}
+use Rattle.laws_sales.specs.Reduced.{ownCuts}
+use Rattle.laws_sales.specs.Sales.{ownSale}
+use Rattle.rules.specs.Book.{Book, User}
+use Rattle.rules.specs.Reduction.{cuts}
 use Rattle.log_entries.specs.Entries.{entered}
 
 -- places behind the first
@@ -33,3 +42,21 @@ module _ {A : Type 0} (p : A → Bool) where
       by-case (p t)
       (λ e. entered-first t ts cs e k (λ ns. spread-entered ts ns))
       (λ e. rw (spread-no p t ts cs e, e) (entered-past (placesOf p ts) cs 0 (replicate (length ts) 0) ∙ ap (λ (ns : List ℕ). 0 ∷ ns) (spread-entered ts cs (rw e at k))))
+
+-- ---- a reduction
+
+-- as many trades as they are borne
+pub borne-many : (b : Book) → length (borneBook b .trades) ≡ length (b .trades)
+unfolding borneBook
+borne-many b = length-map (b .trades) (borneTrade (b .users))
+
+-- the cuts of a reduction are those of the sales as they are borne, entered at their places
+pub cuts-entered : (b : Book) (u : User) (asked : ℕ)
+    → cuts b u asked ≡ entered (places (borneBook b .trades) (u .party .id)) (ownCuts (borneBook b) (borneUser (b .users) u) asked) (replicate (length (b .trades)) 0)
+unfolding borneUser
+cuts-entered b u asked =
+    let ts = borneBook b .trades in
+    let own = ownCuts (borneBook b) (borneUser (b .users) u) asked in
+    cuts-sales b u asked
+    ∙ sym (spread-entered (ownSale (u .party .id)) ts own (own-cuts-length own-sales (borneBook b) (borneUser (b .users) u) asked))
+    ∙ ap (λ (m : ℕ). entered (places ts (u .party .id)) own (replicate m 0)) (borne-many b)

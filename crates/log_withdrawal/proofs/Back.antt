@@ -9,19 +9,19 @@ use lib.Dec.{T, leb, leb→le}
 use lib.IntN.{pos, negℤ}
 use lib.ListN.{length, getD, take, drop, set, length-append, length-drop, length-set, drop-of-length-le, List·getD-eq-default}
 use lib.Seq.{drop-cons, length-take-le, set-at, take-suc, take-all, getD-at, append-snoc}
-use borrow.Author.Tests.{eq-eqb, eqb-true}
 use Rattle.base.proofs.Fronts.{all-at}
+use Rattle.base.specs.Lists.{all}
 use Rattle.base.proofs.Linear.{by-order}
-use Rattle.base.proofs.Tests.{and-l, and-r}
+use Rattle.base.proofs.Tests.{all-by, and-l, and-r}
 use Rattle.base.specs.Parts.{negPart, posPart}
-use Rattle.book_format.proofs.Held.{held-itself, held-tradeCount, held-trades, held-userCount, held-users, held-begin}
+use Rattle.book_format.proofs.Held.{accepted-ids, accepted-trades, held-itself, held-tradeCount, held-trades, held-userCount, held-users, held-begin}
 use Rattle.book_format.proofs.Passed.{length-tradesOf, length-usersOf}
 use Rattle.book_format.specs.Book.{bookOf, tradeCount, tradesAt, tradesOf, userCount, usersOf}
 use Rattle.book_format.specs.Held.{HeldAs, tradesReplaced}
 use Rattle.book_format.specs.Places.{TradeIn}
-use Rattle.book_parties.specs.Ids.{BookIn, PlacedOn, idAt}
+use Rattle.book_parties.specs.Ids.{BookIn, PlacedOn}
 use Rattle.cut_apply.specs.Positions.{positionOf}
-use Rattle.cut_lists.proofs.Trades.{party-inside, party-is}
+use Rattle.risk_bearers.proofs.Places.{party-id, party-within}
 use Rattle.laws.proofs.Bounds.{position-bound, standing-le}
 use Rattle.laws.proofs.Positions.{buyer-known, seller-known}
 use Rattle.laws.proofs.Settle.{area-lt}
@@ -157,9 +157,9 @@ module _ {s₀ sellers parties : List ℕ} (a : BookIn s₀ sellers parties) (cs
       let ts = b .trades in
       let ns = raiseAll cs ts in
       let none : drop k ts ≡ [] = drop-of-length-le ts {i = k} h in
-      let all : take k ns ++ drop k ts ≡ ns = ap₂ (λ (xs ys : List Trade). xs ++ ys) (take-all k ns (omega (arith, length-raised cs ts))) none ∙ append-nil ns in
+      let whole : take k ns ++ drop k ts ≡ ns = ap₂ (λ (xs ys : List Trade). xs ++ ys) (take-all k ns (omega (arith, length-raised cs ts))) none ∙ append-nil ns in
       let users : p .users ≡ settle ts ns (b .users) = rw none at (p .left) in
-      subst (λ (x : Book). HeldAs x s) (ap₂ (λ (us : List User) (xs : List Trade). record { header = b .header; users = us; trades = xs }) users all) (p .held)
+      subst (λ (x : Book). HeldAs x s) (ap₂ (λ (us : List User) (xs : List Trade). record { header = b .header; users = us; trades = xs }) users whole) (p .held)
 
   -- the next one
   module _ {s : List ℕ} {k : ℕ} (p : GivenTo (bookOf s₀) cs s k) (h : k < length (bookOf s₀ .trades)) {seller buyer cut : ℕ} (sells : seller ≡ getD sellers k 0) (buys : buyer ≡ getD parties k 0)
@@ -189,15 +189,19 @@ module _ {s₀ sellers parties : List ℕ} (a : BookIn s₀ sellers parties) (cs
 
     module _ (side : Terms → ℕ) (side-known : (us : List User) (t : Trade) → T (tradeValid us t) → T (known us (side (t .terms)))) (ps : List ℕ)
         (placed : PlacedOn side (usersOf s₀) (tradesOf s₀) ps) {party : ℕ} (e : party ≡ getD ps k 0) where
-      party-low : party < userCount s₀
-      party-low = party-inside side side-known s₀ ps (a .accepted) placed place-low e
+      -- each trade has a user on this side
+      all-known : T (all (λ t. known (usersOf s₀) (side (t .terms))) (tradesOf s₀))
+      all-known = all-by (tradeValid (usersOf s₀)) (λ t. known (usersOf s₀) (side (t .terms))) (side-known (usersOf s₀)) (tradesOf s₀) (accepted-trades (a .accepted))
 
-      party-id : getD (p .users) party nobody .party .id ≡ side (sale .terms)
+      party-low : party < userCount s₀
+      party-low =
+          omega (arith, length-usersOf s₀, party-within side (usersOf s₀) (tradesOf s₀) ps (accepted-ids (a .accepted)) all-known placed {i = k} (omega (arith, place-low, length-tradesOf s₀)) e)
+
+      id-now : getD (p .users) party nobody .party .id ≡ side (sale .terms)
       unfolding bookOf
-      party-id =
-          let here = party-is side side-known s₀ ps (a .accepted) placed place-low e party party-low in
+      id-now =
           ap (λ (q : Party). q .id) (party-at (bookOf s₀ .users) (p .users) (p .same) party nobody)
-          ∙ sym (eqb-true (side (sale .terms)) (idAt (usersOf s₀) party) (sym here ∙ eq-eqb party party refl))
+          ∙ party-id side (usersOf s₀) (tradesOf s₀) ps (accepted-ids (a .accepted)) all-known placed {i = k} (omega (arith, place-low, length-tradesOf s₀)) e
 
     seller-low : seller < length (p .users)
     seller-low = omega (arith, users-are, party-low (λ r. r .seller) seller-known sellers (a .placed .of-sellers) sells)
@@ -212,7 +216,7 @@ module _ {s₀ sellers parties : List ℕ} (a : BookIn s₀ sellers parties) (cs
     settled : settleOne sale (getD ns k noTrade) (p .users) ≡ backAt seller buyer (sale .terms .area) cut (p .users)
     settled =
         ap (λ (n : Trade). settleOne sale n (p .users)) raised-is
-        ∙ raised-at cut sale (p .users) 0 seller buyer (p .rise) seller-low buyer-low (party-id (λ r. r .seller) seller-known sellers (a .placed .of-sellers) sells) (party-id (λ r. r .buyer) buyer-known parties (a .placed .of-buyers) buys)
+        ∙ raised-at cut sale (p .users) 0 seller buyer (p .rise) seller-low buyer-low (id-now (λ r. r .seller) seller-known sellers (a .placed .of-sellers) sells) (id-now (λ r. r .buyer) buyer-known parties (a .placed .of-buyers) buys)
 
     fronts : (getD (take k ns ++ drop k ts) k noTrade ≡ sale) × (set (take k ns ++ drop k ts) k (getD ns k noTrade) ≡ take (k + 1) ns ++ drop (k + 1) ts)
     fronts = fronts-next ns ts k h (length-raised cs ts)

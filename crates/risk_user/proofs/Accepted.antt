@@ -1,18 +1,16 @@
 -- What an accepted book in bytes tells: where its trades stand, the range of the prices, and of the blocked guarantee of the user at a place. Assumes nothing.
 use mathlib.Core.List.{List}
-use mathlib.Core.Path.{_≡_, sym, subst}
+use mathlib.Core.Path.{_≡_}
 use Prim.Native.Nat.{ℕ, _+_, _*_, _<_, _≤_}
 use native.Mathlib.Omega.{arith}
 use lib.ListN.{drop, getD}
-use Rattle.rules.specs.Book.{Book, User, nobody}
+use Rattle.rules.specs.Book.{Book, nobody}
 use Rattle.rules.specs.Questions.{userValid}
 use Rattle.laws.proofs.Bounds.{blocked-le, prices-le, selling-le, selling-most, tariffs-pos}
 use Rattle.laws.specs.Sound.{Sound}
 use Rattle.units.specs.Prices.{InRange}
 use Rattle.fields.specs.Layout.{recordsOf}
 use Rattle.book_records.specs.Trade.{tradeOf}
-use Rattle.book_records.specs.User.{asUser}
-use Rattle.book_records.specs.declared.User as code
 use Rattle.base.proofs.Fronts.{all-at}
 use Rattle.book_format.proofs.Passed.{length-usersOf, passed}
 use Rattle.book_format.specs.Book.{bookOf, tradeCount, tradesAt, tradesOf, userCount, usersOf}
@@ -50,8 +48,3 @@ module _ (s : List ℕ) (h : bookNumber s ≡ 0) where
   unfolding bookOf
   blocked-within {place} k =
       blocked-le (getD (usersOf s) place nobody) (all-at userValid (usersOf s) (passed s h .sound .users) place nobody (rw (length-usersOf s) k))
-
-  -- of the record that is read
-  pub record-blocked : {place : ℕ} → place < userCount s → (u : code.User) → asUser u ≡ getD (usersOf s) place nobody → u .blocked .0 ≤ 1000000000000
-  unfolding asUser
-  record-blocked k u e = subst (λ (v : User). v .blocked ≤ 1000000000000) (sym e) (blocked-within k)

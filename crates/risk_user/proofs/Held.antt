@@ -4,21 +4,25 @@ use mathlib.Core.List.{List, []}
 use mathlib.Core.Path.{_≡_, refl, sym, ap, ap₂, _∙_}
 use Prim.Native.Nat.{ℕ, zero, suc, _+_, _*_, _<_}
 use native.Mathlib.Omega.{arith}
+use lib.Dec.{ltb}
 use lib.IntN.{ℤ}
 use lib.ListN.{getD, length}
 use Rattle.base.specs.Sums.{sum}
 use Rattle.rules.specs.Areas.{Prices, areas}
-use Rattle.rules.specs.Book.{at, Book, PerArea, User, nobody, sold, bought}
-use Rattle.rules.specs.Levels.{Limits, Holding, afternoonLevel, buys, calledIn, exposure, flagged, flaggedFrom, floored, holding, levelFrom, morningLevel, morningSum, partyTo, sells}
-use Rattle.laws_sales.proofs.Cover.{level-next}
+use Rattle.rules.specs.Book.{at, Book, PerArea, User, nobody}
+use Rattle.rules.specs.Levels.{Limits, Holding, afternoonLevel, calledIn, exposure, flagged, flaggedFrom, floored, holding, leastReferencePrice, levelFrom, morningLevel, morningSum}
+use Rattle.laws.specs.Statements.{ownHolding}
+use Rattle.laws_sales.proofs.Cover.{cut-borne-before, level-next}
+use Rattle.laws_sales.proofs.Sums.{held-borne}
+use Rattle.laws_sales.specs.Borne.{borneBook}
 use Rattle.laws_sales.specs.Cover.{AllNext}
 use Rattle.units.specs.declared.Net.{Net}
-use Rattle.book_records.specs.User.{asAmounts, asUser}
-use Rattle.book_records.specs.declared.User as code
+use Rattle.book_records.specs.User.{asAmounts}
 use Rattle.book_sums.specs.Twelve.{TwelveOf}
 use Rattle.risk_holdings.specs.declared.Holdings.{Holdings}
 use Rattle.risk_holdings.specs.Holdings.{asHolding, heldIn, positioned}
-use Rattle.risk_holdings.specs.Parties.{cutBefore, isCut}
+use Rattle.risk_holdings.specs.Parties.{cutBefore}
+use Rattle.risk_user.proofs.Borne.{member-borne, members-borne}
 use Rattle.risk_user.specs.UserAt.{HeldWith, heldAt, heldBy, positionIn, positionsIn}
 
 -- ---- by the sums
@@ -80,46 +84,69 @@ module _ (ps : List ℕ) (i : ℕ) (v : List Net) (is : asAmounts v ≡ position
         };
       }
 
--- ---- of a user's record
+-- ---- of a user of a book, as its risk is borne
 
-module _ (limits : Limits) (b : Book) (u : code.User) {f : Prices} (priced : f ≡ b .header .prices) where
-  -- whether it is flagged
-  pub flagged-record : flaggedFrom limits f (asUser u) (positioned (u .position)) ≡ flagged limits b (asUser u)
-  unfolding flagged exposure sum areas positioned holding asUser
-  flagged-record = ap (λ (g : Prices). flaggedFrom limits g (asUser u) (holding b (asUser u))) priced
+-- exposure reads the positions
+exposure-same : (f : Prices) (g h : ℕ → Holding) → ((area : ℕ) → area < 3 → g area .position ≡ h area .position) → exposure f g ≡ exposure f h
+unfolding exposure sum areas
+exposure-same f g h e = rw (e 0 (omega arith), e 1 (omega arith), e 2 (omega arith))
 
-  -- and whether it is called in
-  pub called-record : {r cut : Bool} → r ≡ (flaggedFrom limits f (asUser u) (positioned (u .position)) || cut) → cut ≡ cutBefore (u .id) (b .trades) → r ≡ calledIn limits b (asUser u)
-  unfolding calledIn partyTo sells buys isCut cutBefore asUser
-  called-record e c = e ∙ ap₂ (λ (x y : Bool). x || y) flagged-record c
+module _ (b : Book) (i : ℕ) (k : i < length (b .users)) where
+  abbrev user : User
+  user = getD (b .users) i nobody
 
-  module _ {sums : List ℕ} (w : TwelveOf (b .users) (b .trades) sums) {i : ℕ} (k : i < length (b .users)) (is : asUser u ≡ getD (b .users) i nobody)
-      {h : Holdings} (p : HeldWith sums i (asAmounts (u .physical)) (asAmounts (u .position)) h) where
-    -- what it holds
-    held-record : (area : ℕ) → area < 3 → heldIn h area ≡ holding b (asUser u) area
-    unfolding holding asUser
-    held-record area l =
-        let own : getD (b .users) i nobody .party .id ≡ u .id = ap (λ (v : User). v .party .id) (sym is) in
-        p .each area l
-        ∙ cc (
-          at-sum sums (12 * i + area) (12 * i + 3 * 0 + area) (omega arith) ∙ w .sold-at i area 0 k l (omega arith) ∙ ap (λ (n : ℕ). sold (b .trades) n area 0) own,
-          at-sum sums (12 * i + 6 + area) (12 * i + 6 + 3 * 0 + area) (omega arith) ∙ w .bought-at i area 0 k l (omega arith) ∙ ap (λ (n : ℕ). bought (b .trades) n area 0) own,
-          w .sold-at i area 1 k l (omega arith) ∙ ap (λ (n : ℕ). sold (b .trades) n area 1) own,
-          at-sum sums (12 * i + 9 + area) (12 * i + 6 + 3 * 1 + area) (omega arith) ∙ w .bought-at i area 1 k l (omega arith) ∙ ap (λ (n : ℕ). bought (b .trades) n area 1) own,
-        )
+  abbrev row : User
+  row = getD (borneBook b .users) i nobody
 
-    pub morning-record : floored limits (morningSum f (heldIn h) (asUser u .party .charges)) ≡ morningLevel limits b (asUser u)
-    unfolding morningLevel morningSum sum areas
-    morning-record = rw (priced, held-record 0 (omega arith), held-record 1 (omega arith), held-record 2 (omega arith))
+  own-row : (area : ℕ) → ownHolding (borneBook b) row area ≡ holding b user area
+  own-row area = ap (λ (u : User). ownHolding (borneBook b) u area) (member-borne b i k) ∙ sym (held-borne b user area)
 
-    pub afternoon-record : levelFrom limits f (asUser u) (heldIn h) ≡ afternoonLevel limits b (asUser u)
-    unfolding afternoonLevel
-    afternoon-record =
-        ap (λ (g : Prices). levelFrom limits g (asUser u) (heldIn h)) priced
-        ∙ level-next (record {
-          each = λ area l. record {
-            position = ap (λ (x : Holding). x .position) (held-record area l);
-            sold = ap (λ (x : Holding). x .soldNext) (held-record area l);
-            bought = ap (λ (x : Holding). x .boughtNext) (held-record area l);
-          };
-        }) limits (b .header .prices) (asUser u)
+  module _ (limits : Limits) {f : Prices} (priced : f ≡ b .header .prices) where
+    -- whether it is flagged
+    pub flagged-row : (v : List Net) → asAmounts v ≡ getD (borneBook b .users) i nobody .position → flaggedFrom limits f (getD (b .users) i nobody) (positioned v) ≡ flagged limits b (getD (b .users) i nobody)
+    unfolding flagged positioned ownHolding
+    flagged-row v e =
+        ap (λ (g : Prices). flaggedFrom limits g user (positioned v)) priced
+        ∙ ap (λ (n : ℕ). ltb (limits .flagMwh * leastReferencePrice (b .header .prices) + user .blocked) n)
+        (exposure-same (b .header .prices) (positioned v) (holding b user) (λ area l. ap (λ (q : PerArea). at q area) e ∙ ap (λ (x : Holding). x .position) (own-row area)))
+
+    -- and whether it is called in
+    pub called-row : (v : List Net) {r cut : Bool} → asAmounts v ≡ getD (borneBook b .users) i nobody .position → r ≡ (flaggedFrom limits f (getD (b .users) i nobody) (positioned v) || cut)
+        → cut ≡ cutBefore (getD (b .users) i nobody .party .id) (borneBook b .trades) → r ≡ calledIn limits b (getD (b .users) i nobody)
+    unfolding calledIn
+    called-row v e g c = g ∙ ap₂ (λ (x y : Bool). x || y) (flagged-row v e) (c ∙ sym (cut-borne-before limits b user))
+
+    module _ {sums : List ℕ} (w : TwelveOf (borneBook b .users) (borneBook b .trades) sums) {physical position : PerArea}
+        (ph : physical ≡ getD (borneBook b .users) i nobody .physical) (po : position ≡ getD (borneBook b .users) i nobody .position)
+        {h : Holdings} (p : HeldWith sums i physical position h) where
+      -- what it holds
+      held-row : (area : ℕ) → area < 3 → heldIn h area ≡ holding b user area
+      unfolding ownHolding
+      held-row area l =
+          let all = members-borne b in
+          p .each area l
+          ∙ cc (
+            ap (λ (q : PerArea). at q area) ph,
+            ap (λ (q : PerArea). at q area) po,
+            at-sum sums (12 * i + area) (12 * i + 3 * 0 + area) (omega arith) ∙ w .sold-at i area 0 (omega (arith, all)) l (omega arith),
+            at-sum sums (12 * i + 6 + area) (12 * i + 6 + 3 * 0 + area) (omega arith) ∙ w .bought-at i area 0 (omega (arith, all)) l (omega arith),
+            w .sold-at i area 1 (omega (arith, all)) l (omega arith),
+            at-sum sums (12 * i + 9 + area) (12 * i + 6 + 3 * 1 + area) (omega arith) ∙ w .bought-at i area 1 (omega (arith, all)) l (omega arith),
+          )
+          ∙ own-row area
+
+      pub morning-row : floored limits (morningSum f (heldIn h) (getD (b .users) i nobody .party .charges)) ≡ morningLevel limits b (getD (b .users) i nobody)
+      unfolding morningLevel morningSum sum areas
+      morning-row = rw (priced, held-row 0 (omega arith), held-row 1 (omega arith), held-row 2 (omega arith))
+
+      pub afternoon-row : levelFrom limits f (getD (b .users) i nobody) (heldIn h) ≡ afternoonLevel limits b (getD (b .users) i nobody)
+      unfolding afternoonLevel
+      afternoon-row =
+          ap (λ (g : Prices). levelFrom limits g user (heldIn h)) priced
+          ∙ level-next (record {
+            each = λ area l. record {
+              position = ap (λ (x : Holding). x .position) (held-row area l);
+              sold = ap (λ (x : Holding). x .soldNext) (held-row area l);
+              bought = ap (λ (x : Holding). x .boughtNext) (held-row area l);
+            };
+          }) limits (b .header .prices) user

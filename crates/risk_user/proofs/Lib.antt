@@ -3,6 +3,7 @@ pub mod Walks
 pub mod Accepted
 -- Laws of what is read of a user and of its state, and that they are the rules'.
 pub mod Money
+pub mod Borne
 pub mod Held
 pub mod Targets
 pub mod States

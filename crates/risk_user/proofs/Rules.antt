@@ -1,31 +1,38 @@
 -- What is read of a user of a book is what the rules say of it: level, flag, called in and state. Assumes nothing.
 use mathlib.Core.Bool.{Bool, true, false, cond, _&&_, _||_}
 use mathlib.Core.List.{List}
-use mathlib.Core.Path.{_≡_, refl, ap, ap₂, _∙_}
+use mathlib.Core.Path.{_≡_, refl, sym, ap, ap₂, _∙_}
 use Prim.Native.Nat.{ℕ, _+_, _*_, _<_}
 use native.Mathlib.Omega.{arith}
 use lib.Dec.{leb, ltb}
 use lib.ListN.{length, getD}
-use Rattle.risk_holdings.specs.Parties.{cutBefore, isCut}
+use Rattle.risk_holdings.specs.Parties.{cutBefore}
+use Rattle.laws.specs.Statements.{ownHolding}
+use Rattle.laws_sales.proofs.Sums.{held-borne}
+use Rattle.laws_sales.specs.Borne.{borneBook}
+use Rattle.risk_user.proofs.Borne.{member-borne, members-borne}
 use Rattle.book_sums.specs.Twelve.{TwelveOf}
 use Rattle.rules.specs.Book.{Book, User, nobody}
 use Rattle.rules.specs.Day.{call, callDue, clear, quiet, short, state}
-use Rattle.rules.specs.Levels.{Limits, afternoonLevel, buys, calledIn, exceedsMargin, exposure, flagged, holding, partyTo, sells, shipper, shortOfCover}
-use Rattle.laws_sales.proofs.Cover.{flagged-next, level-next}
+use Rattle.rules.specs.Levels.{Limits, Holding, afternoonLevel, calledIn, exceedsMargin, exposure, flagged, holding, shipper, shortOfCover}
+use Rattle.laws_sales.proofs.Cover.{cut-borne-before, flagged-next, level-next}
 use Rattle.laws_sales.specs.Cover.{AllNext}
 use Rattle.risk_user.specs.UserAt.{PositionsOf, flaggedAt, heldAt, levelAt}
 use Rattle.risk_user.specs.States.{stateBy}
 
-module _ (b : Book) {sums ps : List ℕ} (w : TwelveOf (b .users) (b .trades) sums) (p : PositionsOf (b .users) ps) (i : ℕ) (k : i < length (b .users)) where
+module _ (b : Book) {sums ps : List ℕ} (w : TwelveOf (borneBook b .users) (borneBook b .trades) sums) (p : PositionsOf (borneBook b .users) ps) (i : ℕ) (k : i < length (b .users)) where
   -- what the user holds
   held-own : AllNext (heldAt sums ps i) (holding b (getD (b .users) i nobody))
-  unfolding heldAt holding
+  unfolding heldAt ownHolding
   held-own =
+      let l : i < length (borneBook b .users) = omega (arith, members-borne b) in
+      let one : (area : ℕ) → ownHolding (borneBook b) (getD (borneBook b .users) i nobody) area ≡ holding b (getD (b .users) i nobody) area
+      = λ area. ap (λ (u : User). ownHolding (borneBook b) u area) (member-borne b i k) ∙ sym (held-borne b (getD (b .users) i nobody) area) in
       record {
         each = λ area h. record {
-          position = p .each i area k h;
-          sold = w .sold-at i area 1 k h (omega arith);
-          bought = ap (λ (n : ℕ). getD sums n 0) (next area) ∙ w .bought-at i area 1 k h (omega arith);
+          position = p .each i area l h ∙ ap (λ (x : Holding). x .position) (one area);
+          sold = w .sold-at i area 1 l h (omega arith) ∙ ap (λ (x : Holding). x .soldNext) (one area);
+          bought = ap (λ (n : ℕ). getD sums n 0) (next area) ∙ w .bought-at i area 1 l h (omega arith) ∙ ap (λ (x : Holding). x .boughtNext) (one area);
         };
       }
     where
@@ -38,10 +45,11 @@ module _ (b : Book) {sums ps : List ℕ} (w : TwelveOf (b .users) (b .trades) su
     level-own = level-next held-own limits (b .header .prices) (getD (b .users) i nobody)
 
     -- flagged, or party to a trade standing below notified
-    pub called-own : {r cut : Bool} → r ≡ (flaggedAt limits (b .header .prices) (b .users) ps i || cut) → cut ≡ cutBefore (getD (b .users) i nobody .party .id) (b .trades)
+    pub called-own : {r cut : Bool} → r ≡ (flaggedAt limits (b .header .prices) (b .users) ps i || cut) → cut ≡ cutBefore (getD (b .users) i nobody .party .id) (borneBook b .trades)
         → r ≡ calledIn limits b (getD (b .users) i nobody)
-    unfolding flaggedAt heldAt exposure calledIn flagged cutBefore isCut partyTo sells buys
-    called-own {r} {cut} e c = e ∙ ap₂ (λ (x y : Bool). x || y) (flagged-next held-own limits (b .header .prices) (getD (b .users) i nobody)) c
+    unfolding flaggedAt heldAt exposure calledIn flagged
+    called-own {r} {cut} e c =
+        e ∙ ap₂ (λ (x y : Bool). x || y) (flagged-next held-own limits (b .header .prices) (getD (b .users) i nobody)) (c ∙ sym (cut-borne-before limits b (getD (b .users) i nobody)))
 
 module _ (limits : Limits) (b : Book) (u : User) {level : ℕ} (e : level ≡ afternoonLevel limits b u) where
   pub state-own : {called : Bool} → called ≡ calledIn limits b u → stateBy limits u level called ≡ state limits b u

@@ -6,11 +6,10 @@ use mathlib.Core.Path.{_≡_}
 use Prim.Native.Nat.{ℕ, _+_, _*_, _-_, _≤_, _<_, _^_}
 use lib.IntN.{ℤ, pos}
 use lib.ListN.{length, getD}
-use Rattle.book_format.specs.Book.{tradesOf, userCount, usersOf}
+use Rattle.book_format.specs.Book.{userCount, usersOf}
 use Rattle.book_format.specs.Questions.{bookNumber}
-use Rattle.book_records.specs.User.{asUser}
-use Rattle.book_records.specs.declared.User as code
 use Rattle.book_sums.specs.Twelve.{TwelveOf, Low}
+use Rattle.risk_bearers.specs.Bearers.{tradesIn, usersIn}
 use Rattle.rules.specs.Areas.{Prices}
 use Rattle.rules.specs.Book.{at, PerArea, User, nobody}
 use Rattle.rules.specs.Levels.{Limits, Holding, levelFrom, flaggedFrom, uncovered}
@@ -23,13 +22,12 @@ use Rattle.risk_holdings.specs.Holdings.{heldIn, HoldingsWithin}
 
 -- ---- what can be asked
 
--- an accepted book with the sums of its users, and the record of the user at a place
-pub record UserRead (s sums : List ℕ) (place : ℕ) (u : code.User) : Type 0 where
+-- an accepted book with the sums of its users as their risk is borne, and the place of one
+pub record UserRead (s sums : List ℕ) (place : ℕ) : Type 0 where
   pub passes : bookNumber s ≡ 0
   pub inside : place < userCount s
-  pub twelve : TwelveOf (usersOf s) (tradesOf s) sums
+  pub twelve : TwelveOf (usersIn s) (tradesIn s) sums
   pub low : Low sums
-  pub user : asUser u ≡ getD (usersOf s) place nobody
 
 -- limits and prices in range, and users whose blocked guarantee is
 pub record DayOf (limits : Limits) (f : Prices) (s : List ℕ) : Type 0 where

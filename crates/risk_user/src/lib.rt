@@ -2,18 +2,14 @@
 // The money is read from the bytes of a book; positions, and what was sold and bought, from arrays with three positions and twelve sums for
 // each place, so that a run asks it of the book that it has come to as well.
 ghost use mathlib.Core.Path.{_≡_};
-ghost use Prim.Native.Nat.{_+_, _*_, _≤_, _<_, _^_};
-ghost use lib.ListN.{length, drop, getD};
+ghost use Prim.Native.Nat.{_≤_, _<_, _^_};
+ghost use lib.ListN.{getD};
 ghost use Rattle.rules.specs.Book.{at, nobody};
 ghost use Rattle.rules.specs.Levels.{exceedsMargin};
 ghost use Rattle.units.specs.Limits.{asLimits};
-ghost use Rattle.fields.specs.Layout.{recordsOf};
 ghost use Rattle.book_records.specs.User.{asAmounts};
-ghost use Rattle.book_records.specs.Trade.{tradeOf};
-ghost use Rattle.book_format.specs.Book.{usersOf, bookOf};
+ghost use Rattle.book_format.specs.Book.{usersOf};
 ghost use Rattle.book_format.specs.Places.{UserIn};
-ghost use Rattle.book_format.specs.Questions.{Formed};
-ghost use Rattle.risk_holdings.specs.Parties.{isCut, cutBefore};
 ghost use Rattle.risk_holdings.specs.Holdings.{asHolding, HoldingWithin};
 ghost use Rattle.book_sums.specs.Twelve.{Low};
 ghost use mathlib.Core.Bool.{_||_};
@@ -30,48 +26,6 @@ use units::Mwh;
 use units::Net;
 use units::Prices;
 
-// ---- trades standing below notified
-
-// Is the user of an id party to the trade of 20 bytes, and stands less than was notified?
-fn is_cut(c: &[u8], id: u32) -> bool
-    requires { ⌜ length (now c) ≡ 20 ⌝ }
-    ensures { λ r. ⌜ r ≡ isCut id (tradeOf (now (c .entry))) ⌝ }
-{
-    let sells = fields::get_u32(c, 0) == id;
-    let buys = fields::get_u32(c, 4) == id;
-    let notified = fields::get_u32(c, 12);
-    let standing = fields::get_u32(c, 16);
-    (sells | buys) & (standing < notified)
-}
-
-// Is the user of an id party to one of the m trades from `at` that stands below notified?
-fn cut_in(s: &[u8], at: usize, m: usize, id: u32) -> bool
-    requires { ⌜ (m ≤ 256) × (at + 20 * m ≤ length (now s)) ⌝ }
-    ensures { λ r. ⌜ r ≡ cutBefore id (recordsOf 20 tradeOf m (drop at (now (s .entry)))) ⌝ }
-{
-    let mut i = 0;
-    let mut a = at;
-    while i < m {
-        if is_cut(&s[a..a + 20], id) {
-            return true;
-        }
-        a += 20;
-        i += 1;
-    }
-    false
-}
-
-// Is the user of an id party to a trade of a book that stands below notified?
-pub fn cut_before(s: &[u8], id: u32) -> bool
-    requires { ⌜ Formed (now s) ⌝ }
-    ensures { λ r. ⌜ r ≡ cutBefore id (bookOf (now (s .entry)) .trades) ⌝ }
-{
-    let n = book_format::user_count(s) as usize;
-    let m = book_format::trade_count(s) as usize;
-    let at = book_format::trades_offset(s, n);
-    cut_in(s, at, m, id)
-}
-
 // ---- its record
 
 // The role: 0 is a shipper's.
@@ -83,7 +37,7 @@ pub fn role_at(book: &[u8], place: usize) -> u8
 }
 
 // The charges.
-fn charges_at(book: &[u8], place: usize) -> Balance
+pub fn charges_at(book: &[u8], place: usize) -> Balance
     requires { ⌜ UserIn (now book) place ⌝ }
     ensures { λ r. ⌜ balance r ≡ getD (usersOf (now (book .entry))) place nobody .party .charges ⌝ }
 {
@@ -91,7 +45,7 @@ fn charges_at(book: &[u8], place: usize) -> Balance
 }
 
 // The assigned guarantee.
-fn assigned_at(book: &[u8], place: usize) -> Cents
+pub fn assigned_at(book: &[u8], place: usize) -> Cents
     requires { ⌜ UserIn (now book) place ⌝ }
     ensures { λ r. ⌜ r .0 ≡ getD (usersOf (now (book .entry))) place nobody .party .assigned ⌝ }
 {
@@ -99,7 +53,7 @@ fn assigned_at(book: &[u8], place: usize) -> Cents
 }
 
 // The blocked guarantee.
-fn blocked_at(book: &[u8], place: usize) -> Cents
+pub fn blocked_at(book: &[u8], place: usize) -> Cents
     requires { ⌜ UserIn (now book) place ⌝ }
     ensures { λ r. ⌜ r .0 ≡ getD (usersOf (now (book .entry))) place nobody .blocked ⌝ }
 {

@@ -64,7 +64,7 @@ pub record Credits : Type 0 where
   pub target-book : accepted (credited (longAndSelling (pos 10013000))) ≡ true
   pub target-cuts : standingAfter (credited (longAndSelling (pos 10013000))) (reduction 101) ≡ 1 ∷ (2 ∷ (0 ∷ []))
   pub target-reduction : step today (credited (longAndSelling (pos 10013000))) (reduction 101) .answer .target ≡ 6000
-  -- selling tariffs are 0 to 100,000, and 0 in version 1; versions are 1 and 2
+  -- selling tariffs are 0 to 100,000, and 0 in version 1; versions are 1, 2 and 3
   pub least-tariffs : accepted (inVersion 2 (sellingAt 0 0) (longInAll (pos 0))) ≡ true
   pub most-tariffs : accepted (inVersion 2 (sellingAt 100000 100000) (longInAll (pos 0))) ≡ true
   pub s-above : accepted (inVersion 2 (sellingAt 100001 0) (longInAll (pos 0))) ≡ false
@@ -72,7 +72,8 @@ pub record Credits : Type 0 where
   pub none-in-version-1 : accepted (inVersion 1 (sellingAt 1 0) (longInAll (pos 0))) ≡ false
   pub none-in-version-1-either : accepted (inVersion 1 (sellingAt 0 1) (longInAll (pos 0))) ≡ false
   pub version-0 : accepted (inVersion 0 prices (longInAll (pos 0))) ≡ false
-  pub version-3 : accepted (inVersion 3 prices (longInAll (pos 0))) ≡ false
+  pub version-3 : accepted (inVersion 3 (sellingAt 1500 900) (longInAll (pos 0))) ≡ true
+  pub version-4 : accepted (inVersion 4 prices (longInAll (pos 0))) ≡ false
 
 pub credits : Credits
 unfolding opened prices amounts user positioned trade sale bookOf two first bookWith shortInPvb charged cutBefore selling standingAfter sellingAt inVersion credited longInAll shortAndLong longAndSelling
@@ -103,4 +104,5 @@ credits =
       none-in-version-1-either = refl;
       version-0 = refl;
       version-3 = refl;
+      version-4 = refl;
     }

@@ -6,7 +6,7 @@ use mathlib.Core.List.{List, [], _∷_, map}
 use Prim.Native.Nat.{ℕ, _+_, _-_}
 use lib.IntN.{ℤ, pos, negℤ, _-ℤ_}
 use Rattle.rules.specs.Areas.{Prices}
-use Rattle.rules.specs.Book.{PerArea, User, Trade, Book, definedPosition, find}
+use Rattle.rules.specs.Book.{PerArea, User, Trade, Book, definedPosition, find, unmanaged}
 use Rattle.rules.specs.Questions.{accepted}
 use Rattle.rules.specs.Levels.{today, morningLevel, afternoonLevel, flagged}
 use Rattle.rules.specs.Reduction.{target}
@@ -25,7 +25,12 @@ amounts pvb tvb = record { pvb = pvb; tvb = tvb; avb = pos 0 }
 -- a shipper whose positions are still to be filled in
 unfoldable pub user : ℕ → ℕ → ℤ → ℕ → ℕ → PerArea → User
 user id role charges assigned blocked physical =
-    record { party = record { id = id; role = role; charges = charges; assigned = assigned }; physical = physical; position = physical; blocked = blocked }
+    record {
+      party = record { id = id; role = role; charges = charges; assigned = assigned; managers = unmanaged };
+      physical = physical;
+      position = physical;
+      blocked = blocked;
+    }
 
 -- the user with positions as they are defined
 unfoldable pub positioned : List Trade → User → User

@@ -2,11 +2,11 @@
 use Prim.Native.Nat.{ℕ}
 use Rattle.base.specs.Parts.{posPart, negPart}
 use Rattle.base.specs.Sums.{sum, sumℤ}
-use Rattle.rules.specs.Areas.{areas, tariff, referencePrice, sellingIn, sellingTariff}
+use Rattle.rules.specs.Areas.{areas, tariff, referencePrice, sellingIn, managersIn, sellingTariff}
 use Rattle.rules.specs.Signed.{signedOf, bitsOf, within}
 use Rattle.rules.specs.Calendar.{leapYear, daysInMonth, yearOf, monthOf, dayOf, realDay}
 use Rattle.base.specs.Lists.{all, any}
-use Rattle.rules.specs.Book.{at, bilateralForDay, dealt, sold, bought, definedPosition, nobody, find}
+use Rattle.rules.specs.Book.{at, managerIn, bilateralForDay, dealt, sold, bought, definedPosition, nobody, find}
 use Rattle.rules.specs.Questions.{
   refusal,
   numberOf,
@@ -26,6 +26,10 @@ use Rattle.rules.specs.Questions.{
   userValid,
   usersValid,
   known,
+  manages,
+  managerValid,
+  managersValid,
+  groupsValid,
   partiesValid,
   codesValid,
   amountsValid,
@@ -38,6 +42,7 @@ use Rattle.rules.specs.Questions.{
   accepted,
 }
 use Rattle.rules.specs.Changes.{change, withUsers, add, posted, blockedTo, moved}
+use Rattle.rules.specs.Bearers.{bearer, borneSum, asBorne, borne}
 use Rattle.rules.specs.Levels.{today, holding, sells, buys, partyTo, sellerOf, morningNeed, stock, afternoonNeed, exposure, morningSum, credit, afternoonSum, leastReferencePrice, shipper, floored, morningLevel, afternoonLevel, flagged, calledIn, exceedsMargin, shortOfCover}
 use Rattle.rules.specs.Shares.{tierWorth, shareOf, loss, largestRemainder, oneMore, byTurns, inProportion, tierCuts}
 use Rattle.rules.specs.Reduction.{target, eligible, hasEligible, shortIn, lot, tierOne, tierTwo, together, cuts, cutBy, cutAll, nothing, tallied, tallyAll, lost, settleOne, settle, withTrades}
@@ -46,10 +51,10 @@ use Rattle.rules.specs.Queries.{onlyNumber, aLevel, aWarning, aRecord, a
 use Rattle.rules.specs.Day.{callDue, state, printedLevel, line, lines}
 
 unfoldable pub opened : ℕ
-unfolding posPart negPart sum sumℤ areas tariff referencePrice sellingIn sellingTariff signedOf bitsOf within leapYear daysInMonth yearOf monthOf dayOf realDay all any at
+unfolding posPart negPart sum sumℤ areas tariff referencePrice sellingIn managersIn sellingTariff signedOf bitsOf within leapYear daysInMonth yearOf monthOf dayOf realDay all any at managerIn
     bilateralForDay dealt sold bought definedPosition nobody find refusal numberOf decided versionKnown versionValid countsValid tariffValid tollValid pricesValid sellingMost sellingValid
-    headerValid idsRise entriesValid guaranteesValid userValid usersValid known partiesValid codesValid amountsValid tradeValid eqbℤ positionValid
-    positionsValid aboutBook isNone accepted change withUsers add posted blockedTo moved today holding sells buys partyTo sellerOf morningNeed stock
+    headerValid idsRise entriesValid guaranteesValid userValid usersValid known manages managerValid managersValid groupsValid partiesValid codesValid amountsValid tradeValid eqbℤ positionValid
+    positionsValid aboutBook isNone accepted change withUsers add posted blockedTo moved bearer borneSum asBorne borne today holding sells buys partyTo sellerOf morningNeed stock
     afternoonNeed exposure morningSum credit afternoonSum leastReferencePrice shipper floored morningLevel afternoonLevel flagged calledIn exceedsMargin
     shortOfCover tierWorth shareOf loss largestRemainder oneMore byTurns inProportion tierCuts target eligible hasEligible shortIn lot tierOne tierTwo
     together cuts cutBy cutAll nothing tallied tallyAll lost settleOne settle withTrades only ofLevel ofCuts ofRun guaranteed reducedBy cuttable idKnown

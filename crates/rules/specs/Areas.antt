@@ -1,6 +1,6 @@
 -- Document 01, "Units and areas". Energy is whole MWh, money whole euro cents, a price cents per MWh: all naturals here; signed amounts are integers.
 -- Areas: 0 PVB (pipeline hub), 1 TVB (LNG tank), 2 AVB (underground store).
-use mathlib.Core.Bool.{Bool, cond}
+use mathlib.Core.Bool.{Bool, cond, _||_}
 use mathlib.Core.List.{List, [], _∷_}
 use Prim.Native.Nat.{ℕ, _+_}
 use lib.Dec.{eqb}
@@ -16,9 +16,13 @@ pub record Prices : Type 0 where
   pub s : ℕ
   pub u : ℕ
 
--- the versions of the book that have selling tariffs: "Version 2 of the book has a 40-byte header: after I come the daily selling tariffs"
+-- the versions of the book that have selling tariffs: "Version 2 of the book has a 40-byte header: after I come the daily selling tariffs"; "Version 3 reads as version 2, credit included"
 unfoldable pub sellingIn : ℕ → Bool
-sellingIn version = eqb version 2
+sellingIn version = eqb version 2 || eqb version 3
+
+-- the versions that have managers: "Version 3 .. ends each user record with three 32-bit manager ids"
+unfoldable pub managersIn : ℕ → Bool
+managersIn version = eqb version 3
 
 -- each area
 unfoldable pub areas : List ℕ

@@ -27,12 +27,25 @@ at v zero = v .pvb
 at v (suc zero) = v .tvb
 at v (suc (suc area)) = v .avb
 
--- User: id, role (0 shipper, 1 clearing house), charges and assigned guarantee, which no call changes.
+-- "three 32-bit manager ids, one per area, 0 for none" (document 02, ask 5); all 0 in a version that has none
+pub record Managers : Type 0 where
+  pub pvb : ℕ
+  pub tvb : ℕ
+  pub avb : ℕ
+
+-- the manager's id in an area
+unfoldable pub managerIn : Managers → ℕ → ℕ
+managerIn ms zero = ms .pvb
+managerIn ms (suc zero) = ms .tvb
+managerIn ms (suc (suc area)) = ms .avb
+
+-- User: id, role (0 shipper, 1 clearing house), charges, assigned guarantee and managers, which no call changes.
 pub record Party : Type 0 where
   pub id : ℕ
   pub role : ℕ
   pub charges : ℤ
   pub assigned : ℕ
+  pub managers : Managers
 
 -- User: beside these the physical entry and the position per area and the blocked guarantee.
 pub record User : Type 0 where
@@ -90,11 +103,20 @@ definedPosition ts u area =
 abbrev pub noTrade : Trade
 noTrade = record { terms = record { seller = 0; buyer = 0; area = 0; kind = 0; day = 0; notified = 0 }; standing = 0 }
 
+-- no manager in any area
+abbrev pub unmanaged : Managers
+unmanaged = record { pvb = 0; tvb = 0; avb = 0 }
+
 -- the user whose every field is 0
 unfoldable pub nobody : User
 nobody =
     let none : PerArea = record { pvb = pos 0; tvb = pos 0; avb = pos 0 } in
-    record { party = record { id = 0; role = 0; charges = pos 0; assigned = 0 }; physical = none; position = none; blocked = 0 }
+    record {
+      party = record { id = 0; role = 0; charges = pos 0; assigned = 0; managers = unmanaged };
+      physical = none;
+      position = none;
+      blocked = 0;
+    }
 
 -- the user of an id; `nobody` where there is none
 unfoldable pub find : List User → ℕ → User

@@ -1,5 +1,5 @@
 -- Document 01, "Levels and calls": what enters a user's level, the two levels, and who is flagged, called in and short of cover.
-use mathlib.Core.Bool.{Bool, cond, _&&_, _||_}
+use mathlib.Core.Bool.{Bool, not, cond, _&&_, _||_}
 use Prim.Native.Nat.{ℕ, _+_, _*_, max, min}
 use lib.Dec.{ltb, leb, eqb}
 use lib.IntN.{ℤ, pos, negℤ, _+ℤ_, _-ℤ_}
@@ -7,7 +7,8 @@ use Rattle.base.specs.Parts.{posPart, negPart}
 use Rattle.base.specs.Sums.{sum}
 use Rattle.rules.specs.Areas.{Prices, areas, referencePrice, sellingTariff}
 use Rattle.base.specs.Lists.{any}
-use Rattle.rules.specs.Book.{at, User, Trade, Book, sold, bought, find}
+use Rattle.rules.specs.Book.{User, Trade, Book, sold, bought, find}
+use Rattle.rules.specs.Bearers.{borneSum, asBorne, borne}
 
 -- The three figures that the rules take as given: MWh of a flag, cents of a call, cents of the least level.
 pub record Limits : Type 0 where
@@ -19,9 +20,9 @@ pub record Limits : Type 0 where
 unfoldable pub today : Limits
 today = record { flagMwh = 30000; margin = 1000000; floor = 10000000 }
 
--- ---- what enters a user's levels, flag and tiers: the only definitions below that read users and trades
+-- ---- what enters a user's levels, flag and tiers: the only definitions below that read users and trades, all but `buys` as they are borne
 
--- of one user in one area: physical entry, position, sold and bought for d and for d+1, all kinds at standing
+-- of one user in one area: physical entry, position, sold and bought for d and for d+1, all kinds at standing; of a manager "the sums over itself and its members"
 pub record Holding : Type 0 where
   pub physical : ℤ
   pub position : ℤ
@@ -33,29 +34,33 @@ pub record Holding : Type 0 where
 unfoldable pub holding : Book → User → ℕ → Holding
 holding b u area =
     record {
-      physical = at (u .physical) area;
-      position = at (u .position) area;
-      sold = sold (b .trades) (u .party .id) area 0;
-      bought = bought (b .trades) (u .party .id) area 0;
-      soldNext = sold (b .trades) (u .party .id) area 1;
-      boughtNext = bought (b .trades) (u .party .id) area 1;
+      physical = borneSum (λ v. v .physical) (b .users) (u .party .id) area;
+      position = borneSum (λ v. v .position) (b .users) (u .party .id) area;
+      sold = sold (borne b) (u .party .id) area 0;
+      bought = bought (borne b) (u .party .id) area 0;
+      soldNext = sold (borne b) (u .party .id) area 1;
+      boughtNext = bought (borne b) (u .party .id) area 1;
     }
 
--- the trade is one of the user's sales
+-- the trade is one of the user's sales; a manager's "include its members' in that area, and not the members' own; a sale between two of one group there" is nobody's
 unfoldable pub sells : Book → User → Trade → Bool
-sells b u t = eqb (t .terms .seller) (u .party .id)
+sells b u t =
+    let r = asBorne (b .users) t .terms in
+    eqb (r .seller) (u .party .id) && not (eqb (r .buyer) (u .party .id))
 
--- the trade is one of the user's purchases
+-- the trade is one of the user's purchases: who is warned is the buyer itself
 unfoldable pub buys : Book → User → Trade → Bool
 buys b u t = eqb (t .terms .buyer) (u .party .id)
 
--- the user is party to the trade
+-- the user is party to the trade: "A member's trade there calls in the manager in place of the member"
 unfoldable pub partyTo : Book → User → Trade → Bool
-partyTo b u t = sells b u t || buys b u t
+partyTo b u t =
+    let r = asBorne (b .users) t .terms in
+    eqb (r .seller) (u .party .id) || eqb (r .buyer) (u .party .id)
 
--- the user who sells in a trade
+-- the user whose flag counts for the seller of a trade: "at midday the manager's flag stands for a managed seller's"
 unfoldable pub sellerOf : Book → Trade → User
-sellerOf b t = find (b .users) (t .terms .seller)
+sellerOf b t = find (b .users) (asBorne (b .users) t .terms .seller)
 
 -- ---- the levels
 
@@ -84,7 +89,7 @@ morningSum f h charges =
 unfoldable pub credit : Prices → (ℕ → Holding) → ℕ
 credit f h = sum (λ area. posPart (h area .position) * sellingTariff f area) areas
 
--- Afternoon: "Level = charges + sum of max(0, need) × w + sum of max(0, −position) × w"; in version 2 it "loses" the credit; before its floor
+-- Afternoon: "Level = charges + sum of max(0, need) × w + sum of max(0, −position) × w"; from version 2 on it "loses" the credit; before its floor
 unfoldable pub afternoonSum : Prices → (ℕ → Holding) → ℤ → ℤ
 afternoonSum f h charges =
     charges +ℤ pos (sum (λ area. posPart (afternoonNeed area (h area)) * referencePrice f area) areas)

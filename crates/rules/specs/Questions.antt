@@ -7,11 +7,12 @@ use Prim.Native.Nat.{ℕ, _^_}
 use lib.Dec.{leb, ltb, eqb}
 use lib.IntN.{ℤ, pos, negsuc}
 use lib.ListN.{length}
-use Rattle.rules.specs.Areas.{Prices, sellingIn}
+use Rattle.rules.specs.Areas.{Prices, sellingIn, managersIn}
 use Rattle.rules.specs.Signed.{within}
 use Rattle.rules.specs.Calendar.{realDay}
 use Rattle.base.specs.Lists.{all, any}
-use Rattle.rules.specs.Book.{Header, PerArea, at, User, Trade, Book, bilateralForDay, definedPosition}
+use Rattle.rules.specs.Book.{Header, PerArea, at, managerIn, User, Trade, Book, bilateralForDay, definedPosition, find}
+use Rattle.rules.specs.Levels.{shipper}
 
 -- ---- asking
 
@@ -35,10 +36,10 @@ unfoldable pub decided : {R : Type 0} → Option ℕ → (ℕ → R) → R → R
 decided none refused accepted = accepted
 decided (some n) refused accepted = refused n
 
--- ---- 2 and 3: "Version 1?" or, by document 02's ask 3, version 2; "Counts in range?"
+-- ---- 2 and 3: "Version 1?" or, by document 02's asks 3 and 5, version 2 or 3; "Counts in range?"
 
 unfoldable pub versionKnown : ℕ → Bool
-versionKnown version = eqb version 1 || eqb version 2
+versionKnown version = eqb version 1 || (eqb version 2 || eqb version 3)
 
 unfoldable pub versionValid : Book → Bool
 versionValid b = versionKnown (b .header .version)
@@ -94,11 +95,30 @@ userValid u =
 unfoldable pub usersValid : List User → Bool
 usersValid us = idsRise 0 us && all userValid us
 
--- ---- 6: "Every trade valid?"
-
 -- the id is in the book
 unfoldable pub known : List User → ℕ → Bool
 known us id = any (λ u. eqb (u .party .id) id) us
+
+-- "Manager and managed user are shippers and differ, and a manager isn't managed in that area"; the manager is a user of the book
+unfoldable pub manages : List User → ℕ → User → ℕ → Bool
+manages us manager u area =
+    (known us manager && not (eqb manager (u .party .id)))
+    && ((shipper u && shipper (find us manager)) && eqb (managerIn (find us manager .party .managers) area) 0)
+
+-- of a user in an area: "0 for none", the only one in a version without managers; "A bad manager id is refused under question 5"
+unfoldable pub managerValid : ℕ → List User → User → ℕ → Bool
+managerValid version us u area =
+    let manager = managerIn (u .party .managers) area in
+    eqb manager 0 || (managersIn version && manages us manager u area)
+
+unfoldable pub managersValid : ℕ → List User → User → Bool
+managersValid version us u = managerValid version us u 0 && (managerValid version us u 1 && managerValid version us u 2)
+
+-- every user of a book has valid managers
+unfoldable pub groupsValid : Book → Bool
+groupsValid b = all (managersValid (b .header .version) (b .users)) (b .users)
+
+-- ---- 6: "Every trade valid?"
 
 -- "Both parties are users of the book and differ."
 unfoldable pub partiesValid : List User → Trade → Bool
@@ -138,7 +158,7 @@ aboutBook b =
     record { number = 2; holds = versionValid b }
     ∷ (record { number = 3; holds = countsValid b }
     ∷ (record { number = 4; holds = headerValid (b .header) }
-    ∷ (record { number = 5; holds = usersValid (b .users) }
+    ∷ (record { number = 5; holds = usersValid (b .users) && groupsValid b }
     ∷ (record { number = 6; holds = all (tradeValid (b .users)) (b .trades) }
     ∷ (record { number = 7; holds = all (positionsValid (b .trades)) (b .users) } ∷ [])))))
 

@@ -6,6 +6,8 @@ ghost use mathlib.Core.Path.{_≡_};
 ghost use Prim.Native.Nat.{_≤_};
 ghost use lib.ListN.{length, take};
 ghost use Rattle.book_format.specs.Book.{bookOf};
+ghost use Rattle.book_parties.specs.Ids.{BookIn};
+ghost use Rattle.laws_sales.specs.Borne.{borneBook};
 ghost use Rattle.units.specs.Prices.{asPrices};
 ghost use Rattle.units.specs.Limits.{asLimits};
 ghost use Rattle.run_book.specs.Books.{LeftOf, LostOf, RanIn};
@@ -44,6 +46,8 @@ pub fn lost_of(standing: &[u64; 256], left: &mut [u64; 256], count: usize)
 // and takes off what was lost.
 fn run_listed(
     book: &mut [u8],
+    own_sellers: &[u8; 256],
+    own_buyers: &[u8; 256],
     sellers: &[u8; 256],
     parties: &[u8; 256],
     sums: &[u32; 768],
@@ -55,8 +59,9 @@ fn run_listed(
     count: usize,
     day: Day,
 ) -> Totals
+    requires { ⌜ BookIn (now book) (now «own_sellers») (now «own_buyers») ⌝ }
     requires { ⌜ Runnable (asLimits (day .limits)) (asPrices (day .prices)) (now book) (now sellers) (now parties) (now sums) ⌝ }
-    requires { ⌜ Listed (bookOf (now book)) (now starts) (now origins) (now standing) (now areas) (now buyers) count ⌝ }
+    requires { ⌜ Listed (borneBook (bookOf (now book))) (now starts) (now origins) (now standing) (now areas) (now buyers) count ⌝ }
     ensures { λ r. ⌜ RanIn (wholeRun (asLimits (day .limits)) (bookOf (now (book .entry)))) (now (book .exit)) r ⌝ }
 {
     let n = book_format::user_count(book) as usize;
@@ -64,7 +69,7 @@ fn run_listed(
     let mut positions = [0u32; 192];
     run_positions::fill_positions(book, n, &mut positions);
     let mut cut = [false; 64];
-    run_targets::fill_cut(book, n, m, sellers, parties, &mut cut);
+    cut_parties::fill_cut(book, n, m, sellers, parties, &mut cut);
     let mut eligible = [false; 64];
     let mut targets = [0u64; 64];
     run_targets::fill_targets(
@@ -95,19 +100,23 @@ fn run_listed(
         day,
     );
     lost_of(standing, &mut left, count);
-    cut_apply::apply(book, n, sellers, parties, origins, &left, 0, count);
+    cut_apply::apply(book, n, own_sellers, own_buyers, origins, &left, 0, count);
     totals
 }
 
-// Runs an accepted book, the parties of whose trades have these places and whose users these sums: while some user that is short of cover
+// Runs an accepted book, of whose trades the sellers and the buyers have these places (`own_sellers`, `own_buyers`) and those who bear
+// their risk these (`sellers`, `parties`), and whose users have these sums as their risk is borne: while some user that is short of cover
 // has an own sale to cut, the one of the lowest id is reduced.
 pub fn run_book(
     book: &mut [u8],
+    own_sellers: &[u8; 256],
+    own_buyers: &[u8; 256],
     sellers: &[u8; 256],
     parties: &[u8; 256],
     sums: &[u32; 768],
     day: Day,
 ) -> Totals
+    requires { ⌜ BookIn (now book) (now «own_sellers») (now «own_buyers») ⌝ }
     requires { ⌜ Runnable (asLimits (day .limits)) (asPrices (day .prices)) (now book) (now sellers) (now parties) (now sums) ⌝ }
     ensures { λ r. ⌜ RanIn (wholeRun (asLimits (day .limits)) (bookOf (now (book .entry)))) (now (book .exit)) r ⌝ }
 {
@@ -132,6 +141,8 @@ pub fn run_book(
     );
     run_listed(
         book,
+        own_sellers,
+        own_buyers,
         sellers,
         parties,
         sums,

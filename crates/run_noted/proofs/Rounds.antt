@@ -18,8 +18,10 @@ use Rattle.laws.proofs.Fuel.{run-answer}
 use Rattle.laws.proofs.Settle.{pairs-length}
 use Rattle.laws.proofs.Trades.{framed}
 use Rattle.laws.specs.Sound.{Sound}
+use Rattle.laws.specs.Trades.{Lowered, Pairwise}
 use Rattle.laws_sales.proofs.Own.{own-sales}
 use Rattle.laws_sales.proofs.Standing.{places-stay}
+use Rattle.laws_sales.specs.Borne.{borneBook, borneUser}
 use Rattle.laws_sales.specs.Groups.{places}
 use Rattle.laws_sales.specs.Parts.{part}
 use Rattle.laws_sales.specs.Reduced.{ownCuts}
@@ -30,7 +32,8 @@ use Rattle.rules.specs.Levels.{Limits}
 use Rattle.rules.specs.Reduction.{cuts, target}
 use Rattle.run_state.proofs.Left.{continued, next-nobody}
 use Rattle.base.proofs.Tests.{by-case}
-use Rattle.run_state.proofs.Stays.{Stays, party-stays, stays, users-many}
+use Rattle.risk_user.proofs.Borne.{members-borne, party-borne}
+use Rattle.run_state.proofs.Stays.{Alike, Stays, alike-borne, party-stays, stays, users-many}
 use Rattle.run_state.specs.Asked.{memberAt}
 use Rattle.run_state.specs.Going.{Going, StandingIn}
 use Rattle.run_state.specs.Running.{NextFrom}
@@ -54,7 +57,8 @@ module _ {limits : Limits} {f : Prices} {s sums ss areaCodes bs : List ℕ} (q :
   few-trades = omega (arith, length-tradesOf s, q .form .trades)
 
   pub cuts-notable : {place : ℕ} (inside : place < userCount s) {b : Book} {ns ps ts : List ℕ} {es : List Bool} → Going limits (bookOf s) b ns ps ts es → {origins ws : List ℕ}
-      → OriginsIn (bookOf s) ss origins → length ws ≡ 256 → part (getD ss place 0) (getD ss (place + 1) 0) ws ≡ ownCuts b (memberAt b place) (target limits b (memberAt b place))
+      → OriginsIn (borneBook (bookOf s)) ss origins → length ws ≡ 256
+      → part (getD ss place 0) (getD ss (place + 1) 0) ws ≡ ownCuts (borneBook b) (borneUser (b .users) (memberAt b place)) (target limits b (memberAt b place))
       → Notable origins ws (getD ss place 0) (getD ss (place + 1) 0)
   cuts-notable {place} inside {b} h {origins} {ws} at room own =
       let now = reached-now h in
@@ -117,7 +121,11 @@ module _ {limits : Limits} {s : List ℕ} {n count : ℕ} {l₀ : List ℕ} (man
     stays-now : Stays (bookOf s) (p .run .book)
     stays-now = stays (bookOf s) (p .run .book) sound (p .run .going .lowered) (p .run .going .same)
 
-    module _ (k : place < n) (room : have < 256) (few : length (bookOf s .trades) ≤ 256) {ss origins : List ℕ} (at : OriginsIn (bookOf s) ss origins) where
+    -- as the risk is borne
+    alike-now : Alike (borneBook (bookOf s)) (borneBook (p .run .book))
+    alike-now = alike-borne stays-now (framed (p .run .going .borne))
+
+    module _ (k : place < n) (room : have < 256) (few : length (bookOf s .trades) ≤ 256) {ss origins : List ℕ} (at : OriginsIn (borneBook (bookOf s)) ss origins) where
       abbrev user : User
       user = memberAt (p .run .book) place
 
@@ -128,11 +136,11 @@ module _ {limits : Limits} {s : List ℕ} {n count : ℕ} {l₀ : List ℕ} (man
       to = getD ss (place + 1) 0
 
       -- where the user's own sales stand
-      own-places : part (getD ss place 0) (getD ss (place + 1) 0) origins ≡ places (p .run .book .trades) (memberAt (p .run .book) place .party .id)
+      own-places : part (getD ss place 0) (getD ss (place + 1) 0) origins ≡ places (borneBook (p .run .book) .trades) (memberAt (p .run .book) place .party .id)
       own-places =
-          at .each place (omega (arith, k, members many sound (p .run), users-many stays-now))
-          ∙ ap (places (bookOf s .trades)) (sym (ap (λ (q : Party). q .id) (party-stays stays-now place)))
-          ∙ sym (places-stay own-sales (user .party .id) (stays-now .framed))
+          at .each place (omega (arith, k, members many sound (p .run), users-many stays-now, members-borne (bookOf s)))
+          ∙ ap (λ (q : Party). places (borneBook (bookOf s) .trades) (q .id)) (sym (party-stays alike-now place) ∙ party-borne (p .run .book) place)
+          ∙ sym (places-stay own-sales (user .party .id) (alike-now .framed))
 
       module _ {ms qs us : List ℕ} {ds : List Bool} {ws : List ℕ} {tally : Tally} {least : ℕ}
           (turn : Turned limits (bookOf s) (p .run .book) place ts ms qs us ds (part (getD ss place 0) (getD ss (place + 1) 0) ws) tally least)
@@ -187,7 +195,8 @@ module _ {limits : Limits} {s : List ℕ} {n count : ℕ} {l₀ : List ℕ} (man
             sound = subst Sound e (p .run .going .sound);
             lowered = rw e at (p .run .going .lowered);
             same = rw e at (p .run .going .same);
-            standing = subst (λ (x : Book). StandingIn (bookOf s) x ns) e (p .run .going .standing);
+            borne = subst (λ (x : Book). Pairwise Lowered (borneBook (bookOf s) .trades) (borneBook x .trades)) e (p .run .going .borne);
+            standing = subst (λ (x : Book). StandingIn (borneBook (bookOf s)) (borneBook x) ns) e (p .run .going .standing);
             room = p .run .going .rooms .standing;
           };
           rest = λ f. subst (λ (x : Book). nextReduced limits x (x .users) ≡ none) e (nobody-next f);

@@ -6,6 +6,8 @@ ghost use mathlib.Core.Path.{_≡_};
 ghost use Prim.Native.Nat.{_≤_};
 ghost use lib.ListN.{length};
 ghost use Rattle.book_format.specs.Book.{bookOf, userCount};
+ghost use Rattle.book_parties.specs.Ids.{BookIn};
+ghost use Rattle.laws_sales.specs.Borne.{borneBook};
 ghost use Rattle.run_state.specs.Going.{Going};
 ghost use Rattle.run_reduction.specs.Reductions.{RunOf};
 ghost use Rattle.run_reduction.specs.Books.{Listed, Runnable};
@@ -40,7 +42,7 @@ pub fn run_on(
 ) -> Noted
     requires { ⌜ RunOf (asLimits (day .limits)) (asPrices (day .prices)) (now book) (now sums) (now starts) (now areas) (now buyers) × (n ≡ userCount (now book)) ⌝ }
     requires { ⌜ Going (asLimits (day .limits)) (bookOf (now book)) (bookOf (now book)) (now standing) (now positions) (now targets) (now eligible) ⌝ }
-    requires { ⌜ OriginsIn (bookOf (now book)) (now starts) (now origins) × (count ≤ 256) × (length (now log) ≡ 271668) ⌝ }
+    requires { ⌜ OriginsIn (borneBook (bookOf (now book))) (now starts) (now origins) × (count ≤ 256) × (length (now log) ≡ 271668) ⌝ }
     ensures { λ r. ⌜ NotedBy (asLimits (day .limits)) (bookOf (now (book .entry))) count (now (log .entry)) (now (log .exit)) (now (standing .exit)) (r .totals) (r .count) (r .due) ⌝ }
 {
     let mut totals = Totals::none();
@@ -92,6 +94,8 @@ pub fn run_on(
 // run goes on in a copy of what stands, and what was lost is taken off.
 fn run_listed(
     book: &mut [u8],
+    own_sellers: &[u8; 256],
+    own_buyers: &[u8; 256],
     sellers: &[u8; 256],
     parties: &[u8; 256],
     sums: &[u32; 768],
@@ -105,8 +109,9 @@ fn run_listed(
     log: &mut [u8],
     count: usize,
 ) -> Noted
+    requires { ⌜ BookIn (now book) (now «own_sellers») (now «own_buyers») ⌝ }
     requires { ⌜ Runnable (asLimits (day .limits)) (asPrices (day .prices)) (now book) (now sellers) (now parties) (now sums) ⌝ }
-    requires { ⌜ Listed (bookOf (now book)) (now starts) (now origins) (now standing) (now areas) (now buyers) sales ⌝ }
+    requires { ⌜ Listed (borneBook (bookOf (now book))) (now starts) (now origins) (now standing) (now areas) (now buyers) sales ⌝ }
     requires { ⌜ (count ≤ 256) × (length (now log) ≡ 271668) ⌝ }
     ensures { λ r. ⌜ NotedIn (asLimits (day .limits)) (bookOf (now (book .entry))) count (now (log .entry)) (now (log .exit)) (now (book .exit)) (r .totals) (r .count) (r .due) ⌝ }
 {
@@ -115,7 +120,7 @@ fn run_listed(
     let mut positions = [0u32; 192];
     run_positions::fill_positions(book, n, &mut positions);
     let mut cut = [false; 64];
-    run_targets::fill_cut(book, n, m, sellers, parties, &mut cut);
+    cut_parties::fill_cut(book, n, m, sellers, parties, &mut cut);
     let mut eligible = [false; 64];
     let mut targets = [0u64; 64];
     run_targets::fill_targets(
@@ -149,14 +154,17 @@ fn run_listed(
         count,
     );
     run_book::lost_of(standing, &mut left, sales);
-    cut_apply::apply(book, n, sellers, parties, origins, &left, 0, sales);
+    cut_apply::apply(book, n, own_sellers, own_buyers, origins, &left, 0, sales);
     noted
 }
 
-// Runs an accepted book, the parties of whose trades have these places and whose users these sums, and notes its reductions in a log of
+// Runs an accepted book, of whose trades the sellers and the buyers have these places (`own_sellers`, `own_buyers`) and those who bear
+// their risk these (`sellers`, `parties`), and whose users have these sums as their risk is borne; notes its reductions in a log of
 // `count` entries.
 pub fn run_book(
     book: &mut [u8],
+    own_sellers: &[u8; 256],
+    own_buyers: &[u8; 256],
     sellers: &[u8; 256],
     parties: &[u8; 256],
     sums: &[u32; 768],
@@ -164,6 +172,7 @@ pub fn run_book(
     log: &mut [u8],
     count: usize,
 ) -> Noted
+    requires { ⌜ BookIn (now book) (now «own_sellers») (now «own_buyers») ⌝ }
     requires { ⌜ Runnable (asLimits (day .limits)) (asPrices (day .prices)) (now book) (now sellers) (now parties) (now sums) ⌝ }
     requires { ⌜ (count ≤ 256) × (length (now log) ≡ 271668) ⌝ }
     ensures { λ r. ⌜ NotedIn (asLimits (day .limits)) (bookOf (now (book .entry))) count (now (log .entry)) (now (log .exit)) (now (book .exit)) (r .totals) (r .count) (r .due) ⌝ }
@@ -189,6 +198,8 @@ pub fn run_book(
     );
     run_listed(
         book,
+        own_sellers,
+        own_buyers,
         sellers,
         parties,
         sums,

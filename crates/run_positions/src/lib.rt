@@ -5,7 +5,11 @@ ghost use mathlib.Core.Path.{_≡_};
 ghost use Prim.Native.Nat.{_+_, _*_, _-_, _≤_, _<_, _^_};
 ghost use lib.Dec.{ltb};
 ghost use lib.ListN.{getD, length};
-ghost use Rattle.book_format.specs.Book.{userCount, usersOf};
+ghost use mathlib.Core.Bool.{true};
+ghost use Rattle.book_format.specs.Book.{userCount, usersOf, versionOf};
+ghost use Rattle.book_format.specs.Held.{Accepted};
+ghost use Rattle.risk_bearers.specs.Bearers.{usersIn};
+ghost use Rattle.rules.specs.Areas.{managersIn};
 ghost use Rattle.book_format.specs.Places.{UserIn};
 ghost use Rattle.book_format.specs.Questions.{Formed};
 ghost use Rattle.base.specs.Parts.{negPart};
@@ -26,8 +30,8 @@ fn position_in(book: &[u8], place: usize, area: usize) -> u32
     Net::of_bits(fields::get_u32(book, at)).0
 }
 
-// Fills in the three positions of each of n users.
-pub fn fill_positions(book: &[u8], n: usize, positions: &mut [u32; 192])
+// Fills in the three positions of each of n users, as their records have them.
+pub fn fill_own(book: &[u8], n: usize, positions: &mut [u32; 192])
     requires { ⌜ Formed (now book) × (n ≡ userCount (now book)) × (length (now positions) ≡ 192) ⌝ }
     ensures { λ _. ⌜ PositionsOf (usersOf (now (book .entry))) (now (positions .exit)) × (length (now (positions .exit)) ≡ 192) ⌝ }
 {
@@ -39,6 +43,30 @@ pub fn fill_positions(book: &[u8], n: usize, positions: &mut [u32; 192])
         positions[k + 2] = position_in(book, i, 2);
         i += 1;
     }
+}
+
+// Fills in the three positions of each of n users in a version with managers: the sums over those whose risk it bears.
+fn fill_borne(book: &[u8], n: usize, positions: &mut [u32; 192])
+    requires { ⌜ Accepted (now book) × (managersIn (versionOf (now book)) ≡ true) × (n ≡ userCount (now book)) × (length (now positions) ≡ 192) ⌝ }
+    ensures { λ _. ⌜ PositionsOf (usersIn (now (book .entry))) (now (positions .exit)) × (length (now (positions .exit)) ≡ 192) ⌝ }
+{
+    let mut own = [0u32; 192];
+    fill_own(book, n, &mut own);
+    let mut bearers = [0u8; 192];
+    risk_bearers::fill_bearers(book, n, &mut bearers);
+    risk_bearers::bear_amounts(&own, &bearers, n, positions);
+}
+
+// Fills in the three positions of each of n users, as their risk is borne. In a version without managers each bears its own.
+pub fn fill_positions(book: &[u8], n: usize, positions: &mut [u32; 192])
+    requires { ⌜ Accepted (now book) × (n ≡ userCount (now book)) × (length (now positions) ≡ 192) ⌝ }
+    ensures { λ _. ⌜ PositionsOf (usersIn (now (book .entry))) (now (positions .exit)) × (length (now (positions .exit)) ≡ 192) ⌝ }
+{
+    if book_format::has_managers(book_format::version(book)) {
+        fill_borne(book, n, positions);
+        return;
+    }
+    fill_own(book, n, positions);
 }
 
 // ---- tiers

@@ -2,4 +2,3 @@
 pub mod Steps
 pub mod Filled
 pub mod Start
-pub mod Asked

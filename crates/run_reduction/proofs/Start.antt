@@ -3,7 +3,9 @@ use mathlib.Core.List.{List}
 use mathlib.Core.Path.{_≡_, _∙_}
 use Prim.Native.Nat.{ℕ}
 use lib.ListN.{length, take}
-use Rattle.book_format.specs.Book.{bookOf, usersOf}
+use Rattle.book_format.specs.Book.{bookOf}
+use Rattle.laws_sales.specs.Borne.{borneBook}
+use Rattle.risk_bearers.specs.Bearers.{tradesIn, usersIn}
 use Rattle.laws.proofs.Trades.{lowered-refl}
 use Rattle.rules.specs.Areas.{Prices}
 use Rattle.rules.specs.Book.{Book}
@@ -30,7 +32,7 @@ module _ {b : Book} {ss origins ns areaCodes bs : List ℕ} {count : ℕ} (l : L
 -- ---- an accepted book
 
 module _ {limits : Limits} {f : Prices} {s sellers parties sums : List ℕ} (r : Runnable limits f s sellers parties sums) where
-  module _ {ss origins ns areaCodes bs : List ℕ} {count : ℕ} (l : Listed (bookOf s) ss origins ns areaCodes bs count) where
+  module _ {ss origins ns areaCodes bs : List ℕ} {count : ℕ} (l : Listed (borneBook (bookOf s)) ss origins ns areaCodes bs count) where
     -- what stays
     pub run-stays : RunOf limits f s sums ss areaCodes bs
     run-stays =
@@ -45,12 +47,12 @@ module _ {limits : Limits} {f : Prices} {s sellers parties sums : List ℕ} (r :
         }
 
     -- no reduction has been made yet
-    pub first-reached : {ms ps : List ℕ} → take count ms ≡ take count ns → length ms ≡ 256 → PositionsOf (usersOf s) ps → length ps ≡ 192 → Reached (bookOf s) (bookOf s) ms ps
-    unfolding bookOf
+    pub first-reached : {ms ps : List ℕ} → take count ms ≡ take count ns → length ms ≡ 256 → PositionsOf (usersIn s) ps → length ps ≡ 192 → Reached (bookOf s) (bookOf s) ms ps
     first-reached e long p room =
         record {
           sound = r .book .accepted .sound;
           lowered = lowered-refl (bookOf s .trades);
+          borne = lowered-refl (tradesIn s);
           same = with-same (bookOf s);
           standing = listed-standing l e;
           positions = p;

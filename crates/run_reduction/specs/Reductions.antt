@@ -5,12 +5,14 @@ use mathlib.Core.Path.{_≡_}
 use Prim.Native.Nat.{ℕ, _+_, _*_, _≤_, _<_, _^_}
 use lib.Dec.{ltb}
 use lib.ListN.{length, getD}
-use Rattle.book_format.specs.Book.{bookOf, tradesOf, usersOf}
+use Rattle.book_format.specs.Book.{bookOf}
 use Rattle.book_format.specs.Questions.{Formed}
 use Rattle.base.specs.Parts.{negPart}
 use Rattle.laws.specs.Sound.{Sound}
 use Rattle.laws.specs.Trades.{Lowered, Pairwise}
 use Rattle.book_sums.specs.Twelve.{Low, TwelveOf}
+use Rattle.laws_sales.specs.Borne.{borneBook}
+use Rattle.risk_bearers.specs.Bearers.{tradesIn, usersIn}
 use Rattle.risk_user.specs.UserAt.{PositionsOf, positionIn}
 use Rattle.rules.specs.Areas.{Prices}
 use Rattle.rules.specs.Book.{Book}
@@ -37,22 +39,23 @@ pub record Reducible (place from to : ℕ) (areas bs ps : List ℕ) : Type 0 whe
 
 -- ---- books
 
--- what stays: the bytes of an accepted book, limits and prices, the twelve sums of each user, and where the own sales of each start, their areas and the places of their buyers
+-- what stays: the bytes of an accepted book, limits and prices; as the risk is borne, the twelve sums of each user, and where the own sales of each start, their areas and the places of their buyers
 pub record RunOf (limits : Limits) (f : Prices) (s sums ss areaCodes bs : List ℕ) : Type 0 where
   pub form : Formed s
   pub sound : Sound (bookOf s)
   pub limits-in : LimitsInRange limits
   pub prices-are : f ≡ bookOf s .header .prices
-  pub twelve : TwelveOf (usersOf s) (tradesOf s) sums
+  pub twelve : TwelveOf (usersIn s) (tradesIn s) sums
   pub low : Low sums
-  pub sales : SalesIn (bookOf s) ss areaCodes bs
+  pub sales : SalesIn (borneBook (bookOf s)) ss areaCodes bs
 
--- what stands and the positions are those of the book b, to which reductions of the book o have led
+-- what stands and the positions are those of the book b as its risk is borne, to which reductions of the book o have led
 pub record Reached (o b : Book) (ns ps : List ℕ) : Type 0 where
   pub sound : Sound b
   pub lowered : Pairwise Lowered (o .trades) (b .trades)
+  pub borne : Pairwise Lowered (borneBook o .trades) (borneBook b .trades)
   pub same : b ≡ withTrades o (b .trades)
-  pub standing : StandingIn o b ns
-  pub positions : PositionsOf (b .users) ps
+  pub standing : StandingIn (borneBook o) (borneBook b) ns
+  pub positions : PositionsOf (borneBook b .users) ps
   pub standing-room : length ns ≡ 256
   pub positions-room : length ps ≡ 192

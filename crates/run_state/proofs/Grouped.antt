@@ -10,7 +10,7 @@ use Rattle.laws.specs.Sound.{Sound}
 use Rattle.laws.proofs.Trades.{lowered-refl}
 use Rattle.rules.specs.Book.{Book, Terms}
 use Rattle.rules.specs.Levels.{Limits}
-use Rattle.run_state.proofs.Stays.{Stays, parties-stay, users-many, with-same}
+use Rattle.run_state.proofs.Stays.{Alike, alike-many, with-same}
 use Rattle.run_state.specs.Asked.{memberAt}
 use Rattle.risk_user.specs.UserAt.{PositionsOf}
 use Rattle.run_state.specs.Going.{Going, OwedOf, Rooms, SalesIn, StandingIn}
@@ -18,6 +18,7 @@ use Rattle.laws_sales.proofs.Groups.{start-same}
 use Rattle.laws_sales.proofs.Listed.{all-grouped, part-grouped, terms-many}
 use Rattle.laws_sales.proofs.Own.{own-sales}
 use Rattle.laws_sales.proofs.Standing.{starts-stay}
+use Rattle.laws_sales.specs.Borne.{borneBook}
 use Rattle.laws_sales.specs.Groups.{areasOf, grouped, standings, starts, termsOf}
 use Rattle.laws_sales.specs.Parts.{part}
 use Rattle.laws_sales.specs.Sales.{ownSale, salesOf}
@@ -49,13 +50,14 @@ module _ (b : Book) {count : ℕ} (all : count ≡ starts b (length (b .users)))
   standing-listed {ns} e = record { each = part-grouped (standings (b .trades)) (b .users) ns count e (omega (arith, all)) }
 
 -- a run starts at its opening book
-pub going-first : {limits : Limits} {b : Book} {ns ps ts : List ℕ} {es : List Bool} → Sound b → StandingIn b b ns → PositionsOf (b .users) ps → OwedOf limits b ts es → Rooms ns ps ts es
-    → Going limits b b ns ps ts es
-going-first {b = b} s n p w r = record { sound = s; lowered = lowered-refl (b .trades); same = with-same b; standing = n; positions = p; owed = w; rooms = r }
+pub going-first : {limits : Limits} {b : Book} {ns ps ts : List ℕ} {es : List Bool} → Sound b → StandingIn (borneBook b) (borneBook b) ns → PositionsOf (borneBook b .users) ps → OwedOf limits b ts es
+    → Rooms ns ps ts es → Going limits b b ns ps ts es
+going-first {b = b} s n p w r =
+    record { sound = s; lowered = lowered-refl (b .trades); borne = lowered-refl (borneBook b .trades); same = with-same b; standing = n; positions = p; owed = w; rooms = r }
 
 -- what stands of all own sales of a run's book
-pub standing-all : {o b : Book} {ns : List ℕ} → Stays o b → StandingIn o b ns → take (starts o (length (o .users))) ns ≡ grouped (standings (b .trades)) (b .users)
+pub standing-all : {o b : Book} {ns : List ℕ} → Alike o b → StandingIn o b ns → take (starts o (length (o .users))) ns ≡ grouped (standings (b .trades)) (b .users)
 standing-all {o} {b} {ns} t p =
-    let stay = starts-stay own-sales o b (t .framed) (parties-stay t) in
-    ap (λ (n : ℕ). take n ns) (sym (ap (starts b) (users-many t) ∙ stay (length (o .users))))
+    let stay = starts-stay own-sales o b (t .framed) (t .parties) in
+    ap (λ (n : ℕ). take n ns) (sym (ap (starts b) (alike-many t) ∙ stay (length (o .users))))
     ∙ all-grouped (standings (b .trades)) (b .users) ns (λ i h. ap₂ (λ (m n : ℕ). part m n ns) (stay i) (stay (suc i)) ∙ p .each i h)

@@ -16,18 +16,20 @@ use Rattle.base.proofs.Linear.{by-order, negPart-neg, negPart-pos, parts-add, p
 use Rattle.base.specs.Parts.{negPart}
 use Rattle.laws.proofs.Areas.{at-add}
 use Rattle.laws.specs.Sound.{Sound}
-use Rattle.rules.specs.Book.{at, Book, Trade, User, nobody, noTrade}
+use Rattle.rules.specs.Book.{at, Book, Party, Trade, User, nobody, noTrade}
 use Rattle.rules.specs.Calls.{reducedBy}
 use Rattle.rules.specs.Changes.{moved}
 use Rattle.base.proofs.Stores.{set-each}
 use Rattle.run_state.proofs.Reduced.{place-id, place-inside}
+use Rattle.risk_user.proofs.Borne.{members-borne, party-borne}
 use Rattle.run_state.specs.Asked.{movedOne, movedAll}
 use Rattle.risk_user.specs.UserAt.{positionIn, PositionsOf}
 use Rattle.laws_sales.proofs.FirstCuts.{first-all, first-bound, first-length, first-next, first-none, own-cut-le, own-cuts-length}
 use Rattle.laws_sales.proofs.Numbers.{read-at}
 use Rattle.laws_sales.proofs.Own.{own-sales}
 use Rattle.laws_sales.proofs.Reduced.{sales-reduced}
-use Rattle.laws_sales.proofs.Valid.{sale-at}
+use Rattle.laws_sales.proofs.Valid.{borne-ids, borne-valid, sale-at}
+use Rattle.laws_sales.specs.Borne.{borneBook, borneResult, borneUser}
 use Rattle.laws_sales.specs.Reduced.{ownSales, ownCuts, settledFirst}
 use Rattle.laws_sales.specs.Sales.{ownSale, settledAt}
 use Rattle.units.proofs.Amounts.{net-eq, parts-net}
@@ -123,62 +125,71 @@ moved-next place (b ∷ bs) (a ∷ areas) (c ∷ cs) ps zero h k l = ended (move
 moved-next place (b ∷ bs) (a ∷ areas) (c ∷ cs) ps (suc n) h k l =
     moved-next place bs areas cs (movedOne place b a c ps) n (le-of-suc-le-suc h) (le-of-suc-le-suc k) (le-of-suc-le-suc l)
 
-module _ (b : Book) (s : Sound b) (place : ℕ) (k : place < length (b .users)) (asked : ℕ) (ps : List ℕ) (room : 3 * length (b .users) ≤ length ps) (p : PositionsOf (b .users) ps) where
+module _ (b : Book) (s : Sound b) (place : ℕ) (k : place < length (b .users)) (asked : ℕ) (ps : List ℕ) (room : 3 * length (b .users) ≤ length ps) (p : PositionsOf (borneBook b .users) ps) where
   abbrev seller : User
   seller = getD (b .users) place nobody
 
+  -- the book, the user, its own sales and their cuts, as the risk is borne
+  abbrev bb : Book
+  bb = borneBook b
+
+  abbrev ub : User
+  ub = borneUser (b .users) (getD (b .users) place nobody)
+
   abbrev sales : List Trade
-  sales = ownSales b (getD (b .users) place nobody)
+  sales = ownSales (borneBook b) (borneUser (b .users) (getD (b .users) place nobody))
 
   abbrev buyers : List ℕ
-  buyers = map (λ t. placeOf (b .users) (t .terms .buyer)) (ownSales b (getD (b .users) place nobody))
+  buyers = map (λ t. placeOf (borneBook b .users) (t .terms .buyer)) (ownSales (borneBook b) (borneUser (b .users) (getD (b .users) place nobody)))
 
   abbrev codes : List ℕ
-  codes = map (λ t. t .terms .area) (ownSales b (getD (b .users) place nobody))
+  codes = map (λ t. t .terms .area) (ownSales (borneBook b) (borneUser (b .users) (getD (b .users) place nobody)))
 
   abbrev cuts : List ℕ
-  cuts = ownCuts b (getD (b .users) place nobody) asked
+  cuts = ownCuts (borneBook b) (borneUser (b .users) (getD (b .users) place nobody)) asked
 
   -- after some of the cuts
   moved-first : (n : ℕ) → n ≤ length sales
-      → PositionsOf (settledFirst ownSale b seller asked n) (movedAll place (take n buyers) (take n codes) (take n cuts) ps)
-  unfolding movedAll
-  moved-first zero h = subst (λ (us : List User). PositionsOf us ps) (sym (first-none own-sales b seller asked)) p
+      → PositionsOf (settledFirst ownSale bb ub asked n) (movedAll place (take n buyers) (take n codes) (take n cuts) ps)
+  unfolding movedAll borneUser
+  moved-first zero h = subst (λ (us : List User). PositionsOf us ps) (sym (first-none own-sales bb ub asked)) p
   moved-first (suc n) h =
       let before = moved-first n (omega arith) in
       let qs = movedAll place (take n buyers) (take n codes) (take n cuts) ps in
-      let us = settledFirst ownSale b seller asked n in
+      let us = settledFirst ownSale bb ub asked n in
       let t = getD sales n noTrade in
-      let sale = sale-at (b .users) (b .trades) (seller .party .id) n noTrade (s .trades) (omega arith) in
-      let buyer = placeOf (b .users) (t .terms .buyer) in
-      let inside = place-inside (b .users) (t .terms .buyer) (sale .buyer) in
+      let sale = sale-at (bb .users) (bb .trades) (seller .party .id) n noTrade (borne-valid b s) (omega arith) in
+      let buyer = placeOf (bb .users) (t .terms .buyer) in
+      let inside = place-inside (bb .users) (t .terms .buyer) (sale .buyer) in
+      let as-many = members-borne b in
       let area = t .terms .area in
       let c = getD cuts n 0 in
-      let many = first-length own-sales b seller asked n in
+      let many = first-length own-sales bb ub asked n in
       let stands = read-at (λ x. x .standing) sales n noTrade 0 (omega arith) in
-      let bound = first-bound own-sales b seller asked s n buyer area inside (sale .area) in
+      let bound = first-bound b seller asked s n buyer area (omega (arith, inside, as-many)) (sale .area) in
       let x = getD qs (3 * buyer + area) 0 in
-      let here = before .each buyer area (omega (arith, many)) (sale .area) in
-      let small : c ≤ x = omega (arith, own-cut-le own-sales b seller asked n, stands, sale .standing, bound .1, parts-net (record { 0 = x }), ap negPart here) in
-      let eb : getD buyers n 0 ≡ buyer = read-at (λ x. placeOf (b .users) (x .terms .buyer)) sales n noTrade 0 (omega arith) in
+      let here = before .each buyer area (omega (arith, many, inside)) (sale .area) in
+      let small : c ≤ x = omega (arith, own-cut-le own-sales bb ub asked n, stands, sale .standing, bound .1, parts-net (record { 0 = x }), ap negPart here) in
+      let eb : getD buyers n 0 ≡ buyer = read-at (λ x. placeOf (bb .users) (x .terms .buyer)) sales n noTrade 0 (omega arith) in
       let ea : getD codes n 0 ≡ area = read-at (λ x. x .terms .area) sales n noTrade 0 (omega arith) in
       let next : movedAll place (take (suc n) buyers) (take (suc n) codes) (take (suc n) cuts) ps ≡ movedOne place buyer area c qs
-      = moved-next place buyers codes cuts ps n (omega (arith, length-map sales (λ x. placeOf (b .users) (x .terms .buyer)))) (omega (arith, length-map sales (λ x. x .terms .area))) (omega (arith, own-cuts-length own-sales b seller asked))
+      = moved-next place buyers codes cuts ps n (omega (arith, length-map sales (λ x. placeOf (bb .users) (x .terms .buyer)))) (omega (arith, length-map sales (λ x. x .terms .area))) (omega (arith, own-cuts-length own-sales bb ub asked))
       ∙ ap₂ (λ (i j : ℕ). movedOne place i j c qs) eb ea in
       let long = moved-length place (take n buyers) (take n codes) (take n cuts) ps in
-      subst (λ (rs : List ℕ). PositionsOf (settledFirst ownSale b seller asked (suc n)) rs) (sym next)
+      subst (λ (rs : List ℕ). PositionsOf (settledFirst ownSale bb ub asked (suc n)) rs) (sym next)
       (subst (λ (vs : List User). PositionsOf vs (movedOne place buyer area c qs))
-      (sym (first-next own-sales b seller asked s n place buyer noTrade (omega arith) k inside (sym (sale .seller)) (place-id (b .users) (t .terms .buyer) (sale .buyer))))
-      (one-moved us qs place buyer area c (omega (arith, many)) (omega (arith, many)) (sale .area) (omega (arith, many, long)) small before))
+      (sym (first-next own-sales bb ub asked (borne-ids b s) n place buyer noTrade (omega arith) (omega (arith, k, as-many)) inside (ap (λ (q : Party). q .id) (party-borne b place) ∙ sym (sale .seller)) (place-id (bb .users) (t .terms .buyer) (sale .buyer))))
+      (one-moved us qs place buyer area c (omega (arith, many, k, as-many)) (omega (arith, many, inside)) (sale .area) (omega (arith, many, long, as-many)) small before))
 
   -- after all
-  pub all-moved : PositionsOf (reducedBy b seller asked .book .users) (movedAll place buyers codes cuts ps)
+  pub all-moved : PositionsOf (borneBook (reducedBy b seller asked .book) .users) (movedAll place buyers codes cuts ps)
+  unfolding borneResult
   all-moved =
       let n = length sales in
       let e : movedAll place (take n buyers) (take n codes) (take n cuts) ps ≡ movedAll place buyers codes cuts ps
-      = ap₂ (λ (xs ys : List ℕ). movedAll place xs ys (take n cuts) ps) (take-all n buyers (omega (arith, length-map sales (λ x. placeOf (b .users) (x .terms .buyer))))) (take-all n codes (omega (arith, length-map sales (λ x. x .terms .area))))
-      ∙ ap (λ (xs : List ℕ). movedAll place buyers codes xs ps) (take-all n cuts (omega (arith, own-cuts-length own-sales b seller asked))) in
-      subst (λ (rs : List ℕ). PositionsOf (reducedBy b seller asked .book .users) rs) e
+      = ap₂ (λ (xs ys : List ℕ). movedAll place xs ys (take n cuts) ps) (take-all n buyers (omega (arith, length-map sales (λ x. placeOf (bb .users) (x .terms .buyer))))) (take-all n codes (omega (arith, length-map sales (λ x. x .terms .area))))
+      ∙ ap (λ (xs : List ℕ). movedAll place buyers codes xs ps) (take-all n cuts (omega (arith, own-cuts-length own-sales bb ub asked))) in
+      subst (λ (rs : List ℕ). PositionsOf (borneBook (reducedBy b seller asked .book) .users) rs) e
       (subst (λ (us : List User). PositionsOf us (movedAll place (take n buyers) (take n codes) (take n cuts) ps))
-      (first-all own-sales b seller asked n (omega arith) ∙ sym (sales-reduced b seller asked s .users))
+      (first-all own-sales bb ub asked n (omega arith) ∙ sym (sales-reduced b seller asked s .users))
       (moved-first n (omega arith)))

@@ -1,13 +1,13 @@
 -- The own sales of the book that a run has come to, in the arrays of the opening book. Assumes nothing.
-use mathlib.Core.List.{List, [], _∷_, map}
+use mathlib.Core.List.{List, [], _∷_, map, map-map}
 use mathlib.Core.Path.{_≡_, refl, sym, ap, fun-ext, _∙_}
 use Prim.Native.Nat.{ℕ, suc, _<_}
 use native.Mathlib.Omega.{arith}
+use lib.IntN.{pos}
 use lib.ListN.{length}
 use Rattle.book_format.specs.Steps.{placeOf}
-use Rattle.laws.specs.Books.{repositioned}
-use Rattle.rules.specs.Book.{Book, Party, Terms, Trade, User}
-use Rattle.run_state.proofs.Stays.{Stays, party-stays, users-many}
+use Rattle.rules.specs.Book.{Book, Party, PerArea, Terms, Trade, User}
+use Rattle.run_state.proofs.Stays.{Alike, alike-many, party-stays}
 use Rattle.run_state.specs.Asked.{memberAt}
 use Rattle.run_state.specs.Going.{SalesIn}
 use Rattle.laws_sales.proofs.Own.{own-sales}
@@ -17,18 +17,31 @@ use Rattle.laws_sales.specs.Parts.{part}
 use Rattle.laws_sales.specs.Reduced.{ownSales}
 use Rattle.laws_sales.specs.Sales.{salesOf}
 
-place-moved : (us : List User) (ts : List Trade) (id : ℕ) → placeOf (map (repositioned ts) us) id ≡ placeOf us id
-unfolding placeOf repositioned
-place-moved [] ts id = refl
-place-moved (u ∷ us) ts id = rw (place-moved us ts id)
+-- the place of an id is read of the parties alone
+place-through : (p : Party → User) → ((q : Party) → p q .party ≡ q) → (us : List User) (id : ℕ) → placeOf (map (λ u. p (u .party)) us) id ≡ placeOf us id
+unfolding placeOf
+place-through p e [] id = refl
+place-through p e (u ∷ us) id = rw (e (u .party), place-through p e us id)
 
-module _ {o b : Book} (t : Stays o b) where
+bare : Party → User
+bare q =
+    let none : PerArea = record { pvb = pos 0; tvb = pos 0; avb = pos 0 } in
+    record { party = q; physical = none; position = none; blocked = 0 }
+
+pub place-same : (us vs : List User) → map (λ u. u .party) us ≡ map (λ u. u .party) vs → (id : ℕ) → placeOf us id ≡ placeOf vs id
+unfolding bare
+place-same us vs e id =
+    sym (place-through bare (λ q. refl) us id)
+    ∙ ap (λ (ws : List User). placeOf ws id) (sym (map-map bare (λ (u : User). u .party) us) ∙ ap (map bare) e ∙ map-map bare (λ (u : User). u .party) vs)
+    ∙ place-through bare (λ q. refl) vs id
+
+module _ {o b : Book} (t : Alike o b) where
   pub place-stays : (id : ℕ) → placeOf (b .users) id ≡ placeOf (o .users) id
-  place-stays id = ap (λ (us : List User). placeOf us id) (t .users) ∙ place-moved (o .users) (b .trades) id
+  place-stays id = place-same (b .users) (o .users) (t .parties) id
 
   module _ {ss areaCodes bs : List ℕ} (q : SalesIn o ss areaCodes bs) (i : ℕ) (k : i < length (b .users)) where
     inside : i < length (o .users)
-    inside = omega (arith, users-many t)
+    inside = omega (arith, alike-many t)
 
     terms-all : (g : Terms → ℕ) → map (λ s. g (s .terms)) (ownSales o (memberAt o i)) ≡ map (λ s. g (s .terms)) (ownSales b (memberAt b i))
     terms-all g =

@@ -2,7 +2,7 @@
 -- Assumes nothing.
 use mathlib.Core.Bool.{Bool, true, false, cond, _&&_, _||_}
 use mathlib.Core.List.{List, [], _∷_, map}
-use mathlib.Core.Path.{_≡_, refl, sym, ap, ap₂, subst, _∙_}
+use mathlib.Core.Path.{_≡_, refl, sym, ap, ap₂, fun-ext, subst, _∙_}
 use Prim.Native.Nat.{ℕ, _-_, _<_}
 use native.Mathlib.Omega.{arith}
 use lib.Dec.{T, eqb, ltb, eqb→eq, ltb→lt}
@@ -12,18 +12,19 @@ use Rattle.risk_holdings.specs.Parties.{cutBefore}
 use Rattle.book_format.proofs.OneUser.{place-known}
 use Rattle.book_format.specs.Steps.{placeOf}
 use Rattle.laws.proofs.Fuel.{reducedBy-mwh}
-use Rattle.laws.proofs.Positions.{buyer-known}
 use Rattle.laws.proofs.Run.{has-target, reducedBy-less}
 use Rattle.laws.specs.Sound.{Sound}
+use Rattle.laws.specs.Statements.{ownHolding}
 use Rattle.base.proofs.Tests.{and-l, and-r, all-by, by-case, holds}
 use Rattle.laws.proofs.Trades.{framed}
 use Rattle.rules.specs.Areas.{Prices}
 use Rattle.rules.specs.Book.{Book, Header, Party, Trade, User, nobody}
 use Rattle.rules.specs.Calls.{Answer, ofCuts, reducedBy}
-use Rattle.rules.specs.Levels.{Limits, holding, levelFrom, shortOfCover}
+use Rattle.rules.specs.Levels.{Limits, Holding, exceedsMargin, holding, levelFrom, shipper, shortOfCover}
 use Rattle.base.specs.Lists.{all, any}
-use Rattle.rules.specs.Questions.{idsRise, known, tradeValid}
+use Rattle.rules.specs.Questions.{idsRise, known}
 use Rattle.rules.specs.Reduction.{Tally, hasEligible, nothing, tallied, tallyAll, target}
+use Rattle.risk_user.proofs.Borne.{member-borne, members-borne, party-borne}
 use Rattle.run_state.specs.Asked.{memberAt, touched}
 use Rattle.run_state.specs.Going.{owed, owedCalled}
 use Rattle.laws_sales.proofs.Cover.{has-eligible-sales, level-next, next-holding, short-from, some-cut-buyer, some-cut-seller, target-from}
@@ -32,7 +33,9 @@ use Rattle.laws_sales.proofs.Own.{own-sales}
 use Rattle.laws_sales.proofs.Reduced.{cover-left, sales-reduced, user-left}
 use Rattle.laws_sales.proofs.Settled.{party-at, same-place}
 use Rattle.laws_sales.proofs.Standing.{same-length}
-use Rattle.laws_sales.proofs.Valid.{sales-own, sales-valid}
+use Rattle.laws_sales.proofs.Sums.{held-borne}
+use Rattle.laws_sales.proofs.Valid.{borne-ids, borne-valid, sales-own, sales-valid}
+use Rattle.laws_sales.specs.Borne.{borneBook, borneResult, borneUser, borneValid}
 use Rattle.laws_sales.specs.Cover.{AllNext, due, shortFrom}
 use Rattle.laws_sales.specs.Groups.{standings}
 use Rattle.laws_sales.specs.Reduced.{ownSales, ownCuts, SalesReduced}
@@ -94,6 +97,14 @@ cond-and true false n = refl
 cond-and false true n = refl
 cond-and false false n = refl
 
+-- ---- short of cover, by the trades as they are borne
+
+pub short-rules : (limits : Limits) (b : Book) (u : User) → shortOfCover limits b u ≡ shortFrom limits (b .header .prices) u (holding b u) (cutBefore (u .party .id) (borneBook b .trades))
+unfolding shortFrom borneUser shipper exceedsMargin
+short-rules limits b u =
+    short-from limits b u
+    ∙ ap (λ (h : ℕ → Holding). shortFrom limits (b .header .prices) u h (cutBefore (u .party .id) (borneBook b .trades))) (sym (fun-ext (held-borne b u)))
+
 -- ---- the reduction
 
 module _ (limits : Limits) (b : Book) (sound : Sound b) (place : ℕ) (k : place < length (b .users)) where
@@ -106,23 +117,35 @@ module _ (limits : Limits) (b : Book) (sound : Sound b) (place : ℕ) (k : place
   abbrev after : Book
   after = reducedBy b (getD (b .users) place nobody) (target limits b (getD (b .users) place nobody)) .book
 
+  -- the book, the user, its own sales and their cuts, as the risk is borne
+  abbrev bb : Book
+  bb = borneBook b
+
+  abbrev ub : User
+  ub = borneUser (b .users) (getD (b .users) place nobody)
+
   abbrev sales : List Trade
-  sales = ownSales b (getD (b .users) place nobody)
+  sales = ownSales (borneBook b) (borneUser (b .users) (getD (b .users) place nobody))
 
   abbrev cuts : List ℕ
-  cuts = ownCuts b (getD (b .users) place nobody) (target limits b (getD (b .users) place nobody))
+  cuts = ownCuts (borneBook b) (borneUser (b .users) (getD (b .users) place nobody)) (target limits b (getD (b .users) place nobody))
 
   pub law : SalesReduced b seller asked (reducedBy b seller asked)
   law = sales-reduced b seller asked sound
 
   pub members-stay : length (after .users) ≡ length (b .users)
-  members-stay = same-length (b .users) (after .users) (law .parties)
+  unfolding borneResult
+  members-stay = sym (members-borne after) ∙ same-length (bb .users) (borneBook after .users) (law .parties) ∙ members-borne b
 
   pub member-stays : (j : ℕ) → memberAt after j .party ≡ memberAt b j .party
-  member-stays j = party-at (b .users) (after .users) (law .parties) j nobody
+  unfolding borneResult
+  member-stays j = sym (party-borne after j) ∙ party-at (bb .users) (borneBook after .users) (law .parties) j nobody ∙ party-borne b j
 
   id-stays : (j : ℕ) → memberAt after j .party .id ≡ memberAt b j .party .id
   id-stays j = ap (λ (p : Party). p .id) (member-stays j)
+
+  id-borne : (j : ℕ) → memberAt (borneBook b) j .party .id ≡ memberAt b j .party .id
+  id-borne j = ap (λ (p : Party). p .id) (party-borne b j)
 
   -- users at two places have two ids
   pub apart : (j : ℕ) → j < length (b .users) → (j ≡ place → ⊥) → memberAt b j .party .id ≡ seller .party .id → ⊥
@@ -132,87 +155,96 @@ module _ (limits : Limits) (b : Book) (sound : Sound b) (place : ℕ) (k : place
 
   -- another user has one as before
   pub eligible-left : (j : ℕ) → j < length (b .users) → (j ≡ place → ⊥) → hasEligible after (memberAt after j) ≡ hasEligible b (memberAt b j)
+  unfolding borneResult borneUser
   eligible-left j l n =
       has-eligible-sales after (memberAt after j)
-      ∙ ap (λ (id : ℕ). any (λ m. ltb 0 m) (standings (after .trades) id)) (id-stays j)
+      ∙ ap (λ (id : ℕ). any (λ m. ltb 0 m) (standings (borneBook after .trades) id)) (id-stays j)
       ∙ ap (λ (ss : List Trade). any (λ m. ltb 0 m) (map (λ s. s .standing) ss)) (law .other (memberAt b j .party .id) (apart j l n))
       ∙ sym (has-eligible-sales b (memberAt b j))
 
   -- the user has one where one of its own sales stands
-  pub eligible-own : hasEligible after (memberAt after place) ≡ any (λ m. ltb 0 m) (standings (after .trades) (seller .party .id))
-  eligible-own = has-eligible-sales after (memberAt after place) ∙ ap (λ (id : ℕ). any (λ m. ltb 0 m) (standings (after .trades) id)) (id-stays place)
+  pub eligible-own : hasEligible after (memberAt after place) ≡ any (λ m. ltb 0 m) (standings (borneBook after .trades) (seller .party .id))
+  eligible-own = has-eligible-sales after (memberAt after place) ∙ ap (λ (id : ℕ). any (λ m. ltb 0 m) (standings (borneBook after .trades) id)) (id-stays place)
 
   -- ---- who is touched
 
-  all-known : T (all (λ s. known (b .users) (s .terms .buyer)) sales)
+  all-known : T (all (λ s. known (bb .users) (s .terms .buyer)) sales)
+  unfolding borneValid
   all-known =
-      all-by (tradeValid (b .users)) (λ s. known (b .users) (s .terms .buyer)) (λ s v. buyer-known (b .users) s v) sales
-      (sales-valid (b .users) (b .trades) (seller .party .id) (sound .trades))
+      all-by (borneValid (bb .users)) (λ s. known (bb .users) (s .terms .buyer)) (λ s v. search (and-l, and-r)) sales
+      (sales-valid (bb .users) (bb .trades) (ub .party .id) (borne-valid b sound))
 
   -- the buyers of sales that lost something
   abbrev buyers : List ℕ
-  buyers = map (λ s. placeOf (b .users) (s .terms .buyer)) (ownSales b (getD (b .users) place nobody))
+  buyers = map (λ s. placeOf (borneBook b .users) (s .terms .buyer)) (ownSales (borneBook b) (borneUser (b .users) (getD (b .users) place nobody)))
 
   touched-is : (j : ℕ) → j < length (b .users) → (j ≡ place → ⊥) → touched j buyers cuts ≡ someCut (isParty (memberAt b j .party .id)) cuts sales
+  unfolding borneUser
   touched-is j l n =
-      touched-buyers (b .users) j (sound .ids) l cuts sales all-known
-      ∙ sym (some-cut-buyer (seller .party .id) (memberAt b j .party .id) (apart j l n) cuts sales (sales-own (b .trades) (seller .party .id)))
+      touched-buyers (bb .users) j (borne-ids b sound) (omega (arith, members-borne b)) cuts sales all-known
+      ∙ ap (λ (id : ℕ). someCut (λ s. eqb (s .terms .buyer) id) cuts sales) (id-borne j)
+      ∙ sym (some-cut-buyer (seller .party .id) (memberAt b j .party .id) (apart j l n) cuts sales (sales-own (bb .trades) (seller .party .id)))
 
   -- who is party to a sale that lost something: with an eligible trade its cover is asked as of a user that is called in
   asked-anew : (j : ℕ) → someCut (isParty (memberAt b j .party .id)) cuts sales ≡ true
       → owed limits after (memberAt after j)
       ≡ cond (hasEligible after (memberAt after j)) (owedCalled limits after (memberAt after j)) 0
-  unfolding due
+  unfolding due borneResult
   asked-anew j e =
       let v = memberAt after j in
-      let cut : cutBefore (v .party .id) (after .trades) ≡ true
-      = law .cut (v .party .id) ∙ ap (λ (n : ℕ). cutBefore (v .party .id) (b .trades) || someCut (isParty n) cuts sales) (id-stays j)
-      ∙ ap (λ (x : Bool). cutBefore (v .party .id) (b .trades) || x) e ∙ or-true (cutBefore (v .party .id) (b .trades)) in
+      let cut : cutBefore (v .party .id) (borneBook after .trades) ≡ true
+      = law .cut (v .party .id) ∙ ap (λ (n : ℕ). cutBefore (v .party .id) (bb .trades) || someCut (isParty n) cuts sales) (id-stays j)
+      ∙ ap (λ (x : Bool). cutBefore (v .party .id) (bb .trades) || x) e ∙ or-true (cutBefore (v .party .id) (bb .trades)) in
       let short : shortOfCover limits after v ≡ shortFrom limits (after .header .prices) v (holding after v) true
-      = short-from limits after v ∙ ap (shortFrom limits (after .header .prices) v (holding after v)) cut in
+      = short-rules limits after v ∙ ap (shortFrom limits (after .header .prices) v (holding after v)) cut in
       ap (λ (x : Bool). cond (x && hasEligible after v) (target limits after v) 0) short
       ∙ cond-and (shortFrom limits (after .header .prices) v (holding after v) true) (hasEligible after v) (target limits after v)
 
   -- what a user holds, as the afternoon reads it, where its record is as before
-  held-kept : (u : User) → AllNext (holding b u) (holding after u)
-  unfolding holding
-  held-kept u = record { each = λ area h. next-holding b after u u refl (framed (law .lowered)) area (holding b u area) refl refl refl }
+  held-kept : (u : User) → AllNext (ownHolding bb u) (ownHolding (borneBook after) u)
+  unfolding ownHolding borneResult
+  held-kept u = record { each = λ area h. next-holding bb (borneBook after) u u refl (framed (law .lowered)) area (ownHolding bb u area) refl refl refl }
 
-  target-kept : (u : User) → target limits after u ≡ target limits b u
-  target-kept u =
-      target-from limits after u ∙ ap (λ (x : Header). levelFrom limits (x .prices) u (holding after u) - u .party .assigned) (law .header)
-      ∙ ap (λ (m : ℕ). m - u .party .assigned) (sym (level-next (held-kept u) limits (b .header .prices) u)) ∙ sym (target-from limits b u)
+  -- who stands as it did has the same target
+  target-kept : (u v : User) → borneUser (after .users) v ≡ borneUser (b .users) u → v .party ≡ u .party → target limits after v ≡ target limits b u
+  unfolding borneResult borneBook
+  target-kept u v same p =
+      let x = borneUser (b .users) u in
+      target-from limits after v
+      ∙ ap₂ (λ (w : User) (q : Party). levelFrom limits (after .header .prices) w (ownHolding (borneBook after) w) - q .assigned) same p
+      ∙ ap (λ (h : Header). levelFrom limits (h .prices) x (ownHolding (borneBook after) x) - u .party .assigned) (law .header)
+      ∙ ap (λ (m : ℕ). m - u .party .assigned) (sym (level-next (held-kept x) limits (b .header .prices) x)) ∙ sym (target-from limits b u)
 
   -- who is party to none is due as before, for the same target
   asked-before : (j : ℕ) → j < length (b .users) → (j ≡ place → ⊥) → someCut (isParty (memberAt b j .party .id)) cuts sales ≡ false
       → owed limits after (memberAt after j) ≡ owed limits b (memberAt b j)
-  unfolding due
+  unfolding due borneResult
   asked-before j l n e =
       let u = memberAt b j in
       let v = memberAt after j in
-      let same : v ≡ u = user-left law j nobody e in
-      let cover : shortOfCover limits after v ≡ shortOfCover limits b u = ap (shortOfCover limits after) same ∙ cover-left law limits u e in
-      let goal : target limits after v ≡ target limits b u = ap (target limits after) same ∙ target-kept u in
+      let same : borneUser (after .users) v ≡ borneUser (b .users) u
+      = sym (member-borne after j (omega (arith, members-stay))) ∙ user-left law j nobody (ap (λ (id : ℕ). someCut (isParty id) cuts sales) (id-borne j) ∙ e) ∙ member-borne b j l in
+      let cover : shortOfCover limits after v ≡ shortOfCover limits b u = cover-left limits b seller asked sound u v same e in
       ap₂ (λ (x y : Bool). cond (x && y) (target limits after v) 0) cover (eligible-left j l n)
-      ∙ ap (λ (m : ℕ). cond (shortOfCover limits b u && hasEligible b u) m 0) goal
+      ∙ ap (λ (m : ℕ). cond (shortOfCover limits b u && hasEligible b u) m 0) (target-kept u v same (member-stays j))
 
   -- ---- the user
 
   module _ (is-due : due limits b seller ≡ true) where
     -- something is cut
     some-lost : someCut (isParty (seller .party .id)) cuts sales ≡ true
-    unfolding due ofCuts nothing
+    unfolding due ofCuts nothing borneResult borneUser
     some-lost =
         let whole = holds is-due in
         let s = and-l (shortOfCover limits b seller) (hasEligible b seller) whole in
         let eligible = and-r (shortOfCover limits b seller) (hasEligible b seller) whole in
-        let some = some-cut-seller (seller .party .id) cuts sales (sales-own (b .trades) (seller .party .id)) (own-cuts-length own-sales b seller asked) in
+        let some = some-cut-seller (seller .party .id) cuts sales (sales-own (bb .trades) (seller .party .id)) (own-cuts-length own-sales bb ub asked) in
         by-case (any (λ c. ltb 0 c) cuts) (λ e. some ∙ e)
         (λ e.
         let less-mwh = reducedBy-less b seller asked sound (has-target limits b seller s) eligible in
         let mwh = reducedBy-mwh b seller asked in
         let zero-mwh : reducedBy b seller asked .answer .mwh ≡ 0
-        = ap (λ (a : Answer). a .mwh) (law .answer) ∙ tally-none (b .header .prices) cuts sales nothing e in
+        = ap (λ (a : Answer). a .mwh) (law .answer) ∙ tally-none (bb .header .prices) cuts sales nothing e in
         absurd (omega (arith, less-mwh, mwh, zero-mwh)))
 
     pub asked-own : owed limits after (memberAt after place)

@@ -9,6 +9,7 @@ use lib.Dec.{T, ltb}
 use lib.ListN.{length, getD, set, length-set}
 use Rattle.book_format.specs.Steps.{placeOf}
 use Rattle.base.proofs.Linear.{by-order}
+use Rattle.laws.proofs.Run.{Ran, reducedBy-law}
 use Rattle.laws.specs.Sound.{Sound}
 use Rattle.base.proofs.Tests.{all-by}
 use Rattle.laws.proofs.Trades.{framed, lowered-trans}
@@ -25,7 +26,8 @@ use Rattle.run_state.proofs.Moves.{all-moved, moved-length}
 use Rattle.run_state.proofs.Own.{own-areas, own-buyers}
 use Rattle.base.proofs.Stores.{here-or-apart, set-each}
 use Rattle.run_state.proofs.Reduced.{apart, asked-other, asked-own, eligible-left, eligible-own, law, member-stays, members-stay}
-use Rattle.run_state.proofs.Stays.{Stays, stays, target-is, users-many}
+use Rattle.run_state.proofs.Stays.{Alike, Stays, alike-borne, stays, target-is, users-many}
+use Rattle.risk_user.proofs.Borne.{members-borne, party-borne}
 use Rattle.run_state.specs.Asked.{memberAt, LookedAgain, movedAll, touched}
 use Rattle.risk_user.specs.UserAt.{PositionsOf, targetAt}
 use Rattle.book_sums.specs.Twelve.{TwelveOf}
@@ -34,11 +36,12 @@ use Rattle.laws_sales.proofs.Again.{retraded-again}
 use Rattle.laws_sales.proofs.Listed.{starts-rise}
 use Rattle.laws_sales.proofs.Numbers.{standing-cut}
 use Rattle.laws_sales.proofs.Parts.{Around, part-before, part-behind}
+use Rattle.laws_sales.specs.Borne.{borneBook, borneResult, borneUser}
 use Rattle.laws_sales.specs.Cover.{due}
 use Rattle.laws_sales.specs.Groups.{standings, starts}
 use Rattle.laws_sales.specs.Parts.{part}
 use Rattle.laws_sales.specs.Reduced.{ownSales, ownCuts}
-use Rattle.laws_sales.specs.Sales.{less}
+use Rattle.laws_sales.specs.Sales.{less, salesOf}
 
 -- a user with something owed is due, and owes its target
 pub owed-due : (limits : Limits) (b : Book) (u : User) {n : ℕ} → n ≡ owed limits b u → 0 < n → (due limits b u ≡ true) × (n ≡ target limits b u)
@@ -58,17 +61,33 @@ module _ {limits : Limits} {o b : Book} {ns ps ts : List ℕ} {es : List Bool} (
   abbrev after : Book
   after = reducedBy b (getD (b .users) place nobody) (target limits b (getD (b .users) place nobody)) .book
 
+  -- the opening book, the book, the user, its own sales and their cuts, as the risk is borne
+  abbrev bo : Book
+  bo = borneBook o
+
+  abbrev bb : Book
+  bb = borneBook b
+
+  abbrev ub : User
+  ub = borneUser (b .users) (getD (b .users) place nobody)
+
   abbrev cuts : List ℕ
-  cuts = ownCuts b (getD (b .users) place nobody) (target limits b (getD (b .users) place nobody))
+  cuts = ownCuts (borneBook b) (borneUser (b .users) (getD (b .users) place nobody)) (target limits b (getD (b .users) place nobody))
 
   abbrev buyers : List ℕ
-  buyers = map (λ s. placeOf (b .users) (s .terms .buyer)) (ownSales b (getD (b .users) place nobody))
+  buyers = map (λ s. placeOf (borneBook b .users) (s .terms .buyer)) (ownSales (borneBook b) (borneUser (b .users) (getD (b .users) place nobody)))
 
   abbrev codes : List ℕ
-  codes = map (λ s. s .terms .area) (ownSales b (getD (b .users) place nobody))
+  codes = map (λ s. s .terms .area) (ownSales (borneBook b) (borneUser (b .users) (getD (b .users) place nobody)))
 
   pub now-stays : Stays o b
   now-stays = stays o b first (h .lowered) (h .same)
+
+  pub now-alike : Alike (borneBook o) (borneBook b)
+  now-alike = alike-borne now-stays (framed (h .borne))
+
+  real : Ran b (reducedBy b user asked)
+  real = reducedBy-law b user asked (h .sound)
 
   -- ---- the book
 
@@ -86,13 +105,20 @@ module _ {limits : Limits} {o b : Book} {ns ps ts : List ℕ} {es : List Bool} (
   unfolding reducedBy withTrades
   after-same =
       let ms = after .trades in
-      ap (λ (x : Book). withTrades x ms) (h .same) ∙ retraded-again o (b .trades) ms first (framed (h .lowered)) trades-valid (framed (law limits b (h .sound) place k .lowered))
+      ap (λ (x : Book). withTrades x ms) (h .same) ∙ retraded-again o (b .trades) ms first (framed (h .lowered)) trades-valid (framed (real .lowered))
 
   after-lowered : Pairwise Lowered (o .trades) (after .trades)
-  after-lowered = lowered-trans (h .lowered) (law limits b (h .sound) place k .lowered)
+  after-lowered = lowered-trans (h .lowered) (real .lowered)
+
+  after-borne : Pairwise Lowered (bo .trades) (borneBook after .trades)
+  unfolding borneResult
+  after-borne = lowered-trans (h .borne) (law limits b (h .sound) place k .lowered)
 
   after-stays : Stays o after
   after-stays = stays o after first after-lowered after-same
+
+  after-alike : Alike (borneBook o) (borneBook after)
+  after-alike = alike-borne after-stays (framed after-borne)
 
   -- ---- what stands
 
@@ -101,66 +127,78 @@ module _ {limits : Limits} {o b : Book} {ns ps ts : List ℕ} {es : List Bool} (
 
   -- the user's part has what stands after the cuts, and the others have not changed
   module _ {ms cs : List ℕ} (long : length ms ≡ 256) (few : length (b .users) ≤ 64) (c : cs ≡ cuts)
-      (own : part (starts o place) (starts o (suc place)) ms ≡ less cs (part (starts o place) (starts o (suc place)) ns)) (only : Around (starts o place) (starts o (suc place)) ns ms) where
-    standing-own : part (starts o place) (starts o (suc place)) ms ≡ standings (after .trades) (user .party .id)
+      (own : part (starts (borneBook o) place) (starts (borneBook o) (suc place)) ms ≡ less cs (part (starts (borneBook o) place) (starts (borneBook o) (suc place)) ns)) (only : Around (starts (borneBook o) place) (starts (borneBook o) (suc place)) ns ms) where
+    standing-own : part (starts (borneBook o) place) (starts (borneBook o) (suc place)) ms ≡ standings (borneBook after .trades) (user .party .id)
+    unfolding borneResult borneUser
     standing-own =
-        own ∙ ap₂ less c (h .standing .each place k) ∙ sym (standing-cut cuts (ownSales b user))
+        own ∙ ap₂ less c (h .standing .each place (omega (arith, members-borne b)) ∙ ap (λ (q : Party). standings (bb .trades) (q .id)) (party-borne b place)) ∙ sym (standing-cut cuts (ownSales bb ub))
         ∙ ap (map (λ (t : Trade). t .standing)) (sym (law limits b (h .sound) place k .own))
 
     -- another user's
-    standing-other : (i : ℕ) → i < length (b .users) → (i ≡ place → ⊥) → part (starts o i) (starts o (suc i)) ms ≡ part (starts o i) (starts o (suc i)) ns
+    standing-other : (i : ℕ) → i < length (b .users) → (i ≡ place → ⊥) → part (starts (borneBook o) i) (starts (borneBook o) (suc i)) ms ≡ part (starts (borneBook o) i) (starts (borneBook o) (suc i)) ns
     standing-other i l n =
         let many = users-many now-stays in
+        let all = members-borne o in
         by-order i place
-        (λ m. part-before only (starts o i) (starts o (suc i)) (starts-rise o i (suc i) (omega arith) (omega arith)) (starts-rise o (suc i) place (omega arith) (omega arith)))
-        (λ m. part-behind only (starts o i) (starts o (suc i)) (starts-rise o (suc place) i (later m) (omega arith)))
+        (λ m. part-before only (starts (borneBook o) i) (starts (borneBook o) (suc i)) (starts-rise bo i (suc i) (omega arith) (omega arith)) (starts-rise bo (suc i) place (omega arith) (omega arith)))
+        (λ m. part-behind only (starts (borneBook o) i) (starts (borneBook o) (suc i)) (starts-rise bo (suc place) i (later m) (omega arith)))
       where
         later : place ≤ i → suc place ≤ i
         later m = by-order place i (λ x. omega arith) (λ x. absurd (n (omega arith)))
 
-    standing-after : StandingIn o after ms
+    standing-after : StandingIn (borneBook o) (borneBook after) ms
+    unfolding borneResult borneUser
     standing-after =
         record {
           each = λ i l.
-              let m : i < length (b .users) = omega (arith, same-members) in
-              let party : memberAt after i .party .id ≡ memberAt b i .party .id = ap (λ (p : Party). p .id) (member-stays limits b (h .sound) place k i) in
-              here-or-apart (λ (j : ℕ). part (starts o j) (starts o (suc j)) ms ≡ standings (after .trades) (memberAt b j .party .id)) place i standing-own
-              (λ n. standing-other i m n ∙ h .standing .each i m
+              let m : i < length (b .users) = omega (arith, same-members, members-borne after) in
+              let party : memberAt (borneBook after) i .party .id ≡ memberAt b i .party .id = ap (λ (p : Party). p .id) (party-borne after i ∙ member-stays limits b (h .sound) place k i) in
+              here-or-apart (λ (j : ℕ). part (starts (borneBook o) j) (starts (borneBook o) (suc j)) ms ≡ standings (borneBook after .trades) (memberAt b j .party .id)) place i standing-own
+              (λ n. standing-other i m n ∙ h .standing .each i (omega (arith, members-borne b)) ∙ ap (λ (q : Party). standings (bb .trades) (q .id)) (party-borne b i)
               ∙ ap (map (λ (t : Trade). t .standing)) (sym (law limits b (h .sound) place k .other (memberAt b i .party .id) (apart limits b (h .sound) place k i m n))))
-              ∙ ap (standings (after .trades)) (sym party);
+              ∙ ap (standings (borneBook after .trades)) (sym party);
         }
 
     -- ---- who is due
 
-    module _ (is-due : due limits b user ≡ true) {sums qs ss areaCodes bs : List ℕ} (w : TwelveOf (o .users) (o .trades) sums) (q : SalesIn o ss areaCodes bs)
-        (moved : qs ≡ movedAll place (part (starts o place) (starts o (suc place)) bs) (part (starts o place) (starts o (suc place)) areaCodes) cs ps) where
+    module _ (is-due : due limits b user ≡ true) {sums qs ss areaCodes bs : List ℕ} (w : TwelveOf (borneBook o .users) (borneBook o .trades) sums) (q : SalesIn (borneBook o) ss areaCodes bs)
+        (moved : qs ≡ movedAll place (part (starts (borneBook o) place) (starts (borneBook o) (suc place)) bs) (part (starts (borneBook o) place) (starts (borneBook o) (suc place)) areaCodes) cs ps) where
       moved-room : length qs ≡ 192
-      moved-room = ap length moved ∙ moved-length place (part (starts o place) (starts o (suc place)) bs) (part (starts o place) (starts o (suc place)) areaCodes) cs ps ∙ h .rooms .positions
+      moved-room = ap length moved ∙ moved-length place (part (starts (borneBook o) place) (starts (borneBook o) (suc place)) bs) (part (starts (borneBook o) place) (starts (borneBook o) (suc place)) areaCodes) cs ps ∙ h .rooms .positions
 
-      positions-after : PositionsOf (after .users) qs
+      -- the buyers and the areas of the user's own sales
+      buyers-are : part (starts (borneBook o) place) (starts (borneBook o) (suc place)) bs ≡ buyers
+      unfolding borneUser
+      buyers-are = own-buyers now-alike q place (omega (arith, members-borne b)) ∙ ap (λ (x : Party). map (λ s. placeOf (bb .users) (s .terms .buyer)) (salesOf (bb .trades) (x .id))) (party-borne b place)
+
+      codes-are : part (starts (borneBook o) place) (starts (borneBook o) (suc place)) areaCodes ≡ codes
+      unfolding borneUser
+      codes-are = own-areas now-alike q place (omega (arith, members-borne b)) ∙ ap (λ (x : Party). map (λ s. s .terms .area) (salesOf (bb .trades) (x .id))) (party-borne b place)
+
+      positions-after : PositionsOf (borneBook after .users) qs
       positions-after =
-          let e : movedAll place (part (starts o place) (starts o (suc place)) bs) (part (starts o place) (starts o (suc place)) areaCodes) cs ps
+          let e : movedAll place (part (starts (borneBook o) place) (starts (borneBook o) (suc place)) bs) (part (starts (borneBook o) place) (starts (borneBook o) (suc place)) areaCodes) cs ps
           ≡ movedAll place buyers codes cuts ps
-          = ap₂ (λ (xs ys : List ℕ). movedAll place xs ys cs ps) (own-buyers now-stays q place k) (own-areas now-stays q place k) ∙ ap (λ (xs : List ℕ). movedAll place buyers codes xs ps) c in
-          subst (λ (xs : List ℕ). PositionsOf (after .users) xs) (sym (moved ∙ e)) (all-moved b (h .sound) place k asked ps (omega (arith, h .rooms .positions)) (h .positions))
+          = ap₂ (λ (xs ys : List ℕ). movedAll place xs ys cs ps) buyers-are codes-are ∙ ap (λ (xs : List ℕ). movedAll place buyers codes xs ps) c in
+          subst (λ (xs : List ℕ). PositionsOf (borneBook after .users) xs) (sym (moved ∙ e)) (all-moved b (h .sound) place k asked ps (omega (arith, h .rooms .positions)) (h .positions))
 
       -- what a user that is called in owes, from the arrays
       abbrev now : ℕ → ℕ
       now j = targetAt limits (o .header .prices) (o .users) sums qs j
 
       now-is : (j : ℕ) → j < length (b .users) → targetAt limits (o .header .prices) (o .users) sums qs j ≡ owedCalled limits after (memberAt after j)
-      now-is j l = target-is after-stays w positions-after j (omega (arith, same-members)) limits
+      now-is j l = target-is after-stays after-alike w positions-after j (omega (arith, same-members)) limits
 
       module _ {mid : List ℕ} {least : ℕ} {left : Bool}
-          (look : LookedAgain (λ j. targetAt limits (o .header .prices) (o .users) sums qs j) es (part (starts o place) (starts o (suc place)) bs) cs ts mid least)
-          (is-left : left ≡ any (λ n. ltb 0 n) (part (starts o place) (starts o (suc place)) ms)) where
+          (look : LookedAgain (λ j. targetAt limits (o .header .prices) (o .users) sums qs j) es (part (starts (borneBook o) place) (starts (borneBook o) (suc place)) bs) cs ts mid least)
+          (is-left : left ≡ any (λ n. ltb 0 n) (part (starts (borneBook o) place) (starts (borneBook o) (suc place)) ms)) where
         left-is : left ≡ hasEligible after (memberAt after place)
         left-is = is-left ∙ ap (any (λ n. ltb 0 n)) standing-own ∙ sym (eligible-own limits b (h .sound) place k)
 
         target-other : (j : ℕ) → j < length (b .users) → (j ≡ place → ⊥) → getD mid j 0 ≡ owed limits after (memberAt after j)
         target-other j l n =
             look .each j (omega arith)
-            ∙ ap₂ (λ (xs ys : List ℕ). cond (touched j xs ys && getD es j false) (now j) (getD ts j 0)) (own-buyers now-stays q place k) c
+            ∙ ap₂ (λ (xs ys : List ℕ). cond (touched j xs ys && getD es j false) (now j) (getD ts j 0)) buyers-are c
             ∙ ap₂ (λ (x : Bool) (m : ℕ). cond (touched j buyers cuts && x) m (getD ts j 0)) (h .owed .open-at j l) (now-is j l)
             ∙ ap (λ (m : ℕ). cond (touched j buyers cuts && hasEligible b (memberAt b j)) (owedCalled limits after (memberAt after j)) m) (h .owed .target-at j l)
             ∙ sym (asked-other limits b (h .sound) place k j l n)
@@ -182,8 +220,9 @@ module _ {limits : Limits} {o b : Book} {ns ps ts : List ℕ} {es : List Bool} (
         unfolding reduced
         turn-going =
             record {
-              sound = law limits b (h .sound) place k .sound;
+              sound = real .sound;
               lowered = after-lowered;
+              borne = after-borne;
               same = after-same;
               standing = standing-after;
               positions = positions-after;

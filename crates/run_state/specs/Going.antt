@@ -1,4 +1,4 @@
--- A run that has come from the opening book to a book: what its arrays hold of the two. Assumes nothing.
+-- A run that has come from the opening book to a book: what its arrays hold of the two, as their risk is borne. Assumes nothing.
 use mathlib.Core.Bool.{Bool, true, false, cond}
 use mathlib.Core.List.{List, map}
 use mathlib.Core.Path.{_≡_}
@@ -12,6 +12,7 @@ use Rattle.rules.specs.Levels.{Limits, holding}
 use Rattle.rules.specs.Reduction.{hasEligible, target, withTrades}
 use Rattle.run_state.specs.Asked.{memberAt}
 use Rattle.risk_user.specs.UserAt.{PositionsOf}
+use Rattle.laws_sales.specs.Borne.{borneBook}
 use Rattle.laws_sales.specs.Cover.{due, shortFrom}
 use Rattle.laws_sales.specs.Groups.{starts, standings}
 use Rattle.laws_sales.specs.Parts.{part}
@@ -50,12 +51,13 @@ pub record Rooms (ns ps ts : List ℕ) (es : List Bool) : Type 0 where
   pub targets : length ts ≡ 64
   pub eligible : length es ≡ 64
 
--- a run of the book o has come to b
+-- a run of the book o has come to b; own sales, what stands of them and positions are those of the books as their risk is borne
 pub record Going (limits : Limits) (o b : Book) (ns ps ts : List ℕ) (es : List Bool) : Type 0 where
   pub sound : Sound b
   pub lowered : Pairwise Lowered (o .trades) (b .trades)
+  pub borne : Pairwise Lowered (borneBook o .trades) (borneBook b .trades)
   pub same : b ≡ withTrades o (b .trades)
-  pub standing : StandingIn o b ns
-  pub positions : PositionsOf (b .users) ps
+  pub standing : StandingIn (borneBook o) (borneBook b) ns
+  pub positions : PositionsOf (borneBook b .users) ps
   pub owed : OwedOf limits b ts es
   pub rooms : Rooms ns ps ts es

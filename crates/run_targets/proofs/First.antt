@@ -8,24 +8,27 @@ use native.Mathlib.Omega.{arith}
 use lib.Dec.{T, ltb}
 use lib.ListN.{length, getD, set, length-set}
 use Rattle.risk_holdings.specs.Parties.{cutBefore}
-use Rattle.book_format.proofs.Passed.{length-usersOf}
 use Rattle.book_format.specs.Book.{bookOf, usersOf}
+use Rattle.laws_sales.specs.Borne.{borneBook}
+use Rattle.risk_bearers.proofs.Borne.{length-usersIn}
+use Rattle.risk_bearers.specs.Bearers.{tradesIn, usersIn}
+use Rattle.risk_user.proofs.Borne.{members-borne, party-borne}
 use Rattle.rules.specs.Areas.{Prices}
-use Rattle.rules.specs.Book.{Book, User}
+use Rattle.rules.specs.Book.{Book, Party, User}
 use Rattle.rules.specs.Levels.{Limits, Holding, holding, shipper, exceedsMargin, levelFrom, flaggedFrom}
 use Rattle.base.specs.Lists.{any}
 use Rattle.rules.specs.Reduction.{hasEligible, target}
 use Rattle.laws_sales.proofs.Listed.{starts-rise}
 use Rattle.base.proofs.Stores.{set-front}
-use Rattle.run_state.proofs.Reduced.{cond-and}
-use Rattle.run_state.proofs.Stays.{flagged-is, stays-first, target-is}
+use Rattle.run_state.proofs.Reduced.{cond-and, short-rules}
+use Rattle.run_state.proofs.Stays.{alike-first, flagged-is, stays-first, target-is}
 use Rattle.run_state.specs.Asked.{memberAt}
 use Rattle.risk_user.specs.UserAt.{flaggedAt, targetAt}
 use Rattle.run_state.specs.Going.{OwedOf, owed, owedCalled}
 use Rattle.run_targets.specs.Asking.{Opening, owedIf}
-use Rattle.laws_sales.proofs.Cover.{has-eligible-sales, short-from}
+use Rattle.laws_sales.proofs.Cover.{has-eligible-sales}
 use Rattle.laws_sales.specs.Cover.{due, shortFrom}
-use Rattle.laws_sales.specs.Groups.{starts}
+use Rattle.laws_sales.specs.Groups.{standings, starts}
 use Rattle.laws_sales.specs.Parts.{part}
 
 -- ---- T or 0, by cases
@@ -74,33 +77,31 @@ called-in limits f u h cut e t =
 
 module _ {f : Prices} {n : ℕ} {s sums ps ss ns : List ℕ} {flags : List Bool} (p : Opening f n s sums ps ss ns flags) where
   -- the users are n, at most 64
-  pub member-in : {i : ℕ} → i < n → i < length (usersOf s)
-  member-in h = omega (arith, length-usersOf s, p .users-are)
+  pub member-in : {i : ℕ} → i < n → i < length (usersIn s)
+  member-in h = omega (arith, length-usersIn s, p .users-are)
 
-  pub member-few : {i : ℕ} → i < length (usersOf s) → i < 64
-  member-few h = omega (arith, length-usersOf s, p .form .users)
+  pub member-few : {i : ℕ} → i < length (usersIn s) → i < 64
+  member-few h = omega (arith, length-usersIn s, p .form .users)
 
   pub members-end : {i : ℕ} → n ≤ i → length (bookOf s .users) ≤ i
-  unfolding bookOf
-  members-end h = omega (arith, length-usersOf s, p .users-are)
+  members-end h = omega (arith, members-borne (bookOf s), length-usersIn s, p .users-are)
 
-module _ {f : Prices} {n : ℕ} {s sums ps ss ns : List ℕ} {flags : List Bool} (p : Opening f n s sums ps ss ns flags) (i : ℕ) (k : i < length (usersOf s)) where
+module _ {f : Prices} {n : ℕ} {s sums ps ss ns : List ℕ} {flags : List Bool} (p : Opening f n s sums ps ss ns flags) (i : ℕ) (k : i < length (usersIn s)) where
   -- where the user's own sales start and end
-  pub start-is : getD ss i 0 ≡ starts (bookOf s) i
+  pub start-is : getD ss i 0 ≡ starts (borneBook (bookOf s)) i
   start-is = p .starts-at i (omega arith)
 
-  pub end-is : getD ss (i + 1) 0 ≡ starts (bookOf s) (suc i)
+  pub end-is : getD ss (i + 1) 0 ≡ starts (borneBook (bookOf s)) (suc i)
   end-is = rw add-one (p .starts-at (suc i) (omega arith))
 
   pub end-few : getD ss (i + 1) 0 ≤ 256
-  unfolding bookOf
-  end-few = omega (arith, end-is, starts-rise (bookOf s) (suc i) (length (usersOf s)) (omega arith) (omega arith), p .few)
+  end-few = omega (arith, end-is, starts-rise (borneBook (bookOf s)) (suc i) (length (usersIn s)) (omega arith) (omega arith), p .few)
 
   -- an eligible trade
   pub left-is : {left : Bool} → left ≡ any (λ m. ltb 0 m) (part (getD ss i 0) (getD ss (i + 1) 0) ns) → left ≡ hasEligible (bookOf s) (memberAt (bookOf s) i)
-  unfolding bookOf
   left-is e =
-      e ∙ ap₂ (λ (a b : ℕ). any (λ m. ltb 0 m) (part a b ns)) start-is end-is ∙ ap (any (λ m. ltb 0 m)) (p .standing .each i k) ∙ sym (has-eligible-sales (bookOf s) (memberAt (bookOf s) i))
+      e ∙ ap₂ (λ (a b : ℕ). any (λ m. ltb 0 m) (part a b ns)) start-is end-is ∙ ap (any (λ m. ltb 0 m)) (p .standing .each i k)
+      ∙ ap (λ (q : Party). any (λ m. ltb 0 m) (standings (tradesIn s) (q .id))) (party-borne (bookOf s) i) ∙ sym (has-eligible-sales (bookOf s) (memberAt (bookOf s) i))
 
   pub first-is : (limits : Limits) {left : Bool} → left ≡ hasEligible (bookOf s) (memberAt (bookOf s) i)
       → owedIf (flaggedAt limits f (usersOf s) ps i) left (getD flags i false) (targetAt limits f (usersOf s) sums ps i) ≡ owed limits (bookOf s) (memberAt (bookOf s) i)
@@ -108,18 +109,22 @@ module _ {f : Prices} {n : ℕ} {s sums ps ss ns : List ℕ} {flags : List Bool}
   first-is limits {left} e =
       let b = bookOf s in
       let u = memberAt b i in
+      let l : i < length (b .users) = omega (arith, members-borne b) in
       let t = stays-first b (p .sound) in
+      let a = alike-first b (p .sound) in
       let g = b .header .prices in
-      let called = flaggedFrom limits g u (holding b u) || cutBefore (u .party .id) (b .trades) in
+      let cut = cutBefore (u .party .id) (tradesIn s) in
+      let called = flaggedFrom limits g u (holding b u) || cut in
       let flag : flaggedAt limits f (usersOf s) ps i ≡ flaggedFrom limits g u (holding b u)
-      = ap (λ (x : Prices). flaggedAt limits x (usersOf s) ps i) (p .prices-are) ∙ flagged-is t (p .twelve) (p .positions) i k limits in
+      = ap (λ (x : Prices). flaggedAt limits x (usersOf s) ps i) (p .prices-are) ∙ flagged-is t a (p .twelve) (p .positions) i l limits in
       let goal : targetAt limits f (usersOf s) sums ps i ≡ owedCalled limits b u
-      = ap (λ (x : Prices). targetAt limits x (usersOf s) sums ps i) (p .prices-are) ∙ target-is t (p .twelve) (p .positions) i k limits in
+      = ap (λ (x : Prices). targetAt limits x (usersOf s) sums ps i) (p .prices-are) ∙ target-is t a (p .twelve) (p .positions) i l limits in
       ap (λ (x : Bool). cond x (cond (flaggedAt limits f (usersOf s) ps i || getD flags i false) (targetAt limits f (usersOf s) sums ps i) 0) 0) e
-      ∙ ap₂ (λ (x y : Bool). cond (hasEligible b u) (cond (x || y) (targetAt limits f (usersOf s) sums ps i) 0) 0) flag (p .cut .each i k)
+      ∙ ap₂ (λ (x y : Bool). cond (hasEligible b u) (cond (x || y) (targetAt limits f (usersOf s) sums ps i) 0) 0) flag
+      (p .cut .each i k ∙ ap (λ (q : Party). cutBefore (q .id) (tradesIn s)) (party-borne b i))
       ∙ ap (λ (m : ℕ). cond (hasEligible b u) (cond called m 0) 0) goal
-      ∙ called-in limits g u (holding b u) (cutBefore (u .party .id) (b .trades)) (hasEligible b u) (target limits b u)
-      ∙ ap (λ (x : Bool). cond (x && hasEligible b u) (target limits b u) 0) (sym (short-from limits b u))
+      ∙ called-in limits g u (holding b u) cut (hasEligible b u) (target limits b u)
+      ∙ ap (λ (x : Bool). cond (x && hasEligible b u) (target limits b u) 0) (sym (short-rules limits b u))
 
 -- ---- all users
 

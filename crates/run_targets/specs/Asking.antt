@@ -1,18 +1,18 @@
 -- What a run asks of its users before the first reduction and after each. Assumes nothing.
-use mathlib.Core.Bool.{Bool, false, cond, _||_}
+use mathlib.Core.Bool.{Bool, cond, _||_}
 use mathlib.Core.List.{List}
 use mathlib.Core.Path.{_≡_}
 use Prim.Native.Nat.{ℕ, _≤_, _<_}
 use lib.ListN.{length, getD}
-use Rattle.book_parties.specs.Ids.{idAt}
-use Rattle.risk_holdings.specs.Parties.{cutBefore}
-use Rattle.book_format.specs.Book.{bookOf, tradesOf, userCount, usersOf}
+use Rattle.book_format.specs.Book.{bookOf, userCount}
 use Rattle.book_format.specs.Questions.{Formed}
 use Rattle.laws.specs.Sound.{Sound}
 use Rattle.rules.specs.Areas.{Prices}
-use Rattle.rules.specs.Book.{Trade, User}
+use Rattle.laws_sales.specs.Borne.{borneBook}
+use Rattle.risk_bearers.specs.Bearers.{tradesIn, usersIn}
 use Rattle.risk_user.specs.UserAt.{PositionsOf}
 use Rattle.book_sums.specs.Twelve.{TwelveOf}
+use Rattle.cut_parties.specs.Flags.{CutFlags}
 use Rattle.run_state.specs.Going.{StandingIn}
 use Rattle.laws_sales.specs.Groups.{starts}
 
@@ -25,25 +25,20 @@ pub record BuyersIn (s bs : List ℕ) (from to : ℕ) : Type 0 where
 
 -- ---- before the first reduction
 
--- a flag for each user that is party to a trade standing below notified
-pub record CutFlags (us : List User) (ts : List Trade) (flags : List Bool) : Type 0 where
-  pub room : length flags ≡ 64
-  pub each : (p : ℕ) → p < length us → getD flags p false ≡ cutBefore (idAt us p) ts
-
 -- T of a user that is called in, where it has an eligible trade and is flagged or party to a trade standing below notified
 unfoldable pub owedIf : Bool → Bool → Bool → ℕ → ℕ
 owedIf flagged left cut target = cond left (cond (flagged || cut) target 0) 0
 
--- the arrays of an accepted book in bytes: prices, sums and positions, where the own sales of each user start and what stands of them, and flags of trades standing below notified
+-- the arrays of an accepted book in bytes, as its risk is borne: prices, sums and positions, where the own sales of each user start and what stands of them, and flags of trades standing below notified
 pub record Opening (f : Prices) (n : ℕ) (s sums ps ss ns : List ℕ) (flags : List Bool) : Type 0 where
   pub form : Formed s
   pub sound : Sound (bookOf s)
   pub users-are : n ≡ userCount s
   pub prices-are : f ≡ bookOf s .header .prices
-  pub twelve : TwelveOf (usersOf s) (tradesOf s) sums
-  pub positions : PositionsOf (usersOf s) ps
-  pub starts-at : (i : ℕ) → i ≤ length (usersOf s) → getD ss i 0 ≡ starts (bookOf s) i
-  pub few : starts (bookOf s) (length (usersOf s)) ≤ 256
+  pub twelve : TwelveOf (usersIn s) (tradesIn s) sums
+  pub positions : PositionsOf (usersIn s) ps
+  pub starts-at : (i : ℕ) → i ≤ length (usersIn s) → getD ss i 0 ≡ starts (borneBook (bookOf s)) i
+  pub few : starts (borneBook (bookOf s)) (length (usersIn s)) ≤ 256
   pub standing-room : length ns ≡ 256
-  pub standing : StandingIn (bookOf s) (bookOf s) ns
-  pub cut : CutFlags (usersOf s) (tradesOf s) flags
+  pub standing : StandingIn (borneBook (bookOf s)) (borneBook (bookOf s)) ns
+  pub cut : CutFlags (usersIn s) (tradesIn s) flags

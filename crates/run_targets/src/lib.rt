@@ -1,16 +1,13 @@
 // Who owes a guarantee in a run, and how much: the targets before the first reduction, and after each those of the users that it touched.
 use risk_user::Day;
-ghost use mathlib.Core.Bool.{false, cond, _&&_, _||_};
+ghost use mathlib.Core.Bool.{false, cond};
 ghost use mathlib.Core.Path.{_≡_};
-ghost use Prim.Native.Nat.{_+_, _*_, _≤_, _<_, min};
-ghost use lib.Dec.{eqb, ltb};
-ghost use lib.ListN.{getD, length, replicate, set};
-ghost use Rattle.risk_holdings.specs.Parties.{cutBefore};
-ghost use Rattle.book_format.specs.Book.{bookOf, tradeCount, tradesOf, userCount, usersOf};
-ghost use Rattle.book_format.specs.Places.{TradeIn, UserIn};
-ghost use Rattle.rules.specs.Book.{noTrade};
+ghost use Prim.Native.Nat.{_≤_, min};
+ghost use lib.Dec.{ltb};
+ghost use lib.ListN.{getD, length, set};
+ghost use Rattle.book_format.specs.Book.{bookOf, usersOf};
+ghost use Rattle.book_format.specs.Places.{UserIn};
 ghost use Rattle.base.specs.Lists.{any};
-ghost use Rattle.book_parties.specs.Ids.{BookIn, idAt};
 ghost use Rattle.run_state.specs.Asked.{LookedAgain};
 ghost use Rattle.book_sums.specs.Twelve.{Low};
 ghost use Rattle.risk_user.specs.UserAt.{flaggedAt, targetAt, DayOf};
@@ -18,7 +15,7 @@ ghost use Rattle.run_state.specs.Going.{OwedOf};
 ghost use Rattle.laws_sales.specs.Parts.{part};
 ghost use Rattle.units.specs.Prices.{asPrices};
 ghost use Rattle.units.specs.Limits.{asLimits};
-ghost use Rattle.run_targets.specs.Asking.{BuyersIn, CutFlags, Opening, owedIf};
+ghost use Rattle.run_targets.specs.Asking.{BuyersIn, Opening, owedIf};
 
 // ---- before the first reduction
 
@@ -42,68 +39,6 @@ fn index(b: u8) -> usize
     ensures { λ r. ⌜ r ≡ b ⌝ }
 {
     b as usize
-}
-
-// Fills in a flag for each user that is party to a trade standing below notified, of a book of n users and m trades.
-pub fn fill_cut(
-    book: &[u8],
-    n: usize,
-    m: usize,
-    sellers: &[u8; 256],
-    parties: &[u8; 256],
-    cut: &mut [bool; 64],
-)
-    requires { ⌜ BookIn (now book) (now sellers) (now parties) × (n ≡ userCount (now book)) × (m ≡ tradeCount (now book)) ⌝ }
-    requires { ⌜ now cut ≡ replicate 64 false ⌝ }
-    ensures { λ _. ⌜ CutFlags (usersOf (now (book .entry))) (tradesOf (now (book .entry))) (now (cut .exit)) ⌝ }
-{
-    let at = book_format::trades_offset(book, n);
-    let mut i = 0;
-    while i < m {
-        let t = book_format::trade_at(book, at, i);
-        let below = t.standing < t.notified;
-        let seller = index(sellers[i]);
-        cut[seller] = cut[seller] | below;
-        let buyer = index(parties[i]);
-        cut[buyer] = cut[buyer] | below;
-        i += 1;
-    }
-}
-
-// Is the user at a place one of the parties of the trade i, at their places, and does the trade stand below notified?
-fn is_cut(book: &[u8], at: usize, i: usize, seller: u8, buyer: u8, place: usize) -> bool
-    requires { ⌜ TradeIn (now book) at i ⌝ }
-    ensures { λ r. ⌜ r ≡ (eqb seller place || eqb buyer place) && ltb (getD (tradesOf (now (book .entry))) i noTrade .standing) (getD (tradesOf (now (book .entry))) i noTrade .terms .notified) ⌝ }
-{
-    let party = (index(seller) == place) | (index(buyer) == place);
-    if !party {
-        return false;
-    }
-    let t = book_format::trade_at(book, at, i);
-    t.standing < t.notified
-}
-
-// Is the user at a place party to a trade standing below notified? The same of one user alone.
-pub fn cut_at(
-    book: &[u8],
-    n: usize,
-    m: usize,
-    sellers: &[u8; 256],
-    parties: &[u8; 256],
-    place: usize,
-) -> bool
-    requires { ⌜ BookIn (now book) (now sellers) (now parties) × (n ≡ userCount (now book)) × (m ≡ tradeCount (now book)) × (place < n) ⌝ }
-    ensures { λ r. ⌜ r ≡ cutBefore (idAt (usersOf (now (book .entry))) place) (tradesOf (now (book .entry))) ⌝ }
-{
-    let at = book_format::trades_offset(book, n);
-    let mut i = 0;
-    while i < m {
-        if is_cut(book, at, i, sellers[i], parties[i], place) {
-            return true;
-        }
-        i += 1;
-    }
-    false
 }
 
 // T where the user at a place is due, else 0. `left`: it has an eligible trade; `cut`: it is party to a trade standing below notified.

@@ -14,6 +14,7 @@ use Rattle.book_format.proofs.Passed.{length-usersOf}
 use Rattle.book_format.specs.Book.{bookOf, userCount}
 use Rattle.base.proofs.Linear.{by-order}
 use Rattle.laws.specs.Sound.{Sound}
+use Rattle.laws.specs.Trades.{Lowered, Pairwise}
 use Rattle.rules.specs.Book.{Book}
 use Rattle.rules.specs.Calls.{Answer, nextReduced, ofRun, reduced}
 use Rattle.rules.specs.Levels.{Limits}
@@ -21,6 +22,7 @@ use Rattle.run_state.proofs.Left.{Left, left-end, left-more, left-start, left-t
 use Rattle.base.proofs.Stores.{set-front}
 use Rattle.run_state.proofs.Stays.{stays, users-many}
 use Rattle.run_state.specs.Asked.{memberAt}
+use Rattle.laws_sales.specs.Borne.{borneBook}
 use Rattle.run_state.specs.Going.{Going, StandingIn}
 use Rattle.run_state.specs.Running.{NextFrom, wholeRun}
 use Rattle.run_turns.specs.Turns.{CutIn, NoneCut, Ongoing, Ran, Turned}
@@ -146,6 +148,7 @@ module _ {limits : Limits} {s : List ℕ} {n : ℕ} (many : n ≡ userCount s) (
           sound = subst Sound b (p .going .sound);
           lowered = rw b at (p .going .lowered);
           same = rw b at (p .going .same);
-          standing = subst (λ (x : Book). StandingIn (bookOf s) x ns) b (p .going .standing);
+          borne = subst (λ (x : Book). Pairwise Lowered (borneBook (bookOf s) .trades) (borneBook x .trades)) b (p .going .borne);
+          standing = subst (λ (x : Book). StandingIn (borneBook (bookOf s)) (borneBook x) ns) b (p .going .standing);
           room = p .going .rooms .standing;
         }

@@ -29,6 +29,7 @@ use Rattle.run_reduction.specs.Reductions.{Reached, RunOf, shortIn}
 use Rattle.cut_tiers.specs.Tiers.{cutsOf}
 use Rattle.run_turns.specs.Turns.{CutIn, Turned}
 use Rattle.laws_sales.proofs.Reduced.{sales-reduced}
+use Rattle.laws_sales.specs.Borne.{borneBook, borneResult, borneUser}
 use Rattle.laws_sales.specs.Cover.{due}
 use Rattle.laws_sales.specs.Groups.{starts}
 use Rattle.laws_sales.specs.Parts.{part}
@@ -41,6 +42,7 @@ reached-now h =
     record {
       sound = h .sound;
       lowered = h .lowered;
+      borne = h .borne;
       same = h .same;
       standing = h .standing;
       positions = h .positions;
@@ -74,6 +76,13 @@ module _ {limits : Limits} {f : Prices} {s sums ss areaCodes bs : List ℕ} (q :
     abbrev user : User
     user = getD (b .users) place nobody
 
+    -- the book and the user as the risk is borne
+    abbrev bb : Book
+    bb = borneBook b
+
+    abbrev ub : User
+    ub = borneUser (b .users) (getD (b .users) place nobody)
+
     abbrev asked : ℕ
     asked = target limits b (getD (b .users) place nobody)
 
@@ -81,8 +90,8 @@ module _ {limits : Limits} {f : Prices} {s sums ss areaCodes bs : List ℕ} (q :
     is-due = owed-due limits b user (h .owed .target-at place (member-in q inside now)) owes .0
 
     -- the cuts for what is asked
-    cuts-asked : cutsOf f (shortIn ps place) (getD ts place 0) (part from to ns) (part from to areaCodes) ≡ ownCuts b user asked
-    cuts-asked = cuts-own q inside now (getD ts place 0) ∙ ap (ownCuts b user) (owed-due limits b user (h .owed .target-at place (member-in q inside now)) owes .1)
+    cuts-asked : cutsOf f (shortIn ps place) (getD ts place 0) (part from to ns) (part from to areaCodes) ≡ ownCuts bb ub asked
+    cuts-asked = cuts-own q inside now (getD ts place 0) ∙ ap (ownCuts bb ub) (owed-due limits b user (h .owed .target-at place (member-in q inside now)) owes .1)
 
     module _ (cs cs₀ : List ℕ)
         (filled : cs ≡ sets cs₀ (getD ss place 0) (cutsOf f (shortIn ps place) (getD ts place 0) (part (getD ss place 0) (getD ss (place + 1) 0) ns) (part (getD ss place 0) (getD ss (place + 1) 0) areaCodes)))
@@ -91,7 +100,7 @@ module _ {limits : Limits} {f : Prices} {s sums ss areaCodes bs : List ℕ} (q :
       pub turn-room : length cs ≡ 256
       turn-room = cuts-room q inside now asked cs cs₀ _ filled room cuts-asked
 
-      turn-cuts : part from to cs ≡ ownCuts b user asked
+      turn-cuts : part from to cs ≡ ownCuts bb ub asked
       turn-cuts = cuts-part q inside now asked cs cs₀ _ filled room cuts-asked
 
       pub cut-in : ((k : ℕ) → getD cs₀ k 0 ≡ 0) → CutIn (getD ss place 0) (getD ss (place + 1) 0) cs
@@ -106,9 +115,9 @@ module _ {limits : Limits} {f : Prices} {s sums ss areaCodes bs : List ℕ} (q :
       turn-answer : (tally : Tally)
           → ((xs : List Trade) → map (λ t. t .terms .area) xs ≡ part from to areaCodes → asTally tally ≡ tallyAll f (part from to cs) xs nothing)
           → reduced limits b user .answer ≡ ofCuts asked (asTally tally)
-      unfolding reduced
+      unfolding reduced borneResult borneBook
       turn-answer tally e =
-          let sales = ownSales b user in
+          let sales = ownSales bb ub in
           sales-reduced b user asked (h .sound) .answer
           ∙ ap (ofCuts asked)
           (sym (e sales (sym (own-codes q inside now))
@@ -131,7 +140,8 @@ module _ {limits : Limits} {f : Prices} {s sums ss areaCodes bs : List ℕ} (q :
             subst (λ (g : Prices). Going limits (bookOf s) (reduced limits b user .book) ms qs (set mid place (cond left (targetAt limits g (usersOf s) sums qs place) 0)) (set es place left)) (sym (q .prices-are))
             (turn-going (q .sound) h place (member-in q inside now) (left-room q inside now cs ms taken) (members-few q inside now) (rw (sf, se) at own)
             (rw (sf, se) at lp) (rw (sf, se) at lo) is-due (q .twelve) (q .sales) (rw (sf, se) at moved)
-            (subst (λ (g : Prices). LookedAgain (targetAt limits g (usersOf s) sums qs) es (part (starts (bookOf s) place) (starts (bookOf s) (suc place)) bs) (part (starts (bookOf s) place) (starts (bookOf s) (suc place)) cs) ts mid least) (q .prices-are) (rw (sf, se) at look))
+            (subst (λ (g : Prices). LookedAgain (targetAt limits g (usersOf s) sums qs) es (part (starts (borneBook (bookOf s)) place) (starts (borneBook (bookOf s)) (suc place)) bs) (part (starts (borneBook (bookOf s)) place) (starts (borneBook (bookOf s)) (suc place)) cs) ts mid least)
+            (q .prices-are) (rw (sf, se) at look))
             (rw (sf, se) at is-left))
 
         pub turned : (tally : Tally)

@@ -16,6 +16,7 @@ use Rattle.rules.specs.Levels.{Limits}
 use Rattle.rules.specs.Reduction.{target, withTrades}
 use Rattle.run_state.specs.Asked.{memberAt}
 use Rattle.run_state.specs.Going.{Going, StandingIn}
+use Rattle.laws_sales.specs.Borne.{borneBook, borneUser}
 use Rattle.laws_sales.specs.Reduced.{ownCuts}
 
 -- a run of a book has come to some book
@@ -38,15 +39,16 @@ pub record CutIn (from to : ℕ) (cs : List ℕ) : Type 0 where
 pub record Turned (limits : Limits) (o b : Book) (place : ℕ) (ts₀ ns ps ts : List ℕ) (es : List Bool) (cs : List ℕ) (tally : Tally) (least : ℕ) : Type 0 where
   pub going : Going limits o (reduced limits b (memberAt b place) .book) ns ps ts es
   pub answer : reduced limits b (memberAt b place) .answer ≡ ofCuts (target limits b (memberAt b place)) (asTally tally)
-  pub cuts : cs ≡ ownCuts b (memberAt b place) (target limits b (memberAt b place))
+  pub cuts : cs ≡ ownCuts (borneBook b) (borneUser (b .users) (memberAt b place)) (target limits b (memberAt b place))
   pub least-most : least ≤ place
   pub before : (j : ℕ) → j < least → getD ts j 0 ≡ getD ts₀ j 0
 
--- reductions of the book o, one after another, have given a result of the rules: its answer, and what stands of the own sales of its book
+-- reductions of the book o, one after another, have given a result of the rules: its answer, and what stands of the own sales of its book as its risk is borne
 pub record Ran (end : Result) (o : Book) (ns : List ℕ) (r : Totals) : Type 0 where
   pub answer : totals r ≡ end .answer
   pub sound : Sound (end .book)
   pub lowered : Pairwise Lowered (o .trades) (end .book .trades)
   pub same : end .book ≡ withTrades o (end .book .trades)
-  pub standing : StandingIn o (end .book) ns
+  pub borne : Pairwise Lowered (borneBook o .trades) (borneBook (end .book) .trades)
+  pub standing : StandingIn (borneBook o) (borneBook (end .book)) ns
   pub room : length ns ≡ 256

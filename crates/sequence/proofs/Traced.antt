@@ -1,6 +1,6 @@
 -- What a log notes that was started empty and written by requests: the cuts that led from the book that it held when it was last without an entry to the one that it holds. Every request keeps it
 -- so. Assumes nothing.
-use mathlib.Core.Bool.{Bool, true, false, cond}
+use mathlib.Core.Bool.{cond}
 use mathlib.Core.List.{List, [], _∷_, _++_}
 use mathlib.Core.Option.{Option, none, some}
 use mathlib.Core.Path.{_≡_, _∙_, ap, refl, subst, sym}
@@ -9,9 +9,10 @@ use native.Mathlib.Omega.{arith}
 use lib.Dec.{T, eqb, eqb·suc-zero, leb, leb→le, ltb, ltb→lt}
 use lib.ListN.{length}
 use Rattle.base.proofs.Tests.{and-l, and-r}
+use Rattle.book_format.proofs.Offsets.{header-range, length-by, size-most}
 use Rattle.book_format.proofs.Passed.{length-tradesOf, passed}
 use Rattle.book_format.proofs.Written.{bookOf-bytesOf, length-bytesOf, written-number}
-use Rattle.book_format.specs.Book.{bookOf, bytesOf, headerSize, lengthBy, tradeCount, tradesOf, userSize}
+use Rattle.book_format.specs.Book.{bookOf, bytesOf, tradeCount, tradesOf}
 use Rattle.fields.specs.Layout.{Every}
 use Rattle.laws.proofs.Refusals.{append-yes, first-yes}
 use Rattle.laws.specs.Sound.{Sound}
@@ -25,7 +26,6 @@ use Rattle.log_format.specs.Log.{entriesOf, entryCount, heldOf, logBytes}
 use Rattle.log_format.specs.Noted.{Entered, beforeLast, callEntered, emptying, hasEntry, hasRoom, lastEntry, lastly, room, runWithin, withdrawalEntered}
 use Rattle.log_format.specs.Withdrawal.{withdrawn}
 use Rattle.requests.specs.Request.{call, postings, withdrawal, Act, Event, Lines, Setting, aboutLines, aboutSetting, actLogged, emptiedOn, enteredOn, limitsOn, linesGiven, refusedOn}
-use Rattle.rules.specs.Areas.{sellingIn}
 use Rattle.rules.specs.Book.{Book, Header, Trade, find}
 use Rattle.rules.specs.Calls.{posting, morningCall, afternoonCall, reduction, run, Call, about, effect}
 use Rattle.rules.specs.Levels.{Limits}
@@ -38,17 +38,20 @@ use Rattle.sequence.specs.Logs.{since, sinceLog}
 -- ---- a log that can be read back
 
 module _ (b : Book) (s : Sound b) where
-  -- the longest book of a known version
+  -- the longest book: 64 users of 68 bytes
   book-size : length (bytesOf b) ≤ 9512
-  unfolding lengthBy headerSize userSize countsValid
+  unfolding countsValid
   book-size =
       let users : T (leb (length (b .users)) 64) = search (and-l, and-r) in
       let trades : T (leb (length (b .trades)) 256) = search (and-l, and-r) in
-      omega (arith, length-bytesOf b, leb→le (length (b .users)) 64 users, leb→le (length (b .trades)) 256 trades, header-size (sellingIn (b .header .version)))
-    where
-      header-size : (c : Bool) → cond {A = ℕ} c 40 32 ≤ 40
-      header-size true = omega arith
-      header-size false = omega arith
+      let version = b .header .version in
+      omega (
+        arith,
+        length-bytesOf b ∙ length-by version (length (b .users)) (length (b .trades)),
+        header-range version,
+        size-most version (length (b .users)) 64 (leb→le (length (b .users)) 64 users),
+        leb→le (length (b .trades)) 256 trades,
+      )
 
   trade-count : tradeCount (bytesOf b) ≡ length (b .trades)
   unfolding bookOf

@@ -204,7 +204,7 @@ fn print_users(b: Book)
     let mut i = 0;
     while i < n {
         let user = users[i];
-        print_user(user);
+        print_user(user.user);
         i += 1;
     }
 }

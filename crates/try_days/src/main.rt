@@ -1,6 +1,6 @@
-// Days: the books of the files `vectors`, `books` and `versions` are run, and for each a line `day` and its place are printed, and then its
-// day, as the program `day` prints it. data/index says what each book shows. In a file a book stands behind its place and its length, two
-// bytes each.
+// Days: the books of the files `vectors`, `books`, `versions` and `groups` are run, and for each a line `day` and its place are printed,
+// and then its day, as the program `day` prints it. data/index says what each book shows. In a file a book stands behind its place and its
+// length, two bytes each.
 
 use libc::STDOUT_FILENO;
 
@@ -45,4 +45,5 @@ fn main() {
     print_file(b"vectors");
     print_file(b"books");
     print_file(b"versions");
+    print_file(b"groups");
 }

@@ -6,6 +6,7 @@
 #![forbid(unsafe_code)]
 
 mod calls;
+mod groups;
 mod hard;
 mod logs;
 mod measure;
@@ -32,7 +33,10 @@ fn main() -> ExitCode {
         calls::print_table(&subject, &options);
         logs::print_table(&subject, &options);
     }
-    for version in &options.versions {
+    for subject in subjects::books_for_groups(&options) {
+        groups::print_table(&subject, &options);
+    }
+    for version in options.versions.iter().filter(|version| **version < 3) {
         if options.has_book("wide") {
             let wide = subjects::wide(*version);
             calls::print_beyond(&wide, &options);

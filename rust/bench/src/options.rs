@@ -11,8 +11,8 @@ const USAGE: &str = "usage: daybook-bench [--quick] [OPTION VALUE]...
   --quick                some seconds in all: fewer samples, smaller hard books
   --books NAMES          of small, usual, largest, wide, one-seller, many-sellers,
                          chain, widest; commas between them; all if not said
-  --versions NUMBERS     versions of the books, of 1 and 2; commas between them;
-                         both if not said
+  --versions NUMBERS     versions of the books, of 1, 2 and 3; commas between them;
+                         all if not said; 3 is measured beside 2
   --samples N            samples of each call and side
   --batch N              calls in a sample
   --hard-samples N       runs of each hard book and side
@@ -78,7 +78,7 @@ impl Options {
     fn set(&mut self, option: &str, value: &str) -> Result<(), String> {
         match option {
             "--books" => self.books = list(value, name)?,
-            "--versions" => self.versions = list(value, |word| number(word, 1..=2))?,
+            "--versions" => self.versions = list(value, |word| number(word, 1..=3))?,
             "--samples" => self.samples = number(value, OFTEN)?,
             "--batch" => self.batch = number(value, OFTEN)?,
             "--hard-samples" => self.hard_samples = number(value, OFTEN)?,

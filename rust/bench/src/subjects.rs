@@ -1,6 +1,6 @@
 //! The books that calls are measured on.
 
-use books::versions::{in_version_2, VERSIONS};
+use books::versions::in_version_2;
 use books::written::{asked_for, book, covered, sale, shipper};
 use books::{Generator, Random};
 use reference::book::Book;
@@ -23,16 +23,31 @@ pub struct Subject {
     pub reductions: u64,
 }
 
-/// Small, usual and largest book of each version, as chosen.
+/// Small, usual and largest book of versions 1 and 2, as chosen.
 pub fn usual_books(options: &Options) -> Vec<Subject> {
-    let sizes = [("small", 8, 20), ("usual", 30, 90), ("largest", 64, 256)];
-    let chosen = |version: u16| {
-        let sizes = sizes.into_iter();
-        let sizes = sizes.filter(|(name, _, _)| options.has_book(name));
-        let sizes = sizes.filter(move |_| options.versions.contains(&version));
-        sizes.map(move |size| usual_book(options.seed, version, size))
-    };
-    VERSIONS.into_iter().flat_map(chosen).collect()
+    let versions = [1, 2].into_iter();
+    let versions = versions.filter(|version| options.versions.contains(version));
+    versions
+        .flat_map(|version| books(options, version))
+        .collect()
+}
+
+/// Those of version 2 which are made ones of version 3 with groups, if version 3 is
+/// chosen.
+pub fn books_for_groups(options: &Options) -> Vec<Subject> {
+    match options.versions.contains(&3) {
+        true => books(options, 2),
+        false => Vec::new(),
+    }
+}
+
+/// Small, usual and largest book of a version, as chosen.
+fn books(options: &Options, version: u16) -> Vec<Subject> {
+    let sizes = [("small", 8, 20), ("usual", 30, 90), ("largest", 64, 256)].into_iter();
+    let sizes = sizes.filter(|(name, _, _)| options.has_book(name));
+    sizes
+        .map(|size| usual_book(options.seed, version, size))
+        .collect()
 }
 
 /// The first book of this size, from a seed on, on which every call is accepted

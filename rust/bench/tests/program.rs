@@ -27,6 +27,9 @@ fn every_book_is_measured() {
         "usual book, version 2",
         "largest book, version 2",
         "wide book, version 2",
+        "small book, versions 2 and 3",
+        "usual book, versions 2 and 3",
+        "largest book, versions 2 and 3",
         "runs of hard books, version 1",
         "runs of hard books, version 2",
         "cancellation, tries: 100",
@@ -49,7 +52,7 @@ fn wrong_words_are_refused() {
         &["--books", "none"],
         &["--samples", "0"],
         &["--hard-mwh", "100,100001"],
-        &["--versions", "3"],
+        &["--versions", "4"],
         &["--slow", "1"],
     ] {
         let output = bench(arguments);

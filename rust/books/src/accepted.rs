@@ -8,7 +8,9 @@ use reference::reduction::{reduce, sales, tier_worth, tiers};
 use reference::run::next_reduction;
 use reference::store::Limits;
 use reference::units::{Area, Cents, Mwh, Price, Prices};
+use reference::version::{has_managers, has_selling_tariffs};
 
+use crate::groups::draw_managers;
 use crate::random::Random;
 use crate::versions::{draw_charges, draw_selling_tariffs, turn_entries, VERSIONS};
 
@@ -56,7 +58,7 @@ pub fn miscounted(random: &mut Random) -> Book {
     }
 }
 
-/// A book of this size, of either version.
+/// A book of this size, of any version.
 fn general(random: &mut Random, users: usize, trades: usize) -> Book {
     let version = random.pick(&VERSIONS);
     sized(random, version, users, trades)
@@ -101,7 +103,7 @@ fn drawn(random: &mut Random, version: u16, users: usize, trades: usize) -> Book
     let physical = physical_scale(random);
     for id in ids(random, users) {
         let mut user = user(random, id, physical);
-        if version == 2 {
+        if has_selling_tariffs(version) {
             turn_entries(random, &mut user);
         }
         book.users.push(user);
@@ -113,8 +115,16 @@ fn drawn(random: &mut Random, version: u16, users: usize, trades: usize) -> Book
             book.trades.push(trade);
         }
     }
+    draw_groups(random, &mut book);
     finish(random, &mut book);
     book
+}
+
+/// Managers, where the version has them.
+fn draw_groups(random: &mut Random, book: &mut Book) {
+    if has_managers(book.version) {
+        draw_managers(random, book);
+    }
 }
 
 /// Positions as defined, some of them 0, then charges where a credit is due and
@@ -155,7 +165,7 @@ pub fn set_positions(book: &mut Book) {
     }
 }
 
-/// A header of either version.
+/// A header of any version.
 pub(crate) fn header(random: &mut Random) -> Book {
     let version = random.pick(&VERSIONS);
     header_of(random, version)
@@ -170,7 +180,7 @@ pub(crate) fn header_of(random: &mut Random, version: u16) -> Book {
         users: Vec::new(),
         trades: Vec::new(),
     };
-    if version == 2 {
+    if has_selling_tariffs(version) {
         draw_selling_tariffs(random, &mut book);
     }
     book
@@ -539,6 +549,7 @@ pub fn extreme(random: &mut Random) -> Book {
             ..Trade::default()
         });
     }
+    draw_groups(random, &mut book);
     set_positions(&mut book);
     let drawn = random.between(-MONEY_LIMIT, MONEY_LIMIT);
     book.users[0].charges = Cents(random.pick(&[0, drawn, MONEY_LIMIT, -MONEY_LIMIT]));
@@ -564,6 +575,9 @@ pub fn midday(random: &mut Random) -> Book {
     for _ in 0..trades {
         let trade = trade(random, &book, energy, 3);
         book.trades.push(trade);
+    }
+    if random.one_in(2) {
+        draw_groups(random, &mut book);
     }
     finish(random, &mut book);
     if ends_within(&Limits::TODAY, &book, MOST_REDUCTIONS) {

@@ -1,4 +1,4 @@
-//! The outside vectors of `vectors/asks/`: calls on books of either version, with
+//! The outside vectors of `vectors/asks/`: calls on books of every version, with
 //! stores and logs. `vectors/README.md` has the format.
 
 use std::fs;
@@ -11,13 +11,14 @@ use crate::sha256::{hex, sha256};
 use crate::vectors::{bytes_of, folder};
 
 /// Lines of `asks/calls.txt`.
-pub const CALLS: usize = 2_060;
+pub const CALLS: usize = 4_239;
 
 /// Those of them with a log, starts of one among them.
-pub const CALLS_WITH_LOG: usize = 331;
+pub const CALLS_WITH_LOG: usize = 549;
 
 /// Replays every call against an implementation, and says how many there were,
-/// with a log or without, and how many with one. The book and the log that a line leaves are lent to the next one.
+/// with a log or without, and how many with one. The book and the log that a line
+/// leaves are lent to the next one.
 pub fn replay(implementation: Implementation) -> (usize, usize) {
     let text = fs::read_to_string(folder().join("asks/calls.txt")).expect("calls.txt");
     let (mut left, mut replayed, mut logged) = (Lent::default(), 0, 0);
@@ -55,6 +56,8 @@ impl Line {
         let book = match words.value("book") {
             Some("=") => left.book.clone(),
             Some(name) => file(name),
+            // A write is lent no book.
+            None if name == "write" => Vec::new(),
             None => words.part("morning"),
         };
         let log = words.value("log").and_then(|log| logged(log, &book, left));
@@ -78,7 +81,7 @@ impl Line {
             } if *pick => afternoon,
             _ => &book,
         };
-        if *call != Call::Start {
+        if !matches!(call, Call::Start | Call::Write { .. }) {
             text.push_str(&format!(" book={}", sha256(told)));
         }
         if let Some(log) = &log {
@@ -185,6 +188,11 @@ fn call(name: &str, words: &Words<'_>) -> Call {
         "run" => Call::Run,
         "withdraw" => Call::Withdrawal,
         "start_log" => Call::Start,
+        "read" => Call::Read,
+        "write" => Call::Write {
+            image: Box::new(words.part("image").try_into().expect("an image")),
+            length: words.number("out"),
+        },
         call => panic!("no such call: {call}"),
     }
 }
@@ -211,6 +219,8 @@ fn keyed(call: &Call, found: &Answer) -> String {
         Call::Show { .. } | Call::ShowPicked { .. } => {
             text.push_str(&format!(" part={}", hex(&found.part)));
         }
+        Call::Read => text.push_str(&format!(" fields={}", sha256(&found.part))),
+        Call::Write { .. } => text.push_str(&format!(" out={}", sha256(&found.part))),
         _ => {}
     }
     for (name, field) in names.iter().zip(&found.fields) {

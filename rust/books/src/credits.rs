@@ -1,4 +1,4 @@
-//! Random books of version 2 in which the credit for long positions decides:
+//! Random books of versions 2 and 3 in which the credit for long positions decides:
 //! levels at the floor and next to it, targets of a few cents.
 
 use reference::book::{Book, User};
@@ -28,7 +28,8 @@ pub fn credited(random: &mut Random) -> Book {
 }
 
 fn drawn(random: &mut Random) -> Book {
-    let mut book = header_of(random, 2);
+    let version = random.pick(&[2, 3]);
+    let mut book = header_of(random, version);
     if random.one_in(2) {
         reprice(&mut book, EXAMPLE_PRICES);
     }

@@ -1,27 +1,30 @@
 //! Damaged books: one field of an accepted book made invalid.
 
-use reference::book::{length, Header, TRADE_LENGTH, USER_LENGTH};
-use reference::version::{header_length, FIRST_HEADER_LENGTH};
+use reference::book::{length, user_length, Book, Header, TRADE_LENGTH, USER_LENGTH};
+use reference::questions::counts_and_length;
+use reference::version::{has_managers, has_selling_tariffs, header_length, FIRST_HEADER_LENGTH};
 
 use crate::accepted::miscounted;
+use crate::groups::BadManager;
 use crate::random::Random;
+use crate::versions::VERSIONS;
 
 #[derive(Clone, Copy, Debug, PartialEq, Eq)]
 pub enum Damage {
     Cut,
     Mark,
     Version,
-    /// The header of version 2 in the length of version 1, or the other way round.
+    /// The version of another book in the length of this one.
     OtherVersion,
     NoUsers,
     UserCount,
     TradeCount,
     Longer,
     Shorter,
-    /// Version 2 cut to 32 to 39 bytes.
+    /// Version 2 or 3 cut to 32 to 39 bytes.
     CutHeader,
     Date,
-    /// One of P, Q, L, X, I, and in version 2 of S, U.
+    /// One of P, Q, L, X, I, and from version 2 on of S, U.
     Price(usize),
     IdZero,
     IdNotRising,
@@ -31,6 +34,8 @@ pub enum Damage {
     Charges,
     Assigned,
     Blocked,
+    /// A manager id of version 3.
+    Manager(BadManager),
     Seller,
     Buyer,
     SameParties,
@@ -47,7 +52,7 @@ pub enum Damage {
 }
 
 impl Damage {
-    pub const ALL: [Damage; 45] = [
+    pub const ALL: [Damage; 50] = [
         Damage::Cut,
         Damage::Mark,
         Damage::Version,
@@ -78,6 +83,11 @@ impl Damage {
         Damage::Charges,
         Damage::Assigned,
         Damage::Blocked,
+        Damage::Manager(BadManager::Nobody),
+        Damage::Manager(BadManager::Own),
+        Damage::Manager(BadManager::House),
+        Damage::Manager(BadManager::OfHouse),
+        Damage::Manager(BadManager::Managed),
         Damage::Seller,
         Damage::Buyer,
         Damage::SameParties,
@@ -115,7 +125,8 @@ impl Damage {
             | Damage::Physical(_)
             | Damage::Charges
             | Damage::Assigned
-            | Damage::Blocked => 5,
+            | Damage::Blocked
+            | Damage::Manager(_) => 5,
             Damage::Seller
             | Damage::Buyer
             | Damage::SameParties
@@ -137,6 +148,9 @@ impl Damage {
         let (users, trades) = counts;
         if self.number() <= 4 {
             return self.apply_to_header(random, bytes);
+        }
+        if let Damage::Manager(bad) = self {
+            return apply_to_manager(random, bytes, bad);
         }
         let version = version_of(bytes);
         let user = length(version, random.below(users), 0);
@@ -161,7 +175,7 @@ impl Damage {
             Damage::Longer => bytes.extend_from_slice(&[0]),
             Damage::Shorter if bytes.len() > FIRST_HEADER_LENGTH => bytes.truncate(bytes.len() - 1),
             _ if bytes.len() < FIRST_HEADER_LENGTH => return false,
-            Damage::CutHeader if version_of(bytes) == 2 => {
+            Damage::CutHeader if has_selling_tariffs(version_of(bytes)) => {
                 bytes.truncate(FIRST_HEADER_LENGTH + random.below(8));
             }
             Damage::Price(5 | 6) if header_length(version_of(bytes)) < 40 || bytes.len() < 40 => {
@@ -169,11 +183,13 @@ impl Damage {
             }
             Damage::Mark => change_byte(random, &mut bytes[..3]),
             Damage::Version => {
-                let version: u16 = random.pick(&[0, 3, 4, 255, 256, 257, 258, 512, u16::MAX]);
+                let version: u16 = random.pick(&[0, 4, 5, 255, 256, 257, 258, 259, 512, u16::MAX]);
                 put(bytes, 3, &version.to_le_bytes());
             }
             Damage::OtherVersion => {
-                let other: u16 = if version_of(bytes) == 1 { 2 } else { 1 };
+                let own = version_of(bytes);
+                let others: Vec<u16> = VERSIONS.into_iter().filter(|other| *other != own).collect();
+                let other = random.pick(&others);
                 put(bytes, 3, &other.to_le_bytes());
             }
             Damage::NoUsers => bytes[5] = 0,
@@ -262,6 +278,23 @@ impl Damage {
     }
 }
 
+/// Gives a user of a book of version 3 a manager who is refused.
+fn apply_to_manager(random: &mut Random, bytes: &mut [u8], bad: BadManager) -> bool {
+    if bytes.len() < FIRST_HEADER_LENGTH {
+        return false;
+    }
+    let header = Header::from_bytes(bytes);
+    if !has_managers(header.version) || !counts_and_length(&header, bytes.len()) {
+        return false;
+    }
+    let drawn = bad.drawn(random, &Book::from_bytes(&header, bytes));
+    if let Some((user, area, id)) = drawn {
+        let record = length(header.version, user, 0);
+        put(bytes, record + USER_LENGTH + 4 * area, &id.to_le_bytes());
+    }
+    drawn.is_some()
+}
+
 /// Gives a user the id of another user before.
 fn repeat_id(random: &mut Random, bytes: &mut [u8], version: u16, users: usize) -> bool {
     let (one, other) = (random.below(users), random.below(users));
@@ -331,7 +364,7 @@ fn u64_at(bytes: &[u8], at: usize) -> u64 {
 pub fn raw(random: &mut Random, accepted: &[u8]) -> Vec<u8> {
     let length = random.pick(&[
         0, 1, 3, 31, 32, 33, 39, 40, 41, 87, 88, 89, 96, 108, 164, 600, 8736, 8737, 8744, 8745,
-        9385,
+        9385, 9511, 9512, 9513,
     ]);
     match random.below(12) {
         0 => Vec::new(),
@@ -361,15 +394,16 @@ fn huge_counts(random: &mut Random, accepted: &[u8]) -> Vec<u8> {
     bytes
 }
 
-/// Five users more and fourteen trades fewer, or the other way round, have the
-/// same length.
+/// Five users more and fourteen trades fewer, in version 3 seventeen, or the other
+/// way round, have the same length.
 fn shifted_counts(accepted: &[u8]) -> Vec<u8> {
     let mut bytes = accepted.to_vec();
     let (users, trades) = counts(&bytes);
-    let (users, trades) = if trades >= 14 && users + 5 <= 64 {
-        (users + 5, trades - 14)
+    let fewer = 5 * user_length(version_of(&bytes)) / TRADE_LENGTH;
+    let (users, trades) = if trades >= fewer && users + 5 <= 64 {
+        (users + 5, trades - fewer)
     } else if users > 5 {
-        (users - 5, trades + 14)
+        (users - 5, trades + fewer)
     } else {
         (users, trades)
     };

@@ -1,6 +1,6 @@
 //! The generator: books of a kind, arguments and calls for a book.
 
-use reference::book::{length, Book, User, LONGEST, MOST_USERS, USER_LENGTH};
+use reference::book::{length, user_length, Book, User, LONGEST, MOST_USERS, USER_LENGTH};
 use reference::questions::{opening_questions, Opened};
 use reference::run::next_reduction;
 use reference::transfer::Image;
@@ -14,8 +14,10 @@ use crate::calls::Call;
 use crate::cancellations::whole;
 use crate::credits::credited;
 use crate::damage::{counts, raw, version_of, Damage};
+use crate::groups::{grouped, with_members};
 use crate::random::Random;
 use crate::stores::{any_store, date_of};
+use crate::versions::VERSIONS;
 
 #[derive(Clone, Copy, Debug, PartialEq, Eq)]
 pub enum Kind {
@@ -35,8 +37,10 @@ pub enum Kind {
     Shares,
     /// A seller asked for what some of its sales are worth.
     Whole,
-    /// Version 2 with a credit that decides.
+    /// Version 2 or 3 with a credit that decides.
     Credit,
+    /// Version 3, mostly with groups.
+    Group,
     /// Flags around their limit.
     Midday,
     /// A run of up to 3,000 reductions.
@@ -48,7 +52,7 @@ pub enum Kind {
 }
 
 impl Kind {
-    pub const ALL: [Kind; 13] = [
+    pub const ALL: [Kind; 14] = [
         Kind::Small,
         Kind::Usual,
         Kind::AnySize,
@@ -58,6 +62,7 @@ impl Kind {
         Kind::Shares,
         Kind::Whole,
         Kind::Credit,
+        Kind::Group,
         Kind::Midday,
         Kind::Long,
         Kind::Damaged,
@@ -65,7 +70,7 @@ impl Kind {
     ];
 
     /// The kinds that pass questions 1 to 7.
-    pub const ACCEPTED: [Kind; 11] = [
+    pub const ACCEPTED: [Kind; 12] = [
         Kind::Small,
         Kind::Usual,
         Kind::AnySize,
@@ -75,6 +80,7 @@ impl Kind {
         Kind::Shares,
         Kind::Whole,
         Kind::Credit,
+        Kind::Group,
         Kind::Midday,
         Kind::Long,
     ];
@@ -116,18 +122,25 @@ impl Generator {
             Kind::AnySize => any_size(random).to_bytes(),
             Kind::Largest => largest(random).to_bytes(),
             Kind::Extreme => extreme(random).to_bytes(),
-            Kind::Chain => chain(random).to_bytes(),
-            Kind::Shares => shares(random).to_bytes(),
-            Kind::Whole => whole(random).to_bytes(),
-            Kind::Credit => credited(random).to_bytes(),
-            Kind::Midday => midday(random).to_bytes(),
-            Kind::Long => long(random).to_bytes(),
+            Kind::Chain => self.members(chain),
+            Kind::Shares => self.members(shares),
+            Kind::Whole => self.members(whole),
+            Kind::Credit => self.members(credited),
+            Kind::Group => grouped(random).to_bytes(),
+            Kind::Midday => self.members(midday),
+            Kind::Long => self.members(long),
             Kind::Damaged => self.damaged(),
             Kind::Raw => {
                 let accepted = self.few();
                 raw(&mut self.random, &accepted)
             }
         }
+    }
+
+    /// A book so drawn, in version 3 often with groups.
+    fn members(&mut self, draw: fn(&mut Random) -> Book) -> Vec<u8> {
+        let book = draw(&mut self.random);
+        with_members(&mut self.random, book).to_bytes()
     }
 
     /// A book of this kind and version.
@@ -149,7 +162,7 @@ impl Generator {
 
     /// A book of any kind, the large ones less often.
     pub fn any_book(&mut self) -> Vec<u8> {
-        let kind = match self.random.below(28) {
+        let kind = match self.random.below(32) {
             0 => self
                 .random
                 .pick(&[Kind::Largest, Kind::Extreme, Kind::AnySize]),
@@ -162,6 +175,7 @@ impl Generator {
             16..=19 => Kind::Usual,
             20 | 21 => Kind::Whole,
             22 | 23 => Kind::Credit,
+            24..=27 => Kind::Group,
             _ => Kind::Small,
         };
         self.book(kind)
@@ -175,6 +189,7 @@ impl Generator {
             Kind::Usual,
             Kind::Midday,
             Kind::Credit,
+            Kind::Group,
         ]);
         self.book(kind)
     }
@@ -346,14 +361,17 @@ impl Generator {
         let (users, trades) = counts(&bytes);
         let mut image = self.image(bytes, users, trades);
         if self.random.one_in(6) {
-            // The same fields as those of the other version.
-            image[3] = 3 - image[3].clamp(1, 2);
+            // The same fields as those of another version.
+            image[3] = self.random.pick(&VERSIONS).to_le_bytes()[0];
         }
         let right = length(version_of(&image), users, trades);
         if self.random.one_in(3) {
             self.damage_header(&mut image);
         }
-        let (less, more) = ([right - 1, right - 8], [right + 1, right + 8]);
+        let (less, more) = (
+            [right - 1, right - 8, right - 12],
+            [right + 1, right + 8, right + 12],
+        );
         let length = match self.random.below(8) {
             0 => self.random.pick(&[0, 31, 32, 39, 40, LONGEST, LONGEST + 1]),
             1 => self.random.pick(&[less, more].concat()),
@@ -366,8 +384,9 @@ impl Generator {
     }
 
     /// The image of these records, one of them perhaps damaged. Records past
-    /// the counts are not always 0, and neither are S and U of version 1 and the
-    /// zero bytes; the mark may be another one. Writing looks at none of these.
+    /// the counts are not always 0, and neither are S and U of version 1, the
+    /// managers of versions 1 and 2 and the zero bytes; the mark may be another one.
+    /// Writing looks at none of these.
     fn image(&mut self, bytes: Vec<u8>, users: usize, trades: usize) -> Image {
         let mut bytes = bytes;
         if self.random.one_in(2) {
@@ -385,7 +404,17 @@ impl Generator {
             image[tariffs].copy_from_slice(&self.tariffs());
         }
         image[..header.len()].copy_from_slice(header);
-        image[LONGEST_HEADER_LENGTH..][..records.len()].copy_from_slice(records);
+        let managers = self.random.one_in(2);
+        for (place, record) in records.chunks_exact(user_length(version)).enumerate() {
+            let at = length(version::LAST, place, 0);
+            if managers {
+                let any = self.random.word();
+                let first = reference::book::u32_at(records, 0);
+                let id: u32 = self.random.pick(&[0, first, any]);
+                image[at + USER_LENGTH..][..4].copy_from_slice(&id.to_le_bytes());
+            }
+            image[at..][..record.len()].copy_from_slice(record);
+        }
         image[length(version::LAST, MOST_USERS, 0)..][..sales.len()].copy_from_slice(sales);
         if users < MOST_USERS && self.random.one_in(3) {
             image[length(version::LAST, users, 0)] = 7;
@@ -410,7 +439,7 @@ impl Generator {
 
     fn damage_header(&mut self, image: &mut Image) {
         match self.random.below(4) {
-            0 => image[3 + self.random.below(2)] = self.random.pick(&[0, 1, 2, 3, 255]),
+            0 => image[3 + self.random.below(2)] = self.random.pick(&[0, 1, 2, 3, 4, 255]),
             1 => image[5] = self.random.pick(&[0, 65, 255]),
             2 => image[7] = self.random.pick(&[2, 255]),
             _ => image[6] = self.random.byte(),
@@ -425,8 +454,9 @@ fn users_in_place(bytes: &[u8]) -> Vec<User> {
         return Vec::new();
     }
     let (count, _) = counts(bytes);
-    let header = header_length(version_of(bytes)).min(bytes.len());
-    let records = bytes[header..].chunks_exact(USER_LENGTH);
+    let version = version_of(bytes);
+    let header = header_length(version).min(bytes.len());
+    let records = bytes[header..].chunks_exact(user_length(version));
     records.take(count).map(User::from_bytes).collect()
 }
 

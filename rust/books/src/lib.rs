@@ -11,6 +11,7 @@ pub mod cancellations;
 pub mod credits;
 pub mod damage;
 pub mod generator;
+pub mod groups;
 pub mod hard;
 pub mod lists;
 pub mod logs;

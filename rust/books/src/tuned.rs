@@ -1,9 +1,65 @@
 //! The answers of the tuned implementation to the calls that take a store, without
-//! a log.
+//! a log. It knows versions 1 and 2 of the book.
 
+use reference::book::{length, user_length, MOST_USERS};
+use reference::transfer::Image;
+use reference::version::{FIRST_HEADER_LENGTH, LAST};
 use tuned::requests;
 
 use crate::calls::{Answer, Call};
+use crate::damage::version_of;
+
+/// The last version that the tuned implementation knows.
+const LAST_TUNED: u16 = 2;
+
+/// Whether the bytes that a call questions are no book of version 3, which the tuned
+/// implementation does not know.
+pub fn knows(book: &[u8], call: &Call) -> bool {
+    let bytes = match call {
+        Call::ShowPicked {
+            afternoon,
+            pick: true,
+            ..
+        } => afternoon,
+        Call::Write { image, .. } => &image[..],
+        _ => book,
+    };
+    bytes.len() < FIRST_HEADER_LENGTH || !(LAST_TUNED + 1..=LAST).contains(&version_of(bytes))
+}
+
+/// The image of the tuned implementation, without managers: each field where a book
+/// of version 2 has it.
+pub fn narrowed(image: &Image) -> tuned::Image {
+    let mut narrow = [0; tuned::IMAGE_LENGTH];
+    for (from, to, length) in parts() {
+        narrow[to..to + length].copy_from_slice(&image[from..from + length]);
+    }
+    narrow
+}
+
+/// The image of any version with the fields of one of the tuned implementation;
+/// managers are 0.
+pub fn widened(narrow: &tuned::Image) -> Image {
+    let mut image = [0; reference::book::LONGEST];
+    for (from, to, length) in parts() {
+        image[from..from + length].copy_from_slice(&narrow[to..to + length]);
+    }
+    image
+}
+
+/// Where the header, each user and the trades stand in either image, and how long
+/// they are.
+fn parts() -> impl Iterator<Item = (usize, usize, usize)> {
+    let at = |users: usize| (length(LAST, users, 0), length(LAST_TUNED, users, 0));
+    let header = (0, 0, length(LAST_TUNED, 0, 0));
+    let users = (0..MOST_USERS).map(move |place| {
+        let (from, to) = at(place);
+        (from, to, user_length(LAST_TUNED))
+    });
+    let (from, to) = at(MOST_USERS);
+    let trades = (from, to, tuned::IMAGE_LENGTH - to);
+    std::iter::once(header).chain(users).chain([trades])
+}
 
 /// The answer to a call with this store, or none; the book is changed as the
 /// call says. None for a call that takes no store, and for a withdrawal.

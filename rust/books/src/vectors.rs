@@ -4,22 +4,24 @@
 //! `vectors/asks/`.
 
 use std::fs;
+use std::ops::Range;
 use std::path::PathBuf;
 
+use reference::book::{length, user_length, MOST_USERS, USER_LENGTH};
 use reference::transfer::Image;
-use reference::version::{FIRST_HEADER_LENGTH, LONGEST_HEADER_LENGTH};
+use reference::version::{self, FIRST_HEADER_LENGTH, LONGEST_HEADER_LENGTH};
 
 use crate::calls::{Answer, Call, Implementation};
 use crate::sha256::{hex, sha256};
 
 /// Lines of `calls.txt` that are calls.
-pub const CALLS: usize = 2_167;
+pub const CALLS: usize = 2_162;
 
 /// Lines of `version-1/calls.txt` and of `version-2/calls.txt`.
 pub const REQUESTS: usize = 3_566 + 2_773;
 
 /// Books with a printed day, of all four folders.
-pub const DAYS: usize = 155 + 21;
+pub const DAYS: usize = 154 + 32;
 
 /// A book and what `day` must print for it.
 pub struct Day {
@@ -114,23 +116,36 @@ fn parsed(words: &[&str], left: &[u8]) -> (Vec<u8>, Call) {
     (book, call)
 }
 
-/// An image of document 01, whose header has 32 bytes, as one of 40, S and U 0.
+/// Bytes that an image of document 01 has not: S and U, and the managers of each
+/// user, up to the place of the trades.
+fn new_places() -> impl DoubleEndedIterator<Item = Range<usize>> {
+    let tariffs = FIRST_HEADER_LENGTH..LONGEST_HEADER_LENGTH;
+    let managers = (0..MOST_USERS).map(|place| {
+        let record = length(version::LAST, place, 0);
+        record + USER_LENGTH..record + user_length(version::LAST)
+    });
+    std::iter::once(tariffs).chain(managers.collect::<Vec<Range<usize>>>())
+}
+
+/// An image of document 01, whose header has 32 bytes and whose users have 56, as
+/// one of 40 and 68: what is new is 0.
 fn image(name: &str) -> Image {
     let mut image = file(name);
-    let places = FIRST_HEADER_LENGTH..FIRST_HEADER_LENGTH;
-    image.splice(places, [0; LONGEST_HEADER_LENGTH - FIRST_HEADER_LENGTH]);
+    for places in new_places() {
+        image.splice(places.start..places.start, vec![0; places.len()]);
+    }
     image.try_into().expect("image")
 }
 
-/// The image as one of document 01: without S and U, which are 0.
+/// The image as one of document 01: without what is new, which is 0.
 fn narrowed(image: &[u8]) -> Vec<u8> {
-    let (first, rest) = image.split_at(FIRST_HEADER_LENGTH);
-    let (tariffs, records) = rest.split_at(LONGEST_HEADER_LENGTH - FIRST_HEADER_LENGTH);
-    assert!(
-        tariffs.iter().all(|byte| *byte == 0),
-        "S and U of version 1"
-    );
-    [first, records].concat()
+    let mut image = image.to_vec();
+    for places in new_places().rev() {
+        let new: Vec<u8> = image.drain(places).collect();
+        let zero = new.iter().all(|byte| *byte == 0);
+        assert!(zero, "selling tariffs and managers of version 1");
+    }
+    image
 }
 
 /// The answer and the book afterwards in the words of the file.

@@ -1,5 +1,5 @@
-//! The versions of the book (document 02, ask 3): selling tariffs and credits of
-//! random books, and a book of one version as one of the other.
+//! The versions of the book (document 02, asks 3 and 5): selling tariffs and credits
+//! of random books, and a book of one version as one of another.
 
 use reference::book::{Book, User};
 use reference::credit::credit;
@@ -11,7 +11,7 @@ use crate::random::Random;
 use crate::written::MOST_CENTS;
 
 /// The versions that have books.
-pub const VERSIONS: [u16; 2] = [1, 2];
+pub const VERSIONS: [u16; 3] = [1, 2, 3];
 
 /// S and U of a book whose other prices are drawn: at their ends, at and below
 /// the buying tariffs, and any.
@@ -32,7 +32,7 @@ pub(crate) fn draw_selling_tariffs(random: &mut Random, book: &mut Book) {
     (book.prices.s, book.prices.u) = (s, u);
 }
 
-/// Makes half of the users of a book of version 2 long where they would be short.
+/// Makes half of the users of a book of version 2 or 3 long where they would be short.
 pub(crate) fn turn_entries(random: &mut Random, user: &mut User) {
     if random.one_in(2) {
         user.physical = user.physical.map(|entry| -entry);
@@ -79,10 +79,19 @@ pub fn in_version_2(book: &Book) -> Book {
     book
 }
 
-/// The book as version 1 has it: without S and U.
+/// The book as version 1 has it: without S and U, and without managers.
 pub fn in_version_1(book: &Book) -> Book {
-    let mut book = book.clone();
+    let mut book = without_credit(book);
     book.version = 1;
+    for user in &mut book.users {
+        user.managers = [0; 3];
+    }
+    book
+}
+
+/// The book with S and U 0.
+pub fn without_credit(book: &Book) -> Book {
+    let mut book = book.clone();
     (book.prices.s, book.prices.u) = (Price(0), Price(0));
     book
 }

@@ -4,12 +4,15 @@
 #![forbid(unsafe_code)]
 
 mod credit;
+mod group;
 
 use std::collections::BTreeMap;
 
-use books::versions::in_version_1;
+use books::damage::version_of;
+use books::versions::without_credit;
 use books::{answer, Answer, Call, Generator};
 use reference::book::{Book, User, MOST_TRADES, MOST_USERS};
+use reference::group::position;
 use reference::levels::{
     afternoon_level_of, flag_limit, flagged, morning_level_of, party_to_cut_trade, short_positions,
 };
@@ -54,7 +57,7 @@ fn numbers(name: &str) -> Vec<u32> {
     }
 }
 
-const BRANCHES: [&str; 99] = [
+const BRANCHES: [&str; 104] = [
     "book: one user",
     "book: 64 users, 256 trades",
     "book: no trades",
@@ -66,7 +69,10 @@ const BRANCHES: [&str; 99] = [
     "book: least w in area 2",
     "book: version 1",
     "book: version 2",
+    "book: version 3",
+    "book: 64 users, 256 trades, version 1",
     "book: 64 users, 256 trades, version 2",
+    "book: 64 users, 256 trades, version 3",
     "book: S 0",
     "book: S 1",
     "book: S 99,999",
@@ -91,10 +97,12 @@ const BRANCHES: [&str; 99] = [
     "reduction: the credit lessens the cuts",
     "cancellation: by a seller with a credit",
     "run: version 2, 3 or more reductions",
+    "run: version 3, 3 or more reductions",
     "run: the credit saves a user from a reduction",
     "run: a cut lessens the buyer's credit and makes it short",
     "write: version 1, S or U not 0",
     "write: version 2",
+    "write: version 3",
     "user: clearing house",
     "user: flagged clearing house",
     "user: called in by flag alone",
@@ -166,22 +174,44 @@ fn every_number_and_branch_is_reached() {
         for _ in 0..8 {
             let call = generator.call(&bytes, None);
             let before = questions_1_to_7(&bytes).ok();
+            let third = is_of_version_3(&bytes, &call);
             let answer = answer(&mut bytes, None, None, &call);
             counts.add(&format!("{}: {}", call.name(), answer.number));
+            counts.add_if(third, &in_version_3(call.name(), answer.number));
             counts.add(&format!("number {}", answer.number));
             if let (Call::Write { image, .. }, 0) = (&call, answer.number) {
                 credit::count_write(&mut counts, &image[..]);
+                group::count_write(&mut counts, &image[..]);
             }
             if let (Some(before), 0) = (before, answer.number) {
                 count_call(&mut counts, &before, &call, &answer);
+                group::count_call(&mut counts, &before, &call, &answer);
             }
         }
     }
     print_and_judge(&counts);
 }
 
+/// Whether the call questions bytes that say version 3.
+fn is_of_version_3(book: &[u8], call: &Call) -> bool {
+    let bytes = match call {
+        Call::ShowPicked {
+            afternoon, pick, ..
+        } if *pick => afternoon,
+        Call::Write { image, .. } => &image[..],
+        _ => book,
+    };
+    bytes.len() >= 32 && bytes.starts_with(b"GDB") && version_of(bytes) == 3
+}
+
+/// The name of a number that a call on a book of version 3 got.
+fn in_version_3(name: &str, number: u32) -> String {
+    format!("version 3, {name}: {number}")
+}
+
 fn print_and_judge(counts: &Counts) {
-    let mut required: Vec<String> = BRANCHES.iter().map(|branch| branch.to_string()).collect();
+    let branches = BRANCHES.iter().chain(&group::BRANCHES);
+    let mut required: Vec<String> = branches.map(|branch| branch.to_string()).collect();
     required.extend(
         (0..=15)
             .chain([24, 25])
@@ -193,6 +223,10 @@ fn print_and_judge(counts: &Counts) {
                 .iter()
                 .map(|number| format!("{name}: {number}")),
         );
+        // The mark and the version are as they should be.
+        let numbers = numbers(name).into_iter();
+        let numbers = numbers.filter(|number| ![1, 2].contains(number));
+        required.extend(numbers.map(|number| in_version_3(name, number)));
     }
     for (name, count) in &counts.reached {
         println!("{count:>7} {name}");
@@ -230,6 +264,7 @@ fn count_book(counts: &mut Counts, bytes: &[u8]) {
     counts.add_if(tvb < pvb.min(avb), "book: least w in area 1");
     counts.add_if(avb < pvb.min(tvb), "book: least w in area 2");
     credit::count_version(counts, &book);
+    group::count_book(counts, &book);
     for user in &book.users {
         count_user(counts, &book, user);
     }
@@ -349,7 +384,7 @@ fn count_reduction(counts: &mut Counts, book: &Book, place: usize, answer: &Answ
     let (one, two) = tiers(book, user);
     let at_zero = |place: &usize| {
         let area = usize::from(book.trades[*place].area);
-        user.position[area] == Mwh::ZERO
+        position(book, user, Area::ALL[area]) == Mwh::ZERO
     };
     let zero = !one.is_empty() && two.iter().any(at_zero);
     counts.add_if(
@@ -371,7 +406,7 @@ fn count_reduction(counts: &mut Counts, book: &Book, place: usize, answer: &Answ
     count_tier(counts, &two, rest);
     if credit::has(book, user) {
         counts.add("reduction: by a seller with a credit");
-        let asked_without = target(&Limits::TODAY, &in_version_1(book), user);
+        let asked_without = target(&Limits::TODAY, &without_credit(book), user);
         let worth = tier_worth(&one) + tier_worth(&two);
         counts.add_if(
             asked < asked_without && asked < worth,
@@ -511,7 +546,7 @@ fn count_run(counts: &mut Counts, book: &Book, answer: &Answer) {
     let made_short = |place: &usize| {
         times[*place] > 0 && !short_of_cover(&Limits::TODAY, book, &book.users[*place])
     };
-    if book.version == 2 {
+    if book.version > 1 {
         credit::count_run_with_credit(counts, (book, &after), &times);
     }
     let any = (0..times.len()).any(|place| made_short(&place));

@@ -192,7 +192,7 @@ fn add(sums: &mut Sums, call: &Call, found: &Answer) {
 /// reduction noted the book is byte for byte the one before the first of them."
 #[test]
 fn withdrawing_every_reduction() {
-    let mut generator = Generator::new(71);
+    let mut generator = Generator::new(70);
     let (mut noted, mut longest) = (0, 0);
     let kinds = [Kind::Small, Kind::Usual, Kind::Chain, Kind::Shares];
     for turn in 0..400 {

@@ -6,7 +6,9 @@ use daybook::{GuaranteeCall, Level, Reduction, Refusal, Request, User};
 use crate::arguments::{amount, Arguments};
 use crate::call::{answer, Call};
 use crate::credit::{by_area, credits, has_credit, lines};
-use crate::json::{list, Object};
+use crate::fields::has_managers;
+use crate::groups::{shares, Share};
+use crate::json::{list, Object, MANAGERS};
 use crate::outcome::{Failure, Outcome};
 use crate::reasons::Asked;
 use crate::text;
@@ -21,7 +23,13 @@ pub fn show(arguments: &Arguments) -> Result<Outcome, Failure> {
     let call = Call::new(arguments)?;
     call.each(arguments, |id| {
         let user = call.store.request().show(&call.source.bytes, id)?;
-        Ok((text::user_line(&user), user_object(&user)))
+        let object = user_object(&user);
+        let version = daybook::read(&call.source.bytes)?.version;
+        let object = match has_managers(version) {
+            Some(true) => object.put(MANAGERS, list(user.managers)),
+            _ => object,
+        };
+        Ok((text::user_line(&user), object))
     })
 }
 
@@ -57,10 +65,17 @@ pub fn level(arguments: &Arguments) -> Result<Outcome, Failure> {
         }
         let user = request.show(&call.source.bytes, id)?;
         let credits = credits(&book, &user);
-        let told = format!("{line}\n{}", lines(&credits));
+        let groups = shares(&book, &user);
+        let groups: String = groups.iter().map(|it| share_line(it, id)).collect();
+        let told = format!("{line}\n{groups}{}", lines(&credits));
         let object = object.put("credit_cents", list(by_area(&credits)));
         Ok((told.trim_end().to_string(), object))
     })
+}
+
+/// A group that the levels are of.
+fn share_line(share: &Share, id: u32) -> String {
+    format!("  {}\n", share.short(id))
 }
 
 pub fn warn(arguments: &Arguments) -> Result<Outcome, Failure> {

@@ -7,10 +7,10 @@ use crate::arguments::Arguments;
 use crate::call::Call;
 use crate::draft::{define_position, Mistake, Spot};
 use crate::faults::{faults_of, Fault};
-use crate::fields::{prices, put_price, PRICES};
+use crate::fields::{has_managers, prices, put_price, PRICES};
 use crate::outcome::{Failure, Outcome};
 use crate::refusals;
-use crate::text::{mistake, short, Words};
+use crate::text::{mistake, no_manager, read_manager, short, Words, NONE};
 use crate::words::{code, date, euros, grouped, read_euros, read_whole, AREAS};
 
 pub fn change(arguments: &Arguments) -> Result<Outcome, Failure> {
@@ -83,11 +83,16 @@ fn statement(book: &mut Book, words: &mut Words, lines: &mut Vec<String>) -> Res
         }),
         "user" => {
             let (id, at) = words.fitting::<u32>("the id")?;
+            let version = book.version;
             let Some(user) = book.users.iter_mut().find(|user| user.id == id) else {
                 return Err(mistake(at, format!("{id} is no user of the book")));
             };
-            each(words, "a field", |words, name, spot| {
-                user_field(user, words, (name, spot), lines)
+            each(words, "a field", |words, name, spot| match name {
+                "manager" if has_managers(version) == Some(false) => {
+                    Err(mistake(spot, no_manager(name, version)))
+                }
+                "manager" => manager(user, words, lines),
+                _ => user_field(user, words, (name, spot), lines),
             })
         }
         "trade" => {
@@ -142,7 +147,7 @@ fn user_field(
         "assigned" => &mut user.assigned,
         "blocked" => &mut user.blocked,
         _ => {
-            let known = "a field is `physical`, `charges`, `assigned` or `blocked`";
+            let known = "a field is `physical`, `charges`, `assigned`, `blocked` or `manager`";
             return Err(no_such(spot, name, known));
         }
     };
@@ -161,6 +166,25 @@ fn physical(user: &mut User, words: &mut Words, lines: &mut Vec<String>) -> Resu
         *entry = whole(words, "physical", was)?;
         let about = format!("user {} physical {}", user.id, AREAS[usize::from(area)]);
         lines.push(line(&about, grouped(was), grouped(*entry)));
+        if words.peek().and_then(|it| code(&AREAS, it)).is_none() {
+            return Ok(());
+        }
+    }
+}
+
+/// Managers, an area and an id each, or the word for none.
+fn manager(user: &mut User, words: &mut Words, lines: &mut Vec<String>) -> Result<(), Mistake> {
+    let shown = |id: u32| match id {
+        0 => NONE.to_string(),
+        id => id.to_string(),
+    };
+    loop {
+        let (area, _) = words.code("the area", &AREAS)?;
+        let area = usize::from(area);
+        let was = user.managers[area];
+        (user.managers[area], _) = read_manager(words, area)?;
+        let about = format!("user {} manager {}", user.id, AREAS[area]);
+        lines.push(line(&about, shown(was), shown(user.managers[area])));
         if words.peek().and_then(|it| code(&AREAS, it)).is_none() {
             return Ok(());
         }

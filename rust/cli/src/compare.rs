@@ -168,6 +168,7 @@ fn user_cells(it: &Standing) -> Vec<(String, String)> {
         charges,
         assigned,
         blocked,
+        managers,
         ..
     } = it.user;
     let level = it.state.level.map_or_else(|| "-".to_string(), euros);
@@ -183,6 +184,12 @@ fn user_cells(it: &Standing) -> Vec<(String, String)> {
         let areas = AREAS.iter().zip(amounts);
         cells.extend(areas.map(|(area, mwh)| (format!("{name} {area}"), grouped(mwh))));
     }
+    let manager = |id: u32| match id {
+        0 => "-".to_string(),
+        id => id.to_string(),
+    };
+    let areas = AREAS.iter().zip(managers);
+    cells.extend(areas.map(|(area, id)| (format!("manager {area}"), manager(id))));
     cells
 }
 

@@ -1,10 +1,11 @@
-//! The credit for long positions: what an afternoon level loses in version 2, for
-//! each area where the position is above 0, before the floor. The levels are the
-//! engine's, with the selling tariffs and without them.
+//! The credit for long positions: what an afternoon level loses in versions 2 and 3,
+//! for each area where the position that the user bears is above 0, before the floor.
+//! The levels are the engine's, with the selling tariffs and without them.
 
 use daybook::{Book, Level, Refusal, Request, User};
 
 use crate::fields::has_selling_tariffs;
+use crate::groups::position;
 use crate::text::aligned;
 use crate::words::{euros, grouped, AREAS};
 
@@ -12,8 +13,8 @@ use crate::words::{euros, grouped, AREAS};
 #[derive(Clone, Copy, Debug, PartialEq, Eq)]
 pub struct Credit {
     pub area: usize,
-    /// The long position.
-    pub mwh: u32,
+    /// The long position that the user bears.
+    pub mwh: u64,
     /// The selling tariff's name.
     pub name: &'static str,
     /// The selling tariff, in cents.
@@ -23,7 +24,7 @@ pub struct Credit {
 impl Credit {
     /// What the level loses, in cents.
     pub fn cents(&self) -> u64 {
-        u64::from(self.mwh) * u64::from(self.tariff)
+        self.mwh * u64::from(self.tariff)
     }
 }
 
@@ -39,14 +40,14 @@ pub fn credits(book: &Book, user: &User) -> Vec<Credit> {
     }
     let pvb = ("S", book.prices.pvb_selling_tariff);
     let other = ("U", book.prices.tank_and_store_selling_tariff);
-    let areas = user.position.into_iter().zip([pvb, other, other]);
-    let credit = |(area, (position, (name, tariff))): (usize, (i32, _))| Credit {
+    let areas = [pvb, other, other].into_iter().enumerate();
+    let credit = |(area, (name, tariff))| Credit {
         area,
-        mwh: u32::try_from(position).unwrap_or(0),
+        mwh: u64::try_from(position(book, user.id, area)).unwrap_or(0),
         name,
         tariff,
     };
-    let credits = areas.enumerate().map(credit);
+    let credits = areas.map(credit);
     credits.filter(|credit| credit.mwh > 0).collect()
 }
 

@@ -1,9 +1,12 @@
 //! `daybook explain`: a run in words, reduction by reduction.
 
+use daybook::{Book, Trade};
+
 use crate::arguments::Arguments;
 use crate::calls::reduction_object;
 use crate::credit::{by_area, lines, Credited};
 use crate::form::or_null;
+use crate::groups::{self, area_of, bearer, with_groups};
 use crate::json::{list, Object};
 use crate::outcome::{Failure, Outcome};
 use crate::reasons::Asked;
@@ -58,7 +61,7 @@ pub fn explain(arguments: &Arguments) -> Result<Outcome, Failure> {
 
 fn objects(outcome: &mut Outcome, trace: &Trace) {
     for step in trace.first.iter().chain(&trace.last) {
-        outcome.line(step_object(step));
+        outcome.line(step_object(step, &trace.opening));
     }
     let run = &trace.run;
     let object = Object::new()
@@ -70,11 +73,13 @@ fn objects(outcome: &mut Outcome, trace: &Trace) {
     outcome.line(object.end());
 }
 
-fn step_object(step: &Step) -> String {
+/// A reduction as an object. A book keeps its managers, so that the groups are those of
+/// the opening one.
+fn step_object(step: &Step, opening: &Book) -> String {
     let object = Object::new()
         .put("reduction", step.number)
-        .put("id", step.user.id)
-        .put("level_cents", step.level);
+        .put("id", step.user.id);
+    let object = with_groups(object, opening, &step.user).put("level_cents", step.level);
     let object = match &step.credited {
         Some(Credited { without, credits }) => object
             .put("level_without_credit_cents", without)
@@ -85,7 +90,7 @@ fn step_object(step: &Step) -> String {
         .put("assigned_cents", step.user.assigned)
         .put("blocked_cents", step.user.blocked)
         .put("flagged", step.called_in.is_flagged())
-        .put("party_to_cut", step.called_in.party);
+        .put("party_to_cut", step.called_in.is_party());
     let moves = step.moves.iter().map(|it| {
         Object::new()
             .put("id", it.id)
@@ -105,6 +110,7 @@ fn tier_object(tier: &Tier) -> String {
     let sales = tier.sales.iter().map(|sale| {
         Object::new()
             .put("trade", sale.place + 1)
+            .put("seller", sale.trade.seller)
             .put("buyer", sale.trade.buyer)
             .string("area", &word(&AREAS, sale.trade.area))
             .put("standing_mwh", sale.trade.standing)
@@ -155,13 +161,15 @@ fn words(outcome: &mut Outcome, trace: &Trace, figures: &Figures) {
 }
 
 /// A line for each user that was reduced: how often, and what it lost, both in
-/// the reductions that were taken apart. The MWh are what its sales stand lower
-/// after these than before.
+/// the reductions that were taken apart. The MWh are what its sales, its members' too
+/// where it bears their risk, stand lower after these than before.
 fn reduced(trace: &Trace) -> Vec<Vec<String>> {
     let mut rows = Vec::new();
     for (id, count) in trace.counts.iter().filter(|(_, count)| *count > 0) {
         let trades = trace.opening.trades.iter().zip(&trace.reached.trades);
-        let lost = trades.filter(|(trade, _)| trade.seller == *id);
+        let opening = &trace.opening;
+        let is_its = |trade: &Trade| bearer(opening, trade.seller, area_of(trade)) == *id;
+        let lost = trades.filter(|(trade, _)| is_its(trade));
         let lost: u64 = lost
             .map(|(a, b)| u64::from(a.standing.saturating_sub(b.standing)))
             .sum();
@@ -184,6 +192,7 @@ fn step_words(step: &Step, figures: &Figures, least: u64) -> String {
         grouped(step.number),
         user.id
     );
+    text.push_str(&groups::lines(&step.shares));
     text.push_str(&credit_words(step, figures));
     let (level, assigned) = (euros(step.level), euros(user.assigned));
     let target = euros(step.answer.target);
@@ -196,11 +205,15 @@ fn step_words(step: &Step, figures: &Figures, least: u64) -> String {
         "  level - blocked {blocked} = {lacking} EUR, above {margin} EUR\n"
     ));
     text.push_str(&called_in_words(step, figures, least));
-    for (name, tier) in ["one, where its position is negative", "two, elsewhere"]
-        .iter()
-        .zip(&step.tiers)
-    {
-        text.push_str(&tier_words(name, tier));
+    let sales = step.tiers.iter().flat_map(|tier| &tier.sales);
+    let sellers = sales.map(|sale| sale.trade.seller);
+    let has_others = sellers.into_iter().any(|seller| seller != user.id);
+    let negative = match step.shares.is_empty() {
+        true => "one, where its position is negative",
+        false => "one, where the position that it bears is negative",
+    };
+    for (name, tier) in [negative, "two, elsewhere"].iter().zip(&step.tiers) {
+        text.push_str(&tier_words(name, tier, has_others));
     }
     let (mwh, worth) = (grouped(step.answer.mwh), euros(step.answer.worth));
     let left = match (step.answer.short, step.answer.over) {
@@ -252,13 +265,22 @@ fn called_in_words(step: &Step, figures: &Figures, least: u64) -> String {
              ({mwh} MWh at {price})"
         ));
     }
-    if called_in.party {
-        reasons.push("party to a trade standing below notified".to_string());
+    if called_in.is_party() {
+        let members: Vec<String> = called_in.members.iter().map(u32::to_string).collect();
+        let through = match members.is_empty() {
+            true => String::new(),
+            false => {
+                let ending = if members.len() == 1 { "" } else { "s" };
+                format!(", through its member{ending} {}", members.join(", "))
+            }
+        };
+        reasons.push(format!("party to a trade standing below notified{through}"));
     }
     format!("  called in: {}\n", reasons.join("; "))
 }
 
-fn tier_words(name: &str, tier: &Tier) -> String {
+/// A tier and its sales; with their sellers where members are among them.
+fn tier_words(name: &str, tier: &Tier, has_sellers: bool) -> String {
     if tier.sales.is_empty() {
         return format!("  tier {name}: no sale to cut\n");
     }
@@ -268,15 +290,21 @@ fn tier_words(name: &str, tier: &Tier) -> String {
         _ if tier.asked >= tier.worth => format!("asked for {asked}, worth {worth} EUR: cut whole"),
         _ => format!("asked for A {asked} of V {worth} EUR: shares of standing x A / V"),
     };
-    let rows: Vec<Vec<String>> = tier.sales.iter().map(sale_cells).collect();
+    let cells = |sale: &Sale| sale_cells(sale, has_sellers);
+    let rows: Vec<Vec<String>> = tier.sales.iter().map(cells).collect();
     format!("  tier {name}: {how}\n{}", aligned(&rows))
 }
 
-fn sale_cells(sale: &Sale) -> Vec<String> {
+fn sale_cells(sale: &Sale, has_seller: bool) -> Vec<String> {
     let trade = &sale.trade;
+    let (comma, seller) = match has_seller {
+        true => (",", trade.seller.to_string()),
+        false => ("", String::new()),
+    };
     vec![
         "    trade".to_string(),
-        (sale.place + 1).to_string(),
+        format!("{}{comma}", sale.place + 1),
+        seller,
         "to".to_string(),
         trade.buyer.to_string(),
         word(&AREAS, trade.area),

@@ -7,13 +7,17 @@
 
 use std::fmt::{self, Display, Formatter};
 
-use daybook::{Book, Trade, User, MOST_TRADES, MOST_USERS, TRADE_LENGTH, USER_LENGTH};
+use daybook::{
+    header_length, user_length, Book, Trade, User, MOST_TRADES, MOST_USERS, TRADE_LENGTH,
+};
 
 use crate::fields::{
-    date_fault, fields, has_selling_tariffs, header_length, prices, two, Field, Place, MARK,
-    PRICES, SHORT_HEADER, VERSIONS,
+    date_fault, fields, has_selling_tariffs, prices, two, Field, Place, FIRST_LINES, MARK, PRICES,
+    SHORT_HEADER, VERSIONS,
 };
+use crate::groups::manager_faults;
 use crate::words::{counted, euros, grouped, AREAS};
+use crate::zero_bytes::zero_bytes;
 
 const MOST_MONEY: u64 = 1_000_000_000_000;
 const MOST_ENTRY: u32 = 1_000_000;
@@ -107,10 +111,9 @@ fn mark(bytes: &[u8]) -> Vec<Fault> {
     if !bytes.starts_with(MARK) {
         let start: Vec<String> = bytes.iter().take(3).map(|it| format!("{it:02x}")).collect();
         let start = start.join(" ");
-        let hint = if is_text(bytes) {
-            "; a text starts with the line `daybook 1` or `daybook 2`"
-        } else {
-            ""
+        let hint = match is_text(bytes) {
+            true => format!("; a text starts with the line {FIRST_LINES}"),
+            false => String::new(),
         };
         let reason = format!("starts with [{start}] instead of the mark GDB [47 44 42]{hint}");
         faults.push(header(Field::Mark, reason));
@@ -152,7 +155,7 @@ fn counts_and_length(bytes: &[u8]) -> Vec<Fault> {
     };
     let (users, trades) = (usize::from(users), usize::from(trades));
     let mut faults = counts(users, trades);
-    let length = header_length(version) + USER_LENGTH * users + TRADE_LENGTH * trades;
+    let length = header_length(version) + user_length(version) * users + TRADE_LENGTH * trades;
     if faults.is_empty() && length != bytes.len() {
         let (users, trades) = (counted(users, "user"), counted(trades, "trade"));
         let (has, length) = (counted(bytes.len(), "byte"), counted(length, "byte"));
@@ -245,6 +248,9 @@ fn users(book: &Book) -> Vec<Fault> {
             let blocked = euros(user.blocked);
             let reason = format!("blocked {blocked} EUR exceeds assigned {assigned} EUR");
             fault(Field::Blocked, reason);
+        }
+        for (area, reason) in manager_faults(book, user) {
+            fault(Field::Manager(area), reason);
         }
     }
     faults
@@ -364,37 +370,4 @@ fn dealt(book: &Book, id: u32, area: usize) -> (i128, i128) {
 pub fn defined_position(book: &Book, user: &User, area: usize) -> i128 {
     let (bought, sold) = dealt(book, user.id, area);
     i128::from(user.physical[area]) + bought - sold
-}
-
-/// The bytes of a user and of a trade that have to be 0 and are not.
-fn zero_bytes(bytes: &[u8], book: &Book) -> Vec<Fault> {
-    let header = header_length(book.version);
-    let users = header..header + USER_LENGTH * book.users.len();
-    let trades = bytes.get(users.end..).unwrap_or(&[]);
-    let users = bytes.get(users).unwrap_or(&[]);
-    let mut faults = Vec::new();
-    for (place, (record, user)) in users.chunks(USER_LENGTH).zip(&book.users).enumerate() {
-        let known_by = format!("id {}", user.id);
-        faults.extend(nonzero(record, 5..8, Place::User(place), known_by));
-    }
-    for (place, (record, trade)) in trades.chunks(TRADE_LENGTH).zip(&book.trades).enumerate() {
-        faults.extend(nonzero(record, 11..12, Place::Trade(place), parties(trade)));
-    }
-    faults
-}
-
-fn nonzero(
-    record: &[u8],
-    zero: std::ops::Range<usize>,
-    place: Place,
-    known_by: String,
-) -> Option<Fault> {
-    let at = zero.into_iter().find(|at| record.get(*at) != Some(&0))?;
-    let value = record.get(at)?;
-    Some(Fault {
-        place,
-        field: Field::ZeroBytes,
-        known_by,
-        reason: format!("byte {at} of the record is {value} instead of 0"),
-    })
 }

@@ -2,7 +2,7 @@
 
 use std::fmt::{self, Display, Formatter};
 
-use daybook::{Book, Prices, Trade, User, USER_LENGTH};
+use daybook::{header_length, user_length, Book, Prices, Trade, User, RECORD_LENGTH};
 
 use crate::words::{self, AREAS};
 
@@ -12,27 +12,29 @@ pub const MARK: &[u8] = b"GDB";
 /// Bytes of the shortest header, that of version 1.
 pub const SHORT_HEADER: usize = 32;
 
-/// Bytes of a header with the selling tariffs.
-const LONG_HEADER: usize = 40;
-
 /// The versions that the engine knows.
-pub const VERSIONS: &str = "versions 1 and 2";
+pub const VERSIONS: &str = "versions 1, 2 and 3";
+
+/// How a text of each version starts.
+pub const FIRST_LINES: &str = "`daybook 1`, `daybook 2` or `daybook 3`";
 
 /// Whether a book of a version has the selling tariffs; nothing is said of a
 /// version that the engine does not know.
 pub fn has_selling_tariffs(version: u16) -> Option<bool> {
     match version {
         1 => Some(false),
-        2 => Some(true),
+        2 | 3 => Some(true),
         _ => None,
     }
 }
 
-/// Bytes of the header of a book of a version.
-pub fn header_length(version: u16) -> usize {
-    match has_selling_tariffs(version) {
-        Some(true) => LONG_HEADER,
-        _ => SHORT_HEADER,
+/// Whether a book of a version has managers; nothing is said of a version that the
+/// engine does not know.
+pub fn has_managers(version: u16) -> Option<bool> {
+    match version {
+        1 | 2 => Some(false),
+        3 => Some(true),
+        _ => None,
     }
 }
 
@@ -62,6 +64,7 @@ pub enum Field {
     Charges,
     Assigned,
     Blocked,
+    Manager(usize),
     Seller,
     Buyer,
     Area,
@@ -96,6 +99,7 @@ impl Display for Field {
             Field::Charges => "charges",
             Field::Assigned => "assigned",
             Field::Blocked => "blocked",
+            Field::Manager(area) => return write!(formatter, "manager {}", area_name(*area)),
             Field::Seller => "seller",
             Field::Buyer => "buyer",
             Field::Area => "area",
@@ -149,18 +153,25 @@ pub fn fields(bytes: &[u8]) -> Option<Book> {
     let version = two(bytes, 3)?;
     let users = usize::from(*bytes.get(5)?);
     let records = bytes.get(header_length(version)..)?;
-    let (users, trades) = records.split_at_checked(USER_LENGTH * users)?;
+    let (users, trades) = records.split_at_checked(user_length(version) * users)?;
     let mut book = Book {
         version,
         date: four(bytes, 8)?,
         prices: Prices::default(),
-        users: users.as_chunks().0.iter().map(User::from_bytes).collect(),
+        users: users.chunks_exact(user_length(version)).map(user).collect(),
         trades: trades.as_chunks().0.iter().map(Trade::from_bytes).collect(),
     };
     for place in 0..prices(&book).len() {
         put_price(&mut book, place, four(bytes, 12 + 4 * place)?);
     }
     Some(book)
+}
+
+/// The fields of a user's record of any version.
+fn user(record: &[u8]) -> User {
+    let mut bytes = [0; RECORD_LENGTH];
+    bytes[..record.len()].copy_from_slice(record);
+    User::from_bytes(&bytes)
 }
 
 /// Two bytes at a place as a number.

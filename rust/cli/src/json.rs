@@ -5,6 +5,9 @@ use std::fmt::Display;
 
 use crate::words::{plain_euros, AREAS};
 
+/// The key of a user's managers, by area.
+pub const MANAGERS: &str = "managers";
+
 /// An object on its way.
 #[derive(Clone, Debug)]
 pub struct Object {
@@ -52,23 +55,26 @@ impl Object {
         self
     }
 
-    /// The names and fields of a row: three amounts by area in a column each, cents
-    /// as euros, nothing for null.
+    /// The names and fields of a row: three amounts or managers by area in a column
+    /// each, cents as euros, nothing for null and for no manager.
     pub fn columns(&self) -> Vec<(String, String)> {
         let mut columns = Vec::new();
         for (key, value) in &self.fields {
             let listed = value.strip_prefix('[').and_then(|it| it.strip_suffix(']'));
             let parts: Vec<&str> = listed.map_or_else(Vec::new, |it| it.split(',').collect());
+            let is_manager = key == MANAGERS;
             let (name, is_money) = match key.strip_suffix("_cents") {
                 Some(name) => (name, true),
+                None if is_manager => ("manager", false),
                 None => (key.as_str(), false),
             };
             let shown = |value: &str| match value.parse::<i128>() {
                 Ok(cents) if is_money => plain_euros(cents),
+                Ok(0) if is_manager => String::new(),
                 _ if value == "null" => String::new(),
                 _ => value.to_string(),
             };
-            let by_area = is_money || key.ends_with("_mwh");
+            let by_area = is_money || is_manager || key.ends_with("_mwh");
             match by_area && parts.len() == AREAS.len() {
                 true => {
                     let parts = AREAS.iter().zip(parts);
@@ -128,12 +134,14 @@ mod tests {
             .put("id", 7)
             .put("level_cents", -5)
             .put("position_mwh", list([1, -2, 3]))
+            .put("managers", list([7, 0, 9]))
             .put("afternoon_cents", "null");
         let columns = object.columns();
         let columns: Vec<String> = columns.iter().map(|(a, b)| format!("{a}={b}")).collect();
         assert_eq!(
             columns.join(" "),
-            "id=7 level=-0.05 position_mwh_PVB=1 position_mwh_TVB=-2 position_mwh_AVB=3 afternoon="
+            "id=7 level=-0.05 position_mwh_PVB=1 position_mwh_TVB=-2 position_mwh_AVB=3 \
+             manager_PVB=7 manager_TVB= manager_AVB=9 afternoon="
         );
     }
 }

@@ -1,8 +1,9 @@
 //! What a field may hold, in words, by its name in a text or over a column: the
 //! ranges of the questions, told where a number does not even fit its bytes.
 
-const LIMITS: [(&str, &str); 19] = [
-    ("version", "1 to 2"),
+const LIMITS: [(&str, &str); 20] = [
+    ("version", "1 to 3"),
+    ("manager", "1 to 4,294,967,295"),
     ("seller", "1 to 4,294,967,295"),
     ("buyer", "1 to 4,294,967,295"),
     ("notified", "1 to 100,000 MWh"),
@@ -49,6 +50,9 @@ mod tests {
             ("P", "0.01 to 1,000.00 EUR/MWh"),
             ("L", "0.00 to 1,000.00 EUR/MWh"),
             ("id", "1 to 4,294,967,295"),
+            ("manager PVB", "1 to 4,294,967,295"),
+            ("manager_PVB", "1 to 4,294,967,295"),
+            ("the version", "1 to 3"),
         ] {
             assert_eq!(limits(name), told, "{name}");
         }

@@ -1,9 +1,11 @@
 //! The chains of cuts as pictures (SVG): a line down for each user who sold or
 //! bought what was cut, and an arrow for each cut, from the seller to the buyer,
-//! in the order of the reductions. A long run has several, each of a size that a
+//! in the order of the reductions; a dashed line leads from a manager to the member
+//! whose sale is cut for it. A long run has several, each of a size that a
 //! page or a phone can show, with the users that it needs.
 
-use crate::trace::{Chapter, Trace};
+use crate::chapter::{Chapter, Cut};
+use crate::trace::Trace;
 use crate::words::{grouped, AREAS};
 
 /// Between two users, by how many there are.
@@ -18,6 +20,9 @@ const SIDE: usize = 80;
 const TOP: usize = 64;
 const ARROW: usize = 30;
 const BETWEEN: usize = 12;
+
+/// How far below a cut the line from the manager to the member is.
+const LEAD: usize = 7;
 
 /// The most users of a picture and its greatest height; a chapter that has more is
 /// shown in several pieces.
@@ -58,29 +63,43 @@ pub fn pictures(trace: &Trace, states: &[(u32, &'static str)]) -> Vec<String> {
     parts.iter().enumerate().map(picture).collect()
 }
 
-/// A chapter in pieces of as many buyers as a picture has room for, all cuts of a
-/// buyer in one.
+/// A chapter in pieces of as many users as a picture has room for, its cuts taken
+/// buyer by buyer.
 fn in_pieces(chapter: &Chapter) -> Vec<Chapter> {
     let mut buyers: Vec<u32> = Vec::new();
-    for (buyer, _, _) in &chapter.cuts {
-        if !buyers.contains(buyer) {
-            buyers.push(*buyer);
+    for cut in &chapter.cuts {
+        if !buyers.contains(&cut.buyer) {
+            buyers.push(cut.buyer);
         }
     }
-    let piece = |buyers: &[u32]| {
-        let cuts = chapter.cuts.iter();
+    let by_buyer = buyers
+        .iter()
+        .flat_map(|buyer| (0..chapter.cuts.len()).filter(|it| chapter.cuts[*it].buyer == *buyer));
+    let mut pieces: Vec<Vec<usize>> = vec![Vec::new()];
+    let mut ids = vec![chapter.id];
+    for place in by_buyer {
+        let cut = &chapter.cuts[place];
+        let mut more = ids.clone();
+        more.extend([cut.seller, cut.buyer]);
+        more.sort_unstable();
+        more.dedup();
+        if more.len() > MOST_USERS {
+            pieces.push(Vec::new());
+            more = vec![chapter.id, cut.seller, cut.buyer];
+        }
+        ids = more;
+        if let Some(piece) = pieces.last_mut() {
+            piece.push(place);
+        }
+    }
+    let piece = |mut places: Vec<usize>| {
+        places.sort_unstable();
         Chapter {
-            cuts: cuts
-                .filter(|cut| buyers.contains(&cut.0))
-                .copied()
-                .collect(),
+            cuts: places.iter().map(|place| chapter.cuts[*place]).collect(),
             ..chapter.clone()
         }
     };
-    match buyers.len() < MOST_USERS {
-        true => vec![chapter.clone()],
-        false => buyers.chunks(MOST_USERS - 1).map(piece).collect(),
-    }
+    pieces.into_iter().map(piece).collect()
 }
 
 /// Chapters that stand in one picture, each with how many reductions before it are
@@ -96,9 +115,8 @@ struct Part<'a> {
 
 impl<'a> Part<'a> {
     fn has_room(&self, chapter: &Chapter) -> bool {
-        let new = involved(chapter)
-            .filter(|id| !self.ids.contains(id))
-            .count();
+        let involved = involved(chapter);
+        let new = involved.iter().filter(|id| !self.ids.contains(id)).count();
         let height = self.height + chapter_height(chapter);
         self.ids.len() + new <= MOST_USERS && height <= MOST_HEIGHT
     }
@@ -140,14 +158,14 @@ impl<'a> Part<'a> {
             let (from, number) = (at(chapter.id), number(chapter));
             let mut beside = mark_width(&number) / 2;
             let top = y + ARROW / 2;
-            for (buyer, area, mwh) in &chapter.cuts {
-                rows.push_str(&arrow(
-                    (from, at(*buyer)),
-                    beside,
-                    y + ARROW / 2,
-                    (*area, *mwh),
-                    picture,
-                ));
+            for cut in &chapter.cuts {
+                let (middle, seller) = (y + ARROW / 2, at(cut.seller));
+                if cut.seller == chapter.id {
+                    rows.push_str(&arrow(seller, at(cut.buyer), beside, middle, cut, picture));
+                } else {
+                    rows.push_str(&lead(from, seller, middle));
+                    rows.push_str(&arrow(seller, at(cut.buyer), 0, middle, cut, picture));
+                }
                 // The first arrow leaves from the mark, the others from the line.
                 beside = 0;
                 y += ARROW;
@@ -186,10 +204,17 @@ fn chapter_height(chapter: &Chapter) -> usize {
     ARROW * (chapter.cuts.len() + 1) + BETWEEN
 }
 
-/// The user who was reduced, and those who lost a purchase.
-fn involved(chapter: &Chapter) -> impl Iterator<Item = u32> + '_ {
-    let buyers = chapter.cuts.iter().map(|(buyer, _, _)| *buyer);
-    std::iter::once(chapter.id).chain(buyers)
+/// The user who was reduced, and those who lost a sale or a purchase, each once.
+fn involved(chapter: &Chapter) -> Vec<u32> {
+    let mut ids = vec![chapter.id];
+    for cut in &chapter.cuts {
+        for id in [cut.seller, cut.buyer] {
+            if !ids.contains(&id) {
+                ids.push(id);
+            }
+        }
+    }
+    ids
 }
 
 /// The number of a chapter's reduction, or of the first and the last.
@@ -246,24 +271,28 @@ fn mark(x: usize, y: usize, last: usize, number: &str) -> String {
 }
 
 /// A cut: from the seller's line, or beside it, to the buyer's.
-fn arrow(
-    (from, to): (usize, usize),
-    beside: usize,
-    y: usize,
-    (area, mwh): (usize, u64),
-    picture: usize,
-) -> String {
-    let area = AREAS[area];
+fn arrow(from: usize, to: usize, beside: usize, y: usize, cut: &Cut, picture: usize) -> String {
+    let area = AREAS[cut.area];
     let (start, end) = match from < to {
         true => (from + beside, to - 2),
         false => (from.saturating_sub(beside), to + 2),
     };
     let (middle, above) = (start.midpoint(end), y - 5);
-    let mwh = grouped(mwh);
+    let mwh = grouped(cut.mwh);
     format!(
         "<line class=\"cut {area}\" x1=\"{start}\" y1=\"{y}\" x2=\"{end}\" y2=\"{y}\" \
          marker-end=\"url(#head-{picture}-{area})\"/>\
          <text class=\"mwh\" x=\"{middle}\" y=\"{above}\">{mwh} MWh {area}</text>\n"
+    )
+}
+
+/// From the line of a manager to that of the member whose sale is cut for it, a
+/// little below the cut.
+fn lead(from: usize, to: usize, y: usize) -> String {
+    let below = y + LEAD;
+    format!(
+        "<path class=\"lead\" d=\"M{from} {y}V{below}H{to}V{y}\"/>\
+         <circle class=\"member\" cx=\"{to}\" cy=\"{y}\" r=\"3\"/>\n"
     )
 }
 

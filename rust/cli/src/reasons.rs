@@ -3,10 +3,11 @@
 
 use std::path::Path;
 
-use daybook::{Book, Level, Refusal, Request, Trade, User};
+use daybook::{Book, Level, Refusal, Request, User};
 
 use crate::cancel::worth;
 use crate::files::{is_standard, quoted, shown};
+use crate::groups::{is_eligible, shares};
 use crate::log_faults::{log_fault, LogFault};
 use crate::log_file::LogFile;
 use crate::source::{Source, Store};
@@ -88,8 +89,12 @@ fn of_user(
             let margin = euros(figures.margin);
             let lacking = i128::from(level) - i128::from(user.blocked);
             if lacking > i128::from(figures.margin) {
-                let flag = "it is not flagged, and party to no trade standing below notified";
-                format!("is not called in: {flag}")
+                let groups = in_groups(book, user);
+                let trades = match groups.is_empty() {
+                    true => "party to no trade standing below notified",
+                    false => "no trade standing below notified calls it in",
+                };
+                format!("is not called in: it is not flagged, and {trades}{groups}")
             } else {
                 let lacking = euros(lacking);
                 format!("level {shown} - blocked {blocked} = {lacking} EUR, not above {margin} EUR")
@@ -102,19 +107,33 @@ fn of_user(
             format!("assigned {assigned} EUR covers the level {shown} EUR")
         }
         Refusal::WorthOfTrades => {
-            let is_eligible = |place: &usize| {
-                let trade = &book.trades[*place];
-                trade.seller == user.id && trade.can_be_cut()
-            };
+            let is_eligible = |place: &usize| is_eligible(book, user.id, &book.trades[*place]);
             let places: Vec<usize> = (0..book.trades.len()).filter(is_eligible).collect();
             let worth = euros(worth(book, &places));
             let target = euros(i128::from(level) - i128::from(user.assigned));
             format!("its eligible trades are worth {worth} EUR, below the target {target} EUR")
         }
-        Refusal::EligibleTrade => "has no bilateral sale for d that stands above 0".to_string(),
+        Refusal::EligibleTrade => {
+            let groups = in_groups(book, user);
+            let outside = match groups.is_empty() {
+                true => "",
+                false => " and leaves its group",
+            };
+            format!("has no bilateral sale for d that stands above 0{outside}{groups}")
+        }
         _ => return String::new(),
     };
     format!("user {}, id {}: {reason}", place(book, user.id), user.id)
+}
+
+/// The groups that a user is in, which a reason goes by; nothing of a user in none.
+fn in_groups(book: &Book, user: &User) -> String {
+    let shares = shares(book, user);
+    let told: Vec<String> = shares.iter().map(|it| it.short(user.id)).collect();
+    match told.is_empty() {
+        true => String::new(),
+        false => format!(" ({})", told.join("; ")),
+    }
 }
 
 /// The place of a user, from 1.
@@ -231,11 +250,4 @@ pub fn full(book: &str, log: &LogFile) -> Vec<String> {
             "`daybook log {book} -o {log} --force` starts a new one, which forgets those noted"
         ),
     ]
-}
-
-/// Whether the user is party to a trade standing below notified.
-pub fn is_party_to_cut(book: &Book, id: u32) -> bool {
-    let party = |trade: &&Trade| trade.seller == id || trade.buyer == id;
-    let mut trades = book.trades.iter().filter(party);
-    trades.any(|trade| trade.standing < trade.notified)
 }

@@ -7,6 +7,7 @@ use crate::convert::output;
 use crate::credit::{by_area, credits, has_credit};
 use crate::explain::MOST;
 use crate::fields::{prices, PRICES};
+use crate::groups::{area_of, bearer, has_groups, shares};
 use crate::outcome::{Failure, Outcome};
 use crate::picture::pictures;
 use crate::reasons::Asked;
@@ -116,10 +117,17 @@ impl Day<'_> {
         if pictures.is_empty() {
             return "<h2>Chains of cuts</h2>\n<p>No trade was cut.</p>\n".to_string();
         }
+        let groups = match has_groups(&self.trace.opening) {
+            true => {
+                " A dashed line leads from a manager who was reduced to the member whose sale \
+                 was cut for it."
+            }
+            false => "",
+        };
         format!(
             "<h2>Chains of cuts</h2>\n<p>Down the page in the order of the reductions, whose numbers \
              stand in the dark marks: each arrow is a cut, from the seller who was reduced to the \
-             buyer who lost it. Below a user's name stands its state after the run.</p>\n\
+             buyer who lost it. Below a user's name stands its state after the run.{groups}</p>\n\
              <div class=\"scroll\">{}</div>\n",
             pictures.concat()
         )
@@ -158,7 +166,7 @@ impl Day<'_> {
         let Trace {
             opening, closing, ..
         } = self.trace;
-        let has_credit = has_credit(opening);
+        let (has_credit, has_groups) = (has_credit(opening), has_groups(opening));
         let books = opening.users.iter().zip(&closing.users);
         let states = self.before.iter().zip(&self.after);
         let row = |(users, states): ((&User, &User), (&State, &State))| {
@@ -170,11 +178,18 @@ impl Day<'_> {
                 let before = told(opening, users.0, states.0);
                 changed(before, told(closing, users.1, states.1))
             });
-            user(users, states, credit)
+            let group = has_groups.then(|| {
+                let shares = shares(opening, users.0);
+                let told: Vec<String> = shares.iter().map(|it| it.short(users.0.id)).collect();
+                told.join("; ")
+            });
+            user(users, states, credit, group)
         };
         let rows: String = books.zip(states).map(row).collect();
         let positions = AREAS.map(|area| format!("position {area}"));
-        let mut names = vec!["user", "role", "state", "level"];
+        let mut names = vec!["user", "role"];
+        names.extend(has_groups.then_some("group"));
+        names.extend(["state", "level"]);
         names.extend(has_credit.then_some("credit"));
         names.extend(["assigned", "blocked"]);
         names.extend(positions.iter().map(String::as_str));
@@ -185,33 +200,38 @@ impl Day<'_> {
         let Trace {
             opening, closing, ..
         } = self.trace;
-        let tariffs = tariffs(&opening.prices);
+        let (tariffs, has_groups) = (tariffs(&opening.prices), has_groups(opening));
         let mut rows = String::new();
         for (place, (trade, later)) in opening.trades.iter().zip(&closing.trades).enumerate() {
             let cut = u64::from(trade.standing.saturating_sub(later.standing));
             if cut == 0 {
                 continue;
             }
-            let area = usize::from(trade.area).min(2);
-            let cells = [
+            let area = area_of(trade);
+            let mut cells = vec![
                 (place + 1).to_string(),
                 trade.seller.to_string(),
                 trade.buyer.to_string(),
+            ];
+            if has_groups {
+                cells.push(bearer(opening, trade.seller, area).to_string());
+            }
+            cells.extend([
                 AREAS[area].to_string(),
                 grouped(trade.notified),
                 grouped(trade.standing),
                 grouped(later.standing),
                 grouped(cut),
                 euros(cut * tariffs[area]),
-            ];
+            ]);
             rows.push_str(&row(&cells));
         }
         if rows.is_empty() {
             return String::new();
         }
-        let names = [
-            "trade", "seller", "buyer", "area", "notified", "before", "after", "cut", "worth",
-        ];
+        let mut names = vec!["trade", "seller", "buyer"];
+        names.extend(has_groups.then_some("cut for"));
+        names.extend(["area", "notified", "before", "after", "cut", "worth"]);
         table("Trades that were cut", &names, &rows)
     }
 
@@ -226,6 +246,15 @@ impl Day<'_> {
             true => {
                 ", after the credit for long positions, at S in PVB and at U in TVB and AVB, \
                  which does not take it below that"
+            }
+            false => "",
+        };
+        let groups = match has_groups(opening) {
+            true => {
+                "<p>In an area where it manages others a user bears their risk with its own: \
+                 level, credit, flag and reductions are of all their positions together, and \
+                 a managed user counts 0 there. Positions, charges and guarantees are each \
+                 user's own.</p>\n"
             }
             false => "",
         };
@@ -248,8 +277,8 @@ impl Day<'_> {
              least reference price; called where the level exceeds blocked by more than \
              {margin}.</p>\n<p><i>short</i>: short of cover, with no sale left to cut after the \
              run. <i>call</i>: called in, and its assigned guarantee covers the level. \
-             <i>quiet</i>: neither. <i>clear</i>: a clearing house.</p>\n<p>Figures by the proved \
-             engine.{taken}</p>\n"
+             <i>quiet</i>: neither. <i>clear</i>: a clearing house.</p>\n{groups}<p>Figures by the \
+             proved engine.{taken}</p>\n"
         )
     }
 }
@@ -275,14 +304,16 @@ fn user(
     (before, after): (&User, &User),
     (first, last): (&State, &State),
     credit: Option<String>,
+    group: Option<String>,
 ) -> String {
     let level = |state: &State| state.level.map_or_else(|| "–".to_string(), euros);
     let mut cells = vec![
         before.id.to_string(),
         word(&ROLES, before.role).replace('-', " "),
-        changed(first.word.to_string(), last.word.to_string()),
-        changed(level(first), level(last)),
     ];
+    cells.extend(group);
+    cells.push(changed(first.word.to_string(), last.word.to_string()));
+    cells.push(changed(level(first), level(last)));
     cells.extend(credit);
     cells.extend([euros(before.assigned), euros(before.blocked)]);
     for (first, last) in before.position.iter().zip(after.position) {

@@ -1,11 +1,13 @@
 //! `daybook status`: who is short of cover, who is to be called, and what has to be
 //! deposited so that no trade is cut; with `--why`, where a level comes from.
 
-use daybook::Run;
+use daybook::{Book, Run};
 
 use crate::arguments::Arguments;
 use crate::day::{deposits, standings, Confirmed, Deposits, Standing};
+use crate::fields::has_managers;
 use crate::form::{csv_row, or_null, Form};
+use crate::groups::{has_groups, shares, with_groups};
 use crate::json::Object;
 use crate::outcome::{Failure, Outcome};
 use crate::reasons::Asked;
@@ -18,7 +20,7 @@ use crate::why::why;
 use crate::why_words;
 use crate::words::{euros, plain_euros, word, ROLES};
 
-/// The columns of a user's row.
+/// The columns of a user's row; in version 3 the managers follow.
 const COLUMNS: [&str; 9] = [
     "id",
     "role",
@@ -30,6 +32,7 @@ const COLUMNS: [&str; 9] = [
     "to_call",
     "deposit",
 ];
+const MANAGERS: [&str; 3] = ["manager_PVB", "manager_TVB", "manager_AVB"];
 
 pub fn status(arguments: &Arguments) -> Result<Outcome, Failure> {
     let usage = "status BOOK [--after] [--why ID] [--csv|--json] [--store FILE]";
@@ -62,6 +65,7 @@ pub fn status(arguments: &Arguments) -> Result<Outcome, Failure> {
     let standings = standings(&request, bytes, &book);
     let day = Day {
         name: &source.name,
+        book: &book,
         deposits: deposits(&request, &book, &standings),
         standings,
         run,
@@ -78,6 +82,7 @@ pub fn status(arguments: &Arguments) -> Result<Outcome, Failure> {
 /// What is told of a book.
 struct Day<'a> {
     name: &'a str,
+    book: &'a Book,
     standings: Vec<Standing>,
     deposits: Deposits,
     run: Run,
@@ -87,6 +92,16 @@ struct Day<'a> {
 
 impl Day<'_> {
     fn words(&self, outcome: &mut Outcome) {
+        let cells = |it: &Standing| {
+            let mut cells = cells(it);
+            if has_groups(self.book) {
+                let shares = shares(self.book, &it.user);
+                let shares: Vec<String> =
+                    shares.iter().map(|share| share.short(it.user.id)).collect();
+                cells.push(shares.join("; "));
+            }
+            cells
+        };
         let rows: Vec<Vec<String>> = self.standings.iter().map(cells).collect();
         outcome.text(&aligned(&rows));
         outcome.line(self.closing());
@@ -135,9 +150,13 @@ impl Day<'_> {
     }
 
     fn table(&self, outcome: &mut Outcome) {
-        outcome.line(csv_row(COLUMNS));
+        let managers = match has_managers(self.book.version) {
+            Some(true) => &MANAGERS[..],
+            _ => &[],
+        };
+        outcome.line(csv_row([&COLUMNS[..], managers].concat()));
         for it in &self.standings {
-            outcome.line(csv_row([
+            let mut row = vec![
                 it.user.id.to_string(),
                 word(&ROLES, it.user.role),
                 it.state.word.to_string(),
@@ -147,7 +166,13 @@ impl Day<'_> {
                 plain_euros(it.uncovered),
                 plain_euros(it.to_call.unwrap_or(0)),
                 plain_euros(it.target.unwrap_or(0)),
-            ]));
+            ];
+            let ids = it.user.managers.iter().take(managers.len());
+            row.extend(ids.map(|id| match id {
+                0 => String::new(),
+                id => id.to_string(),
+            }));
+            outcome.line(csv_row(row));
         }
     }
 
@@ -164,7 +189,7 @@ impl Day<'_> {
                 .put("uncovered_cents", it.uncovered)
                 .put("to_call_cents", it.to_call.unwrap_or(0))
                 .put("deposit_cents", it.target.unwrap_or(0));
-            outcome.line(object.end());
+            outcome.line(with_groups(object, self.book, &it.user).end());
         }
         let confirmed = self.deposits.confirmed == Confirmed::Yes;
         let object = Object::new()

@@ -6,9 +6,11 @@
 
 use daybook::{Book, Level, Prices, Reduction, Refusal, Request, Run, Trade, User};
 
+use crate::called_in::{called_in, CalledIn};
+use crate::chapter::{Chapter, Span};
 use crate::credit::{credited, Credited};
 use crate::ends::Ends;
-use crate::reasons::is_party_to_cut;
+use crate::groups::{area_of, bearers, is_eligible, position, shares, Share};
 use crate::store::Figures;
 
 /// A sale that a reduction may cut.
@@ -44,23 +46,6 @@ pub struct Move {
     pub after: i32,
 }
 
-/// Why a user is called in.
-#[derive(Clone, Copy, Debug, PartialEq, Eq)]
-pub struct CalledIn {
-    /// Short positions at reference prices less blocked, in cents.
-    pub short_worth: i128,
-    /// What this has to exceed for a flag.
-    pub limit: i128,
-    /// Party to a trade standing below notified.
-    pub party: bool,
-}
-
-impl CalledIn {
-    pub fn is_flagged(&self) -> bool {
-        self.short_worth > self.limit
-    }
-}
-
 /// A reduction.
 #[derive(Clone, Debug, PartialEq, Eq)]
 pub struct Step {
@@ -69,6 +54,8 @@ pub struct Step {
     /// The user before it.
     pub user: User,
     pub level: u64,
+    /// The groups that the user is in.
+    pub shares: Vec<Share>,
     /// The credit in the level, in a version that has it.
     pub credited: Option<Credited>,
     pub called_in: CalledIn,
@@ -77,17 +64,6 @@ pub struct Step {
     pub moves: Vec<Move>,
     /// Who is reduced next.
     pub next: Option<u32>,
-}
-
-/// Reductions of one user that follow one another, and what they cut.
-#[derive(Clone, Debug, PartialEq, Eq)]
-pub struct Chapter {
-    /// The place of the first in the run, from 1, and of the last.
-    pub first: u64,
-    pub last: u64,
-    pub id: u32,
-    /// MWh by buyer and area, in the order of the book.
-    pub cuts: Vec<(u32, usize, u64)>,
 }
 
 /// A run.
@@ -197,49 +173,18 @@ pub fn trace(
     })
 }
 
-/// A chapter with the books around it.
-struct Span {
-    first: u64,
-    last: u64,
-    id: u32,
-    before: Vec<u8>,
-    after: Vec<u8>,
-}
-
-impl Span {
-    fn chapter(&self) -> Result<Chapter, Refusal> {
-        let (before, after) = (daybook::read(&self.before)?, daybook::read(&self.after)?);
-        let mut cuts: Vec<(u32, usize, u64)> = Vec::new();
-        for (trade, later) in before.trades.iter().zip(&after.trades) {
-            let mwh = u64::from(trade.standing.saturating_sub(later.standing));
-            let (buyer, area) = (trade.buyer, usize::from(trade.area).min(2));
-            let same = cuts.iter_mut().find(|cut| (cut.0, cut.1) == (buyer, area));
-            match same {
-                _ if mwh == 0 => {}
-                Some(cut) => cut.2 += mwh,
-                None => cuts.push((buyer, area, mwh)),
-            }
-        }
-        Ok(Chapter {
-            first: self.first,
-            last: self.last,
-            id: self.id,
-            cuts,
-        })
-    }
-}
-
 /// The reductions of a run, made one by one.
 ///
 /// The next is the lowest id whose reduction the engine accepts: its questions are
 /// those of a user who is short of cover and has an eligible trade. A reduction
-/// changes what they say of the seller and of those who buy from it, and of nobody
-/// else, so that only these are asked again.
+/// changes what they say of the one who bears the sellers' risk and of those who bear
+/// the buyers', and of nobody else, so that only these are asked again.
 pub struct Walk<'a> {
     request: Request<'a>,
     pub bytes: Vec<u8>,
     ids: Vec<u32>,
-    /// For each user the places of those who buy from it.
+    /// For each user the places of those who bear the risk of what is bought from it
+    /// and from those whose risk it bears.
     buyers: Vec<Vec<usize>>,
     /// The users that are known not to be next.
     idle: Vec<bool>,
@@ -251,7 +196,8 @@ impl<'a> Walk<'a> {
         let mut buyers = vec![Vec::new(); ids.len()];
         for trade in book.trades.iter().filter(|trade| trade.can_be_cut()) {
             let place = |id: u32| ids.iter().position(|it| *it == id);
-            if let (Some(seller), Some(buyer)) = (place(trade.seller), place(trade.buyer)) {
+            let (seller, buyer) = bearers(book, trade);
+            if let (Some(seller), Some(buyer)) = (place(seller), place(buyer)) {
                 if !buyers[seller].contains(&buyer) {
                     buyers[seller].push(buyer);
                 }
@@ -306,6 +252,7 @@ impl Raw {
             number: self.number,
             user,
             level,
+            shares: shares(&before, &user),
             credited: credited(request, &before, &user)?,
             called_in: called_in(figures, &before, &user),
             answer: self.answer,
@@ -331,30 +278,19 @@ pub fn reference_prices(prices: &Prices) -> [u64; 3] {
     [p, tank, store]
 }
 
-pub fn called_in(figures: &Figures, book: &Book, user: &User) -> CalledIn {
-    let prices = reference_prices(&book.prices).map(i128::from);
-    let short = user.position.iter().zip(prices);
-    let short = short.map(|(position, price)| (-i128::from(*position)).max(0) * price);
-    let least = prices.into_iter().min().unwrap_or(0);
-    CalledIn {
-        short_worth: short.sum::<i128>() - i128::from(user.blocked),
-        limit: i128::from(figures.flag_mwh) * least,
-        party: is_party_to_cut(book, user.id),
-    }
-}
-
-/// Tier one has the sales in areas where the position is negative, tier two the
-/// others; tier one takes T, tier two what tier one's worth leaves of it.
+/// Tier one has the sales in areas where the position that the user bears is negative,
+/// tier two the others; tier one takes T, tier two what tier one's worth leaves of it.
 fn tiers(before: &Book, after: &Book, user: &User, target: u64) -> [Tier; 2] {
     let tariffs = tariffs(&before.prices);
     let mut tiers = [Tier::default(), Tier::default()];
+    let positions = [0, 1, 2].map(|area| position(before, user.id, area));
     let trades = before.trades.iter().zip(&after.trades).enumerate();
     for (place, (trade, later)) in trades {
-        let area = usize::from(trade.area).min(2);
-        if trade.seller != user.id || !trade.can_be_cut() || trade.standing == 0 {
+        if !is_eligible(before, user.id, trade) {
             continue;
         }
-        let tier = &mut tiers[usize::from(user.position[area] >= 0)];
+        let area = area_of(trade);
+        let tier = &mut tiers[usize::from(positions[area] >= 0)];
         tier.worth += u64::from(trade.standing) * tariffs[area];
         tier.sales.push(Sale {
             place,

@@ -4,9 +4,11 @@
 
 use daybook::{Book, Level, Refusal, Request, Trade, User};
 
+use crate::called_in::{called_in, CalledIn};
 use crate::credit::credits;
+use crate::groups::{bearers, position, shares, Share};
 use crate::store::Figures;
-use crate::trace::{called_in, reference_prices, CalledIn};
+use crate::trace::reference_prices;
 use crate::words::AREAS;
 
 /// MWh at a price.
@@ -41,12 +43,12 @@ pub struct Why {
     pub user: User,
     /// The engine's.
     pub level: u64,
+    /// The groups that the user is in: the parts are of what it bears.
+    pub shares: Vec<Share>,
     pub parts: Vec<Part>,
     /// Charges and parts together, before the floor.
     pub sum: i128,
     pub called_in: CalledIn,
-    /// The places of the trades below notified that the user is party to.
-    pub cut: Vec<usize>,
 }
 
 /// How the level of a shipper comes about; none where the parts do not give the
@@ -65,13 +67,9 @@ pub fn why(
     if sum.max(i128::from(figures.least_level)) != i128::from(level) {
         return Ok(None);
     }
-    let is_cut = |trade: &Trade| {
-        (trade.seller == id || trade.buyer == id) && trade.standing < trade.notified
-    };
-    let cut = (0..book.trades.len()).filter(|place| is_cut(&book.trades[*place]));
     let why = Why {
         called_in: called_in(figures, &book, &user),
-        cut: cut.collect(),
+        shares: shares(&book, &user),
         user,
         level,
         parts,
@@ -84,7 +82,7 @@ pub fn why(
 
 impl Why {
     pub fn is_called_in(&self) -> bool {
-        self.called_in.is_flagged() || self.called_in.party
+        self.called_in.is_flagged() || self.called_in.is_party()
     }
 
     /// What the level exceeds blocked by, in cents.
@@ -106,7 +104,7 @@ fn parts(book: &Book, user: &User) -> Vec<Part> {
     let prices = reference_prices(&book.prices);
     let mut parts = Vec::new();
     for (area, price) in prices.into_iter().enumerate() {
-        let position = i64::from(user.position[area]);
+        let position = position(book, user.id, area);
         let long = if area == 0 { 0 } else { position.max(0) };
         let part = |name: &'static str, mwh: i64| Part {
             name,
@@ -121,7 +119,7 @@ fn parts(book: &Book, user: &User) -> Vec<Part> {
         parts.push(Part {
             name: "credit",
             area: credit.area,
-            mwh: u64::from(credit.mwh),
+            mwh: credit.mwh,
             price: (credit.name, u64::from(credit.tariff)),
         });
     }
@@ -129,15 +127,17 @@ fn parts(book: &Book, user: &User) -> Vec<Part> {
     parts
 }
 
-/// What a user sold less what it bought for d+1 in an area.
+/// What was sold less what was bought for d+1 in an area by those whose risk a user
+/// bears.
 fn tomorrow(book: &Book, id: u32, area: usize) -> i64 {
     let here = |trade: &&Trade| trade.day == 1 && usize::from(trade.area) == area;
     let mut need = 0;
     for trade in book.trades.iter().filter(here) {
-        if trade.seller == id {
+        let (seller, buyer) = bearers(book, trade);
+        if seller == id {
             need += i64::from(trade.standing);
         }
-        if trade.buyer == id {
+        if buyer == id {
             need -= i64::from(trade.standing);
         }
     }

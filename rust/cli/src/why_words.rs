@@ -4,6 +4,7 @@ use daybook::Book;
 
 use crate::faults::parties;
 use crate::form::{csv_row, Form};
+use crate::groups::{lines, member_of, with_groups};
 use crate::json::{list, Object};
 use crate::store::Figures;
 use crate::text::aligned;
@@ -15,7 +16,7 @@ pub fn told(form: Form, name: &str, book: &Book, figures: &Figures, why: &Why) -
     match form {
         Form::Words => words(book, figures, why),
         Form::Csv => table(why),
-        Form::Json => object(name, figures, why) + "\n",
+        Form::Json => object(name, figures, book, why) + "\n",
     }
 }
 
@@ -23,6 +24,7 @@ fn words(book: &Book, figures: &Figures, why: &Why) -> String {
     let (id, level) = (why.user.id, euros(why.level));
     let state = why.state(figures);
     let mut text = format!("{id}: afternoon level {level} EUR, {state}\n");
+    text.push_str(&lines(&why.shares));
     let mut rows = vec![vec!["  charges".to_string()]];
     rows[0].resize(7, String::new());
     rows[0].extend([euros(why.user.charges), "EUR".to_string()]);
@@ -39,17 +41,19 @@ fn words(book: &Book, figures: &Figures, why: &Why) -> String {
     text
 }
 
-/// The trades below notified that the user is party to, a line each.
+/// The trades below notified that call the user in, a line each.
 fn cut_trades(book: &Book, why: &Why) -> String {
     let line = |place: &usize| {
         let trade = &book.trades[*place];
         let (standing, notified) = (grouped(trade.standing), grouped(trade.notified));
         let (parties, area) = (parties(trade), word(&AREAS, trade.area));
         let stands = format!("stands at {standing} of {notified} MWh");
+        let member = member_of(book, why.user.id, trade);
+        let member = member.map_or_else(String::new, |id| format!(" of its member {id}"));
         let place = place + 1;
-        format!("  called in: trade {place}, {parties} {area}, {stands}\n")
+        format!("  called in: trade {place}{member}, {parties} {area}, {stands}\n")
     };
-    why.cut.iter().map(line).collect()
+    why.called_in.cut.iter().map(line).collect()
 }
 
 /// The level beside what is blocked and what is assigned.
@@ -116,7 +120,7 @@ fn table(why: &Why) -> String {
     rows.join("\n") + "\n"
 }
 
-fn object(name: &str, figures: &Figures, why: &Why) -> String {
+fn object(name: &str, figures: &Figures, book: &Book, why: &Why) -> String {
     let part = |part: &Part| {
         Object::new()
             .string("part", part.name)
@@ -126,11 +130,13 @@ fn object(name: &str, figures: &Figures, why: &Why) -> String {
             .put("cents", part.cents())
             .end()
     };
-    Object::new()
+    let cut = why.called_in.cut.iter().map(|place| place + 1);
+    let object = Object::new()
         .string("book", name)
         .put("number", 0)
         .put("id", why.user.id)
-        .string("state", why.state(figures))
+        .string("state", why.state(figures));
+    with_groups(object, book, &why.user)
         .put("level_cents", why.level)
         .put("charges_cents", why.user.charges)
         .put("parts", list(why.parts.iter().map(part)))
@@ -138,6 +144,6 @@ fn object(name: &str, figures: &Figures, why: &Why) -> String {
         .put("flagged", why.called_in.is_flagged())
         .put("short_worth_cents", why.called_in.short_worth)
         .put("flag_limit_cents", why.called_in.limit)
-        .put("cut_trades", list(why.cut.iter().map(|place| place + 1)))
+        .put("cut_trades", list(cut))
         .end()
 }

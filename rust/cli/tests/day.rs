@@ -19,7 +19,7 @@ use daybook::{Book, Refusal, Request};
 
 const KINDS: [Kind; 4] = [Kind::Small, Kind::Chain, Kind::Midday, Kind::Usual];
 
-/// Books of every kind, of both versions.
+/// Books of every kind, of every version.
 fn books(seed: u64, each: usize) -> Vec<Vec<u8>> {
     let mut generator = Generator::new(seed);
     let kinds = KINDS.into_iter().cycle().take(each * KINDS.len());

@@ -5,7 +5,10 @@
 
 use books::{Damage, Generator, Kind};
 use cli::faults::faults;
-use cli::fields::{header_length, Field, Place};
+use cli::fields::{Field, Place};
+use daybook::{header_length, user_length};
+
+const MANAGERS: [Field; 3] = [Field::Manager(0), Field::Manager(1), Field::Manager(2)];
 
 /// The engine's number.
 fn number(book: &[u8]) -> u32 {
@@ -58,6 +61,7 @@ fn the_outside_vectors() {
         "/version-1/books",
         "/version-2",
         "/version-2/books",
+        "/asks",
     ] {
         let files = std::fs::read_dir(format!("{vectors}{folder}")).expect("a folder");
         let paths = files.map(|file| file.expect("a file").path());
@@ -89,8 +93,9 @@ fn books_of_every_kind() {
 #[test]
 fn every_byte_of_a_book() {
     let mut generator = Generator::new(22);
-    for _ in 0..4 {
-        let book = generator.book(Kind::Small);
+    let small = [(); 3].map(|()| generator.book(Kind::Small));
+    let sized = [1, 2, 3, 3].map(|version| generator.sized(version, 4, 3).to_bytes());
+    for book in small.into_iter().chain(sized) {
         for place in 0..book.len() {
             for change in [1, 2, 3, 0x80, 0xFF] {
                 let mut changed = book.clone();
@@ -123,7 +128,10 @@ fn the_damaged_field_is_the_one_at_fault() {
                 wanted.contains(&fault.field) && (place.is_none() || place == Some(fault.place))
             });
             let next = matches!(damage, Damage::IdNotRising | Damage::StandingAlone);
-            let of_field = found.iter().all(|fault| wanted.contains(&fault.field));
+            // A manager whose id is another one now is no user of the book.
+            let of_field = found
+                .iter()
+                .all(|fault| wanted.contains(&fault.field) || MANAGERS.contains(&fault.field));
             assert!(
                 at_fault || next && of_field,
                 "{damage:?} {place:?} {found:?}"
@@ -150,6 +158,7 @@ fn fields(damage: Damage) -> Vec<Field> {
         Damage::Charges => vec![Field::Charges],
         Damage::Assigned => vec![Field::Assigned],
         Damage::Blocked => vec![Field::Blocked],
+        Damage::Manager(_) => MANAGERS.to_vec(),
         Damage::Seller => vec![Field::Seller],
         Damage::Buyer | Damage::SameParties => vec![Field::Buyer],
         Damage::TradeArea => vec![Field::Area],
@@ -165,11 +174,12 @@ fn fields(damage: Damage) -> Vec<Field> {
 /// The record of the first byte that differs; none where the lengths do.
 fn changed_record(before: &[u8], after: &[u8], users: usize) -> Option<Place> {
     let place = before.iter().zip(after).position(|(a, b)| a != b)?;
-    let header = header_length(u16::from_le_bytes([before[3], before[4]]));
-    let trades = header + 56 * users;
+    let version = u16::from_le_bytes([before[3], before[4]]);
+    let (header, user) = (header_length(version), user_length(version));
+    let trades = header + user * users;
     Some(match place {
         _ if place < header => Place::Header,
-        _ if place < trades => Place::User((place - header) / 56),
+        _ if place < trades => Place::User((place - header) / user),
         _ => Place::Trade((place - trades) / 20),
     })
 }
@@ -189,7 +199,7 @@ fn the_words() {
 
 #[test]
 fn refused_bytes_of_any_length_have_words() {
-    for version in [1, 2] {
+    for version in [1, 2, 3] {
         let book = Generator::new(25).sized(version, 4, 4).to_bytes();
         for length in 0..book.len() {
             let number = agree(&book[..length]);

@@ -39,7 +39,7 @@ fn book_to_text_to_book_and_back() {
             assert_eq!(again, written);
         }
     }
-    assert_eq!(versions, BTreeSet::from([1, 2]));
+    assert_eq!(versions, BTreeSet::from([1, 2, 3]));
 }
 
 #[test]
@@ -171,7 +171,7 @@ fn mistakes_are_told_with_line_and_column() {
         ("", ":1:1: the text has no line `daybook`"),
         (
             "user 1 shipper",
-            ":1:1: a text starts with the line `daybook 1` or `daybook 2`",
+            ":1:1: a text starts with the line `daybook 1`, `daybook 2` or `daybook 3`",
         ),
         ("daybook 1\nprices P 20.00\n", ":2:15: Q is missing"),
         ("daybook 1\nprices P 20.00 P 1.00\n", ":2:16: a second P"),
@@ -185,7 +185,7 @@ fn mistakes_are_told_with_line_and_column() {
         ),
         (
             "daybook 70000\n",
-            ":1:9: the version 70000 is not within 1 to 2",
+            ":1:9: the version 70000 is not within 1 to 3",
         ),
     ] {
         assert_eq!(mistakes(text.as_bytes())[0], told, "{text}");
@@ -216,7 +216,7 @@ fn refused(text: &str) -> (u32, String) {
 fn refusals_are_told_with_line_and_column() {
     let users = "user 1 shipper assigned 1.00\nuser 2 shipper\n";
     for (text, number, told) in [
-        (START.replace("daybook 1", "daybook 3") + users, 2, ":1:1: header: version 3, the engine knows versions 1 and 2"),
+        (START.replace("daybook 1", "daybook 4") + users, 2, ":1:1: header: version 4, the engine knows versions 1, 2 and 3"),
         (START.to_string(), 3, ":1:1: header: 0 users, a book has 1 to 64"),
         (START.replace("03-18", "02-30") + users, 4, ":2:1: header: date 2026-02-30 is no day, its month has 28"),
         (START.replace("X 1.00", "X 1000.01") + users, 4, ":3:33: header: X 1,000.01 EUR/MWh is not within 0.00 to 1,000.00 EUR/MWh"),

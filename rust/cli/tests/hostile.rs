@@ -18,7 +18,7 @@ fn setting(name: &str, else_this: u64) -> u64 {
 }
 
 /// Words that a text or a table may have, and some that it may not.
-const WORDS: [&str; 67] = [
+const WORDS: [&str; 71] = [
     "daybook",
     "date",
     "prices",
@@ -31,6 +31,10 @@ const WORDS: [&str; 67] = [
     "charges",
     "assigned",
     "blocked",
+    "manager",
+    "none",
+    "manager_PVB",
+    "manager_AVB",
     "shipper",
     "clearing-house",
     "PVB",
@@ -151,7 +155,7 @@ fn swapped_lines(random: &mut Random, bytes: &[u8]) -> Vec<u8> {
 /// A text of words and lines without any order.
 fn soup(random: &mut Random) -> Vec<u8> {
     let mut text = random
-        .pick(&["daybook 1\n", "daybook 2\n", "", ""])
+        .pick(&["daybook 1\n", "daybook 2\n", "daybook 3\n", ""])
         .to_string();
     for _ in 0..random.below(60) {
         text.push_str(random.pick(&WORDS));

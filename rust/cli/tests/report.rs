@@ -7,6 +7,7 @@ use std::fs;
 use std::path::Path;
 
 use books::{Generator, Kind};
+use cli::chapter::{Chapter, Cut};
 use cli::commands::perform;
 use cli::words::{euros, grouped};
 
@@ -92,11 +93,17 @@ fn names_are_escaped() {
 /// The longest numbers that a mark can have still fit the picture.
 #[test]
 fn long_marks() {
-    let chapter = |first, last, id, buyer| cli::trace::Chapter {
+    let cut = |seller, buyer| Cut {
+        seller,
+        buyer,
+        area: 0,
+        mwh: 25_600_000,
+    };
+    let chapter = |first, last, id, buyer| Chapter {
         first,
         last,
         id,
-        cuts: vec![(buyer, 0, 25_600_000)],
+        cuts: vec![cut(id, buyer)],
     };
     let book = daybook::read(&Generator::new(72).sized(2, 2, 1).to_bytes()).expect("a book");
     let (one, two) = (book.users[0].id, book.users[1].id);

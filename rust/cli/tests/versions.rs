@@ -1,4 +1,4 @@
-//! Books of both versions: the selling tariffs in text and CSV, what is said of a
+//! Books of each version: the selling tariffs in text and CSV, what is said of a
 //! fault by version, and the credit beside the engine's levels.
 
 #![forbid(unsafe_code)]
@@ -43,6 +43,8 @@ fn the_selling_tariffs_of_a_text() {
         bytes(&format!("{TWO}{USER}")),
     );
     assert_eq!((one.len(), two.len()), (32 + 56, 40 + 56));
+    let three = bytes(&format!("daybook 3{}{USER}", &TWO[9..]));
+    assert_eq!((three.len(), &three[5..96]), (40 + 68, &two[5..]));
     assert_eq!(two[32..36], 1_800_u32.to_le_bytes());
     assert_eq!(two[36..40], 1_900_u32.to_le_bytes());
     assert_eq!((&one[..3], &one[5..32]), (&two[..3], &two[5..32]));
@@ -50,11 +52,11 @@ fn the_selling_tariffs_of_a_text() {
     for (text, reason) in [
         (
             ONE.replace("I 0.50", "I 0.50 S 18.00"),
-            ":3:45: S: version 1 has no place for selling tariffs; version 2 has S and U",
+            ":3:45: S: version 1 has no place for selling tariffs; versions 2 and 3 have S and U",
         ),
         (
             ONE.replace("P 20.00", "U 0.00 P 20.00"),
-            ":3:8: U: version 1 has no place for selling tariffs; version 2 has S and U",
+            ":3:8: U: version 1 has no place for selling tariffs; versions 2 and 3 have S and U",
         ),
         (TWO.replace(" S 18.00", ""), ":3:52: S is missing"),
         (TWO.replace(" U 19.00", ""), ":3:52: U is missing"),
@@ -77,7 +79,7 @@ fn the_selling_tariffs_of_a_text() {
     // A version that the engine does not know is refused by it, with S and U or without.
     for start in [ONE, TWO] {
         let draft = read(&(format!("daybook 7{}", &start[9..]) + USER)).expect("a text");
-        let known = ":1:1: header: version 7, the engine knows versions 1 and 2";
+        let known = ":1:1: header: version 7, the engine knows versions 1, 2 and 3";
         assert_eq!(refused(draft), (2, known.to_string()));
     }
 }
@@ -100,11 +102,11 @@ fn the_selling_tariffs_of_csv_files() {
     for (header, reason) in [
         (
             format!("{start},S,U\n1,{row},18,19\n"),
-            "/header.csv:2:28: S: version 1 has no place for selling tariffs; version 2 has S and U",
+            "/header.csv:2:28: S: version 1 has no place for selling tariffs; versions 2 and 3 have S and U",
         ),
         (
             format!("{start},S,U\n1,{row},,0\n"),
-            "/header.csv:2:29: U: version 1 has no place for selling tariffs; version 2 has S and U",
+            "/header.csv:2:29: U: version 1 has no place for selling tariffs; versions 2 and 3 have S and U",
         ),
         (
             format!("{start}\n2,{row}\n"),
@@ -126,7 +128,7 @@ fn the_selling_tariffs_of_csv_files() {
         format!("{start},S\n7,{row},18\n"),
     ] {
         let draft = read(&header).expect("files");
-        let known = "/header.csv:2:1: header: version 7, the engine knows versions 1 and 2";
+        let known = "/header.csv:2:1: header: version 7, the engine knows versions 1, 2 and 3";
         assert_eq!(refused(draft), (2, known.to_string()));
     }
     let header = |bytes: &[u8]| csv::write(&daybook::read(bytes).expect("a book"))[0].clone();
@@ -162,12 +164,12 @@ fn faults_by_version() {
             "1 header: 31 bytes, a header has at least 32",
         ),
         (
-            with(&two, 3, &[3]),
-            "2 header: version 3, the engine knows versions 1 and 2",
+            with(&two, 3, &[4]),
+            "2 header: version 4, the engine knows versions 1, 2 and 3",
         ),
         (
             with(&two, 3, &[0]),
-            "2 header: version 0, the engine knows versions 1 and 2",
+            "2 header: version 0, the engine knows versions 1, 2 and 3",
         ),
         (
             two[..39].to_vec(),
@@ -180,6 +182,10 @@ fn faults_by_version() {
         (
             with(&one, 3, &[2]),
             "3 header: 88 bytes, but a version 2 book of 1 user and 0 trades has 96 bytes",
+        ),
+        (
+            with(&two, 3, &[3]),
+            "3 header: 96 bytes, but a version 3 book of 1 user and 0 trades has 108 bytes",
         ),
         (
             with(&two, 32, &100_001_u32.to_le_bytes()),
@@ -220,7 +226,7 @@ fn credits_are_what_the_engine_takes_off() {
                 continue;
             };
             let credit = credited(&request, &book, user).expect("a level");
-            assert_eq!(credit.is_some(), book.version == 2);
+            assert_eq!(credit.is_some(), book.version > 1);
             let without = credit.as_ref().map_or(level, |credit| credit.without);
             let cents = credit.map_or([0; 3], |credit| by_area(&credit.credits));
             let cents: u64 = cents.into_iter().sum();
@@ -228,12 +234,11 @@ fn credits_are_what_the_engine_takes_off() {
             seen.insert((book.version, cents > 0, level > floor));
         }
     }
-    let both = [false, true];
-    for kind in both.into_iter().flat_map(|above| {
-        let credited = both.map(|credited| (2, credited, above));
-        credited.into_iter().chain([(1, false, above)])
-    }) {
-        assert!(seen.contains(&kind), "{kind:?} of {seen:?}");
+    for above in [false, true] {
+        for (version, is_credited) in [(1, false), (2, false), (2, true), (3, false), (3, true)] {
+            let kind = (version, is_credited, above);
+            assert!(seen.contains(&kind), "{kind:?} of {seen:?}");
+        }
     }
 }
 
@@ -320,7 +325,7 @@ fn no_credit_and_the_floor() {
 #[test]
 fn an_unknown_version_is_question_2() {
     let bytes = fs::read(sample("credit.gdb")).expect("a sample");
-    for version in [0_u16, 3, 0xFFFF] {
+    for version in [0_u16, 4, 0xFFFF] {
         let mut changed = bytes.clone();
         changed[3..5].copy_from_slice(&version.to_le_bytes());
         assert_eq!(daybook::read(&changed), Err(Refusal::Version));

@@ -178,8 +178,9 @@ impl Comparison {
     }
 
     /// The same with this log too, or none; the log becomes the reference's. The
-    /// tuned implementation, which knows no logs, has to leave the same book without
-    /// one, unless the log's own questions decide. The number is the reference's.
+    /// tuned implementation, which knows versions 1 and 2 and no logs, has to leave the
+    /// same book without one, unless the log's own questions decide. The number is the
+    /// reference's.
     pub fn logged(
         &mut self,
         book: &mut [u8],
@@ -199,7 +200,7 @@ impl Comparison {
         if typed::has(call, lent.log) {
             self.hold(lent, &expected, "daybook", typed::answer);
         }
-        if tuned::has(call) && ![19, 20].contains(&number) {
+        if tuned::has(book, call) && ![19, 20].contains(&number) {
             let without = Lent { log: None, ..lent };
             self.hold(without, &expected, "tuned", tuned::answer);
         }

@@ -15,12 +15,13 @@ pub const NUMBERS: usize = 26;
 pub enum Version {
     One,
     Two,
+    Three,
     /// No book of a version that is known: questions 1 and 2.
     Other,
 }
 
 impl Version {
-    pub const ALL: [Version; 3] = [Version::One, Version::Two, Version::Other];
+    pub const ALL: [Version; 4] = [Version::One, Version::Two, Version::Three, Version::Other];
 
     /// The version of the bytes that are questioned: the book, the picked one of
     /// two, or the fields to write, of which the mark is not looked at.
@@ -45,6 +46,7 @@ impl Version {
         match Header::from_bytes(bytes).version {
             1 => Version::One,
             2 => Version::Two,
+            3 => Version::Three,
             _ => Version::Other,
         }
     }
@@ -55,6 +57,7 @@ impl Display for Version {
         formatter.write_str(match self {
             Version::One => "version 1",
             Version::Two => "version 2",
+            Version::Three => "version 3",
             Version::Other => "other bytes",
         })
     }
@@ -78,7 +81,7 @@ impl Counts {
         self.counts.iter().flatten().flatten().sum()
     }
 
-    /// The calls of a kind with a number, on books of either version.
+    /// The calls of a kind with a number, on books of every version.
     pub fn of(&self, name: &str, number: usize) -> u64 {
         let versions = Version::ALL.into_iter();
         versions

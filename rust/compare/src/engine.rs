@@ -2,7 +2,9 @@
 
 use books::{Answer, Call};
 use daybook::archive;
-use daybook::{IMAGE_LENGTH, MOST_TRADES, USER_LENGTH};
+use daybook::{IMAGE_LENGTH, MOST_TRADES, RECORD_LENGTH};
+
+use crate::shown::shown;
 
 /// What a part for an answer holds before the call: a refusal has to put 0
 /// there.
@@ -29,14 +31,14 @@ pub fn answer(
         } => Answer::of_places(*places, |places| {
             archive::list(book, store, log, ids, areas, amounts, places)
         }),
-        Call::Show { id } => record(|part| archive::show(book, store, *id, part)),
+        Call::Show { id } => record(book, |part| archive::show(book, store, *id, part)),
         Call::ShowPicked {
             afternoon,
             pick,
             id,
-        } => {
-            record(|part| archive::show_picked(book, afternoon, store, u32::from(*pick), *id, part))
-        }
+        } => record(if *pick { afternoon } else { book }, |part| {
+            archive::show_picked(book, afternoon, store, u32::from(*pick), *id, part)
+        }),
         Call::MorningLevel { id } => {
             fields::<1>(|part| archive::morning_level(book, store, *id, part))
         }
@@ -93,14 +95,13 @@ fn fields<const COUNT: usize>(call: impl FnOnce(&mut [u64]) -> u32) -> Answer {
     Answer::of_fields(number, &part.map(i128::from))
 }
 
-/// The number and the record shown. The reference's part is empty after a
-/// refusal, the record of the C interface is then 0.
-fn record(call: impl FnOnce(&mut [u8]) -> u32) -> Answer {
-    let mut part = [BEFORE; USER_LENGTH];
-    let number = call(&mut part);
-    if number != 0 && part == [0; USER_LENGTH] {
-        Answer::of_part(number, &[])
-    } else {
-        Answer::of_part(number, &part)
+/// The number and the record shown of the questioned book. The reference's part is
+/// empty after a refusal, the record of the C interface is then 0.
+fn record(book: &[u8], call: impl FnOnce(&mut [u8]) -> u32) -> Answer {
+    let mut part = [BEFORE; RECORD_LENGTH];
+    match call(&mut part) {
+        0 => Answer::of_part(0, shown(book, &part)),
+        number if part == [0; RECORD_LENGTH] => Answer::of_part(number, &[]),
+        number => Answer::of_part(number, &part),
     }
 }

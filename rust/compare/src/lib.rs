@@ -2,8 +2,9 @@
 //! book, the answers and the books afterwards held against each other.
 //!
 //! Each call is made four times: by the reference, by the archive's C
-//! interface ([`engine`]), by the Rust types over it ([`typed`]), and by the
-//! tuned implementation ([`tuned`]), which the engine's times are held against.
+//! interface ([`engine`]), by the Rust types over it ([`typed`]), and, on books of
+//! versions 1 and 2, by the tuned implementation ([`tuned`]), which the engine's times
+//! are held against.
 
 #![forbid(unsafe_code)]
 
@@ -12,6 +13,7 @@ pub mod counts;
 pub mod day;
 pub mod engine;
 pub mod settings;
+pub mod shown;
 pub mod tuned;
 pub mod typed;
 

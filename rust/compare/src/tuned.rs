@@ -1,14 +1,17 @@
 //! The answers of the tuned implementation.
 
+use books::tuned::{knows, narrowed, widened};
 use books::{Answer, Call};
-use daybook::IMAGE_LENGTH;
+use reference::transfer::Image;
+use tuned::IMAGE_LENGTH;
 
 /// What an image holds before the call: a refusal has to put 0 there.
 const BEFORE: u8 = 0xA5;
 
-/// Whether the tuned implementation has the call; it knows no logs.
-pub fn has(call: &Call) -> bool {
-    !matches!(call, Call::Withdrawal | Call::Start)
+/// Whether the tuned implementation has the call on this book; it knows no logs, and
+/// versions 1 and 2 of the book.
+pub fn has(book: &[u8], call: &Call) -> bool {
+    !matches!(call, Call::Withdrawal | Call::Start) && knows(book, call)
 }
 
 /// The answer of the tuned implementation to a call with this store, or none, and
@@ -20,7 +23,7 @@ pub fn answer(
     log: Option<&mut [u8]>,
     call: &Call,
 ) -> Answer {
-    assert!(log.is_none() && has(call), "a call without a log");
+    assert!(log.is_none() && has(book, call), "a call without a log");
     let before = book.to_vec();
     if let Some(given) = books::tuned::answer(book, store, call) {
         if store.is_none() {
@@ -54,14 +57,14 @@ fn read(book: &[u8]) -> Answer {
         Err(number)
     };
     assert_eq!(written, expected, "fields read and written again");
-    Answer::of_part(number, &image)
+    Answer::of_part(number, &widened(&image))
 }
 
 /// The part that an image was written into. The fields of the image have to
 /// give the same.
-fn write(image: &[u8; IMAGE_LENGTH], length: usize) -> Answer {
+fn write(image: &Image, length: usize) -> Answer {
     let mut part = vec![0xAA; length];
-    let number_of_image = number(&tuned::write_image(image, &mut part));
+    let number_of_image = number(&tuned::write_image(&narrowed(image), &mut part));
     let mut other = vec![0xAA; length];
     let number_of_fields = number(&tuned::write(&book_of(image), &mut other));
     assert_eq!(
@@ -73,7 +76,7 @@ fn write(image: &[u8; IMAGE_LENGTH], length: usize) -> Answer {
 }
 
 /// The fields of an image with any counts; records past its places are 0.
-fn book_of(image: &[u8; IMAGE_LENGTH]) -> tuned::Book {
+fn book_of(image: &Image) -> tuned::Book {
     let engine = crate::typed::book_of(image);
     tuned::Book {
         version: engine.version,

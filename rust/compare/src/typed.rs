@@ -6,6 +6,8 @@ use daybook::{
     IMAGE_LENGTH, LOG_LENGTH, MOST_TRADES,
 };
 
+use crate::shown::shown;
+
 /// Whether the call has a function of its own in `daybook`; a printed day is
 /// put together of others, a list of lines has columns and places of one count,
 /// and a started log has the right length.
@@ -67,12 +69,15 @@ fn requested(mut request: Request<'_>, book: &mut [u8], call: &Call) -> Answer {
             amounts,
             ..
         } => list(request, book, &lines(ids, areas, amounts)),
-        Call::Show { id } => record(request.show(book, *id)),
+        Call::Show { id } => record(book, request.show(book, *id)),
         Call::ShowPicked {
             afternoon,
             pick,
             id,
-        } => record(request.show_picked(book, afternoon, *pick, *id)),
+        } => {
+            let picked = if *pick { afternoon } else { &*book };
+            record(picked, request.show_picked(book, afternoon, *pick, *id))
+        }
         Call::MorningLevel { id } => level(request.morning_level(book, *id)),
         Call::AfternoonLevel { id } => level(request.afternoon_level(book, *id)),
         Call::MorningCall { id } => guarantee_call(request.morning_call(book, *id)),
@@ -170,9 +175,10 @@ fn run(answer: Result<Run, Refusal>) -> Answer {
     found
 }
 
-fn record(answer: Result<User, Refusal>) -> Answer {
+/// The record of the questioned book.
+fn record(book: &[u8], answer: Result<User, Refusal>) -> Answer {
     match answer {
-        Ok(user) => Answer::of_part(0, &user.to_bytes()),
+        Ok(user) => Answer::of_part(0, shown(book, &user.to_bytes())),
         Err(refusal) => Answer::of_part(refusal.number(), &[]),
     }
 }

@@ -3,6 +3,7 @@
 
 #![forbid(unsafe_code)]
 
+use books::groups::in_version_3;
 use books::hard::{chain, many_sellers, one_seller, widest};
 use books::versions::{in_version_2, VERSIONS};
 use books::{Arguments, Call, Damage, Kind};
@@ -77,7 +78,7 @@ fn every_date() {
 fn hard_runs() {
     let mut comparison = comparison("hard_runs");
     for book in [one_seller(100), many_sellers(4), chain(4), widest(3)] {
-        for book in [in_version_2(&book), book] {
+        for book in [in_version_3(&book), in_version_2(&book), book] {
             comparison.call(&mut book.to_bytes(), &Call::Run);
         }
     }
@@ -107,8 +108,8 @@ fn every_byte() {
 fn random_bytes() {
     let mut comparison = comparison("random_bytes");
     for length in (0..=400)
-        .chain((401..=8745).step_by(83))
-        .chain([8736, 8737, 8744, 8745])
+        .chain((401..=9513).step_by(83))
+        .chain([8736, 8737, 8744, 8745, 9511, 9512, 9513])
     {
         let mut bytes = comparison.generator().random().bytes(length);
         every_call(&mut comparison, &bytes);
@@ -116,7 +117,7 @@ fn random_bytes() {
             bytes[..3].copy_from_slice(b"GDB");
             every_call(&mut comparison, &bytes);
         }
-        for version in [1, 2] {
+        for version in [1, 2, 3] {
             if length >= 8 {
                 bytes[3..8].copy_from_slice(&[version, 0, 2, 3, 0]);
                 every_call(&mut comparison, &bytes);

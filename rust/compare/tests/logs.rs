@@ -3,6 +3,7 @@
 
 #![forbid(unsafe_code)]
 
+use books::groups::in_version_3;
 use books::hard::one_seller;
 use books::logs::{forged, started, LogDamage, LOG_BEFORE};
 use books::versions::{in_version_2, VERSIONS};
@@ -131,7 +132,8 @@ fn every_part_changed() {
 fn full_logs() {
     let mut comparison = comparison("full_logs");
     let book = one_seller(3);
-    for first in [in_version_2(&book), book].map(|book| book.to_bytes()) {
+    let books = [in_version_3(&book), in_version_2(&book), book];
+    for first in books.map(|book| book.to_bytes()) {
         let reductions = reference::run(&mut first.clone(), None, None).reductions;
         let due = usize::try_from(reductions).unwrap_or(MOST_ENTRIES);
         for room in [due + 1, due, due - 1, 1, 0] {

@@ -3,6 +3,7 @@
 
 #![forbid(unsafe_code)]
 
+use books::groups::in_version_3;
 use books::hard::{chain, many_sellers, one_seller, widest, MOST_REDUCTIONS};
 use books::versions::in_version_2;
 use books::{Generator, Kind};
@@ -57,8 +58,9 @@ fn no_run_is_longer() {
 /// The bound is reached: these books take one reduction for each MWh.
 #[test]
 fn some_runs_are_as_long() {
-    // In version 2 the positions of the last two stay short and earn no credit.
-    let second = [chain(4), widest(3)].map(|book| in_version_2(&book));
+    // From version 2 on the positions of the last two stay short and earn no credit.
+    let second = [chain(4), widest(3)].map(|book| [in_version_2(&book), in_version_3(&book)]);
+    let second = second.into_iter().flatten();
     let first = [one_seller(100), many_sellers(4), chain(4), widest(3)];
     for book in first.into_iter().chain(second) {
         let (reductions, most) = run(&book.to_bytes()).expect("an accepted book");

@@ -197,7 +197,7 @@ unsafe extern "C" {
 }
 
 /// The interface that this module is written for: the archive's must be the same.
-pub const INTERFACE: u32 = 4;
+pub const INTERFACE: u32 = 5;
 
 /// The archive's interface.
 pub fn interface() -> u32 {

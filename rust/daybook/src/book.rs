@@ -1,11 +1,12 @@
 //! A book's fields, and the image in which they pass the C interface.
 
-/// Bytes of an image: the longest header, 64 users and 256 trades. The largest
-/// book has as many.
-pub const IMAGE_LENGTH: usize = LONGEST_HEADER + MOST_USERS * USER_LENGTH + TRADES_LENGTH;
+/// Bytes of an image: the longest header, 64 users of the longest record and 256
+/// trades. The largest book has as many.
+pub const IMAGE_LENGTH: usize = TRADES_AT + MOST_TRADES * TRADE_LENGTH;
 
-/// Bytes of a user's record.
-pub const USER_LENGTH: usize = 56;
+/// Bytes of a user's longest record, that of version 3; [`user_length`] tells
+/// those of a version.
+pub const RECORD_LENGTH: usize = 68;
 
 /// Bytes of a trade's record.
 pub const TRADE_LENGTH: usize = 20;
@@ -16,24 +17,40 @@ pub const MOST_USERS: usize = 64;
 /// The most trades of an accepted book.
 pub const MOST_TRADES: usize = 256;
 
-/// Bytes of the header of version 1, and of version 2, which has the selling
-/// tariffs too.
-const HEADER_LENGTH: usize = 32;
+/// Bytes of the longest header, which has the selling tariffs.
 const LONGEST_HEADER: usize = 40;
 
-const TRADES_LENGTH: usize = MOST_TRADES * TRADE_LENGTH;
-const TRADES_AT: usize = IMAGE_LENGTH - TRADES_LENGTH;
+/// Where the trades of an image begin.
+const TRADES_AT: usize = LONGEST_HEADER + MOST_USERS * RECORD_LENGTH;
 
 /// The fields of a book in the book's format, always with a header of 40 bytes
-/// and places for 64 users and 256 trades; those past the counts are 0 after
-/// reading, and are not looked at in writing, and neither are the selling tariffs
-/// of version 1. Mark and zero bytes are not looked at either.
+/// and places for 64 users of 68 bytes and 256 trades; those past the counts are 0
+/// after reading, and are not looked at in writing, and neither are the fields that
+/// the version has not: the selling tariffs of version 1, the managers of versions
+/// 1 and 2. Mark and zero bytes are not looked at either.
 pub type Image = [u8; IMAGE_LENGTH];
+
+/// Bytes of the header of a book of a version: versions 2 and 3 have the selling
+/// tariffs in it.
+pub const fn header_length(version: u16) -> usize {
+    match version {
+        2 | 3 => LONGEST_HEADER,
+        _ => 32,
+    }
+}
+
+/// Bytes of each user of a book of a version: version 3 has the managers at its end.
+pub const fn user_length(version: u16) -> usize {
+    match version {
+        3 => RECORD_LENGTH,
+        _ => 56,
+    }
+}
 
 /// The fields of a book. The counts are the lengths of the lists.
 #[derive(Clone, Debug, Default, PartialEq, Eq)]
 pub struct Book {
-    /// 1 or 2 in an accepted book.
+    /// 1, 2 or 3 in an accepted book.
     pub version: u16,
     /// Year × 10,000 + month × 100 + day.
     pub date: u32,
@@ -64,7 +81,29 @@ pub struct Prices {
     pub tank_and_store_selling_tariff: u32,
 }
 
-/// A user's record. Amounts per area stand in the order PVB, TVB, AVB.
+/// A user's record. What it has per area stands in the order PVB, TVB, AVB.
+///
+/// In a group the manager bears the risk, and its levels are those of what it and
+/// its members have together; a member's are those of its charges:
+///
+/// ```
+/// use daybook::{Book, Level, Prices, User};
+///
+/// let short = |id: u32, mwh: i32| {
+///     let physical = [-mwh, 0, 0];
+///     User { id, physical, position: physical, ..User::default() }
+/// };
+/// let member = User { managers: [101, 0, 0], ..short(102, 3_000) };
+/// let prices = Prices { pvb_tariff: 2_000, tank_and_store_tariff: 2_100, ..Prices::default() };
+/// let users = vec![short(101, 5_000), member];
+/// let book = Book { version: 3, date: 20_260_318, prices, users, trades: vec![] };
+/// let mut bytes = vec![0; book.length()];
+/// daybook::write(&book, &mut bytes)?;
+/// assert_eq!(daybook::afternoon_level(&bytes, 101), Ok(Level(16_000_000)));
+/// assert_eq!(daybook::afternoon_level(&bytes, 102), Ok(Level(10_000_000)));
+/// assert_eq!(daybook::show(&bytes, 102)?.managers, [101, 0, 0]);
+/// # Ok::<(), daybook::Refusal>(())
+/// ```
 #[derive(Clone, Copy, Debug, Default, PartialEq, Eq)]
 pub struct User {
     pub id: u32,
@@ -80,6 +119,13 @@ pub struct User {
     pub assigned: u64,
     /// Blocked guarantee in cents.
     pub blocked: u64,
+    /// The id of the group manager that bears the user's risk in each area, 0 for
+    /// none: what enters levels, flag and tiers there is the manager's sum over
+    /// itself and its members, and of a member 0. In an accepted book it is the id
+    /// of another user, both are shippers, and the manager has no manager in that
+    /// area. Versions 1 and 2 have no managers: they are 0 when read, and neither
+    /// written nor looked at.
+    pub managers: [u32; 3],
 }
 
 /// A trade's record.
@@ -102,20 +148,17 @@ pub struct Trade {
 }
 
 impl Book {
-    /// Bytes of this book, written up to its counts. The header has 32 bytes, in
-    /// version 2 it has 40.
+    /// Bytes of this book, written up to its counts: header and users have the
+    /// lengths of its version ([`header_length`], [`user_length`]).
     pub fn length(&self) -> usize {
-        let header = match self.version {
-            2 => LONGEST_HEADER,
-            _ => HEADER_LENGTH,
-        };
-        header + USER_LENGTH * self.users.len() + TRADE_LENGTH * self.trades.len()
+        let users = user_length(self.version) * self.users.len();
+        header_length(self.version) + users + TRADE_LENGTH * self.trades.len()
     }
 
     /// The fields of an image. A count above the places of the image gives the
     /// records of all its places.
     pub fn from_image(image: &Image) -> Book {
-        let users = image[LONGEST_HEADER..TRADES_AT].chunks_exact(USER_LENGTH);
+        let users = image[LONGEST_HEADER..TRADES_AT].chunks_exact(RECORD_LENGTH);
         let trades = image[TRADES_AT..].chunks_exact(TRADE_LENGTH);
         let trade_count = u16::from_le_bytes(field(image, 6));
         Book {
@@ -171,7 +214,7 @@ impl Book {
         for (place, user) in self.users.iter().take(MOST_USERS).enumerate() {
             put(
                 &mut image,
-                LONGEST_HEADER + USER_LENGTH * place,
+                LONGEST_HEADER + RECORD_LENGTH * place,
                 user.to_bytes(),
             );
         }
@@ -187,9 +230,10 @@ impl Book {
 }
 
 impl User {
-    /// The fields of a record. The three zero bytes are not looked at.
+    /// The fields of a record, which of versions 1 and 2 has 12 zero bytes behind
+    /// it. The three zero bytes in it are not looked at.
     #[inline]
-    pub fn from_bytes(bytes: &[u8; USER_LENGTH]) -> User {
+    pub fn from_bytes(bytes: &[u8; RECORD_LENGTH]) -> User {
         User {
             id: u32::from_le_bytes(field(bytes, 0)),
             role: bytes[4],
@@ -198,17 +242,20 @@ impl User {
             charges: i64::from_le_bytes(field(bytes, 32)),
             assigned: u64::from_le_bytes(field(bytes, 40)),
             blocked: u64::from_le_bytes(field(bytes, 48)),
+            managers: [56, 60, 64].map(|at| u32::from_le_bytes(field(bytes, at))),
         }
     }
 
-    /// The record of the fields.
-    pub fn to_bytes(&self) -> [u8; USER_LENGTH] {
-        let mut bytes = [0; USER_LENGTH];
+    /// The record of the fields. A book of version 1 or 2 has the first 56 bytes
+    /// of it ([`user_length`]).
+    pub fn to_bytes(&self) -> [u8; RECORD_LENGTH] {
+        let mut bytes = [0; RECORD_LENGTH];
         put(&mut bytes, 0, self.id.to_le_bytes());
         put(&mut bytes, 4, [self.role]);
         for area in 0..3 {
             put(&mut bytes, 8 + 4 * area, self.physical[area].to_le_bytes());
             put(&mut bytes, 20 + 4 * area, self.position[area].to_le_bytes());
+            put(&mut bytes, 56 + 4 * area, self.managers[area].to_le_bytes());
         }
         put(&mut bytes, 32, self.charges.to_le_bytes());
         put(&mut bytes, 40, self.assigned.to_le_bytes());

@@ -81,13 +81,15 @@ pub fn posting(book: &mut [u8], id: u32, area: u32, amount: i64) -> Result<(), R
     Request::new().posting(book, id, area, amount)
 }
 
-/// The morning level of a shipper.
+/// The morning level of a shipper. In version 3 a group manager bears its members'
+/// risk ([`User::managers`]).
 pub fn morning_level(book: &[u8], id: u32) -> Result<Level, Refusal> {
     Request::new().morning_level(book, id)
 }
 
-/// The afternoon level of a shipper. In version 2 it is lowered by a credit, each
-/// long position at its selling tariff, down to the least level.
+/// The afternoon level of a shipper. In versions 2 and 3 it is lowered by a credit,
+/// each long position at its selling tariff, down to the least level. In version 3 a
+/// group manager bears its members' risk ([`User::managers`]).
 pub fn afternoon_level(book: &[u8], id: u32) -> Result<Level, Refusal> {
     Request::new().afternoon_level(book, id)
 }

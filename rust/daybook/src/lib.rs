@@ -42,8 +42,8 @@ mod request;
 pub mod shrinkage;
 
 pub use book::{
-    Book, Image, Prices, Trade, User, IMAGE_LENGTH, MOST_TRADES, MOST_USERS, TRADE_LENGTH,
-    USER_LENGTH,
+    header_length, user_length, Book, Image, Prices, Trade, User, IMAGE_LENGTH, MOST_TRADES,
+    MOST_USERS, RECORD_LENGTH, TRADE_LENGTH,
 };
 pub use calls::{
     afternoon_call, afternoon_level, morning_call, morning_level, most_reductions, posting, read,

@@ -3,6 +3,7 @@
 use std::fmt::{self, Debug, Formatter};
 
 use crate::archive;
+use crate::book::IMAGE_LENGTH;
 use crate::calls::answered;
 use crate::refusal::Refusal;
 
@@ -12,9 +13,10 @@ pub const LOG_LENGTH: usize = 271_668;
 /// The most reductions that a log can note.
 pub const MOST_ENTRIES: usize = 256;
 
-/// Where the held book begins, behind the mark and the two numbers, and its room.
+/// Where the held book begins, behind the mark and the two numbers, and its room,
+/// that of the largest book.
 const HELD: usize = 12;
-const HELD_ROOM: usize = 9_512;
+const HELD_ROOM: usize = IMAGE_LENGTH;
 
 /// The reductions of a day, each to be withdrawn again: the book as the last call
 /// with the log left it, and what each reduction cut of each trade.

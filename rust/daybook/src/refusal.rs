@@ -74,12 +74,13 @@ impl Refusal {
     pub fn question(self) -> &'static str {
         match self {
             Refusal::Mark => "at least 32 bytes, starting with the mark?",
-            Refusal::Version => "version 1 or 2?",
+            Refusal::Version => "version 1, 2 or 3?",
             Refusal::CountsAndLength => {
-                "counts in range and length exactly 32 (version 2: 40) + 56 × users + 20 × trades?"
+                "counts in range and length exactly 32 (versions 2 and 3: 40) + 56 (version 3: 68) \
+                 × users + 20 × trades?"
             }
             Refusal::DateAndPrices => "date, prices, tolls and selling tariffs in range?",
-            Refusal::Users => "every user field valid, positions apart?",
+            Refusal::Users => "every user field valid, managers too, positions apart?",
             Refusal::Trades => "every trade valid?",
             Refusal::Positions => "every position as defined?",
             Refusal::Id => "id in the book?",

@@ -2,7 +2,7 @@
 //! that it is given, or none.
 
 use crate::archive;
-use crate::book::{User, MOST_TRADES, USER_LENGTH};
+use crate::book::{User, MOST_TRADES, RECORD_LENGTH};
 use crate::calls::{answered, GuaranteeCall, Level, Reduction, Run};
 use crate::cancellation::Cancellation;
 use crate::list::Line;
@@ -64,7 +64,7 @@ impl<'a> Request<'a> {
 
     /// The record of a user.
     pub fn show(&self, book: &[u8], id: u32) -> Result<User, Refusal> {
-        let mut record = [0; USER_LENGTH];
+        let mut record = [0; RECORD_LENGTH];
         answered(archive::show(book, self.store, id, &mut record))?;
         Ok(User::from_bytes(&record))
     }
@@ -78,7 +78,7 @@ impl<'a> Request<'a> {
         afternoon_picked: bool,
         id: u32,
     ) -> Result<User, Refusal> {
-        let mut record = [0; USER_LENGTH];
+        let mut record = [0; RECORD_LENGTH];
         let pick = u32::from(afternoon_picked);
         answered(archive::show_picked(
             morning,

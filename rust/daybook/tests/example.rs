@@ -297,7 +297,7 @@ fn refused_writes() {
     let mut busy = book();
     busy.trades.resize(70_000, Trade::default());
     let versions = Book {
-        version: 3,
+        version: 4,
         ..book()
     };
     let mut priced = version_2();

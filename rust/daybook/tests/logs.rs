@@ -69,7 +69,7 @@ fn counts(run: &Run) -> (u64, u64, u64, bool) {
 /// From the start over a reduction and a run back to the first bytes.
 #[test]
 fn a_log_is_withdrawn_to_the_first_book() {
-    for version in [1, 2] {
+    for version in [1, 2, 3] {
         let first = book(version);
         let mut book = first.clone();
         let mut log = Log::start(&book).expect("a log");

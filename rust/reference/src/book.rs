@@ -2,15 +2,16 @@
 //! Nothing is judged here; see the module `questions`.
 
 use crate::units::{Area, Cents, Mwh, Price, Prices};
-use crate::version::{self, header_length, selling_tariff_bytes, selling_tariffs};
+use crate::version::{self, has_managers, header_length, selling_tariff_bytes, selling_tariffs};
 
 pub const MARK: &[u8; 3] = b"GDB";
+/// The bytes of a user in versions 1 and 2, with which a user of version 3 begins.
 pub const USER_LENGTH: usize = 56;
 pub const TRADE_LENGTH: usize = 20;
 pub const MOST_USERS: usize = 64;
 pub const MOST_TRADES: usize = 256;
 
-/// The longest book of any version: 8,744 bytes.
+/// The longest book of any version: 9,512 bytes.
 pub const LONGEST: usize = length(version::LAST, MOST_USERS, MOST_TRADES);
 
 pub const SHIPPER: u8 = 0;
@@ -19,9 +20,22 @@ pub const BILATERAL: u8 = 0;
 pub const TODAY: u8 = 0;
 pub const TOMORROW: u8 = 1;
 
-/// 32 + 56 × users + 20 × trades; in version 2 the header has 40 bytes.
+/// Where the three manager ids of a user stand in version 3.
+const MANAGERS: [usize; 3] = [56, 60, 64];
+
+/// The bytes of a user: "a record is then 68 bytes", in version 3.
+pub const fn user_length(version: u16) -> usize {
+    if has_managers(version) {
+        USER_LENGTH + 12
+    } else {
+        USER_LENGTH
+    }
+}
+
+/// 32 + 56 × users + 20 × trades; from version 2 on the header has 40 bytes, and
+/// in version 3 a user has 68.
 pub const fn length(version: u16, users: usize, trades: usize) -> usize {
-    header_length(version) + USER_LENGTH * users + TRADE_LENGTH * trades
+    header_length(version) + user_length(version) * users + TRADE_LENGTH * trades
 }
 
 /// The fields of the header. The mark is no field: every book has the same.
@@ -43,6 +57,8 @@ pub struct User {
     pub charges: Cents,
     pub assigned: Cents,
     pub blocked: Cents,
+    /// "Three 32-bit manager ids, one per area, 0 for none"; 0 in versions 1 and 2.
+    pub managers: [u32; 3],
 }
 
 #[derive(Clone, Debug, Default, PartialEq, Eq)]
@@ -91,6 +107,7 @@ impl Header {
 }
 
 impl User {
+    /// The fields that a user has in every version.
     pub fn from_bytes(bytes: &[u8]) -> User {
         User {
             id: u32_at(bytes, 0),
@@ -100,11 +117,22 @@ impl User {
             charges: Cents(signed(bytes, 32, 8)),
             assigned: Cents(unsigned(bytes, 40, 8)),
             blocked: Cents(unsigned(bytes, 48, 8)),
+            managers: [0; 3],
         }
     }
 
-    pub fn to_bytes(&self) -> [u8; USER_LENGTH] {
-        let mut bytes = [0; USER_LENGTH];
+    /// The fields of a user of this version.
+    pub fn of_version(version: u16, bytes: &[u8]) -> User {
+        let mut user = User::from_bytes(bytes);
+        if has_managers(version) {
+            user.managers = MANAGERS.map(|at| u32_at(bytes, at));
+        }
+        user
+    }
+
+    /// The bytes of a user of this version.
+    pub fn to_bytes(&self, version: u16) -> Vec<u8> {
+        let mut bytes = vec![0; user_length(version)];
         put(&mut bytes, 0, 4, i128::from(self.id));
         bytes[4] = self.role;
         for area in Area::ALL {
@@ -115,6 +143,11 @@ impl User {
         put(&mut bytes, 32, 8, self.charges.0);
         put(&mut bytes, 40, 8, self.assigned.0);
         put(&mut bytes, 48, 8, self.blocked.0);
+        if has_managers(version) {
+            for (at, manager) in MANAGERS.into_iter().zip(self.managers) {
+                put(&mut bytes, at, 4, i128::from(manager));
+            }
+        }
         bytes
     }
 
@@ -172,18 +205,21 @@ impl Book {
     pub fn from_bytes(header: &Header, bytes: &[u8]) -> Book {
         let users_at = header_length(header.version);
         let trades_at = length(header.version, header.users, 0);
-        Book::from_records(header, &bytes[users_at..], &bytes[trades_at..])
+        let width = user_length(header.version);
+        Book::from_records(header, width, &bytes[users_at..], &bytes[trades_at..])
     }
 
-    /// The fields of a header, with users and trades from the places lent.
-    pub fn from_records(header: &Header, users: &[u8], trades: &[u8]) -> Book {
-        let users = users.chunks_exact(USER_LENGTH).take(header.users);
+    /// The fields of a header, with users and trades from the places lent, a place
+    /// for a user being this wide.
+    pub fn from_records(header: &Header, width: usize, users: &[u8], trades: &[u8]) -> Book {
+        let users = users.chunks_exact(width).take(header.users);
+        let user = |bytes| User::of_version(header.version, bytes);
         let trades = trades.chunks_exact(TRADE_LENGTH).take(header.trades);
         Book {
             version: header.version,
             date: header.date,
             prices: header.prices,
-            users: users.map(User::from_bytes).collect(),
+            users: users.map(user).collect(),
             trades: trades.map(Trade::from_bytes).collect(),
         }
     }
@@ -209,7 +245,7 @@ impl Book {
     pub fn to_bytes(&self) -> Vec<u8> {
         let mut bytes = self.header_bytes();
         for user in &self.users {
-            bytes.extend_from_slice(&user.to_bytes());
+            bytes.extend_from_slice(&user.to_bytes(self.version));
         }
         for trade in &self.trades {
             bytes.extend_from_slice(&trade.to_bytes());

@@ -65,7 +65,7 @@ fn cancelled(
 /// The places of the eligible trades, "from both tiers", in the order of the
 /// book.
 fn eligible_places(book: &Book, user: &User) -> Vec<usize> {
-    let eligible = |place: &usize| is_eligible(&book.trades[*place], user);
+    let eligible = |place: &usize| is_eligible(book, &book.trades[*place], user);
     (0..book.trades.len()).filter(eligible).collect()
 }
 

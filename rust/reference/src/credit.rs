@@ -1,6 +1,7 @@
 //! Document 02, ask 3, "Credit for long positions".
 
 use crate::book::{Book, User};
+use crate::group::position;
 use crate::units::{Area, Cents, Price, Prices};
 use crate::version::has_selling_tariffs;
 
@@ -11,7 +12,7 @@ pub fn credit(book: &Book, user: &User) -> Cents {
         return Cents::ZERO;
     }
     let credited =
-        |area: Area| user.position[area.index()].or_zero() * selling_tariff(area, &book.prices);
+        |area: Area| position(book, user, area).or_zero() * selling_tariff(area, &book.prices);
     Area::ALL.map(credited).into_iter().sum()
 }
 

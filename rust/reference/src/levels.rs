@@ -2,6 +2,7 @@
 
 use crate::book::{Book, User, TODAY, TOMORROW};
 use crate::credit::credit;
+use crate::group;
 use crate::questions::{questions_to_9, Opened, ACCEPTED};
 use crate::store::Limits;
 use crate::units::{Area, Cents, Mwh, Price};
@@ -52,9 +53,13 @@ pub fn morning_level_of(limits: &Limits, book: &Book, user: &User) -> Cents {
 
 /// "Need = −physical + sold − bought over d and d+1."
 fn morning_need(book: &Book, user: &User, area: Area) -> Mwh {
-    let today = book.sold(user, area, TODAY) - book.bought(user, area, TODAY);
-    let tomorrow = book.sold(user, area, TOMORROW) - book.bought(user, area, TOMORROW);
-    -user.physical[area.index()] + today + tomorrow
+    let today = group::sold(book, user, area, TODAY) - group::bought(book, user, area, TODAY);
+    -group::physical(book, user, area) + today + sold_tomorrow(book, user, area)
+}
+
+/// Sold − bought for d+1.
+fn sold_tomorrow(book: &Book, user: &User, area: Area) -> Mwh {
+    group::sold(book, user, area, TOMORROW) - group::bought(book, user, area, TOMORROW)
 }
 
 /// "Level = charges + sum of max(0, need) × w + sum of max(0, −position) × w",
@@ -68,16 +73,16 @@ pub fn afternoon_level_of(limits: &Limits, book: &Book, user: &User) -> Cents {
 
 /// "Need = sold − bought for d+1, minus max(0, position) in areas 1 and 2."
 fn afternoon_need(book: &Book, user: &User, area: Area) -> Mwh {
-    let tomorrow = book.sold(user, area, TOMORROW) - book.bought(user, area, TOMORROW);
+    let tomorrow = sold_tomorrow(book, user, area);
     match area {
         Area::Pvb => tomorrow,
-        Area::Tvb | Area::Avb => tomorrow - user.position[area.index()].or_zero(),
+        Area::Tvb | Area::Avb => tomorrow - group::position(book, user, area).or_zero(),
     }
 }
 
 /// Sum of max(0, −position) × w.
 pub fn short_positions(book: &Book, user: &User) -> Cents {
-    over_areas(book, |area| -user.position[area.index()])
+    over_areas(book, |area| -group::position(book, user, area))
 }
 
 /// Sum over the areas of max(0, energy) × w.
@@ -108,10 +113,13 @@ pub fn called_in(limits: &Limits, book: &Book, user: &User) -> bool {
     flagged(limits, book, user) || party_to_cut_trade(book, user)
 }
 
-/// Seller or buyer of a trade standing below notified.
+/// Seller or buyer of a trade standing below notified; "a member's trade there
+/// calls in the manager in place of the member".
 pub fn party_to_cut_trade(book: &Book, user: &User) -> bool {
     book.trades.iter().any(|trade| {
-        (trade.seller == user.id || trade.buyer == user.id) && trade.standing < trade.notified
+        trade.standing < trade.notified
+            && (group::counts_for(book, trade.seller, user, trade)
+                || group::counts_for(book, trade.buyer, user, trade))
     })
 }
 

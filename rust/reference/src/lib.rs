@@ -1,8 +1,8 @@
 //! Reference implementation of document 01: the day book, imbalance risk,
 //! guarantee calls and reduced trades; and of document 02, asks 4 (parameters
 //! with a start date), 1 (a list of postings), 8 (whole cancellations), 3 (credit
-//! for long positions, version 2 of the book) and 6 (a log, and the withdrawal of a
-//! reduction).
+//! for long positions, version 2 of the book), 6 (a log, and the withdrawal of a
+//! reduction) and 5 (group portfolios, version 3 of the book).
 //!
 //! It is plain and slow on purpose. The modules follow the order of the
 //! document, and the comments cite its sections in quotes. Every number is
@@ -24,6 +24,7 @@ pub mod calls;
 pub mod cancellation;
 pub mod credit;
 pub mod day;
+pub mod group;
 pub mod levels;
 pub mod list;
 pub mod log;

@@ -1,9 +1,10 @@
 //! "The questions": asked in order, each of the whole book before the next.
 
 use crate::book::{
-    length, Book, Header, Trade, User, CLEARING_HOUSE, MARK, MOST_TRADES, MOST_USERS, TOMORROW,
-    TRADE_LENGTH, USER_LENGTH,
+    length, user_length, Book, Header, Trade, User, CLEARING_HOUSE, MARK, MOST_TRADES, MOST_USERS,
+    TOMORROW, TRADE_LENGTH,
 };
+use crate::group::managers_valid;
 use crate::store::{self, Limits};
 use crate::units::{Area, Cents, Mwh, Price, Prices};
 use crate::version::{header_length, is_known, selling_tariffs_in_range, FIRST_HEADER_LENGTH};
@@ -44,7 +45,10 @@ pub fn questions_1_to_7(bytes: &[u8]) -> Result<Book, u32> {
             && selling_tariffs_in_range(header.version, &header.prices),
     )?;
     let book = Book::from_bytes(&header, bytes);
-    ask(5, users_valid(&book) && users_zero_bytes(&header, bytes))?;
+    ask(
+        5,
+        users_valid(&book) && users_zero_bytes(&header, bytes) && managers_valid(&book),
+    )?;
     ask(6, trades_valid(&book) && trades_zero_bytes(&header, bytes))?;
     ask(7, positions_as_defined(&book))?;
     Ok(book)
@@ -96,7 +100,7 @@ fn prices_in_range(prices: &Prices) -> bool {
     tariff(prices.p) && tariff(prices.q) && toll(prices.l) && toll(prices.x) && toll(prices.i)
 }
 
-/// Question 5, but for the zero bytes.
+/// Question 5, but for the zero bytes and the manager ids.
 fn users_valid(book: &Book) -> bool {
     book.users.iter().all(user_valid) && ids_rising(book)
 }
@@ -124,7 +128,7 @@ fn users_zero_bytes(header: &Header, bytes: &[u8]) -> bool {
     let users_at = header_length(header.version);
     let users = &bytes[users_at..length(header.version, header.users, 0)];
     users
-        .chunks_exact(USER_LENGTH)
+        .chunks_exact(user_length(header.version))
         .all(|user| user[5..8] == [0, 0, 0])
 }
 

@@ -1,6 +1,7 @@
 //! "Reduction".
 
 use crate::book::{Book, Trade, User};
+use crate::group;
 use crate::levels::{above_margin, afternoon_level_of, called_in};
 use crate::logged::{has_room, logged, note};
 use crate::questions::{ask, Opened, ACCEPTED};
@@ -56,13 +57,15 @@ fn questions_11_to_14(limits: &Limits, book: &Book, user: &User) -> Result<(), u
     ask(14, has_eligible_trade(book, user))
 }
 
-/// "Eligible: the user's sales of kind 0, day 0, standing above 0."
-pub fn is_eligible(trade: &Trade, user: &User) -> bool {
-    trade.seller == user.id && trade.is_bilateral_today() && trade.standing > Mwh::ZERO
+/// "Eligible: the user's sales of kind 0, day 0, standing above 0"; a manager's
+/// are those of its group.
+pub fn is_eligible(book: &Book, trade: &Trade, user: &User) -> bool {
+    trade.is_bilateral_today() && trade.standing > Mwh::ZERO && group::is_sale_of(book, trade, user)
 }
 
 pub fn has_eligible_trade(book: &Book, user: &User) -> bool {
-    book.trades.iter().any(|trade| is_eligible(trade, user))
+    let mut trades = book.trades.iter();
+    trades.any(|trade| is_eligible(book, trade, user))
 }
 
 /// "Target T = afternoon level − assigned."
@@ -74,15 +77,15 @@ pub fn target(limits: &Limits, book: &Book, user: &User) -> Cents {
 /// book. "Tier one: those in areas where the position is negative at the
 /// start; tier two: the others."
 pub fn tiers(book: &Book, user: &User) -> (Vec<usize>, Vec<usize>) {
-    let eligible = |place: &usize| is_eligible(&book.trades[*place], user);
-    let negative = |place: &usize| in_negative_area(&book.trades[*place], user);
+    let eligible = |place: &usize| is_eligible(book, &book.trades[*place], user);
+    let negative = |place: &usize| in_negative_area(book, &book.trades[*place], user);
     (0..book.trades.len()).filter(eligible).partition(negative)
 }
 
-fn in_negative_area(trade: &Trade, user: &User) -> bool {
+fn in_negative_area(book: &Book, trade: &Trade, user: &User) -> bool {
     Area::ALL
         .iter()
-        .any(|area| trade.is_in(*area) && user.position[area.index()] < Mwh::ZERO)
+        .any(|area| trade.is_in(*area) && group::position(book, user, *area) < Mwh::ZERO)
 }
 
 /// One trade of a tier: what stands, and the tariff t of its area.

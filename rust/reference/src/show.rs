@@ -1,15 +1,16 @@
 //! "Warnings and shown records": a user's record as part of the book.
 
-use crate::book::{length, USER_LENGTH};
+use crate::book::{length, user_length};
 use crate::questions::{questions_to_8, ACCEPTED};
 
-/// The 56 bytes of a user, as that part of the book; the empty part for a
-/// refusal.
+/// The record of a user, as that part of the book; the empty part for a refusal. In
+/// version 3 "a record is then 68 bytes, all shown".
 pub fn show<'a>(bytes: &'a [u8], store: Option<&[u8]>, id: u32) -> (u32, &'a [u8]) {
     match questions_to_8(bytes, store, id) {
         Ok((opened, place)) => {
-            let at = length(opened.book.version, place, 0);
-            (ACCEPTED, &bytes[at..][..USER_LENGTH])
+            let version = opened.book.version;
+            let at = length(version, place, 0);
+            (ACCEPTED, &bytes[at..][..user_length(version)])
         }
         Err(number) => (number, &[]),
     }

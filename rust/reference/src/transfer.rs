@@ -1,14 +1,15 @@
 //! "The book in bytes": a book read into its fields, and written from them.
 //!
-//! The fields are handed over as an image of 8,744 bytes: the longest header of
-//! any version, then always 64 users and 256 trades in the book's format, those
-//! past the counts 0. Fields that the version of the book has not, S and U in
-//! version 1, are 0 when read, and are not looked at in writing. Mark and zero
-//! bytes are no fields: writing does not look at them.
+//! The fields are handed over as an image of 9,512 bytes: the longest header of
+//! any version, then always 64 users of 68 bytes and 256 trades, those past the
+//! counts 0, each field where a book of version 3 has it. Fields that the version
+//! of the book has not, S and U in version 1 and managers in versions 1 and 2, are
+//! 0 when read, and are not looked at in writing. Mark and zero bytes are no fields:
+//! writing does not look at them.
 
-use crate::book::{length, Book, Header, LONGEST, MOST_USERS};
+use crate::book::{length, user_length, Book, Header, LONGEST, MOST_USERS};
 use crate::questions::{ask, counts_and_length, questions_1_to_7, ACCEPTED};
-use crate::version::{self, header_length, is_known, LONGEST_HEADER_LENGTH};
+use crate::version::{self, is_known, LONGEST_HEADER_LENGTH};
 
 /// The fields of a book in bytes of one length.
 pub type Image = [u8; LONGEST];
@@ -24,15 +25,21 @@ pub fn read(bytes: &[u8]) -> (u32, Image) {
     }
 }
 
-/// The image of an accepted book.
+/// The image of an accepted book: each record where it would stand in the longest
+/// book of all.
 fn image(book: &Book) -> Image {
-    let bytes = book.to_bytes();
-    let (bytes, trades) = bytes.split_at(length(book.version, book.users.len(), 0));
-    let (header, users) = bytes.split_at(header_length(book.version));
     let mut image = [0; LONGEST];
-    image[..header.len()].copy_from_slice(header);
-    image[LONGEST_HEADER_LENGTH..][..users.len()].copy_from_slice(users);
-    image[IMAGE_TRADES..][..trades.len()].copy_from_slice(trades);
+    let mut put = |at: usize, bytes: &[u8]| image[at..][..bytes.len()].copy_from_slice(bytes);
+    put(0, &book.header_bytes());
+    for (place, user) in book.users.iter().enumerate() {
+        put(
+            length(version::LAST, place, 0),
+            &user.to_bytes(book.version),
+        );
+    }
+    for (place, trade) in book.trades.iter().enumerate() {
+        put(length(version::LAST, MOST_USERS, place), &trade.to_bytes());
+    }
     image
 }
 
@@ -57,7 +64,8 @@ fn written(image: &Image, part: usize) -> Result<Vec<u8>, u32> {
     ask(3, counts_and_length(&header, part))?;
     let users = &image[LONGEST_HEADER_LENGTH..IMAGE_TRADES];
     let trades = &image[IMAGE_TRADES..];
-    let bytes = Book::from_records(&header, users, trades).to_bytes();
+    let width = user_length(version::LAST);
+    let bytes = Book::from_records(&header, width, users, trades).to_bytes();
     questions_1_to_7(&bytes)?;
     Ok(bytes)
 }

@@ -1,6 +1,7 @@
-//! Document 02, ask 3: the versions of the book. "Version 2 of the book has a
-//! 40-byte header: after I come the daily selling tariffs, S for PVB and U for
-//! the other two areas, 32 bits each, 0 to 100,000."
+//! Document 02, asks 3 and 5: the versions of the book. "Version 2 of the book has
+//! a 40-byte header: after I come the daily selling tariffs, S for PVB and U for
+//! the other two areas, 32 bits each, 0 to 100,000." "Version 3 reads as version 2,
+//! credit included, and ends each user record with three 32-bit manager ids."
 
 use crate::book::unsigned;
 use crate::units::{Price, Prices};
@@ -15,7 +16,7 @@ pub const LONGEST_HEADER_LENGTH: usize = 40;
 const SELLING_TARIFFS: [usize; 2] = [32, 36];
 
 /// The last version that is known, and the one with the longest books.
-pub const LAST: u16 = 2;
+pub const LAST: u16 = 3;
 
 /// Question 2.
 pub fn is_known(version: u16) -> bool {
@@ -25,6 +26,11 @@ pub fn is_known(version: u16) -> bool {
 /// Whether the version has S and U.
 pub const fn has_selling_tariffs(version: u16) -> bool {
     version >= 2
+}
+
+/// Whether the version has manager ids.
+pub const fn has_managers(version: u16) -> bool {
+    version >= 3
 }
 
 /// The bytes of the header.

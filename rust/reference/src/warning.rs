@@ -1,6 +1,7 @@
 //! "Warnings and shown records": the midday warning.
 
 use crate::book::{Book, Trade, User};
+use crate::group::bearer;
 use crate::levels::flagged;
 use crate::questions::{questions_to_9, Opened, ACCEPTED};
 use crate::store::Limits;
@@ -41,8 +42,10 @@ pub fn warned_by_seller(limits: &Limits, book: &Book, user: &User) -> bool {
     })
 }
 
+/// "At midday the manager's flag stands for a managed seller's."
 fn seller_is_flagged_shipper(limits: &Limits, book: &Book, trade: &Trade) -> bool {
+    let bearer = bearer(book, trade.seller, trade);
     book.users
         .iter()
-        .any(|user| user.id == trade.seller && user.is_shipper() && flagged(limits, book, user))
+        .any(|user| user.id == bearer && user.is_shipper() && flagged(limits, book, user))
 }

@@ -35,7 +35,7 @@ fn every_printed_day() {
         }
     }
     println!("printed days replayed: {replayed}");
-    assert_eq!(replayed, 155 + 21);
+    assert_eq!(replayed, 154 + 32);
 }
 
 /// What the program `day` prints for this input.

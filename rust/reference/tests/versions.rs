@@ -38,7 +38,7 @@ fn book(version: u16) -> Book {
 fn lengths() {
     assert_eq!(length(1, 1, 0), 88);
     assert_eq!(length(2, 1, 0), 96);
-    assert_eq!(LONGEST, 8_744);
+    assert_eq!(LONGEST, 9_512);
     assert_eq!(book(1).to_bytes().len(), 88);
     assert_eq!(book(2).to_bytes().len(), 96);
 }
@@ -46,7 +46,7 @@ fn lengths() {
 /// Questions 2, 3 and 4 admit the versions, their lengths and their ranges.
 #[test]
 fn questions() {
-    for version in [0, 3, 257, 258, 512, u16::MAX] {
+    for version in [0, 4, 257, 258, 259, 512, u16::MAX] {
         assert_eq!(check(&book(version).to_bytes()), 2, "{version}");
     }
     for version in [1, 2] {
@@ -114,7 +114,7 @@ fn floor() {
     }
 }
 
-/// The header of an image has 40 bytes; S and U of version 1 are 0 when read, and
+/// The header of an image has 40 bytes, a user 68; S and U of version 1 are 0 when read, and
 /// are neither written nor looked at.
 #[test]
 fn fields() {

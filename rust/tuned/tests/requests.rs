@@ -3,13 +3,14 @@
 
 #![forbid(unsafe_code)]
 
+use books::tuned::knows;
 use books::vectors::{replay, replay_requests, REQUESTS};
 use books::{answer, asks, Answer, Call, Generator, Implementation};
 
-/// The tuned implementation, or the reference where a call is given a log, or takes
-/// no store.
+/// The tuned implementation, or the reference where a call is given a log, takes no
+/// store, or questions a book of version 3.
 fn requested(book: &mut [u8], store: Option<&[u8]>, log: Option<&mut [u8]>, call: &Call) -> Answer {
-    if log.is_some() {
+    if log.is_some() || !knows(book, call) {
         return answer(book, store, log, call);
     }
     books::tuned::answer(book, store, call).unwrap_or_else(|| answer(book, store, None, call))
@@ -18,6 +19,9 @@ fn requested(book: &mut [u8], store: Option<&[u8]>, log: Option<&mut [u8]>, call
 /// The same by the functions without a store.
 fn plain(book: &mut [u8], _: Option<&[u8]>, log: Option<&mut [u8]>, call: &Call) -> Answer {
     assert!(log.is_none(), "a call of document 01");
+    if !knows(book, call) {
+        return answer(book, None, None, call);
+    }
     books::tuned::plain_answer(book, call).unwrap_or_else(|| answer(book, None, None, call))
 }
 

@@ -1,9 +1,9 @@
 -- `copy_book` fills header, users and trades one after the other. Assumes nothing.
 use mathlib.Core.Path.{_≡_, sym, _∙_}
-use Prim.Native.Nat.{_+_, _*_}
+use Prim.Native.Nat.{_+_, _*_, _≤_}
 use native.Mathlib.Omega.{arith}
 use denote.Ref.{now}
-use lib.ListN.{length-take}
+use lib.ListN.{length-take, length}
 use lib.Seq.{length-take-le}
 use Rattle.book_format.specs.Book.{tradesAt}
 use Rattle.book_format.proofs.Offsets.{users-end}
@@ -12,76 +12,70 @@ use borrow.Author.Needs.{needs}
 use Rattle.book_image.proofs.copy_book.Statement.{statement}
 use Rattle.book_image.proofs.copy_book.Tie as tie
 
--- the users end where the trades begin
-end : (c : tie.After-users-offset)
-    → c .users-offset .result + 56 * c .before .before .before .args .n ≡ tradesAt (now (c .before .before .before .args .s))
-end c = users-end (now (c .before .before .before .args .s)) (c .users-offset .ensures .0) (c .before .before .before .pre .1)
+-- the users end where the trades begin, which lie in the book
+end : (c : tie.After-users-size)
+    → let start = c .before .before .before .before in
+    c .before .users-offset .result + c .users-size .result * start .args .n ≡ tradesAt (now (start .args .s))
+end c =
+    let start = c .before .before .before .before in
+    users-end (now (start .args .s)) (c .before .users-offset .ensures .0) (c .users-size .ensures .0) (start .pre .1)
+
+whole : (c : tie.After-users-size)
+    → let start = c .before .before .before .before in
+    c .before .users-offset .result + c .users-size .result * start .args .n ≤ length (now (start .args .s))
+whole c = omega (arith, end c, c .before .before .before .before .pre .0 .whole)
+
+mul-at : tie.Need-mul-at
+mul-at c = let e = whole c in search needs
+
+add-at : tie.Need-add-at
+add-at c = let e = whole c in search needs
 
 slice-aggregate-fill-part : tie.Need-slice-aggregate-fill-part
-slice-aggregate-fill-part c =
-    let h = c .before .before in
-    sym (length-take-le _ _ (omega (arith, end h, h .before .before .before .pre .0 .whole)))
+slice-aggregate-fill-part c = sym (length-take-le _ _ (omega (arith, whole (c .before .before))))
 
 fill-part-requires : tie.Need-fill-part-requires
 fill-part-requires c κs =
     let h = c .before .before in
-    let start = h .before .before .before in
-    (omega arith, omega (arith, start .pre .2), rw length-take (omega (arith, h .users-offset .ensures .1)))
+    (omega arith, omega (arith, h .before .before .before .before .pre .2), rw length-take (omega (arith, h .before .users-offset .ensures .1)))
+
+fill-users-requires : tie.Need-fill-users-requires
+fill-users-requires c κs = let e = whole (c .before .before .before .before .before .before) in search needs
 
 sub-fill-part : tie.Need-sub-fill-part
-sub-fill-part c = search needs
+sub-fill-part c = let e = whole (c .before .before .before .before .before .before .before .before .before .before) in search needs
 
 part-fill-part-start : tie.Need-part-fill-part-start
-part-fill-part-start c = search needs
-
-part-fill-part-end : tie.Need-part-fill-part-end
-part-fill-part-end c = let e = end (c .before .before .before .before .before .before) in search needs
+part-fill-part-start c = let e = whole (c .before .before .before .before .before .before .before .before .before .before) in search needs
 
 fill-part-requires-2 : tie.Need-fill-part-requires-2
-fill-part-requires-2 c κs = search needs
-
-sub-fill-part-2 : tie.Need-sub-fill-part-2
-sub-fill-part-2 c = let e = end (c .before .before .before .before .before .before .before .before .before .before .before) in search needs
-
-part-fill-part-start-2 : tie.Need-part-fill-part-start-2
-part-fill-part-start-2 c = let e = end (c .before .before .before .before .before .before .before .before .before .before .before) in search needs
-
-part-fill-part-end-2 : tie.Need-part-fill-part-end-2
-part-fill-part-end-2 c = search needs
-
-fill-part-requires-3 : tie.Need-fill-part-requires-3
-fill-part-requires-3 c κs = let e = end (c .before .before .before .before .before .before .before .before .before .before .before .before) in search needs
-
-same-length : tie.Need-same-length
-same-length c = search needs
+fill-part-requires-2 c κs = let e = end (c .before .before .before .before .before .before .before .before .before .before .before) in search needs
 
 returns : tie.Need-returns
 returns c =
     let trades = c .before .before in
     let users = trades .before .before .before .before .before in
-    let header = users .before .before .before .before .before in
-    let offset = header .before .before .before in
-    let start = offset .before .before .before in
-    trades .fill-part3 .ensures
-    ∙ rw (users .fill-part2 .ensures, header .fill-part .ensures)
-    (all-filled (now (start .args .s)) (now (start .args .image)) (start .pre .0) (offset .users-offset .ensures .0) (start .pre .1) (start .pre .2))
+    let header = users .before .before .before .before in
+    let size = header .before .before .before in
+    let start = size .before .before .before .before in
+    trades .fill-part2 .ensures
+    ∙ rw (users .fill-users .ensures, header .fill-part .ensures)
+    (all-filled (now (start .args .s)) (now (start .args .image)) (start .pre .0) (size .before .users-offset .ensures .0) (size .users-size .ensures .0) (start .pre .1) (start .pre .2))
 
 pub copy-book-spec : {M : Type 1} → statement M
 copy-book-spec =
     tie.close
     (tie.spec
     (λ c κs. search needs)
-    (λ c. search needs)
-    (λ c. search needs)
+    (λ c κs. search needs)
+    mul-at
+    add-at
     slice-aggregate-fill-part
     fill-part-requires
+    fill-users-requires
     sub-fill-part
     part-fill-part-start
-    part-fill-part-end
+    (λ c. search needs)
     fill-part-requires-2
-    sub-fill-part-2
-    part-fill-part-start-2
-    part-fill-part-end-2
-    fill-part-requires-3
-    same-length
+    (λ c. search needs)
     returns)

@@ -1,65 +1,58 @@
--- `copy_users` lends where the users stand and where they go; users that are read and written again are their bytes with the zero bytes as 0. Assumes nothing.
+-- `copy_users` writes the records in the size of the version, and makes their zero bytes 0 there: so they are users that are read and written again. Assumes nothing.
+use mathlib.Core.Path.{sym, _∙_}
+use Prim.Native.Nat.{_+_, _*_, _≤_}
 use denote.Ref.{now}
-use Rattle.book_records.specs.User.{userOf, userBytes}
-use Rattle.book_records.proofs.Users.{length-userBytes}
-use Rattle.book_image.proofs.Zeroed.{user-zeroed}
-use Rattle.book_image.proofs.Turns.{records-copied}
+use lib.ListN.{length}
+use Rattle.book_format.specs.Book.{userRecord}
+use Rattle.book_format.proofs.Offsets.{length-userRecord}
+use Rattle.book_image.specs.ImageBook.{imageUserOf}
+use Rattle.book_image.proofs.Zeroed.{image-zeroed}
+use Rattle.book_image.proofs.Turns.{records-refitted}
 use borrow.Author.Needs.{needs}
 use Rattle.book_image.proofs.copy_users.Statement.{statement}
 use Rattle.book_image.proofs.copy_users.Tie as tie
 
-mul-size : tie.Need-mul-size
-mul-size c = search needs
+-- the records of the version lie in the part
+room : (c : tie.After-user-size)
+    → let a = c .before .before .before .args in
+    a .at + c .user-size .result * a .n ≤ length (now (a .out))
+room c = let start = c .before .before .before in rw (c .user-size .ensures .0) (start .pre .1)
 
-add-copy-records : tie.Need-add-copy-records
-add-copy-records c = search needs
+fit-records-requires : tie.Need-fit-records-requires
+fit-records-requires c κs = (c .before .before .before .before .pre .0, room (c .before))
 
-sub-copy-records : tie.Need-sub-copy-records
-sub-copy-records c = search needs
+mul-clear-fields : tie.Need-mul-clear-fields
+mul-clear-fields c = let e = room (c .before .before .before .before) in search needs
 
-part-copy-records-start : tie.Need-part-copy-records-start
-part-copy-records-start c = search needs
+add-clear-fields : tie.Need-add-clear-fields
+add-clear-fields c = let e = room (c .before .before .before .before) in search needs
 
-part-copy-records-end : tie.Need-part-copy-records-end
-part-copy-records-end c = search needs
-
-add-copy-records-2 : tie.Need-add-copy-records-2
-add-copy-records-2 c = search needs
-
-sub-copy-records-2 : tie.Need-sub-copy-records-2
-sub-copy-records-2 c = search needs
-
-part-copy-records-start-2 : tie.Need-part-copy-records-start-2
-part-copy-records-start-2 c = search needs
-
-part-copy-records-end-2 : tie.Need-part-copy-records-end-2
-part-copy-records-end-2 c = search needs
-
-copy-records-requires : tie.Need-copy-records-requires
-copy-records-requires c κs = search needs
-
-same-length : tie.Need-same-length
-same-length c = search needs
+part-clear-fields-end : tie.Need-part-clear-fields-end
+part-clear-fields-end c = let e = room (c .before .before .before .before) in search needs
 
 returns : tie.Need-returns
 returns c =
-    let start = c .before .before .before .before .before .before .before in
+    let cleared = c .before .before in
+    let fitted = cleared .before .before .before .before in
+    let size = fitted .before .before in
+    let known = size .before .before in
+    let start = known .before in
     let a = start .args in
-    records-copied 56 userOf 3 5 userBytes user-zeroed length-userBytes (now (a .s)) (a .from) (a .n) (now (a .out)) (a .at) (λ i. c .before .before .before .before .before .before .shared-slice-known .given i .fits) (start .pre .0) (start .pre .1) (c .before .before .copy-records .ensures)
+    let e = size .user-size .ensures .0 in
+    records-refitted 68 (size .user-size .result) (imageUserOf (a .version)) 3 5 (userRecord (a .version)) (image-zeroed (a .version) e) (now (a .s)) (a .from) (a .n) (now (a .out)) (a .at)
+    (λ i. known .shared-slice-known .given i .fits) (start .pre .0) (room size) (λ u. length-userRecord (a .version) u ∙ sym e) (fitted .fit-records .ensures) (cleared .clear-fields .ensures)
 
 pub copy-users-spec : {M : Type 1} → statement M
 copy-users-spec =
     tie.close
     (tie.spec
-    mul-size
-    add-copy-records
-    sub-copy-records
-    part-copy-records-start
-    part-copy-records-end
-    add-copy-records-2
-    sub-copy-records-2
-    part-copy-records-start-2
-    part-copy-records-end-2
-    copy-records-requires
-    same-length
+    (λ c κs. search needs)
+    fit-records-requires
+    mul-clear-fields
+    add-clear-fields
+    (λ c. search needs)
+    (λ c. search needs)
+    part-clear-fields-end
+    (λ c κs. search needs)
+    (λ c. search needs)
     returns)

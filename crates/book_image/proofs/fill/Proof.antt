@@ -4,7 +4,7 @@ use native.Mathlib.Omega.{arith}
 use denote.Ref.{now}
 use lib.ListN.{length-take}
 use lib.Seq.{length-take-le}
-use Rattle.book_image.proofs.Copied.{front-filled}
+use Rattle.book_image.proofs.Filled.{front-filled}
 use borrow.Author.Needs.{needs}
 use Rattle.book_image.proofs.fill.Statement.{statement}
 use Rattle.book_image.proofs.fill.Tie as tie

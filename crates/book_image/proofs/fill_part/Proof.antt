@@ -2,7 +2,7 @@
 use denote.Ref.{now}
 use Prim.Native.Nat.{_-_}
 use native.Mathlib.Omega.{arith}
-use Rattle.book_image.proofs.Copied.{part-filled}
+use Rattle.book_image.proofs.Filled.{part-filled}
 use borrow.Author.Needs.{needs}
 use Rattle.book_image.proofs.fill_part.Statement.{statement}
 use Rattle.book_image.proofs.fill_part.Tie as tie

@@ -6,6 +6,7 @@ use lib.Dec.{eqb}
 use lib.ListN.{length}
 use borrow.Author.Tests.{eq-eqb, ne-eqb, not-true, not-false}
 use denote.Ref.{now}
+use Rattle.base.proofs.Tests.{holds}
 use Rattle.rules.specs.Questions.{versionKnown}
 use Rattle.book_format.specs.Book.{userCount, tradeCount, bookOf, lengthBy}
 use Rattle.book_value.specs.Written.{countsInRange}
@@ -100,15 +101,20 @@ returns-3 c =
     (sizes (c .before .before .before .before) (ap₂ (λ (x y : Bool). x && y) (counted (c .before .before))
     (ne-eqb (length (now (a .out))) _ (λ e. c .if3 .taken (e ∙ sym (c .before .book-length .ensures))))))
 
-fields-number-requires : tie.Need-fields-number-requires
-fields-number-requires c κs = counts (c .before .before)
+ask-written-requires : tie.Need-ask-written-requires
+unfolding imageBook bookOf
+ask-written-requires c κs =
+    let i = c .before .before .before .before in
+    let n = i .before .before .user-count .result in
+    let m = i .before .trade-count .result in
+    (counts (c .before .before), holds (version (c .before .before .before)), c .before .book-length .ensures ∙ ap (λ (v : ℕ). lengthBy v n m) (i .before .before .before .version .ensures))
 
 returns-4 : tie.Need-returns-4
 returns-4 c =
     let e = c .before .before in
     let a = e .before .before .before .before .before .before .before .before .before .before .args in
     written-refused (userCount (now (a .image))) (tradeCount (now (a .image))) (imageBook (now (a .image))) (now (a .out)) (version (e .before .before .before)) (sized e)
-    (c .before .fields-number .result) (c .before .fields-number .ensures) (c .if4 .taken)
+    (c .before .ask-written .result) (c .before .ask-written .ensures) (c .if4 .taken)
 
 write-fields-requires : tie.Need-write-fields-requires
 write-fields-requires c κs =
@@ -128,7 +134,7 @@ returns-5 c =
     let e = g .before .before in
     let a = e .before .before .before .before .before .before .before .before .before .before .args in
     written-0 (userCount (now (a .image))) (tradeCount (now (a .image))) (imageBook (now (a .image))) (now (a .out)) (version (e .before .before .before)) (sized e)
-    (sym (g .before .fields-number .ensures) ∙ g .if4 .left) _ (w .write-fields .ensures)
+    (sym (g .before .ask-written .ensures) ∙ g .if4 .left) _ (w .write-fields .ensures)
 
 pub write-spec : {M : Type 1} → statement M
 write-spec =
@@ -144,7 +150,7 @@ write-spec =
     returns-2
     (λ c κs. search needs)
     returns-3
-    fields-number-requires
+    ask-written-requires
     returns-4
     write-fields-requires
     same-length

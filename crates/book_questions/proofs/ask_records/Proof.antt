@@ -20,7 +20,7 @@ users-valid-requires c κs = search needs
 
 returns : tie.Need-returns
 unfolding pastSix
-returns c = (records-5 (c .before .before .users-valid .ensures) (not-true _ (c .if1 .taken)), summed-none 5 (λ p. p))
+returns c = (records-5 _ (c .before .before .users-valid .ensures) (not-true _ (c .if1 .taken)), summed-none 5 (λ p. p))
 
 fill-guesses-requires : tie.Need-fill-guesses-requires
 fill-guesses-requires c κs = search needs
@@ -47,7 +47,7 @@ returns-2 c =
     let trades = c .before .before .before .before .before in
     let passed = trades .before .before .before .before .before .before .before .before .before in
     let a = passed .before .before .before .before .before .before .before .args in (
-      records-6 {ts = tradesFrom (a .trades-at) (a .m) (now (a .s))} (passed .before .before .users-valid .ensures) (trades .valid-trades .ensures) (not-false _ (passed .if1 .left)) (not-true _ (c .if2 .taken)),
+      records-6 (a .version) {ts = tradesFrom (a .trades-at) (a .m) (now (a .s))} (passed .before .before .users-valid .ensures) (trades .valid-trades .ensures) (not-false _ (passed .if1 .left)) (not-true _ (c .if2 .taken)),
       summed-none 6 (λ p. p),
     )
 
@@ -57,7 +57,7 @@ positions-valid-requires c κs = search needs
 -- the answer to question 7 is that of the rules
 positions-answer : (c : tie.After-positions-valid)
     → let a = c .before .before .before .before .before .before .before .before .before .before .before .before .before .before .before .before .before .before .before .before .before .before .before .args in
-    c .positions-valid .result ≡ all (positionsValid (tradesFrom (a .trades-at) (a .m) (now (a .s)))) (usersFrom 0 (a .n) (now (a .s)))
+    c .positions-valid .result ≡ all (positionsValid (tradesFrom (a .trades-at) (a .m) (now (a .s)))) (usersFrom (a .size) 0 (a .n) (now (a .s)))
 positions-answer c =
     let allowed = c .before .before in
     let trades = allowed .before .before .before .before .before in
@@ -66,19 +66,19 @@ positions-answer c =
     let a = passed .before .before .before .before .before .before .before .args in
     let ts = tradesFrom (a .trades-at) (a .m) (now (a .s)) in
     c .positions-valid .ensures .answer ts
-    (records-sums {ts = ts} (users .ensures) (trades .valid-trades .ensures) (second-yes (a .user-zeros) (users .result) (not-false _ (passed .if1 .left))) (second-yes (a .trade-zeros) _ (not-false _ (allowed .if2 .left))))
+    (records-sums (a .version) {ts = ts} (users .ensures) (trades .valid-trades .ensures) (second-yes (a .user-zeros) (users .result) (not-false _ (passed .if1 .left))) (second-yes (a .trade-zeros) _ (not-false _ (allowed .if2 .left))))
 
 -- the sums are told past question 6
 summed : (number : ℕ) (c : tie.Else2)
     → let t = c .before .before .before .before .before in
     let a = t .before .before .before .before .before .before .before .before .before .before .before .before .before .before .before .before .args in
-    Summed (usersFrom 0 (a .n) (now (a .s))) (tradesFrom (a .trades-at) (a .m) (now (a .s))) (a .m) number (t .valid-trades .result) (t .valid-trades .last .1 .1 .1 .1 .1 .1 .1 .1 .0)
+    Summed (usersFrom (a .size) 0 (a .n) (now (a .s))) (tradesFrom (a .trades-at) (a .m) (now (a .s))) (a .m) number (t .valid-trades .result) (t .valid-trades .last .1 .1 .1 .1 .1 .1 .1 .1 .0)
 summed number c =
     let trades = c .before .before .before .before .before in
     let passed = trades .before .before .before .before .before .before .before .before .before in
     let users = passed .before .before .users-valid in
     let a = passed .before .before .before .before .before .before .before .args in
-    records-summed {ts = tradesFrom (a .trades-at) (a .m) (now (a .s))} (users .ensures) (trades .valid-trades .ensures) (second-yes (a .user-zeros) (users .result) (not-false _ (passed .if1 .left)))
+    records-summed (a .version) {ts = tradesFrom (a .trades-at) (a .m) (now (a .s))} (users .ensures) (trades .valid-trades .ensures) (second-yes (a .user-zeros) (users .result) (not-false _ (passed .if1 .left)))
     (second-yes (a .trade-zeros) _ (not-false _ (c .if2 .left))) (λ e. eqb-true (trades .valid-trades .result) (a .m) e)
 
 same-length-3 : tie.Need-same-length-3
@@ -93,7 +93,7 @@ returns-3 c =
     let trades = allowed .before .before .before .before .before in
     let passed = trades .before .before .before .before .before .before .before .before .before in
     let a = passed .before .before .before .before .before .before .before .args in (
-      records-7 {ts = tradesFrom (a .trades-at) (a .m) (now (a .s))} (passed .before .before .users-valid .ensures) (trades .valid-trades .ensures) (not-false _ (passed .if1 .left))
+      records-7 (a .version) {ts = tradesFrom (a .trades-at) (a .m) (now (a .s))} (passed .before .before .users-valid .ensures) (trades .valid-trades .ensures) (not-false _ (passed .if1 .left))
           (not-false _ (allowed .if2 .left)) (positions-answer (c .before)) (not-true _ (c .if3 .taken)),
       summed 7 allowed,
     )
@@ -110,7 +110,7 @@ returns-4 c =
     let trades = allowed .before .before .before .before .before in
     let passed = trades .before .before .before .before .before .before .before .before .before in
     let a = passed .before .before .before .before .before .before .before .args in (
-      records-0 {ts = tradesFrom (a .trades-at) (a .m) (now (a .s))} (passed .before .before .users-valid .ensures) (trades .valid-trades .ensures) (not-false _ (passed .if1 .left))
+      records-0 (a .version) {ts = tradesFrom (a .trades-at) (a .m) (now (a .s))} (passed .before .before .users-valid .ensures) (trades .valid-trades .ensures) (not-false _ (passed .if1 .left))
           (not-false _ (allowed .if2 .left)) (positions-answer (c .before)) (not-false _ (c .if3 .left)),
       summed 0 allowed,
     )

@@ -1,111 +1,42 @@
--- `users_valid`: the users that are left have the whole answer, until one fails a test or none is left; the ids of those passed are listed. Assumes nothing.
-use Prim.Native.Nat.{_-_}
-use mathlib.Core.Path.{sym, _∙_}
+-- `users_valid`: the fields of each, and then the managers. Assumes nothing.
+use mathlib.Core.Path.{ap}
+use Prim.Native.Nat.{ℕ}
 use native.Mathlib.Omega.{arith}
-use lib.ListN.{length-take, length-drop}
+use denote.Ref.{now}
 use borrow.Author.Needs.{needs}
 use borrow.Author.Tests.{not-true, not-false}
-use Rattle.book_records.specs.User.{asUser}
-use Rattle.book_questions.proofs.Asking.{UsersWalk, users-walk-start, users-walk-id-no, users-walk-no, users-walk-turn, users-walk-end}
+use Rattle.book_format.proofs.Offsets.{user-range}
+use Rattle.book_parties.specs.Ids.{usersFrom}
+use Rattle.book_questions.proofs.Managers.{fields-groups, users-no, users-yes}
 use Rattle.book_questions.proofs.users_valid.Statement.{statement}
 use Rattle.book_questions.proofs.users_valid.Tie as tie
 
-abbrev Inv-loop : tie.InvT-loop
-Inv-loop s at n ids₀ last₀ i₀ a₀ ids last i a = UsersWalk s at n ids last i a
+fields-valid-requires : tie.Need-fields-valid-requires
+fields-valid-requires c κs =
+    let p = c .before .before .before .pre in
+    (p .1, omega (arith, p .0, user-range (c .before .before .before .args .version)), p .2, p .3)
 
-abbrev μ-loop : tie.MeasureT-loop
-μ-loop s at n ids₀ last₀ i₀ a₀ ids last i a = n - i
-
-loop-holds : tie.Need-loop-holds Inv-loop μ-loop
-loop-holds c = users-walk-start (c .before .before .pre .2)
-
-add-read-user : tie.Need-add-read-user Inv-loop μ-loop
-add-read-user c = search needs
-
-sub-read-user : tie.Need-sub-read-user Inv-loop μ-loop
-sub-read-user c = search needs
-
-part-read-user-start : tie.Need-part-read-user-start Inv-loop μ-loop
-part-read-user-start c = search needs
-
-part-read-user-end : tie.Need-part-read-user-end Inv-loop μ-loop
-part-read-user-end c = search needs
-
-read-user-requires : tie.Need-read-user-requires Inv-loop μ-loop
-read-user-requires c κs = simp (length-take, length-drop) (omega arith)
-
-same-length : tie.Need-same-length Inv-loop μ-loop
+same-length : tie.Need-same-length
 same-length c = search needs
 
-returns : tie.Need-returns Inv-loop μ-loop
-unfolding asUser
-returns c =
-    let read = c .before .before in
-    users-walk-id-no (read .before .before .before .loop .inv) (omega arith) (read .read-user .ensures) (c .if1 .taken)
+returns : tie.Need-returns
+returns c = users-no _ (c .before .before .before .fields-valid .ensures) (not-true _ (c .if1 .taken))
 
-user-valid-requires : tie.Need-user-valid-requires Inv-loop μ-loop
-user-valid-requires c κs = search needs
+groups-valid-requires : tie.Need-groups-valid-requires
+groups-valid-requires c κs =
+    let fields = c .before .before .before .before in
+    let start = fields .before .before .before .before in
+    let a = start .args in
+    fields-groups (a .version) (fields .fields-valid .ensures) (now (a .s)) (ap (λ (size : ℕ). usersFrom size 0 (a .n) (now (a .s))) (start .pre .0)) (rw (start .pre .0) at (start .pre .2)) (not-false _ (c .before .if1 .left))
 
-same-length-2 : tie.Need-same-length-2 Inv-loop μ-loop
+same-length-2 : tie.Need-same-length-2
 same-length-2 c = search needs
 
-returns-2 : tie.Need-returns-2 Inv-loop μ-loop
+returns-2 : tie.Need-returns-2
 returns-2 c =
-    let asked = c .before .user-valid in
-    let read = c .before .before .before .before in
-    users-walk-no (read .before .before .before .loop .inv) (omega arith) (read .read-user .ensures) (sym (asked .ensures) ∙ not-true (asked .result) (c .if2 .taken))
-
-mul-ids : tie.Need-mul-ids Inv-loop μ-loop
-mul-ids c = search needs
-
-slice-write-ids : tie.Need-slice-write-ids Inv-loop μ-loop
-slice-write-ids c = search needs
-
-add-a : tie.Need-add-a Inv-loop μ-loop
-add-a c = search needs
-
-add-i : tie.Need-add-i Inv-loop μ-loop
-add-i c = search needs
-
-loop-less : tie.Need-loop-less Inv-loop μ-loop
-loop-less c = search needs
-
-loop-again : tie.Need-loop-again Inv-loop μ-loop
-unfolding asUser
-loop-again c =
-    let asked = c .before .user-valid in
-    let read = c .before .before .before .before in
-    users-walk-turn (read .before .before .before .loop .inv) (omega arith) (read .read-user .ensures) (search needs) (c .before .before .if1 .left)
-    (sym (asked .ensures) ∙ not-false (asked .result) (c .if2 .left))
-
-same-length-3 : tie.Need-same-length-3 Inv-loop μ-loop
-same-length-3 c = search needs
-
-returns-3 : tie.Need-returns-3 Inv-loop μ-loop
-returns-3 c = users-walk-end (c .before .loop .inv) (omega arith) (search needs)
+    let fields = c .before .before .before .before .before in
+    let start = fields .before .before .before .before in
+    users-yes (start .args .version) (fields .fields-valid .ensures) (not-false _ (c .before .before .if1 .left)) (rw (start .pre .0) (c .groups-valid .ensures))
 
 pub users-valid-spec : {M : Type 1} → statement M
-users-valid-spec =
-    tie.close
-    (tie.spec
-    Inv-loop
-    μ-loop
-    loop-holds
-    add-read-user
-    sub-read-user
-    part-read-user-start
-    part-read-user-end
-    read-user-requires
-    same-length
-    returns
-    user-valid-requires
-    same-length-2
-    returns-2
-    mul-ids
-    slice-write-ids
-    add-a
-    add-i
-    loop-less
-    loop-again
-    same-length-3
-    returns-3)
+users-valid-spec = tie.close (tie.spec fields-valid-requires same-length returns groups-valid-requires same-length-2 returns-2)

@@ -1,4 +1,7 @@
--- `read_user` reads each field from its own offset. Assumes nothing.
+-- `read_user` reads each field from its own offset; 56 bytes end before the managers. Assumes nothing.
+use native.Mathlib.Omega.{arith}
+use denote.Ref.{now}
+use Rattle.book_records.proofs.Users.{managers-past}
 use Rattle.book_records.specs.User.{userOf, asUser}
 use borrow.Author.Needs.{needs}
 use Rattle.book_records.proofs.read_user.Statement.{statement}
@@ -31,7 +34,9 @@ get-u64-requires-3 c κs = search needs
 returns : tie.Need-returns
 unfolding userOf asUser
 returns c =
+    let start = c .before .before .before .before .before .before .before .before .before in
     rw (
+      managers-past (now (start .args .c)) (omega (arith, start .pre)),
       c .get-u643 .ensures,
       c .before .get-u642 .ensures,
       c .before .before .get-u8 .ensures,

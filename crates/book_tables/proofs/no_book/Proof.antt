@@ -1,10 +1,10 @@
--- `no_book` fills both arrays with what `no_user` and `no_trade` give, and every other field with 0. Assumes nothing.
+-- `no_book` fills both arrays with what `no_record` and `no_trade` give, and every other field with 0. Assumes nothing.
 use borrow.Author.Needs.{needs}
 use Rattle.book_tables.proofs.no_book.Statement.{statement}
 use Rattle.book_tables.proofs.no_book.Tie as tie
 
-no-user-requires : tie.Need-no-user-requires
-no-user-requires c κs = search needs
+no-record-requires : tie.Need-no-record-requires
+no-record-requires c κs = search needs
 
 no-trade-requires : tie.Need-no-trade-requires
 no-trade-requires c κs = search needs
@@ -16,6 +16,6 @@ pub no-book-spec : {M : Type 1} → statement M
 no-book-spec =
     tie.close
     (tie.spec
-    no-user-requires
+    no-record-requires
     no-trade-requires
     returns)

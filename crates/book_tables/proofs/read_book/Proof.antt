@@ -2,10 +2,10 @@
 use native.Mathlib.Omega.{arith}
 use borrow.Author.Needs.{needs}
 use denote.Ref.{now}
-use Rattle.book_format.proofs.Offsets.{trades-there, users-end, users-there}
+use Rattle.book_format.proofs.Offsets.{trades-there, users-end}
 use Rattle.book_format.proofs.Places.{header-lies}
 use Rattle.book_format.specs.Book.{bookOf}
-use Rattle.book_tables.proofs.BookWritten.{kept-read}
+use Rattle.book_tables.proofs.BookWritten.{kept-read, size-of, users-read}
 use Rattle.book_tables.specs.Book.{asBook}
 use Rattle.book_tables.proofs.read_book.Statement.{statement}
 use Rattle.book_tables.proofs.read_book.Tie as tie
@@ -21,14 +21,17 @@ read-prices-requires c κs = header-lies (c .before .before .before .pre)
 
 read-users-requires : tie.Need-read-users-requires
 read-users-requires c κs =
-    let u = c .before .before .before in
+    let u = c .before .before .before .before in
     let s = u .before .before in
-    let h = s .pre in
-    (omega (arith, h .users, u .user-count .ensures), omega (arith, h .whole, users-end (now (s .args .s)) (c .users-offset .ensures .0) (u .user-count .ensures)))
+    let h = s .pre in (
+      omega (arith, h .users, u .user-count .ensures),
+      size-of _ (c .users-size .ensures .0),
+      omega (arith, h .whole, users-end (now (s .args .s)) (c .before .users-offset .ensures .0) (c .users-size .ensures .0) (u .user-count .ensures)),
+    )
 
 read-trades-requires : tie.Need-read-trades-requires
 read-trades-requires c κs =
-    let m = c .before .before .before .before in
+    let m = c .before .before .before .before .before in
     let h = m .before .before .before .pre in
     (omega (arith, h .trades, m .trade-count .ensures), omega (arith, h .whole, c .trades-offset .ensures, m .trade-count .ensures))
 
@@ -45,20 +48,20 @@ returns c =
     let trades = version .before in
     let behind = trades .before in
     let users = behind .before in
-    let begin = users .before in
+    let sized = users .before in
+    let begin = sized .before in
     let prices = begin .before in
     let m = prices .before in
     let n = m .before in
     let s = now (n .before .before .args .s) in
     record {
       book = rw (
+        users-read s (users .read-users .result) (version .version .ensures) (begin .users-offset .ensures .0) (sized .users-size .ensures .0) (n .user-count .ensures) (users .read-users .ensures .records),
         version .version .ensures,
         c .get-u32 .ensures,
         prices .read-prices .ensures,
         kept-read s,
-        users .read-users .ensures .records,
         trades .read-trades .ensures .records,
-        users-there s (begin .users-offset .ensures .0) (n .user-count .ensures),
         trades-there s (behind .trades-offset .ensures) (m .trade-count .ensures),
       );
       prices = prices .read-prices .ensures;
@@ -78,6 +81,7 @@ read-book-spec =
     trade-count-requires
     read-prices-requires
     (λ c. search needs)
+    (λ c κs. search needs)
     (λ c κs. search needs)
     read-users-requires
     (λ c κs. search needs)

@@ -1,39 +1,54 @@
 -- `read_users` reads one record more at each turn, from where the last one ended, into an array that is blank past it. Assumes nothing.
-use Prim.Native.Nat.{_-_}
+use Prim.Native.Nat.{_+_, _-_, _≤_}
+use mathlib.Core.Path.{_≡_, _∙_}
 use native.Mathlib.Omega.{arith}
-use lib.ListN.{length-take, length-drop}
+use lib.ListN.{length}
 use borrow.Author.Needs.{needs}
-use Rattle.book_records.specs.User.{userOf, asUser, blankUser}
+use denote.Ref.{now}
+use Rattle.fields.proofs.Sets.{length-part}
+use Rattle.book_format.proofs.Offsets.{size-lies}
+use Rattle.book_records.specs.User.{userOf}
+use Rattle.book_tables.specs.Record.{asRecord, blankRecord}
 use Rattle.book_tables.proofs.RecordsRead.{Reading, reading-start, reading-turn, reading-end}
 use Rattle.book_tables.proofs.read_users.Statement.{statement}
 use Rattle.book_tables.proofs.read_users.Tie as tie
 
 abbrev Inv-loop : tie.InvT-loop
-Inv-loop s at n users₀ i₀ a₀ users i a = Reading asUser 56 userOf 64 blankUser s at n users i a
+Inv-loop s at size n users₀ managed i₀ a₀ users i a = Reading asRecord size userOf 64 blankRecord s at n users i a
 
 abbrev μ-loop : tie.MeasureT-loop
-μ-loop s at n users₀ i₀ a₀ users i a = n - i
+μ-loop s at size n users₀ managed i₀ a₀ users i a = n - i
 
-no-user-requires : tie.Need-no-user-requires Inv-loop μ-loop
-no-user-requires c κs = search needs
+-- the record at hand lies in the bytes
+lies : (c : tie.In-loop Inv-loop μ-loop) → let s = c .before .before .before .before in c .before .loop .a + s .args .size ≤ length (now (s .args .s))
+lies c =
+    let s = c .before .before .before .before in
+    omega (arith, size-lies (s .args .size) (c .before .loop .i) (s .args .n) (omega (arith, c .loop-test)), c .before .loop .inv .place, s .pre .2)
+
+no-record-requires : tie.Need-no-record-requires Inv-loop μ-loop
+no-record-requires c κs = search needs
 
 loop-holds : tie.Need-loop-holds Inv-loop μ-loop
-loop-holds c = reading-start (c .no-user .ensures)
+loop-holds c = reading-start (c .no-record .ensures)
 
-add-read-user : tie.Need-add-read-user Inv-loop μ-loop
-add-read-user c = search needs
+add-read-record : tie.Need-add-read-record Inv-loop μ-loop
+add-read-record c = omega (arith, lies c, c .before .before .before .before .fits)
 
-sub-read-user : tie.Need-sub-read-user Inv-loop μ-loop
-sub-read-user c = search needs
+sub-read-record : tie.Need-sub-read-record Inv-loop μ-loop
+sub-read-record c = search needs
 
-part-read-user-start : tie.Need-part-read-user-start Inv-loop μ-loop
-part-read-user-start c = search needs
+part-read-record-start : tie.Need-part-read-record-start Inv-loop μ-loop
+part-read-record-start c = search needs
 
-part-read-user-end : tie.Need-part-read-user-end Inv-loop μ-loop
-part-read-user-end c = search needs
+part-read-record-end : tie.Need-part-read-record-end Inv-loop μ-loop
+part-read-record-end c = omega (arith, lies c)
 
-read-user-requires : tie.Need-read-user-requires Inv-loop μ-loop
-read-user-requires c κs = simp (length-take, length-drop) (omega arith)
+read-record-requires : tie.Need-read-record-requires Inv-loop μ-loop
+read-record-requires c κs =
+    let a = c .before .before .loop .a in
+    let s = c .before .before .before .before .before in
+    let k : a + s .args .size - a ≡ s .args .size = omega arith in
+    rw k (length-part (now (s .args .s)) a (s .args .size) (lies (c .before)) ∙ s .pre .1 .size-is)
 
 mul-users : tie.Need-mul-users Inv-loop μ-loop
 mul-users c = search needs
@@ -42,7 +57,7 @@ array-set-from-users : tie.Need-array-set-from-users Inv-loop μ-loop
 array-set-from-users c = search needs
 
 add-a : tie.Need-add-a Inv-loop μ-loop
-add-a c = search needs
+add-a c = let inside = c .before .before in omega (arith, lies inside, inside .before .before .before .before .fits)
 
 add-i : tie.Need-add-i Inv-loop μ-loop
 add-i c = search needs
@@ -51,7 +66,7 @@ loop-less : tie.Need-loop-less Inv-loop μ-loop
 loop-less c = search needs
 
 loop-again : tie.Need-loop-again Inv-loop μ-loop
-loop-again c = reading-turn (c .before .before .before .loop .inv) (omega arith) (omega arith) (c .read-user .ensures)
+loop-again c = reading-turn (c .before .before .before .loop .inv) (omega arith) (omega arith) (c .read-record .ensures)
 
 returns : tie.Need-returns Inv-loop μ-loop
 returns c = reading-end (c .before .loop .inv) (omega arith)
@@ -62,13 +77,13 @@ read-users-spec =
     (tie.spec
     Inv-loop
     μ-loop
-    no-user-requires
+    no-record-requires
     loop-holds
-    add-read-user
-    sub-read-user
-    part-read-user-start
-    part-read-user-end
-    read-user-requires
+    add-read-record
+    sub-read-record
+    part-read-record-start
+    part-read-record-end
+    read-record-requires
     mul-users
     array-set-from-users
     add-a

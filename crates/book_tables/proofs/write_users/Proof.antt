@@ -1,19 +1,31 @@
 -- `write_users` writes one record more at each turn, to where the last one ended. Assumes nothing.
-use Prim.Native.Nat.{_-_}
+use mathlib.Core.Path.{_≡_, sym, _∙_}
+use Prim.Native.Nat.{_+_, _-_, _≤_}
 use native.Mathlib.Omega.{arith}
-use lib.ListN.{length-take, length-drop}
+use lib.ListN.{length}
 use borrow.Author.Needs.{needs}
-use Rattle.book_records.specs.User.{userBytes, asUser}
-use Rattle.book_records.proofs.Users.{length-userBytes}
+use lib.Dec.{eqb}
+use Rattle.fields.proofs.Sets.{length-part}
+use Rattle.book_format.proofs.Offsets.{size-lies}
+use Rattle.book_records.proofs.Users.{length-recordBytes}
+use Rattle.book_records.specs.User.{recordBytes}
+use Rattle.book_tables.specs.Record.{asRecord}
 use Rattle.book_tables.proofs.RecordsWritten.{Writing, writing-start, writing-turn, writing-end}
 use Rattle.book_tables.proofs.write_users.Statement.{statement}
 use Rattle.book_tables.proofs.write_users.Tie as tie
 
 abbrev Inv-loop : tie.InvT-loop
-Inv-loop out₀ at n users i₀ a₀ out i a = Writing (λ u. userBytes (asUser u)) 56 users out₀ at n out i a
+Inv-loop out₀ at size n users managed i₀ a₀ out i a = Writing (λ u. recordBytes (eqb size 68) (asRecord u)) size users out₀ at n out i a
 
 abbrev μ-loop : tie.MeasureT-loop
-μ-loop out₀ at n users i₀ a₀ out i a = n - i
+μ-loop out₀ at size n users managed i₀ a₀ out i a = n - i
+
+-- the record at hand lies in the bytes
+lies : (c : tie.In-loop Inv-loop μ-loop) → c .before .loop .a + c .before .before .before .args .size ≤ length (c .before .loop .out)
+lies c =
+    let s = c .before .before .before in
+    let l = c .before .loop in
+    omega (arith, size-lies (s .args .size) (l .i) (s .args .n) (omega (arith, c .loop-test)), l .inv .place, l .inv .kept, s .pre .2)
 
 loop-holds : tie.Need-loop-holds Inv-loop μ-loop
 loop-holds c = writing-start
@@ -24,23 +36,27 @@ mul-u c = search needs
 array-copy-out-u : tie.Need-array-copy-out-u Inv-loop μ-loop
 array-copy-out-u c = search needs
 
-add-write-user : tie.Need-add-write-user Inv-loop μ-loop
-add-write-user c = search needs
+add-write-record : tie.Need-add-write-record Inv-loop μ-loop
+add-write-record c = let inside = c .before in omega (arith, lies inside, inside .before .loop .inv .kept, inside .before .before .before .fits)
 
-sub-write-user : tie.Need-sub-write-user Inv-loop μ-loop
-sub-write-user c = search needs
+sub-write-record : tie.Need-sub-write-record Inv-loop μ-loop
+sub-write-record c = search needs
 
-part-write-user-start : tie.Need-part-write-user-start Inv-loop μ-loop
-part-write-user-start c = search needs
+part-write-record-start : tie.Need-part-write-record-start Inv-loop μ-loop
+part-write-record-start c = search needs
 
-part-write-user-end : tie.Need-part-write-user-end Inv-loop μ-loop
-part-write-user-end c = search needs
+part-write-record-end : tie.Need-part-write-record-end Inv-loop μ-loop
+part-write-record-end c = omega (arith, lies (c .before))
 
-write-user-requires : tie.Need-write-user-requires Inv-loop μ-loop
-write-user-requires c κs = simp (length-take, length-drop) (omega arith)
+write-record-requires : tie.Need-write-record-requires Inv-loop μ-loop
+write-record-requires c κs =
+    let l = c .before .before .before .loop in
+    let s = c .before .before .before .before .before in
+    let k : l .a + s .args .size - l .a ≡ s .args .size = omega arith in
+    rw k (length-part (l .out) (l .a) (s .args .size) (lies (c .before .before)) ∙ s .pre .1 .size-is)
 
 add-a : tie.Need-add-a Inv-loop μ-loop
-add-a c = search needs
+add-a c = let inside = c .before .before .before .before .before in omega (arith, lies inside, inside .before .loop .inv .kept, inside .before .before .before .fits)
 
 add-i : tie.Need-add-i Inv-loop μ-loop
 add-i c = search needs
@@ -51,8 +67,9 @@ loop-less c = search needs
 loop-again : tie.Need-loop-again Inv-loop μ-loop
 loop-again c =
     let turn = c .before .before .before .before .before .before in
-    writing-turn _ (λ u. length-userBytes (asUser u)) (turn .loop .inv) (omega arith) (search needs) (omega arith)
-    (c .before .before .write-user .ensures)
+    let s = turn .before .before in
+    writing-turn _ (λ u. length-recordBytes (eqb (s .args .size) 68) (asRecord u) ∙ sym (s .pre .1 .size-is)) (turn .loop .inv) (omega arith) (search needs) (lies (c .before .before .before .before .before))
+    (c .before .before .write-record .ensures)
 
 same-length : tie.Need-same-length Inv-loop μ-loop
 same-length c = c .before .loop .inv .kept
@@ -69,11 +86,11 @@ write-users-spec =
     loop-holds
     mul-u
     array-copy-out-u
-    add-write-user
-    sub-write-user
-    part-write-user-start
-    part-write-user-end
-    write-user-requires
+    add-write-record
+    sub-write-record
+    part-write-record-start
+    part-write-record-end
+    write-record-requires
     add-a
     add-i
     loop-less

@@ -1,7 +1,7 @@
--- `ask_written`: the longest book, of 64 users and 256 trades behind a header of 40 bytes, has 8,744 bytes. Assumes nothing.
+-- `ask_written`: the longest book, of 64 users and 256 trades of 68 and 20 bytes behind a header of 40, has 9,512 bytes. Assumes nothing.
 use native.Mathlib.Omega.{arith}
 use borrow.Author.Needs.{needs}
-use Rattle.book_format.proofs.Offsets.{header-range, length-by}
+use Rattle.book_format.proofs.Offsets.{header-range, length-by, size-most}
 use Rattle.book_value.proofs.ask_written.Statement.{statement}
 use Rattle.book_value.proofs.ask_written.Tie as tie
 
@@ -10,7 +10,7 @@ ask-in-requires c κs =
     let p = c .before .pre in
     let b = c .before .args .b in
     let l = length-by (b .version) (b .«user_count») (b .«trade_count») in
-    (p .0, p .1, omega (arith, p .0 .users, p .0 .trades, p .1, header-range (b .version)))
+    (p .0, p .1, omega (arith, p .0 .users, p .0 .trades, p .1, size-most (b .version) (b .«user_count») 64 (p .0 .users), header-range (b .version)))
 
 pub ask-written-spec : {M : Type 1} → statement M
 ask-written-spec = tie.close (tie.spec (λ c. search needs) ask-in-requires (λ c. search needs))

@@ -14,7 +14,7 @@ trades-are : (c : tie.After-trade-count) → c .trade-count .result ≡ tradeCou
 trades-are c = c .trade-count .ensures
 
 trades-offset-requires : tie.Need-trades-offset-requires
-trades-offset-requires c κs = (c .before .before .before .pre .0 .accepted .held .form, users-are (c .before))
+trades-offset-requires c κs = (c .before .before .before .pre .0 .borne .accepted .held .form, users-are (c .before))
 
 cancel-among-requires : tie.Need-cancel-among-requires
 cancel-among-requires c κs =

@@ -28,7 +28,7 @@ cancel-sales-requires : tie.Need-cancel-sales-requires
 cancel-sales-requires c κs =
     let s = start (c .before .before) in
     let r = s .pre .0 .0 in (
-      record { accepted = r .book .accepted; begin = refl; trades-are = refl; placed = r .book .placed .of-sellers; inside = s .pre .0 .1 },
+      record { borne = r .book; begin = refl; trades-are = refl; inside = s .pre .0 .1 },
       ((accepted-day (now (s .args .book)) (r .book .accepted .sound) (r .prices-are) (r .limits-in) .prices-in, r .prices-are), s .pre .1),
     )
 

@@ -1,12 +1,14 @@
 -- `cancellation` is refused by the opening questions, by 25 or by 8, or goes on with the user that the entry found. Assumes nothing.
-use mathlib.Core.Path.{_≡_, _∙_, sym}
+use mathlib.Core.Path.{_≡_, refl, _∙_, sym}
 use borrow.Author.Needs.{needs}
 use denote.Ref.{now}
 use Rattle.call_entry.specs.Entered.{Found}
+use Rattle.book_format.proofs.Held.{accepted-of}
 use Rattle.book_format.proofs.Passed.{passed}
 use Rattle.book_format.proofs.Places.{header-lies}
+use Rattle.book_format.specs.Book.{bookOf}
+use Rattle.book_parties.specs.Ids.{BookIn}
 use Rattle.units.specs.Limits.{asLimits}
-use Rattle.run_reduction.proofs.Asked.{found-runnable}
 use Rattle.call_cancellation.proofs.Ways.{call-entered, call-unentered, tries-passed, triesAsked}
 use Rattle.call_cancellation.proofs.cancellation.Statement.{statement}
 use Rattle.call_cancellation.proofs.cancellation.Tie as tie
@@ -36,21 +38,42 @@ returns c =
 read-prices-requires : tie.Need-read-prices-requires
 read-prices-requires c κs = header-lies (passed (now (start (c .before .before) .args .book)) (found c .passes) .form)
 
+-- the book with the places of its trades' parties
+placed : (c : tie.Else1) → let s = start (c .before .before) in BookIn (now (s .args .book)) (now (s .args .sellers)) (now (s .args .buyers))
+placed c =
+    let s = start (c .before .before) in
+    record {
+      accepted = accepted-of (now (s .args .book)) (λ j. c .before .before .before .shared-slice-known .given j .fits) (found c .passes);
+      placed = s .pre .1 .1 .1 .placed (tries-passed (s .args .number) (s .args .tries) (started c) .0);
+    }
+
+bear-requires : tie.Need-bear-requires
+bear-requires c κs =
+    let e = c .before .before .before .before in
+    let s = start (e .before .before) in
+    let p = s .pre .1 .1 in
+    let told = p .1 .summed in
+    let passes = tries-passed (s .args .number) (s .args .tries) (started e) .0 in
+    ((placed e, p .0 .0, p .0 .1, refl, refl), (told .twelve passes, told .low passes))
+
 cancel-user-requires : tie.Need-cancel-user-requires
+unfolding bookOf
 cancel-user-requires c κs =
-    let e = c .before in
+    let o = c .before .before .before in
+    let r = o .before .before .before .before in
+    let e = r .before in
     let s = start (e .before .before) in
     let t = tries-passed (s .args .number) (s .args .tries) (started e) in
-    let f = found e in
-    ((found-runnable (s .pre .1 .1) (t .0) (f .passes) (λ j. e .before .before .before .shared-slice-known .given j .fits) (s .pre .1 .0) (c .read-prices .ensures), f .known), (t .1, t .2))
+    let k = o .bear .ensures in
+    ((record { book = k .0; limits-in = s .pre .1 .0; prices-are = r .read-prices .ensures; twelve = k .1 .0; low = k .1 .1 }, found e .known), (t .1, t .2))
 
 returns-2 : tie.Need-returns-2
 returns-2 c =
-    let e = c .before .before in
+    let e = c .before .before .before .before .before .before .before .before .before in
     let a = start (e .before .before) .args in
     c .cancel-user .ensures ∙ sym (call-entered (a .number) (asLimits (a .limits)) (now (a .book)) (a .id) (a .tries) (started e) (found e))
 
 pub cancellation-spec : {M : Type 1} → statement M
 cancellation-spec =
     tie.close
-    (tie.spec (λ c κs. search needs) seek-requires (λ c κs. search needs) returns read-prices-requires cancel-user-requires returns-2)
+    (tie.spec (λ c κs. search needs) seek-requires (λ c κs. search needs) returns read-prices-requires bear-requires cancel-user-requires returns-2)

@@ -12,10 +12,10 @@ use Rattle.call_cancellation.proofs.marks_of.Statement.{statement}
 use Rattle.call_cancellation.proofs.marks_of.Tie as tie
 
 abbrev Inv-loop : tie.InvT-loop
-Inv-loop book at m sellers place left marks₀ rest₀ i₀ marks rest i = Marking (eligible (bookOf book) (getD (usersOf book) place nobody)) (bookOf book .trades) left marks rest i
+Inv-loop book at m sellers buyers place left marks₀ rest₀ i₀ marks rest i = Marking (eligible (bookOf book) (getD (usersOf book) place nobody)) (bookOf book .trades) left marks rest i
 
 abbrev μ-loop : tie.MeasureT-loop
-μ-loop book at m sellers place left marks₀ rest₀ i₀ marks rest i = i
+μ-loop book at m sellers buyers place left marks₀ rest₀ i₀ marks rest i = i
 
 loop-holds : tie.Need-loop-holds Inv-loop μ-loop
 loop-holds c = let s = c .before in marked-first (s .pre .0) (s .pre .1)
@@ -26,29 +26,35 @@ element-copy-out-eligible-at c =
     let q = l .before .before .pre .0 in
     omega (arith, l .loop .inv .inside, trades-length q, trades-few q, c .loop-test .taken)
 
-eligible-at-requires : tie.Need-eligible-at-requires Inv-loop μ-loop
-eligible-at-requires c κs =
+element-copy-out-eligible-at-2 : tie.Need-element-copy-out-eligible-at-2 Inv-loop μ-loop
+element-copy-out-eligible-at-2 c =
     let l = c .before .before in
     let q = l .before .before .pre .0 in
-    trade-in q (omega (arith, l .loop .inv .inside, trades-length q, c .before .loop-test .taken))
+    omega (arith, l .loop .inv .inside, trades-length q, trades-few q, c .before .loop-test .taken)
+
+eligible-at-requires : tie.Need-eligible-at-requires Inv-loop μ-loop
+eligible-at-requires c κs =
+    let l = c .before .before .before in
+    let q = l .before .before .pre .0 in
+    trade-in q (omega (arith, l .loop .inv .inside, trades-length q, c .before .before .loop-test .taken))
 
 array-write-marks : tie.Need-array-write-marks Inv-loop μ-loop
 array-write-marks c =
-    let t = c .before .before .before in
+    let t = c .before .before .before .before in
     let l = t .before in
     let q = l .before .before .pre .0 in
     omega (arith, l .loop .inv .inside, trades-length q, trades-few q, t .loop-test .taken)
 
 loop-less : tie.Need-loop-less Inv-loop μ-loop
-loop-less c = omega (arith, c .before .before .before .before .loop-test .taken)
+loop-less c = omega (arith, c .before .before .before .before .before .loop-test .taken)
 
 loop-again : tie.Need-loop-again Inv-loop μ-loop
 loop-again c =
     let k = c .before in
     let e = k .before in
-    let t = e .before .before in
+    let t = e .before .before .before in
     let l = t .before in
-    marked-more (l .before .before .pre .0) (l .loop .inv) (t .loop-test .taken) refl (e .eligible-at .ensures) (k .is-marked .ensures) (c .left-before .ensures)
+    marked-more (l .before .before .pre .0) (l .loop .inv) (t .loop-test .taken) refl refl (e .eligible-at .ensures) (k .is-marked .ensures) (c .left-before .ensures)
 
 returns : tie.Need-returns Inv-loop μ-loop
 returns c =
@@ -58,5 +64,5 @@ returns c =
 pub marks-of-spec : {M : Type 1} → statement M
 marks-of-spec =
     tie.close
-    (tie.spec Inv-loop μ-loop loop-holds (λ c. search needs) element-copy-out-eligible-at eligible-at-requires (λ c κs. search needs) array-write-marks
+    (tie.spec Inv-loop μ-loop loop-holds (λ c. search needs) element-copy-out-eligible-at element-copy-out-eligible-at-2 eligible-at-requires (λ c κs. search needs) array-write-marks
     (λ c κs. search needs) loop-less loop-again returns)

@@ -4,17 +4,17 @@ use native.Mathlib.Omega.{arith}
 use borrow.Author.Needs.{needs}
 use denote.Ref.{now}
 use lib.ListN.{length}
-use Rattle.book_format.proofs.Places.{user-lies}
+use Rattle.book_format.proofs.Places.{record-lies, user-lies}
 use Rattle.book_format.specs.Places.{UserIn}
 use Rattle.call_entry.proofs.Seeking.{Seeking, seeking-start, seeking-here, seeking-turn, seeking-end}
 use Rattle.call_entry.proofs.place_of.Statement.{statement}
 use Rattle.call_entry.proofs.place_of.Tie as tie
 
 abbrev Inv-loop : tie.InvT-loop
-Inv-loop s id n i₀ a₀ i a = Seeking s id n i a
+Inv-loop s id n size i₀ a₀ i a = Seeking s id n i a
 
 abbrev μ-loop : tie.MeasureT-loop
-μ-loop s id n i₀ a₀ i a = n - i
+μ-loop s id n size i₀ a₀ i a = n - i
 
 user-count-requires : tie.Need-user-count-requires Inv-loop μ-loop
 user-count-requires c κs = search needs
@@ -23,17 +23,17 @@ cast-n : tie.Need-cast-n Inv-loop μ-loop
 cast-n c = search needs
 
 loop-holds : tie.Need-loop-holds Inv-loop μ-loop
-loop-holds c = seeking-start (c .users-offset .ensures .0) (c .before .user-count .ensures)
+loop-holds c = seeking-start (c .users-offset .ensures .0) (c .before .before .user-count .ensures)
 
 -- the next record lies in the book
-lies : (c : tie.In-loop Inv-loop μ-loop) → c .before .loop .a + 56 ≤ length (now (c .before .before .before .before .before .args .s))
+lies : (c : tie.In-loop Inv-loop μ-loop) → (c .before .loop .a + 56 ≤ length (now (c .before .before .before .before .before .before .args .s))) × (c .before .loop .a + c .before .before .before .users-size .result ≤ length (now (c .before .before .before .before .before .before .args .s)))
 lies c =
     let l = c .before in
-    let there : UserIn (now (l .before .before .before .before .args .s)) (l .loop .i) = record { form = l .before .before .before .before .pre; inside = omega (arith, c .loop-test .taken, l .loop .inv .count) } in
-    omega (arith, l .loop .inv .place, user-lies there)
+    let there : UserIn (now (l .before .before .before .before .before .args .s)) (l .loop .i) = record { form = l .before .before .before .before .before .pre; inside = omega (arith, c .loop-test .taken, l .loop .inv .count) } in
+    (omega (arith, l .loop .inv .place, user-lies there), omega (arith, l .loop .inv .place, record-lies there, l .before .before .users-size .ensures .0))
 
 get-u32-requires : tie.Need-get-u32-requires Inv-loop μ-loop
-get-u32-requires c κs = omega (arith, lies c)
+get-u32-requires c κs = omega (arith, lies c .0)
 
 returns : tie.Need-returns Inv-loop μ-loop
 returns c =
@@ -41,7 +41,7 @@ returns c =
     (seeking-here (c .before .get-u32 .result) (l .inv) (omega arith) (c .before .get-u32 .ensures) (c .if1 .taken), omega (arith, l .inv .within, l .inv .count))
 
 add-a : tie.Need-add-a Inv-loop μ-loop
-add-a c = omega (arith, lies (c .before .before))
+add-a c = let inside = c .before .before in omega (arith, lies inside .1, inside .before .before .before .before .before .before .fits)
 
 add-i : tie.Need-add-i Inv-loop μ-loop
 add-i c = search needs
@@ -52,7 +52,7 @@ loop-less c = search needs
 loop-again : tie.Need-loop-again Inv-loop μ-loop
 loop-again c =
     let l = c .before .before .before .loop in
-    seeking-turn (c .before .get-u32 .result) (l .inv) (omega arith) (c .before .get-u32 .ensures) (c .if1 .left)
+    rw (c .before .before .before .before .before .users-size .ensures .0) (seeking-turn (c .before .get-u32 .result) (l .inv) (omega arith) (c .before .get-u32 .ensures) (c .if1 .left))
 
 returns-2 : tie.Need-returns-2 Inv-loop μ-loop
 returns-2 c = let l = c .before .loop in (seeking-end (l .inv) (omega arith), omega (arith, l .inv .count))
@@ -65,6 +65,7 @@ place-of-spec =
     μ-loop
     user-count-requires
     cast-n
+    (λ c κs. search needs)
     (λ c κs. search needs)
     loop-holds
     get-u32-requires

@@ -1,5 +1,5 @@
 -- `call` is refused by the entry, refused for a clearing house, or ends as the questions 11 and 12 leave it. Assumes nothing.
-use mathlib.Core.Path.{_≡_, ap, _∙_}
+use mathlib.Core.Path.{_≡_, refl, sym, ap, _∙_}
 use mathlib.Core.List.{List}
 use Prim.Native.Nat.{ℕ}
 use native.Mathlib.Omega.{arith}
@@ -7,10 +7,19 @@ use denote.Ref.{now}
 use Rattle.rules.specs.Levels.{Limits}
 use Rattle.units.specs.Limits.{asLimits, LimitsInRange}
 use Rattle.book_format.specs.Steps.{InBytes}
+use Rattle.book_format.proofs.Held.{accepted-of}
 use Rattle.call_entry.specs.Entered.{Found}
 use Rattle.call_guarantee.specs.Times.{callOf}
-use Rattle.call_entry.proofs.Calls.{called, found-user, read-role}
-use Rattle.risk_user.proofs.Accepted.{record-blocked}
+use Rattle.call_entry.proofs.Calls.{called, found-at, found-user}
+use Rattle.call_parties.proofs.Borne.{plain-in, plain-sums}
+use Rattle.book_format.specs.After.{stepAfter}
+use Rattle.book_format.specs.Book.{bookOf, usersOf, versionOf}
+use Rattle.book_parties.specs.Ids.{BookIn}
+use Rattle.risk_members.proofs.Members.{read-role}
+use Rattle.rules.specs.Areas.{managersIn}
+use Rattle.rules.specs.Book.{User, find, nobody}
+use Rattle.call_guarantee.specs.Raised.{calledAt}
+use lib.ListN.{getD}
 use Rattle.call_guarantee.proofs.Ways.{call-unentered, call-of-house, call-ends}
 use borrow.Author.Needs.{needs}
 use Rattle.call_guarantee.proofs.call.Statement.{statement}
@@ -60,6 +69,13 @@ returns c =
 user-at-requires : tie.Need-user-at-requires
 user-at-requires c κs = found-user (found (c .before))
 
+-- the role that was read is that of the user of the id
+role : (c : tie.After-user-at) → let e = c .before .before .before in c .user-at .result .role ≡ find (bookOf (bytes e) .users) (asked e) .party .role
+role c =
+    let n = c .before .before in
+    let e = n .before in
+    read-role (c .user-at .result) (getD (usersOf (bytes e)) (e .seek .result .place) nobody) (c .user-at .ensures) ∙ ap (λ (v : User). v .party .role) (found-at (found n))
+
 refused-requires-2 : tie.Need-refused-requires-2
 refused-requires-2 c κs = search needs
 
@@ -74,59 +90,72 @@ returns-2 c =
     let e = n .before in
     let a = start e .args .afternoon in
     called (callOf a (asked e)) (c .refused2 .ensures)
-    (call-of-house (opened e) (figures e) (bytes e) (asked e) a (started n) (found n) (λ h. t .if2 .taken (read-role (k .user-at .result) (found n) (k .user-at .ensures) ∙ h)))
+    (call-of-house (opened e) (figures e) (bytes e) (asked e) a (started n) (found n) (λ h. t .if2 .taken (role k ∙ h)))
 
--- what was read of the user that was found
-level-of-requires : tie.Need-level-of-requires
-level-of-requires c κs =
-    let k = c .before .before .before in
-    let n = k .before .before in
+-- the book with the places of its trades' parties
+placed : (n : tie.Else1) → let s = start (n .before) in BookIn (bytes (n .before)) (now (s .args .sellers)) (now (s .args .buyers))
+placed n =
+    record { accepted = accepted-of (bytes (n .before)) (λ j. n .before .before .before .slice-known .given j .fits) (found n .passes); placed = start (n .before) .pre .1 .1 .placed (started n) }
+
+abbrev entered : tie.After-has-managers → tie.Else1
+entered h = h .before .before .before .before .before .before .before
+
+-- whether the version has managers
+managed : (h : tie.After-has-managers) → h .has-managers .result ≡ managersIn (versionOf (bytes (entered h .before)))
+managed h = h .has-managers .ensures ∙ ap managersIn (h .before .version .ensures)
+
+version-requires : tie.Need-version-requires
+version-requires c κs = let n = c .before .before .before .before .before in omega (arith, placed n .accepted .held .form .head)
+
+bear-managed-requires : tie.Need-bear-managed-requires
+bear-managed-requires c κs =
+    let t = c .before .before .before .before in
+    let n = entered (t .before) in
+    ((placed n, sym (managed (t .before)) ∙ t .if3 .taken), (refl, refl))
+
+call-at-requires : tie.Need-call-at-requires
+call-at-requires c κs =
+    let b = c .before .before .before .before in
+    let h = b .before .before .before .before .before .before in
+    let n = entered h in
     let f = found n in
-    let told = start (n .before) .pre .1 .1 in
-    (record { passes = f .passes; inside = f .known; twelve = told .twelve (started n); low = told .low (started n); user = k .user-at .ensures }, ranged (n .before))
+    let k = b .bear-managed .ensures in
+    (k .0, record { passes = f .passes; inside = f .known; twelve = k .1 .0; low = k .1 .1 }, ranged (n .before), h .before .before .before .before .before .user-at .ensures)
 
-is-due-requires : tie.Need-is-due-requires
-is-due-requires c κs =
-    let k = c .before .before .before .before .before in
-    let n = k .before .before in
-    let f = found n in
-    (f .passes, record-blocked (bytes (n .before)) (f .passes) (f .known) (k .user-at .result) (k .user-at .ensures), ranged (n .before))
-
-raise-requires : tie.Need-raise-requires
-raise-requires c κs =
-    let n = c .before .before .before .before .before .before .before .before .before in
-    found-user (found n)
-
-same-length-3 : tie.Need-same-length-3
-same-length-3 c = search needs
+-- the end of the call
+ended : (h : tie.After-has-managers) → let e = entered h .before in calledAt (start e .args .afternoon) (figures e) (bytes e) (e .seek .result .place) ≡ stepAfter (opened e) (figures e) (bytes e) (callOf (start e .args .afternoon) (asked e))
+ended h =
+    let n = entered h in
+    let e = n .before in
+    let k = h .before .before .before in
+    call-ends (opened e) (figures e) (bytes e) (asked e) (start e .args .afternoon) (started n) (found n) (λ j. e .before .before .slice-known .given j .fits) (sym (role (k .before .before)) ∙ k .if2 .left)
 
 returns-3 : tie.Need-returns-3
 returns-3 c =
     let r = c .before .before in
-    let d = r .before .before in
-    let l = d .before .before in
-    let t = l .before .before in
-    let k = t .before .before in
-    let n = k .before .before in
-    let e = n .before in
-    let a = start e .args .afternoon in
-    let x = call-ends (opened e) (figures e) (bytes e) (asked e) a (started n) (found n) (λ j. e .before .before .slice-known .given j .fits) (k .user-at .result) (k .user-at .ensures) (t .if2 .left) (l .level-of .ensures) (d .is-due .ensures) in
-    record { answer = r .raise .ensures .0 ∙ ap (λ (y : InBytes). y .answer) x; bytes = r .raise .ensures .1 ∙ ap (λ (y : InBytes). y .bytes) x }
+    let x = ended (r .before .before .before .before .before .before .before .before .before .before .before) in
+    record { answer = r .call-at .ensures .0 ∙ ap (λ (y : InBytes). y .answer) x; bytes = r .call-at .ensures .1 ∙ ap (λ (y : InBytes). y .bytes) x }
+
+call-at-requires-2 : tie.Need-call-at-requires-2
+call-at-requires-2 c κs =
+    let l = c .before .before in
+    let h = l .before in
+    let n = entered h in
+    let f = found n in
+    let s = start (n .before) in
+    let told = s .pre .1 .1 .summed in
+    let none = sym (managed h) ∙ l .if3 .left in
+    let a = placed n .accepted in
+    (plain-in (bytes (n .before)) a none (placed n), record { passes = f .passes; inside = f .known; twelve = plain-sums (bytes (n .before)) a none (told .twelve (started n)); low = told .low (started n) }, ranged (n .before), h .before .before .before .before .before .user-at .ensures)
+
+returns-4 : tie.Need-returns-4
+returns-4 c =
+    let r = c .before .before in
+    let x = ended (r .before .before .before .before) in
+    record { answer = r .call-at2 .ensures .0 ∙ ap (λ (y : InBytes). y .answer) x; bytes = r .call-at2 .ensures .1 ∙ ap (λ (y : InBytes). y .bytes) x }
 
 pub call-spec : {M : Type 1} → statement M
 call-spec =
     tie.close
-    (tie.spec
-    seek-requires
-    refused-requires
-    same-length
-    returns
-    user-at-requires
-    refused-requires-2
-    same-length-2
-    returns-2
-    level-of-requires
-    is-due-requires
-    raise-requires
-    same-length-3
-    returns-3)
+    (tie.spec seek-requires refused-requires same-length returns user-at-requires refused-requires-2 same-length-2 returns-2 version-requires (λ c κs. search needs)
+    bear-managed-requires call-at-requires (λ c. search needs) returns-3 call-at-requires-2 (λ c. search needs) returns-4)

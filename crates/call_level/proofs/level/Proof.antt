@@ -6,8 +6,13 @@ use denote.Ref.{now}
 use Rattle.rules.specs.Queries.{aLevel, onlyNumber}
 use Rattle.units.specs.Limits.{asLimits}
 use Rattle.call_entry.specs.Entered.{Found}
-use Rattle.call_entry.proofs.Calls.{found-user, read-role, read-user}
-use Rattle.book_format.specs.Book.{bookOf}
+use Rattle.call_entry.proofs.Calls.{found-at, found-user}
+use Rattle.book_format.proofs.Held.{accepted-of}
+use Rattle.book_format.specs.Book.{bookOf, usersOf}
+use Rattle.book_format.specs.Held.{Accepted}
+use Rattle.risk_members.proofs.Members.{read-role}
+use Rattle.rules.specs.Book.{User, find, nobody}
+use lib.ListN.{getD}
 use Rattle.call_level.specs.Times.{levelOf}
 use Rattle.call_level.proofs.Ways.{level-refused, level-of-house, level-found}
 use Rattle.call_level.proofs.level.Statement.{statement}
@@ -38,35 +43,55 @@ returns c =
 user-at-requires : tie.Need-user-at-requires
 user-at-requires c κs = found-user (found c)
 
+-- the role that was read is that of the user of the id
+role : (c : tie.After-user-at) → c .user-at .result .role ≡ find (bookOf (bytes (c .before .before)) .users) (asked (c .before .before)) .party .role
+role c =
+    let e = c .before .before in
+    read-role (c .user-at .result) (getD (usersOf (bytes e)) (e .seek .result .place) nobody) (c .user-at .ensures) ∙ ap (λ (v : User). v .party .role) (found-at (found (c .before)))
+
 returns-2 : tie.Need-returns-2
 unfolding onlyNumber
 returns-2 c =
     let u = c .before .before in
     let e = u .before .before in
     let a = e .before .before .args in
-    let f = found (u .before) in
-    level-of-house (a .number) (asLimits (a .limits)) (bytes e) (asked e) (a .afternoon) (started (u .before)) f
-    (λ h. c .if2 .taken (read-role (u .user-at .result) f (u .user-at .ensures) ∙ h))
+    level-of-house (a .number) (asLimits (a .limits)) (bytes e) (asked e) (a .afternoon) (started (u .before)) (found (u .before)) (λ h. c .if2 .taken (role u ∙ h))
+
+-- the book is accepted
+accepted : (c : tie.Else1) → Accepted (bytes (c .before))
+accepted c = accepted-of (bytes (c .before)) (λ j. c .before .before .shared-slice-known .given j .fits) (found c .passes)
+
+amounts-of-requires : tie.Need-amounts-of-requires
+amounts-of-requires c κs = let u = c .before .before in (accepted (u .before), found (u .before) .known, u .user-at .ensures)
+
+bear-sums-requires : tie.Need-bear-sums-requires
+bear-sums-requires c κs =
+    let u = c .before .before .before .before in
+    let n = u .before in
+    let p = n .before .before .before .pre .1 .1 in
+    let told = p .summed in
+    (record { accepted = accepted n; placed = p .placed (started n) }, (told .twelve (started n), told .low (started n)))
 
 level-of-requires : tie.Need-level-of-requires
 level-of-requires c κs =
-    let u = c .before .before in
+    let b = c .before in
+    let a = b .before .before in
+    let u = a .before .before .before in
     let f = found (u .before) in
     let s = u .before .before .before .before in
-    let told = s .pre .1 .1 in
-    (record { passes = f .passes; inside = f .known; twelve = told .twelve (started (u .before)); low = told .low (started (u .before)); user = u .user-at .ensures }, s .pre .1 .0)
+    ((record { passes = f .passes; inside = f .known; twelve = b .bear-sums .ensures .0; low = b .bear-sums .ensures .1 }, s .pre .1 .0), (u .user-at .ensures, a .amounts-of .ensures))
 
 returns-3 : tie.Need-returns-3
 unfolding aLevel
 returns-3 c =
-    let n = c .before in
+    let n = c .before .before .before .before .before in
     let u = n .before .before in
     let e = u .before .before in
     let a = e .before .before .args in
     let f = found (u .before) in
-    ap aLevel (c .level-of .ensures ∙ ap (levelOf (a .afternoon) (asLimits (a .limits)) (bookOf (bytes e))) (read-user (u .user-at .result) f (u .user-at .ensures)))
-    ∙ level-found (a .number) (asLimits (a .limits)) (bytes e) (asked e) (a .afternoon) (started (u .before)) f (sym (read-role (u .user-at .result) f (u .user-at .ensures)) ∙ n .if2 .left)
+    ap aLevel (c .level-of .ensures ∙ ap (levelOf (a .afternoon) (asLimits (a .limits)) (bookOf (bytes e))) (found-at f))
+    ∙ level-found (a .number) (asLimits (a .limits)) (bytes e) (asked e) (a .afternoon) (started (u .before)) f (sym (role u) ∙ n .if2 .left)
 
 pub level-spec : {M : Type 1} → statement M
 level-spec =
-    tie.close (tie.spec seek-requires returns user-at-requires returns-2 level-of-requires returns-3)
+    tie.close (tie.spec seek-requires returns user-at-requires returns-2 amounts-of-requires bear-sums-requires level-of-requires returns-3)

@@ -1,23 +1,28 @@
 -- `level_of` computes the level of the time, which is that of the rules by what the record and the sums tell of the user. Assumes nothing.
-use mathlib.Core.Path.{_≡_, sym, subst, _∙_}
+use mathlib.Core.Path.{_≡_, sym, ap, subst, _∙_}
 use Prim.Native.Nat.{_<_}
 use native.Mathlib.Omega.{arith}
 use denote.Ref.{now}
-use lib.ListN.{length}
+use lib.IntN.{ℤ}
+use lib.ListN.{getD, length}
+use Rattle.rules.specs.Book.{nobody}
+use Rattle.rules.specs.Levels.{afternoonSum, floored, morningSum}
+use Rattle.risk_holdings.specs.Holdings.{heldIn}
+use Rattle.units.specs.Amounts.{balance}
 use Rattle.units.specs.Limits.{asLimits}
 use Rattle.units.specs.Prices.{InRange, asPrices}
-use Rattle.book_records.specs.User.{asUser}
-use Rattle.book_format.specs.Book.{bookOf}
+use Rattle.book_format.specs.Book.{bookOf, usersOf}
 use Rattle.book_format.proofs.Passed.{length-usersOf, passed}
 use Rattle.book_format.proofs.Places.{header-lies}
+use Rattle.risk_members.proofs.Members.{read-charges}
 use Rattle.risk_user.proofs.Accepted.{prices-within}
-use Rattle.risk_user.proofs.Held.{afternoon-record, morning-record}
+use Rattle.risk_user.proofs.Held.{afternoon-row, morning-row}
 use Rattle.call_level.specs.Times.{levelOf}
 use Rattle.call_level.proofs.level_of.Statement.{statement}
 use Rattle.call_level.proofs.level_of.Tie as tie
 
 read-prices-requires : tie.Need-read-prices-requires
-read-prices-requires c κs = header-lies (passed (now (c .before .args .book)) (c .before .pre .0 .passes) .form)
+read-prices-requires c κs = header-lies (passed (now (c .before .args .book)) (c .before .pre .0 .0 .passes) .form)
 
 -- the prices are the book's
 priced : (c : tie.After-read-prices) → asPrices (c .read-prices .result) ≡ bookOf (now (c .before .before .args .book)) .header .prices
@@ -25,49 +30,58 @@ unfolding bookOf
 priced c = c .read-prices .ensures
 
 ranged : (c : tie.After-read-prices) → InRange (asPrices (c .read-prices .result))
-ranged c = subst InRange (sym (priced c)) (prices-within (now (c .before .before .args .book)) (c .before .before .pre .0 .passes))
+ranged c = subst InRange (sym (priced c)) (prices-within (now (c .before .before .args .book)) (c .before .before .pre .0 .0 .passes))
 
 -- the user is one of the book's
 member : (c : tie.Start) → c .args .place < length (bookOf (now (c .args .book)) .users)
 unfolding bookOf
-member c = rw (length-usersOf (now (c .args .book))) (c .pre .0 .inside)
+member c = rw (length-usersOf (now (c .args .book))) (c .pre .0 .0 .inside)
 
 holdings-at-requires : tie.Need-holdings-at-requires
 holdings-at-requires c κs =
     let s = c .before .before .before .before in
-    (s .pre .0 .low, omega (arith, s .pre .0 .inside, passed (now (s .args .book)) (s .pre .0 .passes) .form .users))
+    (s .pre .0 .0 .low, omega (arith, s .pre .0 .0 .inside, passed (now (s .args .book)) (s .pre .0 .0 .passes) .form .users))
 
 afternoon-level-requires : tie.Need-afternoon-level-requires
 afternoon-level-requires c κs =
     let h = c .before .before in
     let p = h .before .before .before in
-    (p .before .before .pre .1, ranged p, h .holdings-at .ensures .low)
+    (p .before .before .pre .0 .1, ranged p, h .holdings-at .ensures .low)
+
+-- the charges are those of its record
+charged : (c : tie.Start) → balance (c .args .user .charges) ≡ getD (bookOf (now (c .args .book)) .users) (c .args .place) nobody .party .charges
+unfolding bookOf
+charged c = read-charges (c .args .user) (getD (usersOf (now (c .args .book))) (c .args .place) nobody) (c .pre .1 .0)
 
 returns : tie.Need-returns
-unfolding levelOf asUser bookOf
+unfolding levelOf bookOf
 returns c =
     let h = c .before .before .before in
     let p = h .before .before .before in
     let s = p .before .before in
+    let b = bookOf (now (s .args .book)) in
     rw (c .before .if1 .taken)
     (c .afternoon-level .ensures
-    ∙ afternoon-record (asLimits (s .args .limits)) (bookOf (now (s .args .book))) (s .args .user) (priced p) (s .pre .0 .twelve) (member s) (s .pre .0 .user) (h .holdings-at .ensures))
+    ∙ ap (λ (z : ℤ). floored (asLimits (s .args .limits)) (afternoonSum (asPrices (p .read-prices .result)) (heldIn (h .holdings-at .result)) z)) (charged s)
+    ∙ afternoon-row b (s .args .place) (member s) (asLimits (s .args .limits)) (priced p) (s .pre .0 .0 .twelve) (s .pre .1 .1 .entries) (s .pre .1 .1 .positions) (h .holdings-at .ensures))
 
 morning-level-requires : tie.Need-morning-level-requires
 morning-level-requires c κs =
     let h = c .before .before in
     let p = h .before .before .before in
-    (p .before .before .pre .1, ranged p, h .holdings-at .ensures .low)
+    (p .before .before .pre .0 .1, ranged p, h .holdings-at .ensures .low)
 
 returns-2 : tie.Need-returns-2
-unfolding levelOf asUser bookOf
+unfolding levelOf bookOf
 returns-2 c =
     let h = c .before .before .before in
     let p = h .before .before .before in
     let s = p .before .before in
+    let b = bookOf (now (s .args .book)) in
     rw (c .before .if1 .left)
     (c .morning-level .ensures
-    ∙ morning-record (asLimits (s .args .limits)) (bookOf (now (s .args .book))) (s .args .user) (priced p) (s .pre .0 .twelve) (member s) (s .pre .0 .user) (h .holdings-at .ensures))
+    ∙ ap (λ (z : ℤ). floored (asLimits (s .args .limits)) (morningSum (asPrices (p .read-prices .result)) (heldIn (h .holdings-at .result)) z)) (charged s)
+    ∙ morning-row b (s .args .place) (member s) (asLimits (s .args .limits)) (priced p) (s .pre .0 .0 .twelve) (s .pre .1 .1 .entries) (s .pre .1 .1 .positions) (h .holdings-at .ensures))
 
 pub level-of-spec : {M : Type 1} → statement M
 level-of-spec =

@@ -17,7 +17,7 @@ post-at-requires : tie.Need-post-at-requires
 post-at-requires c κs =
     let e = c .before in
     let s = e .before .before .before .before in
-    (s .pre .passes, omega (arith, e .if1 .left, s .pre .count), s .pre .begin)
+    (s .pre .passes, omega (arith, e .if1 .left, s .pre .count), s .pre .begin, s .pre .sized)
 
 returns-2 : tie.Need-returns-2
 returns-2 c = λ limits.

@@ -27,13 +27,20 @@ users-offset-requires c κs =
     let s = start e in
     passed (now (s .args .book)) (s .pre .0 (e .if1 .left)) .form .head
 
+users-size-requires : tie.Need-users-size-requires
+users-size-requires c κs =
+    let e = c .before .before .before .before .before in
+    let s = start e in
+    passed (now (s .args .book)) (s .pre .0 (e .if1 .left)) .form .head
+
 fill-ids-requires : tie.Need-fill-ids-requires
 fill-ids-requires c κs =
-    let u = c .before .before in
+    let w = c .before .before in
+    let u = w .before .before in
     let g = u .before .before in
     let e = g .before .before in
     let s = start e in
-    (s .pre .0 (e .if1 .left), g .user-count .ensures, u .users-offset .ensures .0, refl)
+    (s .pre .0 (e .if1 .left), g .user-count .ensures, u .users-offset .ensures .0, w .users-size .ensures .0, refl)
 
 fill-guesses-requires : tie.Need-fill-guesses-requires
 fill-guesses-requires c κs = c .before .before .before .fill-ids .ensures .padded .few
@@ -41,7 +48,7 @@ fill-guesses-requires c κs = c .before .before .before .fill-ids .ensures .padd
 post-lines-requires : tie.Need-post-lines-requires
 post-lines-requires c κs =
     let f = c .before .before .before .before .before .before .before .before in
-    let e = f .before .before .before .before .before .before .before in
+    let e = f .before .before .before .before .before .before .before .before .before in
     let s = start e in
     (f .fill-ids .ensures, s .pre .1 (e .if1 .left))
 
@@ -49,11 +56,11 @@ returns-2 : tie.Need-returns-2
 returns-2 c =
     let p = c .before .before .before .before in
     let f = p .before .before .before .before .before .before .before .before .before in
-    let e = f .before .before .before .before .before .before .before in
+    let e = f .before .before .before .before .before .before .before .before .before in
     listed-posted (start e .args .number) (e .if1 .left) (p .post-lines .ensures)
 
 pub list-spec : {M : Type 1} → statement M
 list-spec =
     tie.close
-    (tie.spec returns user-count-requires (λ c. search needs) users-offset-requires (λ c. search needs) fill-ids-requires fill-guesses-requires (λ c. search needs) post-lines-requires
+    (tie.spec returns user-count-requires (λ c. search needs) users-offset-requires users-size-requires (λ c. search needs) fill-ids-requires fill-guesses-requires (λ c. search needs) post-lines-requires
     (λ c. search needs) (λ c. search needs) returns-2)

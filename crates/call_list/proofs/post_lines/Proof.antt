@@ -13,10 +13,10 @@ use Rattle.call_list.proofs.post_lines.Statement.{statement}
 use Rattle.call_list.proofs.post_lines.Tie as tie
 
 abbrev Inv-loop : tie.InvT-loop
-Inv-loop book₀ known guesses n at ids areas amounts places₀ i₀ book places i = Going known n at ids areas amounts book₀ book places i
+Inv-loop book₀ known guesses n at size ids areas amounts places₀ i₀ book places i = Going known n at size ids areas amounts book₀ book places i
 
 abbrev μ-loop : tie.MeasureT-loop
-μ-loop book₀ known guesses n at ids areas amounts places₀ i₀ book places i = length ids - i
+μ-loop book₀ known guesses n at size ids areas amounts places₀ i₀ book places i = length ids - i
 
 abbrev start : tie.At-loop Inv-loop μ-loop → tie.Start Inv-loop μ-loop
 start c = c .before .before .before .before .before .before

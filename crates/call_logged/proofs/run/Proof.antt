@@ -1,19 +1,20 @@
 -- `run` is refused by an opening question, or runs the book in its bytes, and the log holds the book that it leaves. Assumes nothing.
-use mathlib.Core.Path.{_≡_, _∙_}
+use mathlib.Core.Path.{_≡_, refl, _∙_}
 use Prim.Native.Nat.{_≤_}
 use native.Mathlib.Omega.{arith}
 use lib.Dec.{T}
 use borrow.Author.Needs.{needs}
 use denote.Ref.{now}
+use Rattle.book_format.proofs.Held.{accepted-of}
 use Rattle.book_format.proofs.Places.{header-lies}
 use Rattle.book_format.proofs.Passed.{passed}
-use Rattle.book_format.specs.Book.{tradeCount}
+use Rattle.book_format.specs.Book.{bookOf, tradeCount}
 use Rattle.book_format.specs.Questions.{bookNumber}
+use Rattle.book_parties.specs.Ids.{BookIn}
 use Rattle.call_run.specs.Call.{runCall}
 use Rattle.log_format.proofs.Read.{FitLog, fits-facts}
 use Rattle.log_format.specs.Fits.{logFits}
 use Rattle.log_format.specs.Log.{entryCount}
-use Rattle.run_reduction.proofs.Asked.{found-runnable}
 use Rattle.units.specs.Limits.{asLimits}
 use Rattle.call_logged.proofs.Ways.{logged-refused, run-logged}
 use Rattle.call_logged.proofs.run.Statement.{statement}
@@ -51,25 +52,41 @@ read-prices-requires c κs = let e = c .before in header-lies (passed (now (star
 get-u32-requires : tie.Need-get-u32-requires
 get-u32-requires c κs = omega (arith, facts (c .before .before .before) .size)
 
+-- the book with the places of its trades' parties
+placed : (c : tie.Else1) → BookIn (now (start c .args .book)) (now (start c .args .sellers)) (now (start c .args .buyers))
+placed c =
+    let s = start c in
+    record { accepted = accepted-of (now (s .args .book)) (λ j. c .before .before .slice-known .given j .fits) (passes c); placed = s .pre .1 .1 .1 .placed (c .if1 .left) }
+
+bear-requires : tie.Need-bear-requires
+bear-requires c κs =
+    let e = c .before .before .before .before .before .before .before .before in
+    let p = start e .pre .1 .1 in
+    let told = p .1 .summed in
+    ((placed e, p .0 .0, p .0 .1, refl, refl), (told .twelve (e .if1 .left), told .low (e .if1 .left)))
+
 run-book-requires : tie.Need-run-book-requires
+unfolding bookOf
 run-book-requires c κs =
-    let e = c .before .before .before .before .before .before in
-    let given = start e .pre .1 in
-    (found-runnable (given .1) (e .if1 .left) (passes e) (λ j. e .before .before .slice-known .given j .fits) (given .0) (c .before .before .before .before .read-prices .ensures), (omega (arith, count (c .before .before), facts e .count), facts e .size))
+    let o = c .before .before .before .before .before in
+    let g = o .before .before .before .before .before in
+    let e = g .before .before .before .before in
+    let k = o .bear .ensures in
+    (placed e, (record { book = k .0; limits-in = start e .pre .1 .0; prices-are = g .before .before .read-prices .ensures; twelve = k .1 .0; low = k .1 .1 }, (omega (arith, count g, facts e .count), facts e .size)))
 
 cast-many : tie.Need-cast-many
 cast-many c = omega (arith, c .before .before .before .before .before .run-book .ensures .few)
 
 seal-requires : tie.Need-seal-requires
 seal-requires c κs =
-    let e = c .before .before .before .before .before .before .before .before .before .before .before .before .before .before in
+    let e = c .before .before .before .before .before .before .before .before .before .before .before .before .before .before .before .before .before .before .before .before .before .before in
     (c .before .before .before .before .before .before .before .run-book .ensures .size ∙ facts e .size, omega (arith, c .before .before .before .before .before .before .before .run-book .kept .0, facts e .room))
 
 returns-2 : tie.Need-returns-2
 returns-2 c =
     let at-seal = c .before .before .before .before in
     let at-run-book = at-seal .before .before .before .before .before .before .before .before in
-    let at-count = at-run-book .before .before .before in
+    let at-count = at-run-book .before .before .before .before .before .before .before .before .before .before .before in
     let e = at-count .before .before .before .before in
     let a = start e .args in
     run-logged (asLimits (a .limits)) (now (a .book)) (now (a .log)) (λ j. e .before .slice-known2 .given j .fits) (few e) (fits e) (e .if1 .left)
@@ -78,5 +95,5 @@ returns-2 c =
 pub run-spec : {M : Type 1} → statement M
 run-spec =
     tie.close
-    (tie.spec (λ c κs. search needs) returns read-prices-requires get-u32-requires (λ c. search needs) run-book-requires cast-many seal-requires
+    (tie.spec (λ c κs. search needs) returns read-prices-requires get-u32-requires (λ c. search needs) bear-requires run-book-requires cast-many seal-requires
     (λ c κs. search needs) (λ c. search needs) (λ c. search needs) returns-2)

@@ -96,7 +96,7 @@ pub post-at-spec : {M : Type 1} → statement M
 post-at-spec =
     tie.close
     (tie.spec returns
-    (λ c κs. (user-in (c .before), start (c .before) .pre .2))
+    (λ c κs. (user-in (c .before), start (c .before) .pre .2, start (c .before) .pre .3))
     (λ c. omega (arith, inside c))
     (λ c. omega (arith, inside c))
     (λ c. omega (arith, inside c))

@@ -27,17 +27,23 @@ users-offset-requires c κs =
     let e = c .before in
     passed _ (e .before .seek .ensures .found (e .if1 .left) .passes) .form .head
 
+users-size-requires : tie.Need-users-size-requires
+users-size-requires c κs =
+    let e = c .before .before .before in
+    passed _ (e .before .seek .ensures .found (e .if1 .left) .passes) .form .head
+
 post-at-requires : tie.Need-post-at-requires
 post-at-requires c κs =
-    let u = c .before in
+    let w = c .before in
+    let u = w .before .before in
     let e = u .before .before in
     let f = e .before .seek .ensures .found (e .if1 .left) in
-    (f .passes, f .known, u .users-offset .ensures .0)
+    (f .passes, f .known, u .users-offset .ensures .0, w .users-size .ensures .0)
 
 returns-2 : tie.Need-returns-2
 returns-2 c = λ limits.
     let p = c .before .before in
-    let e = p .before .before .before .before in
+    let e = p .before .before .before .before .before .before in
     let s = start (e .before) in
     let a = s .args in
     let k = e .before .seek .ensures in
@@ -45,4 +51,4 @@ returns-2 c = λ limits.
     (rw (toZ-ofZ w64 (a .amount) (s .fits .amount)) at (p .post-at .ensures .posts (a .id) (k .found (e .if1 .left) .stands) limits))
 
 pub posting-spec : {M : Type 1} → statement M
-posting-spec = tie.close (tie.spec (λ c κs. search needs) (λ c. search needs) returns users-offset-requires post-at-requires (λ c. search needs) returns-2)
+posting-spec = tie.close (tie.spec (λ c κs. search needs) (λ c. search needs) returns users-offset-requires users-size-requires post-at-requires (λ c. search needs) returns-2)

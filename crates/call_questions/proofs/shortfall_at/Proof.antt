@@ -55,7 +55,7 @@ called-is c =
 fill-positions-requires : tie.Need-fill-positions-requires
 fill-positions-requires c κs =
     let s = c .before .before .before .before in
-    (s .pre .0 .book .accepted .held .form, users-are (c .before .before), s .pre .2)
+    (s .pre .0 .book .accepted, users-are (c .before .before), s .pre .2)
 
 cut-at-requires : tie.Need-cut-at-requires
 cut-at-requires c κs =

@@ -71,7 +71,7 @@ apply-requires : tie.Need-apply-requires
 apply-requires c κs =
     let s = c .before .before .before .before .before .before .before .before .before .before .before .before .before .before .before .before .before .before .before in
     let a = s .args in
-    ((s .pre .0 .book .book, own-cuttable (s .pre .0) (s .pre .1 .0) (roomAsked (a .with-log) (now (a .log))) (a .asked .0) _ _ (c .before .before .before .before .reduce .ensures .0) refl), users-are (c .before .before))
+    ((s .pre .0 .own, own-cuttable (s .pre .0) (s .pre .1 .0) (roomAsked (a .with-log) (now (a .log))) (a .asked .0) _ _ (c .before .before .before .before .reduce .ensures .0) refl), users-are (c .before .before))
 
 note-requires : tie.Need-note-requires
 note-requires c κs =

@@ -18,7 +18,7 @@ abbrev start : tie.After-shortfall-at → tie.Start
 start c = c .before .before .before .before .before
 
 shortfall-at-requires : tie.Need-shortfall-at-requires
-shortfall-at-requires c κs = let s = c .before .before .before .before in (s .pre .0 .0, s .pre .0 .1, refl)
+shortfall-at-requires c κs = let s = c .before .before .before .before in (s .pre .1 .0 .0, s .pre .1 .0 .1, refl)
 
 returns : tie.Need-returns
 returns c =
@@ -35,7 +35,7 @@ reduce-sales-requires c κs =
     let q = c .before .before .before .before .before in
     let s = start q in
     let filled = q .shortfall-at .ensures .1 in
-    (record { limits = asLimits (s .args .day .limits); sums = now (s .args .sums); book = s .pre .0 .0; inside = s .pre .0 .1; positions = filled .0; room = filled .1 }, s .pre .1)
+    (record { limits = asLimits (s .args .day .limits); sums = now (s .args .sums); book = s .pre .1 .0 .0; own = s .pre .0; inside = s .pre .1 .0 .1; positions = filled .0; room = filled .1 }, s .pre .1 .1)
 
 returns-2 : tie.Need-returns-2
 unfolding entryOf

@@ -1,5 +1,5 @@
 -- `reduction` is refused by the entry, or goes on with the user that it found. Assumes nothing.
-use mathlib.Core.Path.{_≡_}
+use mathlib.Core.Path.{_≡_, refl}
 use borrow.Author.Needs.{needs}
 use denote.Ref.{now}
 use Rattle.call_entry.specs.Entered.{Found}
@@ -9,7 +9,8 @@ use Rattle.book_format.specs.Book.{bookOf}
 use Rattle.log_format.specs.Noted.{entryOf}
 use Rattle.rules.specs.Book.{find}
 use Rattle.units.specs.Limits.{asLimits}
-use Rattle.run_reduction.proofs.Asked.{found-runnable}
+use Rattle.book_format.proofs.Held.{accepted-of}
+use Rattle.book_parties.specs.Ids.{BookIn}
 use Rattle.call_reduction.specs.Call.{roomAsked}
 use Rattle.call_reduction.proofs.Entry.{noted-refused, reduced-with}
 use Rattle.call_reduction.proofs.Ways.{call-gives, call-unentered, found-at, gives-refused}
@@ -41,18 +42,33 @@ returns c =
 read-prices-requires : tie.Need-read-prices-requires
 read-prices-requires c κs = let e = c .before in header-lies (passed (now (start (e .before) .args .book)) (found e .passes) .form)
 
+-- the book with the places of its trades' parties
+placed : (c : tie.Else1) → let s = start (c .before) in BookIn (now (s .args .book)) (now (s .args .sellers)) (now (s .args .buyers))
+placed c =
+    let s = start (c .before) in
+    record { accepted = accepted-of (now (s .args .book)) (λ j. c .before .before .before .before .slice-known .given j .fits) (found c .passes); placed = s .pre .1 .1 .1 .1 .placed (started c) }
+
+bear-requires : tie.Need-bear-requires
+bear-requires c κs =
+    let e = c .before .before .before .before .before .before in
+    let p = start (e .before) .pre .1 .1 .1 in
+    let told = p .1 .summed in
+    ((placed e, p .0 .0, p .0 .1, refl, refl), (told .twelve (started e), told .low (started e)))
+
 reduce-user-requires : tie.Need-reduce-user-requires
+unfolding bookOf
 reduce-user-requires c κs =
-    let e = c .before .before .before .before in
+    let o = c .before .before .before .before .before in
+    let r = o .before .before .before .before .before in
+    let e = r .before .before in
     let s = start (e .before) in
-    let given = s .pre .1 .1 in
-    let f = found e in
-    ((found-runnable (given .1) (started e) (f .passes) (λ j. e .before .before .before .before .slice-known .given j .fits) (given .0) (c .before .before .read-prices .ensures), f .known), s .pre .1 .0 (started e))
+    let k = o .bear .ensures in
+    (placed e, ((record { book = k .0; limits-in = s .pre .1 .1 .0; prices-are = r .read-prices .ensures; twelve = k .1 .0; low = k .1 .1 }, found e .known), s .pre .1 .0 (started e)))
 
 returns-2 : tie.Need-returns-2
 returns-2 c =
     let r = c .before .before .before .before .reduce-user in
-    let e = c .before .before .before .before .before .before .before .before .before in
+    let e = c .before .before .before .before .before .before .before .before .before .before .before .before .before .before .before .before .before in
     let a = start (e .before) .args in
     let limits = asLimits (a .limits) in
     let s = now (a .book) in
@@ -69,6 +85,7 @@ reduction-spec =
     (λ c. search needs)
     returns
     read-prices-requires
+    bear-requires
     reduce-user-requires
     (λ c. search needs)
     (λ c. search needs)

@@ -1,11 +1,12 @@
--- `show` gives the empty part and the number of the entry, or the 56 bytes where the found user stands. Assumes nothing.
+-- `show` gives the empty part and the number of the entry, or the record where the found user stands. Assumes nothing.
 use mathlib.Core.Path.{_≡_, sym, refl}
 use mathlib.Core.List.{List, []}
-use Prim.Native.Nat.{ℕ, _+_, _-_}
+use Prim.Native.Nat.{ℕ, _+_, _-_, _≤_}
+use lib.ListN.{length}
 use native.Mathlib.Omega.{arith}
 use denote.Ref.{now}
 use Rattle.rules.specs.Queries.{aboutQuery}
-use Rattle.book_format.proofs.Offsets.{user-size}
+use Rattle.book_format.proofs.Places.{record-lies}
 use Rattle.book_format.specs.Book.{bookOf}
 use Rattle.call_entry.specs.Entered.{Found}
 use Rattle.call_entry.proofs.Calls.{found-user}
@@ -44,17 +45,26 @@ returns c =
 user-offset-requires : tie.Need-user-offset-requires
 user-offset-requires c κs = found-user (found c)
 
+users-size-requires : tie.Need-users-size-requires
+users-size-requires c κs = found-user (found (c .before)) .form .head
+
+-- the record lies in the book
+lies : (c : tie.After-users-size) → c .before .user-offset .result + c .users-size .result ≤ length (bytes (c .before .before .before .before))
+lies c = let u = c .before in omega (arith, u .user-offset .ensures .0, c .users-size .ensures .0, record-lies (found-user (found (u .before))))
+
 returns-2 : tie.Need-returns-2
 unfolding aboutQuery bookOf
 returns-2 c =
-    let u = c .before in
+    let w = c .before in
+    let u = w .before in
     let e = u .before .before .before in
     let f = found (u .before) in
     let z = started (u .before) in
     let a = u .user-offset .result in
-    let k : a + 56 - a ≡ 56 = omega arith in
+    let size = w .users-size .result in
+    let k : a + size - a ≡ size = omega arith in
     let o = u .user-offset .ensures .0 in (
-      record { asked = e .seek .ensures .asked; shows = rw (show-found (bytes e) (asked e) (λ n. []) _ z f, ← f .stands, k, o, user-size) },
+      record { asked = e .seek .ensures .asked; shows = rw (show-found (bytes e) (asked e) (λ n. []) _ z f, ← f .stands, k, o, w .users-size .ensures .0) },
       record { block = refl; offset = rw (show-found (bytes e) (asked e) {R = ℕ} (λ n. 0) _ z f, ← f .stands) (omega (arith, o)) },
     )
 
@@ -66,8 +76,9 @@ show-spec =
     slice-aggregate-result
     returns
     user-offset-requires
+    users-size-requires
+    (λ c. omega (arith, lies c, c .before .before .before .before .before .before .fits))
     (λ c. search needs)
     (λ c. search needs)
-    (λ c. search needs)
-    (λ c. search needs)
+    (λ c. omega (arith, lies c))
     returns-2)

@@ -1,18 +1,24 @@
 -- `any_warns`: what is left to look at has the whole answer, until a trade warns or none is left. Assumes nothing.
 use mathlib.Core.Bool.{Bool}
-use mathlib.Core.Path.{_≡_, ap, _∙_}
-use Prim.Native.Nat.{_+_, _-_, _*_, _≤_}
+use mathlib.Core.Path.{_≡_, sym, ap, subst, _∙_}
+use Prim.Native.Nat.{_+_, _-_, _*_, _≤_, _<_}
+use lib.Dec.{T}
 use native.Mathlib.Omega.{arith}
 use denote.Ref.{now}
 use lib.ListN.{drop, length, length-drop, length-take, take}
-use Rattle.rules.specs.Book.{Trade}
+use Rattle.rules.specs.Book.{Trade, noTrade}
+use Rattle.rules.specs.Questions.{tradeValid}
+use Rattle.base.proofs.Fronts.{all-at}
+use Rattle.book_format.proofs.Held.{accepted-trades}
+use Rattle.book_format.proofs.Places.{trade-read}
+use Rattle.book_format.specs.Places.{TradeIn}
 use Rattle.base.specs.Lists.{any}
 use Rattle.units.specs.Limits.{asLimits}
 use Rattle.fields.specs.Layout.{recordsOf}
 use Rattle.book_records.specs.Trade.{tradeOf}
-use Rattle.book_format.specs.Book.{bookOf}
+use Rattle.book_format.specs.Book.{bookOf, tradeCount, tradesOf, usersOf}
 use Rattle.book_format.specs.Questions.{Formed}
-use Rattle.book_format.proofs.Passed.{passed}
+use Rattle.book_format.proofs.Passed.{length-tradesOf, passed}
 use Rattle.risk_user.proofs.Accepted.{trades-there}
 use Rattle.risk_user.proofs.Walks.{Searching, searching-start, searching-found, searching-turn, searching-end}
 use Rattle.call_warning.specs.Warned.{warnsBuyer}
@@ -75,7 +81,20 @@ read-trade-requires : tie.Need-read-trade-requires Inv-loop μ-loop
 read-trade-requires c κs = simp (length-take, length-drop) (omega (arith, lies (c .before)))
 
 warns-buyer-requires : tie.Need-warns-buyer-requires Inv-loop μ-loop
-warns-buyer-requires c κs = search needs
+warns-buyer-requires c κs =
+    let l = c .before .before .before in
+    let o = l .before in
+    let s = o .before .before .before .before in
+    let bytes = now (s .args .book) in
+    let inside : l .loop .i < tradeCount bytes = omega (arith, c .before .before .loop-test .taken, o .before .trade-count .ensures) in
+    let here : TradeIn bytes (o .trades-offset .result) (l .loop .i) = record { form = form s; begin = o .trades-offset .ensures; inside = inside } in (
+      (
+        s .pre .0,
+        subst (λ (t : Trade). T (tradeValid (usersOf bytes) t)) (sym (trade-read here (l .loop .inv .place) (c .read-trade .ensures)))
+            (all-at (tradeValid (usersOf bytes)) (tradesOf bytes) (accepted-trades (s .pre .0 .accepted)) (l .loop .i) noTrade (omega (arith, length-tradesOf bytes))),
+      ),
+      s .pre .1,
+    )
 
 -- the test of the next trade
 told : (c : tie.After-warns-buyer Inv-loop μ-loop) → let l = c .before .before .before .before in let s = l .before .before .before .before .before .args in

@@ -1,20 +1,23 @@
 -- `warning` is refused by the entry, refused for a clearing house, or answered by the flag and then by the trades. Assumes nothing.
-use mathlib.Core.Path.{_≡_, refl, sym, ap, _∙_}
+use mathlib.Core.Path.{_≡_, sym, ap, _∙_}
 use mathlib.Core.List.{List}
 use Prim.Native.Nat.{ℕ}
 use denote.Ref.{now}
+use lib.ListN.{getD}
+use Rattle.base.specs.Lists.{any}
+use Rattle.rules.specs.Book.{User, find, nobody}
 use Rattle.rules.specs.Levels.{Limits, flagged}
 use Rattle.rules.specs.Queries.{aWarning, onlyNumber}
 use Rattle.units.specs.Limits.{asLimits}
-use Rattle.book_records.specs.User.{asUser}
-use Rattle.book_format.specs.Book.{bookOf}
-use Rattle.book_format.proofs.Passed.{passed}
+use Rattle.book_format.specs.Book.{bookOf, usersOf}
+use Rattle.book_format.specs.Held.{Accepted}
+use Rattle.book_format.proofs.Held.{accepted-of}
 use Rattle.book_format.proofs.Places.{header-lies}
-use Rattle.risk_user.proofs.Held.{flagged-record}
+use Rattle.risk_members.proofs.Members.{read-blocked, read-id, read-role}
 use Rattle.call_entry.specs.Entered.{Found}
-use Rattle.call_entry.proofs.Calls.{found-user, read-role}
-use Rattle.call_warning.specs.Warned.{Priced}
-use Rattle.call_warning.proofs.Ways.{prices-range, read-blocked, read-warned, warned-flagged, warned-buyer, warning-refused, warning-of-house, warning-found}
+use Rattle.call_entry.proofs.Calls.{found-at, found-user}
+use Rattle.call_warning.specs.Warned.{Priced, warnsBuyer}
+use Rattle.call_warning.proofs.Ways.{blocked-most, flag-at, prices-range, warned-flagged, warned-buyer, warning-refused, warning-of-house, warning-found}
 use Rattle.call_warning.proofs.warning.Statement.{statement}
 use Rattle.call_warning.proofs.warning.Tie as tie
 
@@ -48,86 +51,92 @@ returns c =
 user-at-requires : tie.Need-user-at-requires
 user-at-requires c κs = found-user (found c)
 
+-- the role that was read is that of the user of the id
+role : (u : tie.After-user-at) → let e = u .before .before in u .user-at .result .role ≡ find (bookOf (bytes e) .users) (asked e) .party .role
+role u =
+    let e = u .before .before in
+    read-role (u .user-at .result) (getD (usersOf (bytes e)) (e .seek .result .place) nobody) (u .user-at .ensures) ∙ ap (λ (v : User). v .party .role) (found-at (found (u .before)))
+
 returns-2 : tie.Need-returns-2
 unfolding onlyNumber
 returns-2 c =
     let u = c .before .before in
     let e = u .before .before in
-    let f = found (u .before) in
-    warning-of-house (opened e) (figures e) (bytes e) (asked e) (started (u .before)) f (λ h. c .if2 .taken (read-role (u .user-at .result) f (u .user-at .ensures) ∙ h))
+    warning-of-house (opened e) (figures e) (bytes e) (asked e) (started (u .before)) (found (u .before)) (λ h. c .if2 .taken (role u ∙ h))
 
 -- the user that is read, once its role is known
 abbrev user : tie.Else2 → tie.After-user-at
 user c = c .before .before
 
+accepted : (n : tie.Else1) → Accepted (bytes (n .before))
+accepted n = accepted-of (bytes (n .before)) (λ j. n .before .before .shared-slice-known .given j .fits) (found n .passes)
+
 read-prices-requires : tie.Need-read-prices-requires
-read-prices-requires c κs = let n = user c .before in header-lies (passed (bytes (n .before)) (found n .passes) .form)
+read-prices-requires c κs = header-lies (accepted (user c .before) .held .form)
 
 priced : (c : tie.After-read-prices) → let n = user (c .before) .before in Priced (bytes (n .before)) (c .read-prices .result)
 unfolding bookOf
-priced c = let n = user (c .before) .before in record { passes = found n .passes; same = sym (c .read-prices .ensures) }
+priced c = let n = user (c .before) .before in record { passes = found n .passes; accepted = accepted n; same = sym (c .read-prices .ensures) }
+
+amounts-of-requires : tie.Need-amounts-of-requires
+amounts-of-requires c κs = let u = user (c .before) in (accepted (u .before), found (u .before) .known, u .user-at .ensures)
 
 flagged-requires : tie.Need-flagged-requires
 flagged-requires c κs =
-    let p = c .before in
-    let u = user (p .before) in
-    (u .before .before .before .before .pre .1, prices-range (priced p), read-blocked (u .user-at .result) (found (u .before)) (u .user-at .ensures))
-
--- whether the user that is read is flagged in the book of the bytes
-flag-is : (c : tie.After-flagged) → let u = user (c .before .before .before) in let e = u .before .before in
-    c .flagged .result ≡ flagged (figures e) (bookOf (bytes e)) (asUser (u .user-at .result))
-unfolding asUser
-flag-is c =
     let p = c .before .before in
     let u = user (p .before) in
     let e = u .before .before in
-    let v = u .user-at .result in
-    c .flagged .ensures (asUser v) refl ∙ flagged-record (figures e) (bookOf (bytes e)) v (sym (priced p .same))
+    let f = found (u .before) in
+    (e .before .before .pre .1, prices-range (priced p), blocked-most (bytes e) (f .passes) (f .known) (u .user-at .result) (u .user-at .ensures))
+
+-- whether the user of the id is flagged in the book of the bytes
+flag-is : (c : tie.After-flagged) → let u = user (c .before .before .before .before) in let e = u .before .before in
+    c .flagged .result ≡ flagged (figures e) (bookOf (bytes e)) (find (bookOf (bytes e) .users) (asked e))
+flag-is c =
+    let a = c .before .before in
+    let p = a .before in
+    let u = user (p .before) in
+    let e = u .before .before in
+    let f = found (u .before) in
+    let v = getD (usersOf (bytes e)) (e .seek .result .place) nobody in
+    c .flagged .ensures v (read-blocked (u .user-at .result) v (u .user-at .ensures))
+    ∙ flag-at (bytes e) (f .passes) (f .known) (figures e) (p .read-prices .result) (sym (priced p .same)) (a .amounts-of .result .position) (a .amounts-of .ensures .positions)
+    ∙ ap (flagged (figures e) (bookOf (bytes e))) (found-at f)
 
 returns-3 : tie.Need-returns-3
 unfolding aWarning
 returns-3 c =
     let g = c .before in
-    let n = g .before .before .before in
+    let n = g .before .before .before .before in
     let u = user n in
     let e = u .before .before in
-    let f = found (u .before) in
-    let v = u .user-at .result in
-    ap aWarning
-    (warned-flagged (figures e) (bookOf (bytes e)) (asUser v) (sym (flag-is g) ∙ c .if3 .taken) ∙ read-warned v f (u .user-at .ensures) (figures e))
-    ∙ warning-found (opened e) (figures e) (bytes e) (asked e) (started (u .before)) f (sym (read-role v f (u .user-at .ensures)) ∙ n .if2 .left)
+    ap aWarning (warned-flagged (figures e) (bookOf (bytes e)) (find (bookOf (bytes e) .users) (asked e)) (sym (flag-is g) ∙ c .if3 .taken))
+    ∙ warning-found (opened e) (figures e) (bytes e) (asked e) (started (u .before)) (found (u .before)) (sym (role u) ∙ n .if2 .left)
 
 any-warns-requires : tie.Need-any-warns-requires
 any-warns-requires c κs =
-    let p = c .before .before .before in
+    let p = c .before .before .before .before in
     (priced p, user (p .before) .before .before .before .before .pre .1)
 
 returns-4 : tie.Need-returns-4
-unfolding aWarning asUser
+unfolding aWarning
 returns-4 c =
     let l = c .before in
     let g = l .before in
-    let n = g .before .before .before in
+    let n = g .before .before .before .before in
     let u = user n in
     let e = u .before .before in
     let f = found (u .before) in
-    let v = u .user-at .result in
+    let b = bookOf (bytes e) in
+    let v = find (b .users) (asked e) in
+    let id : u .user-at .result .id ≡ v .party .id = read-id (u .user-at .result) (getD (usersOf (bytes e)) (e .seek .result .place) nobody) (u .user-at .ensures) ∙ ap (λ (w : User). w .party .id) (found-at f) in
     ap aWarning
     (c .any-warns .ensures
-    ∙ warned-buyer (figures e) (bookOf (bytes e)) (asUser v) (sym (flag-is g) ∙ l .if3 .left)
-    ∙ read-warned v f (u .user-at .ensures) (figures e))
-    ∙ warning-found (opened e) (figures e) (bytes e) (asked e) (started (u .before)) f (sym (read-role v f (u .user-at .ensures)) ∙ n .if2 .left)
+    ∙ ap (λ (n : ℕ). any (warnsBuyer (figures e) b n) (b .trades)) id
+    ∙ warned-buyer (figures e) b v (sym (flag-is g) ∙ l .if3 .left))
+    ∙ warning-found (opened e) (figures e) (bytes e) (asked e) (started (u .before)) f (sym (role u) ∙ n .if2 .left)
 
 pub warning-spec : {M : Type 1} → statement M
 warning-spec =
     tie.close
-    (tie.spec
-    seek-requires
-    returns
-    user-at-requires
-    returns-2
-    read-prices-requires
-    flagged-requires
-    returns-3
-    any-warns-requires
-    returns-4)
+    (tie.spec seek-requires returns user-at-requires returns-2 read-prices-requires amounts-of-requires flagged-requires returns-3 any-warns-requires returns-4)

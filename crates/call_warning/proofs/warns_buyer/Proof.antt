@@ -1,10 +1,11 @@
 -- `warns_buyer` goes out at the first part of the definition that fails, and else by the seller. Assumes nothing.
-use mathlib.Core.Path.{sym, _∙_}
+use mathlib.Core.Path.{sym, ap, _∙_}
 use denote.Ref.{now}
 use borrow.Author.Tests.{not-true, not-false}
 use Rattle.book_records.specs.Trade.{asTrade}
 use Rattle.book_format.specs.Book.{bookOf}
 use Rattle.units.specs.Limits.{asLimits}
+use Rattle.call_warning.specs.Warned.{flaggedShipper}
 use Rattle.call_warning.proofs.Ways.{other-buyer, other-kind, nothing-stands, by-seller}
 use borrow.Author.Needs.{needs}
 use Rattle.call_warning.proofs.warns_buyer.Statement.{statement}
@@ -36,27 +37,29 @@ returns-3 c =
     nothing-stands (asLimits (a .limits)) (bookOf (now (a .book))) (a .id) (asTrade (a .t)) (k .before .if1 .left)
     (sym (k .is-bilateral-for-day .ensures) ∙ not-false (k .is-bilateral-for-day .result) (o .if2 .left)) (c .if3 .taken)
 
+bearer-of-requires : tie.Need-bearer-of-requires
+bearer-of-requires c κs =
+    let s = c .before .before .before .before .before .before .before in
+    (s .pre .0 .0 .accepted, s .pre .0 .1)
+
 is-flagged-shipper-requires : tie.Need-is-flagged-shipper-requires
-is-flagged-shipper-requires c κs = search needs
+is-flagged-shipper-requires c κs =
+    let s = c .before .before .before .before .before .before .before .before in
+    ((s .pre .0 .0, c .bearer-of .ensures .1), s .pre .1)
 
 returns-4 : tie.Need-returns-4
 unfolding asTrade
 returns-4 c =
-    let e = c .before in
+    let r = c .before in
+    let e = r .before in
     let o = e .before .before in
     let k = o .before in
     let a = k .before .before .before .before .args in
     c .is-flagged-shipper .ensures
+    ∙ ap (flaggedShipper (asLimits (a .limits)) (bookOf (now (a .book)))) (r .bearer-of .ensures .0)
     ∙ by-seller (asLimits (a .limits)) (bookOf (now (a .book))) (a .id) (asTrade (a .t)) (k .before .if1 .left)
     (sym (k .is-bilateral-for-day .ensures) ∙ not-false (k .is-bilateral-for-day .result) (o .if2 .left)) (e .if3 .left)
 
 pub warns-buyer-spec : {M : Type 1} → statement M
 warns-buyer-spec =
-    tie.close
-    (tie.spec
-    returns
-    is-bilateral-for-day-requires
-    returns-2
-    returns-3
-    is-flagged-shipper-requires
-    returns-4)
+    tie.close (tie.spec returns is-bilateral-for-day-requires returns-2 returns-3 bearer-of-requires is-flagged-shipper-requires returns-4)

@@ -2,7 +2,9 @@
 use mathlib.Core.Path.{_∙_}
 use borrow.Author.Needs.{needs}
 use denote.Ref.{now}
-use Rattle.book_format.specs.Book.{bookOf}
+use lib.ListN.{getD}
+use Rattle.book_format.specs.Book.{bookOf, usersOf}
+use Rattle.rules.specs.Book.{nobody}
 use Rattle.units.specs.Limits.{asLimits}
 use Rattle.day_lines.specs.Lines.{asLine}
 use Rattle.day_lines.proofs.Places.{line-day, line-in, line-level, line-of, line-state, line-user}
@@ -32,9 +34,9 @@ returns c =
     let l = asLimits (a .day .limits) in
     let k = c .before .before .before .before .before .user-at in
     let level = c .before .before .before .level-at .ensures in
-    line-of l (bookOf (now (a .book))) (k .result) (line-state (s .pre) (k .result) (k .ensures) level (c .before .before .called-at .ensures) (c .before .state-of .ensures))
-    (line-level (s .pre) (k .result) (k .ensures) level) (c .printed-level .ensures)
-    ∙ line-in l (now (a .book)) (a .place) (k .result) (k .ensures)
+    line-of l (bookOf (now (a .book))) (k .result) (getD (usersOf (now (a .book))) (a .place) nobody) (k .ensures)
+    (line-state (s .pre) level (c .before .before .called-at .ensures) (c .before .state-of .ensures)) (line-level (s .pre) level) (c .printed-level .ensures)
+    ∙ line-in l (now (a .book)) (a .place)
 
 pub line-at-spec : {M : Type 1} → statement M
 line-at-spec =

@@ -1,89 +1,70 @@
 -- `day_print::lines`: an accepted book passes the questions again, which tell the sums of its users and the places of the parties of its trades. Assumes nothing.
-use mathlib.Core.Path.{_≡_, refl, _∙_}
+use mathlib.Core.Path.{_≡_, refl}
 use native.Mathlib.Omega.{arith}
 use borrow.Author.Needs.{needs}
 use denote.Ref.{now}
 use Rattle.book_format.proofs.Passed.{passed}
 use Rattle.book_format.proofs.Places.{header-lies}
-use Rattle.book_format.specs.Book.{tradeCount, userCount}
-use Rattle.run_reduction.proofs.Asked.{asked-runnable}
-use Rattle.day_print.proofs.Told.{lines-asked}
+use Rattle.book_format.specs.Book.{bookOf, tradeCount, userCount}
+use Rattle.day_print.proofs.Told.{asked-book, lines-asked}
 use Rattle.day_print.proofs.lines.Statement.{statement}
 use Rattle.day_print.proofs.lines.Tie as tie
 
+abbrev start : tie.After-ask → tie.Start
+start c = c .before .before .before .before .before
+
+-- where the book was asked
+abbrev asked : tie.After-bear → tie.After-ask
+asked c = c .before .before .before .before .before .before .before .before
+
+-- where its risk is borne
+abbrev borne : tie.After-trade-count → tie.After-bear
+borne c = c .before .before .before .before
+
 -- the counts of the book
-users-are : (c : tie.After-user-count) → c .user-count .result ≡ userCount (now (c .before .before .before .before .before .before .before .before .before .before .args .book))
+users-are : (c : tie.After-user-count) → c .user-count .result ≡ userCount (now (start (asked (c .before .before .before)) .args .book))
 users-are c = c .user-count .ensures
 
-trades-are : (c : tie.After-trade-count) → c .trade-count .result ≡ tradeCount (now (c .before .before .before .before .before .before .before .before .before .before .before .args .book))
+trades-are : (c : tie.After-trade-count) → c .trade-count .result ≡ tradeCount (now (start (asked (borne c)) .args .book))
 trades-are c = c .trade-count .ensures
 
-slice-aggregate-ask : tie.Need-slice-aggregate-ask
-slice-aggregate-ask c = search needs
-
-slice-aggregate-ask-2 : tie.Need-slice-aggregate-ask-2
-slice-aggregate-ask-2 c = search needs
-
-ask-requires : tie.Need-ask-requires
-ask-requires c κs = search needs
-
-today-requires : tie.Need-today-requires
-today-requires c κs = search needs
+bear-requires : tie.Need-bear-requires
+bear-requires c κs =
+    let a = c .before .before .before .before .before .before .before in
+    let k = asked-book (a .ask .ensures .0) (a .ask .ensures .1) (λ j. a .before .before .before .before .shared-slice-known .given j .fits) (start a .pre) in
+    ((k .0, a .ask .kept .1 .0, a .ask .kept .1 .1 .0, refl, refl), k .1)
 
 read-prices-requires : tie.Need-read-prices-requires
-read-prices-requires c κs = let s = c .before .before .before .before .before .before .before .before in header-lies (passed (now (s .args .book)) (s .pre) .form)
+read-prices-requires c κs = let s = start (asked (c .before)) in header-lies (passed (now (s .args .book)) (s .pre) .form)
 
 user-count-requires : tie.Need-user-count-requires
-user-count-requires c κs = let s = c .before .before .before .before .before .before .before .before .before in omega (arith, passed (now (s .args .book)) (s .pre) .form .head)
-
-cast-n : tie.Need-cast-n
-cast-n c = search needs
+user-count-requires c κs = let s = start (asked (c .before .before)) in omega (arith, passed (now (s .args .book)) (s .pre) .form .head)
 
 trade-count-requires : tie.Need-trade-count-requires
-trade-count-requires c κs = let s = c .before .before .before .before .before .before .before .before .before .before in omega (arith, passed (now (s .args .book)) (s .pre) .form .head)
-
-cast-m : tie.Need-cast-m
-cast-m c = search needs
+trade-count-requires c κs = let s = start (asked (c .before .before .before)) in omega (arith, passed (now (s .args .book)) (s .pre) .form .head)
 
 fill-positions-requires : tie.Need-fill-positions-requires
-fill-positions-requires c κs = let s = c .before .before .before .before .before .before .before .before .before .before .before .before in (passed (now (s .args .book)) (s .pre) .form, users-are (c .before .before), refl)
+fill-positions-requires c κs = let m = c .before in (borne m .bear .ensures .0 .accepted, users-are (m .before), refl)
 
 fill-cut-requires : tie.Need-fill-cut-requires
 fill-cut-requires c κs =
-    let o = c .before .before .before .before .before .before .before .before .before .before .before .ask .ensures in
-    let r = asked-runnable (o .0) (o .0 .number ∙ c .before .before .before .before .before .before .before .before .before .before .before .before .before .before .before .before .pre)
-    (λ j. c .before .before .before .before .before .before .before .before .before .before .before .before .before .before .before .shared-slice-known .given j .fits)
-    (c .before .before .before .before .before .before .before .before .today .ensures .1) (c .before .before .before .before .before .before .before .read-prices .ensures) (o .1) in
-    ((r .book, users-are (c .before .before .before .before .before .before), trades-are (c .before .before .before .before .before)), refl)
+    let m = c .before .before .before .before .before in
+    ((borne m .bear .ensures .0, users-are (m .before), trades-are m), refl)
 
 lines-of-requires : tie.Need-lines-of-requires
+unfolding bookOf
 lines-of-requires c κs =
-    let o = c .before .before .before .before .before .before .before .before .before .before .before .before .before .before .before .ask .ensures in
-    let r = asked-runnable (o .0) (o .0 .number ∙ c .before .before .before .before .before .before .before .before .before .before .before .before .before .before .before .before .before .before .before .before .pre)
-    (λ j. c .before .before .before .before .before .before .before .before .before .before .before .before .before .before .before .before .before .before .before .shared-slice-known .given j .fits)
-    (c .before .before .before .before .before .before .before .before .before .before .before .before .today .ensures .1)
-    (c .before .before .before .before .before .before .before .before .before .before .before .read-prices .ensures) (o .1) in
-    lines-asked r (c .before .before .before .before .before .before .before .before .before .before .before .before .before .before .before .before .before .before .before .before .pre)
-    (users-are (c .before .before .before .before .before .before .before .before .before .before)) (c .before .before .before .before .before .before .before .fill-positions .ensures .0)
-    (c .before .before .before .fill-cut .ensures)
-
-returns : tie.Need-returns
-returns c = search needs
+    let f = c .before .before .before in
+    let q = f .before .before .before .before in
+    let m = q .before .before in
+    let p = m .before .before in
+    let b = borne m in
+    let k = b .bear .ensures in
+    lines-asked (record { book = k .0; limits-in = p .before .today .ensures .1; prices-are = p .read-prices .ensures; twelve = k .1 .0; low = k .1 .1 }) (start (asked b) .pre) (users-are (m .before))
+    (q .fill-positions .ensures .0) (f .fill-cut .ensures)
 
 pub lines-spec : {M : Type 1} → statement M
 lines-spec =
     tie.close
-    (tie.spec
-    slice-aggregate-ask
-    slice-aggregate-ask-2
-    ask-requires
-    today-requires
-    read-prices-requires
-    user-count-requires
-    cast-n
-    trade-count-requires
-    cast-m
-    fill-positions-requires
-    fill-cut-requires
-    lines-of-requires
-    returns)
+    (tie.spec (λ c. search needs) (λ c. search needs) (λ c κs. search needs) bear-requires (λ c κs. search needs) read-prices-requires user-count-requires (λ c. search needs)
+    trade-count-requires (λ c. search needs) fill-positions-requires fill-cut-requires lines-of-requires (λ c. search needs))

@@ -26,8 +26,9 @@ today-requires c κs = search needs
 run-requires : tie.Need-run-requires
 run-requires c κs =
     let t = c .before .before .before in
-    let told = t .before .before .before .before .ask .ensures in
-    (λ z. sym (told .0 .number) ∙ z, (t .today .ensures .1, parties-found (told .1) (λ z. z) (told .0)))
+    let a = t .before .before .before .before .ask in
+    let told = a .ensures in
+    (λ z. sym (told .0 .number) ∙ z, (t .today .ensures .1, ((a .kept .1 .0, a .kept .1 .1 .0), parties-found (told .1) (λ z. z) (told .0))))
 
 same-length : tie.Need-same-length
 same-length c = search needs

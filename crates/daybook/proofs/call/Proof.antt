@@ -11,21 +11,24 @@ by-log-requires c κs = c .before .before .before .before .before .admit-with-su
 
 call-requires : tie.Need-call-requires
 call-requires c κs =
-    let k = c .before .before .before .before .before .before .before .before .admit-with-sums .ensures in
-    let asked = c .before .before .by-log .ensures in
-    (λ z. k .1 .1 .0 (asked .before z), (k .1 .0, parties-with asked (k .1 .1 .1) .summed))
+    let at-by-log = c .before .before .before .before in
+    let asked = at-by-log .by-log .ensures in
+    let k = at-by-log .before .before .before .before .before .before .admit-with-sums .ensures in
+    (λ z. k .1 .1 .0 (asked .before z), (k .1 .0, parties-with asked (k .1 .1 .1)))
 
 empty-requires : tie.Need-empty-requires
 empty-requires c κs =
-    let k = c .before .before .before .before .before .before .before .before .before .before .before .before .before .admit-with-sums .ensures in
-    let asked = c .before .before .before .before .before .before .before .by-log .ensures in
-    let made = c .before .before .before .before .call in
+    let at-call = c .before .before .before .before in
+    let at-by-log = at-call .before .before .before .before .before in
+    let asked = at-by-log .by-log .ensures in
+    let k = at-by-log .before .before .before .before .before .before .admit-with-sums .ensures in
+    let made = at-call .call in
     λ e z. emptiable asked (λ n. k .1 .1 .0 (asked .before n)) (accepted _ (made .ensures) z) (made .kept .0) e
 
 returns : tie.Need-returns
 returns c =
     let at-call = c .before .before .before .before .before .before .before in
-    let at-by-log = at-call .before .before .before in
+    let at-by-log = at-call .before .before .before .before .before in
     let at-admit-with-sums = at-by-log .before .before .before .before .before .before in
     let at-args = at-admit-with-sums .before .before .before .before .before .before .before .before in
     let a = at-args .args in

@@ -16,8 +16,9 @@ admit-with-sums-requires c κs = search needs
 
 cancellation-requires : tie.Need-cancellation-requires
 cancellation-requires c κs =
-    let k = c .before .before .before .before .before .before .admit-with-sums .ensures in
-    (k .1 .1 .0, (k .1 .0, k .1 .1 .1))
+    let a = c .before .before .before .before .before .before .admit-with-sums in
+    let k = a .ensures in
+    (k .1 .1 .0, (k .1 .0, ((a .kept .1 .1 .1 .0, a .kept .1 .1 .1 .1 .0), k .1 .1 .1)))
 
 returns : tie.Need-returns
 returns c = c .cancellation .ensures ∙ cancellation-opened _ _ _ _ (c .before .before .before .before .before .before .before .admit-with-sums .ensures .0)

@@ -16,11 +16,11 @@ admit-with-sums-requires c κs = search needs
 
 level-requires : tie.Need-level-requires
 level-requires c κs =
-    let k = c .before .before .before .before .admit-with-sums .ensures in
-    (k .1 .1 .0, (k .1 .0, k .1 .1 .1 .summed))
+    let k = c .before .before .before .before .before .before .admit-with-sums .ensures in
+    (k .1 .1 .0, (k .1 .0, k .1 .1 .1))
 
 returns : tie.Need-returns
-returns c = c .level .ensures ∙ replied _ _ _ (c .before .before .before .before .before .admit-with-sums .ensures .0)
+returns c = c .level .ensures ∙ replied _ _ _ (c .before .before .before .before .before .before .before .admit-with-sums .ensures .0)
 
 pub level-spec : {M : Type 1} → statement M
 level-spec =

@@ -10,9 +10,10 @@ by-log-requires c κs = c .before .before .before .before .before .admit-with-su
 
 reduction-requires : tie.Need-reduction-requires
 reduction-requires c κs =
-    let k = c .before .before .before .before .before .before .before .before .before .before .before .admit-with-sums .ensures in
+    let a = c .before .before .before .before .before .before .before .before .before .before .before .admit-with-sums in
+    let k = a .ensures in
     let asked = c .before .before .before .before .before .by-log .ensures in
-    (λ z. k .1 .1 .0 (asked .before z), (asked .fits, (k .1 .0, parties-with asked (k .1 .1 .1))))
+    (λ z. k .1 .1 .0 (asked .before z), (asked .fits, (k .1 .0, ((a .kept .1 .1 .1 .0, a .kept .1 .1 .1 .1 .0), parties-with asked (k .1 .1 .1)))))
 
 returns : tie.Need-returns
 returns c =

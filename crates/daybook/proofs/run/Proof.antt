@@ -11,9 +11,10 @@ by-log-requires c κs = c .before .before .before .before .before .admit-with-su
 
 run-requires : tie.Need-run-requires
 run-requires c κs =
-    let k = c .before .before .before .before .before .before .before .before .before .before .before .admit-with-sums .ensures in
+    let a = c .before .before .before .before .before .before .before .before .before .before .before .admit-with-sums in
+    let k = a .ensures in
     let asked = c .before .before .before .before .before .by-log .ensures in
-    (λ z. k .1 .1 .0 (asked .before z), (k .1 .0, parties-with asked (k .1 .1 .1)))
+    (λ z. k .1 .1 .0 (asked .before z), (k .1 .0, ((a .kept .1 .1 .1 .0, a .kept .1 .1 .1 .1 .0), parties-with asked (k .1 .1 .1))))
 
 returns : tie.Need-returns
 returns c =
@@ -27,9 +28,10 @@ returns c =
 
 run-requires-2 : tie.Need-run-requires-2
 run-requires-2 c κs =
-    let k = c .before .before .before .before .before .before .before .before .before .before .before .before .admit-with-sums .ensures in
+    let p = c .before .before .before .before .before .before .before .before .before .before .before .before .admit-with-sums in
+    let k = p .ensures in
     let asked = c .before .before .before .before .before .before .by-log .ensures in
-    (record { book = λ z. k .1 .1 .0 (asked .before z); log = λ z. asked .fits z (not-false _ (c .before .before .before .before .before .if1 .left)) }, (k .1 .0, parties-with asked (k .1 .1 .1)))
+    (record { book = λ z. k .1 .1 .0 (asked .before z); log = λ z. asked .fits z (not-false _ (c .before .before .before .before .before .if1 .left)) }, (k .1 .0, ((p .kept .1 .1 .1 .0, p .kept .1 .1 .1 .1 .0), parties-with asked (k .1 .1 .1))))
 
 returns-2 : tie.Need-returns-2
 returns-2 c =

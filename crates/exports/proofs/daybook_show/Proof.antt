@@ -1,4 +1,4 @@
--- `daybook_show` copies the shown part to the front of 56 zeros, and leaves a part of another length as it is. Assumes nothing.
+-- `daybook_show` copies the shown part to the front of 68 zeros, and leaves a part of another length as it is. Assumes nothing.
 use denote.Ref.{now}
 use Rattle.exports.specs.Answers.{isYes}
 use Rattle.exports.proofs.Lent.{refused}
@@ -8,7 +8,7 @@ use Rattle.exports.proofs.daybook_show.Statement.{statement}
 use Rattle.exports.proofs.daybook_show.Tie as tie
 
 returns : tie.Need-returns
-returns c = refused 56 (now (c .before .before .before .before .args .«record»)) _ _ _ (c .if1 .taken)
+returns c = refused 68 (now (c .before .before .before .before .args .«record»)) _ _ _ (c .if1 .taken)
 
 show-requires : tie.Need-show-requires
 show-requires c κs = search needs

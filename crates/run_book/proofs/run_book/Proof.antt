@@ -16,7 +16,7 @@ trades-are c = c .trade-count .ensures
 fill-lists-requires : tie.Need-fill-lists-requires
 fill-lists-requires c κs = (
   (
-    c .before .before .before .before .before .before .before .before .before .before .before .pre .book,
+    c .before .before .before .before .before .before .before .before .before .before .before .pre .1 .book,
     users-are
         (c .before .before .before .before .before .before .before .before),
     trades-are (c .before .before .before .before .before .before),
@@ -24,11 +24,18 @@ fill-lists-requires c κs = (
   (refl, record { origins-room = refl; standing-room = refl; areas-room = refl; buyers-room = refl }),
 )
 
+run-listed-requires : tie.Need-run-listed-requires
+run-listed-requires c κs =
+    let l = c .before .before .before .before .before .before in
+    let s = l .before .before .before .before .before .before .before .before .before .before .before .before in
+    let f = l .fill-lists .ensures in
+    (s .pre .0, (s .pre .1, record { sales = f .0; standing = f .1 .0; room = f .1 .1 }))
+
 returns : tie.Need-returns
 returns c = c .before .before .run-listed .ensures
 
 pub run-book-spec : {M : Type 1} → statement M
 run-book-spec =
     tie.close
-    (tie.spec (λ c κs. search needs) (λ c. search needs) (λ c κs. search needs) (λ c. search needs) fill-lists-requires (λ c κs. search needs)
+    (tie.spec (λ c κs. search needs) (λ c. search needs) (λ c κs. search needs) (λ c. search needs) fill-lists-requires run-listed-requires
     (λ c. search needs) returns)

@@ -19,18 +19,18 @@ trades-are : (c : tie.After-trade-count) → c .trade-count .result ≡ tradeCou
 trades-are c = c .trade-count .ensures
 
 fill-positions-requires : tie.Need-fill-positions-requires
-fill-positions-requires c κs = (c .before .before .before .before .before .before .before .pre .0 .book .accepted .held .form, users-are (c .before .before .before .before), refl)
+fill-positions-requires c κs = (c .before .before .before .before .before .before .before .pre .1 .0 .book .accepted, users-are (c .before .before .before .before), refl)
 
 fill-cut-requires : tie.Need-fill-cut-requires
 fill-cut-requires c κs =
-    let r = c .before .before .before .before .before .before .before .before .before .before .pre .0 in
+    let r = c .before .before .before .before .before .before .before .before .before .before .pre .1 .0 in
     ((r .book, users-are (c .before .before .before .before .before .before .before), trades-are (c .before .before .before .before .before)), refl)
 
 fill-targets-requires : tie.Need-fill-targets-requires
 fill-targets-requires c κs =
     let s = c .before .before .before .before .before .before .before .before .before .before .before .before .before .before .before .before in
-    let r = s .pre .0 in
-    let l = s .pre .1 in (
+    let r = s .pre .1 .0 in
+    let l = s .pre .1 .1 in (
       (run-day (run-stays r l), r .low),
       (
         run-opening r l (users-are (c .before .before .before .before .before .before .before .before .before .before .before .before .before))
@@ -43,14 +43,14 @@ fill-targets-requires c κs =
 
 copy-sales-requires : tie.Need-copy-sales-requires
 copy-sales-requires c κs =
-    let l = c .before .before .before .before .before .before .before .before .before .before .before .before .before .before .before .before .before .before .pre .1 in
+    let l = c .before .before .before .before .before .before .before .before .before .before .before .before .before .before .before .before .before .before .pre .1 .1 in
     (l .sales .few, l .room .standing-room, refl)
 
 run-on-requires : tie.Need-run-on-requires
 run-on-requires c κs =
     let s = c .before .before .before .before .before .before .before .before .before .before .before .before .before .before .before .before .before .before .before .before .before .before .before .before in
-    let r = s .pre .0 in
-    let l = s .pre .1 in
+    let r = s .pre .1 .0 in
+    let l = s .pre .1 .1 in
     let copied = c .before .before .before .before .before .copy-sales .ensures in
     let filled = c .before .before .before .before .before .before .before .before .before .before .before .before .before .before .before .before .fill-positions .ensures in
     let owed = c .before .before .before .before .before .before .before .fill-targets .ensures in
@@ -59,13 +59,13 @@ run-on-requires c κs =
 lost-of-requires : tie.Need-lost-of-requires
 lost-of-requires c κs =
     let s = c .before .before .before .before .before .before .before .before .before .before .before .before .before .before .before .before .before .before .before .before .before .before .before .before .before .before in
-    ran-left (s .pre .0 .book .accepted .sound) (s .pre .1) (c .before .run-on .ensures)
+    ran-left (s .pre .1 .0 .book .accepted .sound) (s .pre .1 .1) (c .before .run-on .ensures)
 
 apply-requires : tie.Need-apply-requires
 apply-requires c κs =
     let s = c .before .before .before .before .before .before .before .before .before .before .before .before .before .before .before .before .before .before .before .before .before .before .before .before .before .before .before .before .before in
-    let r = s .pre .0 in (
-      (r .book, lost-cuttable (r .book .accepted .sound) (s .pre .1) (c .before .before .before .before .run-on .ensures) (c .before .before .lost-of .ensures)),
+    let r = s .pre .1 .0 in (
+      (s .pre .0, lost-cuttable (r .book .accepted .sound) (s .pre .1 .1) (c .before .before .before .before .run-on .ensures) (c .before .before .lost-of .ensures)),
       users-are
           (c .before .before .before .before .before .before .before .before .before .before .before .before .before .before .before .before .before .before .before .before .before .before .before .before .before .before),
     )
@@ -73,7 +73,7 @@ apply-requires c κs =
 returns : tie.Need-returns
 returns c =
     let s = c .before .before .before .before .before .before .before .before .before .before .before .before .before .before .before .before .before .before .before .before .before .before .before .before .before .before .before .before .before .before .before .before in
-    ran-in (s .pre .0 .book .accepted .sound) (s .pre .1) (c .before .before .before .before .before .before .before .run-on .ensures) (c .before .before .before .before .before .lost-of .ensures) (c .before .before .apply .ensures)
+    ran-in (s .pre .1 .0 .book .accepted .sound) (s .pre .1 .1) (c .before .before .before .before .before .before .before .run-on .ensures) (c .before .before .before .before .before .lost-of .ensures) (c .before .before .apply .ensures)
 
 pub run-listed-spec : {M : Type 1} → statement M
 run-listed-spec =

@@ -18,7 +18,7 @@ fill-lists-requires c κs =
     let at-trades-are = c .before .before .before .before .before .before in
     let at-users-are = at-trades-are .before .before in
     let at-begun = at-users-are .before .before .before .before in (
-      (at-begun .pre .0 .book, users-are at-users-are, trades-are at-trades-are),
+      (at-begun .pre .1 .0 .book, users-are at-users-are, trades-are at-trades-are),
       (refl, record { origins-room = refl; standing-room = refl; areas-room = refl; buyers-room = refl }),
     )
 
@@ -26,7 +26,7 @@ run-listed-requires : tie.Need-run-listed-requires
 run-listed-requires c κs =
     let s = c .before .before .before .before .before .before .before .before .before .before .before .before .before .before .before .before .before .before .before .before in
     let filled = c .before .before .before .before .before .before .before .fill-lists .ensures in
-    (s .pre .0, (record { sales = filled .0; standing = filled .1 .0; room = filled .1 .1 }, s .pre .1))
+    (s .pre .0, (s .pre .1 .0, (record { sales = filled .0; standing = filled .1 .0; room = filled .1 .1 }, s .pre .1 .1)))
 
 returns : tie.Need-returns
 returns c = c .before .before .before .before .run-listed .ensures

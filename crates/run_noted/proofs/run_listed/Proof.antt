@@ -19,10 +19,10 @@ trades-are : (c : tie.After-trade-count) → c .trade-count .result ≡ tradeCou
 trades-are c = c .trade-count .ensures
 
 fill-positions-requires : tie.Need-fill-positions-requires
-fill-positions-requires c κs = (c .before .before .before .before .before .before .before .before .pre .0 .book .accepted .held .form, users-are (c .before .before .before .before), refl)
+fill-positions-requires c κs = (c .before .before .before .before .before .before .before .before .pre .1 .0 .book .accepted, users-are (c .before .before .before .before), refl)
 
 fill-cut-requires : tie.Need-fill-cut-requires
-fill-cut-requires c κs = ((c .before .before .before .before .before .before .before .before .before .before .before .pre .0 .book, users-are (c .before .before .before .before .before .before .before), trades-are (c .before .before .before .before .before)), refl)
+fill-cut-requires c κs = ((c .before .before .before .before .before .before .before .before .before .before .before .pre .1 .0 .book, users-are (c .before .before .before .before .before .before .before), trades-are (c .before .before .before .before .before)), refl)
 
 fill-targets-requires : tie.Need-fill-targets-requires
 fill-targets-requires c κs =
@@ -30,15 +30,15 @@ fill-targets-requires c κs =
     let at-fill-positions = at-fill-cut .before .before .before in
     let at-users-are = at-fill-positions .before .before .before .before .before in
     let s = at-users-are .before .before .before .before in
-    let r = s .pre .0 in
-    let l = s .pre .1 .0 in (
+    let r = s .pre .1 .0 in
+    let l = s .pre .1 .1 .0 in (
       (run-day (run-stays r l), r .low),
       (run-opening r l (users-are at-users-are) (at-fill-positions .fill-positions .ensures .0) (at-fill-cut .fill-cut .ensures), refl, refl),
     )
 
 copy-sales-requires : tie.Need-copy-sales-requires
 copy-sales-requires c κs =
-    let l = c .before .before .before .before .before .before .before .before .before .before .before .before .before .before .before .before .before .before .before .pre .1 .0 in
+    let l = c .before .before .before .before .before .before .before .before .before .before .before .before .before .before .before .before .before .before .before .pre .1 .1 .0 in
     (l .sales .few, l .room .standing-room, refl)
 
 run-on-requires : tie.Need-run-on-requires
@@ -48,30 +48,30 @@ run-on-requires c κs =
     let at-fill-positions = at-fill-targets .before .before .before .before .before .before .before .before .before in
     let at-users-are = at-fill-positions .before .before .before .before .before in
     let s = at-users-are .before .before .before .before in
-    let r = s .pre .0 in
-    let l = s .pre .1 .0 in
+    let r = s .pre .1 .0 in
+    let l = s .pre .1 .1 .0 in
     let copied = at-copy-sales .copy-sales .ensures in
     let filled = at-fill-positions .fill-positions .ensures in
     let owed = at-fill-targets .fill-targets .ensures in (
       (run-stays r l, users-are at-users-are),
       (
         run-going r l (copied .0) (copied .1) (filled .0) (filled .1) (owed .0) (owed .1) (owed .2),
-        (listed-origins l, s .pre .1 .1 .0, s .pre .1 .1 .1),
+        (listed-origins l, s .pre .1 .1 .1 .0, s .pre .1 .1 .1 .1),
       ),
     )
 
 lost-of-requires : tie.Need-lost-of-requires
 lost-of-requires c κs =
     let s = c .before .before .before .before .before .before .before .before .before .before .before .before .before .before .before .before .before .before .before .before .before .before .before .before .before .before .before .before .before .before in
-    ran-left (s .pre .0 .book .accepted .sound) (s .pre .1 .0) (c .before .before .before .run-on .ensures .ran)
+    ran-left (s .pre .1 .0 .book .accepted .sound) (s .pre .1 .1 .0) (c .before .before .before .run-on .ensures .ran)
 
 apply-requires : tie.Need-apply-requires
 apply-requires c κs =
     let at-run-on = c .before .before .before .before .before .before in
     let at-users-are = at-run-on .before .before .before .before .before .before .before .before .before .before .before .before .before .before .before .before .before .before .before .before .before .before .before in
     let s = at-users-are .before .before .before .before in
-    let r = s .pre .0 in (
-      (r .book, lost-cuttable (r .book .accepted .sound) (s .pre .1 .0) (at-run-on .run-on .ensures .ran) (c .before .before .lost-of .ensures)),
+    let r = s .pre .1 .0 in (
+      (s .pre .0, lost-cuttable (r .book .accepted .sound) (s .pre .1 .1 .0) (at-run-on .run-on .ensures .ran) (c .before .before .lost-of .ensures)),
       users-are at-users-are,
     )
 
@@ -81,7 +81,7 @@ returns c =
     let at-run-on = at-lost-of .before .before .before .before in
     let s = at-run-on .before .before .before .before .before .before .before .before .before .before .before .before .before .before .before .before .before .before .before .before .before .before .before .before .before .before .before in
     let noted = at-run-on .run-on .ensures in
-    noted-in noted (ran-in (s .pre .0 .book .accepted .sound) (s .pre .1 .0) (noted .ran) (at-lost-of .lost-of .ensures) (c .before .before .apply .ensures))
+    noted-in noted (ran-in (s .pre .1 .0 .book .accepted .sound) (s .pre .1 .1 .0) (noted .ran) (at-lost-of .lost-of .ensures) (c .before .before .apply .ensures))
 
 pub run-listed-spec : {M : Type 1} → statement M
 run-listed-spec =

@@ -1,8 +1,9 @@
 //! Writes the books that the program `try_days` of the engine runs, and prints
 //! what it has to print. The arguments are the folder of the test data and the
-//! folder for the files `vectors`, `books`, `versions` and `index`: the test data
-//! of document 01, by the numbers of their names; books written out and drawn; and
-//! books of version 2 that are refused, and the test data of document 02.
+//! folder for the files `vectors`, `books`, `versions`, `groups` and `index`: the test
+//! data of document 01, by the numbers of their names; books written out and drawn;
+//! books of version 2 that are refused, and test data of document 02; and books of
+//! version 3, written out and of the test data of document 02.
 //!
 //! Of the test data (NAME.gdb, NAME.out), what has to be printed is what
 //! NAME.out says, and the reference has to say the same; of the other books,
@@ -11,13 +12,14 @@
 //! In a file a book stands behind its place and its length, two bytes each.
 
 use books::accepted::{chain, largest, long, set_positions};
+use books::damage::version_of;
 use books::written::{
     asked_for, book, chain_of_four, covered, house, largest_amounts, of_kind, printed_example,
     sale, shipper, standing_at, MOST_CENTS,
 };
 use books::Random;
 use reference::book::{length, Book, Trade, LONGEST, MOST_TRADES, MOST_USERS};
-use reference::units::Price;
+use reference::units::{Mwh, Price};
 use std::path::Path;
 
 /// A book, what it shows, and the first words of its day.
@@ -60,7 +62,10 @@ fn refused() -> Vec<Shown> {
         altered("no input", "refused 1", Vec::clear),
         altered("31 bytes", "refused 1", |bytes| bytes.truncate(31)),
         altered("another mark", "refused 1", |bytes| bytes[2] = b'b'),
-        changed("version 3", "refused 2", |book| book.version = 3),
+        altered("version 3, length of version 1", "refused 3", |bytes| {
+            bytes[3] = 3;
+        }),
+        changed("version 4", "refused 2", |book| book.version = 4),
         altered("one byte more", "refused 3", |bytes| bytes.push(0)),
         altered("one byte less", "refused 3", |bytes| {
             bytes.pop();
@@ -207,7 +212,7 @@ fn refused_of_version_2() -> Vec<Shown> {
         shown(shows, first, book)
     };
     let of_length = |shows, bytes: usize| {
-        let mut over = longest().to_bytes();
+        let mut over = longest(2).to_bytes();
         over.resize(bytes, 0);
         Shown {
             shows,
@@ -242,17 +247,17 @@ fn refused_of_version_2() -> Vec<Shown> {
         of_version_2("version 2, a position off by one", "refused 7", |book| {
             book.users[1].position[2].0 += 1;
         }),
-        of_length("one byte past the longest book", LONGEST + 1),
-        of_length("9,512 bytes", 9_512),
+        of_length("version 2, one byte past the longest book", LONGEST + 1),
+        of_length("version 2 of 9,512 bytes", LONGEST),
     ]
 }
 
-/// The longest book: version 2, 64 users and 256 trades.
-fn longest() -> Book {
+/// The longest book of a version: 64 users and 256 trades.
+fn longest(version: u16) -> Book {
     let mut random = Random::new(12);
     loop {
         let book = largest(&mut random);
-        if book.version == 2 {
+        if book.version == version {
             return book;
         }
     }
@@ -288,7 +293,177 @@ fn credits() -> Vec<Shown> {
             "run ",
             selling(largest_amounts(2, [1_000_000; 3], MOST_CENTS)),
         ),
-        shown("the longest book", "run ", longest()),
+        shown("the longest book of version 2", "run ", longest(2)),
+    ]
+}
+
+/// The book in version 3, with selling tariffs of 1,500 and 700, and users of these
+/// places managed by others in an area.
+fn managed(book: Book, managers: &[(usize, usize, usize)]) -> Book {
+    let mut book = Book {
+        version: 3,
+        ..selling(book)
+    };
+    for (user, manager, area) in managers {
+        book.users[*user].managers[*area] = book.users[*manager].id;
+    }
+    book
+}
+
+/// 101 and 102 sell to 103, 102 sells to 101; 104 is a clearing house.
+fn four_users() -> Book {
+    book(
+        vec![
+            shipper(101, [-30_000, 0, 0], 0, 10_000_000, 0),
+            shipper(102, [-10_000, 0, 500], 0, 10_000_000, 0),
+            shipper(103, [0; 3], 0, 10_000_000, 0),
+            house(104),
+        ],
+        vec![
+            sale(102, 103, 0, 3_000),
+            sale(101, 103, 0, 4_000),
+            sale(102, 101, 0, 9_000),
+            sale(102, 103, 2, 900),
+        ],
+    )
+}
+
+/// Books of version 3 that are refused.
+fn refused_of_version_3() -> Vec<Shown> {
+    let group = || managed(four_users(), &[(1, 0, 0)]);
+    let with = |shows, first, change: fn(&mut Book)| {
+        let mut book = group();
+        change(&mut book);
+        shown(shows, first, book)
+    };
+    let cut = |shows, bytes: usize| Shown {
+        shows,
+        first: "refused 3",
+        bytes: group().to_bytes()[..bytes].to_vec(),
+    };
+    let mut over = longest(3).to_bytes();
+    over.push(0);
+    vec![
+        cut("version 3 of 39 bytes", 39),
+        cut("version 3, a byte less", group().to_bytes().len() - 1),
+        Shown {
+            shows: "one byte past the longest book",
+            first: "refused 3",
+            bytes: over,
+        },
+        with("version 3, U above 100,000", "refused 4", |book| {
+            book.prices.u.0 = 100_001;
+        }),
+        with("a manager of no user", "refused 5", |book| {
+            book.users[2].managers[1] = 105;
+        }),
+        with("a user that manages itself", "refused 5", |book| {
+            book.users[2].managers[1] = 103;
+        }),
+        with("a clearing house as manager", "refused 5", |book| {
+            book.users[2].managers[1] = 104;
+        }),
+        with("a clearing house with a manager", "refused 5", |book| {
+            book.users[3].managers[1] = 101;
+        }),
+        with("a manager who is managed there", "refused 5", |book| {
+            book.users[2].managers[0] = 102;
+        }),
+        with("a bad manager before a bad trade", "refused 5", |book| {
+            book.users[2].managers[2] = 7;
+            book.trades[0].kind = 3;
+        }),
+        with("version 3, a buyer of no user", "refused 6", |book| {
+            book.trades[0].buyer = 105;
+        }),
+        with("positions that are the group's", "refused 7", |book| {
+            book.users[0].position[0] = Mwh(-47_000);
+            book.users[1].position[0] = Mwh(0);
+        }),
+    ]
+}
+
+/// Books of version 3.
+fn groups() -> Vec<Shown> {
+    let offset = |charges| {
+        let users = vec![
+            shipper(101, [-20_000, 0, 0], 0, 40_000_000, 0),
+            shipper(102, [5_000, 0, 0], charges, 0, 0),
+        ];
+        book(users, vec![])
+    };
+    // Only the member's purchase stands below notified.
+    let called = || {
+        let users = vec![
+            shipper(101, [0; 3], 30_000_000, 40_000_000, 0),
+            shipper(102, [0; 3], 30_000_000, 40_000_000, 0),
+            shipper(103, [0; 3], 30_000_000, 40_000_000, 0),
+        ];
+        book(users, vec![standing_at(sale(103, 102, 1, 10), 9)])
+    };
+    vec![
+        shown(
+            "version 3, the example, nobody managed",
+            "run 1 15000 30000000",
+            managed(printed_example(), &[]),
+        ),
+        shown(
+            "the example inside a group: no sale to cut",
+            "run 0 0 0",
+            managed(printed_example(), &[(1, 0, 0)]),
+        ),
+        shown(
+            "the seller managed in another area",
+            "run 1 15000 30000000",
+            managed(printed_example(), &[(0, 1, 1)]),
+        ),
+        shown(
+            "a member's long position against the manager's short one",
+            "run 0 0 0",
+            managed(offset(0), &[(1, 0, 0)]),
+        ),
+        shown(
+            "the member's charges stay its own",
+            "run 0 0 0",
+            managed(offset(90_000_000), &[(1, 0, 0)]),
+        ),
+        shown("nobody managed", "run ", managed(four_users(), &[])),
+        shown(
+            "a member's sales cut for its manager",
+            "run ",
+            managed(four_users(), &[(1, 0, 0)]),
+        ),
+        shown(
+            "a member in two areas",
+            "run ",
+            managed(four_users(), &[(1, 0, 0), (1, 0, 2)]),
+        ),
+        shown(
+            "a manager managed in another area, each the other's",
+            "run ",
+            managed(four_users(), &[(1, 0, 0), (0, 1, 2)]),
+        ),
+        shown(
+            "a group of all shippers: no sale to cut",
+            "run 0 0 0",
+            managed(four_users(), &[(1, 0, 0), (2, 0, 0), (1, 0, 2), (2, 0, 2)]),
+        ),
+        shown(
+            "a member's cut trade calls in the manager",
+            "run 0 0 0",
+            managed(called(), &[(1, 0, 1)]),
+        ),
+        shown(
+            "a cut trade in an area where the member is not managed",
+            "run 0 0 0",
+            managed(called(), &[(1, 0, 0)]),
+        ),
+        shown(
+            "a chain of four, two of them one group",
+            "run ",
+            managed(chain_of_four(), &[(2, 0, 0)]),
+        ),
+        shown("the longest book", "run ", longest(3)),
     ]
 }
 
@@ -353,7 +528,7 @@ fn main() -> std::io::Result<()> {
     let data = arguments.next().expect("the folder of the test data");
     let data = Path::new(&data);
     let folder = arguments.next().expect("a folder");
-    let [mut given, mut own, mut versions] = [(); 3].map(|()| File::default());
+    let [mut given, mut own, mut versions, mut third] = [(); 4].map(|()| File::default());
     let mut next = 0;
     for vector in &vectors(data)? {
         let place = number_of(&vector.0);
@@ -374,7 +549,22 @@ fn main() -> std::io::Result<()> {
             next += 1;
         }
     }
-    let files = [("vectors", given), ("books", own), ("versions", versions)];
+    for book in [refused_of_version_3(), groups()].iter().flatten() {
+        third.push_shown(next, book);
+        next += 1;
+    }
+    let asks = vectors(&data.join("asks"))?.into_iter();
+    let named = |book: &[u8]| book.len() >= 32 && version_of(book) == 3;
+    for vector in asks.filter(|(_, book, _)| named(book)) {
+        third.push_vector(next, &vector);
+        next += 1;
+    }
+    let files = [
+        ("vectors", given),
+        ("books", own),
+        ("versions", versions),
+        ("groups", third),
+    ];
     let mut index = String::new();
     for (name, file) in files {
         print!("{}", file.text);

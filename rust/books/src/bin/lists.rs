@@ -64,6 +64,12 @@ fn three_users() -> Book {
 fn accepted() -> Vec<Shown> {
     let first = || three_users().to_bytes();
     let second = || in_version_2(&three_users()).to_bytes();
+    let managed = || {
+        let mut book = in_version_2(&three_users());
+        book.version = 3;
+        book.users[1].managers = [1, 0, 1];
+        book.to_bytes()
+    };
     let each = [(1, 0, 5), (2, 1, -7), (7, 2, 9)];
     let refused = [
         (1, 0, 5),
@@ -99,6 +105,7 @@ fn accepted() -> Vec<Shown> {
         shown("version 2, no line", 0, second(), list(&[])),
         shown("version 2, each user", 0, second(), list(&each)),
         shown("version 2, refused lines", 0, second(), list(&refused)),
+        shown("version 3, each user", 0, managed(), list(&each)),
     ]
 }
 
@@ -109,8 +116,11 @@ fn refused() -> Vec<Shown> {
     let mut damaged = printed_example();
     damaged.users[1].position[2].0 += 1;
     let damaged = || damaged.to_bytes();
-    let mut unknown = first();
-    unknown[3] = 3;
+    let [third, unknown] = [3, 4].map(|version| {
+        let mut bytes = first();
+        bytes[3] = version;
+        bytes
+    });
     vec![
         shown("513 lines", 15, first(), list(&above)),
         shown("513 places", 15, first(), counted(&above, [3, 3, 3, 513])),
@@ -148,7 +158,8 @@ fn refused() -> Vec<Shown> {
         ),
         shown("a position is not as defined", 7, damaged(), list(&lines)),
         shown("the same and 513 lines", 7, damaged(), list(&above)),
-        shown("version 3", 2, unknown, list(&lines)),
+        shown("version 3, length of version 1", 3, third, list(&lines)),
+        shown("version 4", 2, unknown, list(&lines)),
         shown("no book", 1, Vec::new(), list(&lines)),
     ]
 }

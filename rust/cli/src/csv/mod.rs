@@ -11,8 +11,10 @@ use daybook::{Book, Line, Trade, User};
 
 use self::table::{read_file, Row};
 use crate::draft::{Draft, Mistake, Spot, Spots};
-use crate::fields::{has_selling_tariffs, prices, put_price, Field, COMMON_PRICES, PRICES};
-use crate::text::no_selling_tariff;
+use crate::fields::{
+    has_managers, has_selling_tariffs, prices, put_price, Field, COMMON_PRICES, PRICES,
+};
+use crate::text::{no_manager, no_selling_tariff};
 use crate::words::{date, plain_euros, word, AREAS, DAYS, KINDS, ROLES};
 
 /// The files, in the order of a book.
@@ -22,7 +24,8 @@ pub const FILES: [&str; 3] = ["header.csv", "users.csv", "trades.csv"];
 const HEADER: [&str; 9] = ["version", "date", "P", "Q", "L", "X", "I", "S", "U"];
 const PRICES_AT: usize = 2;
 
-const USER: [&str; 11] = [
+/// The names of a user; a book of version 1 or 2 has no managers.
+const USER: [&str; 14] = [
     "id",
     "role",
     "physical_PVB",
@@ -34,7 +37,11 @@ const USER: [&str; 11] = [
     "charges",
     "assigned",
     "blocked",
+    "manager_PVB",
+    "manager_TVB",
+    "manager_AVB",
 ];
+const MANAGERS_AT: usize = 11;
 
 const TRADE: [&str; 7] = [
     "seller", "buyer", "area", "kind", "day", "notified", "standing",
@@ -44,9 +51,14 @@ const TRADE: [&str; 7] = [
 pub fn write(book: &Book) -> [String; 3] {
     let mut header = vec![book.version.to_string(), date(book.date)];
     header.extend(prices(book).into_iter().map(plain_euros));
+    let width = match has_managers(book.version) {
+        Some(false) => MANAGERS_AT,
+        _ => USER.len(),
+    };
+    let user = |user: &User| user_row(user)[..width].to_vec();
     [
         file(&HEADER[..header.len()], [header]),
-        file(&USER, book.users.iter().map(user_row)),
+        file(&USER[..width], book.users.iter().map(user)),
         file(&TRADE, book.trades.iter().map(trade_row)),
     ]
 }
@@ -67,6 +79,10 @@ fn user_row(user: &User) -> Vec<String> {
     row.push(plain_euros(user.charges));
     row.push(plain_euros(user.assigned));
     row.push(plain_euros(user.blocked));
+    row.extend(user.managers.map(|id| match id {
+        0 => String::new(),
+        id => id.to_string(),
+    }));
     row
 }
 
@@ -104,9 +120,9 @@ pub fn read(files: [&[u8]; 3]) -> Result<Draft, Vec<Mistake>> {
             reason: "the row of the header is missing".to_string(),
         });
     }
-    let positions = &USER[5..8];
-    read_file(FILES[1], users, &USER, positions, &mut mistakes, |row| {
-        let (user, spots) = read_user(row);
+    let optional = [&USER[5..8], &USER[MANAGERS_AT..]].concat();
+    read_file(FILES[1], users, &USER, &optional, &mut mistakes, |row| {
+        let (user, spots) = read_user(row, draft.book.version);
         draft.add_user(user, spots);
     });
     let standing = &TRADE[6..];
@@ -149,7 +165,7 @@ fn read_header(draft: &mut Draft, row: &Row) {
     }
 }
 
-fn read_user(row: &Row) -> (User, Spots) {
+fn read_user(row: &Row, version: u16) -> (User, Spots) {
     let mut user = User {
         id: row.whole(0),
         role: row.code(1, &ROLES),
@@ -173,6 +189,18 @@ fn read_user(row: &Row) -> (User, Spots) {
     spots.push((Field::Charges, row.spot(8)));
     spots.push((Field::Assigned, row.spot(9)));
     spots.push((Field::Blocked, row.spot(10)));
+    for area in 0..3 {
+        let column = MANAGERS_AT + area;
+        if row.is_empty(column) {
+            continue;
+        }
+        if has_managers(version) == Some(false) {
+            row.mistake(column, no_manager(USER[column], version));
+            continue;
+        }
+        user.managers[area] = row.whole(column);
+        spots.push((Field::Manager(area), row.spot(column)));
+    }
     (user, spots)
 }
 

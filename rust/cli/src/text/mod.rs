@@ -10,9 +10,11 @@
 //! ```
 //!
 //! A text of version 2 starts with `daybook 2`, and its prices go on with the
-//! selling tariffs: `S 18.00 U 19.00`.
+//! selling tariffs: `S 18.00 U 19.00`. One of version 3 starts with `daybook 3`, has
+//! them too, and names managers: `user 102 shipper manager PVB 101 AVB 104`.
 
 mod line;
+mod manager;
 mod read;
 
 use daybook::{Book, Trade, User};
@@ -21,6 +23,7 @@ use crate::fields::{prices, PRICES};
 use crate::words::{date, euros, grouped, word, AREAS, DAYS, KINDS, ROLES};
 
 pub use line::{mistake, short, Words};
+pub use manager::{no_manager, read_manager, NONE};
 pub use read::{no_selling_tariff, read};
 
 /// The word that a text starts with.
@@ -87,7 +90,18 @@ fn user_cells(user: &User, positions: bool) -> Cells {
         euros(user.assigned),
         "blocked".to_string(),
         euros(user.blocked),
+        managers(user),
     ]
+}
+
+/// The managers of a user, by area; those areas where it has none are left out.
+fn managers(user: &User) -> String {
+    let managed = AREAS.iter().zip(user.managers).filter(|(_, id)| *id != 0);
+    let words: Vec<String> = managed.map(|(area, id)| format!("{area} {id}")).collect();
+    match words.is_empty() {
+        true => String::new(),
+        false => format!("manager {}", words.join(" ")),
+    }
 }
 
 /// A user's line by itself, with the positions.

@@ -4,9 +4,12 @@
 use daybook::{Trade, User};
 
 use super::line::{mistake, short, Words};
+use super::manager::{no_manager, read_manager};
 use super::FIRST;
 use crate::draft::{too_long, Draft, Mistake, Spot, Spots, MOST_MISTAKES};
-use crate::fields::{has_selling_tariffs, put_price, Field, COMMON_PRICES, PRICES};
+use crate::fields::{
+    has_managers, has_selling_tariffs, put_price, Field, COMMON_PRICES, FIRST_LINES, PRICES,
+};
 use crate::words::{code, AREAS, DAYS, KINDS, ROLES};
 
 /// The fields of a text, or its mistakes.
@@ -77,10 +80,8 @@ fn end_of(text: &str) -> Spot {
 fn statement(draft: &mut Draft, words: &mut Words, first: bool) -> Result<(), Mistake> {
     let (word, spot) = words.next("a line")?;
     if first && word != FIRST {
-        return Err(mistake(
-            spot,
-            format!("a text starts with the line `{FIRST} 1` or `{FIRST} 2`"),
-        ));
+        let reason = format!("a text starts with the line {FIRST_LINES}");
+        return Err(mistake(spot, reason));
     }
     match word {
         FIRST => {
@@ -98,7 +99,7 @@ fn statement(draft: &mut Draft, words: &mut Words, first: bool) -> Result<(), Mi
             read_prices(draft, words)?;
         }
         "user" => {
-            let (user, spots) = read_user(words, spot)?;
+            let (user, spots) = read_user(draft.book.version, words, spot)?;
             draft.add_user(user, spots);
         }
         "trade" => {
@@ -167,10 +168,11 @@ fn read_prices(draft: &mut Draft, words: &mut Words) -> Result<(), Mistake> {
 
 /// What is said of a selling tariff that a version has no bytes for.
 pub fn no_selling_tariff(name: &str, version: u16) -> String {
-    format!("{name}: version {version} has no place for selling tariffs; version 2 has S and U")
+    let known = "versions 2 and 3 have S and U";
+    format!("{name}: version {version} has no place for selling tariffs; {known}")
 }
 
-fn read_user(words: &mut Words, start: Spot) -> Result<(User, Spots), Mistake> {
+fn read_user(version: u16, words: &mut Words, start: Spot) -> Result<(User, Spots), Mistake> {
     let mut user = User::default();
     let mut spots = vec![(Field::ZeroBytes, start)];
     let at;
@@ -182,12 +184,24 @@ fn read_user(words: &mut Words, start: Spot) -> Result<(User, Spots), Mistake> {
     while !words.is_done() {
         let (name, spot) = words.next("a field")?;
         match name {
-            "physical" => {
-                read_areas(words, &mut user.physical, Field::Physical, &mut spots)?;
+            "physical" => each_area(words, Field::Physical, &mut spots, |words, area| {
+                let at;
+                (user.physical[area], at) = words.fitting(&Field::Physical(area).to_string())?;
+                Ok(at)
+            })?,
+            "position" => each_area(words, Field::Position, &mut spots, |words, area| {
+                let at;
+                (user.position[area], at) = words.fitting(&Field::Position(area).to_string())?;
+                Ok(at)
+            })?,
+            "manager" if has_managers(version) == Some(false) => {
+                return Err(mistake(spot, no_manager(name, version)));
             }
-            "position" => {
-                read_areas(words, &mut user.position, Field::Position, &mut spots)?;
-            }
+            "manager" => each_area(words, Field::Manager, &mut spots, |words, area| {
+                let at;
+                (user.managers[area], at) = read_manager(words, area)?;
+                Ok(at)
+            })?,
             "charges" => {
                 new(&spots, Field::Charges, spot)?;
                 let at;
@@ -207,8 +221,11 @@ fn read_user(words: &mut Words, start: Spot) -> Result<(User, Spots), Mistake> {
                 spots.push((Field::Blocked, at));
             }
             _ => {
-                let reason =
-                    "a field is `physical`, `position`, `charges`, `assigned` or `blocked`";
+                let more = match has_managers(version) {
+                    Some(false) => "`assigned` or `blocked`",
+                    _ => "`assigned`, `blocked` or `manager`",
+                };
+                let reason = format!("a field is `physical`, `position`, `charges`, {more}");
                 return Err(mistake(spot, format!("`{}`: {reason}", short(name))));
             }
         }
@@ -216,12 +233,12 @@ fn read_user(words: &mut Words, start: Spot) -> Result<(User, Spots), Mistake> {
     Ok((user, spots))
 }
 
-/// Areas, each with its amount; at least one.
-fn read_areas(
+/// Areas, each with what follows it, which is taken with its place; at least one.
+fn each_area(
     words: &mut Words,
-    amounts: &mut [i32; 3],
     field: impl Fn(usize) -> Field,
     spots: &mut Spots,
+    mut take: impl FnMut(&mut Words, usize) -> Result<Spot, Mistake>,
 ) -> Result<(), Mistake> {
     let mut any = false;
     while !any
@@ -232,8 +249,7 @@ fn read_areas(
         let (area, at) = words.code("the area", &AREAS)?;
         let area = usize::from(area);
         new(spots, field(area), at)?;
-        let at;
-        (amounts[area], at) = words.fitting(&field(area).to_string())?;
+        let at = take(words, area)?;
         spots.push((field(area), at));
         any = true;
     }

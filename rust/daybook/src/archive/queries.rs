@@ -6,21 +6,21 @@ use super::{
     daybook_warning, daybook_write, lent,
 };
 
-/// Reads a book into an image of 8,744 bytes.
+/// Reads a book into an image of 9,512 bytes.
 pub fn read(book: &[u8], image: &mut [u8]) -> u32 {
     // SAFETY: each pointer comes with the length of its slice, both slices live through the call,
     // and the image, lent by &mut, does not overlap the book.
     unsafe { daybook_read(book.as_ptr(), book.len(), image.as_mut_ptr(), image.len()) }
 }
 
-/// Writes an image of 8,744 bytes, up to its counts, into a part.
+/// Writes an image of 9,512 bytes, up to its counts, into a part.
 pub fn write(image: &[u8], part: &mut [u8]) -> u32 {
     // SAFETY: each pointer comes with the length of its slice, both slices live through the call,
     // and the part, lent by &mut, does not overlap the image.
     unsafe { daybook_write(image.as_ptr(), image.len(), part.as_mut_ptr(), part.len()) }
 }
 
-/// Copies a user's record into 56 bytes.
+/// Copies a user's record into 68 bytes.
 pub fn show(book: &[u8], store: Option<&[u8]>, id: u32, record: &mut [u8]) -> u32 {
     let (with_store, store, store_len) = lent(store);
     // SAFETY: each pointer comes with the length of its slice, the slices live through the call,
@@ -39,7 +39,7 @@ pub fn show(book: &[u8], store: Option<&[u8]>, id: u32, record: &mut [u8]) -> u3
     }
 }
 
-/// Copies a user's record of the picked book into 56 bytes: the morning's
+/// Copies a user's record of the picked book into 68 bytes: the morning's
 /// where `afternoon_picked` is 0, else the afternoon's.
 pub fn show_picked(
     morning: &[u8],

@@ -1,0 +1,89 @@
+-- `fit_each`: the records that are left give all. Assumes nothing.
+use Prim.Native.Nat.{_+_, _-_, _*_, _≤_}
+use native.Mathlib.Nat.{mul-suc, mul-le-mul-left}
+use native.Mathlib.Omega.{arith}
+use denote.Ref.{now}
+use lib.ListN.{length}
+use borrow.Author.Needs.{needs}
+use Rattle.book_image.proofs.Fitted.{Fitting, fitting-start, fitting-turn, fitting-end}
+use Rattle.book_image.proofs.fit_each.Statement.{statement}
+use Rattle.book_image.proofs.fit_each.Tie as tie
+
+abbrev Inv-loop : tie.InvT-loop
+Inv-loop s from n size out₀ to new-size kept i₀ out i = Fitting new-size size n s from out₀ to out i
+
+abbrev μ-loop : tie.MeasureT-loop
+μ-loop s from n size out₀ to new-size kept i₀ out i = n - i
+
+loop-holds : tie.Need-loop-holds Inv-loop μ-loop
+loop-holds c = fitting-start
+
+-- the record at i lies in both lists
+from-lies : (c : tie.In-loop Inv-loop μ-loop)
+    → let a = c .before .before .before .before .before .args in
+    a .from + a .size * c .before .loop .i + a .size ≤ length (now (a .s))
+from-lies c =
+    let start = c .before .before .before .before .before in
+    omega (arith, start .pre .0, mul-suc (start .args .size) (c .before .loop .i), mul-le-mul-left (start .args .size) (c .loop-test .taken))
+
+to-lies : (c : tie.In-loop Inv-loop μ-loop)
+    → let a = c .before .before .before .before .before .args in
+    a .to + a .new-size * c .before .loop .i + a .new-size ≤ length (c .before .loop .out)
+to-lies c =
+    let start = c .before .before .before .before .before in
+    omega (arith, start .pre .1, c .before .loop .inv .same, mul-suc (start .args .new-size) (c .before .loop .i), mul-le-mul-left (start .args .new-size) (c .loop-test .taken))
+
+mul-fit : tie.Need-mul-fit Inv-loop μ-loop
+mul-fit c = omega (arith, from-lies c)
+
+add-fit : tie.Need-add-fit Inv-loop μ-loop
+add-fit c = omega (arith, from-lies c)
+
+mul-fit-2 : tie.Need-mul-fit-2 Inv-loop μ-loop
+mul-fit-2 c = omega (arith, to-lies (c .before))
+
+add-fit-2 : tie.Need-add-fit-2 Inv-loop μ-loop
+add-fit-2 c = omega (arith, to-lies (c .before))
+
+fit-requires : tie.Need-fit-requires Inv-loop μ-loop
+fit-requires c κs =
+    let least = c .before .before .before .least .ensures in
+    (omega (arith, from-lies (c .before)), to-lies (c .before), omega arith)
+
+add-i : tie.Need-add-i Inv-loop μ-loop
+add-i c = search needs
+
+loop-less : tie.Need-loop-less Inv-loop μ-loop
+loop-less c = search needs
+
+loop-again : tie.Need-loop-again Inv-loop μ-loop
+loop-again c =
+    let done = c .before .before in
+    let inside = done .before .before in
+    let least = inside .before .before in
+    fitting-turn (least .least .ensures) (least .before .before .before .pre .0) (inside .before .loop .inv) (inside .loop-test .taken) (done .fit .ensures)
+
+same-length : tie.Need-same-length Inv-loop μ-loop
+same-length c = c .before .loop .inv .same
+
+returns : tie.Need-returns Inv-loop μ-loop
+returns c = fitting-end (c .before .loop .inv) (c .loop-test .left)
+
+pub fit-each-spec : {M : Type 1} → statement M
+fit-each-spec =
+    tie.close
+    (tie.spec
+    Inv-loop
+    μ-loop
+    (λ c κs. search needs)
+    loop-holds
+    mul-fit
+    add-fit
+    mul-fit-2
+    add-fit-2
+    fit-requires
+    add-i
+    loop-less
+    loop-again
+    same-length
+    returns)

@@ -1,0 +1,119 @@
+-- `fields_valid`: the users that are left have the whole answer, until one fails a test or none is left; the ids of those passed are listed. Assumes nothing.
+use Prim.Native.Nat.{_+_, _-_, _≤_}
+use mathlib.Core.Path.{sym, _∙_}
+use native.Mathlib.Omega.{arith}
+use lib.ListN.{length, length-take, length-drop}
+use denote.Ref.{now}
+use borrow.Author.Needs.{needs}
+use borrow.Author.Tests.{not-true, not-false}
+use Rattle.book_records.specs.User.{asUser}
+use Rattle.book_sums.proofs.Walk.{record-lies}
+use Rattle.book_questions.proofs.Asking.{UsersWalk, users-walk-start, users-walk-id-no, users-walk-no, users-walk-turn, users-walk-end}
+use Rattle.book_questions.proofs.fields_valid.Statement.{statement}
+use Rattle.book_questions.proofs.fields_valid.Tie as tie
+
+abbrev Inv-loop : tie.InvT-loop
+Inv-loop s size n ids₀ last₀ i₀ a₀ ids last i a = UsersWalk s size 0 n ids last i a
+
+abbrev μ-loop : tie.MeasureT-loop
+μ-loop s size n ids₀ last₀ i₀ a₀ ids last i a = n - i
+
+-- the bytes of the user at hand stand there, and those of its record
+lies : (c : tie.In-loop Inv-loop μ-loop) → let s = c .before .before .before .before in (c .before .loop .a + 56 ≤ length (now (s .args .s))) × (c .before .loop .a + s .args .size ≤ length (now (s .args .s)))
+lies c =
+    let s = c .before .before .before .before in
+    record-lies (s .args .size) 0 (s .args .n) (c .before .loop .i) (s .pre .1) (c .before .loop .inv .place) (omega (arith, c .loop-test)) (omega (arith, s .pre .2))
+
+loop-holds : tie.Need-loop-holds Inv-loop μ-loop
+loop-holds c = users-walk-start (c .before .before .pre .3)
+
+add-read-user : tie.Need-add-read-user Inv-loop μ-loop
+add-read-user c = omega (arith, lies c .0, c .before .before .before .before .fits)
+
+sub-read-user : tie.Need-sub-read-user Inv-loop μ-loop
+sub-read-user c = search needs
+
+part-read-user-start : tie.Need-part-read-user-start Inv-loop μ-loop
+part-read-user-start c = search needs
+
+part-read-user-end : tie.Need-part-read-user-end Inv-loop μ-loop
+part-read-user-end c = omega (arith, lies c .0)
+
+read-user-requires : tie.Need-read-user-requires Inv-loop μ-loop
+read-user-requires c κs = simp (length-take, length-drop) (omega (arith, lies (c .before) .0))
+
+same-length : tie.Need-same-length Inv-loop μ-loop
+same-length c = search needs
+
+returns : tie.Need-returns Inv-loop μ-loop
+unfolding asUser
+returns c =
+    let read = c .before .before in
+    users-walk-id-no (read .before .before .before .before .before .before .pre .1) (read .before .before .before .loop .inv) (omega arith) (read .read-user .ensures) (c .if1 .taken)
+
+user-valid-requires : tie.Need-user-valid-requires Inv-loop μ-loop
+user-valid-requires c κs = search needs
+
+same-length-2 : tie.Need-same-length-2 Inv-loop μ-loop
+same-length-2 c = search needs
+
+returns-2 : tie.Need-returns-2 Inv-loop μ-loop
+returns-2 c =
+    let asked = c .before .user-valid in
+    let read = c .before .before .before .before in
+    users-walk-no (read .before .before .before .before .before .before .pre .1) (read .before .before .before .loop .inv) (omega arith) (read .read-user .ensures) (sym (asked .ensures) ∙ not-true (asked .result) (c .if2 .taken))
+
+mul-ids : tie.Need-mul-ids Inv-loop μ-loop
+mul-ids c = search needs
+
+slice-write-ids : tie.Need-slice-write-ids Inv-loop μ-loop
+slice-write-ids c = search needs
+
+add-a : tie.Need-add-a Inv-loop μ-loop
+add-a c = let inside = c .before .before .before .before .before .before in omega (arith, lies inside .1, inside .before .before .before .before .fits)
+
+add-i : tie.Need-add-i Inv-loop μ-loop
+add-i c = search needs
+
+loop-less : tie.Need-loop-less Inv-loop μ-loop
+loop-less c = search needs
+
+loop-again : tie.Need-loop-again Inv-loop μ-loop
+unfolding asUser
+loop-again c =
+    let asked = c .before .user-valid in
+    let read = c .before .before .before .before in
+    users-walk-turn (read .before .before .before .before .before .before .pre .1) (read .before .before .before .loop .inv) (omega arith) (read .read-user .ensures) (search needs) (c .before .before .if1 .left)
+    (sym (asked .ensures) ∙ not-false (asked .result) (c .if2 .left))
+
+same-length-3 : tie.Need-same-length-3 Inv-loop μ-loop
+same-length-3 c = search needs
+
+returns-3 : tie.Need-returns-3 Inv-loop μ-loop
+returns-3 c = users-walk-end (c .before .loop .inv) (omega arith) (search needs)
+
+pub fields-valid-spec : {M : Type 1} → statement M
+fields-valid-spec =
+    tie.close
+    (tie.spec
+    Inv-loop
+    μ-loop
+    loop-holds
+    add-read-user
+    sub-read-user
+    part-read-user-start
+    part-read-user-end
+    read-user-requires
+    same-length
+    returns
+    user-valid-requires
+    same-length-2
+    returns-2
+    mul-ids
+    slice-write-ids
+    add-a
+    add-i
+    loop-less
+    loop-again
+    same-length-3
+    returns-3)

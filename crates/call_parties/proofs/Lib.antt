@@ -1,0 +1,3 @@
+-- Places and sums, with managers and without.
+pub mod Borne
+pub mod Loops

@@ -1,0 +1,48 @@
+-- `bear`: by the version. Assumes nothing.
+use mathlib.Core.List.{List}
+use mathlib.Core.Path.{_≡_, sym, ap, ap₂, subst, _∙_}
+use Prim.Native.Nat.{ℕ}
+use native.Mathlib.Omega.{arith}
+use borrow.Author.Needs.{needs}
+use denote.Ref.{now}
+use Rattle.rules.specs.Areas.{managersIn}
+use Rattle.call_parties.proofs.Borne.{plain-copied, plain-sums}
+use Rattle.call_parties.proofs.bear.Statement.{statement}
+use Rattle.call_parties.proofs.bear.Tie as tie
+
+version-requires : tie.Need-version-requires
+version-requires c κs = let s = c .before in omega (arith, s .pre .0 .0 .accepted .held .form .head)
+
+bear-managed-requires : tie.Need-bear-managed-requires
+bear-managed-requires c κs =
+    let t = c .before .before .before in
+    let h = t .before in
+    let v = h .before in
+    let s = v .before .before in
+    ((s .pre .0 .0, sym (h .has-managers .ensures ∙ ap managersIn (v .version .ensures)) ∙ t .if1 .taken), (s .pre .0 .3, s .pre .0 .4))
+
+copy-places-requires : tie.Need-copy-places-requires
+copy-places-requires c κs =
+    let s = c .before .before .before .before .before in
+    (s .pre .0 .1, s .pre .0 .3)
+
+copy-places-requires-2 : tie.Need-copy-places-requires-2
+copy-places-requires-2 c κs =
+    let s = c .before .before .before .before .before .before .before in
+    (s .pre .0 .2, s .pre .0 .4)
+
+returns-2 : tie.Need-returns-2
+returns-2 c =
+    let o = c .before .before in
+    let e = o .before .before in
+    let h = e .before in
+    let v = h .before in
+    let s = v .before .before in
+    let a = s .pre .0 .0 .accepted in
+    let none = sym (h .has-managers .ensures ∙ ap managersIn (v .version .ensures)) ∙ e .if1 .left in
+    (plain-copied (now (s .args .book)) a none (s .pre .0 .0) (o .copy-places .ensures) (c .copy-places2 .ensures), (plain-sums (now (s .args .book)) a none (s .pre .1 .0), s .pre .1 .1))
+
+pub bear-spec : {M : Type 1} → statement M
+bear-spec =
+    tie.close
+    (tie.spec version-requires (λ c κs. search needs) bear-managed-requires (λ c. c .bear-managed .ensures) copy-places-requires copy-places-requires-2 returns-2)

@@ -1,0 +1,2 @@
+-- Who is party to a trade that was cut.
+pub mod Flags

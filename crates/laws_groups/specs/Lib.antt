@@ -1,0 +1,2 @@
+-- Groups: the laws as statements.
+pub mod Statements

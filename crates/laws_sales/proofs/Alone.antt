@@ -1,0 +1,169 @@
+-- A book of a version without managers, 1 or 2: everybody bears its own risk, and what the rules read of users and trades is document 01's. Assumes nothing.
+use mathlib.Core.Bool.{Bool, true, false, not, cond, _&&_, _||_}
+use mathlib.Core.List.{List, [], _∷_, map}
+use mathlib.Core.Path.{_≡_, refl, sym, ap, ap₂, subst, _∙_}
+use Prim.Native.Nat.{ℕ, zero, suc, _≤_, _<_}
+use native.Mathlib.Nat.{le-of-eq, le-of-suc-le-suc, not-suc-le-zero}
+use native.Mathlib.Omega.{arith}
+use lib.Dec.{T, eqb, eqb→eq, ltb, ltb→lt}
+use lib.IntN.{ℤ, pos, _+ℤ_, +ℤ-idr, +ℤ-idl}
+use lib.ListN.{length, getD, length-map, List·getD-map}
+use lib.Seq.{ext-getD}
+use borrow.Author.Tests.{eq-eqb, ne-eqb}
+use Rattle.base.proofs.Fronts.{getD-inside}
+use Rattle.base.proofs.Tests.{and-l, and-r, eqb-comm, map-by, sumℤ-by}
+use Rattle.base.specs.Sums.{sumℤ}
+use Rattle.laws.proofs.Managers.{own-bearer}
+use Rattle.laws.proofs.Positions.{buyer-known, seller-known}
+use Rattle.laws.proofs.Users.{all-find, known-id}
+use Rattle.laws.specs.Sound.{Sound}
+use Rattle.laws.specs.Statements.{ownHolding}
+use Rattle.rules.specs.Areas.{managersIn}
+use Rattle.rules.specs.Bearers.{asBorne, bearer, borneSum}
+use Rattle.rules.specs.Book.{Book, PerArea, Trade, User, at, find, managerIn, nobody}
+use Rattle.rules.specs.Levels.{holding, partyTo, sellerOf, sells}
+use Rattle.rules.specs.Questions.{groupsValid, idsRise, known, managerValid, managersValid, manages, partiesValid, tradeValid}
+use Rattle.laws_sales.proofs.Settled.{ids-above}
+use Rattle.laws_sales.proofs.Sums.{held-borne}
+use Rattle.laws_sales.specs.Borne.{borneBook, borneSums, borneTrade, borneUser, shut, OwnRisk}
+
+-- ---- one user has an id
+
+none-of : (h : User → ℤ) (us : List User) (low id : ℕ) → id ≤ low → T (idsRise low us) → sumℤ (λ v. cond (eqb (v .party .id) id) (h v) (pos 0)) us ≡ pos 0
+unfolding sumℤ idsRise
+none-of h [] low id l r = refl
+none-of h (u ∷ us) low id l r =
+    let lt : low < u .party .id = ltb→lt low (u .party .id) (and-l (ltb low (u .party .id)) (idsRise (u .party .id) us) r) in
+    let rest = none-of h us (u .party .id) id (omega arith) (and-r (ltb low (u .party .id)) (idsRise (u .party .id) us) r) in
+    ap₂ (λ (c : Bool) (z : ℤ). cond c (h u) (pos 0) +ℤ z) (ne-eqb (u .party .id) id (λ e. omega arith)) rest
+
+pub one-of : (h : User → ℤ) (us : List User) (low i : ℕ) (d : User) → T (idsRise low us) → i < length us
+    → sumℤ (λ v. cond (eqb (v .party .id) (getD us i d .party .id)) (h v) (pos 0)) us ≡ h (getD us i d)
+unfolding sumℤ idsRise
+one-of h [] low i d r l = absurd (not-suc-le-zero l)
+one-of h (u ∷ us) low zero d r l =
+    let rest = none-of h us (u .party .id) (u .party .id) (le-of-eq refl) (and-r (ltb low (u .party .id)) (idsRise (u .party .id) us) r) in
+    ap₂ (λ (c : Bool) (z : ℤ). cond c (h u) (pos 0) +ℤ z) (eq-eqb (u .party .id) (u .party .id) refl) rest ∙ +ℤ-idr (h u)
+one-of h (u ∷ us) low (suc i) d r l =
+    let more = and-r (ltb low (u .party .id)) (idsRise (u .party .id) us) r in
+    let k = le-of-suc-le-suc l in
+    let above = ids-above us (u .party .id) i d more k in
+    ap₂ (λ (c : Bool) (z : ℤ). cond c (h u) (pos 0) +ℤ z) (ne-eqb (u .party .id) (getD us i d .party .id) (λ e. omega arith)) (one-of h us (u .party .id) i d more k)
+    ∙ +ℤ-idl (h (getD us i d))
+
+-- ---- nobody has a manager
+
+module _ (b : Book) (s : Sound b) (plain : managersIn (b .header .version) ≡ false) where
+  -- the user's managers are 0
+  none : (m : ℕ) (c : Bool) → T (eqb m 0 || (managersIn (b .header .version) && c)) → m ≡ 0
+  none m c h =
+      let k : T (eqb m 0 || false) = subst (λ (x : Bool). T (eqb m 0 || (x && c))) plain h in
+      eqb→eq m 0 (go (eqb m 0) k)
+    where
+      go : (x : Bool) → T (x || false) → T x
+      go true h = tt
+      go false h = absurd h
+
+  no-manager : (u : User) → T (managersValid (b .header .version) (b .users) u) → (area : ℕ) → managerIn (u .party .managers) area ≡ 0
+  unfolding managersValid managerValid managerIn
+  no-manager u h zero =
+      none (u .party .managers .pvb) (manages (b .users) (u .party .managers .pvb) u 0) (and-l (managerValid (b .header .version) (b .users) u 0) (managerValid (b .header .version) (b .users) u 1 && managerValid (b .header .version) (b .users) u 2) h)
+  no-manager u h (suc zero) = none (u .party .managers .tvb) (manages (b .users) (u .party .managers .tvb) u 1) (search (and-l, and-r))
+  no-manager u h (suc (suc area)) = none (u .party .managers .avb) (manages (b .users) (u .party .managers .avb) u 2) (search (and-l, and-r))
+
+  -- so it bears its own risk
+  own : (u : User) → T (managersValid (b .header .version) (b .users) u) → (area : ℕ) → bearer u area ≡ u .party .id
+  own u h area = own-bearer u area (no-manager u h area)
+
+  -- and nobody else's
+  sum-own : (amounts : User → PerArea) (i area : ℕ) → i < length (b .users)
+      → borneSum amounts (b .users) (getD (b .users) i nobody .party .id) area ≡ at (amounts (getD (b .users) i nobody)) area
+  unfolding borneSum groupsValid
+  sum-own amounts i area l =
+      let id = getD (b .users) i nobody .party .id in
+      sumℤ-by (managersValid (b .header .version) (b .users)) {f = λ v. cond (eqb (bearer v area) id) (at (amounts v) area) (pos 0)} {g = λ v. cond (eqb (v .party .id) id) (at (amounts v) area) (pos 0)}
+      (λ v h. ap (λ (n : ℕ). cond (eqb n id) (at (amounts v) area) (pos 0)) (own v h area)) (b .users) (s .groups)
+      ∙ one-of (λ v. at (amounts v) area) (b .users) 0 i nobody (s .ids) l
+
+  user-own : (i : ℕ) → i < length (b .users) → borneUser (b .users) (getD (b .users) i nobody) ≡ getD (b .users) i nobody
+  unfolding borneUser borneSums at
+  user-own i l =
+      let u = getD (b .users) i nobody in
+      let p0 = sum-own (λ v. v .physical) i 0 l in
+      let p1 = sum-own (λ v. v .physical) i 1 l in
+      let p2 = sum-own (λ v. v .physical) i 2 l in
+      let z0 = sum-own (λ v. v .position) i 0 l in
+      let z1 = sum-own (λ v. v .position) i 1 l in
+      let z2 = sum-own (λ v. v .position) i 2 l in
+      λ i. record {
+        party = u .party;
+        physical = record { pvb = p0 i; tvb = p1 i; avb = p2 i };
+        position = record { pvb = z0 i; tvb = z1 i; avb = z2 i };
+        blocked = u .blocked;
+      }
+
+  users-own : map (borneUser (b .users)) (b .users) ≡ b .users
+  users-own =
+      let us = b .users in
+      ext-getD nobody (map (borneUser us) us) us (length-map us (borneUser us))
+      (λ i l.
+      let k : i < length us = omega (arith, length-map us (borneUser us)) in
+      getD-inside (map (borneUser us) us) i nobody (borneUser us nobody) l ∙ List·getD-map (borneUser us) us i nobody ∙ user-own i k)
+
+  -- the parties of a trade
+  bearer-own : (id area : ℕ) → T (known (b .users) id) → bearer (find (b .users) id) area ≡ id
+  unfolding groupsValid
+  bearer-own id area k =
+      own (find (b .users) id) (all-find (managersValid (b .header .version) (b .users)) (b .users) id (s .groups) k) area ∙ known-id (b .users) id k
+
+  borne-own : (t : Trade) → T (tradeValid (b .users) t) → asBorne (b .users) t ≡ t
+  unfolding asBorne
+  borne-own t v =
+      let r = t .terms in
+      ap₂ (λ (x y : ℕ). record { terms = record { seller = x; buyer = y; area = r .area; kind = r .kind; day = r .day; notified = r .notified }; standing = t .standing })
+      (bearer-own (r .seller) (r .area) (seller-known (b .users) t v)) (bearer-own (r .buyer) (r .area) (buyer-known (b .users) t v))
+
+  -- which differ
+  differ : (t : Trade) → T (tradeValid (b .users) t) → eqb (t .terms .seller) (t .terms .buyer) ≡ false
+  unfolding tradeValid partiesValid
+  differ t v = is-false (eqb (t .terms .seller) (t .terms .buyer)) (search (and-l, and-r))
+    where
+      is-false : (c : Bool) → T (not c) → c ≡ false
+      is-false true h = absurd h
+      is-false false h = refl
+
+  trade-own : (t : Trade) → T (tradeValid (b .users) t) → borneTrade (b .users) t ≡ t
+  unfolding borneTrade shut
+  trade-own t v =
+      let r = t .terms in
+      ap shut (borne-own t v)
+      ∙ ap (λ (c : Bool). record { terms = record { seller = r .seller; buyer = r .buyer; area = r .area; kind = cond c 1 (r .kind); day = r .day; notified = r .notified }; standing = t .standing })
+      (differ t v)
+
+  trades-own : map (borneTrade (b .users)) (b .trades) ≡ b .trades
+  trades-own = map-by (tradeValid (b .users)) (borneTrade (b .users)) (λ t. t) trade-own (b .trades) (s .trades) ∙ map-id (b .trades)
+    where
+      map-id : (ts : List Trade) → map (λ (t : Trade). t) ts ≡ ts
+      map-id [] = refl
+      map-id (t ∷ ts) = ap (λ (ns : List Trade). t ∷ ns) (map-id ts)
+
+  book-own : borneBook b ≡ b
+  unfolding borneBook
+  book-own = ap₂ (λ (us : List User) (ts : List Trade). record { header = b .header; users = us; trades = ts }) users-own trades-own
+
+  pub own-risk : OwnRisk b
+  unfolding sells partyTo sellerOf
+  own-risk = record {
+    book = book-own;
+    held = λ i l area. held-borne b (getD (b .users) i nobody) area ∙ ap₂ (λ (n : Book) (u : User). ownHolding n u area) book-own (user-own i l);
+    sale = λ u t v. rw (borne-own t v) (apart u t v);
+    party = λ u t v. rw (borne-own t v) refl;
+    seller = λ t v. rw (borne-own t v) refl;
+  }
+    where
+      apart : (u : User) (t : Trade) → T (tradeValid (b .users) t) → (eqb (t .terms .seller) (u .party .id) && not (eqb (t .terms .buyer) (u .party .id))) ≡ eqb (t .terms .seller) (u .party .id)
+      apart u t v = go (eqb (t .terms .seller) (u .party .id)) (λ h. eqb→eq (t .terms .seller) (u .party .id) h)
+        where
+          go : (c : Bool) → (T c → t .terms .seller ≡ u .party .id) → (c && not (eqb (t .terms .buyer) (u .party .id))) ≡ c
+          go true e = ap not (ap (eqb (t .terms .buyer)) (sym (e tt)) ∙ eqb-comm (t .terms .buyer) (t .terms .seller) ∙ differ t v)
+          go false e = refl

@@ -1,0 +1,148 @@
+-- Who bears whose risk, read of the records of a book: the ids, the manager in an area, the place of either. Assumes nothing.
+use mathlib.Core.Bool.{Bool, true, false, cond}
+use mathlib.Core.List.{List, map}
+use mathlib.Core.Path.{_≡_, refl, sym, ap, subst, _∙_}
+use Prim.Native.Nat.{ℕ, zero, suc, _+_, _*_, _-_, _≤_, _<_}
+use native.Mathlib.Omega.{arith}
+use lib.Dec.{T, eqb, eqb→eq}
+use lib.ListN.{length, take, drop, getD, set, replicate, length-set, length-replicate}
+use lib.Seq.{drop-drop, drop-set-lt, getD-set-other, getD-set-same}
+use borrow.Author.Tests.{eq-eqb, ne-eqb}
+use Rattle.base.proofs.Linear.{by-order}
+use Rattle.book_format.proofs.Held.{accepted-ids}
+use Rattle.book_format.proofs.Passed.{length-usersOf}
+use Rattle.book_format.proofs.Places.{user-field, user-is}
+use Rattle.book_format.proofs.Offsets.{user-managed}
+use Rattle.book_format.specs.Book.{userAt, userCount, userSize, usersOf, versionOf}
+use Rattle.book_format.specs.Held.{Accepted}
+use Rattle.book_format.specs.Places.{UserIn}
+use Rattle.book_parties.proofs.Rising.{rising-ids}
+use Rattle.book_parties.specs.Ids.{idAt, idsOf, placeIn}
+use Rattle.book_records.specs.User.{managersAt, userOf}
+use Rattle.fields.proofs.Field.{field-part}
+use Rattle.fields.proofs.Sets.{drop-replicate}
+use Rattle.fields.specs.Field.{field}
+use Rattle.rules.specs.Areas.{managersIn}
+use Rattle.rules.specs.Bearers.{bearer}
+use Rattle.rules.specs.Book.{User, managerIn, nobody}
+use Rattle.risk_bearers.proofs.Listed.{Listed, listed-end, listed-start, listed-turn}
+use Rattle.risk_bearers.proofs.Places.{place-is}
+use Rattle.risk_bearers.specs.Bearers.{BearersOf, IdsOf}
+
+-- ---- the ids
+
+-- the numbers past one that is stored
+rest-set : (room i : ℕ) (pad n : ℕ) (ns : List ℕ) → drop i ns ≡ replicate (room - i) pad → drop (i + 1) (set ns i n) ≡ replicate (room - (i + 1)) pad
+rest-set room i pad n ns e =
+    let q : drop 1 (drop i ns) ≡ drop (i + 1) ns = drop-drop 1 i ns in
+    let k : room - i - 1 ≡ room - (i + 1) = omega arith in
+    drop-set-lt (i + 1) ns i n (omega arith) ∙ sym q ∙ ap (drop 1) e ∙ drop-replicate 1 (room - i) pad ∙ ap (λ (m : ℕ). replicate m pad) k
+
+-- the first i are listed, and the rest is padding
+pub record IdsTo (us : List User) (ids : List ℕ) (i : ℕ) : Type 0 where
+  pub listed : Listed (λ u. u .party .id) us 64 ids i
+  pub rest : drop i ids ≡ replicate (64 - i) 4294967295
+
+pub ids-start : (us : List User) {ids : List ℕ} → ids ≡ replicate 64 4294967295 → IdsTo us ids 0
+ids-start us e = record { listed = listed-start (ap length e ∙ length-replicate {A = ℕ} 64 4294967295); rest = e }
+
+pub ids-more : (s : List ℕ) {ids : List ℕ} {i x a : ℕ} → UserIn s i → userCount s ≤ 64 → a ≡ userAt s i → x ≡ field 4 a s → IdsTo (usersOf s) ids i → IdsTo (usersOf s) (set ids i x) (i + 1)
+unfolding userOf
+ids-more s {ids} {i} {x} p few e f t =
+    record {
+      listed = listed-turn nobody (t .listed) (omega (arith, length-usersOf s, p .inside)) (omega (arith, p .inside, few))
+          (f ∙ ap (λ (j : ℕ). field 4 j s) (e ∙ omega arith) ∙ user-field p 4 0 (λ u. u .party .id) (λ n. n) (omega arith) (λ c. refl));
+      rest = rest-set 64 i 4294967295 x ids (t .rest);
+    }
+
+pub ids-end : (s : List ℕ) {ids : List ℕ} {n i : ℕ} → Accepted s → n ≡ userCount s → i ≡ n → IdsTo (usersOf s) ids i → IdsOf (usersOf s) n ids
+unfolding idsOf
+ids-end s {ids} {n} {i} a many e t =
+    let all : take n ids ≡ idsOf (usersOf s) = subst (λ (k : ℕ). take k ids ≡ idsOf (usersOf s)) e (listed-end (t .listed) (omega (arith, length-usersOf s))) in
+    record {
+      padded = record {
+        full = t .listed .full;
+        few = omega (arith, many, a .held .form .users);
+        rising = rw all (rising-ids (usersOf s) (accepted-ids a));
+        rest = subst (λ (k : ℕ). drop k ids ≡ replicate (64 - k) 4294967295) e (t .rest);
+      };
+      listed = all;
+    }
+
+-- ---- the manager in an area
+
+module _ {s : List ℕ} {place : ℕ} (p : UserIn s place) (managed : managersIn (versionOf s) ≡ true) where
+  pub manager-is : {area a : ℕ} → area < 3 → a ≡ userAt s place → field 4 (a + (56 + 4 * area)) s ≡ managerIn (getD (usersOf s) place nobody .party .managers) area
+  unfolding userOf managersAt managerIn
+  manager-is {area} {a} l e =
+      let size : userSize (versionOf s) ≡ 68 = user-managed (versionOf s) managed in
+      let c = take (userSize (versionOf s)) (drop (userAt s place) s) in
+      ap (λ (i : ℕ). field 4 (i + (56 + 4 * area)) s) e
+      ∙ sym (field-part 4 (56 + 4 * area) (userAt s place) (userSize (versionOf s)) s (omega (arith, size)))
+      ∙ read c area l
+      ∙ ap (λ (u : User). managerIn (u .party .managers) area) (user-is p)
+    where
+      read : (c : List ℕ) (area : ℕ) → area < 3 → field 4 (56 + 4 * area) c ≡ managerIn (userOf c .party .managers) area
+      read c zero h = refl
+      read c (suc zero) h = refl
+      read c (suc (suc zero)) h = refl
+      read c (suc (suc (suc area))) h = absurd (omega arith)
+
+-- ---- who bears the risk
+
+module _ (s : List ℕ) (a : Accepted s) {i : ℕ} (h : i < userCount s) (area : ℕ) {id : ℕ} (is : id ≡ managerIn (getD (usersOf s) i nobody .party .managers) area) where
+  -- without a manager it is the user itself
+  pub bearer-self : id ≡ 0 → i ≡ placeIn (idsOf (usersOf s)) (bearer (getD (usersOf s) i nobody) area)
+  unfolding bearer
+  bearer-self z =
+      let us = usersOf s in
+      let own : placeIn (idsOf us) (idAt us i) ≡ i = eqb→eq (placeIn (idsOf us) (idAt us i)) i (subst (λ (c : Bool). T c) (sym (place-is us (accepted-ids a) i (idAt us i) (omega (arith, length-usersOf s)) ∙ eq-eqb (idAt us i) (idAt us i) refl)) tt) in
+      sym own ∙ ap (placeIn (idsOf us)) (rw (eq-eqb (managerIn (getD us i nobody .party .managers) area) 0 (sym is ∙ z)) refl)
+
+  pub bearer-manager : (id ≡ 0 → ⊥) → {r : ℕ} → r ≡ placeIn (idsOf (usersOf s)) id → r ≡ placeIn (idsOf (usersOf s)) (bearer (getD (usersOf s) i nobody) area)
+  unfolding bearer
+  bearer-manager n e =
+      let us = usersOf s in
+      e ∙ ap (placeIn (idsOf us)) (is ∙ rw (ne-eqb (managerIn (getD us i nobody .party .managers) area) 0 (λ z. n (is ∙ z))) refl)
+
+-- ---- user by user
+
+pub record BearersTo (us : List User) (i : ℕ) (table : List ℕ) : Type 0 where
+  pub room : length table ≡ 192
+  pub each : (j area : ℕ) → j < i → area < 3 → getD table (3 * j + area) 0 ≡ placeIn (idsOf us) (bearer (getD us j nobody) area)
+
+pub bearers-more : (us : List User) {i : ℕ} {table : List ℕ} (x y z : ℕ) → i < 64 → BearersTo us i table
+    → x ≡ placeIn (idsOf us) (bearer (getD us i nobody) 0) → y ≡ placeIn (idsOf us) (bearer (getD us i nobody) 1) → z ≡ placeIn (idsOf us) (bearer (getD us i nobody) 2)
+    → BearersTo us (i + 1) (set (set (set table (3 * i) x) (3 * i + 1) y) (3 * i + 2) z)
+bearers-more us {i} {table} x y z l p ex ey ez =
+    let one = set table (3 * i) x in
+    let two = set one (3 * i + 1) y in
+    let three = set two (3 * i + 2) z in
+    record {
+      room = length-set two (3 * i + 2) z ∙ length-set one (3 * i + 1) y ∙ length-set table (3 * i) x ∙ p .room;
+      each = λ j area h k.
+          by-order j i
+          (λ m.
+          getD-set-other two (3 * i + 2) (3 * j + area) z 0 (λ e. omega arith) ∙ getD-set-other one (3 * i + 1) (3 * j + area) y 0 (λ e. omega arith)
+          ∙ getD-set-other table (3 * i) (3 * j + area) x 0 (λ e. omega arith) ∙ p .each j area m k)
+          (λ m. let e : i ≡ j = omega arith in subst (λ (n : ℕ). getD three (3 * n + area) 0 ≡ placeIn (idsOf us) (bearer (getD us n nobody) area)) e (here area k));
+    }
+  where
+    here : (area : ℕ) → area < 3 → getD (set (set (set table (3 * i) x) (3 * i + 1) y) (3 * i + 2) z) (3 * i + area) 0 ≡ placeIn (idsOf us) (bearer (getD us i nobody) area)
+    here zero k =
+        let one = set table (3 * i) x in
+        let two = set one (3 * i + 1) y in
+        getD-set-other two (3 * i + 2) (3 * i + 0) z 0 (λ e. omega arith) ∙ getD-set-other one (3 * i + 1) (3 * i + 0) y 0 (λ e. omega arith)
+        ∙ ap (λ (m : ℕ). getD one m 0) (let e : 3 * i + 0 ≡ 3 * i = omega arith in e) ∙ getD-set-same table (3 * i) x 0 (omega (arith, p .room)) ∙ ex
+    here (suc zero) k =
+        let one = set table (3 * i) x in
+        let two = set one (3 * i + 1) y in
+        getD-set-other two (3 * i + 2) (3 * i + 1) z 0 (λ e. omega arith) ∙ getD-set-same one (3 * i + 1) y 0 (omega (arith, length-set table (3 * i) x, p .room)) ∙ ey
+    here (suc (suc zero)) k =
+        let one = set table (3 * i) x in
+        let two = set one (3 * i + 1) y in
+        getD-set-same two (3 * i + 2) z 0 (omega (arith, length-set one (3 * i + 1) y, length-set table (3 * i) x, p .room)) ∙ ez
+    here (suc (suc (suc area))) k = absurd (omega arith)
+
+pub bearers-end : (s : List ℕ) {i : ℕ} {table : List ℕ} → userCount s ≤ i → BearersTo (usersOf s) i table → BearersOf (usersOf s) table
+bearers-end s h p = record { room = p .room; each = λ j area l k. p .each j area (omega (arith, length-usersOf s)) k }

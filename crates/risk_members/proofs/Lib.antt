@@ -1,0 +1,3 @@
+-- Sums over some users, one after the other; the amounts of a user.
+pub mod Sums
+pub mod Members

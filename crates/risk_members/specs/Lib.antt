@@ -1,0 +1,2 @@
+-- What one user has as its risk is borne.
+pub mod Members
