@@ -130,8 +130,8 @@ uint32_t daybook_write(const uint8_t *image, size_t image_len, uint8_t *out, siz
 /* Writes a book field by field to the front of an output: its header with the mark GDF, all ids, all roles, and so on through the user and then the trade fields. The fields
    of a user are id (4 bytes), role (1), zero bytes (3), physical entry in three areas (4 each), position in three areas (4 each), charges, assigned and blocked (8 each), in
    version 3 then the manager in three areas (4 each); those of a trade seller and buyer (4 each), area, kind, day and a zero byte (1 each), notified and standing (4 each).
-   Users and trades begin where they begin in the book, and the column of a field then as many bytes on as the widths of the fields before it times the count. The form has
-   the book's length; a longer output keeps its rest, and a refused call leaves the output. */
+   Users and trades begin where they begin in the book, and the column of a field then as many bytes on as the widths of the fields before it times the count: daybook_column
+   tells it. The form has the book's length; a longer output keeps its rest, and a refused call leaves the output. */
 uint32_t daybook_form(const uint8_t *book, size_t book_len, uint8_t *out, size_t out_len);
 
 /* Writes the book of such a form, of any version, to the front of an output, in the same way: the bytes that the form was made of. Only the form of a book that passes the
