@@ -10,10 +10,12 @@ use crate::shown::shown;
 
 /// Whether the call has a function of its own in `daybook`; a printed day is
 /// put together of others, a list of lines has columns and places of one count,
-/// and a started log has the right length.
-pub fn has(call: &Call, log: Option<&[u8]>) -> bool {
+/// a started log has the right length, and an output has room for what is written.
+pub fn has(book: &[u8], log: Option<&[u8]>, call: &Call) -> bool {
     match call {
         Call::Day => false,
+        // A form has the length of its book.
+        Call::Form { length } | Call::Restore { length } => *length >= book.len(),
         Call::Start => log.is_some_and(|log| log.len() == LOG_LENGTH),
         Call::List {
             ids,
@@ -87,11 +89,11 @@ fn requested(mut request: Request<'_>, book: &mut [u8], call: &Call) -> Answer {
             Ok(fields) => Answer::of_part(0, &fields.to_image()),
             Err(refusal) => Answer::of_part(refusal.number(), &[0; IMAGE_LENGTH]),
         },
-        Call::Write { image, length } => {
-            let mut part = vec![0xAA; *length];
-            let written = daybook::write(&book_of(image), &mut part);
-            Answer::of_part(number(&written), &part)
-        }
+        Call::Write { image, length } => Answer::of_output(*length, |part| {
+            number(&daybook::write(&book_of(image), part))
+        }),
+        Call::Form { length } => written(*length, daybook::field_wise(book)),
+        Call::Restore { length } => written(*length, daybook::record_wise(book)),
         Call::Reduction { id } => {
             let reduction = request.reduction(book, *id);
             fields(reduction.map(|done| {
@@ -106,6 +108,16 @@ fn requested(mut request: Request<'_>, book: &mut [u8], call: &Call) -> Answer {
         }
         Call::Start | Call::Day => panic!("{} takes no request", call.name()),
     }
+}
+
+/// An output of this length with the bytes that a call gives; a refusal gives none.
+fn written(length: usize, bytes: Result<Vec<u8>, Refusal>) -> Answer {
+    Answer::of_output(length, |output| {
+        if let Ok(bytes) = &bytes {
+            output[..bytes.len()].copy_from_slice(bytes);
+        }
+        number(&bytes)
+    })
 }
 
 fn number<T>(answer: &Result<T, Refusal>) -> u32 {
