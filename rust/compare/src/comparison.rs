@@ -204,7 +204,7 @@ impl Comparison {
         let expected = lent.left_by(books::answer);
         let number = expected.answer.number;
         self.hold(lent, &expected, "archive", engine::answer);
-        if typed::has(book, lent.log, call) {
+        if typed::has(call, lent.log) {
             self.hold(lent, &expected, "daybook", typed::answer);
         }
         if tuned::has(book, call) && ![19, 20].contains(&number) {

@@ -10,12 +10,10 @@ use crate::shown::shown;
 
 /// Whether the call has a function of its own in `daybook`; a printed day is
 /// put together of others, a list of lines has columns and places of one count,
-/// a started log has the right length, and an output has room for what is written.
-pub fn has(book: &[u8], log: Option<&[u8]>, call: &Call) -> bool {
+/// and a started log has the right length.
+pub fn has(call: &Call, log: Option<&[u8]>) -> bool {
     match call {
         Call::Day => false,
-        // A form has the length of its book.
-        Call::Form { length } | Call::Restore { length } => *length >= book.len(),
         Call::Start => log.is_some_and(|log| log.len() == LOG_LENGTH),
         Call::List {
             ids,
@@ -92,8 +90,12 @@ fn requested(mut request: Request<'_>, book: &mut [u8], call: &Call) -> Answer {
         Call::Write { image, length } => Answer::of_output(*length, |part| {
             number(&daybook::write(&book_of(image), part))
         }),
-        Call::Form { length } => written(*length, daybook::field_wise(book)),
-        Call::Restore { length } => written(*length, daybook::record_wise(book)),
+        Call::Form { length } => written(*length, daybook::field_wise(book), |output| {
+            daybook::field_wise_into(book, output)
+        }),
+        Call::Restore { length } => written(*length, daybook::record_wise(book), |output| {
+            daybook::record_wise_into(book, output)
+        }),
         Call::Reduction { id } => {
             let reduction = request.reduction(book, *id);
             fields(reduction.map(|done| {
@@ -110,14 +112,24 @@ fn requested(mut request: Request<'_>, book: &mut [u8], call: &Call) -> Answer {
     }
 }
 
-/// An output of this length with the bytes that a call gives; a refusal gives none.
-fn written(length: usize, bytes: Result<Vec<u8>, Refusal>) -> Answer {
-    Answer::of_output(length, |output| {
-        if let Ok(bytes) = &bytes {
-            output[..bytes.len()].copy_from_slice(bytes);
-        }
-        number(&bytes)
-    })
+/// An output of this length as a call leaves it. Where it is not too short the bytes
+/// by value have to be the same.
+fn written(
+    length: usize,
+    bytes: Result<Vec<u8>, Refusal>,
+    into: impl FnOnce(&mut [u8]) -> Result<(), Refusal>,
+) -> Answer {
+    let found = Answer::of_output(length, |output| number(&into(output)));
+    if found.number != Refusal::FormRoom.number() {
+        let by_value = Answer::of_output(length, |output| {
+            if let Ok(bytes) = &bytes {
+                output[..bytes.len()].copy_from_slice(bytes);
+            }
+            number(&bytes)
+        });
+        assert_eq!(by_value, found, "by value as into a part");
+    }
+    found
 }
 
 fn number<T>(answer: &Result<T, Refusal>) -> u32 {

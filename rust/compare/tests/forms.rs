@@ -1,14 +1,17 @@
 //! Field-wise forms (ask 13), engine against reference: books and forms of every
-//! size, every damage of a form, every byte of one changed, outputs of any length.
+//! size, every damage of a form, every byte of one changed, outputs of any length; and
+//! where the Rust types find each field.
 
 #![forbid(unsafe_code)]
 
 use books::forms::{form_of, FormDamage};
 use books::versions::VERSIONS;
-use books::{Call, Kind};
-use compare::settings::comparison;
+use books::{Call, Generator, Kind};
+use compare::settings::{comparison, seed};
 use compare::Comparison;
-use reference::book::LONGEST;
+use daybook::{Columns, Field};
+use reference::book::{Book, Header, Trade, User, LONGEST};
+use reference::questions::questions_1_to_7;
 
 /// Books of each kind, version and damage.
 const OF_EACH: usize = 6;
@@ -120,4 +123,68 @@ fn every_length() {
         }
     }
     comparison.expect_none();
+}
+
+/// Where `daybook` says that the columns stand, and the numbers that it reads there,
+/// against the fields of the book.
+#[test]
+fn columns() {
+    let mut generator = Generator::new(seed());
+    for _ in 0..2_000 {
+        let bytes = generator.any_book();
+        let Ok(book) = questions_1_to_7(&bytes) else {
+            continue;
+        };
+        let form = daybook::field_wise(&bytes).expect("the form of an accepted book");
+        let columns = Columns::of(&form).expect("a form");
+        assert_eq!(columns.length(), Some(form.len()));
+        let header = Header::from_bytes(&form);
+        let expected = books::forms::columns(&header).into_iter();
+        let expected = expected.map(|column| (column.start, column.width, column.count));
+        let told = columns.all().filter(|(_, column)| column.count > 0);
+        let told = told.map(|(_, column)| (column.offset, column.width, column.count));
+        assert!(told.eq(expected));
+        for (field, column) in columns.all() {
+            let found: Vec<i128> = match field.is_signed() {
+                true => column.signed(&form).map(i128::from).collect(),
+                false => column.unsigned(&form).map(i128::from).collect(),
+            };
+            assert_eq!(found, numbers(&book, field), "{field:?}");
+        }
+    }
+}
+
+/// A field of all records of a book.
+fn numbers(book: &Book, field: Field) -> Vec<i128> {
+    if field.is_of_trades() {
+        let of_trade = |trade: &Trade| match field {
+            Field::Seller => trade.seller.into(),
+            Field::Buyer => trade.buyer.into(),
+            Field::Area => trade.area.into(),
+            Field::Kind => trade.kind.into(),
+            Field::Day => trade.day.into(),
+            Field::Notified => trade.notified.0,
+            Field::Standing => trade.standing.0,
+            _ => 0,
+        };
+        return book.trades.iter().map(of_trade).collect();
+    }
+    let of_user = |user: &User| match field {
+        Field::Id => user.id.into(),
+        Field::Role => user.role.into(),
+        Field::PhysicalPvb => user.physical[0].0,
+        Field::PhysicalTvb => user.physical[1].0,
+        Field::PhysicalAvb => user.physical[2].0,
+        Field::PositionPvb => user.position[0].0,
+        Field::PositionTvb => user.position[1].0,
+        Field::PositionAvb => user.position[2].0,
+        Field::Charges => user.charges.0,
+        Field::Assigned => user.assigned.0,
+        Field::Blocked => user.blocked.0,
+        Field::ManagerPvb => user.managers[0].into(),
+        Field::ManagerTvb => user.managers[1].into(),
+        Field::ManagerAvb => user.managers[2].into(),
+        _ => 0,
+    };
+    book.users.iter().map(of_user).collect()
 }

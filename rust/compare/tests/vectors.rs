@@ -15,13 +15,12 @@ fn every_call_of_the_archive() {
     assert_eq!(asks::replay(engine::answer), with_log);
 }
 
-/// What the types of `daybook` cannot say, lists with columns of several counts, the
-/// start of a log of another length and outputs that are too short, goes to the
-/// archive.
+/// What the types of `daybook` cannot say, lists with columns of several counts and
+/// the start of a log of another length, goes to the archive.
 #[test]
 fn every_call_of_daybook() {
     let answer: Implementation = |book, store, log, call| {
-        if typed::has(book, log.as_deref(), call) {
+        if typed::has(call, log.as_deref()) {
             typed::answer(book, store, log, call)
         } else {
             engine::answer(book, store, log, call)
