@@ -146,15 +146,12 @@ def restore(form: Union[Form, Bytes]) -> bytes:
 def read_column(file: BinaryIO, field: str) -> memoryview:
     """One field of all records of a form in a file: nothing is read but its first 8 bytes and the
     column, where the file is opened without a buffer (`open(path, "rb", buffering=0)`). The form is not
-    judged, since it is not read; one that ends before the column, or has not the field, is a
-    `ValueError`."""
+    judged, since it is not read: a `ValueError` where it does not begin as a form or ends before the
+    column, a `KeyError` where its version has not the field."""
     file.seek(0)
-    columns = Columns.of(file.read(COUNTS_LENGTH))
-    if field not in columns:
-        raise ValueError(f"no form with {field}: version {columns.version} has not this field")
-    column = columns[field]
+    column = Columns.of(file.read(COUNTS_LENGTH))[field]
     file.seek(column.offset)
     numbers = file.read(column.end - column.offset)
     if len(numbers) != column.end - column.offset:
-        raise ValueError(f"no form: it ends before the column of {field}")
+        raise ValueError(f"no form: it ends before the column of {field} does")
     return typed(field, numbers)

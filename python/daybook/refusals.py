@@ -28,7 +28,7 @@ QUESTIONS = {
     27: "every balance within ±500,000,000 kWh?",
     28: "at most 64 users?",
     29: "does the form yield an accepted book?",
-    30: "is the output long enough for the form or its book?",
+    30: "is the output long enough?",
 }
 """The questions by their numbers."""
 

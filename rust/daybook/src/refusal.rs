@@ -130,7 +130,7 @@ impl Refusal {
             Refusal::WorthOfTrades => "are all eligible trades together worth the target?",
             Refusal::Tries => "1 to 65,535 tries?",
             Refusal::Form => "does the form yield an accepted book?",
-            Refusal::FormRoom => "is the output long enough for the form or its book?",
+            Refusal::FormRoom => "is the output long enough?",
         }
     }
 }
