@@ -32,10 +32,12 @@
  *   25  cancellation: 1 to 65,535 tries? (asked after 17 and before 8)
  *   27  return: every balance within 500,000,000 kWh either way?
  *   28  return: at most 64 users? (asked before 27)
+ *   29  restore: does the form yield an accepted book?
+ *   30  form, restore: is the output long enough? (asked last)
  *  255  the part lent for the answer, the marks, the record or the image is not of the length that the function asks for
  *
- * After a number from 1 to 28 the answer, the marks, the record or the image is all 0, the places beside a list are as they were, and book and log are byte for byte the
- * same; but a run that stops with 20 keeps its cuts and their entries, and its answer has their totals. After 255 nothing at all is changed.
+ * After a number from 1 to 30 the answer, the marks, the record or the image is all 0, the places beside a list and an output are as they were, and book and log are byte
+ * for byte the same; but a run that stops with 20 keeps its cuts and their entries, and its answer has their totals. After 255 nothing at all is changed.
  */
 #ifndef DAYBOOK_H
 #define DAYBOOK_H
@@ -125,6 +127,17 @@ uint32_t daybook_read(const uint8_t *book, size_t book_len, uint8_t *image, size
    bytes so written would fail, 3 where `out` is of another length; `out` is then unchanged. */
 uint32_t daybook_write(const uint8_t *image, size_t image_len, uint8_t *out, size_t out_len);
 
+/* Writes a book field by field to the front of an output: its header with the mark GDF, all ids, all roles, and so on through the user and then the trade fields. The fields
+   of a user are id (4 bytes), role (1), zero bytes (3), physical entry in three areas (4 each), position in three areas (4 each), charges, assigned and blocked (8 each), in
+   version 3 then the manager in three areas (4 each); those of a trade seller and buyer (4 each), area, kind, day and a zero byte (1 each), notified and standing (4 each).
+   Users and trades begin where they begin in the book, and the column of a field then as many bytes on as the widths of the fields before it times the count: daybook_column
+   tells it. The form has the book's length; a longer output keeps its rest, and a refused call leaves the output. */
+uint32_t daybook_form(const uint8_t *book, size_t book_len, uint8_t *out, size_t out_len);
+
+/* Writes the book of such a form, of any version, to the front of an output, in the same way: the bytes that the form was made of. Only the form of a book that passes the
+   questions 1 to 7 is accepted; everything else is 29, whatever the output (proved: crates/book_columns/specs/Statements.antt). */
+uint32_t daybook_restore(const uint8_t *form, size_t form_len, uint8_t *out, size_t out_len);
+
 /* Copies the record of the user of an id to a part of DAYBOOK_RECORD_SIZE bytes, with 0 behind it where the book's version has the shorter record. */
 uint32_t daybook_show(const uint8_t *book, size_t book_len, uint32_t with_store, const uint8_t *store,
                       size_t store_len, uint32_t id, uint8_t *record, size_t record_len);
@@ -211,6 +224,71 @@ uint32_t daybook_shrinkage_return(const int64_t *balances, size_t balances_len, 
 
 /* A share over 30 days: the whole part per day, the remainder spread one kWh a day from the first; DAYBOOK_SHRINKAGE_DAYS: the days. No share is refused. */
 uint32_t daybook_shrinkage_days(uint64_t share, uint64_t *answer, size_t answer_len);
+
+/* ---- where a field stands in the form of a book (daybook_form), told without the archive */
+
+/* The fields of a form in the order of their columns: those of users, then those of trades. Each area's number is a field, and so is each run of zero bytes. Versions 1 and
+   2 have no managers. */
+typedef enum daybook_field {
+    DAYBOOK_FIELD_ID,
+    DAYBOOK_FIELD_ROLE,
+    DAYBOOK_FIELD_USER_ZEROS,
+    DAYBOOK_FIELD_PHYSICAL_PVB,
+    DAYBOOK_FIELD_PHYSICAL_TVB,
+    DAYBOOK_FIELD_PHYSICAL_AVB,
+    DAYBOOK_FIELD_POSITION_PVB,
+    DAYBOOK_FIELD_POSITION_TVB,
+    DAYBOOK_FIELD_POSITION_AVB,
+    DAYBOOK_FIELD_CHARGES,
+    DAYBOOK_FIELD_ASSIGNED,
+    DAYBOOK_FIELD_BLOCKED,
+    DAYBOOK_FIELD_MANAGER_PVB,
+    DAYBOOK_FIELD_MANAGER_TVB,
+    DAYBOOK_FIELD_MANAGER_AVB,
+    DAYBOOK_FIELD_SELLER,
+    DAYBOOK_FIELD_BUYER,
+    DAYBOOK_FIELD_AREA,
+    DAYBOOK_FIELD_KIND,
+    DAYBOOK_FIELD_DAY,
+    DAYBOOK_FIELD_TRADE_ZERO,
+    DAYBOOK_FIELD_NOTIFIED,
+    DAYBOOK_FIELD_STANDING
+} daybook_field;
+#define DAYBOOK_FIELDS 23
+
+/* Version and counts, from the first DAYBOOK_COUNTS_SIZE bytes of a form or of a book. */
+#define DAYBOOK_COUNTS_SIZE 8
+#define DAYBOOK_VERSION(form) ((uint32_t)((form)[3] | (form)[4] << 8))
+#define DAYBOOK_USERS(form) ((size_t)(form)[5])
+#define DAYBOOK_TRADES(form) ((size_t)((form)[6] | (form)[7] << 8))
+
+/* Where a field of all records stands: `count` numbers of `width` bytes each, the lowest byte first, one after the other from `offset` on. */
+typedef struct daybook_span {
+    size_t offset;
+    size_t width;
+    size_t count;
+} daybook_span;
+
+/* The column of a field in the form of a book of a version with so many users and trades; no byte of it is looked at or copied. All three numbers are 0 for a field that the
+   version has not, and for an unknown version or field. A form that daybook_restore accepts has all of its columns; of other bytes ask first whether the column ends in them:
+   offset + width * count. */
+static inline daybook_span daybook_column(daybook_field field, uint32_t version, size_t users, size_t trades)
+{
+    static const uint8_t widths[DAYBOOK_FIELDS] = {4, 1, 3, 4, 4, 4, 4, 4, 4, 8, 8, 8, 4, 4, 4, 4, 4, 1, 1, 1, 1, 4, 4};
+    const unsigned place = (unsigned)field, first_manager = DAYBOOK_FIELD_MANAGER_PVB, first_of_trades = DAYBOOK_FIELD_SELLER;
+    daybook_span column = {0, 0, 0};
+    unsigned before;
+
+    if (version < 1 || version > 3 || place >= DAYBOOK_FIELDS || (version < 3 && place >= first_manager && place < first_of_trades))
+        return column;
+    column.offset = version == 1 ? DAYBOOK_HEADER_SIZE_1 : DAYBOOK_HEADER_SIZE_2;
+    for (before = 0; before < place; before++)
+        if (version == 3 || before < first_manager || before >= first_of_trades)
+            column.offset += widths[before] * (before < first_of_trades ? users : trades);
+    column.width = widths[place];
+    column.count = place < first_of_trades ? users : trades;
+    return column;
+}
 
 #ifdef __cplusplus
 }

@@ -376,6 +376,6 @@ pub fn expect(number: u32) {
 }
 
 /// The answer of an accepted call, which the compiler has to have computed.
-fn accept<T, E>(answer: Result<T, E>) {
+pub fn accept<T, E>(answer: Result<T, E>) {
     assert!(black_box(&answer).is_ok(), "a refused call");
 }

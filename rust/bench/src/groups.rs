@@ -108,6 +108,16 @@ fn print_row(name: &str, books: [(&Book, u32); 2], call: Call, options: &Options
     );
 }
 
+/// The subject of version 2 as one of version 3, with groups.
+pub fn in_groups(subject: &Subject) -> Subject {
+    let second = questions_1_to_7(&subject.book).expect("an accepted book");
+    Subject {
+        version: 3,
+        book: grouped(&second).to_bytes(),
+        ..*subject
+    }
+}
+
 /// The book in version 3: shippers one after the other in groups, in each area
 /// another one of them the manager, so that a manager is managed in other areas.
 fn grouped(book: &Book) -> Book {

@@ -6,6 +6,7 @@
 #![forbid(unsafe_code)]
 
 mod calls;
+mod forms;
 mod groups;
 mod hard;
 mod logs;
@@ -32,9 +33,11 @@ fn main() -> ExitCode {
     for subject in subjects::usual_books(&options) {
         calls::print_table(&subject, &options);
         logs::print_table(&subject, &options);
+        forms::print_table(&subject, &options);
     }
     for subject in subjects::books_for_groups(&options) {
         groups::print_table(&subject, &options);
+        forms::print_table(&groups::in_groups(&subject), &options);
     }
     for version in options.versions.iter().filter(|version| **version < 3) {
         if options.has_book("wide") {

@@ -40,6 +40,10 @@ fn every_book_is_measured() {
         "list of 512 lines",
         "a list of 512 lines takes the time of",
         "cancellation, 65535",
+        "largest book, version 1: field-wise form",
+        "largest book, version 2: field-wise form",
+        "largest book, version 3: field-wise form",
+        "restore by a loop in Rust",
     ] {
         assert!(text.contains(word), "{word} in\n{text}");
     }

@@ -11,7 +11,7 @@ use crate::sha256::{hex, sha256};
 use crate::vectors::{bytes_of, folder};
 
 /// Lines of `asks/calls.txt`.
-pub const CALLS: usize = 4_239;
+pub const CALLS: usize = 4_287;
 
 /// Those of them with a log, starts of one among them.
 pub const CALLS_WITH_LOG: usize = 549;
@@ -58,6 +58,7 @@ impl Line {
             Some(name) => file(name),
             // A write is lent no book.
             None if name == "write" => Vec::new(),
+            None if name == "from_form" => words.part("form"),
             None => words.part("morning"),
         };
         let log = words.value("log").and_then(|log| logged(log, &book, left));
@@ -81,8 +82,14 @@ impl Line {
             } if *pick => afternoon,
             _ => &book,
         };
-        if !matches!(call, Call::Start | Call::Write { .. }) {
+        if !matches!(
+            call,
+            Call::Start | Call::Write { .. } | Call::Restore { .. }
+        ) {
             text.push_str(&format!(" book={}", sha256(told)));
+        }
+        if has_output(call) {
+            text.push_str(&format!(" out={}", sha256(&found.part)));
         }
         if let Some(log) = &log {
             text.push_str(&format!(" log={}", sha256(log)));
@@ -193,8 +200,22 @@ fn call(name: &str, words: &Words<'_>) -> Call {
             image: Box::new(words.part("image").try_into().expect("an image")),
             length: words.number("out"),
         },
+        "to_form" => Call::Form {
+            length: words.number("out"),
+        },
+        "from_form" => Call::Restore {
+            length: words.number("out"),
+        },
         call => panic!("no such call: {call}"),
     }
+}
+
+/// Whether the call writes into an output, which is told after the book.
+fn has_output(call: &Call) -> bool {
+    matches!(
+        call,
+        Call::Write { .. } | Call::Form { .. } | Call::Restore { .. }
+    )
 }
 
 /// The number and the fields of the answer in the words of the file.
@@ -220,7 +241,6 @@ fn keyed(call: &Call, found: &Answer) -> String {
             text.push_str(&format!(" part={}", hex(&found.part)));
         }
         Call::Read => text.push_str(&format!(" fields={}", sha256(&found.part))),
-        Call::Write { .. } => text.push_str(&format!(" out={}", sha256(&found.part))),
         _ => {}
     }
     for (name, field) in names.iter().zip(&found.fields) {

@@ -6,6 +6,9 @@ use reference::transfer::Image;
 /// What each place beside a list holds before the call.
 pub const PLACE_BEFORE: u32 = 99;
 
+/// What each byte of an output holds before the call.
+pub const OUTPUT_BEFORE: u8 = 0xAA;
+
 /// One call, with its arguments. Book, store and log are lent apart.
 #[derive(Clone, Debug, PartialEq, Eq)]
 pub enum Call {
@@ -57,16 +60,25 @@ pub enum Call {
     /// The log lent is started from the book.
     Start,
     Read,
-    /// The image is written into a part of this length, each byte 0xAA before.
+    /// The image is written into a part of this length.
     Write {
         image: Box<Image>,
+        length: usize,
+    },
+    /// The field-wise form is written into an output of this length.
+    Form {
+        length: usize,
+    },
+    /// The bytes lent as the book are a form; its book is written into an output of
+    /// this length.
+    Restore {
         length: usize,
     },
     Day,
 }
 
 impl Call {
-    pub const NAMES: [&'static str; 17] = [
+    pub const NAMES: [&'static str; 19] = [
         "posting",
         "list",
         "show",
@@ -83,6 +95,8 @@ impl Call {
         "start",
         "read",
         "write",
+        "form",
+        "restore",
         "day",
     ];
 
@@ -90,7 +104,12 @@ impl Call {
     pub fn takes_store(&self) -> bool {
         !matches!(
             self,
-            Call::Start | Call::Read | Call::Write { .. } | Call::Day
+            Call::Start
+                | Call::Read
+                | Call::Write { .. }
+                | Call::Form { .. }
+                | Call::Restore { .. }
+                | Call::Day
         )
     }
 
@@ -126,7 +145,9 @@ impl Call {
             Call::Start => 13,
             Call::Read => 14,
             Call::Write { .. } => 15,
-            Call::Day => 16,
+            Call::Form { .. } => 16,
+            Call::Restore { .. } => 17,
+            Call::Day => 18,
         };
         Call::NAMES[place]
     }
@@ -141,8 +162,8 @@ pub struct Answer {
     /// over; excess, tries, complete; reductions, MWh, worth; MWh, worth; else
     /// empty.
     pub fields: Vec<i128>,
-    /// The shown record, the 256 marks of a cancellation, the image read, the part
-    /// written into, or the printed day; else empty.
+    /// The shown record, the 256 marks of a cancellation, the image read, the part or
+    /// output written into, or the printed day; else empty.
     pub part: Vec<u8>,
 }
 
@@ -164,6 +185,18 @@ impl Answer {
             number,
             fields: fields.collect(),
             part: Vec::new(),
+        }
+    }
+
+    /// The number of a call that writes into an output of this length, and the output
+    /// as the call leaves it.
+    pub fn of_output(length: usize, call: impl FnOnce(&mut [u8]) -> u32) -> Answer {
+        let mut output = vec![OUTPUT_BEFORE; length];
+        let number = call(&mut output);
+        Answer {
+            number,
+            fields: Vec::new(),
+            part: output,
         }
     }
 
@@ -259,9 +292,11 @@ pub fn answer(
             Answer::of_part(number, &image)
         }
         Call::Write { image, length } => {
-            let mut part = vec![0xAA; *length];
-            let number = reference::write(image, &mut part);
-            Answer::of_part(number, &part)
+            Answer::of_output(*length, |part| reference::write(image, part))
+        }
+        Call::Form { length } => Answer::of_output(*length, |output| reference::form(book, output)),
+        Call::Restore { length } => {
+            Answer::of_output(*length, |output| reference::restore(book, output))
         }
         Call::Day => {
             let text = reference::day(book);

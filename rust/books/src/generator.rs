@@ -310,7 +310,7 @@ impl Generator {
     /// reductions is not drawn.
     pub fn call(&mut self, book: &[u8], store: Option<&[u8]>) -> Call {
         let Arguments { id, pick, .. } = self.arguments(book);
-        match self.random.below(17) {
+        match self.random.below(18) {
             0 => Call::Show { id },
             1 => Call::ShowPicked {
                 afternoon: self.small_book(),
@@ -324,6 +324,7 @@ impl Generator {
             6 => self.write(),
             7 if is_short_run(book, None) => Call::Day,
             8 => self.cancellation(book, store),
+            9 => self.form(book),
             _ => self.changing_call(book, store),
         }
     }

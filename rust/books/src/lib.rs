@@ -1,4 +1,4 @@
-//! Test support: a seeded generator of day books, stores, logs and calls that reach
+//! Test support: a seeded generator of day books, stores, logs, forms and calls that reach
 //! every branch of document 01 and of the asks of document 02, the answers of the
 //! reference and of the tuned implementation to them, and the outside vectors.
 
@@ -10,6 +10,7 @@ pub mod calls;
 pub mod cancellations;
 pub mod credits;
 pub mod damage;
+pub mod forms;
 pub mod generator;
 pub mod groups;
 pub mod hard;

@@ -1,5 +1,6 @@
 //! The answers of the tuned implementation to the calls that take a store, without
-//! a log. It knows versions 1 and 2 of the book.
+//! a log, and to those between a book and its form. It knows versions 1 and 2 of the
+//! book.
 
 use reference::book::{length, user_length, MOST_USERS};
 use reference::transfer::Image;
@@ -62,7 +63,7 @@ fn parts() -> impl Iterator<Item = (usize, usize, usize)> {
 }
 
 /// The answer to a call with this store, or none; the book is changed as the
-/// call says. None for a call that takes no store, and for a withdrawal.
+/// call says. None for a withdrawal, a start, reading, writing and the printed day.
 pub fn answer(book: &mut [u8], store: Option<&[u8]>, call: &Call) -> Option<Answer> {
     let answer = match call {
         Call::Posting { id, area, amount } => {
@@ -105,6 +106,12 @@ pub fn answer(book: &mut [u8], store: Option<&[u8]>, call: &Call) -> Option<Answ
             cancellation(tuned::cancellation(book, store, *id, *tries))
         }
         Call::Run => run(requests::run(book, store)),
+        Call::Form { length } => {
+            Answer::of_output(*length, |output| number(tuned::form(book, output)))
+        }
+        Call::Restore { length } => {
+            Answer::of_output(*length, |output| number(tuned::restore(book, output)))
+        }
         Call::Withdrawal | Call::Start | Call::Read | Call::Write { .. } | Call::Day => {
             return None
         }
@@ -139,6 +146,8 @@ pub fn plain_answer(book: &mut [u8], call: &Call) -> Option<Answer> {
         | Call::Start
         | Call::Read
         | Call::Write { .. }
+        | Call::Form { .. }
+        | Call::Restore { .. }
         | Call::Day => return None,
     };
     Some(answer)

@@ -51,8 +51,9 @@ fn numbers(name: &str) -> Vec<u32> {
         "cancellation" => [(0..=9).collect(), vec![11, 13, 14, 24, 25]].concat(),
         "run" | "read" | "day" => (0..=7).collect(),
         "write" => [vec![0], (2..=7).collect()].concat(),
-        // Drawn with logs: tests/logs.rs.
-        "withdrawal" | "start" => Vec::new(),
+        "form" => [(0..=7).collect(), vec![30]].concat(),
+        // Drawn with logs, tests/logs.rs, and with forms, tests/forms.rs.
+        "withdrawal" | "start" | "restore" => Vec::new(),
         _ => (0..=9).collect(),
     }
 }
@@ -214,7 +215,7 @@ fn print_and_judge(counts: &Counts) {
     let mut required: Vec<String> = branches.map(|branch| branch.to_string()).collect();
     required.extend(
         (0..=15)
-            .chain([24, 25])
+            .chain([24, 25, 30])
             .map(|number| format!("number {number}")),
     );
     for name in Call::NAMES {

@@ -104,7 +104,16 @@ fn every_call_reaches_16_and_17() {
     }
     println!("{reached:?}");
     for name in Call::NAMES {
-        let takes_store = !["withdrawal", "start", "read", "write", "day"].contains(&name);
+        let others = [
+            "withdrawal",
+            "start",
+            "read",
+            "write",
+            "form",
+            "restore",
+            "day",
+        ];
+        let takes_store = !others.contains(&name);
         for number in [0, 16, 17] {
             assert_eq!(
                 reached.contains_key(&(name, number)),

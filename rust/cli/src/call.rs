@@ -7,7 +7,7 @@ use daybook::{Log, Refusal, Request, User};
 
 use crate::arguments::{id, Arguments};
 use crate::files::{self, Held};
-use crate::form::{csv_row, Form};
+use crate::form::Form;
 use crate::json::Object;
 use crate::log_file::{noted, LogFile};
 use crate::outcome::{Failure, Outcome};
@@ -128,15 +128,7 @@ impl Call {
     pub fn tell(&self, outcome: &mut Outcome, line: String, object: Object) {
         match self.form {
             Form::Words => outcome.line(line),
-            Form::Json => outcome.line(object.end()),
-            Form::Csv => {
-                let (names, fields): (Vec<String>, Vec<String>) =
-                    object.columns().into_iter().unzip();
-                if outcome.out.is_empty() {
-                    outcome.line(csv_row(names));
-                }
-                outcome.line(csv_row(fields));
-            }
+            form => outcome.object(form, object),
         }
     }
 

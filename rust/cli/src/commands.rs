@@ -6,8 +6,8 @@ use crate::arguments::{Arguments, Known};
 use crate::files::is_standard;
 use crate::outcome::{Failure, Outcome};
 use crate::{
-    calls, cancel, change, check, compare, convert, due, explain, list, log, parameters, report,
-    run, shrinkage, status, table, withdraw,
+    calls, cancel, change, check, compare, convert, due, explain, field_wise, list, log,
+    parameters, report, run, shrinkage, status, table, withdraw,
 };
 
 /// A command of the program.
@@ -68,6 +68,13 @@ pub const COMMANDS: &[Command] = &[
         page: include_str!("../help/from-csv.txt"),
         options: &[OUTPUT, FORCE],
         run: convert::from_csv,
+    },
+    Command {
+        name: "fields",
+        about: "a book field by field for an archive, and back; one field of all records",
+        page: include_str!("../help/fields.txt"),
+        options: &[Known::Value("--column"), OUTPUT, FORCE, CSV, JSON],
+        run: field_wise::fields,
     },
     Command {
         name: "status",

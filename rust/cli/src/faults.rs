@@ -12,8 +12,8 @@ use daybook::{
 };
 
 use crate::fields::{
-    date_fault, fields, has_selling_tariffs, prices, two, Field, Place, FIRST_LINES, MARK, PRICES,
-    SHORT_HEADER, VERSIONS,
+    date_fault, fields, has_selling_tariffs, prices, two, Field, Place, FIRST_LINES, FORM_MARK,
+    MARK, PRICES, SHORT_HEADER, VERSIONS,
 };
 use crate::groups::manager_faults;
 use crate::words::{counted, euros, grouped, AREAS};
@@ -112,6 +112,9 @@ fn mark(bytes: &[u8]) -> Vec<Fault> {
         let start: Vec<String> = bytes.iter().take(3).map(|it| format!("{it:02x}")).collect();
         let start = start.join(" ");
         let hint = match is_text(bytes) {
+            _ if bytes.starts_with(FORM_MARK) => {
+                "; it is field-wise, and `daybook fields FORM -o BOOK` gives its book".to_string()
+            }
             true => format!("; a text starts with the line {FIRST_LINES}"),
             false => String::new(),
         };

@@ -9,6 +9,9 @@ use crate::words::{self, AREAS};
 /// The mark that a book starts with.
 pub const MARK: &[u8] = b"GDB";
 
+/// The mark that the field-wise form of a book starts with.
+pub const FORM_MARK: &[u8] = b"GDF";
+
 /// Bytes of the shortest header, that of version 1.
 pub const SHORT_HEADER: usize = 32;
 

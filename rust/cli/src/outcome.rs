@@ -3,6 +3,9 @@
 
 use std::fmt::Display;
 
+use crate::form::{csv_row, Form};
+use crate::json::Object;
+
 /// The exit status; of two the later one counts.
 #[derive(Clone, Copy, Debug, Default, PartialEq, Eq, PartialOrd, Ord)]
 pub enum Status {
@@ -49,6 +52,19 @@ impl Outcome {
     /// Adds a line to standard output.
     pub fn line(&mut self, line: impl Display) {
         self.out.extend(format!("{line}\n").into_bytes());
+    }
+
+    /// Adds an object to standard output, or its row, before the first of which stand
+    /// the names of the columns.
+    pub fn object(&mut self, form: Form, object: Object) {
+        if form != Form::Csv {
+            return self.line(object.end());
+        }
+        let (names, fields): (Vec<String>, Vec<String>) = object.columns().into_iter().unzip();
+        if self.out.is_empty() {
+            self.line(csv_row(names));
+        }
+        self.line(csv_row(fields));
     }
 
     /// Adds text to standard output as it is.

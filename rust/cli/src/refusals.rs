@@ -7,6 +7,7 @@ use daybook::Refusal;
 use crate::draft::{Mistake, Spot};
 use crate::faults::Fault;
 use crate::fields::Place;
+use crate::form::or_null;
 use crate::json::{list, quoted, Object};
 use crate::log_faults::log_fault;
 use crate::log_file::LogFile;
@@ -35,19 +36,54 @@ pub fn refused(refusal: Refusal) -> String {
 /// A refused book: the question, then the fields at fault, a line each.
 pub fn of_book(name: &str, refusal: Refusal, faults: &[(Option<Spot>, Fault)]) -> Failure {
     let mut lines = vec![format!("{name}: {}", refused(refusal))];
-    for (spot, fault) in faults.iter().take(MOST_FAULTS) {
-        let spot = spot.map_or_else(String::new, |spot| spot.to_string());
-        lines.push(format!("{name}{spot}: {fault}"));
-    }
-    if faults.len() > MOST_FAULTS {
-        lines.push(format!("{name}: and {} more", faults.len() - MOST_FAULTS));
-    }
+    let places = faults.iter().map(|(spot, fault)| (spot.as_ref(), fault));
+    lines.extend(fault_lines(name, places.clone()));
+    let faults = places.map(|(spot, fault)| fault_object(spot, fault));
     let object = Object::new()
         .string("book", name)
         .put("accepted", false)
         .put("number", refusal.number())
         .string("question", &question(refusal))
-        .put("faults", list(faults.iter().map(fault_object)));
+        .put("faults", list(faults));
+    told(lines.join("\n"), object)
+}
+
+/// The first faults, a line each, and how many there are more.
+fn fault_lines<'a>(
+    name: &str,
+    faults: impl ExactSizeIterator<Item = (Option<&'a Spot>, &'a Fault)>,
+) -> Vec<String> {
+    let more = faults.len().saturating_sub(MOST_FAULTS);
+    let line = |(spot, fault): (Option<&Spot>, &Fault)| {
+        let spot = spot.map_or_else(String::new, Spot::to_string);
+        format!("{name}{spot}: {fault}")
+    };
+    let mut lines: Vec<String> = faults.take(MOST_FAULTS).map(line).collect();
+    if more > 0 {
+        lines.push(format!("{name}: and {more} more"));
+    }
+    lines
+}
+
+/// A refused form: the question, then which one its book fails, and the fields at
+/// fault, a line each.
+pub fn of_form(
+    name: &str,
+    refusal: Refusal,
+    of_book: Option<Refusal>,
+    faults: &[Fault],
+) -> Failure {
+    let mut lines = vec![format!("{name}: {}", refused(refusal))];
+    lines.extend(of_book.map(|it| format!("{name}: its book is {}", refused(it))));
+    lines.extend(fault_lines(name, faults.iter().map(|fault| (None, fault))));
+    let faults = faults.iter().map(|fault| fault_object(None, fault));
+    let object = Object::new()
+        .string("book", name)
+        .put("accepted", false)
+        .put("number", refusal.number())
+        .string("question", &question(refusal))
+        .put("book_number", or_null(of_book.map(Refusal::number)))
+        .put("faults", list(faults));
     told(lines.join("\n"), object)
 }
 
@@ -148,7 +184,7 @@ fn told(message: String, object: Object) -> Failure {
     })
 }
 
-fn fault_object((spot, fault): &(Option<Spot>, Fault)) -> String {
+fn fault_object(spot: Option<&Spot>, fault: &Fault) -> String {
     let (record, place) = match fault.place {
         Place::Header => ("header", None),
         Place::User(place) => ("user", Some(place + 1)),

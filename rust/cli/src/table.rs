@@ -87,7 +87,7 @@ pub fn table(arguments: &Arguments) -> Result<Outcome, Failure> {
 
 /// The files of a folder by name, hidden ones and folders in it left out; any other
 /// file is one by itself.
-fn books(path: &Path) -> Result<Vec<PathBuf>, Failure> {
+pub fn books(path: &Path) -> Result<Vec<PathBuf>, Failure> {
     if files::is_standard(path) || !path.is_dir() {
         return Ok(vec![path.to_path_buf()]);
     }

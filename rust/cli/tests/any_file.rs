@@ -214,7 +214,38 @@ fn converted(folder: &Path, book: &Path, bytes: &[u8]) {
         assert_eq!((made.status.code(), made.out.as_slice()), (0, bytes));
     }
     assert_eq!(done(&format!("book {book} -o -")).status.code(), 1);
+    let made = done(&format!("fields {book} -o -"));
+    assert_eq!(made.status.code(), refused);
+    let column = done(&format!("fields --column standing {book}"));
+    assert_eq!(column.status.code(), refused);
+    as_form(folder, bytes, made.out);
     assert!(done(&format!("shrinkage {book}")).status.code() < 2);
+}
+
+/// The form of an accepted book gives it back; any other bytes with a form's mark are
+/// refused, and the question that their book fails is told.
+fn as_form(folder: &Path, bytes: &[u8], form: Vec<u8>) {
+    let is_form = !form.is_empty();
+    let form = match is_form {
+        true => form,
+        false => [b"GDF", bytes.get(3..).unwrap_or_default()].concat(),
+    };
+    let file = folder.join("form");
+    fs::write(&file, form).expect("a form");
+    let file = file.display();
+    let made = done(&format!("fields {file} -o -"));
+    match is_form {
+        true => assert_eq!((made.status.code(), made.out.as_slice()), (0, bytes)),
+        false => {
+            assert_eq!((made.status.code(), made.out.len()), (1, 0));
+            let told = &made.messages;
+            assert!(
+                told.contains(": its book is refused by question "),
+                "{told}"
+            );
+            assert!(told.lines().count() > 2, "{told}");
+        }
+    }
 }
 
 /// Words that no command takes, and missing ones, are misuse.

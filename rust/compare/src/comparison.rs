@@ -23,6 +23,9 @@ const LOGGED_SEQUENCES: usize = 4;
 /// One call in so many of those on a chosen book is made with a log too.
 const LOGGED_CALLS: usize = 12;
 
+/// Before one drawn call in so many the inverse is made of a form of the book.
+const RESTORES: usize = 12;
+
 /// A call that a side answered otherwise than the reference.
 #[derive(Clone, Debug)]
 pub struct Difference {
@@ -133,6 +136,10 @@ impl Comparison {
             }
             self.calls_left -= 1;
             let mut book = std::mem::take(&mut self.book);
+            if self.generator.random().one_in(RESTORES) {
+                let (mut form, call) = self.generator.restore(&book);
+                self.call(&mut form, &call);
+            }
             let store = self.store.take();
             match self.log.take() {
                 Some(kept) => {
@@ -267,8 +274,8 @@ impl Comparison {
     }
 
     /// Each kind of call on one user, with an id, an area and an amount, each
-    /// on its own copy of the book; then the calls without a user. Those that
-    /// take a store are made with one too.
+    /// on its own copy of the book; then the calls without a user, among them the
+    /// inverse of a form of the book. Those that take a store are made with one too.
     pub fn every_call(&mut self, book: &[u8], (id, area, amount): (u32, u32, i64)) {
         let afternoon = self.generator.book(Kind::Small);
         let mut calls = vec![
@@ -295,6 +302,9 @@ impl Comparison {
         if books::generator::is_short_run(book, None) {
             calls.extend([Call::Run, Call::Day]);
         }
+        calls.push(self.generator.form(book));
+        let (mut form, restore) = self.generator.restore(book);
+        self.call(&mut form, &restore);
         for call in calls {
             self.call(&mut book.to_vec(), &call);
             if call.takes_log() && self.generator.random().one_in(LOGGED_CALLS) {

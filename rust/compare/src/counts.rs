@@ -4,11 +4,13 @@ use std::fmt::{self, Display, Formatter};
 
 use books::Call;
 use reference::book::{Header, MARK};
+use reference::form::FORM_MARK;
 use reference::version::FIRST_HEADER_LENGTH;
 
 /// The numbers: 0 for an accepted call, 1 to 14 for a refusal of document 01, 15
-/// for one of ask 1, 16 and 17 of ask 4, 18 to 20 of ask 6, 24 and 25 of ask 8.
-pub const NUMBERS: usize = 26;
+/// for one of ask 1, 16 and 17 of ask 4, 18 to 20 of ask 6, 24 and 25 of ask 8, 29
+/// and 30 of ask 13.
+pub const NUMBERS: usize = 31;
 
 /// What a call is made on.
 #[derive(Clone, Copy, Debug, PartialEq, Eq)]
@@ -24,18 +26,19 @@ impl Version {
     pub const ALL: [Version; 4] = [Version::One, Version::Two, Version::Three, Version::Other];
 
     /// The version of the bytes that are questioned: the book, the picked one of
-    /// two, or the fields to write, of which the mark is not looked at.
+    /// two, the form, or the fields to write, of which the mark is not looked at.
     pub fn of(book: &[u8], call: &Call) -> Version {
-        let bytes = match call {
+        let (bytes, mark) = match call {
             Call::Write { image, .. } => return Version::of_header(&image[..]),
             Call::ShowPicked {
                 afternoon,
                 pick: true,
                 ..
-            } => afternoon,
-            _ => book,
+            } => (&afternoon[..], MARK),
+            Call::Restore { .. } => (book, FORM_MARK),
+            _ => (book, MARK),
         };
-        if bytes.len() >= FIRST_HEADER_LENGTH && bytes.starts_with(MARK) {
+        if bytes.len() >= FIRST_HEADER_LENGTH && bytes.starts_with(mark) {
             Version::of_header(bytes)
         } else {
             Version::Other
@@ -144,6 +147,10 @@ pub fn possible(version: Version, name: &str) -> Vec<usize> {
         "withdrawal" => (7, &[16, 17, 18, 19]),
         // It asks nothing of the book but its length.
         "start" => return vec![0, 19],
+        "form" => (7, &[30]),
+        // Whatever is wrong with a form has one number.
+        "restore" if version == Version::Other => return vec![29],
+        "restore" => return vec![0, 29, 30],
         _ => (7, &[]),
     };
     let mut numbers: Vec<usize> = (0..=last).chain(more.iter().copied()).collect();

@@ -58,9 +58,11 @@ pub fn answer(
             Answer::of_part(number, &image)
         }
         Call::Write { image, length } => {
-            let mut part = vec![0xAA; *length];
-            let number = archive::write(&image[..], &mut part);
-            Answer::of_part(number, &part)
+            Answer::of_output(*length, |part| archive::write(&image[..], part))
+        }
+        Call::Form { length } => Answer::of_output(*length, |output| archive::form(book, output)),
+        Call::Restore { length } => {
+            Answer::of_output(*length, |output| archive::restore(book, output))
         }
         Call::Reduction { id } => {
             fields::<5>(|part| archive::reduction(book, store, log, *id, part))

@@ -63,16 +63,12 @@ fn read(book: &[u8]) -> Answer {
 /// The part that an image was written into. The fields of the image have to
 /// give the same.
 fn write(image: &Image, length: usize) -> Answer {
-    let mut part = vec![0xAA; length];
-    let number_of_image = number(&tuned::write_image(&narrowed(image), &mut part));
-    let mut other = vec![0xAA; length];
-    let number_of_fields = number(&tuned::write(&book_of(image), &mut other));
-    assert_eq!(
-        (number_of_fields, other),
-        (number_of_image, part.clone()),
-        "fields written as the image is"
-    );
-    Answer::of_part(number_of_image, &part)
+    let of_image = Answer::of_output(length, |part| {
+        number(&tuned::write_image(&narrowed(image), part))
+    });
+    let of_fields = Answer::of_output(length, |part| number(&tuned::write(&book_of(image), part)));
+    assert_eq!(of_fields, of_image, "fields written as the image is");
+    of_image
 }
 
 /// The fields of an image with any counts; records past its places are 0.

@@ -87,11 +87,15 @@ fn requested(mut request: Request<'_>, book: &mut [u8], call: &Call) -> Answer {
             Ok(fields) => Answer::of_part(0, &fields.to_image()),
             Err(refusal) => Answer::of_part(refusal.number(), &[0; IMAGE_LENGTH]),
         },
-        Call::Write { image, length } => {
-            let mut part = vec![0xAA; *length];
-            let written = daybook::write(&book_of(image), &mut part);
-            Answer::of_part(number(&written), &part)
-        }
+        Call::Write { image, length } => Answer::of_output(*length, |part| {
+            number(&daybook::write(&book_of(image), part))
+        }),
+        Call::Form { length } => written(*length, daybook::field_wise(book), |output| {
+            daybook::field_wise_into(book, output)
+        }),
+        Call::Restore { length } => written(*length, daybook::record_wise(book), |output| {
+            daybook::record_wise_into(book, output)
+        }),
         Call::Reduction { id } => {
             let reduction = request.reduction(book, *id);
             fields(reduction.map(|done| {
@@ -106,6 +110,26 @@ fn requested(mut request: Request<'_>, book: &mut [u8], call: &Call) -> Answer {
         }
         Call::Start | Call::Day => panic!("{} takes no request", call.name()),
     }
+}
+
+/// An output of this length as a call leaves it. Where it is not too short the bytes
+/// by value have to be the same.
+fn written(
+    length: usize,
+    bytes: Result<Vec<u8>, Refusal>,
+    into: impl FnOnce(&mut [u8]) -> Result<(), Refusal>,
+) -> Answer {
+    let found = Answer::of_output(length, |output| number(&into(output)));
+    if found.number != Refusal::FormRoom.number() {
+        let by_value = Answer::of_output(length, |output| {
+            if let Ok(bytes) = &bytes {
+                output[..bytes.len()].copy_from_slice(bytes);
+            }
+            number(&bytes)
+        });
+        assert_eq!(by_value, found, "by value as into a part");
+    }
+    found
 }
 
 fn number<T>(answer: &Result<T, Refusal>) -> u32 {

@@ -12,8 +12,12 @@
 //! The engine is the archive `libexports.a`, made by `rt staticlib exports`
 //! from crates that are proved to meet the documents. This package turns its C
 //! interface into Rust types and computes nothing itself, but for the sum of
-//! [`most_reductions`]. The return of retained shrinkage is a module by itself,
-//! [`shrinkage`].
+//! [`most_reductions`] and the places of [`Columns`]. The return of retained
+//! shrinkage is a module by itself, [`shrinkage`].
+//!
+//! For archives [`field_wise`] rearranges a book such that all of its ids stand
+//! together, all of its roles, and so on; [`Columns`] tells where, and
+//! [`record_wise`] gives the book back.
 //!
 //! ```
 //! use daybook::{Book, Level, Prices, Refusal, User};
@@ -35,6 +39,8 @@ pub mod archive;
 mod book;
 mod calls;
 mod cancellation;
+mod columns;
+mod forms;
 mod list;
 mod log;
 mod refusal;
@@ -50,6 +56,8 @@ pub use calls::{
     reduction, run, show, show_picked, warning, write, GuaranteeCall, Level, Reduction, Run,
 };
 pub use cancellation::{cancellation, Cancellation, MOST_TRIES};
+pub use columns::{Column, Columns, Field};
+pub use forms::{field_wise, field_wise_into, record_wise, record_wise_into};
 pub use list::{list, Line, MOST_LINES};
 pub use log::{Log, Withdrawal, LOG_LENGTH, MOST_ENTRIES};
 pub use refusal::Refusal;

@@ -7,33 +7,59 @@ use std::fmt::{self, Display, Formatter};
 #[derive(Clone, Copy, Debug, PartialEq, Eq, PartialOrd, Ord, Hash)]
 #[repr(u32)]
 pub enum Refusal {
+    /// At least 32 bytes, starting with the mark?
     Mark = 1,
+    /// Version 1, 2 or 3?
     Version = 2,
+    /// Counts in range, and the length exactly that of version and counts?
     CountsAndLength = 3,
+    /// Date, prices, tolls and selling tariffs in range?
     DateAndPrices = 4,
+    /// Every user field valid, managers too, positions apart?
     Users = 5,
+    /// Every trade valid?
     Trades = 6,
+    /// Every position as defined?
     Positions = 7,
+    /// Id in the book?
     Id = 8,
+    /// A shipper?
     Shipper = 9,
+    /// Posting: area 0 to 2, and the new physical entry within ±1,000,000?
     Entry = 10,
+    /// Level − blocked above the figure, and, but for the morning call, user called in?
     CalledIn = 11,
+    /// Guarantee call: assigned ≥ level?
     AssignedCoversLevel = 12,
+    /// Reduction, cancellation: assigned < level?
     AssignedBelowLevel = 13,
+    /// Reduction, cancellation: has the user an eligible trade?
     EligibleTrade = 14,
+    /// List: at most 512 lines, columns and places of one count? Asked after 7.
     Lines = 15,
+    /// Is the store well formed? Asked where one is given, after 7 and 15.
     StoreForm = 16,
+    /// Has the store a set in force on the book's date? Asked after 16.
     SetInForce = 17,
+    /// Withdrawal: has the log an entry? Asked last.
     LogEmpty = 18,
+    /// Is the log one for the book? Asked where one is given, after 17.
     LogForm = 19,
+    /// Reduction: has the log room for one more entry? Asked last.
     LogFull = 20,
+    /// Cancellation: are all eligible trades together worth the target? Asked last.
     WorthOfTrades = 24,
+    /// Cancellation: 1 to 65,535 tries? Asked after 17.
     Tries = 25,
+    /// Does the form yield an accepted book? Asked by the inverse of a form, first.
+    Form = 29,
+    /// Is the output long enough for the form, or for its book? Asked last.
+    FormRoom = 30,
 }
 
 impl Refusal {
     /// Every refusal, in the order of the numbers.
-    pub const ALL: [Refusal; 22] = [
+    pub const ALL: [Refusal; 24] = [
         Refusal::Mark,
         Refusal::Version,
         Refusal::CountsAndLength,
@@ -56,6 +82,8 @@ impl Refusal {
         Refusal::LogFull,
         Refusal::WorthOfTrades,
         Refusal::Tries,
+        Refusal::Form,
+        Refusal::FormRoom,
     ];
 
     /// The number of the question.
@@ -101,6 +129,8 @@ impl Refusal {
             Refusal::LogFull => "has the log room for one more entry?",
             Refusal::WorthOfTrades => "are all eligible trades together worth the target?",
             Refusal::Tries => "1 to 65,535 tries?",
+            Refusal::Form => "does the form yield an accepted book?",
+            Refusal::FormRoom => "is the output long enough?",
         }
     }
 }

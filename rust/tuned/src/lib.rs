@@ -11,7 +11,8 @@
 //! Every call takes the book as bytes. A refused call returns the number of the
 //! first question that failed, and leaves the book. The calls of document 01
 //! stand here, those with a store (document 02, ask 4) in [`requests`]; a list of
-//! postings (ask 1) is [`list()`], a whole cancellation (ask 8) [`cancellation()`].
+//! postings (ask 1) is [`list()`], a whole cancellation (ask 8) [`cancellation()`], the
+//! field-wise form of a book (ask 13) [`form()`] and its inverse [`restore()`].
 //! Version 2 of the book (ask 3) is the module `version`.
 
 #![forbid(unsafe_code)]
@@ -19,6 +20,7 @@
 mod account;
 mod calls;
 mod cancellation;
+mod form;
 mod gathered;
 mod list;
 mod records;
@@ -36,6 +38,7 @@ pub use calls::{
     warning, GuaranteeCall,
 };
 pub use cancellation::{cancellation, Cancellation};
+pub use form::{form, restore};
 pub use list::{list, Columns};
 pub use records::{Book, Trade, User, IMAGE_LENGTH};
 pub use reduction::{reduction, Reduction};

@@ -1,9 +1,9 @@
 //! The functions that leave a book as it is, and those that involve none.
 
 use super::{
-    daybook_afternoon_level, daybook_cancellation, daybook_morning_level, daybook_read,
-    daybook_show, daybook_show_picked, daybook_shrinkage_days, daybook_shrinkage_return,
-    daybook_warning, daybook_write, lent,
+    daybook_afternoon_level, daybook_cancellation, daybook_form, daybook_morning_level,
+    daybook_read, daybook_restore, daybook_show, daybook_show_picked, daybook_shrinkage_days,
+    daybook_shrinkage_return, daybook_warning, daybook_write, lent,
 };
 
 /// Reads a book into an image of 9,512 bytes.
@@ -18,6 +18,22 @@ pub fn write(image: &[u8], part: &mut [u8]) -> u32 {
     // SAFETY: each pointer comes with the length of its slice, both slices live through the call,
     // and the part, lent by &mut, does not overlap the image.
     unsafe { daybook_write(image.as_ptr(), image.len(), part.as_mut_ptr(), part.len()) }
+}
+
+/// Writes a book field by field to the front of a part, which keeps its rest; a
+/// refusal, 1 to 7 or 30, leaves it.
+pub fn form(book: &[u8], part: &mut [u8]) -> u32 {
+    // SAFETY: each pointer comes with the length of its slice, both slices live through the call,
+    // and the part, lent by &mut, does not overlap the book.
+    unsafe { daybook_form(book.as_ptr(), book.len(), part.as_mut_ptr(), part.len()) }
+}
+
+/// Writes the book of a form to the front of a part, which keeps its rest; a
+/// refusal, 29 or 30, leaves it.
+pub fn restore(form: &[u8], part: &mut [u8]) -> u32 {
+    // SAFETY: each pointer comes with the length of its slice, both slices live through the call,
+    // and the part, lent by &mut, does not overlap the form.
+    unsafe { daybook_restore(form.as_ptr(), form.len(), part.as_mut_ptr(), part.len()) }
 }
 
 /// Copies a user's record into 68 bytes.
