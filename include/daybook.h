@@ -127,6 +127,10 @@ uint32_t daybook_read(const uint8_t *book, size_t book_len, uint8_t *image, size
    bytes so written would fail, 3 where `out` is of another length; `out` is then unchanged. */
 uint32_t daybook_write(const uint8_t *image, size_t image_len, uint8_t *out, size_t out_len);
 
+/* Writes a book as a version, 1, 2 or 3, also its own, to the front of an output; a longer output keeps its rest. Fields that the book's version lacks are 0; where a field
+   that is not 0 would be lost the call is refused with 21. A refused call leaves the output. */
+uint32_t daybook_convert(const uint8_t *book, size_t book_len, uint32_t version, uint8_t *out, size_t out_len);
+
 /* Writes a book field by field to the front of an output: its header with the mark GDF, all ids, all roles, and so on through the user and then the trade fields. The fields
    of a user are id (4 bytes), role (1), zero bytes (3), physical entry in three areas (4 each), position in three areas (4 each), charges, assigned and blocked (8 each), in
    version 3 then the manager in three areas (4 each); those of a trade seller and buyer (4 each), area, kind, day and a zero byte (1 each), notified and standing (4 each).
