@@ -43,8 +43,8 @@ impl Version {
 /// that version 1 has not, or a manager that versions 1 and 2 have not, the call is
 /// refused with [`Refusal::InformationLost`].
 ///
-/// Upwards nothing is lost, and the way back gives the first bytes; a book of a later
-/// version with none of its fields in use answers as before. Both are proved.
+/// Upwards nothing is lost: no level, call, warning, reduction or run answers
+/// otherwise, and the way back gives the first bytes. Both are proved.
 ///
 /// ```
 /// use daybook::{Refusal, Version};
