@@ -43,8 +43,9 @@ impl Version {
 /// that version 1 has not, or a manager that versions 1 and 2 have not, the call is
 /// refused with [`Refusal::InformationLost`].
 ///
-/// Upwards nothing is lost: no level, call, warning, reduction or run answers
-/// otherwise, and the way back gives the first bytes. Both are proved.
+/// Upwards nothing is lost. Wherever nothing is, no call without a log answers
+/// otherwise on the book as the other version, and the way back gives the first
+/// bytes; both are proved.
 ///
 /// ```
 /// use daybook::{Refusal, Version};
