@@ -27,7 +27,7 @@ int main(int argc, char **argv)
         return 1;
     }
     /* the length that was written follows from version and counts */
-    length = DAYBOOK_HEADER_SIZE(converted) + DAYBOOK_USER_SIZE(converted) * DAYBOOK_USERS(converted) + DAYBOOK_TRADE_SIZE * DAYBOOK_TRADES(converted);
+    length = DAYBOOK_LENGTH_AS(DAYBOOK_VERSION(converted), DAYBOOK_USERS(converted), DAYBOOK_TRADES(converted));
     file = fopen(argv[3], "wb");
     if (file == NULL || fwrite(converted, 1, length, file) != length || fclose(file) != 0) {
         perror(argv[3]);
