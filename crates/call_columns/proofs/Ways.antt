@@ -1,18 +1,15 @@
 -- The ways out of the two calls. Assumes nothing.
 use mathlib.Core.Bool.{true, false}
 use mathlib.Core.List.{List, _++_}
-use mathlib.Core.Option.{some}
 use mathlib.Core.Path.{_≡_, refl, ap, _∙_}
-use Prim.Native.Nat.{ℕ, _+_, _*_, _<_, _≤_}
+use Prim.Native.Nat.{ℕ, _+_, _<_, _≤_}
 use native.Mathlib.Nat.{mul-le-mul-left}
 use native.Mathlib.Omega.{arith}
 use lib.Dec.{T, eqb}
 use lib.ListN.{length, take, drop, length-append, length-drop}
 use lib.Seq.{take-at, take-length}
-use borrow.Author.Tests.{lt-leb}
-use Rattle.base.proofs.Tests.{and-l, holds}
-use Rattle.rules.specs.Questions.{decided, refusal}
-use Rattle.laws.proofs.Refusals.{yes-first}
+use Rattle.base.proofs.Tests.{holds}
+use Rattle.rules.specs.Questions.{decided}
 use Rattle.book_format.specs.Book.{mark, tradesAt, userAt, userCount, versionOf}
 use Rattle.book_format.specs.Questions.{aboutBytes, bookNumber}
 use Rattle.book_format.proofs.Formed.{bytes-numbered}
@@ -21,7 +18,7 @@ use Rattle.book_format.proofs.Passed.{passed}
 use Rattle.outputs.specs.Output.{Wrote, accepted, refused, written}
 use Rattle.outputs.proofs.Ways.{wrote-all, wrote-opened, wrote-refused}
 use Rattle.book_columns.specs.Form.{Laid, bookFrom, formMark, formOf, rearranged, shaped, yields}
-use Rattle.book_columns.specs.Calls.{aboutForm, aboutRoom, restored, stored, storedAfter}
+use Rattle.book_columns.specs.Calls.{aboutRoom, restored, stored, storedAfter}
 use Rattle.book_columns.proofs.Rearranged.{length-rearranged}
 use Rattle.book_columns.proofs.Forms.{field-wise, formed-laid, length-bookFrom, no-room, room-asked, room-given, shaped-laid}
 use Rattle.call_columns.specs.Rebuilt.{Rebuilt, longest}

@@ -8,7 +8,7 @@ use native.Mathlib.Nat.{mul-zero, mul-suc, zero-mul, add-comm, add-mul}
 use lib.ListN.{length, take, drop, replicate, length-append, length-drop, length-replicate, take-append-drop}
 use lib.Seq.{length-take-le, drop-at, take-at, take-add, take-all}
 use Rattle.fields.specs.Layout.{recordsOf, bytesOfRecords, size, Every}
-use Rattle.fields.proofs.Records.{length-recordsOf, recordsOf-bytesOfRecords}
+use Rattle.fields.proofs.Records.{length-recordsOf}
 use Rattle.columns.specs.Columns.{arranged, byField, byRecord, fieldWise, joined, recordWise}
 use Rattle.columns.specs.Statements.{Rearranges}
 

@@ -1,15 +1,15 @@
 -- Fields that are moved one column at a time: from records to columns, and from columns to records. Assumes nothing.
 use Prim.Native.Nat.{ℕ, zero, suc, _+_, _*_, _≤_}
 use mathlib.Core.Path.{_≡_, refl, sym, ap, ap₂, _∙_}
-use mathlib.Core.List.{List, [], _∷_, _++_, map, append-assoc, append-nil}
+use mathlib.Core.List.{List, [], _∷_, _++_, map, append-assoc}
 use native.Mathlib.Omega.{arith}
-use native.Mathlib.Nat.{add-assoc, add-comm, add-zero, zero-add, mul-suc, add-mul}
+use native.Mathlib.Nat.{zero-add, mul-suc, add-mul}
 use lib.ListN.{length, take, drop, replicate, length-append, length-drop, length-replicate}
 use lib.Seq.{sets, sets-eq, length-sets, length-take-le, take-take, take-all, drop-drop}
 use Rattle.fields.specs.Layout.{recordsOf, bytesOfRecords, size, Every}
 use Rattle.fields.proofs.Records.{length-recordsOf}
 use Rattle.fields.proofs.Sets.{sets-append, sets-left, sets-right, take-of-drop}
-use Rattle.columns.specs.Columns.{byField, byRecord, fieldWise, joined, recordWise}
+use Rattle.columns.specs.Columns.{byRecord, joined, recordWise}
 use Rattle.columns.specs.Moves.{moved}
 use Rattle.columns.proofs.Columnar.{Sized, empties, empty-sized, joined-sized, length-joined, length-map, length-recordWise, parts-sized, parts-whole, shorter}
 

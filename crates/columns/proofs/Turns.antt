@@ -7,7 +7,7 @@ use mathlib.Core.List.{List, [], _∷_, _++_, map, append-assoc, append-nil}
 use native.Mathlib.Omega.{arith}
 use native.Mathlib.Numerals.{add-one}
 use native.Mathlib.Nat.{add-zero, mul-zero, mul-suc, add-mul, sub-zero, zero-mul, mul-le-mul-left, not-suc-le-zero, le-of-suc-le-suc}
-use lib.ListN.{length, getD, take, drop, length-append, length-drop, drop-of-length-le}
+use lib.ListN.{length, getD, take, drop, length-drop, drop-of-length-le}
 use lib.Seq.{sets, drop-cons, drop-drop, take-length, take-add, length-sets, length-take-le}
 use Rattle.fields.specs.Field.{AllBytes, field, setField}
 use Rattle.fields.specs.Layout.{recordsOf, bytesOfRecords, size, Every}

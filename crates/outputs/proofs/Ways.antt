@@ -1,7 +1,7 @@
 -- The ways out of a call that writes to an output: an opening question refuses, one of its own does, none does. Assumes nothing.
 use mathlib.Core.List.{List, _++_}
 use mathlib.Core.Option.{none, some}
-use mathlib.Core.Path.{_≡_, refl, subst, sym}
+use mathlib.Core.Path.{_≡_, refl}
 use Prim.Native.Nat.{ℕ, zero, suc}
 use lib.Dec.{T}
 use lib.ListN.{drop, length}
@@ -28,9 +28,9 @@ module _ (questions : List Question) (bytes out : List ℕ) where
   -- none of them, but one of the call's own
   pub wrote-refused : {number n : ℕ} → number ≡ 0 → refusal questions ≡ some n → Wrote (writtenAfter number questions bytes out) n out
   unfolding writtenAfter written after refused decided
-  wrote-refused e q = rw (e, q) (record { answer = refl; output = refl })
+  wrote-refused {number} {n} e q = rw (e, q) (record { answer = refl; output = refl })
 
   -- none
   pub wrote-all : {number : ℕ} {after' : List ℕ} → number ≡ 0 → refusal questions ≡ none → after' ≡ bytes ++ drop (length bytes) out → Wrote (writtenAfter number questions bytes out) 0 after'
   unfolding writtenAfter written after accepted decided
-  wrote-all e q w = rw (e, q) (record { answer = refl; output = w })
+  wrote-all {number} {after'} e q w = rw (e, q) (record { answer = refl; output = w })

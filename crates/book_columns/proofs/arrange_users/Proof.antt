@@ -2,7 +2,6 @@
 use mathlib.Core.Bool.{true, false}
 use mathlib.Core.Path.{_≡_, refl, sym, ap, _∙_}
 use Prim.Native.Nat.{ℕ, _*_}
-use native.Mathlib.Omega.{arith}
 use Rattle.fields.specs.Layout.{size}
 use Rattle.rules.specs.Areas.{managersIn}
 use Rattle.book_records.specs.User.{amountWidths, managerWidths, recordSize, userWidths}

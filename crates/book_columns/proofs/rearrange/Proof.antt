@@ -1,10 +1,9 @@
 -- `rearrange` writes header, users and trades one after the other. Assumes nothing.
-use mathlib.Core.Path.{_≡_, sym, ap, _∙_}
+use mathlib.Core.Path.{_≡_, ap, _∙_}
 use Prim.Native.Nat.{ℕ, _+_, _*_}
 use native.Mathlib.Omega.{arith}
 use denote.Ref.{now}
 use lib.ListN.{length}
-use lib.Seq.{length-sets}
 use Rattle.book_format.specs.Book.{tradeSize, userSize}
 use Rattle.book_columns.proofs.Written.{all-written, parts-long}
 use borrow.Author.Needs.{needs}
