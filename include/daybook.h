@@ -36,8 +36,8 @@
  *   30  form, restore: is the output long enough? (asked last)
  *  255  the part lent for the answer, the marks, the record or the image is not of the length that the function asks for
  *
- * After a number from 1 to 28 the answer, the marks, the record or the image is all 0, the places beside a list are as they were, and book and log are byte for byte the
- * same; but a run that stops with 20 keeps its cuts and their entries, and its answer has their totals. After 255 nothing at all is changed.
+ * After a number from 1 to 30 the answer, the marks, the record or the image is all 0, the places beside a list and an output are as they were, and book and log are byte
+ * for byte the same; but a run that stops with 20 keeps its cuts and their entries, and its answer has their totals. After 255 nothing at all is changed.
  */
 #ifndef DAYBOOK_H
 #define DAYBOOK_H
@@ -127,11 +127,19 @@ uint32_t daybook_read(const uint8_t *book, size_t book_len, uint8_t *image, size
    bytes so written would fail, 3 where `out` is of another length; `out` is then unchanged. */
 uint32_t daybook_write(const uint8_t *image, size_t image_len, uint8_t *out, size_t out_len);
 
-/* Writes a book field by field to the front of an output: its header with the mark GDF, all ids, all roles, and so on through the user and then the trade fields. The form
-   has the book's length; a longer output keeps its rest, and a refused call leaves the output. */
+/* Writes a book as a version, 1, 2 or 3, also its own, to the front of an output; a longer output keeps its rest. Fields that the book's version lacks are 0; where a field
+   that is not 0 would be lost the call is refused with 21. A refused call leaves the output. */
+uint32_t daybook_convert(const uint8_t *book, size_t book_len, uint32_t version, uint8_t *out, size_t out_len);
+
+/* Writes a book field by field to the front of an output: its header with the mark GDF, all ids, all roles, and so on through the user and then the trade fields. The fields
+   of a user are id (4 bytes), role (1), zero bytes (3), physical entry in three areas (4 each), position in three areas (4 each), charges, assigned and blocked (8 each), in
+   version 3 then the manager in three areas (4 each); those of a trade seller and buyer (4 each), area, kind, day and a zero byte (1 each), notified and standing (4 each).
+   Users and trades begin where they begin in the book, and the column of a field then as many bytes on as the widths of the fields before it times the count: daybook_column
+   tells it. The form has the book's length; a longer output keeps its rest, and a refused call leaves the output. */
 uint32_t daybook_form(const uint8_t *book, size_t book_len, uint8_t *out, size_t out_len);
 
-/* Writes the book of such a form to the front of an output, in the same way. */
+/* Writes the book of such a form, of any version, to the front of an output, in the same way: the bytes that the form was made of. Only the form of a book that passes the
+   questions 1 to 7 is accepted; everything else is 29, whatever the output (proved: crates/book_columns/specs/Statements.antt). */
 uint32_t daybook_restore(const uint8_t *form, size_t form_len, uint8_t *out, size_t out_len);
 
 /* Copies the record of the user of an id to a part of DAYBOOK_RECORD_SIZE bytes, with 0 behind it where the book's version has the shorter record. */

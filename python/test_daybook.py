@@ -1,4 +1,4 @@
-"""Tests of daybook.py: its examples, the outside vectors of rust/vectors, hostile arguments."""
+"""Tests of the module daybook: its examples, the outside vectors of rust/vectors, hostile arguments."""
 
 from __future__ import annotations
 
@@ -19,7 +19,8 @@ VECTORS = Path(__file__).resolve().parent.parent / "rust" / "vectors"
 
 def load_tests(loader: unittest.TestLoader, tests: unittest.TestSuite, pattern: object) -> unittest.TestSuite:
     """The examples of the module are tests, too."""
-    tests.addTests(doctest.DocTestSuite(daybook))
+    for module in (daybook, daybook.forms, daybook.shrinkage):
+        tests.addTests(doctest.DocTestSuite(module))
     return tests
 
 

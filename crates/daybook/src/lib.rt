@@ -39,6 +39,11 @@ use call_answers::WarningAnswer;
 use call_cancellation::CancellationAnswer;
 use call_logged::WithdrawalAnswer;
 
+mod storage;
+
+pub use storage::form;
+pub use storage::restore;
+
 // The book that bytes hold, every field of it, and 0; or a book whose every field is 0 and the number of the first of the questions 1 to 7
 // that is answered by no.
 pub fn read(bytes: &[u8]) -> Opening

@@ -8,6 +8,8 @@ ghost use Rattle.requests.specs.Request.{settingOf};
 ghost use Rattle.call_level.specs.Times.{queryOf};
 ghost use Rattle.call_warning.specs.Warned.{warningOf};
 ghost use Rattle.call_show.specs.Shown.{picked};
+ghost use Rattle.outputs.specs.Output.{Wrote};
+ghost use Rattle.book_columns.specs.Calls.{restored, stored};
 ghost use Rattle.exports_answers.specs.Numbers.{levelNumbers, warningNumbers};
 ghost use Rattle.exports.specs.Answers.{isYes, storeBy, Replied, Copied};
 ghost use Rattle.exports.specs.Answers.{ReadInto, WrittenFrom, ReturnedInto, SpreadInto, CancelledInto};
@@ -208,6 +210,24 @@ pub extern "C" fn daybook_cancellation(
     }
     let cancellation = daybook::cancellation(book, with_store != 0, store, id, tries);
     exports_cancellation::store_cancellation(marks, answer, cancellation)
+}
+
+// ---- a book in another layout, in a lent output
+
+// Writes a book field by field to the front of an output.
+#[no_mangle]
+pub extern "C" fn daybook_form(book: &[u8], out: &mut [u8]) -> u32
+    ensures { λ r. ⌜ Wrote (stored (now (book .entry)) (now (out .entry))) r (now (out .exit)) ⌝ }
+{
+    daybook::form(book, out)
+}
+
+// Writes the book of such a form to the front of an output.
+#[no_mangle]
+pub extern "C" fn daybook_restore(form: &[u8], out: &mut [u8]) -> u32
+    ensures { λ r. ⌜ Wrote (restored (now (form .entry)) (now (out .entry))) r (now (out .exit)) ⌝ }
+{
+    daybook::restore(form, out)
 }
 
 // ---- the return of shrinkage, without a book

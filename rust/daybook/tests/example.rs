@@ -322,7 +322,10 @@ fn refused_writes() {
 
 #[test]
 fn refusals_have_the_numbers_of_the_questions() {
-    for (refusal, number) in Refusal::ALL.into_iter().zip((1..=20).chain(24..=25)) {
+    for (refusal, number) in Refusal::ALL
+        .into_iter()
+        .zip((1..=20).chain(24..=25).chain(29..=30))
+    {
         assert_eq!(refusal.number(), number);
         assert_eq!(Refusal::from_number(number), Some(refusal));
     }

@@ -1,0 +1,26 @@
+-- `copy_marked` copies the header over the whole part, and sets the mark there. Assumes nothing.
+use mathlib.Core.Path.{ap, _∙_}
+use denote.Ref.{now}
+use borrow.Author.Needs.{needs}
+use Rattle.fields.specs.Field.{setField}
+use Rattle.book_columns.proofs.Written.{all-copied}
+use Rattle.book_columns.proofs.copy_marked.Statement.{statement}
+use Rattle.book_columns.proofs.copy_marked.Tie as tie
+
+copy-requires : tie.Need-copy-requires
+copy-requires c κs = search needs
+
+put-requires : tie.Need-put-requires
+put-requires c κs = search needs
+
+same-length : tie.Need-same-length
+same-length c = search needs
+
+returns : tie.Need-returns
+returns c =
+    let s = c .before .before .before .before .before .before .before .before .before .before in
+    let a = s .args in
+    c .before .before .put .ensures ∙ ap (setField 3 0 (a .mark)) (c .before .before .before .before .before .before .copy .ensures .1 ∙ all-copied (now (a .s)) (now (a .out)) (s .pre .0))
+
+pub copy-marked-spec : {M : Type 1} → statement M
+copy-marked-spec = tie.close (tie.spec copy-requires put-requires same-length returns)

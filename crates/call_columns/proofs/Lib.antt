@@ -1,0 +1,2 @@
+-- The ways out of the two calls.
+pub mod Ways

@@ -1,0 +1,2 @@
+-- A book rebuilt from its form.
+pub mod Rebuilt

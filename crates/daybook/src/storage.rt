@@ -1,0 +1,20 @@
+// A book written another way to a lent output: field by field, and back. A refused call leaves the output as it is, a longer output keeps
+// its rest. What is said at the head of lib.rt holds of them.
+ghost use Rattle.outputs.specs.Output.{Wrote};
+ghost use Rattle.book_columns.specs.Calls.{restored, stored};
+
+// Writes a book field by field to the front of an output, and answers 0; or the number of the first question that is answered by no.
+pub fn form(book: &[u8], out: &mut [u8]) -> u32
+    ensures { λ r. ⌜ Wrote (stored (now (book .entry)) (now (out .entry))) r (now (out .exit)) ⌝ }
+{
+    let number = book_questions::number(book);
+    call_columns::form(book, number, out)
+}
+
+// Writes the book of such a form to the front of an output, and answers 0; or 29 where the form yields no accepted book, 30 where the
+// output is too short.
+pub fn restore(form: &[u8], out: &mut [u8]) -> u32
+    ensures { λ r. ⌜ Wrote (restored (now (form .entry)) (now (out .entry))) r (now (out .exit)) ⌝ }
+{
+    call_columns::restore(form, out)
+}

@@ -1,0 +1,2 @@
+-- The ways out of a call that writes to an output.
+pub mod Ways

@@ -1,0 +1,2 @@
+-- What a call that writes to a lent output gives.
+pub mod Output
