@@ -3,6 +3,7 @@
 
 use reference::book::{length, Book};
 use reference::questions::questions_1_to_7;
+use reference::units::Price;
 use reference::version::FIRST_HEADER_LENGTH;
 
 use crate::calls::Call;
@@ -15,17 +16,37 @@ use crate::versions::{in_version_1, without_credit, without_managers, VERSIONS};
 /// Versions that there are not.
 const UNKNOWN: [u32; 9] = [0, 4, 255, 256, 257, 259, 65_537, 65_539, u32::MAX];
 
-/// The book with fewer fields that a conversion can lose, mostly with none: in any
-/// version, without selling tariffs and managers, or without one of them.
+/// The book with fewer fields that a conversion can lose: in any version, mostly with
+/// none; else without selling tariffs or managers, with managers in one area alone, or
+/// with one selling tariff alone.
 fn losing_less(random: &mut Random, book: &Book) -> Book {
-    match random.below(4) {
+    match random.below(8) {
         0 => without_credit(book),
         1 => without_managers(book),
+        2 => in_one_area(random, &without_credit(book)),
+        3 => {
+            let mut book = without_managers(book);
+            let tariffs = [&mut book.prices.s, &mut book.prices.u];
+            *tariffs[random.below(2)] = Price(0);
+            book
+        }
         _ => Book {
             version: random.pick(&VERSIONS),
             ..in_version_1(book)
         },
     }
+}
+
+/// The book with the managers of one area alone.
+fn in_one_area(random: &mut Random, book: &Book) -> Book {
+    let mut book = book.clone();
+    let area = random.below(3);
+    for user in &mut book.users {
+        let manager = user.managers[area];
+        user.managers = [0; 3];
+        user.managers[area] = manager;
+    }
+    book
 }
 
 impl Generator {

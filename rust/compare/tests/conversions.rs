@@ -8,6 +8,7 @@
 use books::conversions::length_as;
 use books::damage::version_of;
 use books::versions::{in_version_1, VERSIONS};
+use books::written::{book, shipper};
 use books::{Call, Damage, Generator, Kind};
 use compare::settings::{comparison, seed};
 use compare::{engine, Comparison};
@@ -104,6 +105,24 @@ fn every_loss() {
                 book.users[*member].managers[area] = book.users[*manager].id;
                 conversions(&mut comparison, &book.to_bytes());
             }
+        }
+    }
+    comparison.expect_none();
+}
+
+/// Managers whose ids have one byte that is not 0.
+#[test]
+fn every_byte_of_a_loss() {
+    let mut comparison = comparison("every_byte_of_a_loss");
+    let ids = [1, 1 << 8, 1 << 16, 1 << 24];
+    let users = ids.map(|id| shipper(id, [0; 3], 0, 0, 0));
+    let book = book(users.to_vec(), Vec::new());
+    for (member, manager) in [(0, 1), (0, 2), (0, 3), (3, 0)] {
+        for area in 0..3 {
+            let mut book = book.clone();
+            book.version = 3;
+            book.users[member].managers[area] = ids[manager];
+            conversions(&mut comparison, &book.to_bytes());
         }
     }
     comparison.expect_none();
