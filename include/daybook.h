@@ -28,6 +28,9 @@
  *   18  withdrawal: has the log an entry? (asked last)
  *   19  is the log one for the book? (asked where a log is given, after 17 and before 8; by daybook_start_log: a log of DAYBOOK_LOG_SIZE bytes, a book of at most 9,512?)
  *   20  reduction: has the log room for one more entry? (asked last; a run stops with it where one more reduction is due)
+ *   21  conversion: is no information lost? (asked after 23)
+ *   22  conversion: is the output long enough? (asked last)
+ *   23  conversion: is the target version known? (asked after 7)
  *   24  cancellation: are all eligible trades together worth the target? (asked last)
  *   25  cancellation: 1 to 65,535 tries? (asked after 17 and before 8)
  *   27  return: every balance within 500,000,000 kWh either way?
@@ -79,6 +82,11 @@
 #define DAYBOOK_HEADER_SIZE(book) ((book)[3] == 1 ? DAYBOOK_HEADER_SIZE_1 : DAYBOOK_HEADER_SIZE_2)
 #define DAYBOOK_USER_SIZE(book) ((book)[3] == 3 ? DAYBOOK_USER_SIZE_3 : DAYBOOK_USER_SIZE_1)
 
+/* The length of a book as a version, by the counts of its users and trades. */
+#define DAYBOOK_LENGTH_AS(version, users, trades)                                                        \
+    (((version) == 1 ? DAYBOOK_HEADER_SIZE_1 : DAYBOOK_HEADER_SIZE_2)                                     \
+     + ((version) == 3 ? DAYBOOK_USER_SIZE_3 : DAYBOOK_USER_SIZE_1) * (size_t)(users) + DAYBOOK_TRADE_SIZE * (size_t)(trades))
+
 /* A book has 1 to 64 users and at most 256 trades. */
 #define DAYBOOK_MAX_USERS 64
 #define DAYBOOK_MAX_TRADES 256
@@ -126,6 +134,12 @@ uint32_t daybook_read(const uint8_t *book, size_t book_len, uint8_t *image, size
    image has there; S and U of version 1 and the managers of versions 1 and 2 are neither written nor looked at. Refused with the first of the questions 2 to 7 that the
    bytes so written would fail, 3 where `out` is of another length; `out` is then unchanged. */
 uint32_t daybook_write(const uint8_t *image, size_t image_len, uint8_t *out, size_t out_len);
+
+/* Writes a book as a version, 1, 2 or 3, also its own, to the front of an output; a longer output keeps its rest. Fields that the book's version lacks are 0. Where a manager
+   other than 0 would be lost, or on the way to 1 a selling tariff other than 0, the call is refused with 21. A refused call leaves the output. How long the book then is
+   follows from the counts, which stay: DAYBOOK_LENGTH_AS. Back again it is the first bytes, and no other call without a log answers otherwise on it (proved:
+   crates/conversions/specs/Statements.antt). */
+uint32_t daybook_convert(const uint8_t *book, size_t book_len, uint32_t version, uint8_t *out, size_t out_len);
 
 /* Writes a book field by field to the front of an output: its header with the mark GDF, all ids, all roles, and so on through the user and then the trade fields. The fields
    of a user are id (4 bytes), role (1), zero bytes (3), physical entry in three areas (4 each), position in three areas (4 each), charges, assigned and blocked (8 each), in

@@ -1,6 +1,7 @@
 /* Calls every function of daybook.h on hostile input, but daybook_list (hostile_lists.c), daybook_cancellation (hostile_cancellations.c), daybook_form and daybook_restore
-   (hostile_forms.c), and without a log (hostile_logs.c): hostile BOOK. Each part is a block of exactly its length, so that valgrind sees a byte read or written outside it
-   (the script `valgrind` beside this file). What a caller can tell is held against the header: the numbers, the 0 of a refused answer, and what stays unchanged. */
+   (hostile_forms.c), daybook_convert (hostile_conversions.c), and without a log (hostile_logs.c): hostile BOOK. Each part is a block of exactly its length, so that valgrind
+   sees a byte read or written outside it (the script `valgrind` beside this file). What a caller can tell is held against the header: the numbers, the 0 of a refused
+   answer, and what stays unchanged. */
 #include "hostile.h"
 
 enum { LONGEST = DAYBOOK_IMAGE_SIZE + 60 };

@@ -48,6 +48,17 @@ in PVB; 204 keeps its charges. Without a manager it bears its own risk:
 >>> daybook.level_table(daybook.write(alone))[::3]
 [(201, 130000000, 120500000), (204, 28000000, 28000000)]
 
+A book of one version is written as another, unless something would be lost:
+
+>>> daybook.read(daybook.convert(book, 3)).users[0].managers
+(0, 0, 0)
+>>> daybook.convert(daybook.convert(book, 3), 1) == book
+True
+>>> daybook.convert(daybook.write(group), 2)
+Traceback (most recent call last):
+    ...
+daybook.Refused: refused by question 21: is no information lost?
+
 A log of reductions is bytes, too. Calls that may change a book take one as
 `log=`, or none, and hand back the log after them beside the book; with it the
 last reduction is withdrawn:
@@ -71,14 +82,14 @@ back; `read_column` draws one field of a form from a file, and nothing else:
 >>> daybook.restore(form) == book
 True
 
-Every call but `read`, `write`, `start_log`, `form` and `restore` takes a store of parameter sets
-in bytes as `store=`, or none. `python/build` makes the shared object that is called, from
+Every call but `read`, `write`, `convert`, `start_log`, `form` and `restore` takes a store of
+parameter sets in bytes as `store=`, or none. `python/build` makes the shared object that is called, from
 the engine's archive; DAYBOOK_LIBRARY names another one.
 """
 
 from .answers import Cancellation, GuaranteeCall, Posting, PostingList, Reduction, Run, Withdrawal
 from .calls import (
-    afternoon_call, afternoon_level, cancellation, level_table, morning_call, morning_level, most_reductions, posting,
+    afternoon_call, afternoon_level, cancellation, convert, level_table, morning_call, morning_level, most_reductions, posting,
     posting_list, read, reduction, run, show, show_picked, start_log, warning, withdrawal, write,
 )
 from .fields import (
@@ -92,7 +103,7 @@ __all__ = [
     "AVB", "BILATERAL", "Book", "CLEARING_HOUSE", "COUNTERPARTY", "Cancellation", "Column", "Columns", "FIELDS",
     "Form", "GuaranteeCall", "PLATFORM", "PVB", "Posting", "PostingList", "Prices", "QUESTIONS", "Reduction",
     "Refused", "Return", "Run", "SHIPPER", "Share", "TVB", "Trade", "User", "Withdrawal", "afternoon_call",
-    "afternoon_level", "cancellation", "form", "level_table", "morning_call", "morning_level", "most_reductions",
+    "afternoon_level", "cancellation", "convert", "form", "level_table", "morning_call", "morning_level", "most_reductions",
     "over_days", "posting", "posting_list", "read", "read_column", "reduction", "restore", "run", "show",
     "show_picked", "shrinkage_return", "start_log", "warning", "withdrawal", "write",
 ]

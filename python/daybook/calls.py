@@ -55,6 +55,16 @@ def write(book: Book) -> bytes:
     return part.bytes
 
 
+def convert(book: Bytes, version: int) -> bytes:
+    """The book as a version, 1, 2 or 3, its own too. Fields that its version has not are 0; where one
+    that is not 0 would be lost, a selling tariff or a manager, it is refused with 21."""
+    number = ctypes.c_uint32(in_range("version", version, 0, 2**32 - 1))
+    part = Part(bytes(IMAGE))
+    answered(library.daybook_convert(*Part(book).arguments, number, *part.arguments))
+    users, trades = book[5], int.from_bytes(book[6:8], "little")
+    return part.bytes[: HEADER_SIZES[version] + USER_SIZES[version] * users + TRADE.size * trades]
+
+
 def show(book: Bytes, id: int, store: Optional[Bytes] = None) -> User:
     """The record of a user."""
     record = Part(bytes(USER.size))

@@ -41,6 +41,7 @@ use call_logged::WithdrawalAnswer;
 
 mod storage;
 
+pub use storage::convert;
 pub use storage::form;
 pub use storage::restore;
 

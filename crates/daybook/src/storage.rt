@@ -1,7 +1,16 @@
-// A book written another way to a lent output: field by field, and back. A refused call leaves the output as it is, a longer output keeps
-// its rest. What is said at the head of lib.rt holds of them.
+// A book written another way to a lent output: as another version, field by field, and back. A refused call leaves the output as it is, a
+// longer output keeps its rest. What is said at the head of lib.rt holds of them.
 ghost use Rattle.outputs.specs.Output.{Wrote};
 ghost use Rattle.book_columns.specs.Calls.{restored, stored};
+ghost use Rattle.conversions.specs.Conversion.{conversion};
+
+// Writes a book as a version to the front of an output, and answers 0; or the number of the first question that is answered by no.
+pub fn convert(book: &[u8], version: u32, out: &mut [u8]) -> u32
+    ensures { λ r. ⌜ Wrote (conversion version (now (book .entry)) (now (out .entry))) r (now (out .exit)) ⌝ }
+{
+    let number = book_questions::number(book);
+    call_conversion::convert(book, number, version, out)
+}
 
 // Writes a book field by field to the front of an output, and answers 0; or the number of the first question that is answered by no.
 pub fn form(book: &[u8], out: &mut [u8]) -> u32

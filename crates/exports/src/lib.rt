@@ -10,6 +10,7 @@ ghost use Rattle.call_warning.specs.Warned.{warningOf};
 ghost use Rattle.call_show.specs.Shown.{picked};
 ghost use Rattle.outputs.specs.Output.{Wrote};
 ghost use Rattle.book_columns.specs.Calls.{restored, stored};
+ghost use Rattle.conversions.specs.Conversion.{conversion};
 ghost use Rattle.exports_answers.specs.Numbers.{levelNumbers, warningNumbers};
 ghost use Rattle.exports.specs.Answers.{isYes, storeBy, Replied, Copied};
 ghost use Rattle.exports.specs.Answers.{ReadInto, WrittenFrom, ReturnedInto, SpreadInto, CancelledInto};
@@ -212,7 +213,15 @@ pub extern "C" fn daybook_cancellation(
     exports_cancellation::store_cancellation(marks, answer, cancellation)
 }
 
-// ---- a book in another layout, in a lent output
+// ---- a book as another version or in another layout, in a lent output
+
+// Writes a book as a version to the front of an output.
+#[no_mangle]
+pub extern "C" fn daybook_convert(book: &[u8], version: u32, out: &mut [u8]) -> u32
+    ensures { λ r. ⌜ Wrote (conversion version (now (book .entry)) (now (out .entry))) r (now (out .exit)) ⌝ }
+{
+    daybook::convert(book, version, out)
+}
 
 // Writes a book field by field to the front of an output.
 #[no_mangle]

@@ -4,27 +4,20 @@
 
 use std::hint::black_box;
 
-use daybook::{archive, IMAGE_LENGTH, RECORD_LENGTH};
+use daybook::{archive, IMAGE_LENGTH};
 
 use crate::calls::{accept, expect};
 use crate::measure::{sample_time, Time};
 use crate::options::Options;
+use crate::questions::asked;
 use crate::subjects::Subject;
-
-/// The id of no user: a record shown of it ends with question 8, right after those of
-/// the book.
-const NOBODY: u32 = 0;
 
 /// A call on a book or on a form.
 type Call = fn(&mut [u8]);
 
 /// A line of the table: whether it is given the form, and the call.
 const LINES: [(&str, bool, Call); 5] = [
-    ("questions 1 to 7", false, |book| {
-        let mut record = [0; RECORD_LENGTH];
-        let number = archive::show(black_box(book), None, NOBODY, &mut record);
-        assert_eq!(number, 8);
-    }),
+    ("questions 1 to 7", false, asked),
     ("form", false, |book| {
         expect(archive::form(black_box(book), &mut [0; IMAGE_LENGTH]));
     }),

@@ -6,12 +6,14 @@
 #![forbid(unsafe_code)]
 
 mod calls;
+mod conversions;
 mod forms;
 mod groups;
 mod hard;
 mod logs;
 mod measure;
 mod options;
+mod questions;
 mod subjects;
 mod table;
 
@@ -34,10 +36,16 @@ fn main() -> ExitCode {
         calls::print_table(&subject, &options);
         logs::print_table(&subject, &options);
         forms::print_table(&subject, &options);
+        conversions::print_table(&subject, &options);
+        if subject.version == 1 {
+            conversions::print_table(&conversions::raised(&subject), &options);
+        }
     }
     for subject in subjects::books_for_groups(&options) {
         groups::print_table(&subject, &options);
-        forms::print_table(&groups::in_groups(&subject), &options);
+        let third = groups::in_groups(&subject);
+        forms::print_table(&third, &options);
+        conversions::print_table(&third, &options);
     }
     for version in options.versions.iter().filter(|version| **version < 3) {
         if options.has_book("wide") {

@@ -44,6 +44,11 @@ fn every_book_is_measured() {
         "largest book, version 2: field-wise form",
         "largest book, version 3: field-wise form",
         "restore by a loop in Rust",
+        "largest book, version 1: conversions",
+        "largest book, version 2: conversions",
+        "largest book, version 3: conversions",
+        "conversion into version 1",
+        "conversion into version 3",
     ] {
         assert!(text.contains(word), "{word} in\n{text}");
     }

@@ -11,7 +11,7 @@ use crate::sha256::{hex, sha256};
 use crate::vectors::{bytes_of, folder};
 
 /// Lines of `asks/calls.txt`.
-pub const CALLS: usize = 4_287;
+pub const CALLS: usize = 4_377;
 
 /// Those of them with a log, starts of one among them.
 pub const CALLS_WITH_LOG: usize = 549;
@@ -200,6 +200,10 @@ fn call(name: &str, words: &Words<'_>) -> Call {
             image: Box::new(words.part("image").try_into().expect("an image")),
             length: words.number("out"),
         },
+        "convert" => Call::Convert {
+            version: words.number("target"),
+            length: words.number("out"),
+        },
         "to_form" => Call::Form {
             length: words.number("out"),
         },
@@ -214,7 +218,7 @@ fn call(name: &str, words: &Words<'_>) -> Call {
 fn has_output(call: &Call) -> bool {
     matches!(
         call,
-        Call::Write { .. } | Call::Form { .. } | Call::Restore { .. }
+        Call::Write { .. } | Call::Convert { .. } | Call::Form { .. } | Call::Restore { .. }
     )
 }
 

@@ -65,6 +65,11 @@ pub enum Call {
         image: Box<Image>,
         length: usize,
     },
+    /// The book is written as one of this version into an output of this length.
+    Convert {
+        version: u32,
+        length: usize,
+    },
     /// The field-wise form is written into an output of this length.
     Form {
         length: usize,
@@ -78,7 +83,7 @@ pub enum Call {
 }
 
 impl Call {
-    pub const NAMES: [&'static str; 19] = [
+    pub const NAMES: [&'static str; 20] = [
         "posting",
         "list",
         "show",
@@ -95,6 +100,7 @@ impl Call {
         "start",
         "read",
         "write",
+        "convert",
         "form",
         "restore",
         "day",
@@ -107,6 +113,7 @@ impl Call {
             Call::Start
                 | Call::Read
                 | Call::Write { .. }
+                | Call::Convert { .. }
                 | Call::Form { .. }
                 | Call::Restore { .. }
                 | Call::Day
@@ -145,9 +152,10 @@ impl Call {
             Call::Start => 13,
             Call::Read => 14,
             Call::Write { .. } => 15,
-            Call::Form { .. } => 16,
-            Call::Restore { .. } => 17,
-            Call::Day => 18,
+            Call::Convert { .. } => 16,
+            Call::Form { .. } => 17,
+            Call::Restore { .. } => 18,
+            Call::Day => 19,
         };
         Call::NAMES[place]
     }
@@ -293,6 +301,9 @@ pub fn answer(
         }
         Call::Write { image, length } => {
             Answer::of_output(*length, |part| reference::write(image, part))
+        }
+        Call::Convert { version, length } => {
+            Answer::of_output(*length, |output| reference::convert(book, *version, output))
         }
         Call::Form { length } => Answer::of_output(*length, |output| reference::form(book, output)),
         Call::Restore { length } => {

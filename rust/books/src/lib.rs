@@ -8,6 +8,7 @@ pub mod accepted;
 pub mod asks;
 pub mod calls;
 pub mod cancellations;
+pub mod conversions;
 pub mod credits;
 pub mod damage;
 pub mod forms;

@@ -63,7 +63,8 @@ fn parts() -> impl Iterator<Item = (usize, usize, usize)> {
 }
 
 /// The answer to a call with this store, or none; the book is changed as the
-/// call says. None for a withdrawal, a start, reading, writing and the printed day.
+/// call says. None for a withdrawal, a start, reading, writing, a conversion and the
+/// printed day.
 pub fn answer(book: &mut [u8], store: Option<&[u8]>, call: &Call) -> Option<Answer> {
     let answer = match call {
         Call::Posting { id, area, amount } => {
@@ -112,9 +113,12 @@ pub fn answer(book: &mut [u8], store: Option<&[u8]>, call: &Call) -> Option<Answ
         Call::Restore { length } => {
             Answer::of_output(*length, |output| number(tuned::restore(book, output)))
         }
-        Call::Withdrawal | Call::Start | Call::Read | Call::Write { .. } | Call::Day => {
-            return None
-        }
+        Call::Withdrawal
+        | Call::Start
+        | Call::Read
+        | Call::Write { .. }
+        | Call::Convert { .. }
+        | Call::Day => return None,
     };
     Some(answer)
 }
@@ -146,6 +150,7 @@ pub fn plain_answer(book: &mut [u8], call: &Call) -> Option<Answer> {
         | Call::Start
         | Call::Read
         | Call::Write { .. }
+        | Call::Convert { .. }
         | Call::Form { .. }
         | Call::Restore { .. }
         | Call::Day => return None,

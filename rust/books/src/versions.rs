@@ -81,8 +81,15 @@ pub fn in_version_2(book: &Book) -> Book {
 
 /// The book as version 1 has it: without S and U, and without managers.
 pub fn in_version_1(book: &Book) -> Book {
-    let mut book = without_credit(book);
-    book.version = 1;
+    Book {
+        version: 1,
+        ..without_managers(&without_credit(book))
+    }
+}
+
+/// The book with nobody managed.
+pub fn without_managers(book: &Book) -> Book {
+    let mut book = book.clone();
     for user in &mut book.users {
         user.managers = [0; 3];
     }

@@ -52,8 +52,9 @@ fn numbers(name: &str) -> Vec<u32> {
         "run" | "read" | "day" => (0..=7).collect(),
         "write" => [vec![0], (2..=7).collect()].concat(),
         "form" => [(0..=7).collect(), vec![30]].concat(),
-        // Drawn with logs, tests/logs.rs, and with forms, tests/forms.rs.
-        "withdrawal" | "start" | "restore" => Vec::new(),
+        // Drawn with logs, tests/logs.rs, and beside a book, tests/forms.rs and
+        // tests/conversions.rs.
+        "withdrawal" | "start" | "restore" | "convert" => Vec::new(),
         _ => (0..=9).collect(),
     }
 }

@@ -109,6 +109,7 @@ fn every_call_reaches_16_and_17() {
             "start",
             "read",
             "write",
+            "convert",
             "form",
             "restore",
             "day",

@@ -7,7 +7,7 @@ use crate::files::is_standard;
 use crate::outcome::{Failure, Outcome};
 use crate::{
     calls, cancel, change, check, compare, convert, due, explain, field_wise, list, log,
-    parameters, report, run, shrinkage, status, table, withdraw,
+    other_forms, parameters, report, run, shrinkage, status, table, withdraw,
 };
 
 /// A command of the program.
@@ -46,28 +46,35 @@ pub const COMMANDS: &[Command] = &[
         about: "a book as plain text",
         page: include_str!("../help/text.txt"),
         options: &[Known::Flag("--positions"), OUTPUT, FORCE],
-        run: convert::text,
+        run: other_forms::text,
     },
     Command {
         name: "book",
         about: "a book from plain text",
         page: include_str!("../help/book.txt"),
         options: &[OUTPUT, FORCE],
-        run: convert::book,
+        run: other_forms::book,
     },
     Command {
         name: "csv",
         about: "a book as three CSV files for a spreadsheet",
         page: include_str!("../help/csv.txt"),
         options: &[FORCE],
-        run: convert::csv,
+        run: other_forms::csv,
     },
     Command {
         name: "from-csv",
         about: "a book from three CSV files",
         page: include_str!("../help/from-csv.txt"),
         options: &[OUTPUT, FORCE],
-        run: convert::from_csv,
+        run: other_forms::from_csv,
+    },
+    Command {
+        name: "convert",
+        about: "a book of one version as another",
+        page: include_str!("../help/convert.txt"),
+        options: &[Known::Value("--to"), OUTPUT, FORCE],
+        run: convert::convert,
     },
     Command {
         name: "fields",

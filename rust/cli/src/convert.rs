@@ -1,96 +1,104 @@
-//! `daybook text`, `book`, `csv` and `from-csv`: a book in its other forms.
+//! `daybook convert`: a book of one version as another.
 
-use std::fs;
-use std::path::PathBuf;
+use daybook::{Book, Refusal, Version};
 
 use crate::arguments::Arguments;
-use crate::csv;
-use crate::draft::Draft;
+use crate::fields::{has_managers, has_selling_tariffs, prices, COMMON_PRICES, PRICES, VERSIONS};
 use crate::files;
+use crate::made::{hold, put, read};
 use crate::outcome::{Failure, Outcome};
+use crate::reasons::book_word;
 use crate::refusals;
-use crate::source::open;
-use crate::text;
-use crate::write::{self, New};
+use crate::source::{accepted, Source};
+use crate::words::{euros, AREAS};
 
-pub fn text(arguments: &Arguments) -> Result<Outcome, Failure> {
-    arguments.expect(1, 1, "text BOOK [--positions] [-o FILE [--force]]")?;
-    let source = open(arguments.file(0))?;
-    let book = daybook::read(&source.bytes)
-        .map_err(|refusal| refusals::of_book(&source.name, refusal, &[]))?;
-    let text = text::write(&book, arguments.has("--positions"));
-    output(arguments, text.as_bytes())
-}
+/// How many fields the change that drops them is told for.
+const MOST_TOLD: usize = 4;
 
-pub fn book(arguments: &Arguments) -> Result<Outcome, Failure> {
-    let usage = "book TEXT -o FILE [--force]";
+pub fn convert(arguments: &Arguments) -> Result<Outcome, Failure> {
+    let usage = "convert BOOK --to VERSION -o FILE [--force]";
     arguments.expect(1, 1, usage)?;
-    let path = arguments.file(0);
-    let bytes = files::read(path)?;
-    let name = files::shown(path);
-    let draft = text::read(&bytes).map_err(|mistakes| refusals::of_text(&name, &mistakes))?;
-    made(arguments, &name, draft, usage)
-}
-
-pub fn csv(arguments: &Arguments) -> Result<Outcome, Failure> {
-    arguments.expect(2, 2, "csv BOOK DIR [--force]")?;
-    let source = open(arguments.file(0))?;
-    let book = daybook::read(&source.bytes)
-        .map_err(|refusal| refusals::of_book(&source.name, refusal, &[]))?;
-    let folder = arguments.file(1);
-    let over = arguments.has("--force");
-    let texts = csv::write(&book);
-    let files = csv::FILES.iter().zip(&texts);
-    let files: Vec<(&str, &[u8])> = files.map(|(file, text)| (*file, text.as_bytes())).collect();
-    match fs::symlink_metadata(folder) {
-        Err(_) => write::write_folder(folder, &files)?,
-        Ok(_) => {
-            let paths = files.iter().map(|(file, _)| folder.join(file));
-            let paths: Vec<PathBuf> = paths.collect();
-            let new = paths.iter().zip(&files);
-            let new = new.map(|(path, (_, bytes))| New { path, bytes, over });
-            write::write_all(&new.collect::<Vec<New>>(), &[])?;
-        }
-    }
-    Ok(Outcome::default())
-}
-
-pub fn from_csv(arguments: &Arguments) -> Result<Outcome, Failure> {
-    let usage = "from-csv DIR -o FILE [--force]";
-    arguments.expect(1, 1, usage)?;
-    let folder = arguments.file(0);
-    let read = |file: &str| files::read(&folder.join(file));
-    let [header, users, trades] = csv::FILES.map(read);
-    let (header, users, trades) = (header?, users?, trades?);
-    let name = folder.display().to_string();
-    let draft = csv::read([&header, &users, &trades])
-        .map_err(|mistakes| refusals::of_text(&name, &mistakes))?;
-    made(arguments, &name, draft, usage)
-}
-
-/// Writes the book of a draft to the file that is asked for.
-fn made(arguments: &Arguments, name: &str, draft: Draft, usage: &str) -> Result<Outcome, Failure> {
-    if !arguments.has("-o") {
+    let (Some(to), Some(output)) = (arguments.number("--to")?, arguments.path("-o")) else {
         return Err(Failure::misuse(format!("usage: daybook {usage}")));
+    };
+    let path = arguments.file(0);
+    let held = hold(arguments, &output)?;
+    let source = accepted(&files::shown(path), read(path, &held)?)?;
+    let version = u16::try_from(to).ok().and_then(Version::from_number);
+    let Some(version) = version else {
+        let reason = format!("version {to}, the engine knows {VERSIONS}");
+        let refusal = Refusal::TargetVersion;
+        return Err(refusals::of_conversion(&source.name, refusal, &[], &reason));
+    };
+    match daybook::convert(&source.bytes, version) {
+        Ok(bytes) => put(arguments, &output, &bytes, &held),
+        Err(refusal) => Err(lost_in(&source, version.number(), refusal)),
     }
-    let bytes = draft.into_bytes().map_err(|it| {
-        let faults = it
-            .faults
-            .into_iter()
-            .map(|(spot, fault)| (Some(spot), fault));
-        refusals::of_book(name, it.refusal, &faults.collect::<Vec<_>>())
-    })?;
-    output(arguments, &bytes)
 }
 
-/// Writes to the file that is asked for, or to standard output.
-pub fn output(arguments: &Arguments, bytes: &[u8]) -> Result<Outcome, Failure> {
-    let mut outcome = Outcome::default();
-    match arguments.path("-o") {
-        Some(path) if !files::is_standard(&path) => {
-            write::write(&path, bytes, arguments.has("--force"))?;
+/// A conversion that loses information: each field, and how it is dropped.
+fn lost_in(source: &Source, version: u16, refusal: Refusal) -> Failure {
+    let book = daybook::read(&source.bytes).unwrap_or_default();
+    let lost = lost(&book, version);
+    let advice = match lost.len() <= MOST_TOLD {
+        true => {
+            let changes: Vec<String> = lost.iter().map(Lost::change).collect();
+            let book = book_word(source);
+            format!("`daybook change {book} {} -o FILE`", changes.join(" "))
         }
-        _ => outcome.out.extend(bytes),
+        false => format!("`daybook change {} CHANGE.. -o FILE`", book_word(source)),
+    };
+    let them = if lost.len() == 1 { "it" } else { "them" };
+    let advice = format!("{advice} drops {them}, and its answers may then be others");
+    refusals::of_conversion(&source.name, refusal, &lost, &advice)
+}
+
+/// A field that a version has no place for, and that is not 0.
+#[derive(Clone, Debug, PartialEq, Eq)]
+pub enum Lost {
+    /// The name of a selling tariff, and its cents.
+    Tariff(&'static str, u32),
+    /// A user's place from 1 on and its id, the area, and the manager there.
+    Manager(usize, u32, &'static str, u32),
+}
+
+impl Lost {
+    /// The field in a line.
+    pub fn told(&self) -> String {
+        match self {
+            Lost::Tariff(name, cents) => {
+                format!("header: {name} {} EUR/MWh would be lost", euros(*cents))
+            }
+            Lost::Manager(place, id, area, manager) => {
+                format!("user {place}, id {id}: manager {area} {manager} would be lost")
+            }
+        }
     }
-    Ok(outcome)
+
+    /// The change of the book that drops it.
+    fn change(&self) -> String {
+        match self {
+            Lost::Tariff(name, _) => format!("'prices {name} 0.00'"),
+            Lost::Manager(_, id, area, _) => format!("'user {id} manager {area} none'"),
+        }
+    }
+}
+
+/// What a book of this version would lose of an accepted book, in its order.
+pub fn lost(book: &Book, version: u16) -> Vec<Lost> {
+    let mut lost = Vec::new();
+    if has_selling_tariffs(version) == Some(false) {
+        let tariffs = PRICES.into_iter().zip(prices(book)).skip(COMMON_PRICES);
+        let tariffs = tariffs.filter(|(_, cents)| *cents != 0);
+        lost.extend(tariffs.map(|(name, cents)| Lost::Tariff(name, cents)));
+    }
+    if has_managers(version) == Some(false) {
+        for (place, user) in book.users.iter().enumerate() {
+            let managers = AREAS.into_iter().zip(user.managers);
+            let managers = managers.filter(|(_, manager)| *manager != 0);
+            let found = managers.map(|(area, it)| Lost::Manager(place + 1, user.id, area, it));
+            lost.extend(found);
+        }
+    }
+    lost
 }

@@ -7,12 +7,12 @@ use daybook::Refusal;
 
 use crate::arguments::Arguments;
 use crate::columns::{has, named, names, Column};
-use crate::convert::output;
 use crate::faults::faults;
 use crate::fields::{Field, FORM_MARK};
 use crate::files;
 use crate::form::Form;
 use crate::form_bytes::in_records;
+use crate::made::{hold, put, read};
 use crate::outcome::{Failure, Outcome};
 use crate::refusals;
 use crate::source::accepted;
@@ -29,11 +29,12 @@ pub fn fields(arguments: &Arguments) -> Result<Outcome, Failure> {
     if arguments.has("--csv") || arguments.has("--json") {
         return Err(Failure::misuse("--csv and --json go with --column"));
     }
-    if !arguments.has("-o") {
+    let Some(target) = arguments.path("-o") else {
         return Err(Failure::misuse(format!("usage: daybook {USAGE}")));
-    }
+    };
     let path = arguments.file(0);
-    let (name, bytes) = (files::shown(path), files::read(path)?);
+    let held = hold(arguments, &target)?;
+    let (name, bytes) = (files::shown(path), read(path, &held)?);
     let made = match is_form(&bytes) {
         true => book_of(&name, &bytes)?,
         false => {
@@ -42,7 +43,7 @@ pub fn fields(arguments: &Arguments) -> Result<Outcome, Failure> {
             daybook::field_wise(&source.bytes).map_err(refused)?
         }
     };
-    output(arguments, &made)
+    put(arguments, &target, &made, &held)
 }
 
 /// Whether bytes are meant as a form: the mark says so.

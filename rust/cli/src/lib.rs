@@ -40,6 +40,8 @@ pub mod list;
 pub mod log;
 pub mod log_faults;
 pub mod log_file;
+pub mod made;
+pub mod other_forms;
 pub mod outcome;
 pub mod parameters;
 pub mod picture;

@@ -7,16 +7,16 @@ use daybook::{Book, Log, Refusal};
 
 use crate::arguments::Arguments;
 use crate::check::described;
-use crate::files::{self, Held};
+use crate::files;
 use crate::form::{csv_row, Form};
 use crate::json::Object;
 use crate::log_file::{noted, together, LogFile, Noted, CUTS};
+use crate::made::{hold, put, read};
 use crate::outcome::{Failure, Outcome};
 use crate::refusals;
 use crate::source::{accepted, open, Source};
 use crate::text;
 use crate::words::{date, grouped, wide};
-use crate::write::{self, New};
 
 const USAGE: &str = "log BOOK -o LOG [--force], log LOG [BOOK] [--csv|--json], \
                      or log --held LOG -o BOOK [--force]";
@@ -69,41 +69,6 @@ fn write_held(arguments: &Arguments, output: &Path) -> Result<Outcome, Failure> 
     if !log.is_for(&book.bytes) {
         let hint = format!("`daybook log {}` says why", files::quoted(path));
         outcome.message(format!("{}: is not one for this book; {hint}", log.name));
-    }
-    Ok(outcome)
-}
-
-/// The files of a command, so that no change of both comes between: the one that is
-/// read, where it is a regular file, and the one that is written over.
-fn hold(arguments: &Arguments, output: &Path) -> Result<Vec<Held>, Failure> {
-    let read = Some((arguments.file(0), "-o")).filter(|(path, _)| path.is_file());
-    let is_over = arguments.has("--force") && output.is_file();
-    let over = is_over.then_some((output, "--force"));
-    Held::all(&read.into_iter().chain(over).collect::<Vec<_>>())
-}
-
-fn read(path: &Path, held: &[Held]) -> Result<Vec<u8>, Failure> {
-    match held.iter().find(|held| held.is_named(path)) {
-        Some(held) => held.read(path),
-        None => files::read(path),
-    }
-}
-
-fn put(
-    arguments: &Arguments,
-    output: &Path,
-    bytes: &[u8],
-    held: &[Held],
-) -> Result<Outcome, Failure> {
-    let mut outcome = Outcome::default();
-    let new = New {
-        path: output,
-        bytes,
-        over: arguments.has("--force"),
-    };
-    match files::is_standard(output) {
-        true => outcome.out.extend(bytes),
-        false => write::write_all(&[new], held)?,
     }
     Ok(outcome)
 }

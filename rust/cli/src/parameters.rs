@@ -8,9 +8,9 @@
 use daybook::{Book, Prices, Refusal, Request, User};
 
 use crate::arguments::Arguments;
-use crate::convert::output;
 use crate::draft::{too_long, Mistake, MOST_MISTAKES};
 use crate::files;
+use crate::other_forms::output;
 use crate::outcome::{Failure, Outcome};
 use crate::refusals;
 use crate::store::{malformed, sets, to_bytes, Figures, Set};

@@ -4,6 +4,7 @@ use std::path::Path;
 
 use daybook::Refusal;
 
+use crate::convert::Lost;
 use crate::draft::{Mistake, Spot};
 use crate::faults::Fault;
 use crate::fields::Place;
@@ -84,6 +85,26 @@ pub fn of_form(
         .string("question", &question(refusal))
         .put("book_number", or_null(of_book.map(Refusal::number)))
         .put("faults", list(faults));
+    told(lines.join("\n"), object)
+}
+
+/// A refused conversion: the question, what would be lost, a line each, and the reason
+/// or what helps.
+pub fn of_conversion(name: &str, refusal: Refusal, lost: &[Lost], reason: &str) -> Failure {
+    let mut lines = vec![refused(refusal)];
+    lines.extend(lost.iter().take(MOST_FAULTS).map(Lost::told));
+    if lost.len() > MOST_FAULTS {
+        lines.push(format!("and {} more", lost.len() - MOST_FAULTS));
+    }
+    lines.push(reason.to_string());
+    let line = |line: &String| format!("{name}: {line}");
+    let lines: Vec<String> = lines.iter().map(line).collect();
+    let object = Object::new()
+        .string("book", name)
+        .put("number", refusal.number())
+        .string("question", &question(refusal))
+        .put("lost", list(lost.iter().map(|it| quoted(&it.told()))))
+        .string("reason", reason);
     told(lines.join("\n"), object)
 }
 

@@ -3,11 +3,11 @@
 use daybook::{Book, Request, User};
 
 use crate::arguments::Arguments;
-use crate::convert::output;
 use crate::credit::{by_area, credits, has_credit};
 use crate::explain::MOST;
 use crate::fields::{prices, PRICES};
 use crate::groups::{area_of, bearer, has_groups, shares};
+use crate::other_forms::output;
 use crate::outcome::{Failure, Outcome};
 use crate::picture::pictures;
 use crate::reasons::Asked;

@@ -214,6 +214,8 @@ fn converted(folder: &Path, book: &Path, bytes: &[u8]) {
         assert_eq!((made.status.code(), made.out.as_slice()), (0, bytes));
     }
     assert_eq!(done(&format!("book {book} -o -")).status.code(), 1);
+    let copied = done(&format!("convert {book} --to 3 -o -"));
+    assert_eq!(copied.status.code(), refused);
     let made = done(&format!("fields {book} -o -"));
     assert_eq!(made.status.code(), refused);
     let column = done(&format!("fields --column standing {book}"));

@@ -23,8 +23,8 @@ const LOGGED_SEQUENCES: usize = 4;
 /// One call in so many of those on a chosen book is made with a log too.
 const LOGGED_CALLS: usize = 12;
 
-/// Before one drawn call in so many the inverse is made of a form of the book.
-const RESTORES: usize = 12;
+/// Before one drawn call in so many there is a call on bytes made of the book.
+const CALLS_BESIDE: usize = 6;
 
 /// A call that a side answered otherwise than the reference.
 #[derive(Clone, Debug)]
@@ -136,9 +136,8 @@ impl Comparison {
             }
             self.calls_left -= 1;
             let mut book = std::mem::take(&mut self.book);
-            if self.generator.random().one_in(RESTORES) {
-                let (mut form, call) = self.generator.restore(&book);
-                self.call(&mut form, &call);
+            if self.generator.random().one_in(CALLS_BESIDE) {
+                self.call_beside(&book);
             }
             let store = self.store.take();
             match self.log.take() {
@@ -153,6 +152,15 @@ impl Comparison {
             }
             (self.book, self.store) = (book, store);
         }
+    }
+
+    /// A drawn conversion of the book, or the inverse of a form of it.
+    fn call_beside(&mut self, book: &[u8]) {
+        let (mut bytes, call) = match self.generator.random().one_in(2) {
+            true => self.generator.restore(book),
+            false => self.generator.conversion(book),
+        };
+        self.call(&mut bytes, &call);
     }
 
     /// A drawn call of a sequence with logs. Most are given the log kept so far; the
@@ -274,8 +282,9 @@ impl Comparison {
     }
 
     /// Each kind of call on one user, with an id, an area and an amount, each
-    /// on its own copy of the book; then the calls without a user, among them the
-    /// inverse of a form of the book. Those that take a store are made with one too.
+    /// on its own copy of the book; then the calls without a user, among them a
+    /// conversion and the inverse of a form of the book. Those that take a store are
+    /// made with one too.
     pub fn every_call(&mut self, book: &[u8], (id, area, amount): (u32, u32, i64)) {
         let afternoon = self.generator.book(Kind::Small);
         let mut calls = vec![
@@ -303,8 +312,13 @@ impl Comparison {
             calls.extend([Call::Run, Call::Day]);
         }
         calls.push(self.generator.form(book));
-        let (mut form, restore) = self.generator.restore(book);
-        self.call(&mut form, &restore);
+        let beside = [
+            self.generator.restore(book),
+            self.generator.conversion(book),
+        ];
+        for (mut bytes, call) in beside {
+            self.call(&mut bytes, &call);
+        }
         for call in calls {
             self.call(&mut book.to_vec(), &call);
             if call.takes_log() && self.generator.random().one_in(LOGGED_CALLS) {

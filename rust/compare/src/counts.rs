@@ -8,8 +8,8 @@ use reference::form::FORM_MARK;
 use reference::version::FIRST_HEADER_LENGTH;
 
 /// The numbers: 0 for an accepted call, 1 to 14 for a refusal of document 01, 15
-/// for one of ask 1, 16 and 17 of ask 4, 18 to 20 of ask 6, 24 and 25 of ask 8, 29
-/// and 30 of ask 13.
+/// for one of ask 1, 16 and 17 of ask 4, 18 to 20 of ask 6, 21 to 23 of ask 7, 24
+/// and 25 of ask 8, 29 and 30 of ask 13.
 pub const NUMBERS: usize = 31;
 
 /// What a call is made on.
@@ -147,6 +147,9 @@ pub fn possible(version: Version, name: &str) -> Vec<usize> {
         "withdrawal" => (7, &[16, 17, 18, 19]),
         // It asks nothing of the book but its length.
         "start" => return vec![0, 19],
+        // Version 1 has nothing to lose.
+        "convert" if version == Version::One => (7, &[22, 23]),
+        "convert" => (7, &[21, 22, 23]),
         "form" => (7, &[30]),
         // Whatever is wrong with a form has one number.
         "restore" if version == Version::Other => return vec![29],

@@ -60,6 +60,9 @@ pub fn answer(
         Call::Write { image, length } => {
             Answer::of_output(*length, |part| archive::write(&image[..], part))
         }
+        Call::Convert { version, length } => {
+            Answer::of_output(*length, |output| archive::convert(book, *version, output))
+        }
         Call::Form { length } => Answer::of_output(*length, |output| archive::form(book, output)),
         Call::Restore { length } => {
             Answer::of_output(*length, |output| archive::restore(book, output))

@@ -8,10 +8,11 @@ use tuned::IMAGE_LENGTH;
 /// What an image holds before the call: a refusal has to put 0 there.
 const BEFORE: u8 = 0xA5;
 
-/// Whether the tuned implementation has the call on this book; it knows no logs, and
-/// versions 1 and 2 of the book.
+/// Whether the tuned implementation has the call on this book; it knows no logs and no
+/// conversions, and versions 1 and 2 of the book.
 pub fn has(book: &[u8], call: &Call) -> bool {
-    !matches!(call, Call::Withdrawal | Call::Start) && knows(book, call)
+    let others = matches!(call, Call::Withdrawal | Call::Start | Call::Convert { .. });
+    !others && knows(book, call)
 }
 
 /// The answer of the tuned implementation to a call with this store, or none, and

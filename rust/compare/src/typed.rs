@@ -3,17 +3,19 @@
 use books::{Answer, Call};
 use daybook::{
     Book, Cancellation, GuaranteeCall, Image, Level, Line, Log, Refusal, Request, Run, Trade, User,
-    IMAGE_LENGTH, LOG_LENGTH, MOST_TRADES,
+    Version, IMAGE_LENGTH, LOG_LENGTH, MOST_TRADES,
 };
 
 use crate::shown::shown;
 
 /// Whether the call has a function of its own in `daybook`; a printed day is
 /// put together of others, a list of lines has columns and places of one count,
-/// and a started log has the right length.
+/// a started log has the right length, and a conversion is into a version that there
+/// is.
 pub fn has(call: &Call, log: Option<&[u8]>) -> bool {
     match call {
         Call::Day => false,
+        Call::Convert { version, .. } => known(*version).is_some(),
         Call::Start => log.is_some_and(|log| log.len() == LOG_LENGTH),
         Call::List {
             ids,
@@ -90,11 +92,17 @@ fn requested(mut request: Request<'_>, book: &mut [u8], call: &Call) -> Answer {
         Call::Write { image, length } => Answer::of_output(*length, |part| {
             number(&daybook::write(&book_of(image), part))
         }),
+        Call::Convert { version, length } => {
+            let version = known(*version).expect("a version that there is");
+            written(*length, daybook::convert(book, version), |output| {
+                daybook::convert_into(book, version, output)
+            })
+        }
         Call::Form { length } => written(*length, daybook::field_wise(book), |output| {
-            daybook::field_wise_into(book, output)
+            daybook::field_wise_into(book, output).map(|()| book.len())
         }),
         Call::Restore { length } => written(*length, daybook::record_wise(book), |output| {
-            daybook::record_wise_into(book, output)
+            daybook::record_wise_into(book, output).map(|()| book.len())
         }),
         Call::Reduction { id } => {
             let reduction = request.reduction(book, *id);
@@ -112,15 +120,27 @@ fn requested(mut request: Request<'_>, book: &mut [u8], call: &Call) -> Answer {
     }
 }
 
-/// An output of this length as a call leaves it. Where it is not too short the bytes
-/// by value have to be the same.
+/// The version of a number.
+fn known(version: u32) -> Option<Version> {
+    u16::try_from(version).ok().and_then(Version::from_number)
+}
+
+/// An output of this length as a call leaves it, which tells how much it wrote. Where
+/// the output is not too short the bytes by value have to be the same.
 fn written(
     length: usize,
     bytes: Result<Vec<u8>, Refusal>,
-    into: impl FnOnce(&mut [u8]) -> Result<(), Refusal>,
+    into: impl FnOnce(&mut [u8]) -> Result<usize, Refusal>,
 ) -> Answer {
-    let found = Answer::of_output(length, |output| number(&into(output)));
-    if found.number != Refusal::FormRoom.number() {
+    let found = Answer::of_output(length, |output| {
+        let told = into(output);
+        if let (Ok(told), Ok(bytes)) = (told, &bytes) {
+            assert_eq!(told, bytes.len(), "the length told");
+        }
+        number(&told)
+    });
+    let short = [Refusal::ConversionRoom, Refusal::FormRoom].map(Refusal::number);
+    if !short.contains(&found.number) {
         let by_value = Answer::of_output(length, |output| {
             if let Ok(bytes) = &bytes {
                 output[..bytes.len()].copy_from_slice(bytes);

@@ -15,8 +15,9 @@ fn every_call_of_the_archive() {
     assert_eq!(asks::replay(engine::answer), with_log);
 }
 
-/// What the types of `daybook` cannot say, lists with columns of several counts and
-/// the start of a log of another length, goes to the archive.
+/// What the types of `daybook` cannot say, lists with columns of several counts, the
+/// start of a log of another length and a version that there is not, goes to the
+/// archive.
 #[test]
 fn every_call_of_daybook() {
     let answer: Implementation = |book, store, log, call| {

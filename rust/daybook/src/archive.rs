@@ -16,7 +16,7 @@ pub use changes::{
     afternoon_call, list, morning_call, posting, reduction, run, start_log, withdrawal,
 };
 pub use queries::{
-    afternoon_level, cancellation, form, morning_level, read, restore, show, show_picked,
+    afternoon_level, cancellation, convert, form, morning_level, read, restore, show, show_picked,
     shrinkage_days, shrinkage_return, warning, write,
 };
 
@@ -27,6 +27,13 @@ unsafe extern "C" {
     fn daybook_interface() -> u32;
     fn daybook_read(book: *const u8, book_len: usize, image: *mut u8, image_len: usize) -> u32;
     fn daybook_write(image: *const u8, image_len: usize, out: *mut u8, out_len: usize) -> u32;
+    fn daybook_convert(
+        book: *const u8,
+        book_len: usize,
+        version: u32,
+        out: *mut u8,
+        out_len: usize,
+    ) -> u32;
     fn daybook_form(book: *const u8, book_len: usize, out: *mut u8, out_len: usize) -> u32;
     fn daybook_restore(form: *const u8, form_len: usize, out: *mut u8, out_len: usize) -> u32;
     fn daybook_show(

@@ -15,6 +15,9 @@
 //! [`most_reductions`] and the places of [`Columns`]. The return of retained
 //! shrinkage is a module by itself, [`shrinkage`].
 //!
+//! A book of one [`Version`] is written as another by [`convert`], which refuses to
+//! lose anything.
+//!
 //! For archives [`field_wise`] rearranges a book such that all of its ids stand
 //! together, all of its roles, and so on; [`Columns`] tells where, and
 //! [`record_wise`] gives the book back.
@@ -46,6 +49,7 @@ mod log;
 mod refusal;
 mod request;
 pub mod shrinkage;
+mod version;
 
 pub use book::{
     header_length, user_length, Book, Image, Prices, Trade, User, IMAGE_LENGTH, MOST_TRADES,
@@ -62,3 +66,4 @@ pub use list::{list, Line, MOST_LINES};
 pub use log::{Log, Withdrawal, LOG_LENGTH, MOST_ENTRIES};
 pub use refusal::Refusal;
 pub use request::Request;
+pub use version::{convert, convert_into, Version};

@@ -47,6 +47,13 @@ pub enum Refusal {
     LogForm = 19,
     /// Reduction: has the log room for one more entry? Asked last.
     LogFull = 20,
+    /// Conversion: is no information lost? Asked after 23.
+    InformationLost = 21,
+    /// Conversion: is the output long enough? Asked last.
+    ConversionRoom = 22,
+    /// Conversion: is the target version known? Asked after 7. A [`Version`](crate::Version)
+    /// is; [`archive::convert`](crate::archive::convert) takes any number.
+    TargetVersion = 23,
     /// Cancellation: are all eligible trades together worth the target? Asked last.
     WorthOfTrades = 24,
     /// Cancellation: 1 to 65,535 tries? Asked after 17.
@@ -59,7 +66,7 @@ pub enum Refusal {
 
 impl Refusal {
     /// Every refusal, in the order of the numbers.
-    pub const ALL: [Refusal; 24] = [
+    pub const ALL: [Refusal; 27] = [
         Refusal::Mark,
         Refusal::Version,
         Refusal::CountsAndLength,
@@ -80,6 +87,9 @@ impl Refusal {
         Refusal::LogEmpty,
         Refusal::LogForm,
         Refusal::LogFull,
+        Refusal::InformationLost,
+        Refusal::ConversionRoom,
+        Refusal::TargetVersion,
         Refusal::WorthOfTrades,
         Refusal::Tries,
         Refusal::Form,
@@ -127,6 +137,9 @@ impl Refusal {
             Refusal::LogEmpty => "has the log an entry?",
             Refusal::LogForm => "is the log one for the book?",
             Refusal::LogFull => "has the log room for one more entry?",
+            Refusal::InformationLost => "is no information lost?",
+            Refusal::ConversionRoom => "is the output long enough?",
+            Refusal::TargetVersion => "is the target version known?",
             Refusal::WorthOfTrades => "are all eligible trades together worth the target?",
             Refusal::Tries => "1 to 65,535 tries?",
             Refusal::Form => "does the form yield an accepted book?",

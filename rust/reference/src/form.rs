@@ -4,7 +4,8 @@
 //! each run of zero bytes is a field)".
 
 use crate::book::{length, user_length, Header, MARK, TRADE_LENGTH};
-use crate::questions::{ask, counts_and_length, questions_1_to_7, ACCEPTED};
+use crate::output::put;
+use crate::questions::{ask, counts_and_length, questions_1_to_7};
 use crate::version::{header_length, is_known, FIRST_HEADER_LENGTH};
 
 pub const FORM_MARK: &[u8; 3] = b"GDF";
@@ -20,28 +21,14 @@ pub const TRADE_FIELDS: [usize; 8] = [4, 4, 1, 1, 1, 1, 4, 4];
 /// Writes the field-wise form of the book. "An output too short 30, asked last; a
 /// refusal leaves the output unchanged and a longer output keeps its rest."
 pub fn form(bytes: &[u8], output: &mut [u8]) -> u32 {
-    put(questions_1_to_7(bytes).map(|_| rearranged(bytes)), output)
+    let form = questions_1_to_7(bytes).map(|_| rearranged(bytes));
+    put(form, 30, output)
 }
 
 /// Writes the book of a form. "A form that yields no accepted book gives 29, and
 /// then an output too short 30."
 pub fn restore(form: &[u8], output: &mut [u8]) -> u32 {
-    put(book_of(form), output)
-}
-
-/// Question 30, then the bytes into the output.
-fn put(bytes: Result<Vec<u8>, u32>, output: &mut [u8]) -> u32 {
-    let fitting = bytes.and_then(|bytes| {
-        ask(30, bytes.len() <= output.len())?;
-        Ok(bytes)
-    });
-    match fitting {
-        Ok(bytes) => {
-            output[..bytes.len()].copy_from_slice(&bytes);
-            ACCEPTED
-        }
-        Err(number) => number,
-    }
+    put(book_of(form), 30, output)
 }
 
 /// The form of bytes as long as their header says.

@@ -2,8 +2,8 @@
 //! guarantee calls and reduced trades; and of document 02, asks 4 (parameters
 //! with a start date), 1 (a list of postings), 8 (whole cancellations), 3 (credit
 //! for long positions, version 2 of the book), 6 (a log, and the withdrawal of a
-//! reduction), 5 (group portfolios, version 3 of the book) and 13 (field-wise
-//! storage).
+//! reduction), 5 (group portfolios, version 3 of the book), 13 (field-wise storage)
+//! and 7 (books between versions).
 //!
 //! It is plain and slow on purpose. The modules follow the order of the
 //! document, and the comments cite its sections in quotes. Every number is
@@ -13,8 +13,8 @@
 //! has nothing to do with a book.
 //!
 //! Every call takes the book as bytes, and a store as bytes or none; reading,
-//! writing, the printed day, the start of a log and the two ways between a book and
-//! its field-wise form take no store. A call that can
+//! writing, the printed day, the start of a log, the converter and the two ways
+//! between a book and its field-wise form take no store. A call that can
 //! change a book takes a log as bytes, or none; a withdrawal always takes one. A
 //! refused call returns the number of the first question that failed, every other
 //! field 0, and leaves the book and the log.
@@ -24,6 +24,7 @@
 pub mod book;
 pub mod calls;
 pub mod cancellation;
+pub mod convert;
 pub mod credit;
 pub mod day;
 pub mod form;
@@ -32,6 +33,7 @@ pub mod levels;
 pub mod list;
 pub mod log;
 pub mod logged;
+pub mod output;
 pub mod posting;
 pub mod questions;
 pub mod reduction;
@@ -47,6 +49,7 @@ pub mod withdrawal;
 
 pub use calls::{afternoon_call, morning_call, CallAnswer};
 pub use cancellation::{cancellation, CancellationAnswer};
+pub use convert::convert;
 pub use day::day;
 pub use form::{form, restore};
 pub use levels::{afternoon_level, morning_level, LevelAnswer};

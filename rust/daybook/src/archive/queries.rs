@@ -1,9 +1,9 @@
 //! The functions that leave a book as it is, and those that involve none.
 
 use super::{
-    daybook_afternoon_level, daybook_cancellation, daybook_form, daybook_morning_level,
-    daybook_read, daybook_restore, daybook_show, daybook_show_picked, daybook_shrinkage_days,
-    daybook_shrinkage_return, daybook_warning, daybook_write, lent,
+    daybook_afternoon_level, daybook_cancellation, daybook_convert, daybook_form,
+    daybook_morning_level, daybook_read, daybook_restore, daybook_show, daybook_show_picked,
+    daybook_shrinkage_days, daybook_shrinkage_return, daybook_warning, daybook_write, lent,
 };
 
 /// Reads a book into an image of 9,512 bytes.
@@ -18,6 +18,22 @@ pub fn write(image: &[u8], part: &mut [u8]) -> u32 {
     // SAFETY: each pointer comes with the length of its slice, both slices live through the call,
     // and the part, lent by &mut, does not overlap the image.
     unsafe { daybook_write(image.as_ptr(), image.len(), part.as_mut_ptr(), part.len()) }
+}
+
+/// Writes a book as a version, of any number, to the front of a part, which keeps its
+/// rest; a refusal, 1 to 7 or 21 to 23, leaves it.
+pub fn convert(book: &[u8], version: u32, part: &mut [u8]) -> u32 {
+    // SAFETY: each pointer comes with the length of its slice, both slices live through the call,
+    // and the part, lent by &mut, does not overlap the book.
+    unsafe {
+        daybook_convert(
+            book.as_ptr(),
+            book.len(),
+            version,
+            part.as_mut_ptr(),
+            part.len(),
+        )
+    }
 }
 
 /// Writes a book field by field to the front of a part, which keeps its rest; a

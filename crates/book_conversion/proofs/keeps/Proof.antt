@@ -1,0 +1,19 @@
+-- `keeps` asks for both. Assumes nothing.
+use mathlib.Core.Bool.{Bool, _&&_}
+use mathlib.Core.Path.{ap₂}
+use Rattle.conversions.specs.Conversion.{kept}
+use borrow.Author.Needs.{needs}
+use Rattle.book_conversion.proofs.keeps.Statement.{statement}
+use Rattle.book_conversion.proofs.keeps.Tie as tie
+
+returns : tie.Need-returns
+unfolding kept
+returns c = ap₂ (λ (x y : Bool). x && y) (c .before .tariffs-kept .ensures) (c .managers-kept .ensures)
+
+pub keeps-spec : {M : Type 1} → statement M
+keeps-spec =
+    tie.close
+    (tie.spec
+    (λ c κs. search needs)
+    (λ c κs. search needs)
+    returns)

@@ -1,0 +1,2 @@
+-- The ways out of a conversion.
+pub mod Ways

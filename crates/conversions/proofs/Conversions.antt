@@ -1,0 +1,223 @@
+-- A book in bytes as another version: it is accepted, back again it is the first bytes, and no call answers otherwise on it. Assumes nothing.
+use mathlib.Core.Bool.{false, true}
+use mathlib.Core.List.{List, [], _∷_, _++_, append-assoc}
+use mathlib.Core.Option.{Option, none, some}
+use mathlib.Core.Path.{_≡_, refl, subst, sym, ap, ap₂, _∙_}
+use Prim.Native.Nat.{ℕ, _<_, _≤_}
+use lib.Dec.{T, leb, le→leb}
+use lib.ListN.{length}
+use borrow.Author.Tests.{lt-leb}
+use Rattle.fields.specs.Field.{AllBytes}
+use Rattle.rules.specs.Bearers.{borne}
+use Rattle.rules.specs.Book.{Book, find}
+use Rattle.rules.specs.Calls.{reduction}
+use Rattle.rules.specs.Levels.{Limits, afternoonLevel, holding, sells}
+use Rattle.rules.specs.Queries.{Query, Reply, aboutQuery, found, onlyNumber}
+use Rattle.rules.specs.Questions.{Question, decided, refusal, versionKnown}
+use Rattle.rules.specs.Reduction.{eligible, target}
+use Rattle.laws.specs.Sound.{Sound}
+use Rattle.laws.proofs.Refusals.{refusal-first, refusal-next, yes-first}
+use Rattle.book_format.specs.Book.{bookOf, bytesOf, versionOf}
+use Rattle.book_format.specs.Questions.{aboutBytes, bookNumber}
+use Rattle.book_format.proofs.Formed.{book-passed}
+use Rattle.book_format.proofs.Passed.{passed}
+use Rattle.book_format.proofs.Round.{bytesOf-bookOf}
+use Rattle.book_format.proofs.Written.{all-bytes-bytesOf, bookOf-bytesOf, written-number}
+use Rattle.requests.specs.Cancellation.{Cancellation, aboutCancellation, cancellation, cancelled, cancelledFor, marksOf, notCancelled, searchFor, triesInRange, wholeWorth, worthSuffices}
+use Rattle.requests.specs.Request.{Act, Event, Setting, aboutSetting, actGiven, actOf, enquiry, limitsOn, opening, request, requestGiven, settingOf}
+use Rattle.sequence.proofs.Sequence.{Left, left-of}
+use Rattle.outputs.specs.Output.{accepted, refused, written}
+use Rattle.conversions.specs.Conversion.{aboutConversion, asVersion, conversion, converted, kept, nothingLost, roomFor}
+use Rattle.conversions.specs.Statements.{Alike, Back, Conversions, Convertible, NothingLost}
+use Rattle.conversions.proofs.Acts.{act-alike, eventAs, limits-alike, setting-alike}
+use Rattle.conversions.proofs.Alike.{about-alike, found-alike, query-alike}
+use Rattle.conversions.proofs.Kept.{own-kept, sound-as, upward-kept}
+
+-- a whole cancellation on a book as a version: its questions and its answer
+asked-alike : (limits : Limits) (v : ℕ) (b : Book) (id tries : ℕ) → aboutCancellation limits (asVersion v b) id tries ≡ aboutCancellation limits b id tries
+unfolding aboutCancellation worthSuffices wholeWorth target afternoonLevel holding borne eligible sells asVersion
+asked-alike limits v b id tries =
+    ap (λ (qs : List Question). triesInRange tries ∷ (qs ++ (worthSuffices b (find (b .users) id) (target limits b (find (b .users) id)) ∷ []))) (about-alike limits v b (reduction id))
+
+cancelled-alike : (limits : Limits) (v : ℕ) (b : Book) (id tries : ℕ)
+    → cancelled limits (asVersion v b) (find (asVersion v b .users) id) tries ≡ cancelled limits b (find (b .users) id) tries
+unfolding cancelled cancelledFor searchFor marksOf wholeWorth target afternoonLevel holding borne eligible sells asVersion
+cancelled-alike limits v b id tries = refl
+
+-- what a request without a log gives on accepted bytes, by the rules
+left : (store : Option (List ℕ)) (a : Act) (x : List ℕ) → AllBytes x → bookNumber x ≡ 0
+    → Left (record { asked = actOf store none a; given = x; gave = request (actOf store none a) x })
+left store a x w h =
+    left-of (record { asked = actOf store none a; given = x; gave = request (actOf store none a) x }) w h (record { answer = refl; bytes = refl }) refl refl
+
+-- ---- the questions
+
+module _ (v : ℕ) (s out : List ℕ) where
+  -- of an accepted book those of the conversion are asked
+  own-questions : bookNumber s ≡ 0 → refusal (aboutBytes s ++ aboutConversion v s out) ≡ refusal (aboutConversion v s out)
+  own-questions h = refusal-next (aboutBytes s) (aboutConversion v s out) (book-passed s h)
+
+  -- of a known target to which nothing is lost, room is asked for
+  room-asked : T (versionKnown v) → T (kept v (bookOf s)) → refusal (aboutConversion v s out) ≡ refusal (roomFor (converted v s) out ∷ [])
+  unfolding aboutConversion
+  room-asked k l =
+      yes-first 23 (versionKnown v) (nothingLost v s ∷ (roomFor (converted v s) out ∷ [])) k
+      ∙ yes-first 21 (kept v (bookOf s)) (roomFor (converted v s) out ∷ []) l
+
+  refused-first : (n : ℕ) → refusal (aboutBytes s) ≡ some n → conversion v s out ≡ refused out n
+  unfolding conversion written decided
+  refused-first n h = rw (refusal-first (aboutBytes s) (aboutConversion v s out) n h)
+
+  refused-unknown : bookNumber s ≡ 0 → versionKnown v ≡ false → conversion v s out ≡ refused out 23
+  unfolding conversion written decided aboutConversion refusal
+  refused-unknown h k = rw (own-questions h, k)
+
+  refused-lost : bookNumber s ≡ 0 → versionKnown v ≡ true → kept v (bookOf s) ≡ false → conversion v s out ≡ refused out 21
+  unfolding conversion written decided aboutConversion refusal
+  refused-lost h k l = rw (own-questions h, k, l)
+
+module _ {v : ℕ} {s : List ℕ} (c : Convertible v s) (out : List ℕ) where
+  conversion-given : length (converted v s) ≤ length out → conversion v s out ≡ accepted (converted v s) out
+  unfolding conversion written decided refusal
+  conversion-given k =
+      rw (own-questions v s out (c .accepted), room-asked v s out (c .known) (c .lossless), yes-first 22 (leb (length (converted v s)) (length out)) [] (le→leb (length (converted v s)) (length out) k))
+
+  refused-narrow : length out < length (converted v s) → conversion v s out ≡ refused out 22
+  unfolding conversion written decided refusal
+  refused-narrow k =
+      rw (own-questions v s out (c .accepted), room-asked v s out (c .known) (c .lossless), lt-leb (length (converted v s)) (length out) k)
+
+-- ---- there and back
+
+-- a book as its own version
+pub copied : (s : List ℕ) → AllBytes s → bookNumber s ≡ 0 → converted (versionOf s) s ≡ s
+unfolding converted asVersion bookOf
+copied s b h = bytesOf-bookOf s b (passed s h)
+
+module _ {v : ℕ} {s : List ℕ} (c : Convertible v s) where
+  -- the book, and the bytes as the version
+  abbrev b : Book
+  b = bookOf s
+
+  abbrev t : List ℕ
+  t = converted v s
+
+  sound : Sound b
+  sound = passed s (c .accepted) .sound
+
+  sound-there : Sound (asVersion v b)
+  sound-there = sound-as b sound v (c .known) (c .lossless)
+
+  -- they are bytes that pass every question and hold the book as the version
+  bytes-there : AllBytes t
+  unfolding converted
+  bytes-there = all-bytes-bytesOf (asVersion v b)
+
+  number-there : bookNumber t ≡ 0
+  unfolding converted
+  number-there = written-number (asVersion v b) sound-there
+
+  book-there : bookOf t ≡ asVersion v b
+  unfolding converted
+  book-there = bookOf-bytesOf (asVersion v b) sound-there
+
+  version-there : versionOf t ≡ v
+  unfolding bookOf asVersion
+  version-there = ap (λ (n : Book). n .header .version) book-there
+
+  -- ---- and back
+
+  convertible-back : Convertible (versionOf s) t
+  unfolding bookOf asVersion kept
+  convertible-back =
+      record {
+        bytes = bytes-there;
+        accepted = number-there;
+        known = passed s (c .accepted) .form .version;
+        lossless = subst (λ (n : Book). T (kept (versionOf s) n)) (sym book-there) (own-kept (bookOf s) sound);
+      }
+
+  first-bytes : converted (versionOf s) t ≡ s
+  unfolding converted asVersion bookOf
+  first-bytes = ap (λ (n : Book). bytesOf (asVersion (versionOf s) n)) book-there ∙ bytesOf-bookOf s (c .bytes) (passed s (c .accepted))
+
+  pub round : Back v s
+  round =
+      record {
+        version-of = version-there;
+        there = convertible-back;
+        back = first-bytes;
+        given = λ out k.
+            conversion-given convertible-back out (rw first-bytes k) ∙ ap (λ (x : List ℕ). accepted x out) first-bytes;
+      }
+
+  -- ---- calls, queries, whole cancellations
+
+  pub requests-alike : (store : Option (List ℕ)) (a : Act) → Alike v (request (actOf store none a) t) (request (actOf store none a) s)
+  unfolding converted eventAs requestGiven
+  requests-alike store a =
+      let g = settingOf store in
+      let here = left store a s (c .bytes) (c .accepted) in
+      let there = left store a t bytes-there number-there in
+      let e : actGiven g (bookOf t) a ≡ eventAs v (actGiven g b a) = ap (λ (n : Book). actGiven g n a) book-there ∙ act-alike g v b a sound sound-there in
+      record {
+        answer = there .answer ∙ ap (λ (x : Event). x .answer) e ∙ sym (here .answer);
+        numbers = there .numbers ∙ ap (λ (x : Event). x .numbers) e ∙ sym (here .numbers);
+        bytes = there .bytes ∙ ap (λ (x : Event). bytesOf (x .book)) e ∙ ap (λ (x : Book). bytesOf (asVersion v x)) (sym (here .book));
+        log = there .log ∙ ap (λ (x : Event). x .log) e ∙ sym (here .log);
+      }
+
+  -- the opening questions and others that are alike give one number
+  opened-alike : (g : Setting) {there here : List Question} → there ≡ here → refusal (opening g t ++ there) ≡ refusal (opening g s ++ here)
+  unfolding opening
+  opened-alike g {there} {here} e =
+      let setting : aboutSetting g (bookOf t) ≡ aboutSetting g b = ap (aboutSetting g) book-there ∙ setting-alike g v b in
+      ap refusal (append-assoc (aboutBytes t) (aboutSetting g (bookOf t)) there)
+      ∙ refusal-next (aboutBytes t) (aboutSetting g (bookOf t) ++ there) (book-passed t number-there)
+      ∙ ap₂ (λ (x y : List Question). refusal (x ++ y)) setting e
+      ∙ sym (refusal-next (aboutBytes s) (aboutSetting g b ++ here) (book-passed s (c .accepted)))
+      ∙ sym (ap refusal (append-assoc (aboutBytes s) (aboutSetting g b) here))
+
+  -- the figures are the same
+  limits-there : (g : Setting) → limitsOn g (bookOf t) ≡ limitsOn g b
+  limits-there g = ap (limitsOn g) book-there ∙ limits-alike g v b
+
+  pub enquiries-alike : (g : Setting) (q : Query) → enquiry g t q ≡ enquiry g s q
+  unfolding enquiry
+  enquiries-alike g q =
+      let limits = limitsOn g b in
+      ap₂ (λ (o : Option ℕ) (r : Reply). decided o onlyNumber r)
+      (opened-alike g (ap (λ (n : Book). aboutQuery n q) book-there ∙ query-alike limits v b q))
+      (ap₂ (λ (l : Limits) (n : Book). found l n q) (limits-there g) book-there ∙ found-alike limits v b q)
+
+  pub cancellations-alike : (g : Setting) (id tries : ℕ) → cancellation g t id tries ≡ cancellation g s id tries
+  unfolding cancellation
+  cancellations-alike g id tries =
+      let limits = limitsOn g b in
+      ap₂ (λ (o : Option ℕ) (r : Cancellation). decided o notCancelled r)
+      (opened-alike g (ap₂ (λ (l : Limits) (n : Book). aboutCancellation l n id tries) (limits-there g) book-there ∙ asked-alike limits v b id tries))
+      (ap₂ (λ (l : Limits) (n : Book). cancelled l n (find (n .users) id) tries) (limits-there g) book-there ∙ cancelled-alike limits v b id tries)
+
+-- upward nothing is lost
+nothing-lost : NothingLost
+unfolding bookOf
+nothing-lost s h v k l = upward-kept (bookOf s) (passed s h .sound) v k l
+
+pub conversions : Conversions
+conversions =
+    record {
+      lossless = nothing-lost;
+      copy = copied;
+      answers = λ v s out.
+          record {
+            gives = λ c k. conversion-given c out k;
+            unaccepted = refused-first v s out;
+            unknown = refused-unknown v s out;
+            lost = refused-lost v s out;
+            narrow = λ c k. refused-narrow c out k;
+          };
+      round = λ v s c. round c;
+      requests = λ v s c store a. requests-alike c store a;
+      enquiries = λ v s c g q. enquiries-alike c g q;
+      cancellations = λ v s c g id tries. cancellations-alike c g id tries;
+    }

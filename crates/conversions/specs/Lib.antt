@@ -1,0 +1,4 @@
+-- A book of any version as any other.
+pub mod Conversion
+-- What is claimed of it.
+pub mod Statements
