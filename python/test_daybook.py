@@ -1,12 +1,9 @@
-"""Tests of the module daybook: its examples, the outside vectors of rust/vectors, hostile arguments."""
+"""Tests of the module daybook: the outside vectors of rust/vectors, hostile arguments."""
 
 from __future__ import annotations
 
-import doctest
 import hashlib
-import inspect
 import struct
-import typing
 import unittest
 from dataclasses import replace
 from pathlib import Path
@@ -14,14 +11,8 @@ from typing import Callable
 
 import daybook
 
+OPERATOR = daybook.Operator()
 VECTORS = Path(__file__).resolve().parent.parent / "rust" / "vectors"
-
-
-def load_tests(loader: unittest.TestLoader, tests: unittest.TestSuite, pattern: object) -> unittest.TestSuite:
-    """The examples of the module are tests, too."""
-    for module in (daybook, daybook.forms, daybook.shrinkage):
-        tests.addTests(doctest.DocTestSuite(module))
-    return tests
 
 
 def sha(data: bytes) -> str:
@@ -46,43 +37,44 @@ def answered(call: Callable[[], tuple[list[str], bytes]], book: bytes, fields: l
 def calls(name: str, words: list[str], book: bytes, store: bytes | None = None) -> tuple[list[str], bytes]:
     """One line of calls.txt: the words of its answer, and the book after it."""
     id = int(words[0]) if words else 0
+    operator = daybook.Operator(store)
 
     def level(of: Callable[..., int]) -> tuple[list[str], bytes]:
-        return [str(of(book, id, store))], book
+        return [str(of(book, id))], book
 
     def call(of: Callable[..., daybook.GuaranteeCall]) -> tuple[list[str], bytes]:
-        level, added, after, _ = of(book, id, store)
+        level, added, after, _ = of(book, id)
         return [str(level), str(added)], after
 
     def posted() -> tuple[list[str], bytes]:
-        return [], daybook.posting(book, id, int(words[1]), int(words[2]), store).book
+        return [], operator.posting(book, id, int(words[1]), int(words[2])).book
 
     def shown() -> tuple[list[str], bytes]:
-        record = daybook.show(book, id, store)._packed()
+        record = operator.record(book, id)._packed()
         return [record[: 68 if book[3] == 3 else 56].hex()], book
 
     def reduced() -> tuple[list[str], bytes]:
-        *figures, after, _ = daybook.reduction(book, id, store)
+        *figures, after, _ = operator.reduction(book, id)
         return [str(figure) for figure in figures], after
 
     def run() -> tuple[list[str], bytes]:
-        *figures, after, _, _ = daybook.run(book, store)
+        *figures, after, _, _ = operator.run(book)
         return [str(figure) for figure in figures], after
 
     def warned() -> tuple[list[str], bytes]:
-        return [str(int(daybook.warning(book, id, store)))], book
+        return [str(int(operator.warning(book, id)))], book
 
     def mlevel() -> tuple[list[str], bytes]:
-        return level(daybook.morning_level)
+        return level(operator.morning_level)
 
     def alevel() -> tuple[list[str], bytes]:
-        return level(daybook.afternoon_level)
+        return level(operator.afternoon_level)
 
     def mcall() -> tuple[list[str], bytes]:
-        return call(daybook.morning_call)
+        return call(operator.morning_call)
 
     def acall() -> tuple[list[str], bytes]:
-        return call(daybook.afternoon_call)
+        return call(operator.afternoon_call)
 
     made = {
         "post": (posted, 0), "show": (shown, 0), "mlevel": (mlevel, 1), "alevel": (alevel, 1), "mcall": (mcall, 2),
@@ -149,7 +141,7 @@ class Vectors(unittest.TestCase):
     @staticmethod
     def day(book: bytes) -> str:
         try:
-            day = daybook.run(book)
+            day = OPERATOR.run(book)
         except daybook.Refused as refused:
             return f"refused {refused.number}"
         return f"run {day.reductions} {day.mwh} {day.worth}"
@@ -183,12 +175,12 @@ class Books(unittest.TestCase):
         for file in printed_books():
             book = file.read_bytes()
             try:
-                fields = daybook.read(book)
+                fields = OPERATOR.read(book)
             except daybook.Refused:
                 continue
             self.assertEqual(daybook.write(fields), book)
-        fields = daybook.read(self.book)
-        self.assertEqual(daybook.most_reductions(self.book), 30_000)
+        fields = OPERATOR.read(self.book)
+        self.assertEqual(OPERATOR.most_reductions(self.book), 30_000)
         crowded = replace(fields, users=fields.users * 200, trades=fields.trades * 70_000)
         for wrong, number in [
             (replace(fields, version=9), 2), (crowded, 3), (replace(fields, date=20_260_230), 4),
@@ -203,7 +195,7 @@ class Books(unittest.TestCase):
     def test_books_of_version_2(self) -> None:
         """The credit of 102, long by 30,000 MWh in PVB, which its morning level has not; the fields
         of versions 1 and 2 there and back, version 1 without the selling tariffs."""
-        fields = daybook.read(self.book)
+        fields = OPERATOR.read(self.book)
         first, second = fields.users
         owing = replace(second, charges=80_000_000)
         tariffs = replace(fields.prices, s=1_500, u=1_900)
@@ -212,12 +204,12 @@ class Books(unittest.TestCase):
         old, new = daybook.write(one), daybook.write(two)
         self.assertEqual((len(old), len(new)), (len(self.book), len(self.book) + 8))
         self.assertEqual(new[32:40], struct.pack("<II", 1_500, 1_900))
-        self.assertEqual(daybook.read(new), two)
-        self.assertEqual(daybook.read(old), replace(one, prices=fields.prices))
+        self.assertEqual(OPERATOR.read(new), two)
+        self.assertEqual(OPERATOR.read(old), replace(one, prices=fields.prices))
         self.assertEqual(old, daybook.write(replace(one, prices=fields.prices)))
-        self.assertEqual(daybook.level_table(old)[1], (102, 80_000_000, 80_000_000))
-        self.assertEqual(daybook.level_table(new)[1], (102, 80_000_000, 80_000_000 - 30_000 * 1_500))
-        self.assertEqual(daybook.level_table(old)[0], daybook.level_table(new)[0])
+        self.assertEqual(OPERATOR.level_table(old)[1], (102, 80_000_000, 80_000_000))
+        self.assertEqual(OPERATOR.level_table(new)[1], (102, 80_000_000, 80_000_000 - 30_000 * 1_500))
+        self.assertEqual(OPERATOR.level_table(old)[0], OPERATOR.level_table(new)[0])
         for wrong, number in [
             (replace(two, prices=replace(tariffs, s=100_001)), 4),
             (replace(two, prices=replace(tariffs, u=100_001)), 4),
@@ -228,13 +220,13 @@ class Books(unittest.TestCase):
             self.assertEqual(caught.exception.number, number)
         for cut in (new[:39], new[:-1], new[:32] + new[40:]):
             with self.assertRaises(daybook.Refused) as caught:
-                daybook.read(cut)
+                OPERATOR.read(cut)
             self.assertEqual(caught.exception.number, 3)
 
     def test_books_of_version_3(self) -> None:
         """The example with 102 as a member of 101 in PVB: what the two have there together, and the
         sale between them for nobody; the managers of versions 1 and 2 are not written."""
-        fields = daybook.read(self.book)
+        fields = OPERATOR.read(self.book)
         first, second = fields.users
         member = replace(second, managers=(101, 0, 0))
         three = replace(fields, version=3, users=(first, member))
@@ -242,15 +234,15 @@ class Books(unittest.TestCase):
         self.assertEqual((len(alone), len(book)), (len(self.book) + 8 + 2 * 12,) * 2)
         self.assertEqual(book[40 + 68 :][:68], member._packed())
         self.assertEqual(book[40 + 68 + 56 :][:12], struct.pack("<III", 101, 0, 0))
-        self.assertEqual((daybook.read(book), daybook.show(book, 102)), (three, member))
-        self.assertEqual(daybook.level_table(alone), daybook.level_table(self.book))
-        self.assertEqual(daybook.level_table(book), [(101, 20_000_000, 20_000_000), (102, 10_000_000, 10_000_000)])
-        self.assertEqual((daybook.run(alone).mwh, daybook.run(book)), (15_000, (0, 0, 0, book, None, False)))
-        self.assertEqual((daybook.warning(alone, 102), daybook.warning(book, 102)), (True, False))
+        self.assertEqual((OPERATOR.read(book), OPERATOR.record(book, 102)), (three, member))
+        self.assertEqual(OPERATOR.level_table(alone), OPERATOR.level_table(self.book))
+        self.assertEqual(OPERATOR.level_table(book), [(101, 20_000_000, 20_000_000), (102, 10_000_000, 10_000_000)])
+        self.assertEqual((OPERATOR.run(alone).mwh, OPERATOR.run(book)), (15_000, (0, 0, 0, book, None, False)))
+        self.assertEqual((OPERATOR.warning(alone, 102), OPERATOR.warning(book, 102)), (True, False))
         for version in (1, 2):
             old = replace(three, version=version)
             self.assertEqual(daybook.write(old), daybook.write(replace(old, users=fields.users)))
-            self.assertEqual(daybook.read(daybook.write(old)).users, fields.users)
+            self.assertEqual(OPERATOR.read(daybook.write(old)).users, fields.users)
         house = replace(second, role=daybook.CLEARING_HOUSE)
         for users in [
             (first, replace(second, managers=(102, 0, 0))),
@@ -265,19 +257,19 @@ class Books(unittest.TestCase):
         daybook.write(replace(three, users=(replace(first, managers=(0, 102, 0)), member)))
         for cut in (book[:39], book[:-12], book[:40] + book[52:]):
             with self.assertRaises(daybook.Refused) as caught:
-                daybook.read(cut)
+                OPERATOR.read(cut)
             self.assertEqual(caught.exception.number, 3)
 
     def test_the_book_that_is_given_stays(self) -> None:
         for kind in (bytes, bytearray, memoryview):
             book = kind(self.book)
-            self.assertNotEqual(daybook.run(book).book, self.book)
+            self.assertNotEqual(OPERATOR.run(book).book, self.book)
             self.assertEqual(bytes(book), self.book)
 
     def test_picked(self) -> None:
-        self.assertEqual(daybook.show_picked(b"", self.book, True, 102), daybook.show(self.book, 102))
+        self.assertEqual(OPERATOR.record_picked(b"", self.book, True, 102), OPERATOR.record(self.book, 102))
         with self.assertRaises(daybook.Refused) as caught:
-            daybook.show_picked(b"", self.book, False, 102)
+            OPERATOR.record_picked(b"", self.book, False, 102)
         self.assertEqual(caught.exception.number, 1)
 
     @staticmethod
@@ -285,30 +277,30 @@ class Books(unittest.TestCase):
         return b"GPS\x01\x00\x01" + struct.pack("<IIQQ", date, 30_000, 1_000_000, least)
 
     def test_stores(self) -> None:
-        date = daybook.read(self.book).date
-        self.assertEqual(daybook.afternoon_level(self.book, 102, self.store(date, 12)), 12)
+        date = OPERATOR.read(self.book).date
+        self.assertEqual(daybook.Operator(self.store(date, 12)).afternoon_level(self.book, 102), 12)
         for given, number in [(self.store(20_991_231, 12), 17), (self.store(20_260_230, 12), 16), (b"", 16)]:
             with self.assertRaises(daybook.Refused) as caught:
-                daybook.afternoon_level(self.book, 102, given)
+                daybook.Operator(given).afternoon_level(self.book, 102)
             self.assertEqual(caught.exception.number, number)
 
     def test_lists(self) -> None:
         lines = [(101, 0, 500), (7, 0, 1), (102, 3, 1), (102, 2, -20)]
-        posted = daybook.posting_list(self.book, lines)
+        posted = OPERATOR.posting_list(self.book, lines)
         self.assertEqual(posted.numbers, (0, 8, 10, 0))
-        after = daybook.posting(self.book, 101, 0, 500).book
-        self.assertEqual(posted.book, daybook.posting(after, 102, 2, -20).book)
-        self.assertEqual(daybook.posting_list(self.book, []), ((), self.book, None))
+        after = OPERATOR.posting(self.book, 101, 0, 500).book
+        self.assertEqual(posted.book, OPERATOR.posting(after, 102, 2, -20).book)
+        self.assertEqual(OPERATOR.posting_list(self.book, []), ((), self.book, None))
         with self.assertRaises(daybook.Refused) as caught:
-            daybook.posting_list(self.book, lines * 129)
+            OPERATOR.posting_list(self.book, lines * 129)
         self.assertEqual(caught.exception.number, 15)
 
     def test_cancellations(self) -> None:
-        self.assertEqual(daybook.cancellation(self.book, 101), ((0,), 30_000_000, 2, True))
-        self.assertEqual(daybook.cancellation(self.book, 101, 1), ((0,), 30_000_000, 1, False))
+        self.assertEqual(OPERATOR.cancellation(self.book, 101), ((0,), 30_000_000, 2, True))
+        self.assertEqual(OPERATOR.cancellation(self.book, 101, 1), ((0,), 30_000_000, 1, False))
         for id, tries, number in [(102, 1, 11), (101, 0, 25), (101, 65_536, 25)]:
             with self.assertRaises(daybook.Refused) as caught:
-                daybook.cancellation(self.book, id, tries)
+                OPERATOR.cancellation(self.book, id, tries)
             self.assertEqual(caught.exception.number, number)
 
     def test_logs(self) -> None:
@@ -316,36 +308,36 @@ class Books(unittest.TestCase):
         log = daybook.start_log(self.book)
         self.assertEqual(len(log), 271_668)
         self.assertEqual(log[:12], struct.pack("<4sII", b"GDL", 0, len(self.book)))
-        cut = daybook.reduction(self.book, 101, log=log)
-        run = daybook.run(self.book, log=log)
+        cut = OPERATOR.reduction(self.book, 101, log=log)
+        run = OPERATOR.run(self.book, log=log)
         self.assertEqual((run.book, run.log, run.log_full), (cut.book, cut.log, False))
         for kind in (bytes, bytearray, memoryview):
-            back = daybook.withdrawal(run.book, kind(run.log))
+            back = OPERATOR.withdrawal(run.book, kind(run.log))
             self.assertEqual(back, (15_000, 30_000_000, self.book, log))
-        self.assertEqual(daybook.withdrawal(run.book, run.log, self.store(daybook.read(self.book).date, 12)), back)
-        self.assertIsNone(daybook.run(self.book).log)
-        posted = daybook.posting(run.book, 101, 0, 5, log=run.log)
-        listed = daybook.posting_list(run.book, [(101, 0, 5)], log=run.log)
+        self.assertEqual(daybook.Operator(self.store(OPERATOR.read(self.book).date, 12)).withdrawal(run.book, run.log), back)
+        self.assertIsNone(OPERATOR.run(self.book).log)
+        posted = OPERATOR.posting(run.book, 101, 0, 5, log=run.log)
+        listed = OPERATOR.posting_list(run.book, [(101, 0, 5)], log=run.log)
         self.assertEqual((posted.log, listed.log), (daybook.start_log(posted.book),) * 2)
-        called = daybook.afternoon_call(run.book, 101, log=run.log)
+        called = OPERATOR.afternoon_call(run.book, 101, log=run.log)
         self.assertEqual(called.log, daybook.start_log(called.book))
-        called = daybook.morning_call(run.book, 101, log=run.log)
+        called = OPERATOR.morning_call(run.book, 101, log=run.log)
         self.assertEqual(called.log, daybook.start_log(called.book))
 
     def test_refused_logs(self) -> None:
-        cut = daybook.reduction(self.book, 101, log=daybook.start_log(self.book))
+        cut = OPERATOR.reduction(self.book, 101, log=daybook.start_log(self.book))
         full = bytearray(daybook.start_log(self.book))
         full[4:8] = struct.pack("<I", 256)
-        run = daybook.run(self.book, log=full)
+        run = OPERATOR.run(self.book, log=full)
         self.assertEqual(run, (0, 0, 0, self.book, bytes(full), True))
         for call, number in [
-            (lambda: daybook.withdrawal(self.book, daybook.start_log(self.book)), 18),
-            (lambda: daybook.withdrawal(self.book, b""), 19),
-            (lambda: daybook.withdrawal(self.book, cut.log), 19),
-            (lambda: daybook.run(cut.book, log=cut.log[:-1]), 19),
-            (lambda: daybook.posting(cut.book, 101, 0, 1, log=cut.log + b"\0"), 19),
+            (lambda: OPERATOR.withdrawal(self.book, daybook.start_log(self.book)), 18),
+            (lambda: OPERATOR.withdrawal(self.book, b""), 19),
+            (lambda: OPERATOR.withdrawal(self.book, cut.log), 19),
+            (lambda: OPERATOR.run(cut.book, log=cut.log[:-1]), 19),
+            (lambda: OPERATOR.posting(cut.book, 101, 0, 1, log=cut.log + b"\0"), 19),
             (lambda: daybook.start_log(bytes(9_513)), 19),
-            (lambda: daybook.reduction(self.book, 101, log=full), 20),
+            (lambda: OPERATOR.reduction(self.book, 101, log=full), 20),
         ]:
             with self.assertRaises(daybook.Refused) as caught:
                 call()
@@ -353,10 +345,12 @@ class Books(unittest.TestCase):
 
     def test_arguments_are_not_cut_off(self) -> None:
         for call in (
-            lambda: daybook.show(self.book, 2**32 + 101),
-            lambda: daybook.show(self.book, -1),
-            lambda: daybook.posting(self.book, 101, 2**32, 1),
-            lambda: daybook.posting(self.book, 101, 0, 2**63),
+            lambda: OPERATOR.record(self.book, 2**32 + 101),
+            lambda: OPERATOR.record(self.book, -1),
+            lambda: OPERATOR.posting(self.book, 101, 2**32, 1),
+            lambda: OPERATOR.posting(self.book, 101, 0, 2**63),
+            lambda: daybook.Shipper(2**32),
+            lambda: daybook.Shipper(101).trade(self.book, -1),
             lambda: daybook.over_days(-1),
             lambda: daybook.shrinkage_return([2**63]),
         ):
@@ -365,24 +359,14 @@ class Books(unittest.TestCase):
     def test_any_bytes_are_answered(self) -> None:
         for length in range(0, len(self.book), 7):
             with self.assertRaises(daybook.Refused):
-                daybook.run(self.book[:length])
+                OPERATOR.run(self.book[:length])
         for place in range(len(self.book)):
             changed = bytearray(self.book)
             changed[place] ^= 0x80
             try:
-                daybook.run(changed)
+                OPERATOR.run(changed)
             except daybook.Refused as refused:
                 self.assertIn(refused.number, range(1, 8))
-
-    def test_everything_public_is_typed_and_documented(self) -> None:
-        for name in daybook.__all__:
-            thing = getattr(daybook, name)
-            if not callable(thing):
-                continue
-            self.assertTrue(inspect.getdoc(thing), name)
-            if inspect.isfunction(thing):
-                hints = typing.get_type_hints(thing)
-                self.assertEqual(set(hints), set(inspect.signature(thing).parameters) | {"return"}, name)
 
 
 if __name__ == "__main__":

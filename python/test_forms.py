@@ -12,6 +12,8 @@ from pathlib import Path
 
 import daybook
 
+OPERATOR = daybook.Operator()
+
 ROOT = Path(__file__).resolve().parent.parent
 EXAMPLE = ROOT / "examples" / "python" / "column.py"
 AREAS = {"PVB": 0, "TVB": 1, "AVB": 2}
@@ -23,7 +25,7 @@ def books() -> list[bytes]:
     for folder in ("samples", "rust/vectors", "rust/vectors/version-1", "rust/vectors/version-2", "rust/vectors/asks"):
         for file in sorted((ROOT / folder).glob("*.gdb")):
             try:
-                daybook.read(file.read_bytes())
+                OPERATOR.read(file.read_bytes())
             except daybook.Refused:
                 continue
             found.append(file.read_bytes())
@@ -52,7 +54,7 @@ class Forms(unittest.TestCase):
     def test_there_and_back(self) -> None:
         versions = set()
         for book in books():
-            form = daybook.form(book)
+            form = OPERATOR.form(book)
             self.assertEqual((form.bytes[:8], len(form.bytes)), (b"GDF" + book[3:8], len(book)))
             self.assertEqual((daybook.restore(form), daybook.restore(form.bytes)), (book, book))
             self.assertEqual(daybook.Form(form.bytes).bytes, form.bytes)
@@ -61,7 +63,7 @@ class Forms(unittest.TestCase):
 
     def test_each_field_of_all_records(self) -> None:
         for book in books():
-            fields, form = daybook.read(book), daybook.form(book)
+            fields, form = OPERATOR.read(book), OPERATOR.form(book)
             managers = {"manager_PVB", "manager_TVB", "manager_AVB"}
             self.assertEqual(list(form), [name for name in daybook.FIELDS if fields.version == 3 or name not in managers])
             for name, view in form.items():
@@ -99,7 +101,7 @@ class Forms(unittest.TestCase):
 
     def test_what_is_no_form(self) -> None:
         book = (ROOT / "samples" / "day-3.gdb").read_bytes()
-        form = daybook.form(book)
+        form = OPERATOR.form(book)
         position = bytearray(form.bytes)
         position[form.columns["position_TVB"].offset] ^= 1
         for wrong in (b"", book, form.bytes[:-1], form.bytes + b"\0", position, bytes(20_000)):
@@ -108,14 +110,14 @@ class Forms(unittest.TestCase):
                     call(wrong)
                 self.assertEqual(caught.exception.number, 29)
         with self.assertRaises(daybook.Refused) as caught:
-            daybook.form(form.bytes)
+            OPERATOR.form(form.bytes)
         self.assertEqual(caught.exception.number, 1)
         for kind in (bytearray, memoryview):
             self.assertEqual(daybook.Form(kind(form.bytes))["id"].tolist(), [101, 102, 103])
-            self.assertEqual(daybook.form(kind(book)).bytes, form.bytes)
+            self.assertEqual(OPERATOR.form(kind(book)).bytes, form.bytes)
 
     def test_a_column_of_a_file(self) -> None:
-        form = daybook.form((ROOT / "samples" / "day.gdb").read_bytes())
+        form = OPERATOR.form((ROOT / "samples" / "day.gdb").read_bytes())
         self.assertEqual(daybook.read_column(io.BytesIO(form.bytes), "position_PVB").tolist(), [-40_000, 30_000])
         for data, error in [(b"", ValueError), (b"GDB" + form.bytes[3:], ValueError), (form.bytes[:75], ValueError)]:
             self.assertRaises(error, daybook.read_column, io.BytesIO(data), "position_PVB")
@@ -131,7 +133,7 @@ class Archive(unittest.TestCase):
         self.addCleanup(folder.cleanup)
         self.folder = Path(folder.name)
         given = books()
-        self.forms = [daybook.form(given[place % len(given)]) for place in range(1000)]
+        self.forms = [OPERATOR.form(given[place % len(given)]) for place in range(1000)]
         for place, form in enumerate(self.forms):
             (self.folder / f"{place:04}.gdf").write_bytes(form.bytes)
 

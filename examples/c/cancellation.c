@@ -15,8 +15,8 @@ static uint32_t field(const uint8_t *book, size_t trade, size_t at)
 int main(int argc, char **argv)
 {
     static uint8_t book[DAYBOOK_IMAGE_SIZE + 1];
-    uint8_t marks[DAYBOOK_MARKS];
-    uint64_t answer[DAYBOOK_CANCELLATION_NUMBERS];
+    daybook_setting desk = {.party = DAYBOOK_OPERATOR};
+    daybook_cancelled answer;
 
     if (argc != 4) {
         fprintf(stderr, "usage: cancellation BOOK ID TRIES\n");
@@ -32,15 +32,15 @@ int main(int argc, char **argv)
 
     uint32_t id = (uint32_t)strtoul(argv[2], NULL, 10);
     uint32_t tries = (uint32_t)strtoul(argv[3], NULL, 10);
-    uint32_t number = daybook_cancellation(book, length, DAYBOOK_NO_STORE, id, tries, marks, DAYBOOK_MARKS, answer, DAYBOOK_CANCELLATION_NUMBERS);
+    uint32_t number = daybook_cancellation(&desk, (daybook_bytes){book, length}, id, tries, &answer);
     if (number != 0) {
         printf("refused, question %" PRIu32 "\n", number);
         return 1;
     }
     for (size_t i = 0; i < DAYBOOK_MARKS; i++)
-        if (marks[i] == 1)
+        if (answer.marks[i] == 1)
             printf("cancel trade %zu: %" PRIu32 " MWh to %" PRIu32 "\n", i, field(book, i, 16), field(book, i, 4));
-    printf("%" PRIu64 ".%02" PRIu64 " more than needed, %" PRIu64 " tries, %s\n", answer[0] / 100, answer[0] % 100, answer[1],
-           answer[2] == 1 ? "complete" : "not complete");
+    printf("%" PRIu64 ".%02" PRIu64 " more than needed, %" PRIu64 " tries, %s\n", answer.excess / 100, answer.excess % 100, answer.tries,
+           answer.complete == 1 ? "complete" : "not complete");
     return 0;
 }

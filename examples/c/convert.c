@@ -21,7 +21,8 @@ int main(int argc, char **argv)
     size_t length = fread(book, 1, sizeof book, file);
     fclose(file);
 
-    uint32_t number = daybook_convert(book, length, (uint32_t)strtoul(argv[2], NULL, 10), converted, sizeof converted);
+    daybook_setting desk = {.party = DAYBOOK_OPERATOR};
+    uint32_t number = daybook_convert(&desk, (daybook_bytes){book, length}, (uint32_t)strtoul(argv[2], NULL, 10), (daybook_part){converted, sizeof converted});
     if (number != 0) {
         printf("refused, question %" PRIu32 "\n", number);
         return 1;

@@ -19,13 +19,13 @@ static int64_t signed_field(const uint8_t *bytes)
 }
 
 /* The state of a user, told by what the afternoon call on a copy of the book answers: 9 a clearing house, 12 short of cover, 0 a call that is due, else none of these. */
-static const char *state_of(const uint8_t *book, size_t size, uint32_t id)
+static const char *state_of(const daybook_setting *desk, daybook_bytes book, uint32_t id)
 {
     static uint8_t copy[DAYBOOK_IMAGE_SIZE];
-    uint64_t answer[DAYBOOK_CALL_NUMBERS];
+    daybook_guarantee answer;
 
-    memcpy(copy, book, size);
-    switch (daybook_afternoon_call(copy, size, DAYBOOK_NO_STORE, DAYBOOK_NO_LOG, id, answer, DAYBOOK_CALL_NUMBERS)) {
+    memcpy(copy, book.bytes, book.length);
+    switch (daybook_afternoon_call(desk, (daybook_part){copy, book.length}, id, &answer)) {
     case 9:
         return "clear";
     case 12:
@@ -40,22 +40,24 @@ static const char *state_of(const uint8_t *book, size_t size, uint32_t id)
 int main(void)
 {
     /* one byte more than the largest book, so that a longer input is refused and not cut */
-    static uint8_t book[DAYBOOK_IMAGE_SIZE + 1];
-    uint64_t run[DAYBOOK_RUN_NUMBERS], level[DAYBOOK_LEVEL_NUMBERS];
+    static uint8_t bytes[DAYBOOK_IMAGE_SIZE + 1];
+    daybook_setting desk = {.party = DAYBOOK_OPERATOR};
+    daybook_ran run;
+    daybook_level level;
 
-    size_t size = fread(book, 1, sizeof book, stdin);
-    uint32_t number = daybook_run(book, size, DAYBOOK_NO_STORE, DAYBOOK_NO_LOG, run, DAYBOOK_RUN_NUMBERS);
+    daybook_part book = {bytes, fread(bytes, 1, sizeof bytes, stdin)};
+    uint32_t number = daybook_run(&desk, book, &run);
     if (number != 0) {
         printf("refused %" PRIu32 "\n", number);
         return 0;
     }
-    printf("run %" PRIu64 " %" PRIu64 " %" PRIu64 "\n", run[0], run[1], run[2]);
-    for (size_t place = 0; place < book[5]; place++) {
-        const uint8_t *user = book + DAYBOOK_HEADER_SIZE(book) + DAYBOOK_USER_SIZE(book) * place;
+    printf("run %" PRIu64 " %" PRIu64 " %" PRIu64 "\n", run.reductions, run.mwh, run.worth);
+    for (size_t place = 0; place < bytes[5]; place++) {
+        const uint8_t *user = bytes + DAYBOOK_HEADER_SIZE(bytes) + DAYBOOK_USER_SIZE(bytes) * place;
         uint32_t id = field(user);
         /* a refused level is 0, as a clearing house's is printed */
-        daybook_afternoon_level(book, size, DAYBOOK_NO_STORE, id, level, DAYBOOK_LEVEL_NUMBERS);
-        printf("%" PRIu32 " %s %" PRIu64, id, state_of(book, size, id), level[0]);
+        daybook_afternoon_level(&desk, daybook_read_only(book), id, &level);
+        printf("%" PRIu32 " %s %" PRIu64, id, state_of(&desk, daybook_read_only(book), id), level.level);
         for (size_t area = 0; area < 3; area++)
             printf(" %" PRId64, signed_field(user + 20 + 4 * area));
         printf("\n");

@@ -6,9 +6,10 @@
 int main(void)
 {
     static uint8_t book[DAYBOOK_IMAGE_SIZE + 1]; /* a byte more than the largest book, so that a longer input is refused */
-    uint64_t level[DAYBOOK_LEVEL_NUMBERS];
+    daybook_setting desk = {.party = DAYBOOK_OPERATOR};
+    daybook_level level;
     size_t length = fread(book, 1, sizeof book, stdin);
-    uint32_t number = daybook_afternoon_level(book, length, DAYBOOK_NO_STORE, 101, level, DAYBOOK_LEVEL_NUMBERS);
-    printf("number %" PRIu32 ", level %" PRIu64 "\n", number, level[0]);
+    uint32_t number = daybook_afternoon_level(&desk, (daybook_bytes){book, length}, 101, &level);
+    printf("number %" PRIu32 ", level %" PRIu64 "\n", number, level.level);
     return number != 0;
 }

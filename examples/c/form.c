@@ -21,12 +21,13 @@ int main(int argc, char **argv)
     size_t length = fread(book, 1, sizeof book, file);
     fclose(file);
 
-    uint32_t number = daybook_form(book, length, form, sizeof form);
+    daybook_setting desk = {.party = DAYBOOK_OPERATOR};
+    uint32_t number = daybook_form(&desk, (daybook_bytes){book, length}, (daybook_part){form, sizeof form});
     if (number != 0) {
         printf("refused, question %" PRIu32 "\n", number);
         return 1;
     }
-    number = daybook_restore(form, length, back, sizeof back);
+    number = daybook_restore((daybook_bytes){form, length}, (daybook_part){back, sizeof back});
     if (number != 0 || memcmp(back, book, length) != 0) {
         printf("the form gives another book, question %" PRIu32 "\n", number);
         return 1;

@@ -1,5 +1,5 @@
-/* Calls every function of daybook.h on hostile input, but daybook_list (hostile_lists.c), daybook_cancellation (hostile_cancellations.c), daybook_form and daybook_restore
-   (hostile_forms.c), daybook_convert (hostile_conversions.c), and without a log (hostile_logs.c): hostile BOOK. Each part is a block of exactly its length, so that valgrind
+/* Calls every function of daybook_raw.h on hostile input, but daybook_raw_list (hostile_lists.c), daybook_raw_cancellation (hostile_cancellations.c), daybook_raw_form and daybook_raw_restore
+   (hostile_forms.c), daybook_raw_convert (hostile_conversions.c), and without a log (hostile_logs.c): hostile BOOK. Each part is a block of exactly its length, so that valgrind
    sees a byte read or written outside it (the script `valgrind` beside this file). What a caller can tell is held against the header: the numbers, the 0 of a refused
    answer, and what stays unchanged. */
 #include "hostile.h"
@@ -12,39 +12,39 @@ typedef uint32_t answering(uint8_t *book, size_t size, uint32_t with_store, cons
 
 static uint32_t morning_level(uint8_t *book, size_t size, uint32_t with_store, const uint8_t *store, size_t store_size, uint32_t id, uint64_t *answer, size_t count)
 {
-    return daybook_morning_level(book, size, with_store, store, store_size, id, answer, count);
+    return daybook_raw_morning_level(book, size, DAYBOOK_OPERATOR, with_store, store, store_size, id, answer, count);
 }
 
 static uint32_t afternoon_level(uint8_t *book, size_t size, uint32_t with_store, const uint8_t *store, size_t store_size, uint32_t id, uint64_t *answer, size_t count)
 {
-    return daybook_afternoon_level(book, size, with_store, store, store_size, id, answer, count);
+    return daybook_raw_afternoon_level(book, size, DAYBOOK_OPERATOR, with_store, store, store_size, id, answer, count);
 }
 
 static uint32_t warning(uint8_t *book, size_t size, uint32_t with_store, const uint8_t *store, size_t store_size, uint32_t id, uint64_t *answer, size_t count)
 {
-    return daybook_warning(book, size, with_store, store, store_size, id, answer, count);
+    return daybook_raw_warning(book, size, DAYBOOK_OPERATOR, with_store, store, store_size, id, answer, count);
 }
 
 static uint32_t morning_call(uint8_t *book, size_t size, uint32_t with_store, const uint8_t *store, size_t store_size, uint32_t id, uint64_t *answer, size_t count)
 {
-    return daybook_morning_call(book, size, with_store, store, store_size, DAYBOOK_NO_LOG, id, answer, count);
+    return daybook_raw_morning_call(book, size, DAYBOOK_OPERATOR, with_store, store, store_size, DAYBOOK_NO_LOG, id, answer, count);
 }
 
 static uint32_t afternoon_call(uint8_t *book, size_t size, uint32_t with_store, const uint8_t *store, size_t store_size, uint32_t id, uint64_t *answer, size_t count)
 {
-    return daybook_afternoon_call(book, size, with_store, store, store_size, DAYBOOK_NO_LOG, id, answer, count);
+    return daybook_raw_afternoon_call(book, size, DAYBOOK_OPERATOR, with_store, store, store_size, DAYBOOK_NO_LOG, id, answer, count);
 }
 
 static uint32_t reduction(uint8_t *book, size_t size, uint32_t with_store, const uint8_t *store, size_t store_size, uint32_t id, uint64_t *answer, size_t count)
 {
-    return daybook_reduction(book, size, with_store, store, store_size, DAYBOOK_NO_LOG, id, answer, count);
+    return daybook_raw_reduction(book, size, DAYBOOK_OPERATOR, with_store, store, store_size, DAYBOOK_NO_LOG, id, answer, count);
 }
 
 /* A run is of no user. */
 static uint32_t run(uint8_t *book, size_t size, uint32_t with_store, const uint8_t *store, size_t store_size, uint32_t id, uint64_t *answer, size_t count)
 {
     (void)id;
-    return daybook_run(book, size, with_store, store, store_size, DAYBOOK_NO_LOG, answer, count);
+    return daybook_raw_run(book, size, DAYBOOK_OPERATOR, with_store, store, store_size, DAYBOOK_NO_LOG, answer, count);
 }
 
 static const struct {
@@ -99,7 +99,7 @@ static void post(const uint8_t *bytes, size_t size, uint32_t id, uint32_t area, 
 {
     uint8_t *book = copy_of(bytes, size);
     give_store();
-    uint32_t number = daybook_posting(book, size, GIVEN, DAYBOOK_NO_LOG, id, area, amount);
+    uint32_t number = daybook_raw_posting(book, size, DAYBOOK_OPERATOR, GIVEN, DAYBOOK_NO_LOG, id, area, amount);
     take_store_back();
     calls++;
     expect(number <= 10 || number == 16 || number == 17, "posting", "no number of a question", number);
@@ -114,7 +114,7 @@ static void show(const uint8_t *bytes, size_t size, uint32_t id, size_t lent)
     uint8_t *record = block(lent);
     memset(record, FILLER, lent);
     give_store();
-    uint32_t number = daybook_show(book, size, GIVEN, id, record, lent);
+    uint32_t number = daybook_raw_show(book, size, DAYBOOK_OPERATOR, GIVEN, id, record, lent);
     expect_part("show", number, record, lent, DAYBOOK_RECORD_SIZE);
     if (number == 0)
         expect(all_bytes(record + DAYBOOK_USER_SIZE(book), DAYBOOK_RECORD_SIZE - DAYBOOK_USER_SIZE(book), 0), "show", "bytes behind the record are not 0", number);
@@ -125,8 +125,8 @@ static void show(const uint8_t *bytes, size_t size, uint32_t id, size_t lent)
     for (uint32_t pick = 0; pick <= 2; pick++) {
         uint8_t *picked = block(lent);
         memset(picked, FILLER, lent);
-        uint32_t again = pick == 0 ? daybook_show_picked(book, size, other, 1, GIVEN, pick, id, picked, lent)
-                                   : daybook_show_picked(other, 1, book, size, GIVEN, pick, id, picked, lent);
+        uint32_t again = pick == 0 ? daybook_raw_show_picked(book, size, other, 1, DAYBOOK_OPERATOR, GIVEN, pick, id, picked, lent)
+                                   : daybook_raw_show_picked(other, 1, book, size, DAYBOOK_OPERATOR, GIVEN, pick, id, picked, lent);
         expect_part("show_picked", again, picked, lent, DAYBOOK_RECORD_SIZE);
         expect(again == number, "show_picked", "another number than show", again);
         expect(memcmp(picked, record, lent) == 0, "show_picked", "another record than show", again);
@@ -144,12 +144,12 @@ static void read_book(const uint8_t *bytes, size_t size, size_t lent)
     uint8_t *book = copy_of(bytes, size);
     uint8_t *image = block(lent);
     memset(image, FILLER, lent);
-    uint32_t number = daybook_read(book, size, image, lent);
+    uint32_t number = daybook_raw_read(book, size, DAYBOOK_OPERATOR, image, lent);
     expect_part("read", number, image, lent, DAYBOOK_IMAGE_SIZE);
     if (number == 0) {
         uint8_t *out = block(size);
         memset(out, FILLER, size);
-        uint32_t again = daybook_write(image, lent, out, size);
+        uint32_t again = daybook_raw_write(image, lent, out, size);
         calls++;
         expect(again == 0, "write", "refuses what read accepts", again);
         expect(memcmp(out, bytes, size) == 0, "write", "writes other bytes than were read", again);
@@ -164,7 +164,7 @@ static void write_book(const uint8_t *bytes, size_t size, size_t lent)
     uint8_t *image = copy_of(bytes, size);
     uint8_t *out = block(lent);
     memset(out, FILLER, lent);
-    uint32_t number = daybook_write(image, size, out, lent);
+    uint32_t number = daybook_raw_write(image, size, out, lent);
     calls++;
     if (size != DAYBOOK_IMAGE_SIZE)
         expect(number == DAYBOOK_WRONG_LENGTH, "write", "another length is not refused", number);
@@ -195,7 +195,7 @@ static void return_shrinkage(const int64_t *balances, size_t users, size_t count
     uint8_t *given = copy_of((const uint8_t *)balances, users * sizeof *balances);
     uint64_t *answer = block(count * sizeof *answer);
     memset(answer, FILLER, count * sizeof *answer);
-    uint32_t number = daybook_shrinkage_return((const int64_t *)(const void *)given, users, answer, count);
+    uint32_t number = daybook_raw_shrinkage_return((const int64_t *)(const void *)given, users, answer, count);
     calls++;
     if (count != DAYBOOK_RETURN_NUMBERS) {
         expect(number == DAYBOOK_WRONG_LENGTH, "shrinkage_return", "another length is not refused", number);
@@ -215,7 +215,7 @@ static void spread_share(uint64_t share, size_t count)
 {
     uint64_t *days = block(count * sizeof *days);
     memset(days, FILLER, count * sizeof *days);
-    uint32_t number = daybook_shrinkage_days(share, days, count);
+    uint32_t number = daybook_raw_shrinkage_days(share, days, count);
     calls++;
     if (count != DAYBOOK_SHRINKAGE_DAYS) {
         expect(number == DAYBOOK_WRONG_LENGTH, "shrinkage_days", "another length is not refused", number);
@@ -293,7 +293,7 @@ static void damaged_books(const uint8_t *sample, size_t size, uint32_t id)
 static void damaged_images(const uint8_t *sample, size_t size)
 {
     uint8_t *image = block(DAYBOOK_IMAGE_SIZE);
-    uint32_t number = daybook_read(sample, size, image, DAYBOOK_IMAGE_SIZE);
+    uint32_t number = daybook_raw_read(sample, size, DAYBOOK_OPERATOR, image, DAYBOOK_IMAGE_SIZE);
     expect(number == 0, "read", "the sample is refused", number);
     const size_t users = DAYBOOK_HEADER_SIZE_2, trades = users + DAYBOOK_USER_SIZE_3 * DAYBOOK_MAX_USERS;
     for (size_t at = 0; at < DAYBOOK_IMAGE_SIZE; at++) {
@@ -369,7 +369,7 @@ static void largest_book(const uint8_t *sample)
         trade[16] = 1;
     }
     uint8_t *image = block(DAYBOOK_IMAGE_SIZE);
-    uint32_t number = daybook_read(book, size, image, DAYBOOK_IMAGE_SIZE);
+    uint32_t number = daybook_raw_read(book, size, DAYBOOK_OPERATOR, image, DAYBOOK_IMAGE_SIZE);
     expect(number == 0, "read", "the largest book is refused", number);
     for (uint32_t id = 0; id <= DAYBOOK_MAX_USERS + 1; id += 13)
         every(book, size, id);

@@ -1,4 +1,4 @@
-/* Calls daybook_cancellation on hostile input: hostile_cancellations BOOK. Each part is a block of exactly its length, so that valgrind sees a byte read or written outside it
+/* Calls daybook_raw_cancellation on hostile input: hostile_cancellations BOOK. Each part is a block of exactly its length, so that valgrind sees a byte read or written outside it
    (the script `valgrind` beside this file). What a caller can tell is held against the header: the numbers, the 0 of a refused answer, the marks, and that no book changes. */
 #include "hostile.h"
 
@@ -28,7 +28,7 @@ static uint32_t cancel(const uint8_t *bytes, size_t size, uint32_t id, uint32_t 
     memset(marks, FILLER, marked);
     memset(answer, FILLER, count * sizeof *answer);
     give_store();
-    uint32_t number = daybook_cancellation(book, size, GIVEN, id, tries, marks, marked, answer, count);
+    uint32_t number = daybook_raw_cancellation(book, size, DAYBOOK_OPERATOR, GIVEN, id, tries, marks, marked, answer, count);
     take_store_back();
     calls++;
     expect(size == 0 || memcmp(book, bytes, size) == 0, call, "the book is changed", number);

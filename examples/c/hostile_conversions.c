@@ -1,4 +1,4 @@
-/* Calls daybook_convert on hostile input: hostile_conversions BOOK. Each part is a block of exactly its length, so that valgrind sees a byte read or written outside it
+/* Calls daybook_raw_convert on hostile input: hostile_conversions BOOK. Each part is a block of exactly its length, so that valgrind sees a byte read or written outside it
    (the script `valgrind` beside this file). What a caller can tell is held against the header: the numbers, every byte that is written, and what stays unchanged. */
 #include "hostile.h"
 
@@ -42,7 +42,7 @@ static uint32_t convert(const uint8_t *bytes, size_t size, uint32_t version, uin
     uint8_t *book = copy_of(bytes, size);
     uint8_t *out = block(room);
     memset(out, FILLER, room);
-    uint32_t number = daybook_convert(book, size, version, out, room);
+    uint32_t number = daybook_raw_convert(book, size, DAYBOOK_OPERATOR, version, out, room);
     calls++;
     expect(size == 0 || memcmp(book, bytes, size) == 0, call, "the book is changed", number);
     if (number == 0) {

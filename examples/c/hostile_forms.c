@@ -1,8 +1,13 @@
-/* Calls daybook_form and daybook_restore on hostile input: hostile_forms BOOK. Each part is a block of exactly its length, so that valgrind sees a byte read or written
+/* Calls daybook_raw_form and daybook_raw_restore on hostile input: hostile_forms BOOK. Each part is a block of exactly its length, so that valgrind sees a byte read or written
    outside it (the script `valgrind` beside this file). What a caller can tell is held against the header: the numbers, every byte that is written, and what stays unchanged. */
 #include "hostile.h"
 
 typedef uint32_t writing(const uint8_t *given, size_t size, uint8_t *out, size_t room);
+
+static uint32_t to_form(const uint8_t *book, size_t size, uint8_t *out, size_t room)
+{
+    return daybook_raw_form(book, size, DAYBOOK_OPERATOR, out, room);
+}
 
 /* Copies n records of a size column by column, as the header tells the fields by their widths: the bytes behind the last column. */
 static uint8_t *columns(const uint8_t *records, size_t n, size_t size, const uint8_t *widths, uint8_t *out)
@@ -41,7 +46,7 @@ static uint32_t write_to(writing *call, const char *name, const uint8_t *bytes, 
         if (copy != NULL)
             memcpy(copy, out, size);
     } else {
-        expect(call == daybook_form ? number <= 7 || number == 30 : number == 29 || number == 30, name, "no number of a question", number);
+        expect(call == to_form ? number <= 7 || number == 30 : number == 29 || number == 30, name, "no number of a question", number);
         expect(number != 30 || room < size, name, "an output with room is refused", number);
         expect(all_bytes(out, room, FILLER), name, "the output is changed by a refusal", number);
     }
@@ -56,8 +61,8 @@ static void every_room(const uint8_t *sample, const uint8_t *form, size_t size)
     const size_t rooms[] = {0, 1, 3, 31, 32, 40, size - 1, size, size + 1, size + 100};
     for (size_t k = 0; k < sizeof rooms / sizeof rooms[0]; k++) {
         uint32_t number = rooms[k] < size ? 30 : 0;
-        expect(write_to(daybook_form, "form", sample, size, NULL, rooms[k]) == number, "form", "another number by the room", number);
-        expect(write_to(daybook_restore, "restore", form, size, NULL, rooms[k]) == number, "restore", "another number by the room", number);
+        expect(write_to(to_form, "form", sample, size, NULL, rooms[k]) == number, "form", "another number by the room", number);
+        expect(write_to(daybook_raw_restore, "restore", form, size, NULL, rooms[k]) == number, "restore", "another number by the room", number);
     }
 }
 
@@ -66,12 +71,12 @@ static void other_bytes(const uint8_t *bytes, size_t size, size_t room)
 {
     uint8_t *book = block(size + 1);
     uint8_t *again = block(size + 1);
-    if (write_to(daybook_form, "form", bytes, size, book, room) == 0) {
+    if (write_to(to_form, "form", bytes, size, book, room) == 0) {
         copy_form(bytes, again);
         expect(memcmp(book, again, size) == 0, "form", "another form than the header says", 0);
     }
-    if (write_to(daybook_restore, "restore", bytes, size, book, room) == 0) {
-        expect(write_to(daybook_form, "form", book, size, again, size) == 0, "form", "a book of a form is refused", 0);
+    if (write_to(daybook_raw_restore, "restore", bytes, size, book, room) == 0) {
+        expect(write_to(to_form, "form", book, size, again, size) == 0, "form", "a book of a form is refused", 0);
         expect(memcmp(again, bytes, size) == 0, "form", "another form than the one that was accepted", 0);
     }
     free(again);
@@ -97,10 +102,10 @@ int main(int argc, char **argv)
     uint32_t id;
     size_t size = read_sample(argc, argv, sample, &id);
 
-    expect(write_to(daybook_form, "form", sample, size, form, size) == 0, "form", "the sample is refused", 0);
+    expect(write_to(to_form, "form", sample, size, form, size) == 0, "form", "the sample is refused", 0);
     copy_form(sample, book);
     expect(memcmp(form, book, size) == 0, "form", "another form than the header says", 0);
-    expect(write_to(daybook_restore, "restore", form, size, book, size) == 0, "restore", "the form of the sample is refused", 0);
+    expect(write_to(daybook_raw_restore, "restore", form, size, book, size) == 0, "restore", "the form of the sample is refused", 0);
     expect(memcmp(book, sample, size) == 0, "restore", "another book than the sample", 0);
     every_room(sample, form, size);
     changed(sample, size);

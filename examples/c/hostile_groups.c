@@ -66,7 +66,7 @@ static uint8_t *written(uint8_t *image, uint8_t version, uint32_t *number)
     image[3] = version;
     uint8_t *book = block(length_of(image));
     memset(book, FILLER, length_of(image));
-    *number = daybook_write(image, DAYBOOK_IMAGE_SIZE, book, length_of(image));
+    *number = daybook_raw_write(image, DAYBOOK_IMAGE_SIZE, book, length_of(image));
     calls++;
     image[3] = before;
     return book;
@@ -79,9 +79,9 @@ static void expect_levels(uint8_t *image, const uint8_t *book, size_t size, size
 {
     const uint8_t *user = user_at(image, place);
     uint64_t level[DAYBOOK_LEVEL_NUMBERS], charges = 0;
-    uint32_t numbers[2] = {daybook_morning_level(book, size, DAYBOOK_NO_STORE, number_at(user), level, DAYBOOK_LEVEL_NUMBERS), 0};
+    uint32_t numbers[2] = {daybook_raw_morning_level(book, size, DAYBOOK_OPERATOR, DAYBOOK_NO_STORE, number_at(user), level, DAYBOOK_LEVEL_NUMBERS), 0};
     uint64_t morning = level[0];
-    numbers[1] = daybook_afternoon_level(book, size, DAYBOOK_NO_STORE, number_at(user), level, DAYBOOK_LEVEL_NUMBERS);
+    numbers[1] = daybook_raw_afternoon_level(book, size, DAYBOOK_OPERATOR, DAYBOOK_NO_STORE, number_at(user), level, DAYBOOK_LEVEL_NUMBERS);
     calls += 2;
     expect(numbers[0] == numbers[1] && (numbers[0] == 9) == (user[ROLE] != 0), "level", "9 is for a clearing house", numbers[0]);
     for (size_t area = 0; area < AREAS; area++)
@@ -97,17 +97,17 @@ static void expect_levels(uint8_t *image, const uint8_t *book, size_t size, size
 static void expect_accepted(uint8_t *image, const uint8_t *book, size_t size)
 {
     uint8_t *again = block(DAYBOOK_IMAGE_SIZE), *copy = copy_of(book, size);
-    uint32_t number = daybook_read(book, size, again, DAYBOOK_IMAGE_SIZE);
+    uint32_t number = daybook_raw_read(book, size, DAYBOOK_OPERATOR, again, DAYBOOK_IMAGE_SIZE);
     expect(number == 0 && memcmp(again, image, DAYBOOK_IMAGE_SIZE) == 0, "read", "another image than was written", number);
     for (size_t place = 0; place < image[5]; place++) {
         uint8_t record[DAYBOOK_RECORD_SIZE];
-        number = daybook_show(book, size, DAYBOOK_NO_STORE, number_at(user_at(image, place)), record, DAYBOOK_RECORD_SIZE);
+        number = daybook_raw_show(book, size, DAYBOOK_OPERATOR, DAYBOOK_NO_STORE, number_at(user_at(image, place)), record, DAYBOOK_RECORD_SIZE);
         expect(number == 0 && memcmp(record, user_at(image, place), RECORD) == 0, "show", "another record than was written", number);
         expect_levels(image, book, size, place);
     }
     uint64_t run[DAYBOOK_RUN_NUMBERS];
     give_store();
-    number = daybook_run(copy, size, GIVEN, DAYBOOK_NO_LOG, run, DAYBOOK_RUN_NUMBERS);
+    number = daybook_raw_run(copy, size, DAYBOOK_OPERATOR, GIVEN, DAYBOOK_NO_LOG, run, DAYBOOK_RUN_NUMBERS);
     take_store_back();
     expect(number == 0 || number == 16 || number == 17, "run", "an accepted book is refused", number);
     uint64_t mwh = 0;
@@ -198,16 +198,16 @@ static void without_managers(uint8_t *image)
     expect(number[0] == 0 && number[1] == 0, "write", "the sample is refused", number[1]);
     for (size_t place = 0; place < image[5]; place++) {
         uint32_t id = number_at(user_at(image, place));
-        number[0] = daybook_afternoon_level(two, size, DAYBOOK_NO_STORE, id, answer[0], DAYBOOK_LEVEL_NUMBERS);
-        number[1] = daybook_afternoon_level(three, longer, DAYBOOK_NO_STORE, id, answer[1], DAYBOOK_LEVEL_NUMBERS);
+        number[0] = daybook_raw_afternoon_level(two, size, DAYBOOK_OPERATOR, DAYBOOK_NO_STORE, id, answer[0], DAYBOOK_LEVEL_NUMBERS);
+        number[1] = daybook_raw_afternoon_level(three, longer, DAYBOOK_OPERATOR, DAYBOOK_NO_STORE, id, answer[1], DAYBOOK_LEVEL_NUMBERS);
         expect(number[0] == number[1] && answer[0][0] == answer[1][0], "afternoon_level", "another level than in version 2", number[1]);
     }
-    number[0] = daybook_run(two, size, DAYBOOK_NO_STORE, DAYBOOK_NO_LOG, answer[0], DAYBOOK_RUN_NUMBERS);
-    number[1] = daybook_run(three, longer, DAYBOOK_NO_STORE, DAYBOOK_NO_LOG, answer[1], DAYBOOK_RUN_NUMBERS);
+    number[0] = daybook_raw_run(two, size, DAYBOOK_OPERATOR, DAYBOOK_NO_STORE, DAYBOOK_NO_LOG, answer[0], DAYBOOK_RUN_NUMBERS);
+    number[1] = daybook_raw_run(three, longer, DAYBOOK_OPERATOR, DAYBOOK_NO_STORE, DAYBOOK_NO_LOG, answer[1], DAYBOOK_RUN_NUMBERS);
     expect(number[0] == number[1] && memcmp(answer[0], answer[1], sizeof answer[0]) == 0, "run", "another run than in version 2", number[1]);
     uint8_t *images[2] = {block(DAYBOOK_IMAGE_SIZE), block(DAYBOOK_IMAGE_SIZE)};
-    number[0] = daybook_read(two, size, images[0], DAYBOOK_IMAGE_SIZE);
-    number[1] = daybook_read(three, longer, images[1], DAYBOOK_IMAGE_SIZE);
+    number[0] = daybook_raw_read(two, size, DAYBOOK_OPERATOR, images[0], DAYBOOK_IMAGE_SIZE);
+    number[1] = daybook_raw_read(three, longer, DAYBOOK_OPERATOR, images[1], DAYBOOK_IMAGE_SIZE);
     images[1][3] = 2;
     expect(memcmp(images[0], images[1], DAYBOOK_IMAGE_SIZE) == 0, "run", "other fields than in version 2", number[1]);
     calls += 4 + 2 * image[5];
@@ -223,7 +223,7 @@ int main(int argc, char **argv)
     uint32_t id;
     size_t size = read_sample(argc, argv, sample, &id);
     uint8_t *image = block(DAYBOOK_IMAGE_SIZE);
-    uint32_t number = daybook_read(sample, size, image, DAYBOOK_IMAGE_SIZE);
+    uint32_t number = daybook_raw_read(sample, size, DAYBOOK_OPERATOR, image, DAYBOOK_IMAGE_SIZE);
     expect(number == 0, "read", "the sample is refused", number);
 
     image[3] = 3;

@@ -1,5 +1,5 @@
-/* Calls daybook_list on hostile input: hostile_lists BOOK. Each part is a block of exactly its length, so that valgrind sees a byte read or written outside it (the script
-   `valgrind` beside this file). An accepted list is held against daybook_posting, line by line; a refused one has to leave book and places. */
+/* Calls daybook_raw_list on hostile input: hostile_lists BOOK. Each part is a block of exactly its length, so that valgrind sees a byte read or written outside it (the script
+   `valgrind` beside this file). An accepted list is held against daybook_raw_posting, line by line; a refused one has to leave book and places. */
 #include "hostile.h"
 
 enum { IDS, AREAS, AMOUNTS, PLACES, COLUMNS };
@@ -29,7 +29,7 @@ static void expect_postings(const uint8_t *bytes, const uint8_t *left, size_t si
 {
     uint8_t *book = copy_of(bytes, size);
     for (size_t i = 0; i < lines; i++) {
-        uint32_t number = daybook_posting(book, size, GIVEN, DAYBOOK_NO_LOG, ids[i], areas[i], amounts[i]);
+        uint32_t number = daybook_raw_posting(book, size, DAYBOOK_OPERATOR, GIVEN, DAYBOOK_NO_LOG, ids[i], areas[i], amounts[i]);
         calls++;
         expect(number == places[i], "list", "another number than the line's posting", places[i]);
     }
@@ -52,7 +52,7 @@ static void list(const uint8_t *bytes, size_t size, uint32_t id, const size_t co
         amounts[i] = drawn_amount();
     memset(places, FILLER, counts[PLACES] * sizeof *places);
     give_store();
-    uint32_t number = daybook_list(book, size, GIVEN, DAYBOOK_NO_LOG, ids, counts[IDS], areas, counts[AREAS], amounts, counts[AMOUNTS], places, counts[PLACES]);
+    uint32_t number = daybook_raw_list(book, size, DAYBOOK_OPERATOR, GIVEN, DAYBOOK_NO_LOG, ids, counts[IDS], areas, counts[AREAS], amounts, counts[AMOUNTS], places, counts[PLACES]);
     calls++;
     expect(number <= 7 || (number >= 15 && number <= 17), "list", "no number of a question", number);
     int fits = counts[PLACES] <= DAYBOOK_MAX_LINES;

@@ -41,19 +41,19 @@ static uint32_t make(int which, struct part book, uint32_t with_log, struct part
     uint32_t places[2];
     switch (which) {
     case POSTING:
-        return daybook_posting(book.bytes, book.size, GIVEN, with_log, log.bytes, log.size, id, 1, 5);
+        return daybook_raw_posting(book.bytes, book.size, DAYBOOK_OPERATOR, GIVEN, with_log, log.bytes, log.size, id, 1, 5);
     case LIST:
-        return daybook_list(book.bytes, book.size, GIVEN, with_log, log.bytes, log.size, ids, 2, areas, 2, amounts, 2, places, 2);
+        return daybook_raw_list(book.bytes, book.size, DAYBOOK_OPERATOR, GIVEN, with_log, log.bytes, log.size, ids, 2, areas, 2, amounts, 2, places, 2);
     case MORNING_CALL:
-        return daybook_morning_call(book.bytes, book.size, GIVEN, with_log, log.bytes, log.size, id, answer, count);
+        return daybook_raw_morning_call(book.bytes, book.size, DAYBOOK_OPERATOR, GIVEN, with_log, log.bytes, log.size, id, answer, count);
     case AFTERNOON_CALL:
-        return daybook_afternoon_call(book.bytes, book.size, GIVEN, with_log, log.bytes, log.size, id, answer, count);
+        return daybook_raw_afternoon_call(book.bytes, book.size, DAYBOOK_OPERATOR, GIVEN, with_log, log.bytes, log.size, id, answer, count);
     case REDUCTION:
-        return daybook_reduction(book.bytes, book.size, GIVEN, with_log, log.bytes, log.size, id, answer, count);
+        return daybook_raw_reduction(book.bytes, book.size, DAYBOOK_OPERATOR, GIVEN, with_log, log.bytes, log.size, id, answer, count);
     case RUN:
-        return daybook_run(book.bytes, book.size, GIVEN, with_log, log.bytes, log.size, answer, count);
+        return daybook_raw_run(book.bytes, book.size, DAYBOOK_OPERATOR, GIVEN, with_log, log.bytes, log.size, answer, count);
     default:
-        return daybook_withdrawal(book.bytes, book.size, GIVEN, log.bytes, log.size, answer, count);
+        return daybook_raw_withdrawal(book.bytes, book.size, DAYBOOK_OPERATOR, GIVEN, log.bytes, log.size, answer, count);
     }
 }
 
@@ -161,7 +161,7 @@ static struct part started(struct part book, size_t size)
 {
     struct part log = {block(size), size};
     memset(log.bytes, FILLER, size);
-    uint32_t number = daybook_start_log(log.bytes, size, book.bytes, book.size);
+    uint32_t number = daybook_raw_start_log(log.bytes, size, book.bytes, book.size);
     calls++;
     if (size == SIZE && book.size <= HELD_ROOM) {
         expect(number == 0, "start_log", "a book that fits in is refused", number);

@@ -19,8 +19,9 @@ static int print_level(const char *name, uint32_t number, uint64_t level)
 int main(int argc, char **argv)
 {
     /* one byte more than the largest book, so that a longer file is refused and not cut */
-    static uint8_t book[DAYBOOK_IMAGE_SIZE + 1];
-    uint64_t morning[DAYBOOK_LEVEL_NUMBERS], afternoon[DAYBOOK_LEVEL_NUMBERS];
+    static uint8_t bytes[DAYBOOK_IMAGE_SIZE + 1];
+    daybook_setting desk = {.party = DAYBOOK_OPERATOR};
+    daybook_level morning, afternoon;
 
     if (argc != 3) {
         fprintf(stderr, "usage: level BOOK ID\n");
@@ -31,13 +32,13 @@ int main(int argc, char **argv)
         perror(argv[1]);
         return 2;
     }
-    size_t length = fread(book, 1, sizeof book, file);
+    daybook_bytes book = {bytes, fread(bytes, 1, sizeof bytes, file)};
     fclose(file);
 
     uint32_t id = (uint32_t)strtoul(argv[2], NULL, 10);
-    uint32_t number = daybook_morning_level(book, length, DAYBOOK_NO_STORE, id, morning, DAYBOOK_LEVEL_NUMBERS);
-    int told = print_level("morning", number, morning[0]);
-    number = daybook_afternoon_level(book, length, DAYBOOK_NO_STORE, id, afternoon, DAYBOOK_LEVEL_NUMBERS);
-    told &= print_level("afternoon", number, afternoon[0]);
+    uint32_t number = daybook_morning_level(&desk, book, id, &morning);
+    int told = print_level("morning", number, morning.level);
+    number = daybook_afternoon_level(&desk, book, id, &afternoon);
+    told &= print_level("afternoon", number, afternoon.level);
     return told ? 0 : 1;
 }

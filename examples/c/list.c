@@ -23,7 +23,7 @@ static long long number_of(const char *word)
 
 int main(int argc, char **argv)
 {
-    static uint8_t book[DAYBOOK_IMAGE_SIZE + 1];
+    static uint8_t bytes[DAYBOOK_IMAGE_SIZE + 1];
     static uint32_t ids[LINES], areas[LINES], places[LINES];
     static int64_t amounts[LINES];
 
@@ -36,21 +36,22 @@ int main(int argc, char **argv)
         perror(argv[1]);
         return 2;
     }
-    size_t length = fread(book, 1, sizeof book, file);
+    daybook_part book = {bytes, fread(bytes, 1, sizeof bytes, file)};
     fclose(file);
 
-    size_t lines = (size_t)(argc / 3);
-    for (size_t i = 0; i < lines; i++) {
+    daybook_setting desk = {.party = DAYBOOK_OPERATOR};
+    daybook_lines lines = {ids, areas, amounts, places, (size_t)(argc / 3)};
+    for (size_t i = 0; i < lines.count; i++) {
         ids[i] = (uint32_t)number_of(argv[2 + 3 * i]);
         areas[i] = (uint32_t)number_of(argv[3 + 3 * i]);
         amounts[i] = (int64_t)number_of(argv[4 + 3 * i]);
     }
-    uint32_t number = daybook_list(book, length, DAYBOOK_NO_STORE, DAYBOOK_NO_LOG, ids, lines, areas, lines, amounts, lines, places, lines);
+    uint32_t number = daybook_list(&desk, book, lines);
     if (number != 0) {
         printf("refused, question %" PRIu32 "\n", number);
         return 1;
     }
-    for (size_t i = 0; i < lines; i++)
+    for (size_t i = 0; i < lines.count; i++)
         printf("%" PRIu32 " %" PRIu32 " %" PRId64 ": %" PRIu32 "\n", ids[i], areas[i], amounts[i], places[i]);
     return 0;
 }

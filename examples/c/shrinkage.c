@@ -9,19 +9,19 @@
 enum { MOST_BALANCES = 100 };
 
 /* What a user gets: the balance, the share and its remainder, and the share on its first and its last day. */
-static void print_user(size_t user, int64_t balance, const uint64_t *answer)
+static void print_user(size_t user, int64_t balance, const daybook_returned *answer)
 {
-    uint64_t share = answer[DAYBOOK_RETURN_SHARES + user];
-    uint64_t days[DAYBOOK_SHRINKAGE_DAYS];
-    daybook_shrinkage_days(share, days, DAYBOOK_SHRINKAGE_DAYS);
+    uint64_t share = answer->shares[user];
+    daybook_days days;
+    daybook_shrinkage_days(share, &days);
     printf("%4zu %12" PRId64 " %10" PRIu64 " %12" PRIu64 " %10" PRIu64 " %10" PRIu64 "\n", user + 1, balance, share,
-           answer[DAYBOOK_RETURN_REMAINDERS + user], days[0], days[DAYBOOK_SHRINKAGE_DAYS - 1]);
+           answer->remainders[user], days.kwh[0], days.kwh[DAYBOOK_SHRINKAGE_DAYS - 1]);
 }
 
 int main(int argc, char **argv)
 {
-    int64_t balances[MOST_BALANCES];
-    uint64_t answer[DAYBOOK_RETURN_NUMBERS];
+    int64_t balances[MOST_BALANCES] = {0};
+    daybook_returned answer;
     size_t users = (size_t)(argc > 0 ? argc - 1 : 0);
 
     if (users > MOST_BALANCES) {
@@ -37,14 +37,14 @@ int main(int argc, char **argv)
             return 2;
         }
     }
-    uint32_t number = daybook_shrinkage_return(balances, users, answer, DAYBOOK_RETURN_NUMBERS);
+    uint32_t number = daybook_shrinkage_return(balances, users, &answer);
     if (number != 0) {
         printf("refused, question %" PRIu32 "\n", number);
         return 1;
     }
     printf("%4s %12s %10s %12s %10s %10s\n", "user", "balance", "share", "remainder", "first day", "last day");
     for (size_t i = 0; i < users; i++)
-        print_user(i, balances[i], answer);
-    printf("half %" PRIu64 ", odd kWh %" PRIu64 ", rest in the system account %" PRIu64 "\n", answer[0], answer[1], answer[2]);
+        print_user(i, balances[i], &answer);
+    printf("half %" PRIu64 ", odd kWh %" PRIu64 ", rest in the system account %" PRIu64 "\n", answer.half, answer.odd, answer.rest);
     return 0;
 }

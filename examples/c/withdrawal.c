@@ -12,8 +12,10 @@ static void print(const char *what, uint64_t mwh, uint64_t cents)
 
 int main(int argc, char **argv)
 {
-    static uint8_t book[DAYBOOK_IMAGE_SIZE + 1], first[DAYBOOK_IMAGE_SIZE + 1], log[DAYBOOK_LOG_SIZE];
-    uint64_t run[DAYBOOK_RUN_NUMBERS], back[DAYBOOK_WITHDRAWAL_NUMBERS];
+    static uint8_t bytes[DAYBOOK_IMAGE_SIZE + 1], first[DAYBOOK_IMAGE_SIZE + 1], log[DAYBOOK_LOG_SIZE];
+    daybook_setting desk = {.party = DAYBOOK_OPERATOR, .log = {log, sizeof log}};
+    daybook_ran run;
+    daybook_withdrawn back;
 
     if (argc != 2) {
         fprintf(stderr, "usage: withdrawal BOOK\n");
@@ -24,24 +26,24 @@ int main(int argc, char **argv)
         perror(argv[1]);
         return 2;
     }
-    size_t length = fread(book, 1, sizeof book, file);
+    daybook_part book = {bytes, fread(bytes, 1, sizeof bytes, file)};
     fclose(file);
-    memcpy(first, book, length);
+    memcpy(first, bytes, book.length);
 
     /* the log holds the book from here on: give it to every call that may change the book */
-    uint32_t number = daybook_start_log(log, sizeof log, book, length);
+    uint32_t number = daybook_start_log(desk.log, daybook_read_only(book));
     if (number == 0)
-        number = daybook_run(book, length, DAYBOOK_NO_STORE, DAYBOOK_LOG(log, sizeof log), run, DAYBOOK_RUN_NUMBERS);
+        number = daybook_run(&desk, book, &run);
     /* a run that fills the log stops with 20, and its cuts stand */
     if (number != 0 && number != 20) {
         printf("refused, question %" PRIu32 "\n", number);
         return 1;
     }
-    print(number == 20 ? "cut until the log was full:" : "cut", run[1], run[2]);
+    print(number == 20 ? "cut until the log was full:" : "cut", run.mwh, run.worth);
 
     /* the last reduction first, until the log has no entry */
-    while ((number = daybook_withdrawal(book, length, DAYBOOK_NO_STORE, log, sizeof log, back, DAYBOOK_WITHDRAWAL_NUMBERS)) == 0)
-        print("withdrawn", back[0], back[1]);
-    printf("withdrawal refused, question %" PRIu32 "; the book is %s\n", number, memcmp(book, first, length) == 0 ? "the first one again" : "another one");
+    while ((number = daybook_withdrawal(&desk, book, &back)) == 0)
+        print("withdrawn", back.mwh, back.worth);
+    printf("withdrawal refused, question %" PRIu32 "; the book is %s\n", number, memcmp(bytes, first, book.length) == 0 ? "the first one again" : "another one");
     return 0;
 }

@@ -5,12 +5,60 @@ from __future__ import annotations
 import ctypes
 import os
 from pathlib import Path
-from typing import Callable, Optional, Sequence
+from typing import Optional
 
 from .fields import Bytes
 from .refusals import Refused
 
-_INTERFACE = 5
+INTERFACE = 6
+
+OPERATOR = 1 << 32
+"""The operator as an acting party, a number that no id has; a shipper is its id."""
+
+FUNCTIONS = """
+interface()
+read(book: &[u8], party: u64, image: &mut [u8])
+write(image: &[u8], out: &mut [u8])
+convert(book: &[u8], party: u64, version: u32, out: &mut [u8])
+form(book: &[u8], party: u64, out: &mut [u8])
+restore(form: &[u8], out: &mut [u8])
+show(book: &[u8], party: u64, with_store: u32, store: &[u8], id: u32, record: &mut [u8])
+show_picked(morning: &[u8], afternoon: &[u8], party: u64, with_store: u32, store: &[u8], afternoon_picked: u32, id: u32, record: &mut [u8])
+posting(book: &mut [u8], party: u64, with_store: u32, store: &[u8], with_log: u32, log: &mut [u8], id: u32, area: u32, amount: i64)
+list(book: &mut [u8], party: u64, with_store: u32, store: &[u8], with_log: u32, log: &mut [u8], ids: &[u32], areas: &[u32], amounts: &[i64], places: &mut [u32])
+morning_level(book: &[u8], party: u64, with_store: u32, store: &[u8], id: u32, answer: &mut [u64])
+afternoon_level(book: &[u8], party: u64, with_store: u32, store: &[u8], id: u32, answer: &mut [u64])
+morning_call(book: &mut [u8], party: u64, with_store: u32, store: &[u8], with_log: u32, log: &mut [u8], id: u32, answer: &mut [u64])
+afternoon_call(book: &mut [u8], party: u64, with_store: u32, store: &[u8], with_log: u32, log: &mut [u8], id: u32, answer: &mut [u64])
+warning(book: &[u8], party: u64, with_store: u32, store: &[u8], id: u32, answer: &mut [u64])
+flag(book: &[u8], party: u64, with_store: u32, store: &[u8], id: u32, answer: &mut [u64])
+trade_count(book: &[u8], party: u64, with_store: u32, store: &[u8], id: u32, answer: &mut [u64])
+trade(book: &[u8], party: u64, with_store: u32, store: &[u8], id: u32, ordinal: u32, trade: &mut [u8], answer: &mut [u64])
+reduction(book: &mut [u8], party: u64, with_store: u32, store: &[u8], with_log: u32, log: &mut [u8], id: u32, answer: &mut [u64])
+cancellation(book: &[u8], party: u64, with_store: u32, store: &[u8], id: u32, tries: u32, marks: &mut [u8], answer: &mut [u64])
+run(book: &mut [u8], party: u64, with_store: u32, store: &[u8], with_log: u32, log: &mut [u8], answer: &mut [u64])
+start_log(log: &mut [u8], book: &[u8])
+withdrawal(book: &mut [u8], party: u64, with_store: u32, store: &[u8], log: &mut [u8], answer: &mut [u64])
+shrinkage_return(balances: &[i64], answer: &mut [u64])
+shrinkage_days(share: u64, answer: &mut [u64])
+"""
+"""The exported functions without `daybook_raw_`, as crates/exports has them; each returns a number of 32
+bits. A part between brackets is a pointer and a length."""
+
+_TYPES = {"u32": ctypes.c_uint32, "u64": ctypes.c_uint64, "i64": ctypes.c_int64}
+
+
+def _declared(library: ctypes.CDLL) -> None:
+    """Gives each function its arguments' types, so that another number of them is told."""
+    for line in FUNCTIONS.split("\n"):
+        if line:
+            name, arguments = line.rstrip(")").split("(")
+            function = getattr(library, f"daybook_raw_{name}")
+            function.restype, function.argtypes = ctypes.c_uint32, []
+            for argument in arguments.split(", ") if arguments else []:
+                kind = argument.split(": ")[1]
+                part = [ctypes.c_void_p, ctypes.c_size_t]
+                function.argtypes += part if kind.startswith("&") else [_TYPES[kind]]
 
 
 def _opened() -> ctypes.CDLL:
@@ -20,8 +68,10 @@ def _opened() -> ctypes.CDLL:
     if not os.path.exists(path):
         raise ImportError(f"no {path}: run python/build, or name the shared object in DAYBOOK_LIBRARY")
     library = ctypes.CDLL(os.path.abspath(path))
-    if library.daybook_interface() != _INTERFACE:
-        raise ImportError(f"{path} has another interface than {_INTERFACE}: run python/build")
+    interface = getattr(library, "daybook_raw_interface", None)
+    if interface is None or interface() != INTERFACE:
+        raise ImportError(f"{path} has another interface than {INTERFACE}: run python/build")
+    _declared(library)
     return library
 
 
@@ -41,12 +91,12 @@ class Part:
 
     @property
     def arguments(self) -> tuple[object, ...]:
-        return (self.memory, ctypes.c_size_t(self.length))
+        return (self.memory, self.length)
 
 
 def store_arguments(store: Optional[Bytes]) -> tuple[object, ...]:
     """A store, or none, as the three arguments of a C function."""
-    return (ctypes.c_uint32(store is not None), *Part(b"" if store is None else store).arguments)
+    return (store is not None, *Part(b"" if store is None else store).arguments)
 
 
 class Log:
@@ -57,7 +107,7 @@ class Log:
 
     @property
     def arguments(self) -> tuple[object, ...]:
-        return (ctypes.c_uint32(self.part is not None), *(self.part or Part(b"")).arguments)
+        return (self.part is not None, *(self.part or Part(b"")).arguments)
 
     @property
     def bytes(self) -> Optional[bytes]:
@@ -71,21 +121,10 @@ def in_range(name: str, number: int, least: int, most: int) -> int:
     return number
 
 
-def id_argument(number: int) -> ctypes.c_uint32:
-    return ctypes.c_uint32(in_range("id", number, 0, 2**32 - 1))
+def id_argument(number: int) -> int:
+    return in_range("id", number, 0, 2**32 - 1)
 
 
 def answered(number: int) -> None:
     if number != 0:
         raise Refused(number)
-
-
-def called(
-    function: Callable[..., int], book: Bytes, store: Optional[Bytes], arguments: Sequence[object], numbers: int
-) -> tuple[list[int], bytes]:
-    """Makes a call on a copy of the book: the numbers of its answer, and the book after it."""
-    part = Part(book)
-    answer = (ctypes.c_uint64 * max(numbers, 1))()
-    lent = (answer, ctypes.c_size_t(numbers)) if numbers else ()
-    answered(function(*part.arguments, *store_arguments(store), *arguments, *lent))
-    return list(answer)[:numbers], part.bytes

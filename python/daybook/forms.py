@@ -100,7 +100,7 @@ class Form(Mapping):
 
     >>> import daybook
     >>> with open("../samples/day-3.gdb", "rb") as file:
-    ...     form = daybook.form(file.read())
+    ...     form = daybook.Operator().form(file.read())
     >>> list(form["id"]), list(form["position_PVB"])
     ([101, 102, 103], [-45000, 40000, -3000])
     >>> form["charges"].format, form.columns["charges"]
@@ -128,18 +128,11 @@ class Form(Mapping):
         return len(self.columns)
 
 
-def form(book: Bytes) -> Form:
-    """The field-wise form of a book: its header with the mark GDF, all ids, all roles, and so on."""
-    part = Part(bytes(len(book)))
-    answered(library.daybook_form(*Part(book).arguments, *part.arguments))
-    return Form(part.bytes)
-
-
 def restore(form: Union[Form, Bytes]) -> bytes:
     """The book of a form; bytes that no book yields raise `Refused` with 29."""
     given = form.bytes if isinstance(form, Form) else form
     part = Part(bytes(len(given)))
-    answered(library.daybook_restore(*Part(given).arguments, *part.arguments))
+    answered(library.daybook_raw_restore(*Part(given).arguments, *part.arguments))
     return part.bytes
 
 

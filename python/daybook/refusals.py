@@ -28,6 +28,7 @@ QUESTIONS = {
     23: "is the target version known?",
     24: "are all eligible trades together worth the target?",
     25: "1 to 65,535 tries?",
+    26: "may the party make this call?",
     27: "every balance within ±500,000,000 kWh?",
     28: "at most 64 users?",
     29: "does the form yield an accepted book?",

@@ -35,11 +35,7 @@ def shrinkage_return(balances: Sequence[int]) -> Return:
         in_range("balance", balance, -(2**63), 2**63 - 1)
     lent = (ctypes.c_int64 * max(len(balances), 1))(*balances)
     answer = (ctypes.c_uint64 * (3 + 2 * MOST_USERS))()
-    answered(
-        library.daybook_shrinkage_return(
-            lent, ctypes.c_size_t(len(balances)), answer, ctypes.c_size_t(len(answer))
-        )
-    )
+    answered(library.daybook_raw_shrinkage_return(lent, len(balances), answer, len(answer)))
     half, odd, rest, *users = answer
     shares = zip(users[: len(balances)], users[MOST_USERS:])
     return Return(half, odd, tuple(Share(*share) for share in shares), rest)
@@ -52,6 +48,6 @@ def over_days(share: int) -> list[int]:
     [2, 1, 1]
     """
     days = (ctypes.c_uint64 * 30)()
-    whole = ctypes.c_uint64(in_range("share", share, 0, 2**64 - 1))
-    answered(library.daybook_shrinkage_days(whole, days, ctypes.c_size_t(len(days))))
+    whole = in_range("share", share, 0, 2**64 - 1)
+    answered(library.daybook_raw_shrinkage_days(whole, days, len(days)))
     return list(days)

@@ -8,10 +8,11 @@ use lib.Dec.{T}
 use Rattle.book_format.specs.After.{after}
 use Rattle.book_questions.specs.Asked.{PartiesFound}
 use Rattle.log_format.specs.Fits.{aboutLog, logFits, logNumber}
-use Rattle.requests.proofs.Logged.{lines-with-number, with-number}
-use Rattle.requests.specs.Carried.{Admitted}
-use Rattle.requests.specs.Logged.{AdmittedWith, linesNumberWith}
-use Rattle.requests.specs.Request.{Lines, Setting, linesNumber}
+use Rattle.requests.specs.Request.{Lines, Setting}
+use Rattle.rights.proofs.Logged.{lines-with-by-number, with-by-number}
+use Rattle.rights.specs.Acting.{AdmittedBy, linesNumberBy}
+use Rattle.rights.specs.Logged.{AdmittedWithBy, linesNumberWithBy}
+use Rattle.rights.specs.Party.{Party, matterBy}
 use Rattle.rules.specs.Levels.{Limits}
 use Rattle.rules.specs.Questions.{numberOf, refusal}
 use Rattle.store.specs.Store.{given}
@@ -45,15 +46,19 @@ module _ (l s : List ℕ) (lent : Bool) where
 
 -- ---- what the calls cite
 
-pub admitted-with : {g : Setting} {s l : List ℕ} {asked number : ℕ} {limits : Limits} (lent : Bool) → Admitted g s asked limits → LogAsked asked lent l s number → AdmittedWith g (given lent l) s number limits
-admitted-with {g} {s} {l} lent a k =
+pub admitted-with : {actor : Party} {g : Setting} {s l : List ℕ} {asked number : ℕ} {limits : Limits} (lent : Bool) → AdmittedBy actor (matterBy 4294967296) g s asked limits → LogAsked asked lent l s number
+    → AdmittedWithBy actor g (given lent l) s number limits
+unfolding matterBy
+admitted-with {actor} {g} {s} {l} lent a k =
     record {
-      asked = k .is ∙ ap (λ (n : ℕ). after n (λ m. m) (logNumber (given lent l) s)) (a .asked) ∙ sym (with-number g (given lent l) s);
+      asked = k .is ∙ ap (λ (n : ℕ). after n (λ m. m) (logNumber (given lent l) s)) (a .asked) ∙ sym (with-by-number actor g (given lent l) s);
       taken = λ z. a .taken (k .before z);
     }
 
-pub lines-with : (g : Setting) (v : Lines) {s l : List ℕ} {asked number : ℕ} (lent : Bool) → asked ≡ linesNumber g v s → LogAsked asked lent l s number → number ≡ linesNumberWith g (given lent l) v s
-lines-with g v {s} {l} lent a k = k .is ∙ ap (λ (n : ℕ). after n (λ m. m) (logNumber (given lent l) s)) a ∙ sym (lines-with-number g (given lent l) v s)
+pub lines-with : (actor : Party) (g : Setting) (v : Lines) {s l : List ℕ} {asked number : ℕ} (lent : Bool) → asked ≡ linesNumberBy actor g v s → LogAsked asked lent l s number
+    → number ≡ linesNumberWithBy actor g (given lent l) v s
+lines-with actor g v {s} {l} lent a k =
+    k .is ∙ ap (λ (n : ℕ). after n (λ m. m) (logNumber (given lent l) s)) a ∙ sym (lines-with-by-number actor g (given lent l) v s)
 
 -- what was found where no question refuses is there where 19 does not either
 pub parties-with : {s l : List ℕ} {asked number : ℕ} {lent : Bool} {sellers buyers sums : List ℕ} → LogAsked asked lent l s number → PartiesFound s asked sellers buyers sums → PartiesFound s number sellers buyers sums

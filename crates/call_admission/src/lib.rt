@@ -1,14 +1,17 @@
-// The opening questions of a call with its setting: those of its book, 1 to 7, and after them those of its store, 16 and 17. They give a
-// number and the figures of the call. A list of postings is asked 15 between them. A call that may be given a log is asked 19 after them.
+// The opening questions of a call with its setting: those of its book, 1 to 7, then 26, whether the acting party may have what it asks
+// for, and after it those of its store, 16 and 17. They give a number and the figures of the call. A list of postings is asked 15 after
+// 26. A call that may be given a log is asked 19 after them.
 use units::Limits;
 ghost use mathlib.Core.Path.{_≡_};
+ghost use Prim.Native.Nat.{_≤_};
 ghost use lib.ListN.{length, replicate};
 ghost use Rattle.units.specs.Limits.{asLimits, LimitsInRange};
 ghost use Rattle.book_format.specs.Questions.{bookNumber};
 ghost use Rattle.book_questions.specs.Asked.{PartiesFound};
 ghost use Rattle.store.specs.Store.{given};
-ghost use Rattle.requests.specs.Request.{Lines, linesFit, linesNumber, settingOf};
-ghost use Rattle.requests.specs.Carried.{Admitted};
+ghost use Rattle.requests.specs.Request.{Lines, linesFit, settingOf};
+ghost use Rattle.rights.specs.Party.{Party, Matter, partyOf, matterBy};
+ghost use Rattle.rights.specs.Acting.{AdmittedBy, enteringNumber, linesNumberBy};
 ghost use Rattle.call_admission.specs.Log.{LogAsked};
 
 // What the opening questions give: the number of the first that is answered by no, 0 where there is none, and the figures that the call
@@ -18,10 +21,10 @@ pub struct Admission {
     pub number: u32,
 }
 
-// The questions of the store, after those of the book: the book's number where one of those is answered by no.
+// The questions of the store, after those of the book and 26: their number where one of those is answered by no.
 fn by_store(book: &[u8], asked: u32, with_store: bool, store: &[u8]) -> Admission
-    requires { ⌜ asked ≡ bookNumber (now book) ⌝ }
-    ensures { λ r. ⌜ Admitted (settingOf (given «with_store» (now (store .entry)))) (now (book .entry)) (r .number) (asLimits (r .limits)) ⌝ }
+    requires { ⌜ (asked ≡ 0 → bookNumber (now book) ≡ 0) ⌝ }
+    ensures { λ r. ⌜ ((actor : Party) (m : Matter) → asked ≡ enteringNumber actor m (now (book .entry)) → AdmittedBy actor m (settingOf (given «with_store» (now (store .entry)))) (now (book .entry)) (r .number) (asLimits (r .limits))) ⌝ }
     ensures { λ r. ⌜ LimitsInRange (asLimits (r .limits)) ⌝ }
     ensures { λ r. ⌜ (r .number ≡ 0 → asked ≡ 0) ⌝ }
 {
@@ -40,19 +43,23 @@ fn by_store(book: &[u8], asked: u32, with_store: bool, store: &[u8]) -> Admissio
     }
 }
 
-// Asks the opening questions of a call that needs no sums.
-pub fn admit(book: &[u8], with_store: bool, store: &[u8]) -> Admission
-    ensures { λ r. ⌜ Admitted (settingOf (given «with_store» (now (store .entry)))) (now (book .entry)) (r .number) (asLimits (r .limits)) ⌝ }
+// Asks the opening questions of a call that needs no sums, by a party, on a matter that is the operator's or an id's own.
+pub fn admit(book: &[u8], party: u64, matter: u64, with_store: bool, store: &[u8]) -> Admission
+    requires { ⌜ matter ≤ 4294967296 ⌝ }
+    ensures { λ r. ⌜ AdmittedBy (partyOf party) (matterBy matter) (settingOf (given «with_store» (now (store .entry)))) (now (book .entry)) (r .number) (asLimits (r .limits)) ⌝ }
     ensures { λ r. ⌜ LimitsInRange (asLimits (r .limits)) ⌝ }
     ensures { λ r. ⌜ (r .number ≡ 0 → bookNumber (now (book .entry)) ≡ 0) ⌝ }
 {
     let asked = book_questions::number(book);
-    by_store(book, asked, with_store, store)
+    let entered = call_rights::ask(book, asked, party, matter);
+    by_store(book, entered, with_store, store)
 }
 
 // Asks the opening questions, and where none is answered by no lists the places of the trades' parties, with the twelve sums of every user.
 pub fn admit_with_sums(
     book: &[u8],
+    party: u64,
+    matter: u64,
     with_store: bool,
     store: &[u8],
     sellers: &mut [u8],
@@ -60,27 +67,31 @@ pub fn admit_with_sums(
     sums: &mut [u32; 768],
 ) -> Admission
     requires { ⌜ (length (now sellers) ≡ 256) × (length (now buyers) ≡ 256) × (now sums ≡ replicate 768 0) ⌝ }
-    ensures { λ r. ⌜ Admitted (settingOf (given «with_store» (now (store .entry)))) (now (book .entry)) (r .number) (asLimits (r .limits)) ⌝ }
+    requires { ⌜ matter ≤ 4294967296 ⌝ }
+    ensures { λ r. ⌜ AdmittedBy (partyOf party) (matterBy matter) (settingOf (given «with_store» (now (store .entry)))) (now (book .entry)) (r .number) (asLimits (r .limits)) ⌝ }
     ensures { λ r. ⌜ LimitsInRange (asLimits (r .limits)) ⌝ }
     ensures { λ r. ⌜ (r .number ≡ 0 → bookNumber (now (book .entry)) ≡ 0) ⌝ }
     ensures { λ r. ⌜ PartiesFound (now (book .entry)) (r .number) (now (sellers .exit)) (now (buyers .exit)) (now (sums .exit)) ⌝ }
 {
     let asked = book_questions::ask(book, sellers, buyers, sums);
-    by_store(book, asked.number, with_store, store)
+    let entered = call_rights::ask(book, asked.number, party, matter);
+    by_store(book, entered, with_store, store)
 }
 
-// Asks the opening questions of a list of postings, given whether it passes question 15. Its lines take no figure.
-pub fn admit_list(book: &[u8], with_store: bool, store: &[u8], fits: bool) -> u32
-    ensures { λ r. ⌜ ((v : Lines) → fits ≡ linesFit v → r ≡ linesNumber (settingOf (given «with_store» (now (store .entry)))) v (now (book .entry))) ⌝ }
+// Asks the opening questions of a list of postings, which is the operator's, given whether it passes question 15. Its lines take no figure.
+pub fn admit_list(book: &[u8], party: u64, with_store: bool, store: &[u8], fits: bool) -> u32
+    ensures { λ r. ⌜ ((v : Lines) → fits ≡ linesFit v → r ≡ linesNumberBy (partyOf party) (settingOf (given «with_store» (now (store .entry)))) v (now (book .entry))) ⌝ }
+    ensures { λ r. ⌜ (r ≡ 0 → bookNumber (now (book .entry)) ≡ 0) ⌝ }
 {
     let asked = book_questions::number(book);
-    if asked != 0 {
-        return asked;
+    let entered = call_rights::ask(book, asked, party, call_rights::OPERATOR);
+    if entered != 0 {
+        return entered;
     }
     if !fits {
         return 15;
     }
-    by_store(book, asked, with_store, store).number
+    by_store(book, entered, with_store, store).number
 }
 
 // The question of a log that is given, after those of the book and the store, whose number is given.

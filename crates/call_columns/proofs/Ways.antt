@@ -11,14 +11,13 @@ use lib.Seq.{take-at, take-length}
 use Rattle.base.proofs.Tests.{holds}
 use Rattle.rules.specs.Questions.{decided}
 use Rattle.book_format.specs.Book.{mark, tradesAt, userAt, userCount, versionOf}
-use Rattle.book_format.specs.Questions.{aboutBytes, bookNumber}
-use Rattle.book_format.proofs.Formed.{bytes-numbered}
+use Rattle.book_format.specs.Questions.{bookNumber}
 use Rattle.book_format.proofs.Offsets.{header-range, size-most}
 use Rattle.book_format.proofs.Passed.{passed}
 use Rattle.outputs.specs.Output.{Wrote, accepted, refused, written}
-use Rattle.outputs.proofs.Ways.{wrote-all, wrote-opened, wrote-refused}
+use Rattle.outputs.proofs.Ways.{wrote-all, wrote-refused}
 use Rattle.book_columns.specs.Form.{Laid, bookFrom, formMark, formOf, rearranged, shaped, yields}
-use Rattle.book_columns.specs.Calls.{aboutRoom, restored, stored, storedAfter}
+use Rattle.book_columns.specs.Calls.{aboutRoom, restored, storedAfter}
 use Rattle.book_columns.proofs.Rearranged.{length-rearranged}
 use Rattle.book_columns.proofs.Forms.{field-wise, formed-laid, length-bookFrom, no-room, room-asked, room-given, shaped-laid}
 use Rattle.call_columns.specs.Rebuilt.{Rebuilt, longest}
@@ -43,11 +42,6 @@ module _ (s out : List ℕ) {number : ℕ} (e : number ≡ 0) (h : bookNumber s 
       let l = length-formOf s h in
       wrote-all (aboutRoom (formOf s) out) (formOf s) out e (room-given (formOf s) out (rw l k))
       (rw (l, q) refl)
-
--- with the questions of the bytes before it
-pub stored-opened : (s out : List ℕ) {t : List ℕ} {number r : ℕ} → number ≡ bookNumber s → Wrote (storedAfter number s out) r t → Wrote (stored s out) r t
-unfolding stored storedAfter bookNumber
-stored-opened s out e w = wrote-opened (aboutRoom (formOf s) out) (formOf s) out (aboutBytes s) (bytes-numbered s) e w
 
 -- ---- a form to its book
 

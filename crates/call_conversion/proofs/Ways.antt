@@ -9,14 +9,12 @@ use borrow.Author.Tests.{le-leb, lt-leb}
 use Rattle.base.proofs.Tests.{by-case, holds}
 use Rattle.rules.specs.Questions.{refusal, versionKnown}
 use Rattle.book_format.specs.Book.{bookOf, lengthBy, tradeCount, userCount}
-use Rattle.book_format.specs.Questions.{aboutBytes, bookNumber}
-use Rattle.book_format.proofs.Formed.{bytes-numbered}
 use Rattle.book_format.proofs.Offsets.{known-lt}
 use Rattle.book_format.proofs.Passed.{length-tradesOf, length-usersOf}
 use Rattle.book_format.proofs.Written.{length-bytesOf}
 use Rattle.outputs.specs.Output.{Wrote}
-use Rattle.outputs.proofs.Ways.{wrote-all, wrote-opened, wrote-refused}
-use Rattle.conversions.specs.Conversion.{aboutConversion, asVersion, conversion, conversionAfter, converted, kept}
+use Rattle.outputs.proofs.Ways.{wrote-all, wrote-refused}
+use Rattle.conversions.specs.Conversion.{aboutConversion, asVersion, conversionAfter, converted, kept}
 
 -- no version has more than two bytes
 pub unknown-above : (version : ℕ) → 65535 < version → false ≡ versionKnown version
@@ -27,12 +25,6 @@ unknown-above version h =
 pub length-converted : (v : ℕ) (s : List ℕ) → length (converted v s) ≡ lengthBy v (userCount s) (tradeCount s)
 unfolding converted asVersion bookOf
 length-converted v s = length-bytesOf (asVersion v (bookOf s)) ∙ (rw (length-usersOf s, length-tradesOf s))
-
--- with the questions of the bytes before it
-pub conversion-opened : (version : ℕ) (s out : List ℕ) {t : List ℕ} {number r : ℕ} → number ≡ bookNumber s → Wrote (conversionAfter number version s out) r t → Wrote (conversion version s out) r t
-unfolding conversion conversionAfter bookNumber
-conversion-opened version s out e w =
-    wrote-opened (aboutConversion version s out) (converted version s) out (aboutBytes s) (bytes-numbered s) e w
 
 module _ (v : ℕ) (s out : List ℕ) {number : ℕ} (e : number ≡ 0) where
   pub unknown : versionKnown v ≡ false → Wrote (conversionAfter number v s out) 23 out

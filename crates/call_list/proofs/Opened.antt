@@ -9,11 +9,13 @@ use lib.IntN.{ℤ}
 use lib.ListN.{length}
 use Rattle.book_format.specs.Questions.{bookNumber}
 use Rattle.base.proofs.Tests.{and-l, and-r}
-use Rattle.requests.proofs.Emptied.{lines-with-opening, posted-list}
 use Rattle.requests.proofs.Lines.{lines-opening}
 use Rattle.requests.proofs.Passed.{opening-book}
-use Rattle.requests.specs.Logged.{Posted, emptiedBy, linesNumberWith}
+use Rattle.requests.specs.Logged.{emptiedBy}
 use Rattle.requests.specs.Request.{linesFit, linesOf, openingNumber, settingOf}
+use Rattle.rights.proofs.Logged.{lines-with-opening-by, posted-list-by}
+use Rattle.rights.specs.Logged.{PostedBy, linesNumberWithBy}
+use Rattle.rights.specs.Party.{Party}
 use Rattle.store.specs.Store.{given}
 use Rattle.call_list.specs.Lines.{Even, ListedAfter}
 
@@ -33,12 +35,12 @@ even-fit ids areas amounts places t =
       of-places = eqb→eq (length places) n (and-r z p last);
     }
 
-module _ (store : Option (List ℕ)) (ids areas : List ℕ) (amounts : List ℤ) (places s : List ℕ) (lent : Bool) (l : List ℕ) {number : ℕ}
-    (e : number ≡ linesNumberWith (settingOf store) (given lent l) (linesOf ids areas amounts (length places)) s) where
+module _ (actor : Party) (store : Option (List ℕ)) (ids areas : List ℕ) (amounts : List ℤ) (places s : List ℕ) (lent : Bool) (l : List ℕ) {number : ℕ}
+    (e : number ≡ linesNumberWithBy actor (settingOf store) (given lent l) (linesOf ids areas amounts (length places)) s) where
   passes : number ≡ 0 → (linesFit (linesOf ids areas amounts (length places)) ≡ true) × (openingNumber (settingOf store) s ≡ 0)
   passes z =
       let v = linesOf ids areas amounts (length places) in
-      lines-opening (settingOf store) v s (lines-with-opening (settingOf store) (given lent l) v s (sym e ∙ z))
+      lines-opening (settingOf store) v s (lines-with-opening-by actor (settingOf store) (given lent l) s v (sym e ∙ z))
 
   pub list-book : number ≡ 0 → bookNumber s ≡ 0
   list-book z = opening-book (settingOf store) s (passes z .1)
@@ -48,8 +50,8 @@ module _ (store : Option (List ℕ)) (ids areas : List ℕ) (amounts : List ℤ)
 
   -- with the lent log emptied where the list is accepted
   pub list-posted : {result : ℕ} {t left m : List ℕ} → ListedAfter number ids areas amounts places s result t left → m ≡ emptiedBy lent result t l
-      → Posted store (given lent l) ids areas amounts places s result t left l m
+      → PostedBy actor store (given lent l) ids areas amounts places s result t left l m
   list-posted {result} {t} {left} {m} p k =
       let o : number ≡ 0 → openingNumber (settingOf store) s ≡ 0 = λ z. passes z .1 in
-      subst (λ (n : ℕ). Posted store (given lent l) ids areas amounts places s n t left l m) (sym (p .asked))
-      (posted-list store ids areas amounts places s l lent e (p .bytes (settingOf store) o) (p .beside (settingOf store) o) (k ∙ ap (λ (n : ℕ). emptiedBy lent n t l) (p .asked)))
+      subst (λ (n : ℕ). PostedBy actor store (given lent l) ids areas amounts places s n t left l m) (sym (p .asked))
+      (posted-list-by actor store ids areas amounts places s l lent e (p .bytes (settingOf store) o) (p .beside (settingOf store) o) (k ∙ ap (λ (n : ℕ). emptiedBy lent n t l) (p .asked)))

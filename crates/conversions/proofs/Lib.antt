@@ -6,3 +6,5 @@ pub mod Kept
 pub mod Acts
 -- There and back in bytes, and the claim.
 pub mod Conversions
+-- The converter by an acting party.
+pub mod Acting

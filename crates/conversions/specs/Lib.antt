@@ -2,3 +2,5 @@
 pub mod Conversion
 -- What is claimed of it.
 pub mod Statements
+-- The converter by an acting party.
+pub mod Acting

@@ -6,13 +6,13 @@ use Prim.Native.Nat.{ℕ}
 use lib.ListN.{length}
 use borrow.Author.Tests.{eq-eqb, ne-eqb}
 use Rattle.rules.specs.Calls.{Answer}
-use Rattle.rules.specs.Queries.{Query, Reply}
-use Rattle.requests.specs.Cancellation.{Cancellation, cancellation}
-use Rattle.requests.specs.Logged.{Logged, lentLog}
-use Rattle.requests.specs.Request.{Request, Setting, enquiry, request}
-use Rattle.exports_cancellation.specs.Numbers.{cancellationNumbers, markNumbers}
-use Rattle.exports.specs.Lent.{byLength, wrongLength, Given}
-use Rattle.exports.specs.Answers.{Replied, Answered, CancelledInto}
+use Rattle.requests.specs.Logged.{lentLog}
+use Rattle.requests.specs.Request.{Request}
+use Rattle.rights.specs.Acting.{requestBy}
+use Rattle.rights.specs.Logged.{LoggedBy}
+use Rattle.rights.specs.Party.{Party}
+use Rattle.exports.specs.Lent.{byLength, wrongLength, Given, StoredBoth}
+use Rattle.exports.specs.Answers.{Answered}
 
 module _ (n : ℕ) (lent : List ℕ) where
   -- by the length: the one where it is that of the part, the other where it is not
@@ -33,47 +33,47 @@ module _ (n : ℕ) (lent : List ℕ) where
   pub refused : (asked : ℕ) (values before : List ℕ) → (length lent ≡ n → ⊥) → Given n lent asked values before wrongLength before
   refused asked values before e = record { number = of-other asked wrongLength e; part = of-other values before e }
 
-  -- a query whose reply was stored
-  pub replied : (numbers : Reply → List ℕ) (g : Setting) (s : List ℕ) (q : Query) (r : Reply) (result : ℕ) (after : List ℕ) → length lent ≡ n → r ≡ enquiry g s q → result ≡ r .number → after ≡ numbers r → Replied n numbers g s q lent result after
-  replied numbers g s q r result after e reply number part =
-      stored _ _ lent result after e (number ∙ ap (λ (a : Reply). a .number) reply) (part ∙ ap numbers reply)
+  -- an answer, its number and its values, was stored: what is stored is a function of what is asked for
+  pub replied : {R : Type 0} (number-of : R → ℕ) (numbers : R → List ℕ) (asked r : R) (result : ℕ) (after : List ℕ) → length lent ≡ n → r ≡ asked → result ≡ number-of r → after ≡ numbers r
+      → Given n lent (number-of asked) (numbers asked) lent result after
+  replied number-of numbers asked r result after e reply number part = stored _ _ lent result after e (number ∙ ap number-of reply) (part ∙ ap numbers reply)
 
-  module _ (numbers : Answer → List ℕ) (r : Request) (s l : List ℕ) where
+  module _ (numbers : Answer → List ℕ) (actor : Party) (r : Request) (s l : List ℕ) where
     -- a call whose answer was stored
-    pub answered : (a : Answer) (result : ℕ) (after t m : List ℕ) → length lent ≡ n → Logged r s a t l m → result ≡ a .number → after ≡ numbers a → Answered n numbers r s lent result after t l m
+    pub answered : (a : Answer) (result : ℕ) (after t m : List ℕ) → length lent ≡ n → LoggedBy actor r s a t l m → result ≡ a .number → after ≡ numbers a → Answered n numbers actor r s lent result after t l m
     answered a result after t m e called number part =
         let made = called .carried in
         record {
           answer = stored _ _ lent result after e (number ∙ ap (λ (b : Answer). b .number) (made .answer)) (part ∙ ap numbers (made .answer));
-          book = made .bytes ∙ of-length (request r s .bytes) s e;
-          log = called .log ∙ of-length (lentLog (request r s .log) l) l e;
+          book = made .bytes ∙ of-length (requestBy actor r s .bytes) s e;
+          log = called .log ∙ of-length (lentLog (requestBy actor r s .log) l) l e;
         }
 
     -- a call that was not made
-    pub not-called : (length lent ≡ n → ⊥) → Answered n numbers r s lent wrongLength lent s l l
-    not-called e = record { answer = refused _ _ lent e; book = of-other (request r s .bytes) s e; log = of-other (lentLog (request r s .log) l) l e }
+    pub not-called : (length lent ≡ n → ⊥) → Answered n numbers actor r s lent wrongLength lent s l l
+    not-called e = record { answer = refused _ _ lent e; book = of-other (requestBy actor r s .bytes) s e; log = of-other (lentLog (requestBy actor r s .log) l) l e }
 
--- ---- a whole cancellation, in two parts
+-- ---- two parts
 
-module _ (g : Setting) (s : List ℕ) (id tries : ℕ) (marks answer : List ℕ) where
+module _ (n m : ℕ) (first second : List ℕ) where
   -- the first part is of another length, or the second
-  pub marks-refused : (length marks ≡ 256 → ⊥) → CancelledInto g s id tries marks answer wrongLength marks answer
-  marks-refused e = record { number = of-other 256 marks _ wrongLength e; marked = of-other 256 marks _ marks e; numbers = of-other 256 marks _ answer e }
+  pub first-refused : (asked : ℕ) (values numbers : List ℕ) → (length first ≡ n → ⊥) → StoredBoth n m first second asked values numbers wrongLength first second
+  first-refused asked values numbers e = record { number = of-other n first _ wrongLength e; one = of-other n first _ first e; other = of-other n first _ second e }
 
-  pub numbers-refused : length marks ≡ 256 → (length answer ≡ 3 → ⊥) → CancelledInto g s id tries marks answer wrongLength marks answer
-  numbers-refused e f =
+  pub second-refused : (asked : ℕ) (values numbers : List ℕ) → length first ≡ n → (length second ≡ m → ⊥) → StoredBoth n m first second asked values numbers wrongLength first second
+  second-refused asked values numbers e f =
       record {
-        number = of-other 3 answer _ wrongLength f ∙ of-length 256 marks _ wrongLength e;
-        marked = of-other 3 answer _ marks f ∙ of-length 256 marks _ marks e;
-        numbers = of-other 3 answer _ answer f ∙ of-length 256 marks _ answer e;
+        number = of-other m second _ wrongLength f ∙ of-length n first _ wrongLength e;
+        one = of-other m second _ first f ∙ of-length n first _ first e;
+        other = of-other m second _ second f ∙ of-length n first _ second e;
       }
 
   -- both are of the length that is asked for
-  pub cancelled-into : (c : Cancellation) (result : ℕ) (marks-after answer-after : List ℕ) → length marks ≡ 256 → length answer ≡ 3 → c ≡ cancellation g s id tries → result ≡ c .number
-      → marks-after ≡ markNumbers c → answer-after ≡ cancellationNumbers c → CancelledInto g s id tries marks answer result marks-after answer-after
-  cancelled-into c result marks-after answer-after e f h number marked numbers =
+  pub stored-both : (asked : ℕ) (values numbers : List ℕ) (result : ℕ) (first-after second-after : List ℕ) → length first ≡ n → length second ≡ m → result ≡ asked
+      → first-after ≡ values → second-after ≡ numbers → StoredBoth n m first second asked values numbers result first-after second-after
+  stored-both asked values numbers result first-after second-after e f number one other =
       record {
-        number = number ∙ ap (λ (x : Cancellation). x .number) h ∙ of-length 3 answer _ wrongLength f ∙ of-length 256 marks _ wrongLength e;
-        marked = marked ∙ ap markNumbers h ∙ of-length 3 answer _ marks f ∙ of-length 256 marks _ marks e;
-        numbers = numbers ∙ ap cancellationNumbers h ∙ of-length 3 answer _ answer f ∙ of-length 256 marks _ answer e;
+        number = number ∙ of-length m second _ wrongLength f ∙ of-length n first _ wrongLength e;
+        one = one ∙ of-length m second _ first f ∙ of-length n first _ first e;
+        other = other ∙ of-length m second _ second f ∙ of-length n first _ second e;
       }

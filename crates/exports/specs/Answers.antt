@@ -11,20 +11,23 @@ use Rattle.rules.specs.Calls.{Answer}
 use Rattle.rules.specs.Queries.{Query, Reply, shownRecord}
 use Rattle.rules.specs.Questions.{refusal, numberOf, decided}
 use Rattle.book_format.specs.Book.{userCount, tradeCount, bytesOf}
-use Rattle.book_format.specs.Questions.{bookNumber}
 use Rattle.store.specs.Store.{given}
-use Rattle.requests.specs.Cancellation.{cancellation}
 use Rattle.requests.specs.Carried.{partShown}
 use Rattle.requests.specs.Logged.{lentLog}
-use Rattle.requests.specs.Request.{Request, Setting, enquiry, request}
+use Rattle.requests.specs.Request.{Request, Setting}
+use Rattle.rights.specs.Acting.{cancellationBy, enquiryBy, enteringNumber, requestBy}
+use Rattle.rights.specs.Party.{Party, operators}
+use Rattle.rights.specs.Trades.{Asking, Told, toldBy, tradeOf}
+use Rattle.call_read.specs.Image.{imageBy}
 use Rattle.book_value.specs.Written.{aboutWriting}
-use Rattle.book_image.specs.Image.{imageSize, padded, readImage}
+use Rattle.book_image.specs.Image.{imageSize, padded}
 use Rattle.book_image.specs.ImageBook.{imageBook}
 use Rattle.shrinkage.specs.Return.{returned}
 use Rattle.shrinkage.specs.Days.{overDays}
+use Rattle.exports_answers.specs.Numbers.{tradeNumbers}
 use Rattle.exports_shrinkage.specs.Numbers.{returnNumbers}
 use Rattle.exports_cancellation.specs.Numbers.{cancellationNumbers, markNumbers}
-use Rattle.exports.specs.Lent.{byLength, Given, Stored, wrongLength}
+use Rattle.exports.specs.Lent.{byLength, Given, Stored, StoredBoth}
 
 -- a flag as a number: 0 is no, any other yes
 unfoldable pub isYes : ℕ → Bool
@@ -39,32 +42,44 @@ abbrev pub logBy : ℕ → List ℕ → Option (List ℕ)
 logBy flag part = given (isYes flag) part
 
 -- a query with n numbers: its number and the lent part
-abbrev pub Replied : (n : ℕ) → (Reply → List ℕ) → Setting → List ℕ → Query → List ℕ → ℕ → List ℕ → Type 0
-Replied n numbers g s q lent result after =
-    let r = enquiry g s q in
+abbrev pub Replied : (n : ℕ) → (Reply → List ℕ) → Party → Setting → List ℕ → Query → List ℕ → ℕ → List ℕ → Type 0
+Replied n numbers actor g s q lent result after =
+    let r = enquiryBy actor g s q in
     Stored n lent (r .number) (numbers r) result after
 
--- a call with n numbers: its number and the lent part, every byte of the book, and every byte of the lent log, given or not
-pub record Answered (n : ℕ) (numbers : Answer → List ℕ) (r : Request) (s : List ℕ) (lent : List ℕ) (result : ℕ) (after : List ℕ) (t l m : List ℕ) : Type 0 where
-  pub answer : Stored n lent (request r s .answer .number) (numbers (request r s .answer)) result after
-  pub book : t ≡ byLength n lent (request r s .bytes) s
-  pub log : m ≡ byLength n lent (lentLog (request r s .log) l) l
+-- the flag and the count of trades, with n numbers
+abbrev pub ToldInto : (n : ℕ) → (Told → List ℕ) → Party → Setting → List ℕ → Asking → List ℕ → ℕ → List ℕ → Type 0
+ToldInto n numbers actor g s a lent result after =
+    let r = toldBy actor g s a in
+    Stored n lent (r .number) (numbers r) result after
 
--- a whole cancellation, with a part for 256 marks and one for 3 numbers: its number and both parts; where one of them is of another length both are left as they are
-pub record CancelledInto (g : Setting) (s : List ℕ) (id tries : ℕ) (marks answer : List ℕ) (result : ℕ) (marks-after answer-after : List ℕ) : Type 0 where
-  pub number : result ≡ byLength 256 marks (byLength 3 answer (cancellation g s id tries .number) wrongLength) wrongLength
-  pub marked : marks-after ≡ byLength 256 marks (byLength 3 answer (markNumbers (cancellation g s id tries)) marks) marks
-  pub numbers : answer-after ≡ byLength 256 marks (byLength 3 answer (cancellationNumbers (cancellation g s id tries)) answer) answer
+-- a trade by ordinal, with a part for its 20 bytes and one for the number of these: the trade's bytes, or 20 times 0 where the part that is handed out is empty
+abbrev pub TradeInto : Party → Setting → List ℕ → ℕ → ℕ → List ℕ → List ℕ → ℕ → List ℕ → List ℕ → Type 0
+TradeInto actor g s id ordinal trade answer result trade-after answer-after =
+    let r = toldBy actor g s (tradeOf id ordinal) in
+    StoredBoth 20 1 trade answer (r .number) (padded 20 (r .part)) (tradeNumbers r) result trade-after answer-after
+
+-- a call with n numbers: its number and the lent part, every byte of the book, and every byte of the lent log, given or not
+pub record Answered (n : ℕ) (numbers : Answer → List ℕ) (actor : Party) (r : Request) (s : List ℕ) (lent : List ℕ) (result : ℕ) (after : List ℕ) (t l m : List ℕ) : Type 0 where
+  pub answer : Stored n lent (requestBy actor r s .answer .number) (numbers (requestBy actor r s .answer)) result after
+  pub book : t ≡ byLength n lent (requestBy actor r s .bytes) s
+  pub log : m ≡ byLength n lent (lentLog (requestBy actor r s .log) l) l
+
+-- a whole cancellation, with a part for 256 marks and one for 3 numbers
+abbrev pub CancelledInto : Party → Setting → List ℕ → ℕ → ℕ → List ℕ → List ℕ → ℕ → List ℕ → List ℕ → Type 0
+CancelledInto actor g s id tries marks answer result marks-after answer-after =
+    let r = cancellationBy actor g s id tries in
+    StoredBoth 256 3 marks answer (r .number) (markNumbers r) (cancellationNumbers r) result marks-after answer-after
 
 -- a shown record in a part of 68 bytes, those of version 3: the user's bytes with 0 behind them, or 68 times 0
-abbrev pub Copied : Setting → List ℕ → ℕ → List ℕ → ℕ → List ℕ → Type 0
-Copied g s id lent result after =
-    let number = enquiry g s (shownRecord id) .number in
+abbrev pub Copied : Party → Setting → List ℕ → ℕ → List ℕ → ℕ → List ℕ → Type 0
+Copied actor g s id lent result after =
+    let number = enquiryBy actor g s (shownRecord id) .number in
     Stored 68 lent number (padded 68 (partShown number s id)) result after
 
 -- a book read into an image
-abbrev pub ReadInto : List ℕ → List ℕ → ℕ → List ℕ → Type 0
-ReadInto s lent result after = Stored imageSize lent (bookNumber s) (readImage s) result after
+abbrev pub ReadInto : Party → List ℕ → List ℕ → ℕ → List ℕ → Type 0
+ReadInto actor s lent result after = Stored imageSize lent (enteringNumber actor operators s) (imageBy actor s) result after
 
 -- an image written as a book to a part s
 abbrev pub WrittenFrom : List ℕ → List ℕ → ℕ → List ℕ → Type 0

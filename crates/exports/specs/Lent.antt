@@ -22,3 +22,9 @@ pub record Given (n : ℕ) (lent : List ℕ) (asked : ℕ) (values before : List
 -- the same where both are one part: n values are stored in it
 abbrev pub Stored : ℕ → List ℕ → ℕ → List ℕ → ℕ → List ℕ → Type 0
 Stored n lent asked values result after = Given n lent asked values lent result after
+
+-- What a function leaves that stores values in two lent parts of n and m places: its number and both parts; where one of them is of another length both are left as they are.
+pub record StoredBoth (n m : ℕ) (first second : List ℕ) (asked : ℕ) (values numbers : List ℕ) (result : ℕ) (first-after second-after : List ℕ) : Type 0 where
+  pub number : result ≡ byLength n first (byLength m second asked wrongLength) wrongLength
+  pub one : first-after ≡ byLength n first (byLength m second values first) first
+  pub other : second-after ≡ byLength n first (byLength m second numbers second) second

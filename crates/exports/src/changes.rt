@@ -4,7 +4,8 @@ ghost use mathlib.Core.Path.{_≡_};
 ghost use mathlib.Core.Option.{some};
 ghost use Rattle.rules.specs.Calls.{only, morningCall, afternoonCall};
 ghost use Rattle.requests.specs.Request.{actOf};
-ghost use Rattle.requests.specs.Logged.{Logged, Posted};
+ghost use Rattle.rights.specs.Logged.{LoggedBy, PostedBy};
+ghost use Rattle.rights.specs.Party.{partyOf};
 ghost use Rattle.log_format.specs.Fits.{startNumber, started};
 ghost use Rattle.daybook.specs.Acts.{called, withdrawing};
 ghost use Rattle.call_posting.specs.Posting.{postingOf};
@@ -28,8 +29,9 @@ const WITHDRAWAL_NUMBERS: usize = 2;
 
 // Adds a signed amount to a user's physical entry and position in an area.
 #[no_mangle]
-pub extern "C" fn daybook_posting(
+pub extern "C" fn daybook_raw_posting(
     book: &mut [u8],
+    party: u64,
     with_store: u32,
     store: &[u8],
     with_log: u32,
@@ -38,10 +40,11 @@ pub extern "C" fn daybook_posting(
     area: u32,
     amount: i64,
 ) -> u32
-    ensures { λ r. ⌜ Logged (actOf (storeBy «with_store» (now (store .entry))) (logBy «with_log» (now (log .entry))) (called (postingOf id area amount))) (now (book .entry)) (only r) (now (book .exit)) (now (log .entry)) (now (log .exit)) ⌝ }
+    ensures { λ r. ⌜ LoggedBy (partyOf party) (actOf (storeBy «with_store» (now (store .entry))) (logBy «with_log» (now (log .entry))) (called (postingOf id area amount))) (now (book .entry)) (only r) (now (book .exit)) (now (log .entry)) (now (log .exit)) ⌝ }
 {
     daybook::posting(
         book,
+        party,
         with_store != 0,
         store,
         with_log != 0,
@@ -55,8 +58,9 @@ pub extern "C" fn daybook_posting(
 // Posts a list of corrections, given as columns, and stores the number of each line in its place. Places of another count than the lines
 // are refused by question 15.
 #[no_mangle]
-pub extern "C" fn daybook_list(
+pub extern "C" fn daybook_raw_list(
     book: &mut [u8],
+    party: u64,
     with_store: u32,
     store: &[u8],
     with_log: u32,
@@ -66,10 +70,11 @@ pub extern "C" fn daybook_list(
     amounts: &[i64],
     places: &mut [u32],
 ) -> u32
-    ensures { λ r. ⌜ Posted (storeBy «with_store» (now (store .entry))) (logBy «with_log» (now (log .entry))) (now (ids .entry)) (now (areas .entry)) (now (amounts .entry)) (now (places .entry)) (now (book .entry)) r (now (book .exit)) (now (places .exit)) (now (log .entry)) (now (log .exit)) ⌝ }
+    ensures { λ r. ⌜ PostedBy (partyOf party) (storeBy «with_store» (now (store .entry))) (logBy «with_log» (now (log .entry))) (now (ids .entry)) (now (areas .entry)) (now (amounts .entry)) (now (places .entry)) (now (book .entry)) r (now (book .exit)) (now (places .exit)) (now (log .entry)) (now (log .exit)) ⌝ }
 {
     daybook::list(
         book,
+        party,
         with_store != 0,
         store,
         with_log != 0,
@@ -84,6 +89,7 @@ pub extern "C" fn daybook_list(
 // Raises a user's blocked guarantee to its level at one time of the day: 2 numbers, the level and what was added.
 fn call(
     book: &mut [u8],
+    party: u64,
     with_store: u32,
     store: &[u8],
     with_log: u32,
@@ -92,13 +98,14 @@ fn call(
     afternoon: bool,
     answer: &mut [u64],
 ) -> u32
-    ensures { λ r. ⌜ Answered 2 callNumbers (actOf (storeBy «with_store» (now (store .entry))) (logBy «with_log» (now (log .entry))) (called (callOf afternoon id))) (now (book .entry)) (now (answer .entry)) r (now (answer .exit)) (now (book .exit)) (now (log .entry)) (now (log .exit)) ⌝ }
+    ensures { λ r. ⌜ Answered 2 callNumbers (partyOf party) (actOf (storeBy «with_store» (now (store .entry))) (logBy «with_log» (now (log .entry))) (called (callOf afternoon id))) (now (book .entry)) (now (answer .entry)) r (now (answer .exit)) (now (book .exit)) (now (log .entry)) (now (log .exit)) ⌝ }
 {
     if answer.len() != CALL_NUMBERS {
         return WRONG_LENGTH;
     }
     let call = daybook::call(
         book,
+        party,
         with_store != 0,
         store,
         with_log != 0,
@@ -111,8 +118,9 @@ fn call(
 
 // Raises a user's blocked guarantee to its morning level: 2 numbers, the level and what was added.
 #[no_mangle]
-pub extern "C" fn daybook_morning_call(
+pub extern "C" fn daybook_raw_morning_call(
     book: &mut [u8],
+    party: u64,
     with_store: u32,
     store: &[u8],
     with_log: u32,
@@ -120,15 +128,26 @@ pub extern "C" fn daybook_morning_call(
     id: u32,
     answer: &mut [u64],
 ) -> u32
-    ensures { λ r. ⌜ Answered 2 callNumbers (actOf (storeBy «with_store» (now (store .entry))) (logBy «with_log» (now (log .entry))) (called (morningCall id))) (now (book .entry)) (now (answer .entry)) r (now (answer .exit)) (now (book .exit)) (now (log .entry)) (now (log .exit)) ⌝ }
+    ensures { λ r. ⌜ Answered 2 callNumbers (partyOf party) (actOf (storeBy «with_store» (now (store .entry))) (logBy «with_log» (now (log .entry))) (called (morningCall id))) (now (book .entry)) (now (answer .entry)) r (now (answer .exit)) (now (book .exit)) (now (log .entry)) (now (log .exit)) ⌝ }
 {
-    call(book, with_store, store, with_log, log, id, false, answer)
+    call(
+        book,
+        party,
+        with_store,
+        store,
+        with_log,
+        log,
+        id,
+        false,
+        answer,
+    )
 }
 
 // Raises a user's blocked guarantee to its afternoon level: 2 numbers, the level and what was added.
 #[no_mangle]
-pub extern "C" fn daybook_afternoon_call(
+pub extern "C" fn daybook_raw_afternoon_call(
     book: &mut [u8],
+    party: u64,
     with_store: u32,
     store: &[u8],
     with_log: u32,
@@ -136,16 +155,27 @@ pub extern "C" fn daybook_afternoon_call(
     id: u32,
     answer: &mut [u64],
 ) -> u32
-    ensures { λ r. ⌜ Answered 2 callNumbers (actOf (storeBy «with_store» (now (store .entry))) (logBy «with_log» (now (log .entry))) (called (afternoonCall id))) (now (book .entry)) (now (answer .entry)) r (now (answer .exit)) (now (book .exit)) (now (log .entry)) (now (log .exit)) ⌝ }
+    ensures { λ r. ⌜ Answered 2 callNumbers (partyOf party) (actOf (storeBy «with_store» (now (store .entry))) (logBy «with_log» (now (log .entry))) (called (afternoonCall id))) (now (book .entry)) (now (answer .entry)) r (now (answer .exit)) (now (book .exit)) (now (log .entry)) (now (log .exit)) ⌝ }
 {
-    call(book, with_store, store, with_log, log, id, true, answer)
+    call(
+        book,
+        party,
+        with_store,
+        store,
+        with_log,
+        log,
+        id,
+        true,
+        answer,
+    )
 }
 
 // Cuts a user's bilateral sales for its target: 5 numbers, the MWh cut, their worth, the target, and what the worth falls short of it or
 // exceeds it by.
 #[no_mangle]
-pub extern "C" fn daybook_reduction(
+pub extern "C" fn daybook_raw_reduction(
     book: &mut [u8],
+    party: u64,
     with_store: u32,
     store: &[u8],
     with_log: u32,
@@ -153,32 +183,33 @@ pub extern "C" fn daybook_reduction(
     id: u32,
     answer: &mut [u64],
 ) -> u32
-    ensures { λ r. ⌜ Answered 5 reductionNumbers (actOf (storeBy «with_store» (now (store .entry))) (logBy «with_log» (now (log .entry))) (called (reductionOf id))) (now (book .entry)) (now (answer .entry)) r (now (answer .exit)) (now (book .exit)) (now (log .entry)) (now (log .exit)) ⌝ }
+    ensures { λ r. ⌜ Answered 5 reductionNumbers (partyOf party) (actOf (storeBy «with_store» (now (store .entry))) (logBy «with_log» (now (log .entry))) (called (reductionOf id))) (now (book .entry)) (now (answer .entry)) r (now (answer .exit)) (now (book .exit)) (now (log .entry)) (now (log .exit)) ⌝ }
 {
     if answer.len() != REDUCTION_NUMBERS {
         return WRONG_LENGTH;
     }
-    let reduction = daybook::reduction(book, with_store != 0, store, with_log != 0, log, id);
+    let reduction = daybook::reduction(book, party, with_store != 0, store, with_log != 0, log, id);
     exports_answers::store_reduction(answer, reduction)
 }
 
 // Reduces users until none that is short of cover has an eligible trade: 3 numbers, the reductions, the MWh cut and their worth. They are
 // stored beside 20 too, where a log that is given became full.
 #[no_mangle]
-pub extern "C" fn daybook_run(
+pub extern "C" fn daybook_raw_run(
     book: &mut [u8],
+    party: u64,
     with_store: u32,
     store: &[u8],
     with_log: u32,
     log: &mut [u8],
     answer: &mut [u64],
 ) -> u32
-    ensures { λ r. ⌜ Answered 3 runNumbers (actOf (storeBy «with_store» (now (store .entry))) (logBy «with_log» (now (log .entry))) (called runCall)) (now (book .entry)) (now (answer .entry)) r (now (answer .exit)) (now (book .exit)) (now (log .entry)) (now (log .exit)) ⌝ }
+    ensures { λ r. ⌜ Answered 3 runNumbers (partyOf party) (actOf (storeBy «with_store» (now (store .entry))) (logBy «with_log» (now (log .entry))) (called runCall)) (now (book .entry)) (now (answer .entry)) r (now (answer .exit)) (now (book .exit)) (now (log .entry)) (now (log .exit)) ⌝ }
 {
     if answer.len() != RUN_NUMBERS {
         return WRONG_LENGTH;
     }
-    let run = daybook::run(book, with_store != 0, store, with_log != 0, log);
+    let run = daybook::run(book, party, with_store != 0, store, with_log != 0, log);
     exports_answers::store_run(answer, run)
 }
 
@@ -186,7 +217,7 @@ pub extern "C" fn daybook_run(
 
 // Starts a log that holds a book.
 #[no_mangle]
-pub extern "C" fn daybook_start_log(log: &mut [u8], book: &[u8]) -> u32
+pub extern "C" fn daybook_raw_start_log(log: &mut [u8], book: &[u8]) -> u32
     ensures { λ r. ⌜ r ≡ startNumber (now (log .entry)) (now (book .entry)) ⌝ }
     ensures { λ _. ⌜ now (log .exit) ≡ started (now (log .entry)) (now (book .entry)) ⌝ }
 {
@@ -195,18 +226,19 @@ pub extern "C" fn daybook_start_log(log: &mut [u8], book: &[u8]) -> u32
 
 // Withdraws the last reduction that a log has noted: 2 numbers, its MWh and their worth.
 #[no_mangle]
-pub extern "C" fn daybook_withdrawal(
+pub extern "C" fn daybook_raw_withdrawal(
     book: &mut [u8],
+    party: u64,
     with_store: u32,
     store: &[u8],
     log: &mut [u8],
     answer: &mut [u64],
 ) -> u32
-    ensures { λ r. ⌜ Answered 2 withdrawalNumbers (actOf (storeBy «with_store» (now (store .entry))) (some (now (log .entry))) withdrawing) (now (book .entry)) (now (answer .entry)) r (now (answer .exit)) (now (book .exit)) (now (log .entry)) (now (log .exit)) ⌝ }
+    ensures { λ r. ⌜ Answered 2 withdrawalNumbers (partyOf party) (actOf (storeBy «with_store» (now (store .entry))) (some (now (log .entry))) withdrawing) (now (book .entry)) (now (answer .entry)) r (now (answer .exit)) (now (book .exit)) (now (log .entry)) (now (log .exit)) ⌝ }
 {
     if answer.len() != WITHDRAWAL_NUMBERS {
         return WRONG_LENGTH;
     }
-    let withdrawal = daybook::withdrawal(book, with_store != 0, store, log);
+    let withdrawal = daybook::withdrawal(book, party, with_store != 0, store, log);
     exports_answers::store_withdrawal(answer, withdrawal)
 }

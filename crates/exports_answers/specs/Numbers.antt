@@ -2,8 +2,10 @@
 use mathlib.Core.Bool.{Bool, cond}
 use mathlib.Core.List.{List, [], _∷_}
 use Prim.Native.Nat.{ℕ}
+use lib.ListN.{length}
 use Rattle.rules.specs.Calls.{Answer}
 use Rattle.rules.specs.Queries.{Reply}
+use Rattle.rights.specs.Trades.{Told}
 
 -- of a level: the level in cents
 unfoldable pub levelNumbers : Reply → List ℕ
@@ -16,6 +18,18 @@ bit b = cond b 1 0
 -- of a warning: whether the user is warned
 unfoldable pub warningNumbers : Reply → List ℕ
 warningNumbers r = bit (r .warned) ∷ []
+
+-- of a flag: whether the user is flagged
+unfoldable pub flagNumbers : Told → List ℕ
+flagNumbers r = bit (r .flagged) ∷ []
+
+-- of a count of trades: how many the user may see
+unfoldable pub countNumbers : Told → List ℕ
+countNumbers r = r .count ∷ []
+
+-- of a trade by ordinal: the bytes of its part, 20, or past the last 0
+unfoldable pub tradeNumbers : Told → List ℕ
+tradeNumbers r = length (r .part) ∷ []
 
 -- of a guarantee call: the level and what was added, in cents
 unfoldable pub callNumbers : Answer → List ℕ

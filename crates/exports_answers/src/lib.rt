@@ -8,14 +8,17 @@ ghost use Rattle.call_answers.specs.Call as calls;
 ghost use Rattle.call_answers.specs.Reduction as reducing;
 ghost use Rattle.call_answers.specs.Run as running;
 ghost use Rattle.call_logged.specs.Withdrawal.{withdrawalOf};
-ghost use Rattle.exports_answers.specs.Numbers.{levelNumbers, warningNumbers, callNumbers, reductionNumbers};
-ghost use Rattle.exports_answers.specs.Numbers.{runNumbers, withdrawalNumbers};
+ghost use Rattle.call_told.specs.Told.{countTold, flagTold};
+ghost use Rattle.exports_answers.specs.Numbers.{levelNumbers, warningNumbers, flagNumbers, countNumbers};
+ghost use Rattle.exports_answers.specs.Numbers.{callNumbers, reductionNumbers, runNumbers, withdrawalNumbers};
 use call_answers::CallAnswer;
 use call_answers::LevelAnswer;
 use call_answers::ReductionAnswer;
 use call_answers::RunAnswer;
 use call_answers::WarningAnswer;
 use call_logged::WithdrawalAnswer;
+use call_told::CountAnswer;
+use call_told::FlagAnswer;
 
 // Stores the numbers of an answer in a part of as many places.
 pub fn store(answer: &mut [u64], numbers: &[u64])
@@ -46,6 +49,26 @@ pub fn store_warning(answer: &mut [u64], reply: WarningAnswer) -> u32
     ensures { λ r. ⌜ (r ≡ reply .number) × (now (answer .exit) ≡ warningNumbers (warned.replyOf reply)) ⌝ }
 {
     let numbers = [reply.warned as u64];
+    store(answer, &numbers);
+    reply.number
+}
+
+// Stores whether a user is flagged, and passes the number on.
+pub fn store_flag(answer: &mut [u64], reply: FlagAnswer) -> u32
+    requires { ⌜ length (now answer) ≡ 1 ⌝ }
+    ensures { λ r. ⌜ (r ≡ reply .number) × (now (answer .exit) ≡ flagNumbers (flagTold reply)) ⌝ }
+{
+    let numbers = [reply.flagged as u64];
+    store(answer, &numbers);
+    reply.number
+}
+
+// Stores how many trades a user may see, and passes the number on.
+pub fn store_count(answer: &mut [u64], reply: CountAnswer) -> u32
+    requires { ⌜ length (now answer) ≡ 1 ⌝ }
+    ensures { λ r. ⌜ (r ≡ reply .number) × (now (answer .exit) ≡ countNumbers (countTold reply)) ⌝ }
+{
+    let numbers = [reply.count as u64];
     store(answer, &numbers);
     reply.number
 }

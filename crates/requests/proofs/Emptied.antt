@@ -23,11 +23,11 @@ use Rattle.log_format.specs.Fits.{logNumber}
 use Rattle.log_format.specs.Log.{entriesOf, logBytes}
 use Rattle.log_format.specs.Noted.{Entered, callEntered, emptying, room}
 use Rattle.requests.proofs.Lines.{lines-answer, list-opened}
-use Rattle.requests.proofs.Logged.{actLent, call-logged, lines-log, lines-with-number, lines-without, list-logged, logged-call, logged-without, with-number, without-number}
+use Rattle.requests.proofs.Logged.{actLent, call-logged, lines-log, lines-without, list-logged, logged-call, logged-without, with-number, without-number}
 use Rattle.requests.proofs.Opened.{outcome, request-opened}
 use Rattle.requests.specs.Carried.{Carried}
 use Rattle.requests.specs.Logged.{AdmittedWith, Logged, Posted, emptiedBy, lentLog, linesNumberWith, listWith, loggedAfter, openingNumberWith}
-use Rattle.requests.specs.Request.{call, Lines, Outcome, Setting, callIn, emptiedIn, enteredIn, limitsOn, linesIn, linesNumber, linesOf, openingNumber, refused, refusedWith, request, settingOf}
+use Rattle.requests.specs.Request.{call, Lines, Outcome, Setting, callIn, emptiedIn, enteredIn, limitsOn, linesIn, linesOf, openingNumber, refused, refusedWith, request, settingOf}
 
 -- no question of a call has the number 0
 pub about-numbered : (limits : Limits) (b : Book) (c : Call) → T (numbered (about limits b c))
@@ -162,10 +162,6 @@ first-zero (suc n) k e = absurd (omega arith)
 -- who passes the opening questions with a log passes those without it
 pub with-opening : (g : Setting) (log : Option (List ℕ)) (s : List ℕ) → openingNumberWith g log s ≡ 0 → openingNumber g s ≡ 0
 with-opening g log s h = first-zero (openingNumber g s) (logNumber log s) (sym (with-number g log s) ∙ h)
-
--- a list with a log that passes its opening questions passes those without it
-pub lines-with-opening : (g : Setting) (log : Option (List ℕ)) (v : Lines) (s : List ℕ) → linesNumberWith g log v s ≡ 0 → linesNumber g v s ≡ 0
-lines-with-opening g log v s h = first-zero (linesNumber g v s) (logNumber log s) (sym (lines-with-number g log v s) ∙ h)
 
 module _ {c : Call} (e : Empties c) (g : Setting) (s : List ℕ) where
   abbrev stepWith : Option (List ℕ) → InBytes

@@ -58,31 +58,6 @@ lines-number g v s =
         go true = refl
         go false = refl
 
--- so a question of the book refuses,
-pub lines-book : (g : Setting) (v : Lines) (s : List ℕ) {n : ℕ} → n ≡ bookNumber s → (n ≡ 0 → ⊥) → n ≡ linesNumber g v s
-unfolding after
-lines-book g v s {n} e h =
-    let rest = after (fitNumber (linesFit v)) (λ m. m) (storeNumber (g .store) (bookOf s .header .date)) in
-    go n rest h ∙ ap (λ (m : ℕ). after m (λ k. k) rest) e ∙ sym (lines-number g v s)
-  where
-    go : (m k : ℕ) → (m ≡ 0 → ⊥) → m ≡ after m (λ j. j) k
-    go zero k z = absurd (z refl)
-    go (suc m) k z = refl
-
--- or 15 does,
-pub lines-unfit : (g : Setting) (v : Lines) (s : List ℕ) → bookNumber s ≡ 0 → linesFit v ≡ false → 15 ≡ linesNumber g v s
-unfolding after fitNumber
-lines-unfit g v s e f =
-    sym (lines-number g v s ∙ ap (λ (n : ℕ). after n (λ m. m) (after (fitNumber (linesFit v)) (λ m. m) (storeNumber (g .store) (bookOf s .header .date)))) e
-    ∙ ap (λ (c : Bool). after (fitNumber c) (λ m. m) (storeNumber (g .store) (bookOf s .header .date))) f)
-
--- or the number is that of a call's opening questions
-pub lines-fit : (g : Setting) (v : Lines) (s : List ℕ) {n : ℕ} → linesFit v ≡ true → n ≡ openingNumber g s → n ≡ linesNumber g v s
-unfolding after fitNumber
-lines-fit g v s f e =
-    e ∙ opening-number g s
-    ∙ sym (lines-number g v s ∙ ap (λ (c : Bool). after (bookNumber s) (λ m. m) (after (fitNumber c) (λ m. m) (storeNumber (g .store) (bookOf s .header .date)))) f)
-
 -- a list that passes them fits, and each of its lines would pass its own
 pub lines-opening : (g : Setting) (v : Lines) (s : List ℕ) → linesNumber g v s ≡ 0 → (linesFit v ≡ true) × (openingNumber g s ≡ 0)
 unfolding after fitNumber

@@ -10,17 +10,16 @@ use Rattle.rules.specs.Book.{Book}
 use Rattle.rules.specs.Calls.{Answer, Call, Result, about, effect}
 use Rattle.rules.specs.Levels.{Limits}
 use Rattle.base.specs.Lists.{all}
-use Rattle.rules.specs.Queries.{Query, aboutQuery, found, onlyNumber}
 use Rattle.rules.specs.Questions.{decided, numberOf, refusal}
 use Rattle.book_format.proofs.After.{asked-after, number-after}
 use Rattle.book_format.proofs.Formed.{bytes-numbered}
-use Rattle.book_format.specs.After.{CalledAfter, after, replyAfter, stepAfter, unchanged}
+use Rattle.book_format.specs.After.{CalledAfter, after, stepAfter, unchanged}
 use Rattle.book_format.specs.Book.{bookOf}
 use Rattle.book_format.specs.Questions.{aboutBytes, bookNumber}
 use Rattle.book_format.specs.Steps.{InBytes, inBytes}
 use Rattle.store.specs.Store.{aboutStore, storeNumber}
 use Rattle.requests.specs.Carried.{Admitted, Carried}
-use Rattle.requests.specs.Request.{Outcome, Setting, aboutSetting, actBy, actIn, callIn, carriedOut, enquiry, limitsOn, opening, openingNumber, refused, request, stepIn}
+use Rattle.requests.specs.Request.{Outcome, Setting, aboutSetting, actBy, actIn, callIn, carriedOut, limitsOn, opening, openingNumber, refused, request, stepIn}
 
 -- ---- numbers
 
@@ -82,18 +81,3 @@ carried {g} {s} {c = c} {number = number} {limits = limits} d k =
     ∙ ap (λ (n : ℕ). outcome (stepAfter n (limitsOn g (bookOf s)) s c)) (sym (d .asked))
     ∙ ap outcome (sym (step-same number s c (d .taken))) in
     record { answer = k .answer ∙ ap (λ (x : Outcome). x .answer) (sym e); bytes = k .bytes ∙ ap (λ (x : Outcome). x .bytes) (sym e) }
-
--- ---- queries
-
-reply-same : (n : ℕ) {l m : Limits} (s : List ℕ) (q : Query) → (n ≡ 0 → l ≡ m) → replyAfter n l s q ≡ replyAfter n m s q
-unfolding replyAfter after
-reply-same zero s q h = ap (λ (k : Limits). replyAfter 0 k s q) (h refl)
-reply-same (suc n) s q h = refl
-
-pub replied : (g : Setting) (s : List ℕ) (q : Query) {number : ℕ} {limits : Limits} → Admitted g s number limits → replyAfter number limits s q ≡ enquiry g s q
-unfolding enquiry replyAfter openingNumber
-replied g s q {number} {limits} d =
-    let b = bookOf s in
-    reply-same number s q (d .taken)
-    ∙ ap (λ (n : ℕ). replyAfter n (limitsOn g b) s q) (d .asked)
-    ∙ sym (asked-after onlyNumber (found (limitsOn g b) b q) (opening g s) (aboutQuery b q) (opening-numbered g s))

@@ -1,15 +1,14 @@
 -- What the contracts of the public calls and queries say of answer and bytes, and of what asks the opening questions for them; the log that is lent to calls is in Logged.antt. Assumes nothing.
 use mathlib.Core.List.{List, []}
 use mathlib.Core.Path.{_≡_}
-use Prim.Native.Nat.{ℕ, _+_}
+use Prim.Native.Nat.{ℕ}
 use lib.ListN.{take, drop}
 use Rattle.rules.specs.Calls.{Answer}
 use Rattle.rules.specs.Levels.{Limits}
-use Rattle.rules.specs.Queries.{shownRecord}
 use Rattle.book_format.specs.After.{after}
 use Rattle.book_format.specs.Book.{bookOf, userAt, userSize, versionOf}
 use Rattle.book_format.specs.Steps.{placeOf}
-use Rattle.requests.specs.Request.{Request, Setting, enquiry, limitsOn, openingNumber, request}
+use Rattle.requests.specs.Request.{Request, Setting, limitsOn, openingNumber, request}
 
 -- a call: bytes before, answer, bytes after
 pub record Carried (r : Request) (s : List ℕ) (a : Answer) (t : List ℕ) : Type 0 where
@@ -30,10 +29,3 @@ partShown number s id = after number (λ n. []) (take (userSize (versionOf s)) (
 -- where the part begins in the book: at the user's record; an empty part at the book's own beginning
 unfoldable pub partAt : ℕ → List ℕ → ℕ → ℕ
 partAt number s id = after number (λ n. 0) (userAt s (placeOf (bookOf s .users) id))
-
--- the number, the part, and that it is that part of the book: it points into the block of the book, at the record's offset
-pub record Handed (g : Setting) (s : List ℕ) (id number : ℕ) (part : List ℕ) (book place : ℕ × ℕ) : Type 0 where
-  pub asked : number ≡ enquiry g s (shownRecord id) .number
-  pub shows : part ≡ partShown number s id
-  pub block : place .0 ≡ book .0
-  pub offset : place .1 ≡ book .1 + partAt number s id

@@ -9,8 +9,8 @@ use lib.Dec.{eqb, eqb→eq, leb, le→leb}
 use lib.ListN.{length, replicate}
 use Rattle.book_tables.specs.Book.{asBook}
 use Rattle.book_tables.specs.declared.Book.{Book}
-use Rattle.exports.specs.Answers.{ReadInto, WrittenFrom}
-use Rattle.exports.specs.Lent.{byLength}
+use Rattle.exports.specs.Answers.{WrittenFrom}
+use Rattle.exports.specs.Lent.{Stored, byLength}
 use Rattle.fields.specs.Field.{AllBytes}
 use Rattle.book_format.proofs.Formed.{book-passed}
 use Rattle.book_format.proofs.Passed.{Passed, passed}
@@ -22,10 +22,10 @@ use Rattle.book_image.specs.ImageBook.{imageBook}
 use Rattle.book_image.specs.Image.{imageOf, imageSize, readImage}
 use Rattle.laws.proofs.Refusals.{append-yes, yes-first}
 use Rattle.base.proofs.Tests.{and-i, eqb-of}
-use Rattle.book_value.specs.Opened.{Opened}
 use Rattle.rules.specs.Book as model
 use Rattle.rules.specs.Questions.{decided, numberOf, refusal, versionKnown}
 use Rattle.book_value.specs.Written.{Written, aboutWriting, countsInRange}
+use Rattle.round_trip.proofs.Operator.{operator-opened, operator-read}
 use Rattle.round_trip.specs.RoundTrip.{ImageReadAndWritten, ReadAndWritten}
 
 -- ---- accepted bytes and a part of their length
@@ -65,7 +65,8 @@ module _ (s : List ℕ) (bytes : AllBytes s) (h : bookNumber s ≡ 0) where
 pub read-and-written : ReadAndWritten
 read-and-written =
     record {
-      same = λ s out t n r b bytes o e l w.
+      same = λ s out t n r b bytes read e l w.
+          let o = operator-opened read in
           let k = o .book e in
           written-back s bytes (sym (o .asked) ∙ e) (b .«user_count») (b .«trade_count») (asBook b) out t r (k .users) (k .trades) (k .book) l (w .asked) (w .part);
     }
@@ -73,7 +74,7 @@ read-and-written =
 -- ---- by an image
 
 -- the number 0 tells that the lent part had the length of an image
-lent-whole : (s lent image : List ℕ) (n : ℕ) → ReadInto s lent n image → n ≡ 0 → (n ≡ bookNumber s) × (image ≡ readImage s)
+lent-whole : (s lent image : List ℕ) (n : ℕ) → Stored imageSize lent (bookNumber s) (readImage s) n image → n ≡ 0 → (n ≡ bookNumber s) × (image ≡ readImage s)
 unfolding byLength
 lent-whole s lent image n o e = go (eqb (length lent) imageSize) refl
   where
@@ -85,7 +86,8 @@ pub image-read-and-written : ImageReadAndWritten
 unfolding byLength readImage decided
 image-read-and-written =
     record {
-      same = λ s lent image out t n r bytes o e l w.
+      same = λ s lent image out t n r bytes read e l w.
+          let o = operator-read s read in
           let h : bookNumber s ≡ 0 = sym (lent-whole s lent image n o e .0) ∙ e in
           let f = passed s h .form in
           let i : image ≡ imageOf s = lent-whole s lent image n o e .1 ∙ ap (λ (z : Option ℕ). decided z (λ k. replicate imageSize 0) (imageOf s)) (book-passed s h) in

@@ -20,14 +20,14 @@ use Rattle.book_format.specs.Questions.{aboutBytes, aboutFields, aboutForm, boo
 use Rattle.book_format.proofs.Written.{bookOf-fits, formed-bytesOf}
 use Rattle.book_tables.specs.Book.{asBook}
 use Rattle.book_tables.specs.declared.Book.{Book}
-use Rattle.book_value.specs.Opened.{Opened}
 use Rattle.book_value.specs.Written.{InCounts, Written, aboutWriting, countsInRange}
 use Rattle.book_image.proofs.RoundTrip.{image-back}
 use Rattle.book_image.specs.Image.{imageOf, imageSize, imageTradesAt, imageUserSize, imageUsersAt, readImage}
 use Rattle.book_image.specs.ImageBook.{imageBook, imageUserOf, CountsOf}
-use Rattle.exports.specs.Answers.{ReadInto, WrittenFrom}
+use Rattle.exports.specs.Answers.{WrittenFrom}
 use Rattle.exports.specs.Lent.{byLength}
 use Rattle.round_trip.specs.RoundTrip.{ImageWrittenAndRead, WrittenAndRead}
+use Rattle.round_trip.proofs.Operator.{operator-opened, operator-read}
 use Rattle.round_trip.proofs.Typed.{trade-count, typed-fits, user-count}
 
 -- no question refuses nothing
@@ -98,7 +98,8 @@ pub written-and-read : WrittenAndRead
 unfolding decided bookNumber numberOf asBook
 written-and-read =
     record {
-      same = λ b c out t r n typed w e o.
+      same = λ b c out t r n typed w e read.
+          let o = operator-opened read in
           let q = none-of (b .«user_count») (b .«trade_count») (asBook b) (length out) (sym (w .asked) ∙ e) in
           let a = asked (b .«user_count») (b .«trade_count») (asBook b) (length out) q in
           let k = a .counts in
@@ -155,7 +156,8 @@ pub image-written-and-read : ImageWrittenAndRead
 unfolding byLength readImage decided bookNumber numberOf
 image-written-and-read =
     record {
-      same = λ image out t lent again r n bytes w e l o.
+      same = λ image out t lent again r n bytes w e l read.
+          let o = operator-read t read in
           let q = none-refuses image out t r w e in
           let a = asked (userCount image) (tradeCount image) (imageBook image) (length out) q in
           let k = a .counts in

@@ -1,4 +1,4 @@
--- Demand 2, "reading it and writing it back gives the same bytes", of the public contracts of `read` and `write`, and of those of the C interface; and the way back, from fields to bytes to fields. Assumes nothing.
+-- Demand 2, "reading it and writing it back gives the same bytes", of the public contracts of `read` and `write`, and of those of the C interface; and the way back, from fields to bytes to fields. To read is the operator's. Assumes nothing.
 use mathlib.Core.Path.{_≡_}
 use mathlib.Core.List.{List}
 use Prim.Native.Nat.{ℕ, _<_, _^_}
@@ -12,23 +12,24 @@ use Rattle.book_records.specs.User.{FitsUser, asUser}
 use Rattle.book_tables.specs.Book.{asBook}
 use Rattle.book_tables.specs.declared.Book.{Book}
 use Rattle.book_tables.specs.declared.Record.{Record}
-use Rattle.book_value.specs.Opened.{Opened}
 use Rattle.book_value.specs.Written.{Written}
 use Rattle.book_image.specs.Image.{imageSize}
 use Rattle.book_image.specs.ImageBook.{imageBook}
 use Rattle.exports.specs.Answers.{ReadInto, WrittenFrom}
+use Rattle.rights.specs.Party.{operator}
+use Rattle.rights.specs.Read.{ReadBy}
 
 -- ---- bytes, fields, bytes
 
 -- bytes s that were read with the number 0 into the fields b, and written from these to a part of their length: the write is accepted, and the part holds the bytes
 pub record ReadAndWritten : Type 0 where
-  pub same : (s out t : List ℕ) (n r : ℕ) (b : Book) → AllBytes s → Opened s n b → n ≡ 0 → length out ≡ length s → Written b out r t → (r ≡ 0) × (t ≡ s)
+  pub same : (s out t : List ℕ) (n r : ℕ) (b : Book) → AllBytes s → ReadBy operator s n b → n ≡ 0 → length out ≡ length s → Written b out r t → (r ≡ 0) × (t ≡ s)
 
 -- the same by an image: `lent` is what the lent part held before it was read into
 pub record ImageReadAndWritten : Type 0 where
   pub same :
       (s lent image out t : List ℕ) (n r : ℕ)
-      → AllBytes s → ReadInto s lent n image → n ≡ 0 → length out ≡ length s → WrittenFrom image out r t → (r ≡ 0) × (t ≡ s)
+      → AllBytes s → ReadInto operator s lent n image → n ≡ 0 → length out ≡ length s → WrittenFrom image out r t → (r ≡ 0) × (t ≡ s)
 
 -- ---- fields, bytes, fields
 
@@ -60,10 +61,10 @@ pub record Typed (b : Book) : Type 0 where
 
 -- fields b that were written with the number 0, and read from these bytes into the fields c: the read is accepted, and the fields that the version has, up to the counts, are the same
 pub record WrittenAndRead : Type 0 where
-  pub same : (b c : Book) (out t : List ℕ) (r n : ℕ) → Typed b → Written b out r t → r ≡ 0 → Opened t n c → (n ≡ 0) × (asBook c ≡ asBook b)
+  pub same : (b c : Book) (out t : List ℕ) (r n : ℕ) → Typed b → Written b out r t → r ≡ 0 → ReadBy operator t n c → (n ≡ 0) × (asBook c ≡ asBook b)
 
 -- the same by an image
 pub record ImageWrittenAndRead : Type 0 where
   pub same :
       (image out t lent again : List ℕ) (r n : ℕ)
-      → AllBytes image → WrittenFrom image out r t → r ≡ 0 → length lent ≡ imageSize → ReadInto t lent n again → (n ≡ 0) × (imageBook again ≡ imageBook image)
+      → AllBytes image → WrittenFrom image out r t → r ≡ 0 → length lent ≡ imageSize → ReadInto operator t lent n again → (n ≡ 0) × (imageBook again ≡ imageBook image)

@@ -26,7 +26,7 @@ use Rattle.sequence.specs.Links.{then}
 -- ---- numbers of lines
 
 -- a call has none,
-call-numbers : (g : Setting) (log : Option (List ℕ)) (s : List ℕ) (c : Call) → [] ≡ request (actLent g log (call c)) s .numbers
+pub call-numbers : (g : Setting) (log : Option (List ℕ)) (s : List ℕ) (c : Call) → [] ≡ request (actLent g log (call c)) s .numbers
 unfolding outcome request actBy actWith decided refusedWith enteredIn
 call-numbers g none s c = sym (ap (λ (o : Outcome). o .numbers) (request-opened g s c))
 call-numbers g (some l) s c = go (refusal (openingWith g (some l) s ++ (about (limitsOn g (bookOf s)) (bookOf s) c ++ lastly (room l) c)))
@@ -36,7 +36,7 @@ call-numbers g (some l) s c = go (refusal (openingWith g (some l) s ++ (about (l
     go (some n) = refl
 
 -- nor has a withdrawal
-withdrawal-numbers : (g : Setting) (l s : List ℕ) → [] ≡ request (actLent g (some l) withdrawal) s .numbers
+pub withdrawal-numbers : (g : Setting) (l s : List ℕ) → [] ≡ request (actLent g (some l) withdrawal) s .numbers
 unfolding request actBy actWith decided refusedWith enteredIn
 withdrawal-numbers g l s = go (refusal (openingWith g (some l) s ++ (hasEntry (entriesOf s l) ∷ [])))
   where
@@ -45,7 +45,7 @@ withdrawal-numbers g l s = go (refusal (openingWith g (some l) s ++ (hasEntry (e
     go (some n) = refl
 
 -- a refused list has none
-refused-numbers : (g : Setting) (log : Option (List ℕ)) (s : List ℕ) (v : Lines) (m : ℕ) → request (actLent g log (postings v)) s .answer ≡ only (suc m) → [] ≡ request (actLent g log (postings v)) s .numbers
+pub refused-numbers : (g : Setting) (log : Option (List ℕ)) (s : List ℕ) (v : Lines) (m : ℕ) → request (actLent g log (postings v)) s .answer ≡ only (suc m) → [] ≡ request (actLent g log (postings v)) s .numbers
 unfolding request actBy actIn actWith decided refused refusedWith emptiedIn only
 refused-numbers g none s v m e = go (refusal (openingLines g v s)) e
   where

@@ -9,3 +9,4 @@ pub mod Contracts
 pub mod RunLength
 pub mod Traced
 pub mod Logs
+pub mod Acting

@@ -5,3 +5,4 @@ pub mod Totals
 pub mod Claim
 pub mod RunLength
 pub mod Logs
+pub mod Acting

@@ -5,7 +5,7 @@ use libc::STDOUT_FILENO;
 
 // Reads one book and prints its place and its number.
 fn ask(place: u64, bytes: &[u8]) {
-    let opening = daybook::read(bytes);
+    let opening = daybook::read(bytes, call_rights::OPERATOR);
     let number = opening.number;
     io::print_decimal(STDOUT_FILENO, place);
     io::write_all(STDOUT_FILENO, b" ");

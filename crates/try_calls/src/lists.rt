@@ -40,6 +40,7 @@ fn post(
     let mut log = [0u8; 1];
     let number = daybook::list(
         book,
+        call_rights::OPERATOR,
         false,
         b"",
         false,

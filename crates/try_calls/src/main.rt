@@ -4,9 +4,11 @@
 // marked trades. In the file a call is its kind (1 byte), id (4), area or number of tries (4), amount (8, two's complement), the length of
 // its book (2), and the book. File `reductions`: for each are printed a line of its place, its number, MWh, worth, target, short and over;
 // a line of what stands of every trade of the book afterwards; and a line of id and positions for each user. In the file a reduction is an
-// id (4 bytes), the length of its book (2), and the book; where the length is 0, it is made on the book that the one before it left.
+// id (4 bytes), the length of its book (2), and the book; where the length is 0, it is made on the book that the one before it left. The
+// operator makes all of them, but for what a party is told (told.rt).
 mod lists;
 mod numbers;
+mod told;
 
 ghost use Prim.Native.Nat.{_≤_, max};
 use book_records::User;
@@ -16,6 +18,7 @@ use call_answers::LevelAnswer;
 use call_answers::ReductionAnswer;
 use call_answers::RunAnswer;
 use call_cancellation::CancellationAnswer;
+use call_rights::OPERATOR;
 use libc::STDOUT_FILENO;
 
 fn print_level(answer: LevelAnswer) {
@@ -69,62 +72,79 @@ fn print_cancellation(answer: CancellationAnswer) {
 // The record of a user, nothing where there is none.
 fn print_record(book: &[u8], id: u32) {
     let mut refusal = 0;
-    numbers::print_bytes(daybook::show(book, false, b"", id, &mut refusal));
+    numbers::print_bytes(daybook::show(book, OPERATOR, false, b"", id, &mut refusal));
 }
 
 // A call that changes no book.
 fn ask(kind: u8, book: &[u8], id: u32, tries: u32) {
     if kind == 1 {
-        print_level(daybook::morning_level(book, false, b"", id));
+        print_level(daybook::morning_level(book, OPERATOR, false, b"", id));
         return;
     }
     if kind == 2 {
-        print_level(daybook::afternoon_level(book, false, b"", id));
+        print_level(daybook::afternoon_level(book, OPERATOR, false, b"", id));
         return;
     }
     if kind == 7 {
-        print_cancellation(daybook::cancellation(book, false, b"", id, tries));
+        print_cancellation(daybook::cancellation(book, OPERATOR, false, b"", id, tries));
         return;
     }
-    let answer = daybook::warning(book, false, b"", id);
+    let answer = daybook::warning(book, OPERATOR, false, b"", id);
     day_print::number(answer.number as u64);
     day_print::number(answer.warned as u64);
 }
 
 // A call that may change the book.
-fn change(kind: u8, book: &mut [u8], id: u32, area: u32, amount: i64) {
+fn change(kind: u8, book: &mut [u8], id: u32, area: u32, bits: u64) {
     let mut log = [0u8; 1];
     if kind == 4 {
-        print_call(daybook::morning_call(book, false, b"", false, &mut log, id));
+        print_call(daybook::morning_call(book, OPERATOR, false, b"", false, &mut log, id));
         return;
     }
     if kind == 5 {
-        print_call(daybook::afternoon_call(book, false, b"", false, &mut log, id));
+        print_call(daybook::afternoon_call(book, OPERATOR, false, b"", false, &mut log, id));
         return;
     }
     if kind == 6 {
-        print_run(daybook::run(book, false, b"", false, &mut log));
+        print_run(daybook::run(book, OPERATOR, false, b"", false, &mut log));
         return;
     }
-    day_print::number(daybook::posting(book, false, b"", false, &mut log, id, area, amount) as u64);
+    let amount = numbers::amount_of(bits);
+    day_print::number(
+        daybook::posting(
+            book,
+            OPERATOR,
+            false,
+            b"",
+            false,
+            &mut log,
+            id,
+            area,
+            amount,
+        ) as u64,
+    );
 }
 
 // A call: 0 posting, 1 morning level, 2 afternoon level, 3 warning, 4 morning call, 5 afternoon call, 6 run, 7 whole cancellation, whose
-// number of tries stands in the place of the area.
-fn call(kind: u8, book: &mut [u8], id: u32, area: u32, amount: i64) {
+// number of tries stands in the place of the area, 8 what a party is told, which stands in the place of the amount.
+fn call(kind: u8, book: &mut [u8], id: u32, area: u32, bits: u64) {
+    if kind == 8 {
+        told::tell(book, bits, id);
+        return;
+    }
     if ((1 <= kind) & (kind <= 3)) | (kind == 7) {
         ask(kind, book, id, area);
         return;
     }
-    change(kind, book, id, area, amount);
+    change(kind, book, id, area, bits);
     print_record(book, id);
 }
 
 // The call at a place of the file, as a line.
-fn make(place: u64, kind: u8, book: &mut [u8], id: u32, area: u32, amount: i64) {
+fn make(place: u64, kind: u8, book: &mut [u8], id: u32, area: u32, bits: u64) {
     io::print_decimal(STDOUT_FILENO, place);
     day_print::number(kind as u64);
-    call(kind, book, id, area, amount);
+    call(kind, book, id, area, bits);
     io::write_all(STDOUT_FILENO, b"\n");
 }
 
@@ -143,14 +163,7 @@ fn make_calls(file: &mut [u8]) {
             return;
         }
         let end = start + len;
-        make(
-            place,
-            kind,
-            &mut file[start..end],
-            id,
-            area,
-            numbers::amount_of(bits),
-        );
+        make(place, kind, &mut file[start..end], id, area, bits);
         at = end;
         place += 1;
     }
@@ -211,7 +224,7 @@ fn print_users(b: Book)
 
 // The trades and the users of a book in bytes; none where it is refused.
 fn print_book(bytes: &[u8]) {
-    let opening = daybook::read(bytes);
+    let opening = book_value::open(bytes);
     let b = opening.book;
     print_standing(b);
     print_users(b);
@@ -221,7 +234,7 @@ fn print_book(bytes: &[u8]) {
 fn reduce(place: u64, id: u32, book: &mut [u8]) {
     io::print_decimal(STDOUT_FILENO, place);
     let mut log = [0u8; 1];
-    print_answer(daybook::reduction(book, false, b"", false, &mut log, id));
+    print_answer(daybook::reduction(book, OPERATOR, false, b"", false, &mut log, id));
     io::write_all(STDOUT_FILENO, b"\n");
     print_book(book);
 }

@@ -3,7 +3,7 @@
 use std::hint::black_box;
 
 use books::stores::longest;
-use daybook::{archive, IMAGE_LENGTH, RECORD_LENGTH};
+use daybook::{archive, Operator, IMAGE_LENGTH, RECORD_LENGTH};
 use tuned::requests;
 
 use crate::measure::{times, Times};
@@ -61,45 +61,12 @@ fn print_multiple(start: &str, times: Times, of: Times, end: &str) {
     );
 }
 
-/// Prints what a reduction takes beyond reading and writing its book.
-pub fn print_beyond(subject: &Subject, options: &Options) {
-    println!(
-        "\n{} book, version {}: 256 sales of one seller; microseconds, {} samples of {} calls",
-        subject.name, subject.version, options.samples, options.batch
-    );
-    print_head("call");
-    let reduction = reduction(subject, options);
-    let refused = refused_reduction(subject, options);
-    let level = level(subject, options);
-    let write = write_image(subject, options);
-    print_row("reduction", reduction);
-    print_row("reduction refused by 13", refused);
-    print_row("afternoon level", level);
-    print_row("write from an image", write);
-    print_row("reduction - refused", reduction - refused);
-    print_row("reduction - level - write", reduction - level - write);
-}
-
-/// Prints the times of whole cancellations among 256 sales, with few tries and
-/// with all.
-pub fn print_cancellations(subject: &Subject, options: &Options) {
-    println!(
-        "\n{} book, version {}: whole cancellations among 256 sales; microseconds, {} samples of {} calls",
-        subject.name, subject.version, options.samples, options.batch
-    );
-    print_head("tries");
-    for tries in [1, 100, 4_096, daybook::MOST_TRIES] {
-        let times = cancellation(subject, options, subject.reduced, tries);
-        print_row(&format!("cancellation, {tries}"), times);
-    }
-}
-
-fn print_row(name: &str, times: Times) {
+pub fn print_row(name: &str, times: Times) {
     print_times(name, Some(times.engine), times.tuned);
 }
 
 /// The times of a call by both sides, which have to leave the same book.
-fn both(
+pub fn both(
     subject: &Subject,
     options: &Options,
     mut engine: impl FnMut(&mut [u8]),
@@ -122,7 +89,7 @@ fn read_image(subject: &Subject, options: &Options) -> Times {
     let times = both(
         subject,
         options,
-        |book| expect(archive::read(black_box(book), &mut one)),
+        |book| expect(archive::read(black_box(book), archive::OPERATOR, &mut one)),
         |book| accept(tuned::read_image(black_box(book), &mut other)),
     );
     let same = books::tuned::widened(&other) == one;
@@ -134,14 +101,14 @@ fn read(subject: &Subject, options: &Options) -> Times {
     both(
         subject,
         options,
-        |book| accept(daybook::read(black_box(book))),
+        |book| accept(Operator::new().read(black_box(book))),
         |book| accept(tuned::read(black_box(book))),
     )
 }
 
-fn write_image(subject: &Subject, options: &Options) -> Times {
+pub fn write_image(subject: &Subject, options: &Options) -> Times {
     let (mut image, mut other) = ([0; IMAGE_LENGTH], [0; tuned::IMAGE_LENGTH]);
-    expect(archive::read(&subject.book, &mut image));
+    expect(archive::read(&subject.book, archive::OPERATOR, &mut image));
     accept(tuned::read_image(&subject.book, &mut other));
     both(
         subject,
@@ -152,7 +119,9 @@ fn write_image(subject: &Subject, options: &Options) -> Times {
 }
 
 fn write(subject: &Subject, options: &Options) -> Times {
-    let engine_fields = daybook::read(&subject.book).expect("an accepted book");
+    let engine_fields = Operator::new()
+        .read(&subject.book)
+        .expect("an accepted book");
     let tuned_fields = tuned::read(&subject.book).expect("an accepted book");
     both(
         subject,
@@ -168,7 +137,15 @@ fn show(subject: &Subject, options: &Options) -> Times {
     both(
         subject,
         options,
-        |book| expect(archive::show(black_box(book), None, id, &mut record)),
+        |book| {
+            expect(archive::show(
+                black_box(book),
+                archive::OPERATOR,
+                None,
+                id,
+                &mut record,
+            ))
+        },
         |book| accept(tuned::show(black_box(book), id)),
     )
 }
@@ -179,7 +156,17 @@ fn posting(subject: &Subject, options: &Options) -> Times {
     both(
         subject,
         options,
-        |book| expect(archive::posting(book, None, None, id, 0, 1)),
+        |book| {
+            expect(archive::posting(
+                book,
+                archive::OPERATOR,
+                None,
+                None,
+                id,
+                0,
+                1,
+            ))
+        },
         |book| accept(tuned::posting(book, id, 0, 1)),
     )
 }
@@ -208,6 +195,7 @@ fn list(subject: &Subject, options: &Options) -> Times {
         |book| {
             expect(archive::list(
                 book,
+                archive::OPERATOR,
                 None,
                 None,
                 black_box(&ids),
@@ -231,6 +219,7 @@ fn morning_level(subject: &Subject, options: &Options) -> Times {
         |book| {
             expect(archive::morning_level(
                 black_box(book),
+                archive::OPERATOR,
                 None,
                 id,
                 &mut answer,
@@ -246,12 +235,20 @@ fn warning(subject: &Subject, options: &Options) -> Times {
     both(
         subject,
         options,
-        |book| expect(archive::warning(black_box(book), None, id, &mut answer)),
+        |book| {
+            expect(archive::warning(
+                black_box(book),
+                archive::OPERATOR,
+                None,
+                id,
+                &mut answer,
+            ))
+        },
         |book| accept(tuned::warning(black_box(book), id)),
     )
 }
 
-fn level(subject: &Subject, options: &Options) -> Times {
+pub fn level(subject: &Subject, options: &Options) -> Times {
     let id = subject.called;
     let mut answer = [0; 1];
     both(
@@ -260,6 +257,7 @@ fn level(subject: &Subject, options: &Options) -> Times {
         |book| {
             expect(archive::afternoon_level(
                 black_box(book),
+                archive::OPERATOR,
                 None,
                 id,
                 &mut answer,
@@ -281,6 +279,7 @@ fn level_of_store(subject: &Subject, options: &Options) -> Times {
         |book| {
             expect(archive::afternoon_level(
                 black_box(book),
+                archive::OPERATOR,
                 store,
                 id,
                 &mut answer,
@@ -296,45 +295,42 @@ fn call(subject: &Subject, options: &Options) -> Times {
     both(
         subject,
         options,
-        |book| expect(archive::afternoon_call(book, None, None, id, &mut answer)),
+        |book| {
+            expect(archive::afternoon_call(
+                book,
+                archive::OPERATOR,
+                None,
+                None,
+                id,
+                &mut answer,
+            ))
+        },
         |book| accept(tuned::afternoon_call(book, id)),
     )
 }
 
-fn reduction(subject: &Subject, options: &Options) -> Times {
+pub fn reduction(subject: &Subject, options: &Options) -> Times {
     let id = subject.reduced;
     let mut answer = [0; 5];
     both(
         subject,
         options,
-        |book| expect(archive::reduction(book, None, None, id, &mut answer)),
+        |book| {
+            expect(archive::reduction(
+                book,
+                archive::OPERATOR,
+                None,
+                None,
+                id,
+                &mut answer,
+            ))
+        },
         |book| accept(tuned::reduction(book, id)),
     )
 }
 
-/// A reduction that the last question but one refuses: the same book, but for
-/// an assigned guarantee that equals the level.
-fn refused_reduction(subject: &Subject, options: &Options) -> Times {
-    let id = subject.reduced;
-    let level = tuned::afternoon_level(&subject.book, id).expect("a level");
-    let mut fields = tuned::read(&subject.book).expect("an accepted book");
-    for user in fields.users.iter_mut().filter(|user| user.id == id) {
-        user.assigned = level.0.unsigned_abs();
-    }
-    let mut book = subject.book.clone();
-    accept(tuned::write(&fields, &mut book));
-    let refused = Subject { book, ..*subject };
-    let mut answer = [0; 5];
-    both(
-        &refused,
-        options,
-        |book| assert_eq!(archive::reduction(book, None, None, id, &mut answer), 13),
-        |book| assert_eq!(tuned::reduction(book, id), Err(13)),
-    )
-}
-
 /// On the wide book all tries are made: no set that is tried has an excess of 0.
-fn cancellation(subject: &Subject, options: &Options, id: u32, tries: u32) -> Times {
+pub fn cancellation(subject: &Subject, options: &Options, id: u32, tries: u32) -> Times {
     let (mut marks, mut answer) = ([0; 256], [0; 3]);
     let mut found = None;
     let times = both(
@@ -343,6 +339,7 @@ fn cancellation(subject: &Subject, options: &Options, id: u32, tries: u32) -> Ti
         |book| {
             expect(archive::cancellation(
                 black_box(book),
+                archive::OPERATOR,
                 None,
                 id,
                 black_box(tries),
@@ -365,7 +362,15 @@ fn run(subject: &Subject, options: &Options) -> Times {
     both(
         subject,
         options,
-        |book| expect(archive::run(book, None, None, &mut answer)),
+        |book| {
+            expect(archive::run(
+                book,
+                archive::OPERATOR,
+                None,
+                None,
+                &mut answer,
+            ))
+        },
         |book| accept(tuned::run(book)),
     )
 }

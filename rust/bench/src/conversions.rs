@@ -5,7 +5,8 @@ use std::hint::black_box;
 
 use books::conversions::length_as;
 use books::versions::VERSIONS;
-use daybook::{archive, IMAGE_LENGTH};
+use daybook::archive::{self, OPERATOR};
+use daybook::IMAGE_LENGTH;
 
 use crate::calls::expect;
 use crate::measure::{sample_time, Time};
@@ -27,7 +28,7 @@ pub fn print_table(subject: &Subject, options: &Options) {
     let mut output = [0; IMAGE_LENGTH];
     let versions = VERSIONS.map(u32::from).into_iter();
     let versions: Vec<u32> = versions
-        .filter(|version| archive::convert(&subject.book, *version, &mut output) == 0)
+        .filter(|version| archive::convert(&subject.book, OPERATOR, *version, &mut output) == 0)
         .collect();
     let mut copies = vec![subject.book.clone(); options.batch];
     let mut questions = Vec::new();
@@ -41,7 +42,12 @@ pub fn print_table(subject: &Subject, options: &Options) {
                     let length = length_as(&subject.book, *version);
                     let mut convert = |book: &mut [u8]| {
                         let output = &mut output[..length];
-                        expect(archive::convert(black_box(book), *version, output));
+                        expect(archive::convert(
+                            black_box(book),
+                            OPERATOR,
+                            *version,
+                            output,
+                        ));
                     };
                     let time = sample_time(&subject.book, &mut copies, &mut convert);
                     samples[place].push(time);
@@ -68,7 +74,7 @@ pub fn print_table(subject: &Subject, options: &Options) {
 /// The book of version 1 as one of version 3, of which nothing is lost downward.
 pub fn raised(subject: &Subject) -> Subject {
     let mut book = vec![0; length_as(&subject.book, 3)];
-    expect(archive::convert(&subject.book, 3, &mut book));
+    expect(archive::convert(&subject.book, OPERATOR, 3, &mut book));
     Subject {
         version: 3,
         book,

@@ -4,7 +4,8 @@
 
 use std::hint::black_box;
 
-use daybook::{archive, IMAGE_LENGTH};
+use daybook::archive::{self, OPERATOR};
+use daybook::IMAGE_LENGTH;
 
 use crate::calls::{accept, expect};
 use crate::measure::{sample_time, Time};
@@ -19,7 +20,11 @@ type Call = fn(&mut [u8]);
 const LINES: [(&str, bool, Call); 5] = [
     ("questions 1 to 7", false, asked),
     ("form", false, |book| {
-        expect(archive::form(black_box(book), &mut [0; IMAGE_LENGTH]));
+        expect(archive::form(
+            black_box(book),
+            OPERATOR,
+            &mut [0; IMAGE_LENGTH],
+        ));
     }),
     ("restore", true, |form| {
         expect(archive::restore(black_box(form), &mut [0; IMAGE_LENGTH]));
@@ -46,7 +51,7 @@ pub fn print_table(subject: &Subject, options: &Options) {
         _ => &LINES[..],
     };
     let mut form = vec![0; subject.book.len()];
-    expect(archive::form(&subject.book, &mut form));
+    expect(archive::form(&subject.book, OPERATOR, &mut form));
     let mut samples = vec![Vec::new(); lines.len()];
     let mut copies = vec![form.clone(); options.batch];
     for sample in 0..options.samples {

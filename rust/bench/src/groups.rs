@@ -22,33 +22,41 @@ type Call = fn(&mut [u8], u32) -> u32;
 /// The calls of the table.
 const CALLS: [(&str, Call); 10] = [
     ("read to an image", |book, _| {
-        archive::read(black_box(book), &mut [0; IMAGE_LENGTH])
+        archive::read(black_box(book), archive::OPERATOR, &mut [0; IMAGE_LENGTH])
     }),
     ("show", |book, id| {
-        archive::show(black_box(book), None, id, &mut [0; RECORD_LENGTH])
+        archive::show(
+            black_box(book),
+            archive::OPERATOR,
+            None,
+            id,
+            &mut [0; RECORD_LENGTH],
+        )
     }),
     ("posting", |book, id| {
-        archive::posting(book, None, None, id, 0, 1)
+        archive::posting(book, archive::OPERATOR, None, None, id, 0, 1)
     }),
     ("morning level", |book, id| {
-        archive::morning_level(black_box(book), None, id, &mut [0; 1])
+        archive::morning_level(black_box(book), archive::OPERATOR, None, id, &mut [0; 1])
     }),
     ("afternoon level", |book, id| {
-        archive::afternoon_level(black_box(book), None, id, &mut [0; 1])
+        archive::afternoon_level(black_box(book), archive::OPERATOR, None, id, &mut [0; 1])
     }),
     ("morning call", |book, id| {
-        archive::morning_call(book, None, None, id, &mut [0; 2])
+        archive::morning_call(book, archive::OPERATOR, None, None, id, &mut [0; 2])
     }),
     ("afternoon call", |book, id| {
-        archive::afternoon_call(book, None, None, id, &mut [0; 2])
+        archive::afternoon_call(book, archive::OPERATOR, None, None, id, &mut [0; 2])
     }),
     ("warning", |book, id| {
-        archive::warning(black_box(book), None, id, &mut [0; 1])
+        archive::warning(black_box(book), archive::OPERATOR, None, id, &mut [0; 1])
     }),
     ("reduction", |book, id| {
-        archive::reduction(book, None, None, id, &mut [0; 5])
+        archive::reduction(book, archive::OPERATOR, None, None, id, &mut [0; 5])
     }),
-    ("run", |book, _| archive::run(book, None, None, &mut [0; 3])),
+    ("run", |book, _| {
+        archive::run(book, archive::OPERATOR, None, None, &mut [0; 3])
+    }),
 ];
 
 /// Prints the times of each call that some user's is accepted of, in version 2 and in

@@ -57,7 +57,15 @@ fn print_row(name: &str, mwh: i128, book: &[u8], options: &Options) {
     for _ in 0..options.hard_samples {
         if has_engine {
             let mut answer = [0; 3];
-            let mut call = |book: &mut [u8]| expect(archive::run(book, None, None, &mut answer));
+            let mut call = |book: &mut [u8]| {
+                expect(archive::run(
+                    book,
+                    archive::OPERATOR,
+                    None,
+                    None,
+                    &mut answer,
+                ))
+            };
             engine_samples.push(sample_time(book, &mut copies, &mut call) / reductions as f64);
             assert_eq!(answer[0], reductions, "{name}: reductions");
             assert_eq!(copies[0], after, "{name}: the book afterwards");

@@ -118,7 +118,10 @@ fn print_line(name: &str, time: Time) {
 /// no entry, with a full one.
 fn questions(empty: &Given, full: &Given) -> Vec<Row> {
     let refused = |book: &mut [u8], log: Option<&mut [u8]>| {
-        assert_eq!(archive::posting(book, None, log, NOBODY, 0, 1), 8);
+        assert_eq!(
+            archive::posting(book, archive::OPERATOR, None, log, NOBODY, 0, 1),
+            8
+        );
     };
     let scans = SCANS.map(|(name, scan)| {
         Row::new(name, empty, move |_, log| {
@@ -173,13 +176,34 @@ fn sum_of_words(bytes: &[u8]) -> u64 {
 fn calls(subject: &Subject, empty: &Given, reduced: &Given) -> Vec<Row> {
     let (called, id) = (subject.called, subject.reduced);
     let posting = move |book: &mut [u8], log: Option<&mut [u8]>| {
-        expect(archive::posting(book, None, log, called, 0, 1));
+        expect(archive::posting(
+            book,
+            archive::OPERATOR,
+            None,
+            log,
+            called,
+            0,
+            1,
+        ));
     };
     let reduction = move |book: &mut [u8], log: Option<&mut [u8]>| {
-        expect(archive::reduction(book, None, log, id, &mut [0; 5]));
+        expect(archive::reduction(
+            book,
+            archive::OPERATOR,
+            None,
+            log,
+            id,
+            &mut [0; 5],
+        ));
     };
     let run = |book: &mut [u8], log: Option<&mut [u8]>| {
-        expect(archive::run(book, None, log, &mut [0; 3]));
+        expect(archive::run(
+            book,
+            archive::OPERATOR,
+            None,
+            log,
+            &mut [0; 3],
+        ));
     };
     vec![
         Row::new("posting", empty, move |book, _| posting(book, None)),
@@ -198,7 +222,13 @@ fn calls(subject: &Subject, empty: &Given, reduced: &Given) -> Vec<Row> {
             expect(archive::start_log(log, book));
         }),
         Row::new("withdrawal", reduced, |book, log| {
-            expect(archive::withdrawal(book, None, log, &mut [0; 2]));
+            expect(archive::withdrawal(
+                book,
+                archive::OPERATOR,
+                None,
+                log,
+                &mut [0; 2],
+            ));
         }),
     ]
 }
@@ -207,7 +237,14 @@ fn calls(subject: &Subject, empty: &Given, reduced: &Given) -> Vec<Row> {
 fn reduced(subject: &Subject, empty: &Given) -> Given {
     let mut given = empty.clone();
     let Given { book, log } = &mut given;
-    let number = archive::reduction(book, None, Some(log), subject.reduced, &mut [0; 5]);
+    let number = archive::reduction(
+        book,
+        archive::OPERATOR,
+        None,
+        Some(log),
+        subject.reduced,
+        &mut [0; 5],
+    );
     expect(number);
     given
 }

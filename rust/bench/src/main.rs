@@ -13,9 +13,11 @@ mod hard;
 mod logs;
 mod measure;
 mod options;
+mod parties;
 mod questions;
 mod subjects;
 mod table;
+mod wide;
 
 use std::env;
 use std::fs;
@@ -37,6 +39,7 @@ fn main() -> ExitCode {
         logs::print_table(&subject, &options);
         forms::print_table(&subject, &options);
         conversions::print_table(&subject, &options);
+        parties::print_table(&subject, &options);
         if subject.version == 1 {
             conversions::print_table(&conversions::raised(&subject), &options);
         }
@@ -46,12 +49,13 @@ fn main() -> ExitCode {
         let third = groups::in_groups(&subject);
         forms::print_table(&third, &options);
         conversions::print_table(&third, &options);
+        parties::print_table(&third, &options);
     }
     for version in options.versions.iter().filter(|version| **version < 3) {
         if options.has_book("wide") {
             let wide = subjects::wide(*version);
-            calls::print_beyond(&wide, &options);
-            calls::print_cancellations(&wide, &options);
+            wide::print_beyond(&wide, &options);
+            wide::print_cancellations(&wide, &options);
             logs::print_table(&wide, &options);
         }
     }

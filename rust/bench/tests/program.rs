@@ -49,6 +49,9 @@ fn every_book_is_measured() {
         "largest book, version 3: conversions",
         "conversion into version 1",
         "conversion into version 3",
+        "largest book, version 1: queries of a shipper",
+        "largest book, version 3: queries of a shipper",
+        "last trade, by the shipper",
     ] {
         assert!(text.contains(word), "{word} in\n{text}");
     }

@@ -4,6 +4,7 @@
 use std::fs;
 
 use reference::log::LOG_LENGTH;
+use reference::party::{Given, Party};
 use reference::start_log;
 
 use crate::calls::{Answer, Call, Implementation};
@@ -11,10 +12,10 @@ use crate::sha256::{hex, sha256};
 use crate::vectors::{bytes_of, folder};
 
 /// Lines of `asks/calls.txt`.
-pub const CALLS: usize = 4_377;
+pub const CALLS: usize = 5_642;
 
 /// Those of them with a log, starts of one among them.
-pub const CALLS_WITH_LOG: usize = 549;
+pub const CALLS_WITH_LOG: usize = 604;
 
 /// Replays every call against an implementation, and says how many there were,
 /// with a log or without, and how many with one. The book and the log that a line
@@ -45,6 +46,7 @@ struct Lent {
 /// A line, left of the arrow.
 struct Line {
     lent: Lent,
+    party: Party,
     store: Option<Vec<u8>>,
     call: Call,
 }
@@ -63,7 +65,9 @@ impl Line {
         };
         let log = words.value("log").and_then(|log| logged(log, &book, left));
         let store = words.value("store").and_then(|hex| hex.strip_prefix("0x"));
+        let party = words.value("party").map(|id| number("party", id));
         Line {
+            party: party.map_or(Party::Operator, Party::Shipper),
             store: store.map(bytes_of),
             call: call(name, &words),
             lent: Lent { book, log },
@@ -73,8 +77,12 @@ impl Line {
     /// The answer in the words of the file, and what the call leaves.
     fn answered(self, implementation: Implementation) -> (String, Lent) {
         let Lent { mut book, mut log } = self.lent;
-        let (store, call) = (self.store.as_deref(), &self.call);
-        let found = implementation(&mut book, store, log.as_deref_mut(), call);
+        let call = &self.call;
+        let given = Given {
+            party: self.party,
+            store: self.store.as_deref(),
+        };
+        let found = implementation(&mut book, given, log.as_deref_mut(), call);
         let mut text = keyed(call, &found);
         let told = match call {
             Call::ShowPicked {
@@ -187,6 +195,12 @@ fn call(name: &str, words: &Words<'_>) -> Call {
         "morning_call" => Call::MorningCall { id: id() },
         "afternoon_call" => Call::AfternoonCall { id: id() },
         "midday_warning" => Call::Warning { id: id() },
+        "flag" => Call::Flag { id: id() },
+        "trade_count" => Call::TradeCount { id: id() },
+        "trade_at" => Call::Trade {
+            id: id(),
+            ordinal: words.number("ordinal"),
+        },
         "reduction" => Call::Reduction { id: id() },
         "cancel" => Call::Cancellation {
             id: id(),
@@ -228,6 +242,8 @@ fn keyed(call: &Call, found: &Answer) -> String {
         Call::MorningLevel { .. } | Call::AfternoonLevel { .. } => &["level"],
         Call::MorningCall { .. } | Call::AfternoonCall { .. } => &["level", "added"],
         Call::Warning { .. } => &["warned"],
+        Call::Flag { .. } => &["flagged"],
+        Call::TradeCount { .. } => &["count"],
         Call::Reduction { .. } => &["mwh", "worth", "target", "short", "over"],
         Call::Cancellation { .. } => &["excess", "tries", "complete"],
         Call::Run => &["reductions", "mwh", "worth"],
@@ -241,7 +257,7 @@ fn keyed(call: &Call, found: &Answer) -> String {
             let marked: Vec<usize> = marked.collect();
             text.push_str(&format!(" marks={}", joined(&marked)));
         }
-        Call::Show { .. } | Call::ShowPicked { .. } => {
+        Call::Show { .. } | Call::ShowPicked { .. } | Call::Trade { .. } => {
             text.push_str(&format!(" part={}", hex(&found.part)));
         }
         Call::Read => text.push_str(&format!(" fields={}", sha256(&found.part))),

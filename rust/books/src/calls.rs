@@ -1,6 +1,7 @@
 //! Calls as values, and their answers by the reference.
 
 use reference::list::Columns;
+use reference::party::Given;
 use reference::transfer::Image;
 
 /// What each place beside a list holds before the call.
@@ -48,6 +49,17 @@ pub enum Call {
     Warning {
         id: u32,
     },
+    Flag {
+        id: u32,
+    },
+    TradeCount {
+        id: u32,
+    },
+    /// The trade of this ordinal among those that the user may see.
+    Trade {
+        id: u32,
+        ordinal: u32,
+    },
     Reduction {
         id: u32,
     },
@@ -83,7 +95,7 @@ pub enum Call {
 }
 
 impl Call {
-    pub const NAMES: [&'static str; 20] = [
+    pub const NAMES: [&'static str; 23] = [
         "posting",
         "list",
         "show",
@@ -93,6 +105,9 @@ impl Call {
         "morning call",
         "afternoon call",
         "warning",
+        "flag",
+        "trade count",
+        "trade",
         "reduction",
         "cancellation",
         "run",
@@ -134,6 +149,41 @@ impl Call {
         )
     }
 
+    /// Whether the call has an acting party: it is on a book, and is no printed day.
+    pub fn takes_party(&self) -> bool {
+        !matches!(
+            self,
+            Call::Start | Call::Write { .. } | Call::Restore { .. } | Call::Day
+        )
+    }
+
+    /// The id of a call on a user.
+    pub fn id(&self) -> Option<u32> {
+        match self {
+            Call::Posting { id, .. }
+            | Call::MorningCall { id }
+            | Call::AfternoonCall { id }
+            | Call::Warning { id }
+            | Call::Reduction { id }
+            | Call::Cancellation { id, .. } => Some(*id),
+            _ => self.own_id(),
+        }
+    }
+
+    /// The id of a call that a shipper may make for itself.
+    pub fn own_id(&self) -> Option<u32> {
+        match self {
+            Call::Show { id }
+            | Call::ShowPicked { id, .. }
+            | Call::MorningLevel { id }
+            | Call::AfternoonLevel { id }
+            | Call::Flag { id }
+            | Call::TradeCount { id }
+            | Call::Trade { id, .. } => Some(*id),
+            _ => None,
+        }
+    }
+
     pub fn name(&self) -> &'static str {
         let place = match self {
             Call::Posting { .. } => 0,
@@ -145,17 +195,20 @@ impl Call {
             Call::MorningCall { .. } => 6,
             Call::AfternoonCall { .. } => 7,
             Call::Warning { .. } => 8,
-            Call::Reduction { .. } => 9,
-            Call::Cancellation { .. } => 10,
-            Call::Run => 11,
-            Call::Withdrawal => 12,
-            Call::Start => 13,
-            Call::Read => 14,
-            Call::Write { .. } => 15,
-            Call::Convert { .. } => 16,
-            Call::Form { .. } => 17,
-            Call::Restore { .. } => 18,
-            Call::Day => 19,
+            Call::Flag { .. } => 9,
+            Call::TradeCount { .. } => 10,
+            Call::Trade { .. } => 11,
+            Call::Reduction { .. } => 12,
+            Call::Cancellation { .. } => 13,
+            Call::Run => 14,
+            Call::Withdrawal => 15,
+            Call::Start => 16,
+            Call::Read => 17,
+            Call::Write { .. } => 18,
+            Call::Convert { .. } => 19,
+            Call::Form { .. } => 20,
+            Call::Restore { .. } => 21,
+            Call::Day => 22,
         };
         Call::NAMES[place]
     }
@@ -166,11 +219,11 @@ impl Call {
 #[derive(Clone, Debug, Default, PartialEq, Eq)]
 pub struct Answer {
     pub number: u32,
-    /// The places of a list; level; level, added; warned; MWh, worth, T, short,
-    /// over; excess, tries, complete; reductions, MWh, worth; MWh, worth; else
+    /// The places of a list; level; level, added; warned; flagged; the count of
+    /// trades; MWh, worth, T, short, over; excess, tries, complete; reductions, MWh, worth; MWh, worth; else
     /// empty.
     pub fields: Vec<i128>,
-    /// The shown record, the 256 marks of a cancellation, the image read, the part or
+    /// The shown record or trade, the 256 marks of a cancellation, the image read, the part or
     /// output written into, or the printed day; else empty.
     pub part: Vec<u8>,
 }
@@ -217,22 +270,18 @@ impl Answer {
     }
 }
 
-/// What answers a call on a book with a store and a log, or none, and changes book
-/// and log. A withdrawal and a start without a log are given an empty part.
-pub type Implementation = fn(&mut [u8], Option<&[u8]>, Option<&mut [u8]>, &Call) -> Answer;
+/// What answers a call on a book by a party, with a store and a log, or none, and
+/// changes book and log. A withdrawal and a start without a log are given an empty
+/// part.
+pub type Implementation = fn(&mut [u8], Given<'_>, Option<&mut [u8]>, &Call) -> Answer;
 
-/// The answer of the reference to a call with this store and log, or none; book and
-/// log are changed as the call says. A store or a log that the call does not take is
-/// not looked at.
-pub fn answer(
-    book: &mut [u8],
-    store: Option<&[u8]>,
-    log: Option<&mut [u8]>,
-    call: &Call,
-) -> Answer {
+/// The answer of the reference to a call by this party with this store and log, or
+/// none; book and log are changed as the call says. A party, a store or a log that the
+/// call does not take is not looked at.
+pub fn answer(book: &mut [u8], given: Given<'_>, log: Option<&mut [u8]>, call: &Call) -> Answer {
     match call {
         Call::Posting { id, area, amount } => {
-            let number = reference::posting(book, store, log, *id, *area, *amount);
+            let number = reference::posting(book, given, log, *id, *area, *amount);
             Answer::of_fields(number, &[])
         }
         Call::List {
@@ -247,11 +296,11 @@ pub fn answer(
                 amounts,
             };
             Answer::of_places(*places, |places| {
-                reference::list(book, store, log, columns, places)
+                reference::list(book, given, log, columns, places)
             })
         }
         Call::Show { id } => {
-            let (number, part) = reference::show(book, store, *id);
+            let (number, part) = reference::show(book, given, *id);
             Answer::of_part(number, part)
         }
         Call::ShowPicked {
@@ -259,36 +308,49 @@ pub fn answer(
             pick,
             id,
         } => {
-            let (number, part) = reference::show_picked(book, afternoon, store, *pick, *id);
+            let (number, part) = reference::show_picked(book, afternoon, given, *pick, *id);
             Answer::of_part(number, part)
         }
-        Call::MorningLevel { id } => level(reference::morning_level(book, store, *id)),
-        Call::AfternoonLevel { id } => level(reference::afternoon_level(book, store, *id)),
-        Call::MorningCall { id } => guarantee_call(reference::morning_call(book, store, log, *id)),
+        Call::MorningLevel { id } => level(reference::morning_level(book, given, *id)),
+        Call::AfternoonLevel { id } => level(reference::afternoon_level(book, given, *id)),
+        Call::MorningCall { id } => guarantee_call(reference::morning_call(book, given, log, *id)),
         Call::AfternoonCall { id } => {
-            guarantee_call(reference::afternoon_call(book, store, log, *id))
+            guarantee_call(reference::afternoon_call(book, given, log, *id))
         }
         Call::Warning { id } => {
-            let warning = reference::warning(book, store, *id);
+            let warning = reference::warning(book, given, *id);
             Answer::of_fields(warning.number, &[i128::from(warning.warned)])
         }
-        Call::Reduction { id } => reduction(reference::reduction(book, store, log, *id)),
+        Call::Flag { id } => {
+            let flag = reference::flag(book, given, *id);
+            Answer::of_fields(flag.number, &[i128::from(flag.flagged)])
+        }
+        Call::TradeCount { id } => {
+            let trades = reference::trade_count(book, given, *id);
+            let count = i128::try_from(trades.count).unwrap_or(i128::MAX);
+            Answer::of_fields(trades.number, &[count])
+        }
+        Call::Trade { id, ordinal } => {
+            let (number, part) = reference::trade(book, given, *id, *ordinal);
+            Answer::of_part(number, part)
+        }
+        Call::Reduction { id } => reduction(reference::reduction(book, given, log, *id)),
         Call::Cancellation { id, tries } => {
-            let given = reference::cancellation(book, store, *id, *tries);
-            let complete = i128::from(given.complete);
+            let found = reference::cancellation(book, given, *id, *tries);
+            let complete = i128::from(found.complete);
             Answer {
-                number: given.number,
-                fields: vec![given.excess, i128::from(given.tries), complete],
-                part: given.marks.map(u8::from).to_vec(),
+                number: found.number,
+                fields: vec![found.excess, i128::from(found.tries), complete],
+                part: found.marks.map(u8::from).to_vec(),
             }
         }
         Call::Run => {
-            let run = reference::run(book, store, log);
+            let run = reference::run(book, given, log);
             let fields = [i128::from(run.reductions), run.mwh, run.worth];
             Answer::of_fields(run.number, &fields)
         }
         Call::Withdrawal => {
-            let done = reference::withdrawal(book, store, log.unwrap_or_default());
+            let done = reference::withdrawal(book, given, log.unwrap_or_default());
             Answer::of_fields(done.number, &[done.mwh, done.worth])
         }
         Call::Start => {
@@ -296,16 +358,18 @@ pub fn answer(
             Answer::of_fields(number, &[])
         }
         Call::Read => {
-            let (number, image) = reference::read(book);
+            let (number, image) = reference::read(book, given.party);
             Answer::of_part(number, &image)
         }
         Call::Write { image, length } => {
             Answer::of_output(*length, |part| reference::write(image, part))
         }
-        Call::Convert { version, length } => {
-            Answer::of_output(*length, |output| reference::convert(book, *version, output))
+        Call::Convert { version, length } => Answer::of_output(*length, |output| {
+            reference::convert(book, given.party, *version, output)
+        }),
+        Call::Form { length } => {
+            Answer::of_output(*length, |output| reference::form(book, given.party, output))
         }
-        Call::Form { length } => Answer::of_output(*length, |output| reference::form(book, output)),
         Call::Restore { length } => {
             Answer::of_output(*length, |output| reference::restore(book, output))
         }

@@ -1,6 +1,7 @@
 //! The generator: books of a kind, arguments and calls for a book.
 
 use reference::book::{length, user_length, Book, User, LONGEST, MOST_USERS, USER_LENGTH};
+use reference::party::{Act, Given};
 use reference::questions::{opening_questions, Opened};
 use reference::run::next_reduction;
 use reference::transfer::Image;
@@ -310,7 +311,7 @@ impl Generator {
     /// reductions is not drawn.
     pub fn call(&mut self, book: &[u8], store: Option<&[u8]>) -> Call {
         let Arguments { id, pick, .. } = self.arguments(book);
-        match self.random.below(18) {
+        match self.random.below(21) {
             0 => Call::Show { id },
             1 => Call::ShowPicked {
                 afternoon: self.small_book(),
@@ -325,6 +326,12 @@ impl Generator {
             7 if is_short_run(book, None) => Call::Day,
             8 => self.cancellation(book, store),
             9 => self.form(book),
+            10 => Call::Flag { id },
+            11 => Call::TradeCount { id },
+            12 => Call::Trade {
+                id,
+                ordinal: self.ordinal(),
+            },
             _ => self.changing_call(book, store),
         }
     }
@@ -463,7 +470,8 @@ fn users_in_place(bytes: &[u8]) -> Vec<User> {
 
 /// The id of the user whom a run with this store would reduce next.
 pub(crate) fn reducible(bytes: &[u8], store: Option<&[u8]>) -> Option<u32> {
-    let Opened { book, limits } = opening_questions(bytes, store).ok()?;
+    let Opened { book, limits } =
+        opening_questions(bytes, Given::by_operator(store), Act::Operators).ok()?;
     let place = next_reduction(&limits, &book)?;
     Some(book.users[place].id)
 }
@@ -471,7 +479,7 @@ pub(crate) fn reducible(bytes: &[u8], store: Option<&[u8]>) -> Option<u32> {
 /// Whether the run of these bytes with this store is refused or takes at most
 /// 3,000 reductions.
 pub fn is_short_run(bytes: &[u8], store: Option<&[u8]>) -> bool {
-    match opening_questions(bytes, store) {
+    match opening_questions(bytes, Given::by_operator(store), Act::Operators) {
         Ok(Opened { book, limits }) => ends_within(&limits, &book, MOST_LONG_REDUCTIONS),
         Err(_) => true,
     }

@@ -1,4 +1,4 @@
-//! Test support: a seeded generator of day books, stores, logs, forms and calls that reach
+//! Test support: a seeded generator of day books, stores, logs, forms, parties and calls that reach
 //! every branch of document 01 and of the asks of document 02, the answers of the
 //! reference and of the tuned implementation to them, and the outside vectors.
 
@@ -17,6 +17,7 @@ pub mod groups;
 pub mod hard;
 pub mod lists;
 pub mod logs;
+pub mod parties;
 pub mod random;
 pub mod sha256;
 pub mod shrinkage;

@@ -63,8 +63,8 @@ fn parts() -> impl Iterator<Item = (usize, usize, usize)> {
 }
 
 /// The answer to a call with this store, or none; the book is changed as the
-/// call says. None for a withdrawal, a start, reading, writing, a conversion and the
-/// printed day.
+/// call says. None for a withdrawal, a start, reading, writing, a conversion, the
+/// printed day and the queries of ask 9.
 pub fn answer(book: &mut [u8], store: Option<&[u8]>, call: &Call) -> Option<Answer> {
     let answer = match call {
         Call::Posting { id, area, amount } => {
@@ -113,7 +113,10 @@ pub fn answer(book: &mut [u8], store: Option<&[u8]>, call: &Call) -> Option<Answ
         Call::Restore { length } => {
             Answer::of_output(*length, |output| number(tuned::restore(book, output)))
         }
-        Call::Withdrawal
+        Call::Flag { .. }
+        | Call::TradeCount { .. }
+        | Call::Trade { .. }
+        | Call::Withdrawal
         | Call::Start
         | Call::Read
         | Call::Write { .. }
@@ -145,6 +148,9 @@ pub fn plain_answer(book: &mut [u8], call: &Call) -> Option<Answer> {
         Call::Reduction { id } => reduction(tuned::reduction(book, *id)),
         Call::Run => run(tuned::run(book)),
         Call::List { .. }
+        | Call::Flag { .. }
+        | Call::TradeCount { .. }
+        | Call::Trade { .. }
         | Call::Cancellation { .. }
         | Call::Withdrawal
         | Call::Start

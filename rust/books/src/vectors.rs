@@ -8,6 +8,7 @@ use std::ops::Range;
 use std::path::PathBuf;
 
 use reference::book::{length, user_length, MOST_USERS, USER_LENGTH};
+use reference::party::Given;
 use reference::transfer::Image;
 use reference::version::{self, FIRST_HEADER_LENGTH, LONGEST_HEADER_LENGTH};
 
@@ -70,7 +71,7 @@ pub fn replay(implementation: Implementation) -> usize {
     for line in text.lines().filter(|line| !line.starts_with('#')) {
         let (words, expected) = line.split_once(" -> ").expect("a call and its answer");
         let (mut book, call) = parsed(&words.split(' ').collect::<Vec<&str>>(), &left);
-        let given = implementation(&mut book, None, None, &call);
+        let given = implementation(&mut book, Given::OPERATOR, None, &call);
         assert_eq!(printed(&book, &call, &given), expected, "{words}");
         replayed += 1;
         left = after(book, &call);
@@ -200,7 +201,8 @@ fn replay_folder(folder: &str, implementation: Implementation) -> usize {
         let (words, expected) = line.split_once(" -> ").expect("a call and its answer");
         let request = Request::parsed(folder, words);
         let mut book = request.book.clone();
-        let given = implementation(&mut book, request.store.as_deref(), None, &request.call);
+        let given = Given::by_operator(request.store.as_deref());
+        let given = implementation(&mut book, given, None, &request.call);
         assert_eq!(keyed(&book, &request.call, &given), expected, "{words}");
         replayed += 1;
     }

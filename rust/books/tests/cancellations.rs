@@ -10,6 +10,7 @@ use books::written::{asked_for, book, covered, sale, shipper, standing_at};
 use books::{answer, Answer, Call, Generator, Kind};
 use reference::book::Book;
 use reference::cancellation::{Search, MOST_TRIES};
+use reference::party::Given;
 use reference::units::Cents;
 
 /// The search, with its set as the places of its trades.
@@ -113,7 +114,12 @@ fn cancelled(book: &Book, tries: u32) -> (u32, Vec<usize>, Vec<i128>) {
         number,
         fields,
         part,
-    } = answer(&mut bytes, None, None, &Call::Cancellation { id: 1, tries });
+    } = answer(
+        &mut bytes,
+        Given::OPERATOR,
+        None,
+        &Call::Cancellation { id: 1, tries },
+    );
     assert_eq!(bytes, book.to_bytes());
     assert_eq!(part.len(), 256);
     let marked = (0..256).filter(|place| part[*place] == 1).collect();
@@ -159,7 +165,7 @@ fn the_order_of_the_questions() {
     let bytes = five_sales().to_bytes();
     let number = |store: Option<&[u8]>, id: u32, tries: u32| {
         let call = Call::Cancellation { id, tries };
-        answer(&mut bytes.clone(), store, None, &call).number
+        answer(&mut bytes.clone(), Given::by_operator(store), None, &call).number
     };
     let store: &[u8] = b"GPS\x01\x00\x00";
     assert_eq!(number(Some(&[]), 9, 0), 16);
@@ -195,10 +201,10 @@ fn drawn_cancellations() {
             continue;
         };
         let before = bytes.clone();
-        let given = answer(&mut bytes, store, None, &call);
+        let given = answer(&mut bytes, Given::by_operator(store), None, &call);
         assert_eq!(bytes, before);
         *reached.entry(given.number).or_insert(0) += 1;
-        let reduction = reference::reduction(&mut bytes, store, None, id);
+        let reduction = reference::reduction(&mut bytes, Given::by_operator(store), None, id);
         match given.number {
             0 => {
                 let worth = worth_of(&before, &given.part);

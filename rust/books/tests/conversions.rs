@@ -8,12 +8,13 @@ use std::collections::BTreeMap;
 use books::conversions::length_as;
 use books::damage::version_of;
 use books::{answer, Call, Generator};
+use reference::party::{Given, Party};
 use reference::{check, convert};
 
 /// The bytes as a book of this version.
 fn converted(bytes: &[u8], version: u32) -> Vec<u8> {
     let mut output = vec![0; length_as(bytes, version)];
-    assert_eq!(convert(bytes, version, &mut output), 0);
+    assert_eq!(convert(bytes, Party::Operator, version, &mut output), 0);
     output
 }
 
@@ -43,8 +44,12 @@ fn conversions_change_no_answer() {
                     generator.cancellation(&lower, store),
                 ] {
                     let (mut one, mut other) = (lower.clone(), upper.clone());
-                    let found = answer(&mut one, store, None, &call);
-                    assert_eq!(found, answer(&mut other, store, None, &call), "{call:?}");
+                    let found = answer(&mut one, Given::by_operator(store), None, &call);
+                    assert_eq!(
+                        found,
+                        answer(&mut other, Given::by_operator(store), None, &call),
+                        "{call:?}"
+                    );
                     assert_eq!(converted(&one, version), other);
                     calls += 1;
                     accepted += u32::from(found.number == 0);
@@ -68,7 +73,7 @@ fn there_and_back() {
         let Call::Convert { version, length } = call else {
             panic!("a conversion");
         };
-        let found = answer(&mut source.clone(), None, None, &call);
+        let found = answer(&mut source.clone(), Given::OPERATOR, None, &call);
         let own = if source.len() < 32 {
             0
         } else {

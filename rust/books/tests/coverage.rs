@@ -16,6 +16,7 @@ use reference::group::position;
 use reference::levels::{
     afternoon_level_of, flag_limit, flagged, morning_level_of, party_to_cut_trade, short_positions,
 };
+use reference::party::Given;
 use reference::questions::questions_1_to_7;
 use reference::reduction::{cuts, reduce, sales, target, tier_worth, tiers, Sale};
 use reference::run::{next_reduction, short_of_cover};
@@ -170,14 +171,14 @@ const BRANCHES: [&str; 104] = [
 fn every_number_and_branch_is_reached() {
     let mut generator = Generator::new(6);
     let mut counts = Counts::default();
-    for _ in 0..4_000 {
+    for _ in 0..5_000 {
         let mut bytes = generator.any_book();
         count_book(&mut counts, &bytes);
         for _ in 0..8 {
             let call = generator.call(&bytes, None);
             let before = questions_1_to_7(&bytes).ok();
             let third = is_of_version_3(&bytes, &call);
-            let answer = answer(&mut bytes, None, None, &call);
+            let answer = answer(&mut bytes, Given::OPERATOR, None, &call);
             counts.add(&format!("{}: {}", call.name(), answer.number));
             counts.add_if(third, &in_version_3(call.name(), answer.number));
             counts.add(&format!("number {}", answer.number));

@@ -3,6 +3,7 @@
 #![forbid(unsafe_code)]
 
 use books::{Damage, Generator, Kind};
+use reference::party::Party;
 
 #[test]
 fn accepted_kinds_are_accepted() {
@@ -49,7 +50,7 @@ fn an_accepted_book_is_read_and_written_back() {
     for kind in Kind::ACCEPTED {
         for _ in 0..20 {
             let book = generator.book(kind);
-            let (number, image) = reference::read(&book);
+            let (number, image) = reference::read(&book, Party::Operator);
             assert_eq!(number, 0);
             let mut part = vec![0xAA; book.len()];
             assert_eq!(reference::write(&image, &mut part), 0);

@@ -9,6 +9,7 @@ use books::forms::{columns, form_of, FormDamage};
 use books::versions::VERSIONS;
 use books::{answer, Call, Generator, Kind};
 use reference::book::Header;
+use reference::party::{Given, Party};
 use reference::{form, restore};
 
 /// "The inverse gives the book back": for accepted books of every kind; all others
@@ -20,7 +21,7 @@ fn there_and_back() {
     for _ in 0..3_000 {
         let book = generator.any_book();
         let mut output = vec![0xAA; book.len()];
-        let number = form(&book, &mut output);
+        let number = form(&book, Party::Operator, &mut output);
         assert_eq!(number, reference::check(&book));
         let mut back = vec![0xAA; book.len()];
         if number != 0 {
@@ -85,7 +86,10 @@ fn every_damage() {
             let number = restore(&damaged, &mut output);
             let mut again = vec![0xAA; damaged.len()];
             if number == 0 {
-                assert_eq!((form(&output, &mut again), &again), (0, &damaged));
+                assert_eq!(
+                    (form(&output, Party::Operator, &mut again), &again),
+                    (0, &damaged)
+                );
             } else {
                 assert_eq!((number, &output), (29, &again));
             }
@@ -116,7 +120,7 @@ fn every_number() {
         let book = generator.any_book();
         let form = (book.clone(), generator.form(&book));
         for (bytes, call) in [form, generator.restore(&book)] {
-            let number = answer(&mut bytes.clone(), None, None, &call).number;
+            let number = answer(&mut bytes.clone(), Given::OPERATOR, None, &call).number;
             let version = bytes.get(3).copied().unwrap_or(0);
             *met.entry((call.name(), version, number)).or_default() += 1;
         }
@@ -148,7 +152,7 @@ fn outputs() {
         for length in [0, 1, form.len() - 1, form.len(), form.len() + 1, 20_000] {
             let calls = [Call::Form { length }, Call::Restore { length }];
             for ((call, given), expected) in calls.iter().zip([&mut book, &mut form]).zip(&bytes) {
-                let found = answer(given, None, None, call);
+                let found = answer(given, Given::OPERATOR, None, call);
                 let short = length < expected.len();
                 let mut output = vec![0xAA; length];
                 if !short {

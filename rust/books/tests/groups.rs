@@ -9,6 +9,7 @@ use books::Random;
 use reference::book::Book;
 use reference::group::position;
 use reference::levels::{afternoon_level_of, called_in, flagged, morning_level_of};
+use reference::party::Given;
 use reference::questions::Opened;
 use reference::reduction::{questions_8_to_14, tiers};
 use reference::run::run_book;
@@ -63,7 +64,8 @@ fn users_as_before(book: &Book, split: &Split) {
         assert_eq!(tiers(book, user), tiers(after, user_after));
         let numbers = [&one, &other].map(|opened| questions_8_to_14(opened, user.id).err());
         assert_eq!(numbers[0], numbers[1]);
-        let [one, other] = [&first, &second].map(|book| cancellation(book, None, user.id, 300));
+        let [one, other] =
+            [&first, &second].map(|book| cancellation(book, Given::OPERATOR, user.id, 300));
         assert_eq!(one, other);
         if split.inside == 0 {
             let members = split

@@ -10,6 +10,7 @@ use books::written::printed_example;
 use books::{answer, Answer, Call, Generator, Kind};
 use reference::book::User;
 use reference::list::MOST_LINES;
+use reference::party::Given;
 use reference::questions::questions_1_to_7;
 use reference::units::Mwh;
 
@@ -53,7 +54,7 @@ fn a_list_written_out() {
         (102, 2, -7),
         (102, 1, i64::MIN),
     ];
-    let given = answer(&mut book, None, None, &list(&lines));
+    let given = answer(&mut book, Given::OPERATOR, None, &list(&lines));
     assert_eq!(given.number, 0);
     assert_eq!(given.fields, [0, 10, 8, 10, 0, 0, 0, 10]);
     assert_eq!(user(&book, 0).physical, [10_000, 0, 0].map(Mwh));
@@ -69,14 +70,14 @@ fn counts() {
     let most = MOST_LINES;
     for count in [0, 1, 2, most - 1, most, most + 1, 2 * most] {
         let mut book = opening.clone();
-        let given = answer(&mut book, None, None, &counted([count; 4]));
+        let given = answer(&mut book, Given::OPERATOR, None, &counted([count; 4]));
         assert_eq!(given.number, if count <= most { 0 } else { 15 });
         for column in 0..4 {
             for other in [count + 1, count.saturating_sub(1), 0, most] {
                 let mut counts = [count; 4];
                 counts[column] = other;
                 let mut book = opening.clone();
-                let given = answer(&mut book, None, None, &counted(counts));
+                let given = answer(&mut book, Given::OPERATOR, None, &counted(counts));
                 if other == count && count <= most {
                     assert_eq!(given.number, 0, "{counts:?}");
                 } else {
@@ -101,7 +102,7 @@ fn the_order_of_the_questions() {
     moved[32 + 20] ^= 1;
     let uneven = counted([1, 1, 1, 0]);
     let number = |book: &[u8], store: Option<&[u8]>, list: &Call| {
-        answer(&mut book.to_vec(), store, None, list).number
+        answer(&mut book.to_vec(), Given::by_operator(store), None, list).number
     };
     let store = b"GPS\x01\x00\x00";
     assert_eq!(number(&moved, Some(&[]), &uneven), 7);
@@ -129,7 +130,8 @@ fn postings(book: &mut [u8], store: Option<&[u8]>, list: &Call) -> Vec<i128> {
         area: *area,
         amount: *amount,
     };
-    let numbers = lines.map(|line| answer(book, store, None, &posting(line)).number);
+    let numbers =
+        lines.map(|line| answer(book, Given::by_operator(store), None, &posting(line)).number);
     numbers.map(i128::from).collect()
 }
 
@@ -143,7 +145,8 @@ fn drawn_lists() {
         let store = store.as_deref();
         let call = generator.list(&opening);
         let mut book = opening.clone();
-        let Answer { number, fields, .. } = answer(&mut book, store, None, &call);
+        let Answer { number, fields, .. } =
+            answer(&mut book, Given::by_operator(store), None, &call);
         *calls.entry(number).or_insert(0) += 1;
         if number == 0 {
             let mut other = opening.clone();
@@ -174,7 +177,7 @@ fn lines_that_depend_on_others() {
     for _ in 0..500 {
         let opening = generator.book(Kind::Small);
         let list = generator.list_of(&opening, 20);
-        let fields = answer(&mut opening.clone(), None, None, &list).fields;
+        let fields = answer(&mut opening.clone(), Given::OPERATOR, None, &list).fields;
         let Call::List {
             ids,
             areas,
@@ -186,7 +189,14 @@ fn lines_that_depend_on_others() {
         };
         for (line, number) in fields.into_iter().enumerate() {
             let (id, area, amount) = (ids[line], areas[line], amounts[line]);
-            let alone = reference::posting(&mut opening.clone(), None, None, id, area, amount);
+            let alone = reference::posting(
+                &mut opening.clone(),
+                Given::OPERATOR,
+                None,
+                id,
+                area,
+                amount,
+            );
             accepted += u32::from(number == 0 && alone != 0);
             refused += u32::from(number != 0 && alone == 0);
         }

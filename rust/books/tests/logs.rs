@@ -9,6 +9,7 @@ use std::collections::BTreeMap;
 use books::logs::{forged, started, LogDamage, LOG_BEFORE};
 use books::{answer, Answer, Call, Generator, Kind, Random};
 use reference::log::{LOG_LENGTH, MOST_ENTRIES, MOST_HELD};
+use reference::party::Given;
 use reference::questions::questions_1_to_7;
 
 #[derive(Default)]
@@ -101,7 +102,12 @@ fn sequence(generator: &mut Generator, counts: &mut Counts) {
         }
         let lent = generator.log(&book, &log).filter(|_| call.takes_log());
         let (before, mut after) = (book.clone(), lent.clone());
-        let found = answer(&mut book, store.as_deref(), after.as_deref_mut(), &call);
+        let found = answer(
+            &mut book,
+            Given::by_operator(store.as_deref()),
+            after.as_deref_mut(),
+            &call,
+        );
         let stopped = found.number == 20 && call == Call::Run;
         if found.number != 0 && !stopped {
             assert_eq!(book, before, "a refused call leaves the book");
@@ -132,7 +138,7 @@ fn raised(opening: &[u8], book: &[u8]) -> bool {
 
 fn start(generator: &mut Generator, book: &[u8], counts: &mut Counts) {
     let (mut book, mut log) = generator.start(book);
-    let found = answer(&mut book, None, Some(&mut log), &Call::Start);
+    let found = answer(&mut book, Given::OPERATOR, Some(&mut log), &Call::Start);
     let right = log.len() == LOG_LENGTH && book.len() <= MOST_HELD;
     assert_eq!(found.number, if right { 0 } else { 19 });
     if right {
@@ -227,7 +233,13 @@ fn broken_logs() {
         let mut bytes = generator.book(kinds[turn % kinds.len()]);
         let book = questions_1_to_7(&bytes).expect("an accepted book");
         let good = forged(&mut random, &bytes);
-        let number = answer(&mut bytes, None, Some(&mut good.clone()), &posting).number;
+        let number = answer(
+            &mut bytes,
+            Given::OPERATOR,
+            Some(&mut good.clone()),
+            &posting,
+        )
+        .number;
         assert_eq!(number, 8, "a log of the right form");
         for (count, damage) in broken.iter_mut().zip(LogDamage::ALL) {
             let mut log = good.clone();
@@ -236,7 +248,8 @@ fn broken_logs() {
             }
             for call in [&Call::Withdrawal, &posting] {
                 let mut lent = log.clone();
-                let number = answer(&mut bytes.clone(), None, Some(&mut lent), call).number;
+                let number =
+                    answer(&mut bytes.clone(), Given::OPERATOR, Some(&mut lent), call).number;
                 let kept = damage == LogDamage::AnyByte && number != 19;
                 assert!(number == 19 || kept, "{damage:?}: {number}");
                 assert!(lent == log || number == 0);

@@ -6,6 +6,7 @@
 use books::calls::PLACE_BEFORE;
 use books::{answer, Call, Generator, Kind};
 use reference::book::Book;
+use reference::party::Given;
 use reference::questions::questions_1_to_7;
 use reference::run::next_reduction;
 use reference::store;
@@ -83,7 +84,7 @@ fn sequence(generator: &mut Generator, opening: &[u8], store: Option<&[u8]>, cal
 
 fn step(bytes: &mut [u8], store: Option<&[u8]>, call: &Call, sums: &mut Sums) {
     let before = bytes.to_vec();
-    let answer = answer(bytes, store, None, call);
+    let answer = answer(bytes, Given::by_operator(store), None, call);
     if answer.number != 0 {
         assert_eq!(bytes, before, "a refused call leaves the book");
         let left = i128::from(match call {

@@ -8,6 +8,7 @@ use std::collections::BTreeMap;
 use books::random::Random;
 use books::stores::{any_store, longest, store, StoreDamage, StoreKind};
 use books::{answer, Call, Generator};
+use reference::party::Given;
 use reference::store::{limits, to_bytes, Limits, ParameterSet};
 use reference::units::{Cents, Mwh};
 
@@ -96,7 +97,12 @@ fn every_call_reaches_16_and_17() {
         let store = generator.store(&bytes);
         for _ in 0..4 {
             let call = generator.call(&bytes, store.as_deref());
-            let answer = answer(&mut bytes, store.as_deref(), None, &call);
+            let answer = answer(
+                &mut bytes,
+                Given::by_operator(store.as_deref()),
+                None,
+                &call,
+            );
             if store.is_some() && call.takes_store() {
                 *reached.entry((call.name(), answer.number)).or_insert(0) += 1;
             }

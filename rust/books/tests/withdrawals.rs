@@ -7,6 +7,7 @@ use books::logs::started;
 use books::stores::date_of;
 use books::{answer, Answer, Call, Generator, Kind};
 use reference::book::Book;
+use reference::party::Given;
 use reference::questions::{questions_1_to_7, Opened};
 use reference::run::{next_reduction, run_book};
 use reference::store;
@@ -107,7 +108,7 @@ fn step(
     sums: &mut Sums,
 ) {
     let (before, log_before) = (fields(bytes), log.clone());
-    let found = answer(bytes, store, log.as_deref_mut(), call);
+    let found = answer(bytes, Given::by_operator(store), log.as_deref_mut(), call);
     let after = fields(bytes);
     let stopped = found.number == 20 && *call == Call::Run;
     if found.number != 0 && !stopped {
@@ -212,7 +213,7 @@ fn withdrawing_every_reduction() {
                 0 => Call::Withdrawal,
                 _ => generator.changing_call(&bytes, store),
             };
-            let found = answer(&mut bytes, store, Some(&mut log), &call);
+            let found = answer(&mut bytes, Given::by_operator(store), Some(&mut log), &call);
             let cuts = matches!(call, Call::Withdrawal | Call::Reduction { .. } | Call::Run);
             if found.number == 0 && !cuts {
                 first.clone_from(&bytes);
@@ -220,7 +221,12 @@ fn withdrawing_every_reduction() {
         }
         let mut withdrawn = 0;
         let number = loop {
-            let found = answer(&mut bytes, store, Some(&mut log), &Call::Withdrawal);
+            let found = answer(
+                &mut bytes,
+                Given::by_operator(store),
+                Some(&mut log),
+                &Call::Withdrawal,
+            );
             if found.number != 0 {
                 break found.number;
             }

@@ -3,7 +3,7 @@
 
 use std::path::{Path, PathBuf};
 
-use daybook::{Log, Refusal, Request, User};
+use daybook::{Log, Operator, Refusal, User};
 
 use crate::arguments::{id, Arguments};
 use crate::files::{self, Held};
@@ -22,6 +22,8 @@ pub struct Call {
     pub source: Source,
     pub store: Store,
     pub form: Form,
+    /// The shipper in whose name the call is made; none for the operator.
+    pub party: Option<u32>,
     /// The log as it was read.
     pub log: Option<LogFile>,
     /// Where the changed book is written; nowhere unless that is asked for.
@@ -39,6 +41,8 @@ pub struct Changed {
 impl Call {
     pub fn new(arguments: &Arguments) -> Result<Call, Failure> {
         keeping(arguments)?;
+        let party = arguments.path("--as");
+        let party = party.map(|word| id(word.as_os_str())).transpose()?;
         let store = Store::open(arguments.path("--store").as_deref())?;
         let form = Form::of(arguments)?;
         let book = arguments.file(0);
@@ -58,9 +62,14 @@ impl Call {
         let held = Held::all(&over.into_iter().chain(logged).collect::<Vec<_>>())?;
         let of = |path: &Path| held.iter().find(|held| held.is_named(path));
         let source = match of(book) {
-            Some(held) => accepted(&files::shown(book), held.read(book)?)?,
-            None => open(book)?,
+            Some(held) => accepted(&files::shown(book), held.read(book)?),
+            None => open(book),
         };
+        // The fields at fault are not a shipper's to know.
+        let source = source.map_err(|failure| match party {
+            Some(_) => refusals::without_faults(&files::shown(book), failure),
+            None => failure,
+        })?;
         let log = log.map(|path| match of(&path) {
             Some(held) => Ok(LogFile::new(&path, held.read(&path)?)),
             None => LogFile::open(&path),
@@ -69,6 +78,7 @@ impl Call {
             source,
             store,
             form,
+            party,
             log: log.transpose()?,
             target,
             held,
@@ -83,26 +93,40 @@ impl Call {
         }
     }
 
-    /// A request with the store, and with this log.
-    pub fn request<'a>(&'a self, log: &'a mut Option<Log>) -> Request<'a> {
-        let request = self.store.request();
+    /// The operator with the store, and with this log.
+    pub fn operator<'a>(&'a self, log: &'a mut Option<Log>) -> Operator<'a> {
+        let operator = self.store.operator();
         match log {
-            Some(log) => request.log(log),
-            None => request,
+            Some(log) => operator.log(log),
+            None => operator,
         }
     }
 
-    /// The ids that are asked for; those of all users where none is.
+    /// The ids that are asked for; where none is, the party's own, for the operator
+    /// those of all users.
     fn ids(&self, arguments: &Arguments) -> Result<Vec<u32>, Failure> {
         let asked = arguments.rest(1);
         if !asked.is_empty() {
             return asked.iter().map(|word| id(word)).collect();
         }
+        if let Some(party) = self.party {
+            return Ok(vec![party]);
+        }
         Ok(self.users().iter().map(|user| user.id).collect())
     }
 
+    /// The version of the book, which its header has.
+    pub fn version(&self) -> u16 {
+        match self.source.bytes.get(3..5) {
+            Some([low, high]) => u16::from_le_bytes([*low, *high]),
+            _ => 0,
+        }
+    }
+
     fn users(&self) -> Vec<User> {
-        daybook::read(&self.source.bytes).map_or_else(|_| Vec::new(), |book| book.users)
+        Operator::new()
+            .read(&self.source.bytes)
+            .map_or_else(|_| Vec::new(), |book| book.users)
     }
 
     /// Answers a question for each user; a refused one does not stop the others.
@@ -173,6 +197,9 @@ impl Call {
         let failure = match (&self.log, refusal) {
             (Some(log), Refusal::LogEmpty | Refusal::LogForm | Refusal::LogFull) => {
                 refusals::of_log(&self.source, log, self.target.as_deref(), id, refusal)
+            }
+            (_, Refusal::Party) => {
+                refusals::of_party(&self.source.name, self.party.unwrap_or(0), id.unwrap_or(0))
             }
             _ => refusals::of_call(&self.source, &self.store, id, asked, refusal),
         };

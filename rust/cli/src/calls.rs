@@ -1,7 +1,7 @@
 //! The engine's calls on a book: `show`, `level`, `call`, `warn`, `post` and
 //! `reduce`.
 
-use daybook::{GuaranteeCall, Level, Reduction, Refusal, Request, User};
+use daybook::{GuaranteeCall, Level, Operator, Reduction, Refusal, User};
 
 use crate::arguments::{amount, Arguments};
 use crate::call::{answer, Call};
@@ -18,14 +18,13 @@ pub fn show(arguments: &Arguments) -> Result<Outcome, Failure> {
     arguments.expect(
         1,
         usize::MAX,
-        "show BOOK [ID..] [--csv|--json] [--store FILE]",
+        "show BOOK [ID..] [--as ID] [--csv|--json] [--store FILE]",
     )?;
     let call = Call::new(arguments)?;
     call.each(arguments, |id| {
-        let user = call.store.request().show(&call.source.bytes, id)?;
+        let user = call.record(id)?;
         let object = user_object(&user);
-        let version = daybook::read(&call.source.bytes)?.version;
-        let object = match has_managers(version) {
+        let object = match has_managers(call.version()) {
             Some(true) => object.put(MANAGERS, list(user.managers)),
             _ => object,
         };
@@ -47,23 +46,25 @@ pub fn level(arguments: &Arguments) -> Result<Outcome, Failure> {
     arguments.expect(
         1,
         usize::MAX,
-        "level BOOK [ID..] [--csv|--json] [--store FILE]",
+        "level BOOK [ID..] [--as ID] [--csv|--json] [--store FILE]",
     )?;
     let call = Call::new(arguments)?;
     call.each(arguments, |id| {
-        let request = call.store.request();
-        let Level(morning) = request.morning_level(&call.source.bytes, id)?;
-        let Level(afternoon) = request.afternoon_level(&call.source.bytes, id)?;
+        let (Level(morning), Level(afternoon)) = call.levels(id)?;
         let (before, after) = (euros(morning), euros(afternoon));
         let line = format!("{id}: morning level {before} EUR, afternoon level {after} EUR");
         let object = answer(id)
             .put("morning_cents", morning)
             .put("afternoon_cents", afternoon);
-        let book = daybook::read(&call.source.bytes)?;
+        // Credit and groups are told by the whole book, which is the operator's.
+        if call.party.is_some() {
+            return Ok((line, object));
+        }
+        let book = Operator::new().read(&call.source.bytes)?;
         if !has_credit(&book) {
             return Ok((line, object));
         }
-        let user = request.show(&call.source.bytes, id)?;
+        let user = call.record(id)?;
         let credits = credits(&book, &user);
         let groups = shares(&book, &user);
         let groups: String = groups.iter().map(|it| share_line(it, id)).collect();
@@ -86,7 +87,7 @@ pub fn warn(arguments: &Arguments) -> Result<Outcome, Failure> {
     )?;
     let call = Call::new(arguments)?;
     call.each(arguments, |id| {
-        let warned = call.store.request().warning(&call.source.bytes, id)?;
+        let warned = call.store.operator().warning(&call.source.bytes, id)?;
         let line = format!("{id}: {}", if warned { "warned" } else { "not warned" });
         Ok((line, answer(id).put("warned", warned)))
     })
@@ -106,10 +107,10 @@ pub fn guarantee_call(arguments: &Arguments) -> Result<Outcome, Failure> {
         false => Asked::AfternoonCall,
     };
     let id = arguments.id(1)?;
-    changing(arguments, id, asked, |mut request, book| {
+    changing(arguments, id, asked, |mut operator, book| {
         let called = match morning {
-            true => request.morning_call(book, id)?,
-            false => request.afternoon_call(book, id)?,
+            true => operator.morning_call(book, id)?,
+            false => operator.afternoon_call(book, id)?,
         };
         let GuaranteeCall {
             level: Level(level),
@@ -143,9 +144,9 @@ pub fn post(arguments: &Arguments) -> Result<Outcome, Failure> {
         arguments,
         id,
         Asked::Posting { area, amount },
-        |mut request, book| {
-            request.posting(book, id, area, amount)?;
-            let user = request.show(book, id)?;
+        |mut operator, book| {
+            operator.posting(book, id, area, amount)?;
+            let user = operator.record(book, id)?;
             let place = usize::try_from(area).unwrap_or(0).min(2);
             let (physical, position) = (user.physical[place], user.position[place]);
             let (area, mwh) = (AREAS[place], grouped(amount));
@@ -168,8 +169,8 @@ pub fn reduce(arguments: &Arguments) -> Result<Outcome, Failure> {
                  [--store FILE]";
     arguments.expect(2, 2, usage)?;
     let id = arguments.id(1)?;
-    changing(arguments, id, Asked::Reduction, |mut request, book| {
-        let done = request.reduction(book, id)?;
+    changing(arguments, id, Asked::Reduction, |mut operator, book| {
+        let done = operator.reduction(book, id)?;
         Ok((
             reduction_line(id, &done),
             reduction_object(answer(id), &done),
@@ -202,12 +203,12 @@ fn changing(
     arguments: &Arguments,
     id: u32,
     asked: Asked,
-    make: impl Fn(Request, &mut [u8]) -> Result<(String, Object), Refusal>,
+    make: impl Fn(Operator, &mut [u8]) -> Result<(String, Object), Refusal>,
 ) -> Result<Outcome, Failure> {
     let call = Call::new(arguments)?;
     let mut changed = call.unchanged();
     let mut outcome = Outcome::default();
-    match make(call.request(&mut changed.log), &mut changed.book) {
+    match make(call.operator(&mut changed.log), &mut changed.book) {
         Err(refusal) => call.refuse(&mut outcome, Some(id), asked, refusal),
         Ok((line, object)) => {
             call.tell(&mut outcome, line, call.noting(object, &changed));

@@ -1,7 +1,7 @@
 //! `daybook cancel`: the whole trades that a shipper could cancel in place of a
 //! reduction. No book is changed.
 
-use daybook::{Book, Trade};
+use daybook::{Book, Operator, Trade};
 
 use crate::arguments::Arguments;
 use crate::call::{answer, Call};
@@ -27,9 +27,9 @@ pub fn cancel(arguments: &Arguments) -> Result<Outcome, Failure> {
     let mut outcome = Outcome::default();
     let found = call
         .store
-        .request()
+        .operator()
         .cancellation(&call.source.bytes, id, tries);
-    let (found, book) = match (found, daybook::read(&call.source.bytes)) {
+    let (found, book) = match (found, Operator::new().read(&call.source.bytes)) {
         (Ok(found), Ok(book)) => (found, book),
         (Err(refusal), _) | (_, Err(refusal)) => {
             call.refuse(

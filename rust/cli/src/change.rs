@@ -1,7 +1,7 @@
 //! `daybook change`: what if? Fields of a book set anew, in the words of the text
 //! form; positions are those that document 01 defines.
 
-use daybook::{Book, Refusal, Trade, User};
+use daybook::{Book, Operator, Refusal, Trade, User};
 
 use crate::arguments::Arguments;
 use crate::call::Call;
@@ -21,7 +21,9 @@ pub fn change(arguments: &Arguments) -> Result<Outcome, Failure> {
         let faults: Vec<(Option<Spot>, Fault)> = faults.into_iter().map(|it| (None, it)).collect();
         refusals::of_book(&call.source.name, refusal, &faults)
     };
-    let mut book = daybook::read(&call.source.bytes).map_err(|it| refused(it, Vec::new()))?;
+    let mut book = Operator::new()
+        .read(&call.source.bytes)
+        .map_err(|it| refused(it, Vec::new()))?;
     let (mut outcome, mut mistakes) = (Outcome::default(), Vec::new());
     for (place, word) in arguments.rest(1).iter().enumerate() {
         match made(&mut book, &word.display().to_string(), place + 1) {

@@ -1,6 +1,6 @@
 //! Reductions of one user that follow one another, taken together.
 
-use daybook::Refusal;
+use daybook::{Operator, Refusal};
 
 use crate::groups::area_of;
 
@@ -36,7 +36,10 @@ pub struct Span {
 
 impl Span {
     pub fn chapter(&self) -> Result<Chapter, Refusal> {
-        let (before, after) = (daybook::read(&self.before)?, daybook::read(&self.after)?);
+        let (before, after) = (
+            Operator::new().read(&self.before)?,
+            Operator::new().read(&self.after)?,
+        );
         let mut cuts: Vec<Cut> = Vec::new();
         for (trade, later) in before.trades.iter().zip(&after.trades) {
             let cut = Cut {

@@ -2,7 +2,7 @@
 
 use std::path::Path;
 
-use daybook::{Book, Refusal};
+use daybook::{Book, Operator, Refusal};
 
 use crate::arguments::Arguments;
 use crate::files;
@@ -35,7 +35,7 @@ pub fn check(arguments: &Arguments) -> Result<Outcome, Failure> {
 /// An accepted book whose store is not refused: 0 is the id of no user, so that a
 /// shown record asks all the questions before the eighth, and is refused by it.
 fn with_store(source: Source, store: &Store) -> Result<Source, Failure> {
-    match store.request().show(&source.bytes, 0) {
+    match store.operator().record(&source.bytes, 0) {
         Err(refusal) if refusal != Refusal::Id => {
             let reason = reason(&source.bytes, store, 0, Asked::Plain, refusal);
             Err(refusals::of_store(&source.name, refusal, &reason))
@@ -47,7 +47,7 @@ fn with_store(source: Source, store: &Store) -> Result<Source, Failure> {
 /// An accepted book in a line.
 fn told(source: &Source, json: bool) -> String {
     let name = &source.name;
-    let book = daybook::read(&source.bytes).unwrap_or_default();
+    let book = Operator::new().read(&source.bytes).unwrap_or_default();
     if json {
         let object = Object::new().string("book", name).put("accepted", true);
         let object = object.put("number", 0).put("version", book.version);

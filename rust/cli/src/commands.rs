@@ -7,7 +7,7 @@ use crate::files::is_standard;
 use crate::outcome::{Failure, Outcome};
 use crate::{
     calls, cancel, change, check, compare, convert, due, explain, field_wise, list, log,
-    other_forms, parameters, report, run, shrinkage, status, table, withdraw,
+    other_forms, parameters, report, run, shrinkage, status, table, told, withdraw,
 };
 
 /// A command of the program.
@@ -29,6 +29,8 @@ const FORCE: Known = Known::Flag("--force");
 const IN_PLACE: Known = Known::Flag("--in-place");
 const ASKING: &[Known] = &[STORE, JSON];
 const ANSWERING: &[Known] = &[STORE, CSV, JSON];
+const AS: Known = Known::Value("--as");
+const TELLING: &[Known] = &[AS, STORE, CSV, JSON];
 const LOG: Known = Known::Value("--log");
 const CHANGING: &[Known] = &[STORE, LOG, CSV, JSON, OUTPUT, FORCE, IN_PLACE];
 
@@ -121,15 +123,29 @@ pub const COMMANDS: &[Command] = &[
         name: "show",
         about: "the records of users",
         page: include_str!("../help/show.txt"),
-        options: ANSWERING,
+        options: TELLING,
         run: calls::show,
     },
     Command {
         name: "level",
         about: "the morning and the afternoon level of shippers",
         page: include_str!("../help/level.txt"),
-        options: ANSWERING,
+        options: TELLING,
         run: calls::level,
+    },
+    Command {
+        name: "flag",
+        about: "which shippers are flagged",
+        page: include_str!("../help/flag.txt"),
+        options: TELLING,
+        run: told::flag,
+    },
+    Command {
+        name: "trades",
+        about: "the trades that a shipper may see",
+        page: include_str!("../help/trades.txt"),
+        options: TELLING,
+        run: told::trades,
     },
     Command {
         name: "warn",

@@ -1,7 +1,7 @@
 //! `daybook compare`: two books, or what their runs leave of them, told by what
 //! differs: the day's totals first, then prices, users and trades.
 
-use daybook::{Book, Trade, User};
+use daybook::{Book, Operator, Trade, User};
 
 use crate::arguments::Arguments;
 use crate::day::{standings, Standing, Totals};
@@ -66,13 +66,13 @@ pub fn compare(arguments: &Arguments) -> Result<Outcome, Failure> {
 
 fn side(source: &Source, store: &Store, is_run: bool) -> Result<Side, Failure> {
     let refused = |refusal| of_call(source, store, None, Asked::Plain, refusal);
-    let mut request = store.request();
+    let mut operator = store.operator();
     let mut after = source.bytes.clone();
-    let run = request.run(&mut after).map_err(refused)?;
+    let run = operator.run(&mut after).map_err(refused)?;
     let bytes = if is_run { &after } else { &source.bytes };
-    let book = daybook::read(bytes).map_err(refused)?;
-    let standings = standings(&request, bytes, &book);
-    let totals = Totals::new(&request, &book, &standings, run);
+    let book = Operator::new().read(bytes).map_err(refused)?;
+    let standings = standings(&operator, bytes, &book);
+    let totals = Totals::new(&operator, &book, &standings, run);
     Ok(Side {
         book,
         standings,

@@ -1,6 +1,6 @@
 //! `daybook convert`: a book of one version as another.
 
-use daybook::{Book, Refusal, Version};
+use daybook::{Book, Operator, Refusal, Version};
 
 use crate::arguments::Arguments;
 use crate::fields::{has_managers, has_selling_tariffs, prices, COMMON_PRICES, PRICES, VERSIONS};
@@ -30,7 +30,7 @@ pub fn convert(arguments: &Arguments) -> Result<Outcome, Failure> {
         let refusal = Refusal::TargetVersion;
         return Err(refusals::of_conversion(&source.name, refusal, &[], &reason));
     };
-    match daybook::convert(&source.bytes, version) {
+    match Operator::new().convert(&source.bytes, version) {
         Ok(bytes) => put(arguments, &output, &bytes, &held),
         Err(refusal) => Err(lost_in(&source, version.number(), refusal)),
     }
@@ -38,7 +38,7 @@ pub fn convert(arguments: &Arguments) -> Result<Outcome, Failure> {
 
 /// A conversion that loses information: each field, and how it is dropped.
 fn lost_in(source: &Source, version: u16, refusal: Refusal) -> Failure {
-    let book = daybook::read(&source.bytes).unwrap_or_default();
+    let book = Operator::new().read(&source.bytes).unwrap_or_default();
     let lost = lost(&book, version);
     let advice = match lost.len() <= MOST_TOLD {
         true => {

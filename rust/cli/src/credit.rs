@@ -2,7 +2,7 @@
 //! for each area where the position that the user bears is above 0, before the floor.
 //! The levels are the engine's, with the selling tariffs and without them.
 
-use daybook::{Book, Level, Refusal, Request, User};
+use daybook::{Book, Level, Operator, Refusal, User};
 
 use crate::fields::has_selling_tariffs;
 use crate::groups::position;
@@ -89,7 +89,11 @@ pub struct Credited {
 }
 
 /// The credit in the afternoon level of a user; none in a book without credit.
-pub fn credited(request: &Request, book: &Book, user: &User) -> Result<Option<Credited>, Refusal> {
+pub fn credited(
+    operator: &Operator,
+    book: &Book,
+    user: &User,
+) -> Result<Option<Credited>, Refusal> {
     if !has_credit(book) {
         return Ok(None);
     }
@@ -99,6 +103,6 @@ pub fn credited(request: &Request, book: &Book, user: &User) -> Result<Option<Cr
     book.prices.tank_and_store_selling_tariff = 0;
     let mut bytes = vec![0; book.length()];
     daybook::write(&book, &mut bytes)?;
-    let Level(without) = request.afternoon_level(&bytes, user.id)?;
+    let Level(without) = operator.afternoon_level(&bytes, user.id)?;
     Ok(Some(Credited { without, credits }))
 }

@@ -2,7 +2,7 @@
 //! is uncovered and what is to be called, and the deposits that keep every trade
 //! from being cut. The figures are the engine's.
 
-use daybook::{Book, GuaranteeCall, Refusal, Request, Run, User};
+use daybook::{Book, GuaranteeCall, Operator, Refusal, Run, User};
 
 use crate::state::{state, State};
 
@@ -22,15 +22,15 @@ pub struct Standing {
 }
 
 /// The users of an accepted book in their day.
-pub fn standings(request: &Request, bytes: &[u8], book: &Book) -> Vec<Standing> {
+pub fn standings(operator: &Operator, bytes: &[u8], book: &Book) -> Vec<Standing> {
     let standing = |user: &User| {
-        let state = state(request, bytes, user);
+        let state = state(operator, bytes, user);
         let level = state.level.unwrap_or(0);
         let is_short = state.word == "short";
-        let (mut copy, mut request) = (bytes.to_vec(), request.without_log());
-        let reduced = is_short.then(|| request.reduction(&mut copy, user.id).ok());
+        let (mut copy, mut operator) = (bytes.to_vec(), operator.without_log());
+        let reduced = is_short.then(|| operator.reduction(&mut copy, user.id).ok());
         let is_due = state.word == "call";
-        let called = is_due.then(|| request.afternoon_call(&mut copy, user.id).ok());
+        let called = is_due.then(|| operator.afternoon_call(&mut copy, user.id).ok());
         Standing {
             user: *user,
             state,
@@ -74,7 +74,7 @@ impl Deposits {
 }
 
 /// The deposits of an accepted book, asked of the engine.
-pub fn deposits(request: &Request, book: &Book, standings: &[Standing]) -> Deposits {
+pub fn deposits(operator: &Operator, book: &Book, standings: &[Standing]) -> Deposits {
     let targets = standings
         .iter()
         .filter_map(|it| it.target.map(|target| (it.user.id, target)));
@@ -87,18 +87,18 @@ pub fn deposits(request: &Request, book: &Book, standings: &[Standing]) -> Depos
             .saturating_add(deposit.map_or(0, |(_, cents)| *cents));
     }
     Deposits {
-        confirmed: confirmed(request, &book),
+        confirmed: confirmed(operator, &book),
         by_user,
     }
 }
 
-fn confirmed(request: &Request, book: &Book) -> Confirmed {
+fn confirmed(operator: &Operator, book: &Book) -> Confirmed {
     let mut bytes = vec![0; book.length()];
     if let Err(refusal) = daybook::write(book, &mut bytes) {
         return Confirmed::Beyond(refusal);
     }
     let before = bytes.clone();
-    match request.without_log().run(&mut bytes) {
+    match operator.without_log().run(&mut bytes) {
         Ok(Run { reductions: 0, .. }) if bytes == before => Confirmed::Yes,
         _ => Confirmed::No,
     }
@@ -121,8 +121,8 @@ pub struct Totals {
 
 impl Totals {
     /// The totals of a book whose users' standings and run are known.
-    pub fn new(request: &Request, book: &Book, standings: &[Standing], run: Run) -> Totals {
-        let deposits = deposits(request, book, standings);
+    pub fn new(operator: &Operator, book: &Book, standings: &[Standing], run: Run) -> Totals {
+        let deposits = deposits(operator, book, standings);
         let uncovered = standings.iter().map(|it| u128::from(it.uncovered));
         let called = || standings.iter().filter_map(|it| it.to_call);
         let short = standings.iter().filter(|it| it.state.word == "short");
@@ -138,8 +138,8 @@ impl Totals {
 }
 
 /// The totals of an accepted book.
-pub fn totals(request: &Request, bytes: &[u8], book: &Book) -> Result<Totals, Refusal> {
-    let run = request.without_log().run(&mut bytes.to_vec())?;
-    let standings = standings(request, bytes, book);
-    Ok(Totals::new(request, book, &standings, run))
+pub fn totals(operator: &Operator, bytes: &[u8], book: &Book) -> Result<Totals, Refusal> {
+    let run = operator.without_log().run(&mut bytes.to_vec())?;
+    let standings = standings(operator, bytes, book);
+    Ok(Totals::new(operator, book, &standings, run))
 }

@@ -2,7 +2,7 @@
 //! due, made in one command. A call changes what is blocked of its own user alone,
 //! so that none depends on another.
 
-use daybook::{GuaranteeCall, Level, Refusal};
+use daybook::{GuaranteeCall, Level, Operator, Refusal};
 
 use crate::arguments::Arguments;
 use crate::call::{answer, Call, Changed};
@@ -56,13 +56,13 @@ pub fn calls(arguments: &Arguments) -> Result<Outcome, Failure> {
 /// of an assigned guarantee are told.
 fn make(call: &Call, changed: &mut Changed, morning: bool) -> Result<Vec<Due>, Refusal> {
     let Changed { book, log } = changed;
-    let mut request = call.request(log);
+    let mut operator = call.operator(log);
     let mut made = Vec::new();
-    for user in daybook::read(book)?.users {
+    for user in Operator::new().read(book)?.users {
         let (id, assigned) = (user.id, user.assigned);
         let called = match morning {
-            true => request.morning_call(book, id),
-            false => request.afternoon_call(book, id),
+            true => operator.morning_call(book, id),
+            false => operator.afternoon_call(book, id),
         };
         let (level, added) = match called {
             Ok(GuaranteeCall {
@@ -71,8 +71,8 @@ fn make(call: &Call, changed: &mut Changed, morning: bool) -> Result<Vec<Due>, R
             }) => (level, Some(added)),
             Err(Refusal::AssignedCoversLevel) => {
                 let Level(level) = match morning {
-                    true => request.morning_level(book, id)?,
-                    false => request.afternoon_level(book, id)?,
+                    true => operator.morning_level(book, id)?,
+                    false => operator.afternoon_level(book, id)?,
                 };
                 (level, None)
             }

@@ -1,6 +1,6 @@
 //! `daybook explain`: a run in words, reduction by reduction.
 
-use daybook::{Book, Trade};
+use daybook::{Book, Operator, Trade};
 
 use crate::arguments::Arguments;
 use crate::calls::reduction_object;
@@ -45,11 +45,11 @@ pub fn explain(arguments: &Arguments) -> Result<Outcome, Failure> {
             most,
         },
     };
-    let figures = match daybook::read(&source.bytes) {
+    let figures = match Operator::new().read(&source.bytes) {
         Ok(book) => figures(store.bytes.as_deref(), book.date),
         Err(refusal) => return Err(of_call(&source, &store, None, Asked::Plain, refusal)),
     };
-    let trace = trace(store.request(), &figures, &source.bytes, extent)
+    let trace = trace(store.operator(), &figures, &source.bytes, extent)
         .map_err(|refusal| of_call(&source, &store, None, Asked::Plain, refusal))?;
     let mut outcome = Outcome::default();
     match arguments.has("--json") {

@@ -3,7 +3,7 @@
 
 use std::path::Path;
 
-use daybook::Refusal;
+use daybook::{Operator, Refusal};
 
 use crate::arguments::Arguments;
 use crate::columns::{has, named, names, Column};
@@ -40,7 +40,7 @@ pub fn fields(arguments: &Arguments) -> Result<Outcome, Failure> {
         false => {
             let source = accepted(&name, bytes)?;
             let refused = |refusal| refusals::of_book(&name, refusal, &[]);
-            daybook::field_wise(&source.bytes).map_err(refused)?
+            Operator::new().field_wise(&source.bytes).map_err(refused)?
         }
     };
     put(arguments, &target, &made, &held)
@@ -56,7 +56,7 @@ fn is_form(bytes: &[u8]) -> bool {
 fn book_of(name: &str, form: &[u8]) -> Result<Vec<u8>, Failure> {
     daybook::record_wise(form).map_err(|refusal| {
         let book = in_records(form);
-        let of_book = daybook::read(&book).err();
+        let of_book = Operator::new().read(&book).err();
         let faults = of_book.map_or_else(Vec::new, |it| faults(&book, it.number()));
         refusals::of_form(name, refusal, of_book, &faults)
     })
@@ -105,7 +105,7 @@ fn tell(
         false => accepted(&name, bytes)?.bytes,
     };
     let refused = |refusal: Refusal| refusals::of_book(&name, refusal, &[]);
-    let book = daybook::read(&book).map_err(refused)?;
+    let book = Operator::new().read(&book).map_err(refused)?;
     if !has(book.version, field) {
         let reason = format!("has no {field}: it is of version {}", book.version);
         return Err(Failure::misuse(format!("{name}: {reason}")));

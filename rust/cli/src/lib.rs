@@ -56,6 +56,7 @@ pub mod status;
 pub mod store;
 pub mod table;
 pub mod text;
+pub mod told;
 pub mod trace;
 pub mod why;
 pub mod why_words;

@@ -27,7 +27,7 @@ pub fn list(arguments: &Arguments) -> Result<Outcome, Failure> {
     let mut changed = call.unchanged();
     let mut outcome = Outcome::default();
     let made = call
-        .request(&mut changed.log)
+        .operator(&mut changed.log)
         .list(&mut changed.book, &lines);
     let answers = match made {
         Ok(answers) => answers,
@@ -76,7 +76,7 @@ fn reasons(call: &Call, lines: &[Line], answers: &[Result<(), Refusal>]) -> Vec<
                 Asked::Posting { area, amount },
                 *refusal,
             ),
-            Ok(()) => match call.store.request().posting(&mut book, *id, area, amount) {
+            Ok(()) => match call.store.operator().posting(&mut book, *id, area, amount) {
                 Ok(()) => String::new(),
                 Err(refusal) => refusal.to_string(),
             },

@@ -3,7 +3,7 @@
 
 use std::path::Path;
 
-use daybook::{Book, Log, Refusal};
+use daybook::{Book, Log, Operator, Refusal};
 
 use crate::arguments::Arguments;
 use crate::check::described;
@@ -80,7 +80,7 @@ fn held_book(log: &LogFile) -> Result<Source, Failure> {
         return Err(refusals::of_held(log, Refusal::LogForm));
     }
     let bytes = log.log.held().to_vec();
-    match daybook::read(&bytes) {
+    match Operator::new().read(&bytes) {
         Ok(_) => accepted(&format!("{}, the held book", log.name), bytes),
         Err(refusal) => Err(refusals::of_held(log, refusal)),
     }
@@ -97,7 +97,7 @@ fn tell(arguments: &Arguments) -> Result<Outcome, Failure> {
         return Err(Failure::misuse(format!("{}: {hint}", log.name)));
     }
     let held = held_book(&log)?;
-    let book = daybook::read(&held.bytes);
+    let book = Operator::new().read(&held.bytes);
     let book = book.map_err(|refusal| refusals::of_held(&log, refusal))?;
     let reductions = log.reductions();
     let reductions = reductions.map_err(|refusal| refusals::of_held(&log, refusal))?;

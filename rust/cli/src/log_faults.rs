@@ -3,7 +3,7 @@
 
 use std::fmt::{self, Display, Formatter};
 
-use daybook::{Book, Trade, LOG_LENGTH, MOST_ENTRIES};
+use daybook::{Book, Operator, Trade, LOG_LENGTH, MOST_ENTRIES};
 
 use crate::words::{date, grouped, wide};
 
@@ -94,7 +94,7 @@ fn other_book(held: &[u8], given: &[u8]) -> Option<LogFault> {
     if held == given {
         return None;
     }
-    let day = |bytes: &[u8]| daybook::read(bytes).ok().map(|book| book.date);
+    let day = |bytes: &[u8]| Operator::new().read(bytes).ok().map(|book| book.date);
     match (day(held), day(given)) {
         (Some(held), Some(given)) if held != given => Some(LogFault::OtherDate { held, given }),
         _ if held.len() != given.len() => Some(LogFault::OtherLength {

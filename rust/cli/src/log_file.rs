@@ -4,7 +4,7 @@
 
 use std::path::{Path, PathBuf};
 
-use daybook::{Log, Refusal, Request, Trade, Withdrawal};
+use daybook::{Log, Operator, Refusal, Trade, Withdrawal};
 
 use crate::files;
 use crate::json::Object;
@@ -38,7 +38,7 @@ impl LogFile {
     /// it is one for the book.
     fn number(&self, book: &[u8]) -> u32 {
         let (mut log, mut book) = (self.log.clone(), book.to_vec());
-        let withdrawn = Request::new().log(&mut log).withdraw(&mut book);
+        let withdrawn = Operator::new().log(&mut log).withdraw(&mut book);
         withdrawn.map_or_else(Refusal::number, |_| 0)
     }
 
@@ -53,7 +53,7 @@ impl LogFile {
         let (mut log, mut book) = (Some(self.log.clone()), self.log.held().to_vec());
         let mut noted = Vec::new();
         loop {
-            match withdrawn(Request::new(), &mut log, &mut book) {
+            match withdrawn(Operator::new(), &mut log, &mut book) {
                 Ok(it) => noted.push(it),
                 Err(Refusal::LogEmpty) => break,
                 Err(refusal) => return Err(refusal),
@@ -87,17 +87,17 @@ pub struct Cut {
 
 /// Withdraws the last reduction from a log and a book, and tells it.
 pub fn withdrawn(
-    request: Request,
+    operator: Operator,
     log: &mut Option<Log>,
     book: &mut [u8],
 ) -> Result<Noted, Refusal> {
     let place = log.as_ref().map_or(0, Log::entries);
-    let before = daybook::read(book)?;
+    let before = Operator::new().read(book)?;
     let Withdrawal { mwh, worth } = match log {
-        Some(log) => request.log(log).withdraw(book)?,
+        Some(log) => operator.log(log).withdraw(book)?,
         None => return Err(Refusal::LogForm),
     };
-    let after = daybook::read(book)?;
+    let after = Operator::new().read(book)?;
     let tariffs = tariffs(&before.prices);
     let trades = before.trades.iter().zip(&after.trades).enumerate();
     let cut = |(place, (before, after)): (usize, (&Trade, &Trade))| {

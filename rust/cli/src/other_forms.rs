@@ -16,7 +16,8 @@ use crate::write::{self, New};
 pub fn text(arguments: &Arguments) -> Result<Outcome, Failure> {
     arguments.expect(1, 1, "text BOOK [--positions] [-o FILE [--force]]")?;
     let source = open(arguments.file(0))?;
-    let book = daybook::read(&source.bytes)
+    let book = daybook::Operator::new()
+        .read(&source.bytes)
         .map_err(|refusal| refusals::of_book(&source.name, refusal, &[]))?;
     let text = text::write(&book, arguments.has("--positions"));
     output(arguments, text.as_bytes())
@@ -35,7 +36,8 @@ pub fn book(arguments: &Arguments) -> Result<Outcome, Failure> {
 pub fn csv(arguments: &Arguments) -> Result<Outcome, Failure> {
     arguments.expect(2, 2, "csv BOOK DIR [--force]")?;
     let source = open(arguments.file(0))?;
-    let book = daybook::read(&source.bytes)
+    let book = daybook::Operator::new()
+        .read(&source.bytes)
         .map_err(|refusal| refusals::of_book(&source.name, refusal, &[]))?;
     let folder = arguments.file(1);
     let over = arguments.has("--force");

@@ -67,6 +67,12 @@ impl Outcome {
         self.line(csv_row(fields));
     }
 
+    /// Adds the names of the columns of an object's row.
+    pub fn heads(&mut self, object: &Object) {
+        let names = object.columns().into_iter().map(|(name, _)| name);
+        self.line(csv_row(names.collect::<Vec<String>>()));
+    }
+
     /// Adds text to standard output as it is.
     pub fn text(&mut self, text: &str) {
         self.out.extend(text.as_bytes());

@@ -5,7 +5,7 @@
 //! from 2026-01-01 flag 30,000 margin 10,000.00 least 100,000.00
 //! ```
 
-use daybook::{Book, Prices, Refusal, Request, User};
+use daybook::{Book, Operator, Prices, Refusal, User};
 
 use crate::arguments::Arguments;
 use crate::draft::{too_long, Mistake, MOST_MISTAKES};
@@ -71,7 +71,7 @@ pub fn refusal(store: &[u8]) -> Option<Refusal> {
     };
     let mut bytes = vec![0; book.length()];
     daybook::write(&book, &mut bytes).ok()?;
-    let refused = Request::new().store(store).show(&bytes, 1).err();
+    let refused = Operator::new().store(store).record(&bytes, 1).err();
     refused.filter(|refusal| *refusal == Refusal::StoreForm)
 }
 

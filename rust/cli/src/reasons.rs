@@ -3,7 +3,7 @@
 
 use std::path::Path;
 
-use daybook::{Book, Level, Refusal, Request, User};
+use daybook::{Book, Level, Operator, Refusal, User};
 
 use crate::cancel::worth;
 use crate::files::{is_standard, quoted, shown};
@@ -36,7 +36,7 @@ pub enum Asked {
 
 /// The reason of a refusal for a user of an accepted book.
 pub fn reason(book: &[u8], store: &Store, id: u32, asked: Asked, refusal: Refusal) -> String {
-    let Ok(fields) = daybook::read(book) else {
+    let Ok(fields) = Operator::new().read(book) else {
         return String::new();
     };
     match (refusal, fields.users.iter().find(|user| user.id == id)) {
@@ -79,7 +79,7 @@ fn of_user(
     asked: Asked,
     refusal: Refusal,
 ) -> String {
-    let level = level(bytes, store.request(), user.id, asked).map_or(0, |Level(cents)| cents);
+    let level = level(bytes, store.operator(), user.id, asked).map_or(0, |Level(cents)| cents);
     let (shown, assigned, blocked) = (euros(level), euros(user.assigned), euros(user.blocked));
     let reason = match refusal {
         Refusal::Shipper => "is a clearing house".to_string(),
@@ -142,10 +142,10 @@ fn place(book: &Book, id: u32) -> String {
     place.map_or_else(String::new, |place| grouped(wide(place) + 1))
 }
 
-fn level(book: &[u8], request: Request, id: u32, asked: Asked) -> Result<Level, Refusal> {
+fn level(book: &[u8], operator: Operator, id: u32, asked: Asked) -> Result<Level, Refusal> {
     match asked {
-        Asked::MorningCall => request.morning_level(book, id),
-        _ => request.afternoon_level(book, id),
+        Asked::MorningCall => operator.morning_level(book, id),
+        _ => operator.afternoon_level(book, id),
     }
 }
 
@@ -186,7 +186,7 @@ pub fn of_log(
             (reason, full(&book_word(source), log))
         }
         _ => {
-            let book = daybook::read(&source.bytes).unwrap_or_default();
+            let book = Operator::new().read(&source.bytes).unwrap_or_default();
             match log_fault(log.log.as_bytes(), &source.bytes, &book) {
                 None => (String::new(), Vec::new()),
                 Some(fault) => {
@@ -211,7 +211,7 @@ fn log_advice(
         return vec![format!("`daybook log {book} -o FILE` starts a log")];
     }
     let anew = format!("`daybook log {book} -o {file} --force` starts a new one");
-    if !fault.is_other_book() || daybook::read(held).is_err() || !log.is_for(held) {
+    if !fault.is_other_book() || Operator::new().read(held).is_err() || !log.is_for(held) {
         return vec![format!("{anew}, which forgets what was noted")];
     }
     let forgets = match log.log.entries() {

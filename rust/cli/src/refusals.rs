@@ -2,7 +2,7 @@
 
 use std::path::Path;
 
-use daybook::Refusal;
+use daybook::{Operator, Refusal};
 
 use crate::convert::Lost;
 use crate::draft::{Mistake, Spot};
@@ -136,6 +136,39 @@ pub fn of_call(
     with_reason(&source.name, refusal, &reason, object)
 }
 
+/// A call that the party may not make. What is told is told by the two ids alone, and
+/// nothing by the book.
+pub fn of_party(name: &str, party: u32, id: u32) -> Failure {
+    let refusal = Refusal::Party;
+    let reason = match party == id {
+        true => format!("{party} is no shipper of the book"),
+        false => format!("a shipper is told of itself alone, and {party} asks for {id}"),
+    };
+    let object = Object::new()
+        .put("number", refusal.number())
+        .put("id", id)
+        .string("question", &question(refusal));
+    with_reason(name, refusal, &reason, object)
+}
+
+/// A refused book without its fields at fault, and a text that cannot be read without
+/// its words: they tell of other users.
+pub fn without_faults(name: &str, failure: Failure) -> Failure {
+    let Failure::Refused(Told { message, object }) = failure else {
+        return failure;
+    };
+    let question = message.lines().next().unwrap_or_default();
+    let (message, head) = match object.split_once(",\"mistakes\":") {
+        Some((head, _)) => (format!("{name}: cannot be read"), Some(head)),
+        None => {
+            let cut = object.split_once(",\"faults\":");
+            (question.to_string(), cut.map(|(head, _)| head))
+        }
+    };
+    let object = head.map_or(object.clone(), |head| format!("{head}}}"));
+    Failure::Refused(Told { message, object })
+}
+
 /// A call refused by a question about its log: the reason, and what helps.
 pub fn of_log(
     source: &Source,
@@ -163,7 +196,7 @@ pub fn of_log(
 /// A log that is none for the book that it holds, or whose held book is refused.
 pub fn of_held(log: &LogFile, refusal: Refusal) -> Failure {
     let (name, held) = (&log.name, log.log.held());
-    let book = daybook::read(held).unwrap_or_default();
+    let book = Operator::new().read(held).unwrap_or_default();
     let fault = log_fault(log.log.as_bytes(), held, &book);
     let (number, reason) = match fault.filter(|it| refusal == Refusal::LogForm || it.is_form()) {
         Some(fault) => (Refusal::LogForm, fault.to_string()),

@@ -1,6 +1,6 @@
 //! `daybook report`: the day of a book as one page that needs nothing beside it.
 
-use daybook::{Book, Request, User};
+use daybook::{Book, Operator, User};
 
 use crate::arguments::Arguments;
 use crate::credit::{by_area, credits, has_credit};
@@ -37,25 +37,25 @@ pub fn report(arguments: &Arguments) -> Result<Outcome, Failure> {
         most: arguments.number("--steps")?.unwrap_or(MOST),
     };
     let refused = |refusal| of_call(&source, &store, None, Asked::Plain, refusal);
-    let mut request = store.request();
-    let book = daybook::read(&source.bytes).map_err(refused)?;
+    let mut operator = store.operator();
+    let book = Operator::new().read(&source.bytes).map_err(refused)?;
     let figures = figures(store.bytes.as_deref(), book.date);
-    let trace = trace(request.without_log(), &figures, &source.bytes, extent).map_err(refused)?;
+    let trace = trace(operator.without_log(), &figures, &source.bytes, extent).map_err(refused)?;
     let mut after = source.bytes.clone();
-    request.run(&mut after).map_err(refused)?;
+    operator.run(&mut after).map_err(refused)?;
     let day = Day {
         name: &source.name,
-        before: states(&request, &source.bytes, &trace.opening),
-        after: states(&request, &after, &trace.closing),
+        before: states(&operator, &source.bytes, &trace.opening),
+        after: states(&operator, &after, &trace.closing),
         trace: &trace,
         figures,
     };
     output(arguments, day.page().as_bytes())
 }
 
-fn states(request: &Request, bytes: &[u8], book: &Book) -> Vec<State> {
+fn states(operator: &Operator, bytes: &[u8], book: &Book) -> Vec<State> {
     let users = book.users.iter();
-    users.map(|user| state(request, bytes, user)).collect()
+    users.map(|user| state(operator, bytes, user)).collect()
 }
 
 /// What the page tells.

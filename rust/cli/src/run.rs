@@ -1,6 +1,6 @@
 //! `daybook run`: the day's reductions, and each user's state after them.
 
-use daybook::{Refusal, Run, User};
+use daybook::{Operator, Refusal, Run, User};
 
 use crate::arguments::Arguments;
 use crate::call::Call;
@@ -19,7 +19,7 @@ pub fn run(arguments: &Arguments) -> Result<Outcome, Failure> {
     let call = Call::new(arguments)?;
     let mut changed = call.unchanged();
     let mut outcome = Outcome::default();
-    let run = call.request(&mut changed.log).run(&mut changed.book);
+    let run = call.operator(&mut changed.log).run(&mut changed.book);
     let done = match run {
         Ok(done) => done,
         Err(refusal) => {
@@ -60,10 +60,12 @@ fn tell_full(outcome: &mut Outcome, call: &Call) {
 
 /// The state of each user of a book.
 fn tell_states(outcome: &mut Outcome, call: &Call, book: &[u8]) {
-    let users = daybook::read(book).map_or_else(|_| Vec::new(), |book| book.users);
+    let users = Operator::new()
+        .read(book)
+        .map_or_else(|_| Vec::new(), |book| book.users);
     let states = users
         .iter()
-        .map(|user| state(&call.store.request(), book, user));
+        .map(|user| state(&call.store.operator(), book, user));
     let states: Vec<(User, State)> = users.iter().copied().zip(states).collect();
     match call.form {
         Form::Words => outcome.text(&text::aligned(

@@ -2,7 +2,7 @@
 
 use std::path::Path;
 
-use daybook::{Refusal, Request};
+use daybook::{Operator, Refusal};
 
 use crate::draft::{Mistake, Spot};
 use crate::faults::{faults, Fault};
@@ -49,7 +49,7 @@ pub fn verdict(name: &str, bytes: Vec<u8>) -> Verdict {
             },
         },
     };
-    match daybook::read(&bytes) {
+    match Operator::new().read(&bytes) {
         Ok(_) => Verdict::Accepted(Source {
             name: name.to_string(),
             bytes,
@@ -91,11 +91,11 @@ impl Store {
         Ok(Store { bytes })
     }
 
-    /// The request with this store, or without one.
-    pub fn request(&self) -> Request<'_> {
+    /// The operator with this store, or without one.
+    pub fn operator(&self) -> Operator<'_> {
         match &self.bytes {
-            Some(bytes) => Request::new().store(bytes),
-            None => Request::new(),
+            Some(bytes) => Operator::new().store(bytes),
+            None => Operator::new(),
         }
     }
 }

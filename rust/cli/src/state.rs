@@ -1,7 +1,7 @@
 //! The state of a user, as the printed day has it, told by the engine's calls on
 //! a copy of the book.
 
-use daybook::{Level, Refusal, Request, User};
+use daybook::{Level, Operator, Refusal, User};
 
 /// A user's state and afternoon level; a clearing house has no level.
 #[derive(Clone, Copy, Debug, PartialEq, Eq)]
@@ -14,15 +14,15 @@ pub struct State {
 /// The state of a user of an accepted book. A reduction asks for a shipper that
 /// is short of cover, then for a sale; an afternoon call for one that is called
 /// in and covered.
-pub fn state(request: &Request, book: &[u8], user: &User) -> State {
-    let level = request.afternoon_level(book, user.id);
+pub fn state(operator: &Operator, book: &[u8], user: &User) -> State {
+    let level = operator.afternoon_level(book, user.id);
     let level = level.ok().map(|Level(cents)| cents);
     let mut copy = book.to_vec();
-    let mut request = request.without_log();
-    let word = match request.reduction(&mut copy, user.id) {
+    let mut operator = operator.without_log();
+    let word = match operator.reduction(&mut copy, user.id) {
         Err(Refusal::Shipper) => "clear",
         Ok(_) | Err(Refusal::EligibleTrade) => "short",
-        Err(_) => match request.afternoon_call(&mut copy, user.id) {
+        Err(_) => match operator.afternoon_call(&mut copy, user.id) {
             Ok(_) => "call",
             Err(_) => "quiet",
         },

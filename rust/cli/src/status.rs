@@ -1,7 +1,7 @@
 //! `daybook status`: who is short of cover, who is to be called, and what has to be
 //! deposited so that no trade is cut; with `--why`, where a level comes from.
 
-use daybook::{Book, Run};
+use daybook::{Book, Operator, Run};
 
 use crate::arguments::Arguments;
 use crate::day::{deposits, standings, Confirmed, Deposits, Standing};
@@ -43,17 +43,17 @@ pub fn status(arguments: &Arguments) -> Result<Outcome, Failure> {
     let asked = asked.transpose()?;
     let source = open(arguments.file(0))?;
     let store = Store::open(arguments.path("--store").as_deref())?;
-    let mut request = store.request();
+    let mut operator = store.operator();
     let refused = |refusal| of_call(&source, &store, asked, Asked::Plain, refusal);
     let mut after = source.bytes.clone();
-    let run = request.run(&mut after).map_err(refused)?;
+    let run = operator.run(&mut after).map_err(refused)?;
     let is_after = arguments.has("--after");
     let bytes = if is_after { &after } else { &source.bytes };
-    let book = daybook::read(bytes).map_err(refused)?;
+    let book = Operator::new().read(bytes).map_err(refused)?;
     let mut outcome = Outcome::default();
     if let Some(id) = asked {
         let figures = figures(store.bytes.as_deref(), book.date);
-        match why(&request, &figures, bytes, id).map_err(refused)? {
+        match why(&operator, &figures, bytes, id).map_err(refused)? {
             Some(why) => outcome.text(&why_words::told(form, &source.name, &book, &figures, &why)),
             None => {
                 let reason = "the parts of its level are not known for this version";
@@ -62,11 +62,11 @@ pub fn status(arguments: &Arguments) -> Result<Outcome, Failure> {
         }
         return Ok(outcome);
     }
-    let standings = standings(&request, bytes, &book);
+    let standings = standings(&operator, bytes, &book);
     let day = Day {
         name: &source.name,
         book: &book,
-        deposits: deposits(&request, &book, &standings),
+        deposits: deposits(&operator, &book, &standings),
         standings,
         run,
         is_after,

@@ -146,8 +146,8 @@ fn row(path: &Path, store: &Store) -> Result<Row, Failure> {
 }
 
 fn day(bytes: &[u8], store: &Store) -> Found {
-    let found = daybook::read(bytes).and_then(|book| {
-        let totals = totals(&store.request(), bytes, &book)?;
+    let found = daybook::Operator::new().read(bytes).and_then(|book| {
+        let totals = totals(&store.operator(), bytes, &book)?;
         let (users, trades) = (book.users.len(), book.trades.len());
         Ok(Found::Day(book.date, users, trades, totals))
     });

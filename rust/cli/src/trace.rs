@@ -4,7 +4,7 @@
 //! book after it. Beside them stand the worth of each tier, what it is asked for,
 //! and each trade's share with its remainder; the tests hold these to the cuts.
 
-use daybook::{Book, Level, Prices, Reduction, Refusal, Request, Run, Trade, User};
+use daybook::{Book, Level, Operator, Prices, Reduction, Refusal, Run, Trade, User};
 
 use crate::called_in::{called_in, CalledIn};
 use crate::chapter::{Chapter, Span};
@@ -101,15 +101,15 @@ pub struct Extent {
 
 /// The run of an accepted book.
 pub fn trace(
-    request: Request,
+    operator: Operator,
     figures: &Figures,
     bytes: &[u8],
     extent: Extent,
 ) -> Result<Trace, Refusal> {
     let mut after = bytes.to_vec();
-    let run = request.without_log().run(&mut after)?;
-    let opening = daybook::read(bytes)?;
-    let mut walk = Walk::new(request.without_log(), bytes, &opening);
+    let run = operator.without_log().run(&mut after)?;
+    let opening = Operator::new().read(bytes)?;
+    let mut walk = Walk::new(operator.without_log(), bytes, &opening);
     let mut counts: Vec<(u32, u64)> = opening.users.iter().map(|user| (user.id, 0)).collect();
     let mut steps: Ends<Raw> = Ends::new(extent.first, extent.last);
     let mut chapters: Ends<Span> = Ends::new(extent.chapters.0, extent.chapters.1);
@@ -155,10 +155,10 @@ pub fn trace(
         last.clear();
         closed.clear();
     }
-    let step = |raw: &Raw| raw.step(&request, figures);
+    let step = |raw: &Raw| raw.step(&operator, figures);
     let chapter = |span: &Span| span.chapter();
     Ok(Trace {
-        closing: daybook::read(&after)?,
+        closing: Operator::new().read(&after)?,
         opening,
         run,
         first: first.iter().map(step).collect::<Result<_, _>>()?,
@@ -169,7 +169,7 @@ pub fn trace(
         ),
         counts,
         taken,
-        reached: daybook::read(&walk.bytes)?,
+        reached: Operator::new().read(&walk.bytes)?,
     })
 }
 
@@ -180,7 +180,7 @@ pub fn trace(
 /// changes what they say of the one who bears the sellers' risk and of those who bear
 /// the buyers', and of nobody else, so that only these are asked again.
 pub struct Walk<'a> {
-    request: Request<'a>,
+    operator: Operator<'a>,
     pub bytes: Vec<u8>,
     ids: Vec<u32>,
     /// For each user the places of those who bear the risk of what is bought from it
@@ -191,7 +191,7 @@ pub struct Walk<'a> {
 }
 
 impl<'a> Walk<'a> {
-    pub fn new(request: Request<'a>, bytes: &[u8], book: &Book) -> Walk<'a> {
+    pub fn new(operator: Operator<'a>, bytes: &[u8], book: &Book) -> Walk<'a> {
         let ids: Vec<u32> = book.users.iter().map(|user| user.id).collect();
         let mut buyers = vec![Vec::new(); ids.len()];
         for trade in book.trades.iter().filter(|trade| trade.can_be_cut()) {
@@ -204,7 +204,7 @@ impl<'a> Walk<'a> {
             }
         }
         Walk {
-            request,
+            operator,
             bytes: bytes.to_vec(),
             idle: vec![false; ids.len()],
             ids,
@@ -219,7 +219,7 @@ impl<'a> Walk<'a> {
                 continue;
             }
             let id = self.ids[place];
-            match self.request.reduction(&mut self.bytes, id) {
+            match self.operator.reduction(&mut self.bytes, id) {
                 Err(_) => self.idle[place] = true,
                 Ok(answer) => {
                     for buyer in &self.buyers[place] {
@@ -244,16 +244,19 @@ struct Raw {
 }
 
 impl Raw {
-    fn step(&self, request: &Request, figures: &Figures) -> Result<Step, Refusal> {
-        let (before, after) = (daybook::read(&self.before)?, daybook::read(&self.after)?);
-        let user = request.show(&self.before, self.id)?;
-        let Level(level) = request.afternoon_level(&self.before, self.id)?;
+    fn step(&self, operator: &Operator, figures: &Figures) -> Result<Step, Refusal> {
+        let (before, after) = (
+            Operator::new().read(&self.before)?,
+            Operator::new().read(&self.after)?,
+        );
+        let user = operator.record(&self.before, self.id)?;
+        let Level(level) = operator.afternoon_level(&self.before, self.id)?;
         Ok(Step {
             number: self.number,
             user,
             level,
             shares: shares(&before, &user),
-            credited: credited(request, &before, &user)?,
+            credited: credited(operator, &before, &user)?,
             called_in: called_in(figures, &before, &user),
             answer: self.answer,
             tiers: tiers(&before, &after, &user, self.answer.target),

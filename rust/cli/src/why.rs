@@ -2,7 +2,7 @@
 //! The parts are computed here and held to the engine: they are told only where
 //! they give the engine's level and state.
 
-use daybook::{Book, Level, Refusal, Request, Trade, User};
+use daybook::{Book, Level, Operator, Refusal, Trade, User};
 
 use crate::called_in::{called_in, CalledIn};
 use crate::credit::credits;
@@ -54,14 +54,14 @@ pub struct Why {
 /// How the level of a shipper comes about; none where the parts do not give the
 /// engine's level, in a version with other rules.
 pub fn why(
-    request: &Request,
+    operator: &Operator,
     figures: &Figures,
     bytes: &[u8],
     id: u32,
 ) -> Result<Option<Why>, Refusal> {
-    let book = daybook::read(bytes)?;
-    let user = request.show(bytes, id)?;
-    let Level(level) = request.afternoon_level(bytes, id)?;
+    let book = Operator::new().read(bytes)?;
+    let user = operator.record(bytes, id)?;
+    let Level(level) = operator.afternoon_level(bytes, id)?;
     let parts = parts(&book, &user);
     let sum = i128::from(user.charges) + parts.iter().map(Part::cents).sum::<i128>();
     if sum.max(i128::from(figures.least_level)) != i128::from(level) {
@@ -76,7 +76,7 @@ pub fn why(
         sum,
     };
     let found = why.state(figures);
-    let engine = crate::state::state(request, bytes, &user).word;
+    let engine = crate::state::state(operator, bytes, &user).word;
     Ok((found == engine).then_some(why))
 }
 

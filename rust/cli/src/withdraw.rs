@@ -50,7 +50,7 @@ pub fn withdraw(arguments: &Arguments) -> Result<Outcome, Failure> {
 fn make(call: &Call, changed: &mut Changed, all: bool) -> Result<Vec<Noted>, Refusal> {
     let mut made = Vec::new();
     loop {
-        match withdrawn(call.store.request(), &mut changed.log, &mut changed.book) {
+        match withdrawn(call.store.operator(), &mut changed.log, &mut changed.book) {
             Ok(it) => made.push(it),
             Err(Refusal::LogEmpty) if !made.is_empty() => return Ok(made),
             Err(refusal) => return Err(refusal),

@@ -9,6 +9,8 @@ use std::path::Path;
 use books::Generator;
 use cli::commands::{perform, COMMANDS};
 use cli::outcome::Outcome;
+use reference::party::{Act, Given};
+use reference::questions::opening_questions;
 
 /// How many books are tried, and how many with logs.
 const BOOKS: usize = 400;
@@ -41,6 +43,13 @@ fn lines(id: u32, area: u32, amount: i64) -> (Vec<String>, Vec<String>) {
     let of_user = [
         format!("show BOOK {id}"),
         format!("level BOOK {id}"),
+        format!("flag BOOK {id}"),
+        format!("trades BOOK {id}"),
+        format!("show BOOK --as {id}"),
+        format!("level BOOK --as {id}"),
+        format!("flag BOOK --as {id}"),
+        format!("trades BOOK --as {id}"),
+        format!("trades BOOK {} --as {id}", id ^ 1),
         format!("status BOOK --why {id}"),
         format!("warn BOOK {id}"),
         format!("call BOOK {id} --morning"),
@@ -191,7 +200,7 @@ fn is_no_log(bytes: &[u8]) -> bool {
 
 /// The number of the questions before the eighth.
 fn opening_number(book: &[u8], store: Option<&[u8]>) -> u32 {
-    let opened = reference::questions::opening_questions(book, store);
+    let opened = opening_questions(book, Given::by_operator(store), Act::Operators);
     opened.map_or_else(|number| number, |_| 0)
 }
 

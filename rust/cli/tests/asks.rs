@@ -10,7 +10,7 @@ use std::path::{Path, PathBuf};
 use books::{Call, Generator, Kind};
 use cli::commands::perform;
 use cli::outcome::Outcome;
-use daybook::{Line, Refusal, Request};
+use daybook::{Line, Operator, Refusal};
 
 fn folder(name: &str) -> PathBuf {
     let folder = Path::new(env!("CARGO_TARGET_TMPDIR")).join(name);
@@ -74,7 +74,9 @@ fn lists_are_answered_line_by_line() {
         let (book, file, kept) = (book.display(), file.display(), after.display());
         let outcome = done(&format!("list {book} {file} -o {kept} --json"));
         let mut engine = bytes.clone();
-        let answers = daybook::list(&mut engine, &lines).expect("an accepted list");
+        let answers = Operator::new()
+            .list(&mut engine, &lines)
+            .expect("an accepted list");
         let answers = answers
             .into_iter()
             .map(|it| it.map_or_else(Refusal::number, |()| 0));
@@ -148,7 +150,7 @@ fn cancellations_reach_the_target() {
         fs::write(&book, &bytes).expect("a book");
         let words = format!("cancel {} {id} --tries {tries} --json", book.display());
         let outcome = done(&words);
-        match Request::new().cancellation(&bytes, id, tries) {
+        match Operator::new().cancellation(&bytes, id, tries) {
             Err(refusal) => {
                 let told = String::from_utf8(outcome.out.clone()).expect("a text");
                 assert_eq!(numbers(&outcome, "number"), [u64::from(refusal.number())]);
@@ -156,7 +158,8 @@ fn cancellations_reach_the_target() {
                 refusals[usize::try_from(refusal.number()).expect("a number")] += 1;
             }
             Ok(answer) => {
-                let target = daybook::reduction(&mut bytes.clone(), id)
+                let target = Operator::new()
+                    .reduction(&mut bytes.clone(), id)
                     .expect("a reduction")
                     .target;
                 let worth = numbers(&outcome, "worth_cents");

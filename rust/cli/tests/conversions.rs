@@ -8,7 +8,7 @@ use std::fs;
 
 use books::{Generator, Kind};
 use cli::convert::lost;
-use daybook::{Refusal, Version};
+use daybook::{Operator, Refusal, Version};
 use shell::Folder;
 
 /// A folder with a book of each version as text: `1.txt`, `2.txt` and `3.txt`.
@@ -151,10 +151,10 @@ fn lost_fields_are_the_engines() {
     for kind in Kind::ACCEPTED {
         for _ in 0..40 {
             let bytes = generator.book(kind);
-            let book = daybook::read(&bytes).expect("a book");
+            let book = Operator::new().read(&bytes).expect("a book");
             for version in Version::ALL {
                 let found = lost(&book, version.number());
-                match daybook::convert(&bytes, version) {
+                match Operator::new().convert(&bytes, version) {
                     Ok(_) => assert_eq!(found, []),
                     Err(refusal) => {
                         assert_eq!(refusal, Refusal::InformationLost);
@@ -165,7 +165,12 @@ fn lost_fields_are_the_engines() {
             }
             let mut part = [0; daybook::IMAGE_LENGTH];
             for version in [0, 4, 65_537] {
-                let number = daybook::archive::convert(&bytes, version, &mut part);
+                let number = daybook::archive::convert(
+                    &bytes,
+                    daybook::archive::OPERATOR,
+                    version,
+                    &mut part,
+                );
                 assert_eq!(number, Refusal::TargetVersion.number());
             }
         }

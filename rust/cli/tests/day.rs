@@ -15,7 +15,7 @@ use cli::source::Store;
 use cli::store::figures;
 use cli::table::{rows, Found};
 use cli::why::{why, Part};
-use daybook::{Book, Refusal, Request};
+use daybook::{Book, Operator, Refusal};
 
 const KINDS: [Kind; 4] = [Kind::Small, Kind::Chain, Kind::Midday, Kind::Usual];
 
@@ -54,11 +54,11 @@ fn out(outcome: &Outcome) -> String {
 fn deposits_stop_every_cut_and_nothing_less_does() {
     let (mut cut, mut beyond) = (0, 0);
     for bytes in books(71, 150) {
-        let book = daybook::read(&bytes).expect("a book");
-        let mut request = Request::new();
-        let day = standings(&request, &bytes, &book);
-        let found = deposits(&request, &book, &day);
-        let run = request.run(&mut bytes.clone()).expect("a run");
+        let book = Operator::new().read(&bytes).expect("a book");
+        let mut operator = Operator::new();
+        let day = standings(&operator, &bytes, &book);
+        let found = deposits(&operator, &book, &day);
+        let run = operator.run(&mut bytes.clone()).expect("a run");
         assert_eq!(found.by_user.is_empty(), run.reductions == 0);
         match found.confirmed {
             Confirmed::Yes => cut += usize::from(run.reductions > 0),
@@ -77,7 +77,7 @@ fn deposits_stop_every_cut_and_nothing_less_does() {
                 user.assigned += deposit.map_or(0, |(_, cents)| cents - less);
             }
             let mut bytes = written(&other).expect("a book");
-            assert!(request.run(&mut bytes).expect("a run").reductions > 0);
+            assert!(operator.run(&mut bytes).expect("a run").reductions > 0);
         }
     }
     println!("books that are cut {cut}, beyond a book {beyond}");
@@ -92,14 +92,14 @@ fn levels_in_their_parts() {
     let (mut told, mut credited) = (0, 0);
     for (place, mut bytes) in books(72, 60).into_iter().enumerate() {
         if place % 2 == 1 {
-            daybook::run(&mut bytes).expect("a run");
+            Operator::new().run(&mut bytes).expect("a run");
         }
-        let book = daybook::read(&bytes).expect("a book");
+        let book = Operator::new().read(&bytes).expect("a book");
         for store in [None, Some(longest.as_slice())] {
-            let request = store.map_or(Request::new(), |it| Request::new().store(it));
+            let operator = store.map_or(Operator::new(), |it| Operator::new().store(it));
             let figures = figures(store, book.date);
             for user in &book.users {
-                match why(&request, &figures, &bytes, user.id) {
+                match why(&operator, &figures, &bytes, user.id) {
                     Ok(why) => {
                         let why = why.expect("the engine's level and state");
                         let parts: i128 = why.parts.iter().map(Part::cents).sum();
@@ -108,7 +108,7 @@ fn levels_in_their_parts() {
                         credited += usize::from(why.parts.iter().any(|it| it.name == "credit"));
                     }
                     Err(refusal) => {
-                        let plain = request.afternoon_level(&bytes, user.id);
+                        let plain = operator.afternoon_level(&bytes, user.id);
                         assert_eq!(plain.err(), Some(refusal));
                     }
                 }
@@ -131,10 +131,10 @@ fn calls_that_are_due() {
             let when = if morning { "--morning" } else { "--afternoon" };
             let mut wanted = bytes.clone();
             let mut count = 0;
-            for user in daybook::read(&bytes).expect("a book").users {
+            for user in Operator::new().read(&bytes).expect("a book").users {
                 let called = match morning {
-                    true => daybook::morning_call(&mut wanted, user.id),
-                    false => daybook::afternoon_call(&mut wanted, user.id),
+                    true => Operator::new().morning_call(&mut wanted, user.id),
+                    false => Operator::new().afternoon_call(&mut wanted, user.id),
                 };
                 count += usize::from(called.is_ok());
             }
@@ -168,8 +168,8 @@ fn many_books() {
         .map(|place| folder.join(format!("{place:04}.gdb")))
         .collect();
     for (row, bytes) in rows(&paths, &Store::default()).iter().zip(&books) {
-        let book = daybook::read(bytes).expect("a book");
-        let totals = totals(&Request::new(), bytes, &book).expect("totals");
+        let book = Operator::new().read(bytes).expect("a book");
+        let totals = totals(&Operator::new(), bytes, &book).expect("totals");
         let (users, trades) = (book.users.len(), book.trades.len());
         let found = row.as_ref().map(|row| row.found.clone());
         let day = Found::Day(book.date, users, trades, totals);
@@ -204,7 +204,7 @@ fn two_books() {
         ] {
             assert_eq!(out(&done(run)), "no difference\n");
         }
-        let mut book = daybook::read(&bytes).expect("a book");
+        let mut book = Operator::new().read(&bytes).expect("a book");
         book.users[0].assigned += 100;
         let Ok(changed) = written(&book) else {
             continue;
@@ -254,7 +254,7 @@ fn changes() {
         let one = folder.join("one");
         fs::write(&one, &bytes).expect("a file");
         let one = one.display().to_string();
-        let mut book = daybook::read(&bytes).expect("a book");
+        let mut book = Operator::new().read(&bytes).expect("a book");
         let id = book.users[0].id;
         let nothing = format!("user {id} assigned +0.00 physical PVB +0");
         assert_eq!(done(&["change", &one, &nothing, "-o", "-"]).out, bytes);

@@ -6,13 +6,15 @@
 use books::{Damage, Generator, Kind};
 use cli::faults::faults;
 use cli::fields::{Field, Place};
-use daybook::{header_length, user_length};
+use daybook::{header_length, user_length, Operator};
 
 const MANAGERS: [Field; 3] = [Field::Manager(0), Field::Manager(1), Field::Manager(2)];
 
 /// The engine's number.
 fn number(book: &[u8]) -> u32 {
-    daybook::read(book).map_or_else(|refusal| refusal.number(), |_| 0)
+    Operator::new()
+        .read(book)
+        .map_or_else(|refusal| refusal.number(), |_| 0)
 }
 
 /// Asks the agreement of one book.

@@ -10,7 +10,7 @@ use books::{Generator, Kind};
 use cli::columns::{names, Column};
 use cli::fields::Field;
 use cli::form_bytes::in_records;
-use daybook::{Book, Refusal};
+use daybook::{Book, Operator, Refusal};
 use shell::Folder;
 
 /// A folder with a book of each version: `one.gdb`, `two.gdb` and `three.gdb`.
@@ -44,7 +44,7 @@ fn a_form_and_its_book() {
             folder.bytes(&format!("{book}.gdf")),
             folder.bytes(&format!("{book}.gdb")),
         );
-        assert_eq!(Ok(&form), daybook::field_wise(&bytes).as_ref());
+        assert_eq!(Ok(&form), Operator::new().field_wise(&bytes).as_ref());
         assert!(form.starts_with(b"GDF") && form.len() == bytes.len());
     }
 }
@@ -77,7 +77,9 @@ fn nothing_is_written_over_unasked() {
 #[test]
 fn refused_forms() {
     let folder = folder("fields-refused");
-    let form = daybook::field_wise(&folder.bytes("one.gdb")).expect("a form");
+    let form = Operator::new()
+        .field_wise(&folder.bytes("one.gdb"))
+        .expect("a form");
     let question = Refusal::from_number(29).expect("a question").question();
     // Blocked is the last field of users: the last of them is that of 203.
     let blocked = 32 + 3 * 56 - 1;
@@ -221,7 +223,9 @@ fn one_field_of_all_records() {
 #[test]
 fn every_name_is_a_field() {
     let mut generator = Generator::new(71);
-    let book = daybook::read(&generator.book(Kind::Group)).expect("a book");
+    let book = Operator::new()
+        .read(&generator.book(Kind::Group))
+        .expect("a book");
     let listed = names().replace(" (managers in version 3); of trades ", ", ");
     let listed = listed
         .strip_prefix("of users ")
@@ -250,7 +254,7 @@ fn records_are_the_engines() {
     for kind in Kind::ACCEPTED {
         for round in 0..20 {
             let book = generator.book(kind);
-            let form = daybook::field_wise(&book).expect("a form");
+            let form = Operator::new().field_wise(&book).expect("a form");
             assert_eq!(daybook::record_wise(&form).as_ref(), Ok(&book));
             assert_eq!(in_records(&form), book);
             for at in (round..form.len()).step_by(97) {
@@ -261,7 +265,7 @@ fn records_are_the_engines() {
                     Ok(book) => assert_eq!(put_together, book),
                     Err(refusal) => {
                         assert_eq!(refusal.number(), 29);
-                        assert!(at < 3 || daybook::read(&put_together).is_err());
+                        assert!(at < 3 || Operator::new().read(&put_together).is_err());
                         refused += 1;
                     }
                 }

@@ -28,14 +28,19 @@ fn from_text(text: &str) -> Vec<u8> {
 fn book_to_text_to_book_and_back() {
     let mut versions = BTreeSet::new();
     for bytes in accepted(31, 40) {
-        let book = daybook::read(&bytes).expect("an accepted book");
+        let book = daybook::Operator::new()
+            .read(&bytes)
+            .expect("an accepted book");
         versions.insert(book.version);
         for positions in [false, true] {
             let written = text::write(&book, positions);
             assert!(text::is_text(written.as_bytes()));
             let read = from_text(&written);
             assert_eq!(read, bytes, "{written}");
-            let again = text::write(&daybook::read(&read).expect("a book"), positions);
+            let again = text::write(
+                &daybook::Operator::new().read(&read).expect("a book"),
+                positions,
+            );
             assert_eq!(again, written);
         }
     }
@@ -45,7 +50,9 @@ fn book_to_text_to_book_and_back() {
 #[test]
 fn book_to_csv_to_book_and_back() {
     for bytes in accepted(32, 40) {
-        let book = daybook::read(&bytes).expect("an accepted book");
+        let book = daybook::Operator::new()
+            .read(&bytes)
+            .expect("an accepted book");
         let files = csv::write(&book);
         for changed in [files.clone(), files.clone().map(|file| spanish(&file))] {
             let [header, users, trades] = changed.each_ref().map(String::as_bytes);
@@ -74,7 +81,7 @@ fn comments_blanks_and_fields_left_out() {
          user 7 Shipper\n\tuser 1,008 clearing-house position pvb 500 charges -0.01\n\
          trade 7 to 1008 pvb Platform d 500\ndate 2024-02-29",
     );
-    let book = daybook::read(&written).expect("a book");
+    let book = daybook::Operator::new().read(&written).expect("a book");
     assert_eq!(book.date, 20_240_229);
     assert_eq!(book.prices.pvb_tariff, 2_000);
     assert_eq!(book.users[0].position, [-500, 0, 0]);
@@ -265,7 +272,10 @@ fn the_samples() {
             let words = lines.flat_map(str::split_whitespace).map(str::to_string);
             words.collect()
         };
-        let written = text::write(&daybook::read(&made).expect("a book"), false);
+        let written = text::write(
+            &daybook::Operator::new().read(&made).expect("a book"),
+            false,
+        );
         assert_eq!(words(&written), words(&sample), "{name}");
     }
 }

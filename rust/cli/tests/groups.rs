@@ -16,7 +16,7 @@ use cli::store::{figures, TODAY};
 use cli::trace::{trace, Extent, Walk};
 use cli::why::{why, Part};
 use cli::{csv, text};
-use daybook::{Book, Level, Request};
+use daybook::{Book, Level, Operator};
 
 const KINDS: [Kind; 6] = [
     Kind::Small,
@@ -32,7 +32,7 @@ fn grouped(generator: &mut Generator) -> (Vec<u8>, Book) {
     loop {
         let kind = generator.random().pick(&KINDS);
         let bytes = generator.book(kind);
-        let book = daybook::read(&bytes).expect("a book");
+        let book = Operator::new().read(&bytes).expect("a book");
         if has_groups(&book) {
             return (bytes, book);
         }
@@ -82,21 +82,21 @@ fn levels_in_their_parts() {
     for round in 0..500 {
         let (mut bytes, _) = grouped(&mut generator);
         if round % 2 == 1 {
-            daybook::run(&mut bytes).expect("a run");
+            Operator::new().run(&mut bytes).expect("a run");
         }
-        let book = daybook::read(&bytes).expect("a book");
+        let book = Operator::new().read(&bytes).expect("a book");
         let store = (round % 3 == 0).then_some(longest.as_slice());
-        let request = store.map_or(Request::new(), |it| Request::new().store(it));
+        let operator = store.map_or(Operator::new(), |it| Operator::new().store(it));
         let figures = figures(store, book.date);
         for user in &book.users {
-            let Ok(Level(level)) = request.afternoon_level(&bytes, user.id) else {
+            let Ok(Level(level)) = operator.afternoon_level(&bytes, user.id) else {
                 continue;
             };
-            let why = why(&request, &figures, &bytes, user.id).expect("a level");
+            let why = why(&operator, &figures, &bytes, user.id).expect("a level");
             let why = why.expect("the engine's level and state");
             let parts: i128 = why.parts.iter().map(Part::cents).sum();
             assert_eq!(why.sum, parts + i128::from(user.charges));
-            let credit = credited(&request, &book, user).expect("a level");
+            let credit = credited(&operator, &book, user).expect("a level");
             let credit = credit.expect("version 3 has credit");
             let cents: u64 = by_area(&credit.credits).into_iter().sum();
             let wanted = credit.without.saturating_sub(cents);
@@ -127,14 +127,14 @@ fn runs_taken_apart() {
     for _ in 0..600 {
         let (bytes, book) = grouped(&mut generator);
         let mut after = bytes.clone();
-        let run = daybook::run(&mut after).expect("a run");
+        let run = Operator::new().run(&mut after).expect("a run");
         if run.reductions > all.most {
             continue;
         }
-        let mut walk = Walk::new(Request::new(), &bytes, &book);
+        let mut walk = Walk::new(Operator::new(), &bytes, &book);
         while walk.advance().is_some() {}
         assert_eq!(walk.bytes, after);
-        let trace = trace(Request::new(), &TODAY, &bytes, all).expect("a run");
+        let trace = trace(Operator::new(), &TODAY, &bytes, all).expect("a run");
         assert_eq!((trace.run, trace.taken), (run, run.reductions));
         for step in &trace.first {
             assert!(step.called_in.is_flagged() || step.called_in.is_party());
@@ -182,10 +182,12 @@ fn calls_on_books_with_groups() {
                 assert!(!told.contains("\"reason\":\"\""), "{told}");
                 refused += usize::from(outcome.status.code() == 1);
             }
-            let Ok(found) = Request::new().cancellation(&bytes, user.id, 65_535) else {
+            let Ok(found) = Operator::new().cancellation(&bytes, user.id, 65_535) else {
                 continue;
             };
-            let target = daybook::reduction(&mut bytes.clone(), user.id).expect("a reduction");
+            let target = Operator::new()
+                .reduction(&mut bytes.clone(), user.id)
+                .expect("a reduction");
             let places: Vec<usize> = found.trades().collect();
             let worth = cli::cancel::worth(&book, &places);
             assert_eq!(worth - found.excess, target.target);

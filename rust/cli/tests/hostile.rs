@@ -190,7 +190,9 @@ fn is_within(spot: &Spot, lines: usize) {
 
 /// A book is the same after text, or after CSV.
 fn is_the_same(bytes: &[u8]) {
-    let fields = daybook::read(bytes).expect("an accepted book");
+    let fields = daybook::Operator::new()
+        .read(bytes)
+        .expect("an accepted book");
     let again = text::read(text::write(&fields, true).as_bytes()).expect("a text");
     assert_eq!(again.into_bytes().as_deref(), Ok(bytes));
     let files = csv::write(&fields);
@@ -209,7 +211,9 @@ fn texts() {
     let mut written = Vec::new();
     for input in 0..inputs {
         if input % 16 == 0 {
-            let fields = daybook::read(&book(&mut generator)).expect("a book");
+            let fields = daybook::Operator::new()
+                .read(&book(&mut generator))
+                .expect("a book");
             written = text::write(&fields, generator.random().one_in(2)).into_bytes();
         }
         let random = generator.random();
@@ -259,7 +263,9 @@ fn tables() {
     let mut written: [Vec<u8>; 3] = Default::default();
     for input in 0..inputs {
         if input % 16 == 0 {
-            let fields = daybook::read(&book(&mut generator)).expect("a book");
+            let fields = daybook::Operator::new()
+                .read(&book(&mut generator))
+                .expect("a book");
             written = csv::write(&fields).map(String::into_bytes);
             if generator.random().one_in(3) {
                 written = written.map(|file| file.iter().map(|byte| semicolon(*byte)).collect());

@@ -9,7 +9,7 @@ use std::process::{Command, Stdio};
 use std::thread;
 use std::time::Duration;
 
-use daybook::Log;
+use daybook::{Log, Operator};
 
 mod shell;
 
@@ -244,7 +244,7 @@ fn at_once() {
     assert_eq!((out.lines().count(), messages.as_str()), (80, ""));
     let (book, log) = pair(&folder);
     assert_eq!(Log::from_bytes(log).held(), book);
-    let book = daybook::read(&book).expect("a book");
+    let book = Operator::new().read(&book).expect("a book");
     assert_eq!(book.users[0].physical[0], -10_000 + 40);
     assert_eq!(folder.names(), ["chain.gdb", "chain.log", "chain.txt"]);
 }

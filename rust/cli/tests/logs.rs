@@ -12,7 +12,7 @@ use cli::commands::perform;
 use cli::log_faults::log_fault;
 use cli::log_file::LogFile;
 use cli::outcome::{Outcome, Status};
-use daybook::{Log, Request, LOG_LENGTH, MOST_ENTRIES};
+use daybook::{Log, Operator, LOG_LENGTH, MOST_ENTRIES};
 
 fn folder(name: &str) -> PathBuf {
     let folder = Path::new(env!("CARGO_TARGET_TMPDIR")).join(format!("logs-{name}"));
@@ -91,7 +91,7 @@ fn a_run_and_all_of_it_withdrawn() {
         let started = pair.log();
         assert_eq!(started, Log::start(&before).expect("a log"));
         let (mut book, mut log) = (before.clone(), started.clone());
-        let run = Request::new().log(&mut log).run(&mut book).expect("a run");
+        let run = Operator::new().log(&mut log).run(&mut book).expect("a run");
         let told = pair.done("run BOOK --log LOG --in-place --json");
         let full = if run.log_full {
             Status::Stopped
@@ -150,7 +150,7 @@ fn calls_with_a_log() {
         pair.done("log BOOK -o LOG --force");
         pair.done("run BOOK --log LOG --in-place");
         let (book, log) = (pair.book(), pair.log());
-        let id = daybook::read(&book).expect("a book").users[0].id;
+        let id = Operator::new().read(&book).expect("a book").users[0].id;
         let row = format!("id,area,MWh\n{id},0,{}\n", given.amount.clamp(-9, 9));
         fs::write(&list, row).expect("a list");
         let (id, area, amount) = (given.id, given.area, given.amount);
@@ -260,10 +260,10 @@ fn why_a_log_is_refused() {
     for round in 0..200 {
         let mut book = generator.book(KINDS[round % KINDS.len()]);
         let mut log = Log::start(&book).expect("a log");
-        Request::new().log(&mut log).run(&mut book).expect("a run");
+        Operator::new().log(&mut log).run(&mut book).expect("a run");
         for _ in 0..4 {
             let log = LogFile::new(Path::new("log"), changed(&mut generator, &log));
-            let fields = daybook::read(&book).expect("a book");
+            let fields = Operator::new().read(&book).expect("a book");
             let fault = log_fault(log.log.as_bytes(), &book, &fields);
             assert_eq!(fault.is_none(), log.is_for(&book), "{fault:?}");
             match fault {
@@ -276,7 +276,7 @@ fn why_a_log_is_refused() {
         }
         let other = generator.book(KINDS[round % KINDS.len()]);
         let log = LogFile::new(Path::new("log"), log.into_bytes());
-        let fields = daybook::read(&other).expect("a book");
+        let fields = Operator::new().read(&other).expect("a book");
         let fault = log_fault(log.log.as_bytes(), &other, &fields);
         assert_eq!(fault.is_none(), log.is_for(&other), "{fault:?}");
     }
@@ -344,7 +344,7 @@ fn logs_in_words() {
     // Of another length or date it is the log of another book; no interrupted change.
     let held = Log::start(&other).expect("a log");
     refused(held.as_bytes(), "it is the log of another book");
-    let mut dated = daybook::read(&book).expect("a book");
+    let mut dated = Operator::new().read(&book).expect("a book");
     dated.date = if dated.date == 20_260_318 {
         20_260_319
     } else {
@@ -357,7 +357,9 @@ fn logs_in_words() {
     refused(held.as_bytes(), "it is the log of another book");
     let mut posted = book.clone();
     let id = dated.users[0].id;
-    daybook::posting(&mut posted, id, 0, 1).expect("a posting");
+    Operator::new()
+        .posting(&mut posted, id, 0, 1)
+        .expect("a posting");
     let held = Log::start(&posted).expect("a log");
     refused(held.as_bytes(), "puts the held book in its place");
     let mut forged = with(4, 1);

@@ -162,7 +162,7 @@ fn nothing_is_written_over_without_being_asked() {
     assert_eq!(folder.run("run chain.gdb --in-place").0, 0);
     assert_eq!(folder.bytes("chain.gdb"), after);
     let mut run = before;
-    daybook::run(&mut run).expect("a run");
+    daybook::Operator::new().run(&mut run).expect("a run");
     assert_eq!(after, run);
     // A refused call leaves the file, and nothing is left beside it.
     assert_eq!(folder.run("reduce chain.gdb 105 --in-place").0, 1);
@@ -362,10 +362,10 @@ fn states_are_those_of_the_printed_day() {
         for _ in 0..200 {
             let mut book = generator.book(kind);
             let printed = reference::day(&book);
-            daybook::run(&mut book).expect("a run");
-            let users = daybook::read(&book).expect("a book").users;
+            daybook::Operator::new().run(&mut book).expect("a run");
+            let users = daybook::Operator::new().read(&book).expect("a book").users;
             for (line, user) in printed.lines().skip(1).zip(&users) {
-                let state = cli::state::state(&daybook::Request::new(), &book, user);
+                let state = cli::state::state(&daybook::Operator::new(), &book, user);
                 let [a, b, c] = user.position;
                 let level = state.level.unwrap_or(0);
                 let told = format!("{} {} {level} {a} {b} {c}", user.id, state.word);

@@ -11,7 +11,9 @@ use cli::parameters;
 use cli::reasons::{reason, Asked};
 use cli::source::Store;
 use cli::store::{figures, malformed, not_in_force};
-use daybook::Refusal;
+use daybook::{Operator, Refusal};
+use reference::party::{Act, Given};
+use reference::questions::opening_questions;
 
 #[test]
 fn stores_are_malformed_where_question_16_says_so() {
@@ -22,14 +24,16 @@ fn stores_are_malformed_where_question_16_says_so() {
         let Some(bytes) = generator.store(&book) else {
             continue;
         };
-        let request = daybook::Request::new().store(&bytes);
-        let refusal = request.show(&book, 0).expect_err("0 is the id of no user");
+        let operator = daybook::Operator::new().store(&bytes);
+        let refusal = operator
+            .record(&book, 0)
+            .expect_err("0 is the id of no user");
         assert_eq!(
             refusal == Refusal::StoreForm,
             malformed(&bytes).is_some(),
             "{bytes:?}"
         );
-        let date = daybook::read(&book).expect("a book").date;
+        let date = Operator::new().read(&book).expect("a book").date;
         if refusal == Refusal::Id {
             let limits = reference::store::limits(Some(&bytes), date).expect("a set in force");
             let figures = figures(Some(&bytes), date);
@@ -55,7 +59,7 @@ fn stores_as_text_and_back() {
         let Some(bytes) = generator.store(&book) else {
             continue;
         };
-        let refused = daybook::Request::new().store(&bytes).show(&book, 0);
+        let refused = daybook::Operator::new().store(&bytes).record(&book, 0);
         let is_malformed = refused == Err(Refusal::StoreForm);
         assert_eq!(parameters::refusal(&bytes).is_some(), is_malformed);
         if !is_malformed {
@@ -110,21 +114,21 @@ fn every_refusal_of_a_call_has_its_reason() {
         };
         let arguments = generator.arguments(&book);
         let (id, area, amount) = (arguments.id, arguments.area, arguments.amount);
-        let mut request = store.request();
+        let mut operator = store.operator();
         let mut copy = book.clone();
         let (asked, refusal) = match round % 4 {
             0 => (
                 Asked::MorningCall,
-                request.morning_call(&mut copy, id).err(),
+                operator.morning_call(&mut copy, id).err(),
             ),
             1 => (
                 Asked::AfternoonCall,
-                request.afternoon_call(&mut copy, id).err(),
+                operator.afternoon_call(&mut copy, id).err(),
             ),
-            2 => (Asked::Reduction, request.reduction(&mut copy, id).err()),
+            2 => (Asked::Reduction, operator.reduction(&mut copy, id).err()),
             _ => (
                 Asked::Posting { area, amount },
-                request.posting(&mut copy, id, area, amount).err(),
+                operator.posting(&mut copy, id, area, amount).err(),
             ),
         };
         if let Some(refusal) = refusal {
@@ -141,7 +145,11 @@ fn every_refusal_of_a_call_has_its_reason() {
 
 /// Question 11 asks two things; the one that is told is the one that fails.
 fn margin_agrees(book: &[u8], store: &Store, id: u32, asked: Asked, told: &str) {
-    let opened = reference::questions::opening_questions(book, store.bytes.as_deref());
+    let opened = opening_questions(
+        book,
+        Given::by_operator(store.bytes.as_deref()),
+        Act::Operators,
+    );
     let opened = opened.unwrap_or_else(|number| panic!("refused {number}"));
     let (limits, fields) = (&opened.limits, &opened.book);
     let place = fields.place_of(id).expect("a user");

@@ -45,7 +45,9 @@ fn pages_are_whole_and_have_the_runs_figures() {
         for _ in 0..6 {
             let book = generator.book(kind);
             let page = page("page.gdb", &book);
-            let run = daybook::run(&mut book.clone()).expect("a run");
+            let run = daybook::Operator::new()
+                .run(&mut book.clone())
+                .expect("a run");
             assert!(is_balanced(&page), "{page}");
             for outside in ["http", "src=", "href=", "@import", "<script"] {
                 assert!(!page.contains(outside), "{outside}");
@@ -105,7 +107,9 @@ fn long_marks() {
         id,
         cuts: vec![cut(id, buyer)],
     };
-    let book = daybook::read(&Generator::new(72).sized(2, 2, 1).to_bytes()).expect("a book");
+    let book = daybook::Operator::new()
+        .read(&Generator::new(72).sized(2, 2, 1).to_bytes())
+        .expect("a book");
     let (one, two) = (book.users[0].id, book.users[1].id);
     let trace = cli::trace::Trace {
         closing: book.clone(),

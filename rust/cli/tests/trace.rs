@@ -6,7 +6,9 @@
 use books::{Generator, Kind};
 use cli::store::{figures, Figures};
 use cli::trace::{tariffs, trace, Extent, Step, Tier, Trace, Walk};
-use daybook::Request;
+use daybook::Operator;
+use reference::party::{Act, Given};
+use reference::questions::opening_questions;
 
 const ALL: Extent = Extent {
     first: usize::MAX,
@@ -25,13 +27,13 @@ const FIRST: Extent = Extent {
 
 /// A run with a store or without one, taken apart.
 fn taken_apart(book: &[u8], store: Option<&[u8]>, extent: Extent) -> Option<(Trace, Figures)> {
-    let request = match store {
-        Some(store) => Request::new().store(store),
-        None => Request::new(),
+    let operator = match store {
+        Some(store) => Operator::new().store(store),
+        None => Operator::new(),
     };
-    let date = daybook::read(book).expect("a book").date;
+    let date = Operator::new().read(book).expect("a book").date;
     let figures = figures(store, date);
-    let trace = trace(request, &figures, book, extent).ok()?;
+    let trace = trace(operator, &figures, book, extent).ok()?;
     Some((trace, figures))
 }
 
@@ -137,7 +139,9 @@ fn flags_are_the_references() {
     for _ in 0..400 {
         let book = generator.book(Kind::Chain);
         let store = generator.store(&book);
-        let Ok(opened) = reference::questions::opening_questions(&book, store.as_deref()) else {
+        let Ok(opened) =
+            opening_questions(&book, Given::by_operator(store.as_deref()), Act::Operators)
+        else {
             continue;
         };
         let Some((trace, _)) = taken_apart(&book, store.as_deref(), FIRST) else {
@@ -168,13 +172,13 @@ fn the_walk_ends_where_the_run_does() {
         for _ in 0..30 {
             let book = generator.book(kind);
             let mut walk = Walk::new(
-                Request::new(),
+                Operator::new(),
                 &book,
-                &daybook::read(&book).expect("a book"),
+                &Operator::new().read(&book).expect("a book"),
             );
             while walk.advance().is_some() {}
             let mut run = book.clone();
-            daybook::run(&mut run).expect("a run");
+            Operator::new().run(&mut run).expect("a run");
             assert_eq!(walk.bytes, run);
         }
     }
@@ -185,7 +189,7 @@ fn the_walk_ends_where_the_run_does() {
 fn long_runs_are_summarised() {
     let mut generator = Generator::new(64);
     let long = (0..).map(|_| generator.book(Kind::Long));
-    let book = long.map(|book| (daybook::run(&mut book.clone()), book));
+    let book = long.map(|book| (Operator::new().run(&mut book.clone()), book));
     let (run, book) = book
         .filter_map(|(run, book)| Some((run.ok()?, book)))
         .find(|(run, _)| run.reductions > 100)
@@ -197,7 +201,7 @@ fn long_runs_are_summarised() {
         chapters: (2, 1),
         most,
     };
-    let whole = trace(Request::new(), &figures, &book, extent(u64::MAX)).expect("a run");
+    let whole = trace(Operator::new(), &figures, &book, extent(u64::MAX)).expect("a run");
     let numbers: Vec<u64> = whole
         .first
         .iter()
@@ -208,6 +212,6 @@ fn long_runs_are_summarised() {
     assert_eq!(numbers, [1, 2, 3, 4, 5, end - 2, end - 1, end]);
     assert_eq!(whole.last[2].next, None);
     assert!(whole.first[4].next.is_some());
-    let part = trace(Request::new(), &figures, &book, extent(50)).expect("a run");
+    let part = trace(Operator::new(), &figures, &book, extent(50)).expect("a run");
     assert_eq!((part.run, part.taken, part.last.len()), (run, 50, 0));
 }

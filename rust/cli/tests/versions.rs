@@ -15,7 +15,7 @@ use cli::faults::faults;
 use cli::store::{figures, TODAY};
 use cli::words::euros;
 use cli::{csv, text};
-use daybook::{Level, Refusal, Request};
+use daybook::{Level, Operator, Refusal};
 
 const ONE: &str = "daybook 1\ndate 2026-03-18\nprices P 20.00 Q 21.00 L 3.00 X 1.00 I 0.50\n";
 const TWO: &str =
@@ -131,7 +131,8 @@ fn the_selling_tariffs_of_csv_files() {
         let known = "/header.csv:2:1: header: version 7, the engine knows versions 1, 2 and 3";
         assert_eq!(refused(draft), (2, known.to_string()));
     }
-    let header = |bytes: &[u8]| csv::write(&daybook::read(bytes).expect("a book"))[0].clone();
+    let header =
+        |bytes: &[u8]| csv::write(&Operator::new().read(bytes).expect("a book"))[0].clone();
     let money = "20.00,21.00,3.00,1.00,0.50";
     let written = [one, two].map(|bytes| header(&bytes.expect("a book")));
     assert_eq!(written[0], format!("{start}\n1,2026-03-18,{money}\n"));
@@ -150,7 +151,7 @@ fn faults_by_version() {
     };
     let (one, two) = (bytes(ONE), bytes(TWO));
     let told = |bytes: &[u8]| {
-        let number = daybook::read(bytes).expect_err("a refusal").number();
+        let number = Operator::new().read(bytes).expect_err("a refusal").number();
         format!("{number} {}", faults(bytes, number)[0])
     };
     let with = |bytes: &[u8], at: usize, value: &[u8]| {
@@ -215,17 +216,17 @@ fn credits_are_what_the_engine_takes_off() {
             .pick(&[Kind::Small, Kind::Credit, Kind::Chain, Kind::Midday]);
         let bytes = generator.book(kind);
         let store = generator.store(&bytes);
-        let request = match &store {
-            Some(store) => Request::new().store(store),
-            None => Request::new(),
+        let operator = match &store {
+            Some(store) => Operator::new().store(store),
+            None => Operator::new(),
         };
-        let book = daybook::read(&bytes).expect("a book");
+        let book = Operator::new().read(&bytes).expect("a book");
         let floor = figures(store.as_deref(), book.date).least_level;
         for user in &book.users {
-            let Ok(Level(level)) = request.afternoon_level(&bytes, user.id) else {
+            let Ok(Level(level)) = operator.afternoon_level(&bytes, user.id) else {
                 continue;
             };
-            let credit = credited(&request, &book, user).expect("a level");
+            let credit = credited(&operator, &book, user).expect("a level");
             assert_eq!(credit.is_some(), book.version > 1);
             let without = credit.as_ref().map_or(level, |credit| credit.without);
             let cents = credit.map_or([0; 3], |credit| by_area(&credit.credits));
@@ -261,7 +262,7 @@ fn the_sample_of_version_2() {
     let written = fs::read(sample("credit.txt")).expect("a sample");
     let read = text::read(&written).expect("a text").into_bytes();
     assert_eq!(read.as_deref(), Ok(bytes.as_slice()));
-    let book = daybook::read(&bytes).expect("a book");
+    let book = Operator::new().read(&bytes).expect("a book");
     assert_eq!(book.version, 2);
     let file = sample("credit.gdb");
     let level = done(&format!("level {file} 201"));
@@ -328,7 +329,7 @@ fn an_unknown_version_is_question_2() {
     for version in [0_u16, 4, 0xFFFF] {
         let mut changed = bytes.clone();
         changed[3..5].copy_from_slice(&version.to_le_bytes());
-        assert_eq!(daybook::read(&changed), Err(Refusal::Version));
+        assert_eq!(Operator::new().read(&changed), Err(Refusal::Version));
         assert_eq!(faults(&changed, 2).len(), 1);
     }
 }

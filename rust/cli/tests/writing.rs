@@ -161,7 +161,9 @@ fn what_a_kill_leaves_is_removed() {
 #[test]
 fn killed_at_any_moment() {
     let folder = Folder::new("writing-killed");
-    let mut book = daybook::read(&folder.bytes("chain.gdb")).expect("a book");
+    let mut book = daybook::Operator::new()
+        .read(&folder.bytes("chain.gdb"))
+        .expect("a book");
     let mut changed = 0;
     for round in 0..60 {
         let line = format!(
@@ -169,7 +171,9 @@ fn killed_at_any_moment() {
             round % 10
         );
         folder.shell(&line);
-        let now = daybook::read(&folder.bytes("chain.gdb")).expect("a book");
+        let now = daybook::Operator::new()
+            .read(&folder.bytes("chain.gdb"))
+            .expect("a book");
         let more = now.users[0].physical[0] - book.users[0].physical[0];
         assert!(more == 0 || more == 1, "{more}");
         changed += more;
@@ -251,7 +255,9 @@ fn postings_at_once() {
         let line = format!("for i in $(seq 40); do {post} & done; wait");
         let (_, out, messages) = folder.shell(&line);
         assert_eq!((out.lines().count(), messages.as_str()), (40, ""), "{kept}");
-        let book = daybook::read(&folder.bytes("chain.gdb")).expect("a book");
+        let book = daybook::Operator::new()
+            .read(&folder.bytes("chain.gdb"))
+            .expect("a book");
         let posted = 40 * i32::try_from(round + 1).expect("a number");
         assert_eq!(book.users[0].physical[0], -10_000 + posted, "{kept}");
     }
@@ -266,7 +272,9 @@ fn a_change_that_could_not_be_told() {
         folder.shell("daybook post chain.gdb 101 PVB 1 --in-place > /dev/full");
     assert_eq!(status, 3, "{messages}");
     assert!(messages.contains("chain.gdb is written"), "{messages}");
-    let book = daybook::read(&folder.bytes("chain.gdb")).expect("a book");
+    let book = daybook::Operator::new()
+        .read(&folder.bytes("chain.gdb"))
+        .expect("a book");
     assert_eq!(book.users[0].physical[0], -9_999);
     for call in [
         "post chain.gdb 101 PVB 1",

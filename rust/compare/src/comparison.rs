@@ -1,14 +1,15 @@
 //! The comparison: calls made by every side, answer by answer and byte by
 //! byte.
 
-use std::fmt::{self, Display, Formatter};
 use std::fs;
 use std::path::{Path, PathBuf};
 
 use books::logs::{any_log, started};
-use books::{Answer, Call, Generator, Implementation, Kind};
+use books::{Call, Generator, Implementation, Kind};
+use reference::party::{Given, Party};
 
 use crate::counts::{Counts, Version};
+use crate::difference::{differing, first_byte, in_words, Difference, Left, Lent};
 use crate::{engine, tuned, typed};
 
 /// The most differences that are kept and written to files.
@@ -25,60 +26,6 @@ const LOGGED_CALLS: usize = 12;
 
 /// Before one drawn call in so many there is a call on bytes made of the book.
 const CALLS_BESIDE: usize = 6;
-
-/// A call that a side answered otherwise than the reference.
-#[derive(Clone, Debug)]
-pub struct Difference {
-    seed: u64,
-    /// The number of calls compared before.
-    place: u64,
-    /// The call and its arguments in words.
-    call: String,
-    /// What differs.
-    what: String,
-    /// Where the book before the call was written to.
-    file: PathBuf,
-}
-
-/// One call, and what it is lent.
-#[derive(Clone, Copy)]
-struct Lent<'a> {
-    book: &'a [u8],
-    store: Option<&'a [u8]>,
-    log: Option<&'a [u8]>,
-    call: &'a Call,
-}
-
-/// What a call leaves.
-struct Left {
-    answer: Answer,
-    book: Vec<u8>,
-    log: Option<Vec<u8>>,
-}
-
-impl Lent<'_> {
-    /// The call made on copies of what it is lent.
-    fn left_by(&self, implementation: Implementation) -> Left {
-        let mut book = self.book.to_vec();
-        let mut log = self.log.map(<[u8]>::to_vec);
-        let answer = implementation(&mut book, self.store, log.as_deref_mut(), self.call);
-        Left { answer, book, log }
-    }
-}
-
-impl Display for Difference {
-    fn fmt(&self, formatter: &mut Formatter<'_>) -> fmt::Result {
-        write!(
-            formatter,
-            "seed {}, call {}: {}: {}; the book before it is in {}",
-            self.seed,
-            self.place,
-            self.call,
-            self.what,
-            self.file.display()
-        )
-    }
-}
 
 /// A comparison with one seed.
 pub struct Comparison {
@@ -122,9 +69,9 @@ impl Comparison {
         &mut self.generator
     }
 
-    /// Makes drawn calls until this many were compared: sequences of calls with
-    /// one store, or none, each on the book that the call before left, and one
-    /// sequence of four with a log.
+    /// Makes drawn calls until this many were compared: sequences of calls by drawn
+    /// parties with one store, or none, each on the book that the call before left,
+    /// and one sequence of four with a log.
     pub fn random_calls(&mut self, calls: u64) {
         while self.counts.all() < calls {
             if self.calls_left == 0 {
@@ -147,7 +94,7 @@ impl Comparison {
                 }
                 None => {
                     let call = self.generator.call(&book, store.as_deref());
-                    self.request(&mut book, store.as_deref(), &call);
+                    self.by_any_party(&mut book, store.as_deref(), None, &call);
                 }
             }
             (self.book, self.store) = (book, store);
@@ -160,7 +107,7 @@ impl Comparison {
             true => self.generator.restore(book),
             false => self.generator.conversion(book),
         };
-        self.call(&mut bytes, &call);
+        self.by_any_party(&mut bytes, None, None, &call);
     }
 
     /// A drawn call of a sequence with logs. Most are given the log kept so far; the
@@ -174,28 +121,38 @@ impl Comparison {
         }
         let drawn = self.generator.log(book, &kept);
         let mut lent = drawn.filter(|_| call.takes_log());
-        match (self.logged(book, store, lent.as_deref_mut(), &call), lent) {
+        let number = self.by_any_party(book, store, lent.as_deref_mut(), &call);
+        match (number, lent) {
             (19, _) => started(book),
             (_, Some(left)) => left,
             (_, None) => kept,
         }
     }
 
-    /// Makes the call without a store on copies of the book by every side and
-    /// compares them. The book becomes the reference's.
+    /// The call by a drawn party, mostly the operator.
+    fn by_any_party(
+        &mut self,
+        book: &mut [u8],
+        store: Option<&[u8]>,
+        log: Option<&mut [u8]>,
+        call: &Call,
+    ) -> u32 {
+        let party = self.generator.party(book, call);
+        self.acted(book, Given { party, store }, log, call)
+    }
+
+    /// Makes the operator's call without a store on copies of the book by every side
+    /// and compares them. The book becomes the reference's.
     pub fn call(&mut self, book: &mut [u8], call: &Call) {
-        self.request(book, None, call);
+        self.operator(book, None, call);
     }
 
     /// The same with this store, or none.
-    pub fn request(&mut self, book: &mut [u8], store: Option<&[u8]>, call: &Call) {
+    pub fn operator(&mut self, book: &mut [u8], store: Option<&[u8]>, call: &Call) {
         self.logged(book, store, None, call);
     }
 
-    /// The same with this log too, or none; the log becomes the reference's. The
-    /// tuned implementation, which knows versions 1 and 2 and no logs, has to leave the
-    /// same book without one, unless the log's own questions decide. The number is the
-    /// reference's.
+    /// The same with this log too, or none; the log becomes the reference's.
     pub fn logged(
         &mut self,
         book: &mut [u8],
@@ -203,19 +160,32 @@ impl Comparison {
         log: Option<&mut [u8]>,
         call: &Call,
     ) -> u32 {
+        self.acted(book, Given::by_operator(store), log, call)
+    }
+
+    /// The call of this party. The tuned implementation, which knows versions 1 and 2,
+    /// no logs and no party but the operator, has to leave the same book without a log,
+    /// unless the log's own questions decide. The number is the reference's.
+    pub fn acted(
+        &mut self,
+        book: &mut [u8],
+        given: Given<'_>,
+        log: Option<&mut [u8]>,
+        call: &Call,
+    ) -> u32 {
         let lent = Lent {
             book,
-            store,
+            given,
             log: log.as_deref(),
             call,
         };
         let expected = lent.left_by(books::answer);
         let number = expected.answer.number;
         self.hold(lent, &expected, "archive", engine::answer);
-        if typed::has(call, lent.log) {
+        if typed::has(call, given.party, lent.log) {
             self.hold(lent, &expected, "daybook", typed::answer);
         }
-        if tuned::has(book, call) && ![19, 20].contains(&number) {
+        if tuned::has(book, given.party, call) && ![19, 20].contains(&number) {
             let without = Lent { log: None, ..lent };
             self.hold(without, &expected, "tuned", tuned::answer);
         }
@@ -283,8 +253,8 @@ impl Comparison {
 
     /// Each kind of call on one user, with an id, an area and an amount, each
     /// on its own copy of the book; then the calls without a user, among them a
-    /// conversion and the inverse of a form of the book. Those that take a store are
-    /// made with one too.
+    /// conversion and the inverse of a form of the book. They are the operator's, some
+    /// a drawn party's too; those that take a store are made with one too.
     pub fn every_call(&mut self, book: &[u8], (id, area, amount): (u32, u32, i64)) {
         let afternoon = self.generator.book(Kind::Small);
         let mut calls = vec![
@@ -296,6 +266,12 @@ impl Comparison {
             Call::MorningCall { id },
             Call::AfternoonCall { id },
             Call::Warning { id },
+            Call::Flag { id },
+            Call::TradeCount { id },
+            Call::Trade {
+                id,
+                ordinal: self.generator.ordinal(),
+            },
             Call::Reduction { id },
             self.generator.cancellation(book, None),
             Call::Read,
@@ -321,13 +297,18 @@ impl Comparison {
         }
         for call in calls {
             self.call(&mut book.to_vec(), &call);
+            let party = self.generator.party(book, &call);
+            if call.takes_party() && party != Party::Operator {
+                let store = None;
+                self.acted(&mut book.to_vec(), Given { party, store }, None, &call);
+            }
             if call.takes_log() && self.generator.random().one_in(LOGGED_CALLS) {
                 self.with_any_log(book, &call);
             }
             let store = self.generator.store(book);
             let short = call != Call::Run || books::generator::is_short_run(book, store.as_deref());
             if call.takes_store() && short {
-                self.request(&mut book.to_vec(), store.as_deref(), &call);
+                self.operator(&mut book.to_vec(), store.as_deref(), &call);
             }
         }
     }
@@ -339,64 +320,4 @@ impl Comparison {
             self.logged(&mut book.to_vec(), None, Some(&mut log.clone()), call);
         }
     }
-}
-
-/// What differs between two answers; long parts are not printed whole.
-fn differing(side: &str, found: &Answer, expected: &Answer) -> String {
-    if (found.number, &found.fields) != (expected.number, &expected.fields) {
-        format!(
-            "{side}: number {}, fields {:?}; reference: number {}, fields {:?}",
-            found.number, found.fields, expected.number, expected.fields
-        )
-    } else {
-        let bytes = first_byte(&found.part, &expected.part);
-        format!("{side}: another part handed back, {bytes}")
-    }
-}
-
-/// The first byte in which two parts differ.
-fn first_byte(found: &[u8], expected: &[u8]) -> String {
-    let place = found
-        .iter()
-        .zip(expected)
-        .position(|(one, other)| one != other);
-    match place {
-        Some(place) => format!(
-            "byte {place} is {}, by the reference {}",
-            found[place], expected[place]
-        ),
-        None => format!("{} bytes, by the reference {}", found.len(), expected.len()),
-    }
-}
-
-/// The call and its arguments. A store, a log, an image or a second book is written
-/// beside the file of the book.
-fn in_words(lent: Lent<'_>, file: &Path) -> String {
-    let beside = |extension: &str, bytes: &[u8]| {
-        let beside = file.with_extension(extension);
-        fs::write(&beside, bytes).expect("a file for what the call is lent");
-        beside.display().to_string()
-    };
-    let mut words = match lent.call {
-        Call::ShowPicked {
-            afternoon,
-            pick,
-            id,
-        } => {
-            let afternoon = beside("afternoon", afternoon);
-            format!("show picked of {afternoon}, afternoon picked {pick}, id {id}")
-        }
-        Call::Write { image, length } => {
-            let image = beside("image", &image[..]);
-            format!("write of {image}, length {length}")
-        }
-        call => format!("{call:?}"),
-    };
-    let parts = [("store", "gps", lent.store), ("log", "gdl", lent.log)];
-    for (name, extension, part) in parts {
-        if let Some(bytes) = part {
-            words.push_str(&format!(", with the {name} {}", beside(extension, bytes)));
-        }
-    }
-    words
 }

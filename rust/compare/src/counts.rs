@@ -9,7 +9,7 @@ use reference::version::FIRST_HEADER_LENGTH;
 
 /// The numbers: 0 for an accepted call, 1 to 14 for a refusal of document 01, 15
 /// for one of ask 1, 16 and 17 of ask 4, 18 to 20 of ask 6, 21 to 23 of ask 7, 24
-/// and 25 of ask 8, 29 and 30 of ask 13.
+/// and 25 of ask 8, 26 of ask 9, 29 and 30 of ask 13.
 pub const NUMBERS: usize = 31;
 
 /// What a call is made on.
@@ -136,21 +136,23 @@ fn kind(name: &str) -> usize {
 /// The numbers that a kind of call can get on a book of this version.
 pub fn possible(version: Version, name: &str) -> Vec<usize> {
     let (last, more): (usize, &[usize]) = match name {
-        "posting" => (8, &[10, 16, 17, 19]),
-        "list" => (7, &[15, 16, 17, 19]),
-        "show" | "show picked" => (8, &[16, 17]),
-        "morning level" | "afternoon level" | "warning" => (9, &[16, 17]),
-        "morning call" | "afternoon call" => (9, &[11, 12, 16, 17, 19]),
-        "reduction" => (9, &[11, 13, 14, 16, 17, 19, 20]),
-        "cancellation" => (9, &[11, 13, 14, 16, 17, 24, 25]),
-        "run" => (7, &[16, 17, 19, 20]),
-        "withdrawal" => (7, &[16, 17, 18, 19]),
+        "posting" => (8, &[10, 16, 17, 19, 26]),
+        "list" => (7, &[15, 16, 17, 19, 26]),
+        "show" | "show picked" => (8, &[16, 17, 26]),
+        "morning level" | "afternoon level" | "warning" => (9, &[16, 17, 26]),
+        "flag" | "trade count" | "trade" => (9, &[16, 17, 26]),
+        "morning call" | "afternoon call" => (9, &[11, 12, 16, 17, 19, 26]),
+        "reduction" => (9, &[11, 13, 14, 16, 17, 19, 20, 26]),
+        "cancellation" => (9, &[11, 13, 14, 16, 17, 24, 25, 26]),
+        "run" => (7, &[16, 17, 19, 20, 26]),
+        "withdrawal" => (7, &[16, 17, 18, 19, 26]),
+        "read" => (7, &[26]),
         // It asks nothing of the book but its length.
         "start" => return vec![0, 19],
         // Version 1 has nothing to lose.
-        "convert" if version == Version::One => (7, &[22, 23]),
-        "convert" => (7, &[21, 22, 23]),
-        "form" => (7, &[30]),
+        "convert" if version == Version::One => (7, &[22, 23, 26]),
+        "convert" => (7, &[21, 22, 23, 26]),
+        "form" => (7, &[26, 30]),
         // Whatever is wrong with a form has one number.
         "restore" if version == Version::Other => return vec![29],
         "restore" => return vec![0, 29, 30],

@@ -2,17 +2,18 @@
 
 use books::{Answer, Call, Implementation};
 use daybook::{Book, Image};
+use reference::party::Given;
 
 /// The day that an implementation's calls print, on a copy of the book. A run
 /// that left a book which is refused has its number.
 pub fn printed(book: &[u8], implementation: Implementation) -> Answer {
     let mut book = book.to_vec();
-    let run = implementation(&mut book, None, None, &Call::Run);
+    let run = implementation(&mut book, Given::OPERATOR, None, &Call::Run);
     if run.number != 0 {
         let text = format!("refused {}\n", run.number);
         return Answer::of_part(run.number, text.as_bytes());
     }
-    let after = implementation(&mut book, None, None, &Call::Read);
+    let after = implementation(&mut book, Given::OPERATOR, None, &Call::Read);
     if after.number != 0 {
         return Answer::of_part(after.number, &book);
     }
@@ -33,7 +34,7 @@ pub fn printed(book: &[u8], implementation: Implementation) -> Answer {
 /// would answer.
 fn state(book: &[u8], id: u32, implementation: Implementation) -> (&'static str, i128) {
     let mut book = book.to_vec();
-    let mut made = |call| implementation(&mut book, None, None, &call);
+    let mut made = |call| implementation(&mut book, Given::OPERATOR, None, &call);
     let level = made(Call::AfternoonLevel { id }).fields[0];
     let state = match made(Call::AfternoonCall { id }).number {
         0 => "call",

@@ -11,11 +11,13 @@
 pub mod comparison;
 pub mod counts;
 pub mod day;
+mod difference;
 pub mod engine;
 pub mod settings;
 pub mod shown;
 pub mod tuned;
 pub mod typed;
 
-pub use comparison::{Comparison, Difference};
+pub use comparison::Comparison;
 pub use counts::{Counts, Version};
+pub use difference::Difference;

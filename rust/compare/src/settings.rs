@@ -8,6 +8,14 @@ use crate::comparison::Comparison;
 /// The least number of drawn calls that the tests compare.
 const CALLS: u64 = 200_000;
 
+/// The least number of pairs of twins that the tests compare.
+const PAIRS: u64 = 10_000;
+
+/// DAYBOOK_PAIRS where that is more than 10,000, else 10,000.
+pub fn pairs() -> u64 {
+    number("DAYBOOK_PAIRS", PAIRS).max(PAIRS)
+}
+
 /// DAYBOOK_CALLS where that is more than 200,000, else 200,000.
 pub fn calls() -> u64 {
     number("DAYBOOK_CALLS", CALLS).max(CALLS)

@@ -2,29 +2,39 @@
 
 use books::tuned::{knows, narrowed, widened};
 use books::{Answer, Call};
+use reference::party::{Given, Party};
 use reference::transfer::Image;
 use tuned::IMAGE_LENGTH;
 
 /// What an image holds before the call: a refusal has to put 0 there.
 const BEFORE: u8 = 0xA5;
 
-/// Whether the tuned implementation has the call on this book; it knows no logs and no
-/// conversions, and versions 1 and 2 of the book.
-pub fn has(book: &[u8], call: &Call) -> bool {
-    let others = matches!(call, Call::Withdrawal | Call::Start | Call::Convert { .. });
-    !others && knows(book, call)
+/// Whether the tuned implementation has the call on this book by this party; it knows
+/// no logs, no conversions and no party but the operator, and versions 1 and 2 of the
+/// book.
+pub fn has(book: &[u8], party: Party, call: &Call) -> bool {
+    let others = matches!(
+        call,
+        Call::Withdrawal
+            | Call::Start
+            | Call::Convert { .. }
+            | Call::Flag { .. }
+            | Call::TradeCount { .. }
+            | Call::Trade { .. }
+    );
+    let acts = !call.takes_party() || party == Party::Operator;
+    acts && !others && knows(book, call)
 }
 
-/// The answer of the tuned implementation to a call with this store, or none, and
-/// without a log; the book is changed as the call says. Without a store its
+/// The answer of the tuned implementation to a call by the operator with this store, or
+/// none, and without a log; the book is changed as the call says. Without a store its
 /// functions of document 01 have to give the same to the calls of that document.
-pub fn answer(
-    book: &mut [u8],
-    store: Option<&[u8]>,
-    log: Option<&mut [u8]>,
-    call: &Call,
-) -> Answer {
-    assert!(log.is_none() && has(book, call), "a call without a log");
+pub fn answer(book: &mut [u8], given: Given<'_>, log: Option<&mut [u8]>, call: &Call) -> Answer {
+    let Given { party, store } = given;
+    assert!(
+        log.is_none() && has(book, party, call),
+        "a call without a log"
+    );
     let before = book.to_vec();
     if let Some(given) = books::tuned::answer(book, store, call) {
         if store.is_none() {

@@ -2,17 +2,21 @@
 
 use books::{Answer, Call};
 use daybook::{
-    Book, Cancellation, GuaranteeCall, Image, Level, Line, Log, Refusal, Request, Run, Trade, User,
-    Version, IMAGE_LENGTH, LOG_LENGTH, MOST_TRADES,
+    Book, Cancellation, GuaranteeCall, Image, Level, Line, Log, Operator, Refusal, Run, Shipper,
+    Trade, User, Version, IMAGE_LENGTH, LOG_LENGTH, MOST_TRADES,
 };
+use reference::party::{Given, Party};
 
 use crate::shown::shown;
 
 /// Whether the call has a function of its own in `daybook`; a printed day is
 /// put together of others, a list of lines has columns and places of one count,
-/// a started log has the right length, and a conversion is into a version that there
-/// is.
-pub fn has(call: &Call, log: Option<&[u8]>) -> bool {
+/// a started log has the right length, a conversion is into a version that there is,
+/// and a shipper has the calls for its own id, which has 32 bits.
+pub fn has(call: &Call, party: Party, log: Option<&[u8]>) -> bool {
+    if let (true, Party::Shipper(id)) = (call.takes_party(), party) {
+        return call.own_id().map(u64::from) == Some(id);
+    }
     match call {
         Call::Day => false,
         Call::Convert { version, .. } => known(*version).is_some(),
@@ -27,28 +31,50 @@ pub fn has(call: &Call, log: Option<&[u8]>) -> bool {
     }
 }
 
-/// The answer to a call that `daybook` has, with this store and log, or none; book
-/// and log are changed as the call says.
-pub fn answer(
-    book: &mut [u8],
-    store: Option<&[u8]>,
-    log: Option<&mut [u8]>,
-    call: &Call,
-) -> Answer {
-    let request = match store {
-        Some(store) => Request::new().store(store),
-        None => Request::new(),
+/// The answer to a call that `daybook` has by this party, with this store and log, or
+/// none; book and log are changed as the call says.
+pub fn answer(book: &mut [u8], given: Given<'_>, log: Option<&mut [u8]>, call: &Call) -> Answer {
+    if let (Some(id), Party::Shipper(_)) = (call.own_id(), given.party) {
+        let shipper = Shipper::new(id);
+        let shipper = given.store.map_or(shipper, |store| shipper.store(store));
+        return by_shipper(shipper, book, call);
+    }
+    let operator = match given.store {
+        Some(store) => Operator::new().store(store),
+        None => Operator::new(),
     };
     let Some(log) = log else {
-        return requested(request, book, call);
+        return by_operator(operator, book, call);
     };
     if *call == Call::Start {
         return start(book, log);
     }
     let mut lent = Log::from_bytes(log.to_vec());
-    let answer = requested(request.log(&mut lent), book, call);
+    let answer = by_operator(operator.log(&mut lent), book, call);
     log.copy_from_slice(lent.as_bytes());
     answer
+}
+
+/// The calls of a shipper for itself.
+fn by_shipper(shipper: Shipper<'_>, book: &[u8], call: &Call) -> Answer {
+    match call {
+        Call::Show { .. } => record(book, shipper.record(book)),
+        Call::ShowPicked {
+            afternoon, pick, ..
+        } => {
+            let picked = if *pick { afternoon } else { book };
+            record(picked, shipper.record_picked(book, afternoon, *pick))
+        }
+        Call::MorningLevel { .. } => level(shipper.morning_level(book)),
+        Call::AfternoonLevel { .. } => level(shipper.afternoon_level(book)),
+        Call::Flag { .. } => fields(shipper.flag(book).map(|flagged| [flagged.into()])),
+        Call::TradeCount { .. } => {
+            let told = shipper.trade_count(book);
+            trades(told, shipper.trades(book))
+        }
+        Call::Trade { ordinal, .. } => trade(shipper.trade(book, *ordinal)),
+        _ => panic!("{} is the operator's", call.name()),
+    }
 }
 
 /// A started log takes the place of the lent bytes; a refusal leaves them.
@@ -60,32 +86,39 @@ fn start(book: &[u8], log: &mut [u8]) -> Answer {
     Answer::of_fields(number(&started), &[])
 }
 
-fn requested(mut request: Request<'_>, book: &mut [u8], call: &Call) -> Answer {
+/// The calls of the operator.
+fn by_operator(mut operator: Operator<'_>, book: &mut [u8], call: &Call) -> Answer {
     match call {
         Call::Posting { id, area, amount } => {
-            fields(request.posting(book, *id, *area, *amount).map(|()| []))
+            fields(operator.posting(book, *id, *area, *amount).map(|()| []))
         }
         Call::List {
             ids,
             areas,
             amounts,
             ..
-        } => list(request, book, &lines(ids, areas, amounts)),
-        Call::Show { id } => record(book, request.show(book, *id)),
+        } => list(operator, book, &lines(ids, areas, amounts)),
+        Call::Show { id } => record(book, operator.record(book, *id)),
         Call::ShowPicked {
             afternoon,
             pick,
             id,
         } => {
             let picked = if *pick { afternoon } else { &*book };
-            record(picked, request.show_picked(book, afternoon, *pick, *id))
+            record(picked, operator.record_picked(book, afternoon, *pick, *id))
         }
-        Call::MorningLevel { id } => level(request.morning_level(book, *id)),
-        Call::AfternoonLevel { id } => level(request.afternoon_level(book, *id)),
-        Call::MorningCall { id } => guarantee_call(request.morning_call(book, *id)),
-        Call::AfternoonCall { id } => guarantee_call(request.afternoon_call(book, *id)),
-        Call::Warning { id } => fields(request.warning(book, *id).map(|warned| [warned.into()])),
-        Call::Read => match daybook::read(book) {
+        Call::MorningLevel { id } => level(operator.morning_level(book, *id)),
+        Call::AfternoonLevel { id } => level(operator.afternoon_level(book, *id)),
+        Call::MorningCall { id } => guarantee_call(operator.morning_call(book, *id)),
+        Call::AfternoonCall { id } => guarantee_call(operator.afternoon_call(book, *id)),
+        Call::Warning { id } => fields(operator.warning(book, *id).map(|warned| [warned.into()])),
+        Call::Flag { id } => fields(operator.flag(book, *id).map(|flagged| [flagged.into()])),
+        Call::TradeCount { id } => {
+            let told = operator.trade_count(book, *id);
+            trades(told, operator.trades(book, *id))
+        }
+        Call::Trade { id, ordinal } => trade(operator.trade(book, *id, *ordinal)),
+        Call::Read => match Operator::new().read(book) {
             Ok(fields) => Answer::of_part(0, &fields.to_image()),
             Err(refusal) => Answer::of_part(refusal.number(), &[0; IMAGE_LENGTH]),
         },
@@ -94,29 +127,29 @@ fn requested(mut request: Request<'_>, book: &mut [u8], call: &Call) -> Answer {
         }),
         Call::Convert { version, length } => {
             let version = known(*version).expect("a version that there is");
-            written(*length, daybook::convert(book, version), |output| {
-                daybook::convert_into(book, version, output)
+            written(*length, operator.convert(book, version), |output| {
+                operator.convert_into(book, version, output)
             })
         }
-        Call::Form { length } => written(*length, daybook::field_wise(book), |output| {
-            daybook::field_wise_into(book, output).map(|()| book.len())
+        Call::Form { length } => written(*length, operator.field_wise(book), |output| {
+            operator.field_wise_into(book, output).map(|()| book.len())
         }),
         Call::Restore { length } => written(*length, daybook::record_wise(book), |output| {
             daybook::record_wise_into(book, output).map(|()| book.len())
         }),
         Call::Reduction { id } => {
-            let reduction = request.reduction(book, *id);
+            let reduction = operator.reduction(book, *id);
             fields(reduction.map(|done| {
                 [done.mwh, done.worth, done.target, done.short, done.over].map(i128::from)
             }))
         }
-        Call::Cancellation { id, tries } => cancellation(request.cancellation(book, *id, *tries)),
-        Call::Run => run(request.run(book)),
+        Call::Cancellation { id, tries } => cancellation(operator.cancellation(book, *id, *tries)),
+        Call::Run => run(operator.run(book)),
         Call::Withdrawal => {
-            let done = request.withdraw(book);
+            let done = operator.withdraw(book);
             fields(done.map(|done| [done.mwh, done.worth].map(i128::from)))
         }
-        Call::Start | Call::Day => panic!("{} takes no request", call.name()),
+        Call::Start | Call::Day => panic!("{} takes no party", call.name()),
     }
 }
 
@@ -152,6 +185,22 @@ fn written(
     found
 }
 
+/// The count told, which is that of the trades handed out.
+fn trades(told: Result<u32, Refusal>, trades: Result<Vec<Trade>, Refusal>) -> Answer {
+    let count = trades.map(|trades| trades.len() as u64);
+    assert_eq!(count, told.map(u64::from), "the trades that are told");
+    fields(told.map(|count| [count.into()]))
+}
+
+/// The bytes of a trade, or of none.
+fn trade(answer: Result<Option<Trade>, Refusal>) -> Answer {
+    let bytes = match answer {
+        Ok(Some(trade)) => trade.to_bytes().to_vec(),
+        _ => Vec::new(),
+    };
+    Answer::of_part(number(&answer), &bytes)
+}
+
 fn number<T>(answer: &Result<T, Refusal>) -> u32 {
     match answer {
         Ok(_) => 0,
@@ -177,8 +226,8 @@ fn lines(ids: &[u32], areas: &[u32], amounts: &[i64]) -> Vec<Line> {
 
 /// The number of a list and those of its lines; a refused list says nothing of
 /// its lines.
-fn list(mut request: Request<'_>, book: &mut [u8], lines: &[Line]) -> Answer {
-    let answer = request.list(book, lines);
+fn list(mut operator: Operator<'_>, book: &mut [u8], lines: &[Line]) -> Answer {
+    let answer = operator.list(book, lines);
     Answer::of_places(lines.len(), |places| {
         for (place, line) in places.iter_mut().zip(answer.iter().flatten()) {
             *place = number(line);

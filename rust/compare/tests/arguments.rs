@@ -9,6 +9,7 @@ use compare::settings::{comparison, seed};
 use compare::Comparison;
 use daybook::archive::{self, WRONG_LENGTH};
 use reference::book::Book;
+use reference::party::{Given, Party};
 use reference::units::Price;
 
 const AREAS: [u32; 12] = [
@@ -88,7 +89,7 @@ fn every_area_and_amount() {
 /// Postings of every area and amount, also of those that take the entry to its
 /// limits and one past them.
 fn postings(comparison: &mut Comparison, book: &[u8], id: u32) {
-    let entry = reference::show(book, None, id)
+    let entry = reference::show(book, Given::OPERATOR, id)
         .1
         .get(8..12)
         .map_or(0, |bytes| {
@@ -144,7 +145,7 @@ fn selling_tariffs() {
         let book = comparison.generator().sized(version, 5, 9);
         let bytes = book.to_bytes();
         for (s, u) in ends.into_iter().flat_map(|s| ends.map(|u| (s, u))) {
-            let (_, mut image) = reference::read(&bytes);
+            let (_, mut image) = reference::read(&bytes, Party::Operator);
             image[32..36].copy_from_slice(&s.to_le_bytes());
             image[36..40].copy_from_slice(&u.to_le_bytes());
             let ignored = version == 1;
@@ -222,10 +223,10 @@ fn wrong_bytes(book: &mut [u8], length: usize) {
     let mut part = vec![0xAA; length];
     let mut out = vec![0xBB; 88];
     let numbers = [
-        archive::read(book, &mut part),
-        archive::show(book, None, 1, &mut part),
-        archive::show_picked(book, book, None, 0, 1, &mut part),
-        archive::show_picked(book, book, None, 1, 1, &mut part),
+        archive::read(book, archive::OPERATOR, &mut part),
+        archive::show(book, archive::OPERATOR, None, 1, &mut part),
+        archive::show_picked(book, book, archive::OPERATOR, None, 0, 1, &mut part),
+        archive::show_picked(book, book, archive::OPERATOR, None, 1, 1, &mut part),
         archive::write(&part, &mut out),
     ];
     assert_eq!(numbers, [WRONG_LENGTH; 5], "length {length}");
@@ -237,29 +238,44 @@ fn wrong_answer(book: &mut [u8], length: usize) {
     let mut answer = vec![7; length];
     let part = &mut answer;
     if length != 1 {
-        assert_eq!(archive::morning_level(book, None, 1, part), WRONG_LENGTH);
-        assert_eq!(archive::afternoon_level(book, None, 1, part), WRONG_LENGTH);
-        assert_eq!(archive::warning(book, None, 1, part), WRONG_LENGTH);
-    }
-    if length != 2 {
         assert_eq!(
-            archive::morning_call(book, None, None, 1, part),
+            archive::morning_level(book, archive::OPERATOR, None, 1, part),
             WRONG_LENGTH
         );
         assert_eq!(
-            archive::afternoon_call(book, None, None, 1, part),
+            archive::afternoon_level(book, archive::OPERATOR, None, 1, part),
+            WRONG_LENGTH
+        );
+        assert_eq!(
+            archive::warning(book, archive::OPERATOR, None, 1, part),
+            WRONG_LENGTH
+        );
+    }
+    if length != 2 {
+        assert_eq!(
+            archive::morning_call(book, archive::OPERATOR, None, None, 1, part),
+            WRONG_LENGTH
+        );
+        assert_eq!(
+            archive::afternoon_call(book, archive::OPERATOR, None, None, 1, part),
             WRONG_LENGTH
         );
     }
     if length != 5 {
-        assert_eq!(archive::reduction(book, None, None, 1, part), WRONG_LENGTH);
+        assert_eq!(
+            archive::reduction(book, archive::OPERATOR, None, None, 1, part),
+            WRONG_LENGTH
+        );
     }
     if length != 3 {
-        assert_eq!(archive::run(book, None, None, part), WRONG_LENGTH);
+        assert_eq!(
+            archive::run(book, archive::OPERATOR, None, None, part),
+            WRONG_LENGTH
+        );
     }
     if length != 2 {
         let mut log = started(book);
-        let number = archive::withdrawal(book, None, &mut log, part);
+        let number = archive::withdrawal(book, archive::OPERATOR, None, &mut log, part);
         assert_eq!((number, log), (WRONG_LENGTH, started(book)));
     }
     assert_eq!(answer, vec![7; length]);
@@ -271,10 +287,18 @@ fn picks_of_c() {
     let mut generator = Generator::new(seed());
     let (morning, afternoon) = (generator.book(Kind::Small), generator.book(Kind::Usual));
     let id = generator.arguments(&afternoon).id;
-    let expected = reference::show(&afternoon, None, id);
+    let expected = reference::show(&afternoon, Given::OPERATOR, id);
     for pick in [1, 2, 255, 256, 1 << 31, u32::MAX] {
         let mut record = [0; 68];
-        let number = archive::show_picked(&morning, &afternoon, None, pick, id, &mut record);
+        let number = archive::show_picked(
+            &morning,
+            &afternoon,
+            archive::OPERATOR,
+            None,
+            pick,
+            id,
+            &mut record,
+        );
         assert_eq!(number, expected.0);
         assert!(number != 0 || record.starts_with(expected.1));
     }

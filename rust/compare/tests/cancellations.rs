@@ -8,7 +8,7 @@ use books::written::{asked_for, book, covered, sale, shipper};
 use books::{Call, Generator, Kind};
 use compare::settings::{comparison, seed};
 use daybook::archive::{self, WRONG_LENGTH};
-use daybook::{Refusal, MOST_TRADES, MOST_TRIES};
+use daybook::{Operator, Refusal, MOST_TRADES, MOST_TRIES};
 
 /// At the ends of the range and of the type, and next to numbers of sets.
 const TRIES: [u32; 21] = [
@@ -110,12 +110,16 @@ fn the_last_try() {
             tries: MOST_TRIES,
         };
         comparison.call(&mut book, &all);
-        let found = daybook::cancellation(&book, 1, MOST_TRIES).expect("a set");
+        let found = Operator::new()
+            .cancellation(&book, 1, MOST_TRIES)
+            .expect("a set");
         assert_eq!(i128::from(found.excess), excess);
         assert_eq!((found.tries, found.complete), (65_535, complete));
         let marked: Vec<usize> = (0..240).chain([255]).collect();
         assert_eq!(found.trades().collect::<Vec<usize>>(), marked);
-        let fewer = daybook::cancellation(&book, 1, MOST_TRIES - 1).expect("a set");
+        let fewer = Operator::new()
+            .cancellation(&book, 1, MOST_TRIES - 1)
+            .expect("a set");
         assert!(!fewer.complete && fewer.excess > found.excess);
     }
     comparison.expect_none();
@@ -134,7 +138,9 @@ fn about_sixteen_trades() {
             tries: MOST_TRIES,
         };
         comparison.call(&mut book, &call);
-        let found = daybook::cancellation(&book, 1, MOST_TRIES).expect("a set");
+        let found = Operator::new()
+            .cancellation(&book, 1, MOST_TRIES)
+            .expect("a set");
         assert!(found.excess > 0);
         assert_eq!((found.tries, found.complete), (tries, complete));
     }
@@ -149,10 +155,10 @@ fn more_tries() {
     let mut found = 0;
     for _ in 0..BOOKS {
         let book = generator.book(Kind::Whole);
-        let id = daybook::read(&book).expect("an accepted book").users[0].id;
+        let id = Operator::new().read(&book).expect("an accepted book").users[0].id;
         let mut before: Option<daybook::Cancellation> = None;
         for tries in (1..=40).chain([64, 1_000, 4_096, MOST_TRIES]) {
-            let Ok(next) = daybook::cancellation(&book, id, tries) else {
+            let Ok(next) = Operator::new().cancellation(&book, id, tries) else {
                 break;
             };
             found += 1;
@@ -185,8 +191,15 @@ fn wrong_lengths() {
                 let mut part = vec![0xA5; marks];
                 let mut answer = vec![7; count];
                 for tries in [0, 1, MOST_TRIES] {
-                    let number =
-                        archive::cancellation(&book, None, 1, tries, &mut part, &mut answer);
+                    let number = archive::cancellation(
+                        &book,
+                        archive::OPERATOR,
+                        None,
+                        1,
+                        tries,
+                        &mut part,
+                        &mut answer,
+                    );
                     assert_eq!(number, WRONG_LENGTH, "{marks} marks, {count} numbers");
                 }
                 assert_eq!((part, answer), (vec![0xA5; marks], vec![7; count]));
@@ -200,7 +213,10 @@ fn wrong_lengths() {
 #[test]
 fn another_level() {
     let book = sales(&[5_000, 7_000, 9_000], 1_000_000);
-    let level = daybook::afternoon_level(&book, 1).expect("a level").0;
+    let level = Operator::new()
+        .afternoon_level(&book, 1)
+        .expect("a level")
+        .0;
     let store = |least_level: u64| {
         let mut bytes = b"GPS\x01\x00\x01".to_vec();
         bytes.extend(20_200_101_u32.to_le_bytes());
@@ -211,8 +227,8 @@ fn another_level() {
     };
     let found = |least_level: u64| {
         let store = store(least_level);
-        let request = daybook::Request::new().store(&store);
-        request.cancellation(&book, 1, 8).map(|found| found.excess)
+        let operator = daybook::Operator::new().store(&store);
+        operator.cancellation(&book, 1, 8).map(|found| found.excess)
     };
     assert_eq!(found(0), Ok(1_000_000));
     assert_eq!(found(level + 400_000), Ok(600_000));

@@ -14,6 +14,7 @@ use compare::settings::{comparison, seed};
 use compare::{engine, Comparison};
 use daybook::archive;
 use reference::book::{Book, LONGEST};
+use reference::party::Given;
 use reference::units::Price;
 
 /// Versions that there are, and others.
@@ -182,8 +183,9 @@ fn no_call_answers_otherwise() {
                     generator.cancellation(&lower, store),
                 ] {
                     let (mut one, mut other) = (lower.clone(), upper.clone());
-                    let found = engine::answer(&mut one, store, None, &call);
-                    let after = engine::answer(&mut other, store, None, &call);
+                    let given = Given::by_operator(store);
+                    let found = engine::answer(&mut one, given, None, &call);
+                    let after = engine::answer(&mut other, given, None, &call);
                     assert_eq!(found, after, "{call:?}");
                     assert_eq!(converted(&one, version), other, "{call:?}");
                     calls += 1;
@@ -197,6 +199,9 @@ fn no_call_answers_otherwise() {
 /// The book as one of this version, by the archive.
 fn converted(book: &[u8], version: u32) -> Vec<u8> {
     let mut output = vec![0xAA; length_as(book, version)];
-    assert_eq!(archive::convert(book, version, &mut output), 0);
+    assert_eq!(
+        archive::convert(book, archive::OPERATOR, version, &mut output),
+        0
+    );
     output
 }

@@ -9,7 +9,7 @@ use books::versions::VERSIONS;
 use books::{Call, Generator, Kind};
 use compare::settings::{comparison, seed};
 use compare::Comparison;
-use daybook::{Columns, Field};
+use daybook::{Columns, Field, Operator};
 use reference::book::{Book, Header, Trade, User, LONGEST};
 use reference::questions::questions_1_to_7;
 
@@ -135,7 +135,8 @@ fn columns() {
         let Ok(book) = questions_1_to_7(&bytes) else {
             continue;
         };
-        let form = daybook::field_wise(&bytes).expect("the form of an accepted book");
+        let form = Operator::new().field_wise(&bytes);
+        let form = form.expect("the form of an accepted book");
         let columns = Columns::of(&form).expect("a form");
         assert_eq!(columns.length(), Some(form.len()));
         let header = Header::from_bytes(&form);

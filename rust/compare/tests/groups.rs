@@ -8,6 +8,7 @@ use books::{Answer, Call, Random};
 use compare::engine;
 use compare::settings::{comparison, seed};
 use reference::book::{length, Book, USER_LENGTH};
+use reference::party::{Given, Party};
 use reference::version::LAST;
 
 /// Books of versions 1 and 2 that get groups.
@@ -28,7 +29,7 @@ fn manager_ids() {
         let ids: Vec<u32> = own.chain([0, 1 << 31, u32::MAX]).collect();
         let places = (0..5).flat_map(|user| [0, 1, 2].map(|area| (user, area)));
         for ((user, area), id) in places.flat_map(|place| ids.iter().map(move |id| (place, *id))) {
-            let (_, mut image) = reference::read(&bytes);
+            let (_, mut image) = reference::read(&bytes, Party::Operator);
             let at = length(LAST, user, 0) + USER_LENGTH + 4 * area;
             image[at..at + 4].copy_from_slice(&id.to_le_bytes());
             let mut part = vec![0xAA; bytes.len()];
@@ -71,7 +72,7 @@ fn calls(id: u32) -> [Call; 8] {
 
 fn answered(book: &Book, call: &Call) -> (Answer, Vec<u8>) {
     let mut bytes = book.to_bytes();
-    let answer = engine::answer(&mut bytes, None, None, call);
+    let answer = engine::answer(&mut bytes, Given::OPERATOR, None, call);
     (answer, bytes)
 }
 
@@ -91,7 +92,9 @@ fn without_managers() {
                 (answered(&book, &call), answered(&third, &call));
             assert_eq!(found, expected, "{call:?}");
             let [left, left_by_third] = [left, left_by_third].map(|bytes| {
-                let fields = daybook::read(&bytes).expect("an accepted book");
+                let fields = daybook::Operator::new()
+                    .read(&bytes)
+                    .expect("an accepted book");
                 (fields.users, fields.trades)
             });
             assert_eq!(left_by_third, left, "{call:?}");

@@ -6,7 +6,7 @@
 use books::calls::PLACE_BEFORE;
 use books::{Call, Generator, Kind};
 use compare::settings::{comparison, seed};
-use daybook::{archive, Line, MOST_LINES};
+use daybook::{archive, Line, Operator, MOST_LINES};
 
 /// Counts next to none and to the most.
 const COUNTS: [usize; 6] = [0, 1, 2, MOST_LINES - 1, MOST_LINES, MOST_LINES + 1];
@@ -63,6 +63,7 @@ fn wrong_counts_of_places() {
             let mut places = vec![PLACE_BEFORE; count];
             let number = archive::list(
                 &mut book,
+                archive::OPERATOR,
                 Some(&[]),
                 None,
                 &[1; 2],
@@ -86,7 +87,7 @@ fn long_lists() {
             let mut book = comparison.generator().book(kind);
             let store = comparison.generator().store(&book);
             let list = comparison.generator().list_of(&book, lines);
-            comparison.request(&mut book, store.as_deref(), &list);
+            comparison.operator(&mut book, store.as_deref(), &list);
             comparison.call(&mut book, &list);
         }
     }
@@ -114,11 +115,11 @@ fn a_list_is_its_postings() {
                 .collect();
             let singles: Vec<_> = drawn
                 .iter()
-                .map(|line| daybook::posting(&mut posted, line.id, line.area, line.amount))
+                .map(|line| Operator::new().posting(&mut posted, line.id, line.area, line.amount))
                 .collect();
             accepted += singles.iter().filter(|single| single.is_ok()).count();
             refused += singles.iter().filter(|single| single.is_err()).count();
-            assert_eq!(daybook::list(&mut listed, &drawn), Ok(singles));
+            assert_eq!(Operator::new().list(&mut listed, &drawn), Ok(singles));
             assert_eq!(listed, posted);
         }
     }

@@ -11,6 +11,7 @@ use books::{Call, Kind};
 use compare::settings::comparison;
 use compare::Comparison;
 use daybook::{LOG_LENGTH, MOST_ENTRIES};
+use reference::party::Given;
 use reference::questions::questions_1_to_7;
 
 /// Where the held book and the entries stand, and how long an entry is.
@@ -134,7 +135,7 @@ fn full_logs() {
     let book = one_seller(3);
     let books = [in_version_3(&book), in_version_2(&book), book];
     for first in books.map(|book| book.to_bytes()) {
-        let reductions = reference::run(&mut first.clone(), None, None).reductions;
+        let reductions = reference::run(&mut first.clone(), Given::OPERATOR, None).reductions;
         let due = usize::try_from(reductions).unwrap_or(MOST_ENTRIES);
         for room in [due + 1, due, due - 1, 1, 0] {
             let count = MOST_ENTRIES - room;

@@ -6,7 +6,7 @@
 
 use books::{Generator, Kind};
 use compare::settings::seed;
-use daybook::{list, posting, read, Line};
+use daybook::{Line, Operator};
 
 /// Books of each kind, and orders of the postings on each.
 const BOOKS: usize = 60;
@@ -21,7 +21,7 @@ type Posting = (u32, u32, i64);
 /// A posting on a user of the book: a small amount, one that takes a physical
 /// entry next to its limits, or arguments that the generator draws.
 fn drawn(generator: &mut Generator, book: &[u8]) -> Posting {
-    let users = read(book).expect("an accepted book").users;
+    let users = Operator::new().read(book).expect("an accepted book").users;
     let arguments = generator.arguments(book);
     let random = generator.random();
     let user = random.pick(&users);
@@ -44,7 +44,9 @@ fn posted(book: &[u8], postings: &[Posting]) -> (Vec<u8>, bool) {
     let mut book = book.to_vec();
     let mut all = true;
     for (id, area, amount) in postings {
-        all &= posting(&mut book, *id, *area, *amount).is_ok();
+        all &= Operator::new()
+            .posting(&mut book, *id, *area, *amount)
+            .is_ok();
     }
     (book, all)
 }
@@ -58,7 +60,9 @@ fn listed(book: &[u8], postings: &[Posting]) -> (Vec<u8>, bool) {
         amount: *amount,
     };
     let lines: Vec<Line> = postings.iter().map(line).collect();
-    let answers = list(&mut book, &lines).expect("an accepted list");
+    let answers = Operator::new()
+        .list(&mut book, &lines)
+        .expect("an accepted list");
     let all = answers.iter().all(|answer| answer.is_ok());
     (book, all)
 }
@@ -69,7 +73,7 @@ fn accepted(generator: &mut Generator, book: &[u8]) -> Vec<Posting> {
     let mut accepted = Vec::new();
     for _ in 0..generator.random().below(MOST_POSTINGS) {
         let (id, area, amount) = drawn(generator, &left);
-        if posting(&mut left, id, area, amount).is_ok() {
+        if Operator::new().posting(&mut left, id, area, amount).is_ok() {
             accepted.push((id, area, amount));
         }
     }

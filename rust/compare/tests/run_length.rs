@@ -8,7 +8,7 @@ use books::hard::{chain, many_sellers, one_seller, widest, MOST_REDUCTIONS};
 use books::versions::in_version_2;
 use books::{Generator, Kind};
 use compare::settings::seed;
-use daybook::most_reductions;
+use daybook::Operator;
 
 /// Books of each kind, the refused ones too.
 const OF_EACH: usize = 300;
@@ -26,10 +26,10 @@ fn expected(book: &[u8]) -> Result<u64, u32> {
 /// Runs a book: it reports at most what was told before, and none only where
 /// it leaves every byte. Says how many reductions there were, and the most.
 fn run(before: &[u8]) -> Option<(u64, u64)> {
-    let most = most_reductions(before);
+    let most = Operator::new().most_reductions(before);
     assert_eq!(most.map_err(|refusal| refusal.number()), expected(before));
     let mut book = before.to_vec();
-    let run = daybook::run(&mut book);
+    let run = daybook::Operator::new().run(&mut book);
     assert_eq!(run.err(), most.err());
     let reductions = run.map_or(0, |run| run.reductions);
     assert!(reductions <= most.unwrap_or(0), "{reductions} of {most:?}");
@@ -71,6 +71,8 @@ fn some_runs_are_as_long() {
 /// The most that any book can take.
 #[test]
 fn the_most_of_any_book() {
-    let most = most_reductions(&chain(100_000).to_bytes()).expect("an accepted book");
+    let most = Operator::new()
+        .most_reductions(&chain(100_000).to_bytes())
+        .expect("an accepted book");
     assert_eq!(i128::from(most), MOST_REDUCTIONS);
 }

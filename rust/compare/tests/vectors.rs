@@ -6,6 +6,7 @@
 use books::vectors::{days, replay, replay_requests, CALLS, DAYS, REQUESTS};
 use books::{answer, asks, Call, Implementation};
 use compare::{engine, tuned, typed};
+use reference::party::Given;
 
 #[test]
 fn every_call_of_the_archive() {
@@ -16,15 +17,15 @@ fn every_call_of_the_archive() {
 }
 
 /// What the types of `daybook` cannot say, lists with columns of several counts, the
-/// start of a log of another length and a version that there is not, goes to the
-/// archive.
+/// start of a log of another length, a version that there is not and what a shipper may
+/// not do, goes to the archive.
 #[test]
 fn every_call_of_daybook() {
-    let answer: Implementation = |book, store, log, call| {
-        if typed::has(call, log.as_deref()) {
-            typed::answer(book, store, log, call)
+    let answer: Implementation = |book, given, log, call| {
+        if typed::has(call, given.party, log.as_deref()) {
+            typed::answer(book, given, log, call)
         } else {
-            engine::answer(book, store, log, call)
+            engine::answer(book, given, log, call)
         }
     };
     assert_eq!(replay(answer), CALLS);
@@ -33,15 +34,15 @@ fn every_call_of_daybook() {
     assert_eq!(asks::replay(answer), with_log);
 }
 
-/// Calls with a log, or on a book of version 3, go to the reference, so that the
+/// Calls with a log, by a shipper, or on a book of version 3, go to the reference, so that the
 /// lines after them have theirs.
 #[test]
 fn every_call_of_tuned() {
     assert_eq!(replay(tuned::answer), CALLS);
     assert_eq!(replay_requests(tuned::answer), REQUESTS);
-    let without_log: Implementation = |book, store, log, call| match log {
-        None if tuned::has(book, call) => tuned::answer(book, store, None, call),
-        log => answer(book, store, log, call),
+    let without_log: Implementation = |book, given, log, call| match log {
+        None if tuned::has(book, given.party, call) => tuned::answer(book, given, None, call),
+        log => answer(book, given, log, call),
     };
     assert_eq!(asks::replay(without_log).0, asks::CALLS);
 }
@@ -56,11 +57,11 @@ fn every_day() {
 /// implementation.
 #[test]
 fn every_day_of_tuned() {
-    every_day_of(|book, store, log, call| {
-        if tuned::has(book, call) {
-            tuned::answer(book, store, log, call)
+    every_day_of(|book, given, log, call| {
+        if tuned::has(book, given.party, call) {
+            tuned::answer(book, given, log, call)
         } else {
-            answer(book, store, log, call)
+            answer(book, given, log, call)
         }
     });
 }
@@ -70,7 +71,7 @@ fn every_day_of(implementation: Implementation) {
     assert_eq!(days.len(), DAYS);
     for day in days {
         let mut book = day.book.clone();
-        let printed = implementation(&mut book, None, None, &Call::Day).part;
+        let printed = implementation(&mut book, Given::OPERATOR, None, &Call::Day).part;
         assert_eq!(printed, day.printed, "{}", day.name);
         assert_eq!(book, day.book, "{}", day.name);
     }

@@ -14,7 +14,7 @@ use std::env;
 use std::fs;
 use std::process::ExitCode;
 
-use daybook::{Line, Refusal};
+use daybook::{Line, Operator, Refusal};
 
 fn main() -> ExitCode {
     let arguments: Vec<String> = env::args().skip(1).collect();
@@ -41,7 +41,7 @@ fn posted(book: &str, csv: &str, after: Option<&String>) -> Result<bool, String>
     let mut bytes = fs::read(book).map_err(|error| format!("{book}: {error}"))?;
     let text = fs::read_to_string(csv).map_err(|error| format!("{csv}: {error}"))?;
     let lines = lines(&text).map_err(|error| format!("{csv}, {error}"))?;
-    let answers = match daybook::list(&mut bytes, &lines) {
+    let answers = match Operator::new().list(&mut bytes, &lines) {
         Ok(answers) => answers,
         Err(refusal) => {
             println!("{refusal}");

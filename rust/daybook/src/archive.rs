@@ -2,10 +2,12 @@
 //!
 //! This module is the only one with unsafe code: the declarations here, the functions
 //! in its two parts. A function answers 0 or a number of documents 01 and 02; after a
-//! refusal the part for the answer is 0, and book and log are unchanged. A call takes
-//! a store of parameter sets, or none; one that may change its book takes a log of
-//! reductions too, or none. An image, record, answer or part for marks of another
-//! length than said gets [`WRONG_LENGTH`], and nothing is read, asked or changed.
+//! refusal the part for the answer is 0, and book and log are unchanged. A call on a
+//! book takes the acting party: a shipper is its id, the operator [`OPERATOR`], and
+//! any other number may do nothing. A call takes a store of parameter sets, or none;
+//! one that may change its book takes a log of reductions too, or none. An image,
+//! record, answer or part for marks of another length than said gets
+//! [`WRONG_LENGTH`], and nothing is read, asked or changed.
 
 #![allow(unsafe_code)]
 
@@ -16,29 +18,46 @@ pub use changes::{
     afternoon_call, list, morning_call, posting, reduction, run, start_log, withdrawal,
 };
 pub use queries::{
-    afternoon_level, cancellation, convert, form, morning_level, read, restore, show, show_picked,
-    shrinkage_days, shrinkage_return, warning, write,
+    afternoon_level, cancellation, convert, flag, form, morning_level, read, restore, show,
+    show_picked, shrinkage_days, shrinkage_return, trade, trade_count, warning, write,
 };
+
+/// The operator as an acting party, a number that no id has.
+pub const OPERATOR: u64 = 1 << 32;
 
 /// The number for a part of another length than the function takes.
 pub const WRONG_LENGTH: u32 = 255;
 
 unsafe extern "C" {
-    fn daybook_interface() -> u32;
-    fn daybook_read(book: *const u8, book_len: usize, image: *mut u8, image_len: usize) -> u32;
-    fn daybook_write(image: *const u8, image_len: usize, out: *mut u8, out_len: usize) -> u32;
-    fn daybook_convert(
+    fn daybook_raw_interface() -> u32;
+    fn daybook_raw_read(
         book: *const u8,
         book_len: usize,
+        party: u64,
+        image: *mut u8,
+        image_len: usize,
+    ) -> u32;
+    fn daybook_raw_write(image: *const u8, image_len: usize, out: *mut u8, out_len: usize) -> u32;
+    fn daybook_raw_convert(
+        book: *const u8,
+        book_len: usize,
+        party: u64,
         version: u32,
         out: *mut u8,
         out_len: usize,
     ) -> u32;
-    fn daybook_form(book: *const u8, book_len: usize, out: *mut u8, out_len: usize) -> u32;
-    fn daybook_restore(form: *const u8, form_len: usize, out: *mut u8, out_len: usize) -> u32;
-    fn daybook_show(
+    fn daybook_raw_form(
         book: *const u8,
         book_len: usize,
+        party: u64,
+        out: *mut u8,
+        out_len: usize,
+    ) -> u32;
+    fn daybook_raw_restore(form: *const u8, form_len: usize, out: *mut u8, out_len: usize) -> u32;
+    fn daybook_raw_show(
+        book: *const u8,
+        book_len: usize,
+        party: u64,
         with_store: u32,
         store: *const u8,
         store_len: usize,
@@ -46,11 +65,12 @@ unsafe extern "C" {
         record: *mut u8,
         record_len: usize,
     ) -> u32;
-    fn daybook_show_picked(
+    fn daybook_raw_show_picked(
         morning: *const u8,
         morning_len: usize,
         afternoon: *const u8,
         afternoon_len: usize,
+        party: u64,
         with_store: u32,
         store: *const u8,
         store_len: usize,
@@ -59,9 +79,10 @@ unsafe extern "C" {
         record: *mut u8,
         record_len: usize,
     ) -> u32;
-    fn daybook_posting(
+    fn daybook_raw_posting(
         book: *mut u8,
         book_len: usize,
+        party: u64,
         with_store: u32,
         store: *const u8,
         store_len: usize,
@@ -72,9 +93,10 @@ unsafe extern "C" {
         area: u32,
         amount: i64,
     ) -> u32;
-    fn daybook_list(
+    fn daybook_raw_list(
         book: *mut u8,
         book_len: usize,
+        party: u64,
         with_store: u32,
         store: *const u8,
         store_len: usize,
@@ -90,9 +112,10 @@ unsafe extern "C" {
         places: *mut u32,
         places_len: usize,
     ) -> u32;
-    fn daybook_morning_level(
+    fn daybook_raw_morning_level(
         book: *const u8,
         book_len: usize,
+        party: u64,
         with_store: u32,
         store: *const u8,
         store_len: usize,
@@ -100,9 +123,10 @@ unsafe extern "C" {
         answer: *mut u64,
         answer_len: usize,
     ) -> u32;
-    fn daybook_afternoon_level(
+    fn daybook_raw_afternoon_level(
         book: *const u8,
         book_len: usize,
+        party: u64,
         with_store: u32,
         store: *const u8,
         store_len: usize,
@@ -110,9 +134,10 @@ unsafe extern "C" {
         answer: *mut u64,
         answer_len: usize,
     ) -> u32;
-    fn daybook_morning_call(
+    fn daybook_raw_morning_call(
         book: *mut u8,
         book_len: usize,
+        party: u64,
         with_store: u32,
         store: *const u8,
         store_len: usize,
@@ -123,9 +148,10 @@ unsafe extern "C" {
         answer: *mut u64,
         answer_len: usize,
     ) -> u32;
-    fn daybook_afternoon_call(
+    fn daybook_raw_afternoon_call(
         book: *mut u8,
         book_len: usize,
+        party: u64,
         with_store: u32,
         store: *const u8,
         store_len: usize,
@@ -136,9 +162,10 @@ unsafe extern "C" {
         answer: *mut u64,
         answer_len: usize,
     ) -> u32;
-    fn daybook_warning(
+    fn daybook_raw_warning(
         book: *const u8,
         book_len: usize,
+        party: u64,
         with_store: u32,
         store: *const u8,
         store_len: usize,
@@ -146,9 +173,46 @@ unsafe extern "C" {
         answer: *mut u64,
         answer_len: usize,
     ) -> u32;
-    fn daybook_reduction(
+    fn daybook_raw_flag(
+        book: *const u8,
+        book_len: usize,
+        party: u64,
+        with_store: u32,
+        store: *const u8,
+        store_len: usize,
+        id: u32,
+        answer: *mut u64,
+        answer_len: usize,
+    ) -> u32;
+    fn daybook_raw_trade_count(
+        book: *const u8,
+        book_len: usize,
+        party: u64,
+        with_store: u32,
+        store: *const u8,
+        store_len: usize,
+        id: u32,
+        answer: *mut u64,
+        answer_len: usize,
+    ) -> u32;
+    fn daybook_raw_trade(
+        book: *const u8,
+        book_len: usize,
+        party: u64,
+        with_store: u32,
+        store: *const u8,
+        store_len: usize,
+        id: u32,
+        ordinal: u32,
+        trade: *mut u8,
+        trade_len: usize,
+        answer: *mut u64,
+        answer_len: usize,
+    ) -> u32;
+    fn daybook_raw_reduction(
         book: *mut u8,
         book_len: usize,
+        party: u64,
         with_store: u32,
         store: *const u8,
         store_len: usize,
@@ -159,9 +223,10 @@ unsafe extern "C" {
         answer: *mut u64,
         answer_len: usize,
     ) -> u32;
-    fn daybook_cancellation(
+    fn daybook_raw_cancellation(
         book: *const u8,
         book_len: usize,
+        party: u64,
         with_store: u32,
         store: *const u8,
         store_len: usize,
@@ -172,9 +237,10 @@ unsafe extern "C" {
         answer: *mut u64,
         answer_len: usize,
     ) -> u32;
-    fn daybook_run(
+    fn daybook_raw_run(
         book: *mut u8,
         book_len: usize,
+        party: u64,
         with_store: u32,
         store: *const u8,
         store_len: usize,
@@ -184,10 +250,12 @@ unsafe extern "C" {
         answer: *mut u64,
         answer_len: usize,
     ) -> u32;
-    fn daybook_start_log(log: *mut u8, log_len: usize, book: *const u8, book_len: usize) -> u32;
-    fn daybook_withdrawal(
+    fn daybook_raw_start_log(log: *mut u8, log_len: usize, book: *const u8, book_len: usize)
+        -> u32;
+    fn daybook_raw_withdrawal(
         book: *mut u8,
         book_len: usize,
+        party: u64,
         with_store: u32,
         store: *const u8,
         store_len: usize,
@@ -196,22 +264,22 @@ unsafe extern "C" {
         answer: *mut u64,
         answer_len: usize,
     ) -> u32;
-    fn daybook_shrinkage_return(
+    fn daybook_raw_shrinkage_return(
         balances: *const i64,
         balances_len: usize,
         answer: *mut u64,
         answer_len: usize,
     ) -> u32;
-    fn daybook_shrinkage_days(share: u64, answer: *mut u64, answer_len: usize) -> u32;
+    fn daybook_raw_shrinkage_days(share: u64, answer: *mut u64, answer_len: usize) -> u32;
 }
 
 /// The interface that this module is written for: the archive's must be the same.
-pub const INTERFACE: u32 = 5;
+pub const INTERFACE: u32 = 6;
 
 /// The archive's interface.
 pub fn interface() -> u32 {
     // SAFETY: the function takes nothing and reads no part.
-    unsafe { daybook_interface() }
+    unsafe { daybook_raw_interface() }
 }
 
 /// A store, or none, as the three arguments of a C function: a flag, a pointer

@@ -1,5 +1,9 @@
 //! A book's fields, and the image in which they pass the C interface.
 
+use crate::answers::answered;
+use crate::archive;
+use crate::refusal::Refusal;
+
 /// Bytes of an image: the longest header, 64 users of the longest record and 256
 /// trades. The largest book has as many.
 pub const IMAGE_LENGTH: usize = TRADES_AT + MOST_TRADES * TRADE_LENGTH;
@@ -87,7 +91,7 @@ pub struct Prices {
 /// its members have together; a member's are those of its charges:
 ///
 /// ```
-/// use daybook::{Book, Level, Prices, User};
+/// use daybook::{Book, Level, Operator, Prices, User};
 ///
 /// let short = |id: u32, mwh: i32| {
 ///     let physical = [-mwh, 0, 0];
@@ -99,9 +103,10 @@ pub struct Prices {
 /// let book = Book { version: 3, date: 20_260_318, prices, users, trades: vec![] };
 /// let mut bytes = vec![0; book.length()];
 /// daybook::write(&book, &mut bytes)?;
-/// assert_eq!(daybook::afternoon_level(&bytes, 101), Ok(Level(16_000_000)));
-/// assert_eq!(daybook::afternoon_level(&bytes, 102), Ok(Level(10_000_000)));
-/// assert_eq!(daybook::show(&bytes, 102)?.managers, [101, 0, 0]);
+/// let operator = Operator::new();
+/// assert_eq!(operator.afternoon_level(&bytes, 101), Ok(Level(16_000_000)));
+/// assert_eq!(operator.afternoon_level(&bytes, 102), Ok(Level(10_000_000)));
+/// assert_eq!(operator.record(&bytes, 102)?.managers, [101, 0, 0]);
 /// # Ok::<(), daybook::Refusal>(())
 /// ```
 #[derive(Clone, Copy, Debug, Default, PartialEq, Eq)]
@@ -294,6 +299,12 @@ impl Trade {
         put(&mut bytes, 16, self.standing.to_le_bytes());
         bytes
     }
+}
+
+/// Writes a book's fields into a part, which must be exactly as long as
+/// [`Book::length`] says. A refused write leaves the part.
+pub fn write(book: &Book, part: &mut [u8]) -> Result<(), Refusal> {
+    answered(archive::write(&book.to_image(), part))
 }
 
 /// The bytes of a field of this width at a place of a record.

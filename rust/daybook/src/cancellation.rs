@@ -1,8 +1,6 @@
 //! Whole cancellations (document 02, ask 8).
 
 use crate::book::MOST_TRADES;
-use crate::refusal::Refusal;
-use crate::request::Request;
 
 /// The most tries that a call may be given.
 pub const MOST_TRIES: u32 = 65_535;
@@ -27,14 +25,4 @@ impl Cancellation {
     pub fn trades(&self) -> impl Iterator<Item = usize> + '_ {
         (0..MOST_TRADES).filter(|place| self.marks[*place])
     }
-}
-
-/// The whole trades of a shipper that cover what a reduction would be asked for,
-/// found in 1 to [`MOST_TRIES`] tries. The book stays as it is.
-///
-/// It is refused as a reduction is; besides with [`Refusal::Tries`] for another
-/// number of tries, and with [`Refusal::WorthOfTrades`] where all eligible trades
-/// together are worth less than the target.
-pub fn cancellation(book: &[u8], id: u32, tries: u32) -> Result<Cancellation, Refusal> {
-    Request::new().cancellation(book, id, tries)
 }

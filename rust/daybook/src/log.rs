@@ -2,9 +2,9 @@
 
 use std::fmt::{self, Debug, Formatter};
 
+use crate::answers::answered;
 use crate::archive;
 use crate::book::IMAGE_LENGTH;
-use crate::calls::answered;
 use crate::refusal::Refusal;
 
 /// The bytes of a log.
@@ -21,7 +21,7 @@ const HELD_ROOM: usize = IMAGE_LENGTH;
 /// The reductions of a day, each to be withdrawn again: the book as the last call
 /// with the log left it, and what each reduction cut of each trade.
 ///
-/// Give it to every call that may change the book ([`Request::log`]). A reduction
+/// Give it to every call that may change the book ([`Operator::log`]). A reduction
 /// adds an entry, a run one for each of its own, a withdrawal drops the last, and an
 /// accepted posting, list or guarantee call empties it; a refused call leaves it.
 /// A book that was changed without it is told apart: a call with both is refused
@@ -29,7 +29,7 @@ const HELD_ROOM: usize = IMAGE_LENGTH;
 /// refuses a reduction with [`Refusal::LogFull`] and ends a run ([`Run::log_full`]).
 ///
 /// ```
-/// use daybook::{Log, Refusal, Request, Withdrawal};
+/// use daybook::{Log, Operator, Refusal, Withdrawal};
 /// # use daybook::{Book, Prices, Trade, User};
 /// # let prices = Prices { pvb_tariff: 2_000, tank_and_store_tariff: 2_100, ..Prices::default() };
 /// # let (physical, position) = ([-10_000, 0, 0], [-40_000, 0, 0]);
@@ -42,17 +42,17 @@ const HELD_ROOM: usize = IMAGE_LENGTH;
 /// # daybook::write(&fields, &mut book)?;
 /// let before = book.clone();
 /// let mut log = Log::start(&book)?;
-/// let mut request = Request::new().log(&mut log);
-/// let cut = request.reduction(&mut book, 101)?;
-/// let back = request.withdraw(&mut book)?;
+/// let mut operator = Operator::new().log(&mut log);
+/// let cut = operator.reduction(&mut book, 101)?;
+/// let back = operator.withdraw(&mut book)?;
 /// assert_eq!(back, Withdrawal { mwh: cut.mwh, worth: cut.worth });
 /// assert_eq!(book, before);
-/// assert_eq!(request.withdraw(&mut book), Err(Refusal::LogEmpty));
+/// assert_eq!(operator.withdraw(&mut book), Err(Refusal::LogEmpty));
 /// assert_eq!(log.entries(), 0);
 /// # Ok::<(), Refusal>(())
 /// ```
 ///
-/// [`Request::log`]: crate::Request::log
+/// [`Operator::log`]: crate::Operator::log
 /// [`Run::log_full`]: crate::Run::log_full
 #[derive(Clone, PartialEq, Eq)]
 pub struct Log {

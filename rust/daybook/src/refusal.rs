@@ -3,70 +3,75 @@
 use std::error::Error;
 use std::fmt::{self, Display, Formatter};
 
-/// The first question that was answered by no.
+/// The first question that was answered by no. docs/QUESTIONS.md tells which calls
+/// ask it, and in what order.
 #[derive(Clone, Copy, Debug, PartialEq, Eq, PartialOrd, Ord, Hash)]
+#[non_exhaustive]
 #[repr(u32)]
 pub enum Refusal {
-    /// At least 32 bytes, starting with the mark?
+    /// Question 1: at least 32 bytes, starting with the mark?
     Mark = 1,
-    /// Version 1, 2 or 3?
+    /// Question 2: version 1, 2 or 3?
     Version = 2,
-    /// Counts in range, and the length exactly that of version and counts?
+    /// Question 3: counts in range and length exactly 32 (versions 2 and 3: 40) + 56
+    /// (version 3: 68) × users + 20 × trades?
     CountsAndLength = 3,
-    /// Date, prices, tolls and selling tariffs in range?
+    /// Question 4: date, prices, tolls and selling tariffs in range?
     DateAndPrices = 4,
-    /// Every user field valid, managers too, positions apart?
+    /// Question 5: every user field valid, managers too, positions apart?
     Users = 5,
-    /// Every trade valid?
+    /// Question 6: every trade valid?
     Trades = 6,
-    /// Every position as defined?
+    /// Question 7: every position as defined?
     Positions = 7,
-    /// Id in the book?
+    /// Question 8: id in the book?
     Id = 8,
-    /// A shipper?
+    /// Question 9: a shipper?
     Shipper = 9,
-    /// Posting: area 0 to 2, and the new physical entry within ±1,000,000?
+    /// Question 10: area 0 to 2, and the new physical entry within ±1,000,000?
     Entry = 10,
-    /// Level − blocked above the figure, and, but for the morning call, user called in?
+    /// Question 11: level − blocked > 1,000,000 (with a store, its figure), and, but
+    /// for the morning call, user called in?
     CalledIn = 11,
-    /// Guarantee call: assigned ≥ level?
+    /// Question 12: assigned ≥ level?
     AssignedCoversLevel = 12,
-    /// Reduction, cancellation: assigned < level?
+    /// Question 13: assigned < level?
     AssignedBelowLevel = 13,
-    /// Reduction, cancellation: has the user an eligible trade?
+    /// Question 14: has the user an eligible trade?
     EligibleTrade = 14,
-    /// List: at most 512 lines, columns and places of one count? Asked after 7.
+    /// Question 15: at most 512 lines, columns and places of one count?
     Lines = 15,
-    /// Is the store well formed? Asked where one is given, after 7 and 15.
+    /// Question 16: is the store well formed?
     StoreForm = 16,
-    /// Has the store a set in force on the book's date? Asked after 16.
+    /// Question 17: has the store a set in force on the book's date?
     SetInForce = 17,
-    /// Withdrawal: has the log an entry? Asked last.
+    /// Question 18: has the log an entry?
     LogEmpty = 18,
-    /// Is the log one for the book? Asked where one is given, after 17.
+    /// Question 19: is the log one for the book?
     LogForm = 19,
-    /// Reduction: has the log room for one more entry? Asked last.
+    /// Question 20: has the log room for one more entry?
     LogFull = 20,
-    /// Conversion: is no information lost? Asked after 23.
+    /// Question 21: is no information lost?
     InformationLost = 21,
-    /// Conversion: is the output long enough? Asked last.
+    /// Question 22: is the output long enough?
     ConversionRoom = 22,
-    /// Conversion: is the target version known? Asked after 7. A [`Version`](crate::Version)
-    /// is; [`archive::convert`](crate::archive::convert) takes any number.
+    /// Question 23: is the target version known?
     TargetVersion = 23,
-    /// Cancellation: are all eligible trades together worth the target? Asked last.
+    /// Question 24: are all eligible trades together worth the target?
     WorthOfTrades = 24,
-    /// Cancellation: 1 to 65,535 tries? Asked after 17.
+    /// Question 25: 1 to 65,535 tries?
     Tries = 25,
-    /// Does the form yield an accepted book? Asked by the inverse of a form, first.
+    /// Question 26: may the party make this call?
+    Party = 26,
+    /// Question 29: does the form yield an accepted book?
     Form = 29,
-    /// Is the output long enough for the form, or for its book? Asked last.
+    /// Question 30: is the output long enough?
     FormRoom = 30,
 }
 
 impl Refusal {
     /// Every refusal, in the order of the numbers.
-    pub const ALL: [Refusal; 27] = [
+    pub const ALL: &'static [Refusal] = &[
         Refusal::Mark,
         Refusal::Version,
         Refusal::CountsAndLength,
@@ -92,6 +97,7 @@ impl Refusal {
         Refusal::TargetVersion,
         Refusal::WorthOfTrades,
         Refusal::Tries,
+        Refusal::Party,
         Refusal::Form,
         Refusal::FormRoom,
     ];
@@ -103,9 +109,8 @@ impl Refusal {
 
     /// The refusal of this number; none for 0 and for numbers of no question.
     pub fn from_number(number: u32) -> Option<Refusal> {
-        Refusal::ALL
-            .into_iter()
-            .find(|refusal| refusal.number() == number)
+        let mut all = Refusal::ALL.iter().copied();
+        all.find(|refusal| refusal.number() == number)
     }
 
     /// The question, in the words of the documents.
@@ -114,8 +119,8 @@ impl Refusal {
             Refusal::Mark => "at least 32 bytes, starting with the mark?",
             Refusal::Version => "version 1, 2 or 3?",
             Refusal::CountsAndLength => {
-                "counts in range and length exactly 32 (versions 2 and 3: 40) + 56 (version 3: 68) \
-                 × users + 20 × trades?"
+                "counts in range and length exactly 32 (versions 2 and 3: 40) + 56 (version 3: \
+                 68) × users + 20 × trades?"
             }
             Refusal::DateAndPrices => "date, prices, tolls and selling tariffs in range?",
             Refusal::Users => "every user field valid, managers too, positions apart?",
@@ -142,6 +147,7 @@ impl Refusal {
             Refusal::TargetVersion => "is the target version known?",
             Refusal::WorthOfTrades => "are all eligible trades together worth the target?",
             Refusal::Tries => "1 to 65,535 tries?",
+            Refusal::Party => "may the party make this call?",
             Refusal::Form => "does the form yield an accepted book?",
             Refusal::FormRoom => "is the output long enough?",
         }

@@ -57,9 +57,12 @@ pub struct Share {
 
 /// The first question that was answered by no.
 #[derive(Clone, Copy, Debug, PartialEq, Eq, PartialOrd, Ord, Hash)]
+#[non_exhaustive]
 #[repr(u32)]
 pub enum Refusal {
+    /// Question 27: every balance within ±500,000,000 kWh?
     Balance = 27,
+    /// Question 28: at most 64 users?
     Users = 28,
 }
 

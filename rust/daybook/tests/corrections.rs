@@ -8,7 +8,7 @@ use std::fs;
 use std::path::{Path, PathBuf};
 use std::process::{Command, Output};
 
-use daybook::posting;
+use daybook::Operator;
 
 fn sample(name: &str) -> PathBuf {
     Path::new(concat!(env!("CARGO_MANIFEST_DIR"), "/../../samples")).join(name)
@@ -46,7 +46,9 @@ fn the_sample_file() {
         let words: Vec<i64> = line.split(',').map(|word| word.parse().unwrap()).collect();
         let id = u32::try_from(words[0]).expect("id");
         let area = u32::try_from(words[1]).expect("area");
-        let number = posting(&mut book, id, area, words[2]).map_or_else(|no| no.number(), |()| 0);
+        let number = Operator::new()
+            .posting(&mut book, id, area, words[2])
+            .map_or_else(|no| no.number(), |()| 0);
         assert_eq!(i64::from(number), words[3], "{line}");
     }
     assert_eq!(fs::read(after).expect("the book afterwards"), book);

@@ -3,8 +3,8 @@
 #![forbid(unsafe_code)]
 
 use daybook::{
-    archive, Book, Cancellation, GuaranteeCall, Level, Line, Prices, Refusal, Request, Trade, User,
-    MOST_LINES, MOST_TRIES,
+    archive, Book, Cancellation, GuaranteeCall, Level, Line, Operator, Prices, Refusal, Trade,
+    User, MOST_LINES, MOST_TRIES,
 };
 
 /// The book of document 01's printed day.
@@ -57,29 +57,38 @@ fn bytes(book: &Book) -> Vec<u8> {
 fn a_book_is_written_and_read_back() {
     let book = book();
     assert_eq!(bytes(&book).len(), 164);
-    assert_eq!(daybook::read(&bytes(&book)), Ok(book));
+    assert_eq!(Operator::new().read(&bytes(&book)), Ok(book));
 }
 
 #[test]
 fn calls_on_the_example() {
     let mut bytes = bytes(&book());
-    assert_eq!(daybook::show(&bytes, 101), Ok(book().users[0]));
-    assert_eq!(daybook::show(&bytes, 103), Err(Refusal::Id));
+    assert_eq!(Operator::new().record(&bytes, 101), Ok(book().users[0]));
+    assert_eq!(Operator::new().record(&bytes, 103), Err(Refusal::Id));
     assert_eq!(
-        daybook::show_picked(&[], &bytes, true, 102),
+        Operator::new().record_picked(&[], &bytes, true, 102),
         Ok(book().users[1])
     );
-    assert_eq!(daybook::morning_level(&bytes, 101), Ok(Level(80_000_000)));
-    assert_eq!(daybook::afternoon_level(&bytes, 101), Ok(Level(80_000_000)));
-    assert_eq!(daybook::warning(&bytes, 102), Ok(true));
     assert_eq!(
-        daybook::afternoon_call(&mut bytes, 101),
+        Operator::new().morning_level(&bytes, 101),
+        Ok(Level(80_000_000))
+    );
+    assert_eq!(
+        Operator::new().afternoon_level(&bytes, 101),
+        Ok(Level(80_000_000))
+    );
+    assert_eq!(Operator::new().warning(&bytes, 102), Ok(true));
+    assert_eq!(
+        Operator::new().afternoon_call(&mut bytes, 101),
         Err(Refusal::AssignedCoversLevel)
     );
-    assert_eq!(daybook::posting(&mut bytes, 101, 3, 1), Err(Refusal::Entry));
-    assert_eq!(daybook::posting(&mut bytes, 101, 0, 20_000), Ok(()));
     assert_eq!(
-        daybook::morning_call(&mut bytes, 101),
+        Operator::new().posting(&mut bytes, 101, 3, 1),
+        Err(Refusal::Entry)
+    );
+    assert_eq!(Operator::new().posting(&mut bytes, 101, 0, 20_000), Ok(()));
+    assert_eq!(
+        Operator::new().morning_call(&mut bytes, 101),
         Ok(GuaranteeCall {
             level: Level(40_000_000),
             added: 30_000_000
@@ -97,18 +106,20 @@ fn the_printed_run() {
         short: 0,
         over: 0,
     };
-    assert_eq!(daybook::reduction(&mut reduced, 101), Ok(reduction));
+    assert_eq!(Operator::new().reduction(&mut reduced, 101), Ok(reduction));
     let mut run = bytes(&book());
-    assert_eq!(daybook::most_reductions(&run), Ok(30_000));
+    assert_eq!(Operator::new().most_reductions(&run), Ok(30_000));
     let done = daybook::Run {
         reductions: 1,
         mwh: 15_000,
         worth: 30_000_000,
         log_full: false,
     };
-    assert_eq!(daybook::run(&mut run), Ok(done));
+    assert_eq!(Operator::new().run(&mut run), Ok(done));
     assert_eq!(reduced, run);
-    let positions = daybook::read(&run).map(|book| [0, 1].map(|place| book.users[place].position));
+    let positions = Operator::new()
+        .read(&run)
+        .map(|book| [0, 1].map(|place| book.users[place].position));
     assert_eq!(positions, Ok([[-25_000, 0, 0], [15_000, 0, 0]]));
 }
 
@@ -127,15 +138,21 @@ fn version_2() -> Book {
 fn a_book_of_version_2() {
     let bytes = bytes(&version_2());
     assert_eq!((bytes.len(), &bytes[3..5]), (172, &[2, 0][..]));
-    assert_eq!(daybook::read(&bytes), Ok(version_2()));
-    assert_eq!(daybook::show(&bytes, 102), Ok(version_2().users[1]));
-    let level = |id: u32| daybook::afternoon_level(&bytes, id);
+    assert_eq!(Operator::new().read(&bytes), Ok(version_2()));
+    assert_eq!(
+        Operator::new().record(&bytes, 102),
+        Ok(version_2().users[1])
+    );
+    let level = |id: u32| Operator::new().afternoon_level(&bytes, id);
     assert_eq!(
         [101, 102].map(level),
         [80_000_000, 10_000_001].map(|level| Ok(Level(level)))
     );
-    assert_eq!(daybook::morning_level(&bytes, 102), Ok(Level(55_000_001)));
-    let cut = |length: usize| daybook::read(&bytes[..length]);
+    assert_eq!(
+        Operator::new().morning_level(&bytes, 102),
+        Ok(Level(55_000_001))
+    );
+    let cut = |length: usize| Operator::new().read(&bytes[..length]);
     assert_eq!([31, 32, 39, 40].map(|length| cut(length).err()), {
         let length = Some(Refusal::CountsAndLength);
         [Some(Refusal::Mark), length, length, length]
@@ -150,7 +167,7 @@ fn selling_tariffs_of_version_1() {
     book.prices.pvb_selling_tariff = 1_500;
     book.prices.tank_and_store_selling_tariff = u32::MAX;
     assert_eq!(bytes(&book), bytes(&self::book()));
-    assert_eq!(daybook::read(&bytes(&book)), Ok(self::book()));
+    assert_eq!(Operator::new().read(&bytes(&book)), Ok(self::book()));
 }
 
 /// A store of one set from a date on, with today's figures but for the least level.
@@ -166,8 +183,11 @@ fn store(first_date: u32, least_level: u64) -> Vec<u8> {
 #[test]
 fn calls_with_a_store() {
     let bytes = bytes(&book());
-    let level = |store: &[u8]| Request::new().store(store).afternoon_level(&bytes, 102);
-    assert_eq!(daybook::afternoon_level(&bytes, 102), Ok(Level(10_000_000)));
+    let level = |store: &[u8]| Operator::new().store(store).afternoon_level(&bytes, 102);
+    assert_eq!(
+        Operator::new().afternoon_level(&bytes, 102),
+        Ok(Level(10_000_000))
+    );
     assert_eq!(level(&store(20_260_318, 12)), Ok(Level(12)));
     assert_eq!(level(&store(20_260_319, 12)), Err(Refusal::SetInForce));
     assert_eq!(level(&store(20_260_230, 12)), Err(Refusal::StoreForm));
@@ -191,8 +211,12 @@ fn a_list_of_postings() {
     ];
     let (id, entry) = (Err(Refusal::Id), Err(Refusal::Entry));
     let expected = vec![Ok(()), entry, id, entry, Ok(()), Ok(()), entry];
-    assert_eq!(daybook::list(&mut listed, &lines), Ok(expected.clone()));
-    let singles = lines.map(|line| daybook::posting(&mut posted, line.id, line.area, line.amount));
+    assert_eq!(
+        Operator::new().list(&mut listed, &lines),
+        Ok(expected.clone())
+    );
+    let singles =
+        lines.map(|line| Operator::new().posting(&mut posted, line.id, line.area, line.amount));
     assert_eq!(singles[..], expected);
     assert_eq!(listed, posted);
 }
@@ -202,28 +226,28 @@ fn a_list_of_postings() {
 fn the_length_of_a_list() {
     let opening = bytes(&book());
     let mut book = opening.clone();
-    assert_eq!(daybook::list(&mut book, &[]), Ok(vec![]));
+    assert_eq!(Operator::new().list(&mut book, &[]), Ok(vec![]));
     let up = Line {
         id: 102,
         area: 2,
         amount: 3,
     };
     let many = vec![up; MOST_LINES + 1];
-    assert_eq!(daybook::list(&mut book, &many), Err(Refusal::Lines));
+    assert_eq!(Operator::new().list(&mut book, &many), Err(Refusal::Lines));
     let late = store(20_260_319, 12);
-    let mut request = Request::new().store(&late);
-    assert_eq!(request.list(&mut book, &many), Err(Refusal::Lines));
-    assert_eq!(request.list(&mut book, &[up]), Err(Refusal::SetInForce));
+    let mut operator = Operator::new().store(&late);
+    assert_eq!(operator.list(&mut book, &many), Err(Refusal::Lines));
+    assert_eq!(operator.list(&mut book, &[up]), Err(Refusal::SetInForce));
     assert_eq!(book, opening);
     let lines = &many[..MOST_LINES];
     assert_eq!(
-        daybook::list(&mut book, lines),
+        Operator::new().list(&mut book, lines),
         Ok(vec![Ok(()); MOST_LINES])
     );
-    let entries = daybook::show(&book, 102).map(|user| user.physical);
+    let entries = Operator::new().record(&book, 102).map(|user| user.physical);
     assert_eq!(entries, Ok([0, 0, 3 * 512]));
     book.truncate(31);
-    assert_eq!(daybook::list(&mut book, &many), Err(Refusal::Mark));
+    assert_eq!(Operator::new().list(&mut book, &many), Err(Refusal::Mark));
 }
 
 /// The example with its sale as three, of 5,000, 10,000 and 15,000 MWh, and one
@@ -247,7 +271,7 @@ fn three_sales() -> Vec<u8> {
 fn whole_cancellations() {
     let book = three_sales();
     let before = book.clone();
-    let found = |tries: u32| daybook::cancellation(&book, 101, tries);
+    let found = |tries: u32| Operator::new().cancellation(&book, 101, tries);
     let cancelled = |places: &[usize], (excess, tries, complete): (u64, u64, bool)| {
         let mut marks = [false; 256];
         places.iter().for_each(|place| marks[*place] = true);
@@ -269,18 +293,18 @@ fn whole_cancellations() {
 #[test]
 fn refused_cancellations() {
     let book = three_sales();
-    let found = |id: u32, tries: u32| daybook::cancellation(&book, id, tries);
+    let found = |id: u32, tries: u32| Operator::new().cancellation(&book, id, tries);
     assert_eq!(found(103, 0), Err(Refusal::Tries));
     assert_eq!(found(101, MOST_TRIES + 1), Err(Refusal::Tries));
     assert_eq!(found(103, 1), Err(Refusal::Id));
     assert_eq!(found(102, 1), Err(Refusal::CalledIn));
     let dear = store(20_260_318, 1_000_000_000);
-    let request = Request::new().store(&dear);
-    let found = |tries: u32| request.cancellation(&book, 101, tries);
+    let operator = Operator::new().store(&dear);
+    let found = |tries: u32| operator.cancellation(&book, 101, tries);
     assert_eq!(found(1), Err(Refusal::WorthOfTrades));
     assert_eq!(found(0), Err(Refusal::Tries));
     let late = store(20_260_319, 1_000_000_000);
-    let found = Request::new().store(&late).cancellation(&book, 101, 0);
+    let found = Operator::new().store(&late).cancellation(&book, 101, 0);
     assert_eq!(found, Err(Refusal::SetInForce));
 }
 
@@ -322,12 +346,13 @@ fn refused_writes() {
 
 #[test]
 fn refusals_have_the_numbers_of_the_questions() {
-    for (refusal, number) in Refusal::ALL.into_iter().zip((1..=25).chain(29..=30)) {
+    let all = Refusal::ALL.iter().copied();
+    for (refusal, number) in all.zip((1..=26).chain(29..=30)) {
         assert_eq!(refusal.number(), number);
         assert_eq!(Refusal::from_number(number), Some(refusal));
     }
     assert_eq!(Refusal::from_number(0), None);
-    assert_eq!(Refusal::from_number(26), None);
+    assert_eq!(Refusal::from_number(27), None);
     assert_eq!(
         Refusal::Shipper.to_string(),
         "refused by question 9: a shipper?"

@@ -3,10 +3,7 @@
 use std::fs;
 use std::path::Path;
 
-use daybook::{
-    field_wise, field_wise_into, read, record_wise, record_wise_into, Book, Column, Columns, Field,
-    Refusal,
-};
+use daybook::{record_wise, record_wise_into, Book, Column, Columns, Field, Operator, Refusal};
 
 /// The sample books of versions 1, 2 and 3.
 fn samples() -> [Vec<u8>; 3] {
@@ -56,7 +53,9 @@ fn numbers(field: Field, column: Column, form: &[u8]) -> Vec<i128> {
 #[test]
 fn a_form_gives_its_book_back() {
     for book in samples() {
-        let form = field_wise(&book).expect("the form of a sample");
+        let form = Operator::new()
+            .field_wise(&book)
+            .expect("the form of a sample");
         assert_eq!(form.len(), book.len());
         assert_eq!((&form[..3], &form[3..8]), (&b"GDF"[..], &book[3..8]));
         assert_eq!(record_wise(&form), Ok(book));
@@ -66,7 +65,10 @@ fn a_form_gives_its_book_back() {
 #[test]
 fn each_column_has_its_field_of_all_records() {
     for bytes in samples() {
-        let (form, book) = (field_wise(&bytes).unwrap(), read(&bytes).unwrap());
+        let (form, book) = (
+            Operator::new().field_wise(&bytes).unwrap(),
+            Operator::new().read(&bytes).unwrap(),
+        );
         let columns = Columns::of(&form).unwrap();
         assert_eq!(columns.version, book.version);
         for (field, column) in columns.all() {
@@ -121,7 +123,7 @@ fn columns_fill_the_form() {
 #[test]
 fn columns_of_other_bytes() {
     let [book, ..] = samples();
-    let form = field_wise(&book).unwrap();
+    let form = Operator::new().field_wise(&book).unwrap();
     assert_eq!(Columns::of(&form[..8]), Columns::of(&form));
     assert_eq!((Columns::of(&form[..7]), Columns::of(&book)), (None, None));
     let standing = Columns::of(&form).unwrap().column(Field::Standing).unwrap();
@@ -133,9 +135,9 @@ fn columns_of_other_bytes() {
 #[test]
 fn refusals_leave_the_part() {
     for book in samples() {
-        let form = field_wise(&book).unwrap();
+        let form = Operator::new().field_wise(&book).unwrap();
         let mut part = vec![7; book.len() + 3];
-        field_wise_into(&book, &mut part).unwrap();
+        Operator::new().field_wise_into(&book, &mut part).unwrap();
         assert_eq!(
             (&part[..form.len()], &part[form.len()..]),
             (&form[..], &[7; 3][..])
@@ -147,10 +149,16 @@ fn refusals_leave_the_part() {
         );
 
         let mut short = vec![7; book.len() - 1];
-        assert_eq!(field_wise_into(&book, &mut short), Err(Refusal::FormRoom));
+        assert_eq!(
+            Operator::new().field_wise_into(&book, &mut short),
+            Err(Refusal::FormRoom)
+        );
         assert_eq!(record_wise_into(&form, &mut short), Err(Refusal::FormRoom));
         // asked before the room
-        assert_eq!(field_wise_into(&form, &mut short), Err(Refusal::Mark));
+        assert_eq!(
+            Operator::new().field_wise_into(&form, &mut short),
+            Err(Refusal::Mark)
+        );
         assert_eq!(record_wise_into(&book, &mut short), Err(Refusal::Form));
         assert!(short.iter().all(|byte| *byte == 7));
     }
@@ -159,7 +167,7 @@ fn refusals_leave_the_part() {
 #[test]
 fn only_the_form_of_an_accepted_book_is_one() {
     for book in samples() {
-        let form = field_wise(&book).unwrap();
+        let form = Operator::new().field_wise(&book).unwrap();
         assert_eq!(record_wise(&form[..form.len() - 1]), Err(Refusal::Form));
         assert_eq!(record_wise(&[&form[..], &[0]].concat()), Err(Refusal::Form));
         assert_eq!(record_wise(&vec![0; 20_000]), Err(Refusal::Form));

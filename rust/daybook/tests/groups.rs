@@ -3,7 +3,7 @@
 #![forbid(unsafe_code)]
 
 use daybook::{
-    archive, header_length, user_length, Book, Cancellation, Level, Log, Prices, Refusal, Request,
+    archive, header_length, user_length, Book, Cancellation, Level, Log, Operator, Prices, Refusal,
     Run, Trade, User, IMAGE_LENGTH, MOST_TRADES, MOST_USERS, RECORD_LENGTH, TRADE_LENGTH,
 };
 
@@ -109,17 +109,20 @@ fn managers_in_bytes() {
         bytes[40 + 3 * 68 + 56..][..12],
         [201, 0, 0, 0, 0, 0, 0, 0, 0, 0, 0, 0]
     );
-    assert_eq!(daybook::read(&bytes), Ok(book()));
+    assert_eq!(Operator::new().read(&bytes), Ok(book()));
     for user in book().users {
-        assert_eq!(daybook::show(&bytes, user.id), Ok(user));
+        assert_eq!(Operator::new().record(&bytes, user.id), Ok(user));
         let mut record = [7; RECORD_LENGTH];
-        assert_eq!(archive::show(&bytes, None, user.id, &mut record), 0);
+        assert_eq!(
+            archive::show(&bytes, archive::OPERATOR, None, user.id, &mut record),
+            0
+        );
         assert_eq!(record, user.to_bytes());
         assert_eq!(User::from_bytes(&record), user);
     }
     for length in [55, 56, 67, 69] {
         let mut record = vec![7; length];
-        let number = archive::show(&bytes, None, 204, &mut record);
+        let number = archive::show(&bytes, archive::OPERATOR, None, 204, &mut record);
         assert_eq!((number, record), (archive::WRONG_LENGTH, vec![7; length]));
     }
 }
@@ -134,9 +137,15 @@ fn managers_of_versions_1_and_2() {
         named.users[0].managers = [u32::MAX, 201, 7];
         let bytes = bytes(&named);
         assert_eq!(bytes, self::bytes(&bare));
-        assert_eq!(daybook::read(&bytes).map(|read| read.users), Ok(bare.users));
+        assert_eq!(
+            Operator::new().read(&bytes).map(|read| read.users),
+            Ok(bare.users)
+        );
         let mut record = [7; RECORD_LENGTH];
-        assert_eq!(archive::show(&bytes, None, 204, &mut record), 0);
+        assert_eq!(
+            archive::show(&bytes, archive::OPERATOR, None, 204, &mut record),
+            0
+        );
         let at = header_length(version) + 3 * user_length(version);
         assert_eq!(record[..56], bytes[at..at + 56]);
         assert_eq!(record[56..], [0; 12]);
@@ -149,8 +158,9 @@ fn managers_of_versions_1_and_2() {
 fn levels_before_and_after_a_manager_is_named() {
     let levels = |book: &Book, id| {
         let bytes = bytes(book);
-        let (morning, afternoon) = (daybook::morning_level, daybook::afternoon_level);
-        [morning(&bytes, id), afternoon(&bytes, id)].map(|level| level.expect("a shipper"))
+        let operator = Operator::new();
+        let morning = operator.morning_level(&bytes, id);
+        [morning, operator.afternoon_level(&bytes, id)].map(|level| level.expect("a shipper"))
     };
     assert_eq!(
         levels(&alone(), 201),
@@ -177,7 +187,7 @@ fn a_run_cuts_a_members_sale() {
     let first = bytes(&book());
     let mut after = first.clone();
     let mut log = Log::start(&first).expect("a book that fits");
-    let run = Request::new().log(&mut log).run(&mut after);
+    let run = Operator::new().log(&mut log).run(&mut after);
     let expected = Run {
         reductions: 1,
         mwh: 18_096,
@@ -185,7 +195,7 @@ fn a_run_cuts_a_members_sale() {
         log_full: false,
     };
     assert_eq!(run, Ok(expected));
-    let fields = daybook::read(&after).expect("an accepted book");
+    let fields = Operator::new().read(&after).expect("an accepted book");
     let standing: Vec<u32> = fields.trades.iter().map(|trade| trade.standing).collect();
     assert_eq!(standing, [7_936, 0, 3_968, 20_000, 0, 2_000]);
     let positions: Vec<[i32; 3]> = fields.users.iter().map(|user| user.position).collect();
@@ -196,16 +206,16 @@ fn a_run_cuts_a_members_sale() {
         [-3_000, 0, 0],
     ];
     assert_eq!(positions, expected);
-    let refusal = daybook::afternoon_call(&mut after.clone(), 204);
+    let refusal = Operator::new().afternoon_call(&mut after.clone(), 204);
     assert_eq!(refusal, Err(Refusal::CalledIn));
-    let withdrawn = Request::new().log(&mut log).withdraw(&mut after);
+    let withdrawn = Operator::new().log(&mut log).withdraw(&mut after);
     assert_eq!(withdrawn.map(|back| back.mwh), Ok(18_096));
     assert_eq!(after, first);
 }
 
 #[test]
 fn a_cancellation_marks_a_members_sale() {
-    let found = daybook::cancellation(&bytes(&book()), 201, 65_535);
+    let found = Operator::new().cancellation(&bytes(&book()), 201, 65_535);
     let mut marks = [false; MOST_TRADES];
     for place in [1, 2, 4] {
         marks[place] = true;
@@ -217,7 +227,7 @@ fn a_cancellation_marks_a_members_sale() {
         complete: true,
     };
     assert_eq!(found, Ok(expected));
-    let member = daybook::cancellation(&bytes(&book()), 204, 65_535);
+    let member = Operator::new().cancellation(&bytes(&book()), 204, 65_535);
     assert_eq!(member, Err(Refusal::CalledIn));
 }
 
@@ -227,7 +237,7 @@ fn a_cancellation_marks_a_members_sale() {
 fn warnings_by_the_managers_flag() {
     let warned = |mut book: Book| {
         book.trades[2].kind = 1;
-        daybook::warning(&bytes(&book), 203)
+        Operator::new().warning(&bytes(&book), 203)
     };
     assert_eq!(warned(alone()), Ok(false));
     assert_eq!(warned(book()), Ok(true));
@@ -285,14 +295,24 @@ fn version_3_beside_version_2() {
     for (bytes, version) in [(&long, 2), (&short, 3)] {
         let mut other = bytes.clone();
         other[3] = version;
-        assert_eq!(daybook::read(&other), Err(Refusal::CountsAndLength));
+        assert_eq!(Operator::new().read(&other), Err(Refusal::CountsAndLength));
     }
     for id in 201..=204 {
-        let level = daybook::afternoon_level(&long, id);
-        assert_eq!(level, daybook::afternoon_level(&short, id));
-        assert_eq!(daybook::warning(&long, id), daybook::warning(&short, id));
+        let level = Operator::new().afternoon_level(&long, id);
+        assert_eq!(level, Operator::new().afternoon_level(&short, id));
+        assert_eq!(
+            Operator::new().warning(&long, id),
+            Operator::new().warning(&short, id)
+        );
     }
-    assert_eq!(daybook::run(&mut long), daybook::run(&mut short));
-    let fields = |bytes: &[u8]| daybook::read(bytes).map(|book| (book.users, book.trades));
+    assert_eq!(
+        Operator::new().run(&mut long),
+        Operator::new().run(&mut short)
+    );
+    let fields = |bytes: &[u8]| {
+        Operator::new()
+            .read(bytes)
+            .map(|book| (book.users, book.trades))
+    };
     assert_eq!(fields(&long), fields(&short));
 }

@@ -3,7 +3,7 @@
 #![forbid(unsafe_code)]
 
 use daybook::{
-    archive, Book, Line, Log, Prices, Refusal, Request, Run, Trade, User, Withdrawal, LOG_LENGTH,
+    archive, Book, Line, Log, Operator, Prices, Refusal, Run, Trade, User, Withdrawal, LOG_LENGTH,
     MOST_ENTRIES,
 };
 
@@ -77,21 +77,21 @@ fn a_log_is_withdrawn_to_the_first_book() {
         assert_eq!((log.entries(), log.held()), (0, &first[..]));
 
         let store = store(20_260_318);
-        let mut request = Request::new().store(&store).log(&mut log);
-        let reduction = request.reduction(&mut book, 101).expect("a reduction");
+        let mut operator = Operator::new().store(&store).log(&mut log);
+        let reduction = operator.reduction(&mut book, 101).expect("a reduction");
         assert_eq!((reduction.mwh, reduction.worth), (1, 2_000));
-        assert_eq!(request.withdraw(&mut book), Ok(ONE));
+        assert_eq!(operator.withdraw(&mut book), Ok(ONE));
         assert_eq!(book, first);
-        assert_eq!(request.withdraw(&mut book), Err(Refusal::LogEmpty));
-        let run = request.run(&mut book).expect("a run");
+        assert_eq!(operator.withdraw(&mut book), Err(Refusal::LogEmpty));
+        let run = operator.run(&mut book).expect("a run");
         assert_eq!(counts(&run), (256, 256, 512_000, true));
         assert_eq!((log.entries(), log.held()), (MOST_ENTRIES, &book[..]));
 
         // A log is kept as bytes, and read again.
         let mut log = Log::from_bytes(log.into_bytes());
         for left in (0..MOST_ENTRIES).rev() {
-            let mut request = Request::new().log(&mut log);
-            assert_eq!(request.withdraw(&mut book), Ok(ONE));
+            let mut operator = Operator::new().log(&mut log);
+            assert_eq!(operator.withdraw(&mut book), Ok(ONE));
             assert_eq!((log.entries(), log.held()), (left, &book[..]));
         }
         assert_eq!(book, first);
@@ -105,7 +105,7 @@ fn a_log_is_withdrawn_to_the_first_book() {
 fn answers_with_a_log() {
     let (mut logged, mut plain) = (book(1), book(1));
     let mut log = Log::start(&logged).expect("a log");
-    let mut with = Request::new().log(&mut log);
+    let mut with = Operator::new().log(&mut log);
     let mut without = with.without_log();
     for _ in 0..5 {
         let reduction = with.reduction(&mut logged, 101);
@@ -115,7 +115,7 @@ fn answers_with_a_log() {
     }
     assert_eq!(
         with.afternoon_level(&logged, 101),
-        daybook::afternoon_level(&plain, 101)
+        Operator::new().afternoon_level(&plain, 101)
     );
     assert_eq!(log.entries(), 5);
 }
@@ -125,34 +125,34 @@ fn answers_with_a_log() {
 fn a_full_log() {
     let mut book = book(1);
     let mut log = Log::start(&book).expect("a log");
-    let run = Request::new().log(&mut log).run(&mut book).expect("a run");
+    let run = Operator::new().log(&mut log).run(&mut book).expect("a run");
     assert!(run.log_full);
     let (before, full) = (book.clone(), log.clone());
 
-    let mut request = Request::new().log(&mut log);
-    assert_eq!(request.reduction(&mut book, 101), Err(Refusal::LogFull));
-    assert_eq!(request.reduction(&mut book, 103), Err(Refusal::Id));
+    let mut operator = Operator::new().log(&mut log);
+    assert_eq!(operator.reduction(&mut book, 101), Err(Refusal::LogFull));
+    assert_eq!(operator.reduction(&mut book, 103), Err(Refusal::Id));
     assert_eq!(
-        request.reduction(&mut book, 102),
+        operator.reduction(&mut book, 102),
         Err(Refusal::AssignedBelowLevel),
         "the log's room is asked last"
     );
-    let again = request.run(&mut book).expect("a run");
+    let again = operator.run(&mut book).expect("a run");
     assert_eq!(counts(&again), (0, 0, 0, true));
     assert_eq!((&book, &log), (&before, &full));
 
     // The last is withdrawn, and there is room for it again.
-    let mut request = Request::new().log(&mut log);
-    assert_eq!(request.withdraw(&mut book), Ok(ONE));
-    let again = request.run(&mut book).expect("a run");
+    let mut operator = Operator::new().log(&mut log);
+    assert_eq!(operator.withdraw(&mut book), Ok(ONE));
+    let again = operator.run(&mut book).expect("a run");
     assert_eq!(counts(&again), (1, 1, 2_000, true));
     assert_eq!((&book, &log), (&before, &full));
 
     // A posting empties it, and the run comes to its end.
-    let mut request = Request::new().log(&mut log);
-    assert_eq!(request.posting(&mut book, 102, 1, 5), Ok(()));
-    assert_eq!(request.withdraw(&mut book), Err(Refusal::LogEmpty));
-    let rest = request.run(&mut book).expect("a run");
+    let mut operator = Operator::new().log(&mut log);
+    assert_eq!(operator.posting(&mut book, 102, 1, 5), Ok(()));
+    assert_eq!(operator.withdraw(&mut book), Err(Refusal::LogEmpty));
+    let rest = operator.run(&mut book).expect("a run");
     assert_eq!(counts(&rest), (43, 43, 86_000, false));
     assert_eq!((log.entries(), log.held()), (43, &book[..]));
 }
@@ -162,11 +162,11 @@ fn a_full_log() {
 fn emptied_logs() {
     let mut book = book(1);
     let mut noted = Log::start(&book).expect("a log");
-    let mut request = Request::new().log(&mut noted);
-    request.reduction(&mut book, 101).expect("a reduction");
+    let mut operator = Operator::new().log(&mut noted);
+    operator.reduction(&mut book, 101).expect("a reduction");
 
     // The guarantee covers the level where the charges are one cent less.
-    let mut covered = daybook::read(&book).expect("a book");
+    let mut covered = Operator::new().read(&book).expect("a book");
     covered.users[0].charges -= 1;
     let mut callable = vec![0; book.len()];
     daybook::write(&covered, &mut callable).expect("an accepted book");
@@ -180,65 +180,65 @@ fn emptied_logs() {
         area: 2,
         amount: -4,
     };
-    type Change<'a> = &'a dyn Fn(&mut Request, &mut [u8]) -> Result<(), Refusal>;
-    let listed = |request: &mut Request, book: &mut [u8], lines: &[Line]| {
-        request.list(book, lines).map(|_| ())
+    type Change<'a> = &'a dyn Fn(&mut Operator, &mut [u8]) -> Result<(), Refusal>;
+    let listed = |operator: &mut Operator, book: &mut [u8], lines: &[Line]| {
+        operator.list(book, lines).map(|_| ())
     };
     let accepted: [(Change, &[u8], &Log); 6] = [
         (
-            &|request, book| request.posting(book, 101, 0, 1),
+            &|operator, book| operator.posting(book, 101, 0, 1),
             &book,
             &noted,
         ),
         (
-            &|request, book| listed(request, book, &[line(102)]),
+            &|operator, book| listed(operator, book, &[line(102)]),
             &book,
             &noted,
         ),
         (
-            &|request, book| listed(request, book, &[line(103)]),
+            &|operator, book| listed(operator, book, &[line(103)]),
             &book,
             &noted,
         ),
-        (&|request, book| listed(request, book, &[]), &book, &noted),
+        (&|operator, book| listed(operator, book, &[]), &book, &noted),
         (
-            &|request, book| request.morning_call(book, 101).map(|_| ()),
+            &|operator, book| operator.morning_call(book, 101).map(|_| ()),
             &callable,
             &of_callable,
         ),
         (
-            &|request, book| request.afternoon_call(book, 101).map(|_| ()),
+            &|operator, book| operator.afternoon_call(book, 101).map(|_| ()),
             &callable,
             &of_callable,
         ),
     ];
     for (place, (change, book, log)) in accepted.into_iter().enumerate() {
         let (mut book, mut log) = (book.to_vec(), log.clone());
-        let answer = change(&mut Request::new().log(&mut log), &mut book);
+        let answer = change(&mut Operator::new().log(&mut log), &mut book);
         assert_eq!(answer, Ok(()), "{place}");
         assert_eq!(Log::start(&book), Ok(log), "{place}");
     }
     let refused: [(Change, Refusal); 4] = [
         (
-            &|request, book| request.posting(book, 101, 3, 1),
+            &|operator, book| operator.posting(book, 101, 3, 1),
             Refusal::Entry,
         ),
         (
-            &|request, book| listed(request, book, &[line(102); 513]),
+            &|operator, book| listed(operator, book, &[line(102); 513]),
             Refusal::Lines,
         ),
         (
-            &|request, book| request.morning_call(book, 101).map(|_| ()),
+            &|operator, book| operator.morning_call(book, 101).map(|_| ()),
             Refusal::AssignedCoversLevel,
         ),
         (
-            &|request, book| request.afternoon_call(book, 101).map(|_| ()),
+            &|operator, book| operator.afternoon_call(book, 101).map(|_| ()),
             Refusal::AssignedCoversLevel,
         ),
     ];
     for (change, refusal) in refused {
         let (mut after, mut log) = (book.clone(), noted.clone());
-        let answer = change(&mut Request::new().log(&mut log), &mut after);
+        let answer = change(&mut Operator::new().log(&mut log), &mut after);
         assert_eq!(answer, Err(refusal));
         assert_eq!((&after, &log), (&book, &noted));
     }
@@ -251,8 +251,8 @@ fn logs_of_another_form_or_book() {
     let first = book(1);
     let mut book = first.clone();
     let mut log = Log::start(&book).expect("a log");
-    let mut request = Request::new().log(&mut log);
-    request.reduction(&mut book, 101).expect("a reduction");
+    let mut operator = Operator::new().log(&mut log);
+    operator.reduction(&mut book, 101).expect("a reduction");
     let good = log.into_bytes();
     let with = |place: usize, byte: u8| {
         let mut bytes = good.clone();
@@ -280,46 +280,51 @@ fn logs_of_another_form_or_book() {
     for (place, bytes) in others.into_iter().enumerate() {
         let mut log = Log::from_bytes(bytes.clone());
         let mut after = book.clone();
-        let mut request = Request::new().log(&mut log);
+        let mut operator = Operator::new().log(&mut log);
         let line = Line {
             id: 101,
             area: 0,
             amount: 1,
         };
         let answers = [
-            request.posting(&mut after, 101, 0, 1).err(),
-            request.list(&mut after, &[line]).err(),
-            request.morning_call(&mut after, 101).err(),
-            request.afternoon_call(&mut after, 101).err(),
-            request.reduction(&mut after, 101).err(),
-            request.run(&mut after).err(),
-            request.withdraw(&mut after).err(),
+            operator.posting(&mut after, 101, 0, 1).err(),
+            operator.list(&mut after, &[line]).err(),
+            operator.morning_call(&mut after, 101).err(),
+            operator.afternoon_call(&mut after, 101).err(),
+            operator.reduction(&mut after, 101).err(),
+            operator.run(&mut after).err(),
+            operator.withdraw(&mut after).err(),
         ];
         assert_eq!(answers, [Some(Refusal::LogForm); 7], "log {place}");
         // Queries leave a log aside.
-        assert_eq!(request.show(&after, 101), daybook::show(&book, 101));
+        assert_eq!(
+            operator.record(&after, 101),
+            Operator::new().record(&book, 101)
+        );
         assert_eq!(after, book);
         assert_eq!(log.into_bytes(), bytes);
     }
     // A cut of 2 raises the sale, standing at 298, just to the 300 that were notified.
     let (mut after, mut log) = (book.clone(), Log::from_bytes(with(9_524, 2)));
-    let back = Request::new().log(&mut log).withdraw(&mut after);
+    let back = Operator::new().log(&mut log).withdraw(&mut after);
     assert_eq!(back.map(|done| done.mwh), Ok(2));
-    let standing = daybook::read(&after).map(|book| book.trades[0].standing);
+    let standing = Operator::new()
+        .read(&after)
+        .map(|book| book.trades[0].standing);
     assert_eq!(standing, Ok(300));
 
     let mut after = book.clone();
     assert_eq!(
-        Request::new().withdraw(&mut after),
+        Operator::new().withdraw(&mut after),
         Err(Refusal::LogForm),
         "without a log"
     );
     // 19 is asked after the questions about the book and the store.
     let late = store(20_260_319);
     let mut log = Log::from_bytes(vec![]);
-    let mut request = Request::new().store(&late).log(&mut log);
-    assert_eq!(request.withdraw(&mut after), Err(Refusal::SetInForce));
-    assert_eq!(request.withdraw(&mut after[..31]), Err(Refusal::Mark));
+    let mut operator = Operator::new().store(&late).log(&mut log);
+    assert_eq!(operator.withdraw(&mut after), Err(Refusal::SetInForce));
+    assert_eq!(operator.withdraw(&mut after[..31]), Err(Refusal::Mark));
 }
 
 /// Any book of up to 9,512 bytes starts a log, and what a log tells of itself is

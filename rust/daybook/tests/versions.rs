@@ -5,10 +5,7 @@
 use std::fs;
 use std::path::Path;
 
-use daybook::{
-    afternoon_level, archive, convert, convert_into, morning_level, read, run, write, Book,
-    Refusal, Version, IMAGE_LENGTH,
-};
+use daybook::{archive, write, Book, Operator, Refusal, Version, IMAGE_LENGTH};
 
 /// The sample books of versions 1, 2 and 3; the second has selling tariffs, the third
 /// these and a manager.
@@ -28,7 +25,7 @@ fn written(book: &Book) -> Vec<u8> {
 
 /// A sample without what an earlier version has not.
 fn bare(book: &[u8]) -> Book {
-    let mut book = read(book).expect("a sample");
+    let mut book = Operator::new().read(book).expect("a sample");
     book.prices.pvb_selling_tariff = 0;
     book.prices.tank_and_store_selling_tariff = 0;
     for user in &mut book.users {
@@ -43,16 +40,21 @@ fn each_version_as_each() {
         let first = bare(&sample);
         let bytes = written(&first);
         for version in Version::ALL {
-            let converted = convert(&bytes, version).expect("nothing is lost");
+            let converted = Operator::new()
+                .convert(&bytes, version)
+                .expect("nothing is lost");
             let (users, trades) = (first.users.len(), first.trades.len());
             assert_eq!(converted.len(), version.length(users, trades));
             let expected = Book {
                 version: version.number(),
                 ..first.clone()
             };
-            assert_eq!(read(&converted).as_ref(), Ok(&expected));
+            assert_eq!(Operator::new().read(&converted).as_ref(), Ok(&expected));
             let own = Version::from_number(first.version).expect("a known version");
-            assert_eq!(convert(&converted, own).as_ref(), Ok(&bytes));
+            assert_eq!(
+                Operator::new().convert(&converted, own).as_ref(),
+                Ok(&bytes)
+            );
         }
     }
 }
@@ -60,17 +62,24 @@ fn each_version_as_each() {
 #[test]
 fn upwards_nothing_is_lost_and_every_answer_stays() {
     for sample in samples() {
-        let from = read(&sample).unwrap().version;
+        let from = Operator::new().read(&sample).unwrap().version;
         for version in Version::ALL.into_iter().filter(|it| it.number() >= from) {
-            let mut converted = convert(&sample, version).unwrap();
+            let mut converted = Operator::new().convert(&sample, version).unwrap();
             let mut own = sample.clone();
-            for user in read(&sample).unwrap().users {
-                let levels =
-                    |book: &[u8]| (morning_level(book, user.id), afternoon_level(book, user.id));
+            for user in Operator::new().read(&sample).unwrap().users {
+                let levels = |book: &[u8]| {
+                    (
+                        Operator::new().morning_level(book, user.id),
+                        Operator::new().afternoon_level(book, user.id),
+                    )
+                };
                 assert_eq!(levels(&converted), levels(&own));
             }
-            assert_eq!(run(&mut converted), run(&mut own));
-            assert_eq!(convert(&own, version), Ok(converted));
+            assert_eq!(
+                Operator::new().run(&mut converted),
+                Operator::new().run(&mut own)
+            );
+            assert_eq!(Operator::new().convert(&own, version), Ok(converted));
         }
     }
 }
@@ -78,32 +87,41 @@ fn upwards_nothing_is_lost_and_every_answer_stays() {
 #[test]
 fn what_would_be_lost_is_refused() {
     let [one, two, three] = samples();
-    assert_eq!(convert(&two, Version::V1), Err(Refusal::InformationLost));
+    assert_eq!(
+        Operator::new().convert(&two, Version::V1),
+        Err(Refusal::InformationLost)
+    );
     for version in [Version::V1, Version::V2] {
-        assert_eq!(convert(&three, version), Err(Refusal::InformationLost));
+        assert_eq!(
+            Operator::new().convert(&three, version),
+            Err(Refusal::InformationLost)
+        );
     }
-    assert_eq!(convert(&one, Version::V1), Ok(one));
-    assert_eq!(convert(&two, Version::V2), Ok(two.clone()));
+    assert_eq!(Operator::new().convert(&one, Version::V1), Ok(one));
+    assert_eq!(Operator::new().convert(&two, Version::V2), Ok(two.clone()));
 
     // each field by itself
     let mut tariff = bare(&two);
     tariff.prices.tank_and_store_selling_tariff = 1;
     assert_eq!(
-        convert(&written(&tariff), Version::V1),
+        Operator::new().convert(&written(&tariff), Version::V1),
         Err(Refusal::InformationLost)
     );
     let mut managed = bare(&three);
     managed.users[2].managers[2] = managed.users[0].id;
     let managed = written(&managed);
     assert_eq!(
-        convert(&managed, Version::V1),
+        Operator::new().convert(&managed, Version::V1),
         Err(Refusal::InformationLost)
     );
     assert_eq!(
-        convert(&managed, Version::V2),
+        Operator::new().convert(&managed, Version::V2),
         Err(Refusal::InformationLost)
     );
-    assert_eq!(convert(&managed, Version::V3), Ok(managed.clone()));
+    assert_eq!(
+        Operator::new().convert(&managed, Version::V3),
+        Ok(managed.clone())
+    );
 }
 
 #[test]
@@ -113,20 +131,35 @@ fn refusals_come_in_their_order_and_leave_the_part() {
     for unknown in [0, 4, 257, 65_537, u32::MAX] {
         // 23 before 21 and 22, and after the book's questions
         let number = Refusal::TargetVersion.number();
-        assert_eq!(archive::convert(&three, unknown, &mut part[..1]), number);
-        assert_eq!(archive::convert(&three[..99], unknown, &mut part), 3);
+        assert_eq!(
+            archive::convert(&three, archive::OPERATOR, unknown, &mut part[..1]),
+            number
+        );
+        assert_eq!(
+            archive::convert(&three[..99], archive::OPERATOR, unknown, &mut part),
+            3
+        );
     }
     // 21 before 22
-    let lost = convert_into(&three, Version::V1, &mut part[..0]);
+    let lost = Operator::new().convert_into(&three, Version::V1, &mut part[..0]);
     assert_eq!(lost, Err(Refusal::InformationLost));
     let length = Version::V3.length(2, 1);
-    let short = convert_into(&one, Version::V3, &mut part[..length - 1]);
+    let short = Operator::new().convert_into(&one, Version::V3, &mut part[..length - 1]);
     assert_eq!(short, Err(Refusal::ConversionRoom));
-    assert_eq!(convert(&[], Version::V3), Err(Refusal::Mark));
+    assert_eq!(
+        Operator::new().convert(&[], Version::V3),
+        Err(Refusal::Mark)
+    );
     assert!(part.iter().all(|byte| *byte == 7));
 
-    assert_eq!(convert_into(&one, Version::V3, &mut part), Ok(length));
-    assert_eq!(part[..length], convert(&one, Version::V3).unwrap());
+    assert_eq!(
+        Operator::new().convert_into(&one, Version::V3, &mut part),
+        Ok(length)
+    );
+    assert_eq!(
+        part[..length],
+        Operator::new().convert(&one, Version::V3).unwrap()
+    );
     assert!(part[length..].iter().all(|byte| *byte == 7));
 }
 

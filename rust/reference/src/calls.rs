@@ -3,6 +3,7 @@
 use crate::book::Book;
 use crate::levels::{above_margin, afternoon_level_of, called_in, morning_level_of};
 use crate::logged::{empty, logged};
+use crate::party::Given;
 use crate::questions::{ask, Opened, ACCEPTED};
 use crate::units::Cents;
 
@@ -16,32 +17,32 @@ pub struct CallAnswer {
 /// The guarantee call of the morning, at the morning level.
 pub fn morning_call(
     bytes: &mut [u8],
-    store: Option<&[u8]>,
+    given: Given<'_>,
     log: Option<&mut [u8]>,
     id: u32,
 ) -> CallAnswer {
-    guarantee_call(bytes, store, log, |opened| call_in_the_morning(opened, id))
+    guarantee_call(bytes, given, log, |opened| call_in_the_morning(opened, id))
 }
 
 /// The guarantee call of the afternoon, at the afternoon level.
 pub fn afternoon_call(
     bytes: &mut [u8],
-    store: Option<&[u8]>,
+    given: Given<'_>,
     log: Option<&mut [u8]>,
     id: u32,
 ) -> CallAnswer {
-    guarantee_call(bytes, store, log, |opened| {
+    guarantee_call(bytes, given, log, |opened| {
         call_in_the_afternoon(opened, id)
     })
 }
 
 fn guarantee_call(
     bytes: &mut [u8],
-    store: Option<&[u8]>,
+    given: Given<'_>,
     log: Option<&mut [u8]>,
     call: impl FnOnce(&mut Opened) -> Result<CallAnswer, u32>,
 ) -> CallAnswer {
-    let called = logged(bytes, store, log, true, |opened, log| {
+    let called = logged(bytes, given, log, true, |opened, log| {
         let answer = call(opened)?;
         empty(log);
         Ok(answer)

@@ -2,6 +2,7 @@
 //! that is worth at least the target T.
 
 use crate::book::{Book, User, MOST_TRADES};
+use crate::party::{Act, Given};
 use crate::questions::{ask, opening_questions, Opened, ACCEPTED};
 use crate::reduction::{is_eligible, questions_8_to_14, target};
 use crate::units::Cents;
@@ -20,8 +21,8 @@ pub struct CancellationAnswer {
 }
 
 /// The whole trades of a shipper to cancel. "It changes no book."
-pub fn cancellation(bytes: &[u8], store: Option<&[u8]>, id: u32, tries: u32) -> CancellationAnswer {
-    cancelled(bytes, store, id, tries).unwrap_or_else(|number| CancellationAnswer {
+pub fn cancellation(bytes: &[u8], given: Given<'_>, id: u32, tries: u32) -> CancellationAnswer {
+    cancelled(bytes, given, id, tries).unwrap_or_else(|number| CancellationAnswer {
         number,
         marks: [false; MOST_TRADES],
         excess: 0,
@@ -34,11 +35,11 @@ pub fn cancellation(bytes: &[u8], store: Option<&[u8]>, id: u32, tries: u32) -> 
 /// question 8" and 24 "asked last"; then the answer.
 fn cancelled(
     bytes: &[u8],
-    store: Option<&[u8]>,
+    given: Given<'_>,
     id: u32,
     tries: u32,
 ) -> Result<CancellationAnswer, u32> {
-    let opened = opening_questions(bytes, store)?;
+    let opened = opening_questions(bytes, given, Act::Operators)?;
     ask(25, (1..=MOST_TRIES).contains(&tries))?;
     let place = questions_8_to_14(&opened, id)?;
     let Opened { book, limits } = opened;

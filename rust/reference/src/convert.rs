@@ -3,21 +3,22 @@
 
 use crate::book::Book;
 use crate::output::put;
-use crate::questions::{ask, questions_1_to_7};
+use crate::party::{Act, Party};
+use crate::questions::{ask, questions_to_26};
 use crate::units::Price;
 use crate::version::{has_managers, has_selling_tariffs, is_known};
 
-/// Writes the book as one of this version. "Every refusal leaves the output
+/// Writes the book as one of this version, an act of the operator. "Every refusal leaves the output
 /// unchanged. A longer output keeps its rest."
-pub fn convert(bytes: &[u8], version: u32, output: &mut [u8]) -> u32 {
-    put(converted(bytes, version), 22, output)
+pub fn convert(bytes: &[u8], party: Party, version: u32, output: &mut [u8]) -> u32 {
+    put(converted(bytes, party, version), 22, output)
 }
 
 /// "Lost information is refused with 21, an output too short with 22, and an
 /// unknown target version with 23, asked after question 7 in the order 23, 21,
 /// 22."
-fn converted(bytes: &[u8], version: u32) -> Result<Vec<u8>, u32> {
-    let book = questions_1_to_7(bytes)?;
+fn converted(bytes: &[u8], party: Party, version: u32) -> Result<Vec<u8>, u32> {
+    let book = questions_to_26(bytes, party, Act::Operators)?;
     let version = u16::try_from(version).map_err(|_| 23_u32)?;
     ask(23, is_known(version))?;
     ask(21, !loses(&book, version))?;

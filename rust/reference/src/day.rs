@@ -4,6 +4,7 @@ use std::fmt::Write;
 
 use crate::book::{Book, User};
 use crate::levels::{above_margin, afternoon_level_of, called_in};
+use crate::party::{Act, Given};
 use crate::questions::{opening_questions, Opened};
 use crate::run::{run_book, short_of_cover};
 use crate::store::Limits;
@@ -11,7 +12,7 @@ use crate::units::Cents;
 
 /// What the program `day` prints for this input.
 pub fn day(bytes: &[u8]) -> String {
-    match opening_questions(bytes, None) {
+    match opening_questions(bytes, Given::OPERATOR, Act::Operators) {
         Ok(opened) => printed(opened),
         Err(number) => format!("refused {number}\n"),
     }

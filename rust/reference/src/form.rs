@@ -5,7 +5,8 @@
 
 use crate::book::{length, user_length, Header, MARK, TRADE_LENGTH};
 use crate::output::put;
-use crate::questions::{ask, counts_and_length, questions_1_to_7};
+use crate::party::{Act, Party};
+use crate::questions::{ask, counts_and_length, questions_1_to_7, questions_to_26};
 use crate::version::{header_length, is_known, FIRST_HEADER_LENGTH};
 
 pub const FORM_MARK: &[u8; 3] = b"GDF";
@@ -18,14 +19,14 @@ pub const USER_FIELDS: [usize; 15] = [4, 1, 3, 4, 4, 4, 4, 4, 4, 8, 8, 8, 4, 4, 
 /// notified, standing.
 pub const TRADE_FIELDS: [usize; 8] = [4, 4, 1, 1, 1, 1, 4, 4];
 
-/// Writes the field-wise form of the book. "An output too short 30, asked last; a
+/// Writes the field-wise form of the book, an act of the operator. "An output too short 30, asked last; a
 /// refusal leaves the output unchanged and a longer output keeps its rest."
-pub fn form(bytes: &[u8], output: &mut [u8]) -> u32 {
-    let form = questions_1_to_7(bytes).map(|_| rearranged(bytes));
+pub fn form(bytes: &[u8], party: Party, output: &mut [u8]) -> u32 {
+    let form = questions_to_26(bytes, party, Act::Operators).map(|_| rearranged(bytes));
     put(form, 30, output)
 }
 
-/// Writes the book of a form. "A form that yields no accepted book gives 29, and
+/// Writes the book of a form. "The inverse has no acting party." "A form that yields no accepted book gives 29, and
 /// then an output too short 30."
 pub fn restore(form: &[u8], output: &mut [u8]) -> u32 {
     put(book_of(form), 30, output)

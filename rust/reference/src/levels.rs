@@ -3,6 +3,7 @@
 use crate::book::{Book, User, TODAY, TOMORROW};
 use crate::credit::credit;
 use crate::group;
+use crate::party::{Act, Given};
 use crate::questions::{questions_to_9, Opened, ACCEPTED};
 use crate::store::Limits;
 use crate::units::{Area, Cents, Mwh, Price};
@@ -14,21 +15,17 @@ pub struct LevelAnswer {
 }
 
 /// The morning level of a shipper.
-pub fn morning_level(bytes: &[u8], store: Option<&[u8]>, id: u32) -> LevelAnswer {
-    answer(
-        questions_to_9(bytes, store, id).map(|(Opened { book, limits }, place)| {
-            morning_level_of(&limits, &book, &book.users[place])
-        }),
-    )
+pub fn morning_level(bytes: &[u8], given: Given<'_>, id: u32) -> LevelAnswer {
+    answer(questions_to_9(bytes, given, Act::Own(id), id).map(
+        |(Opened { book, limits }, place)| morning_level_of(&limits, &book, &book.users[place]),
+    ))
 }
 
 /// The afternoon level of a shipper.
-pub fn afternoon_level(bytes: &[u8], store: Option<&[u8]>, id: u32) -> LevelAnswer {
-    answer(
-        questions_to_9(bytes, store, id).map(|(Opened { book, limits }, place)| {
-            afternoon_level_of(&limits, &book, &book.users[place])
-        }),
-    )
+pub fn afternoon_level(bytes: &[u8], given: Given<'_>, id: u32) -> LevelAnswer {
+    answer(questions_to_9(bytes, given, Act::Own(id), id).map(
+        |(Opened { book, limits }, place)| afternoon_level_of(&limits, &book, &book.users[place]),
+    ))
 }
 
 fn answer(level: Result<Cents, u32>) -> LevelAnswer {

@@ -2,8 +2,8 @@
 //! guarantee calls and reduced trades; and of document 02, asks 4 (parameters
 //! with a start date), 1 (a list of postings), 8 (whole cancellations), 3 (credit
 //! for long positions, version 2 of the book), 6 (a log, and the withdrawal of a
-//! reduction), 5 (group portfolios, version 3 of the book), 13 (field-wise storage)
-//! and 7 (books between versions).
+//! reduction), 5 (group portfolios, version 3 of the book), 13 (field-wise storage),
+//! 7 (books between versions) and 9 (who may see and do what).
 //!
 //! It is plain and slow on purpose. The modules follow the order of the
 //! document, and the comments cite its sections in quotes. Every number is
@@ -12,7 +12,9 @@
 //! The return of retained shrinkage ([`shrinkage`]) is an ask of document 02 and
 //! has nothing to do with a book.
 //!
-//! Every call takes the book as bytes, and a store as bytes or none; reading,
+//! Every call on a book takes it as bytes with the party that acts; writing, the
+//! printed day, the start of a log and the inverse of a form have none. A call takes a
+//! store as bytes or none; reading,
 //! writing, the printed day, the start of a log, the converter and the two ways
 //! between a book and its field-wise form take no store. A call that can
 //! change a book takes a log as bytes, or none; a withdrawal always takes one. A
@@ -34,10 +36,12 @@ pub mod list;
 pub mod log;
 pub mod logged;
 pub mod output;
+pub mod party;
 pub mod posting;
 pub mod questions;
 pub mod reduction;
 pub mod run;
+pub mod seen;
 pub mod show;
 pub mod shrinkage;
 pub mod store;
@@ -55,10 +59,12 @@ pub use form::{form, restore};
 pub use levels::{afternoon_level, morning_level, LevelAnswer};
 pub use list::{list, Columns};
 pub use log::start as start_log;
+pub use party::{Given, Party};
 pub use posting::posting;
 pub use questions::check;
 pub use reduction::{reduction, ReductionAnswer};
 pub use run::{run, RunAnswer};
+pub use seen::{flag, trade, trade_count, CountAnswer, FlagAnswer};
 pub use show::{show, show_picked};
 pub use transfer::{read, write, Image};
 pub use warning::{warning, WarningAnswer};

@@ -2,6 +2,7 @@
 //! postings in one call.
 
 use crate::logged::{empty, logged};
+use crate::party::Given;
 use crate::posting::post;
 use crate::questions::ACCEPTED;
 
@@ -23,13 +24,13 @@ pub struct Columns<'a> {
 /// unchanged".
 pub fn list(
     bytes: &mut [u8],
-    store: Option<&[u8]>,
+    given: Given<'_>,
     log: Option<&mut [u8]>,
     columns: Columns<'_>,
     places: &mut [u32],
 ) -> u32 {
     let fits = lines_fit(columns, places.len());
-    let listed = logged(bytes, store, log, fits, |opened, log| {
+    let listed = logged(bytes, given, log, fits, |opened, log| {
         for (line, place) in places.iter_mut().enumerate() {
             let (id, area) = (columns.ids[line], columns.areas[line]);
             let posted = post(opened, id, area, columns.amounts[line]);

@@ -1,24 +1,26 @@
-//! Document 02, ask 6: a call that can change a book, which may be given a log.
+//! Document 02, ask 6: a call that can change a book, which may be given a log; all of
+//! them are the operator's (ask 9).
 
 use crate::log::Log;
-use crate::questions::{ask, questions_1_to_7, Opened};
+use crate::party::{Act, Given};
+use crate::questions::{ask, questions_to_26, Opened};
 use crate::reduction::{reduce, ReductionAnswer};
 use crate::store;
 
-/// Questions 1 to 7, 15 (`fits`, of a list), 16 and 17 of the store, then 19 of the
-/// log; then the rest of the call. Book and log are written when it is accepted,
+/// Questions 1 to 7, 26, 15 (`fits`, of a list), 16 and 17 of the store, then 19 of
+/// the log; then the rest of the call. Book and log are written when it is accepted,
 /// the log with the book "as the last call given the log left it"; a refusal leaves
 /// both.
 pub fn logged<T>(
     bytes: &mut [u8],
-    store: Option<&[u8]>,
+    given: Given<'_>,
     log: Option<&mut [u8]>,
     fits: bool,
     call: impl FnOnce(&mut Opened, Option<&mut Log>) -> Result<T, u32>,
 ) -> Result<T, u32> {
-    let book = questions_1_to_7(bytes)?;
+    let book = questions_to_26(bytes, given.party, Act::Operators)?;
     ask(15, fits)?;
-    let limits = store::limits(store, book.date)?;
+    let limits = store::limits(given.store, book.date)?;
     let mut noted = match &log {
         Some(log) => Some(Log::from_bytes(log, &book)?),
         None => None,

@@ -1,19 +1,20 @@
 //! "Posting".
 
 use crate::logged::{empty, logged};
+use crate::party::Given;
 use crate::questions::{ask, physical_in_range, Opened, ACCEPTED};
 use crate::units::{Area, Mwh};
 
 /// Adds a signed amount to one user's physical entry and position in one area.
 pub fn posting(
     bytes: &mut [u8],
-    store: Option<&[u8]>,
+    given: Given<'_>,
     log: Option<&mut [u8]>,
     id: u32,
     area: u32,
     amount: i64,
 ) -> u32 {
-    let posted = logged(bytes, store, log, true, |opened, log| {
+    let posted = logged(bytes, given, log, true, |opened, log| {
         post(opened, id, area, amount)?;
         empty(log);
         Ok(())

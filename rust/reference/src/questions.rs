@@ -5,6 +5,7 @@ use crate::book::{
     TOMORROW, TRADE_LENGTH,
 };
 use crate::group::managers_valid;
+use crate::party::{question_26, Act, Given, Party};
 use crate::store::{self, Limits};
 use crate::units::{Area, Cents, Mwh, Price, Prices};
 use crate::version::{header_length, is_known, selling_tariffs_in_range, FIRST_HEADER_LENGTH};
@@ -192,23 +193,41 @@ impl Opened {
     }
 }
 
-/// Questions 1 to 7, then 16 and 17 of the store.
-pub fn opening_questions(bytes: &[u8], store: Option<&[u8]>) -> Result<Opened, u32> {
+/// Questions 1 to 7 and 26, "asked directly after question 7, before every later
+/// question".
+pub fn questions_to_26(bytes: &[u8], party: Party, act: Act) -> Result<Book, u32> {
     let book = questions_1_to_7(bytes)?;
-    let limits = store::limits(store, book.date)?;
+    question_26(&book, party, act)?;
+    Ok(book)
+}
+
+/// The same, then 16 and 17 of the store.
+pub fn opening_questions(bytes: &[u8], given: Given<'_>, act: Act) -> Result<Opened, u32> {
+    let book = questions_to_26(bytes, given.party, act)?;
+    let limits = store::limits(given.store, book.date)?;
     Ok(Opened { book, limits })
 }
 
 /// The opening questions and 8: the place of the user.
-pub fn questions_to_8(bytes: &[u8], store: Option<&[u8]>, id: u32) -> Result<(Opened, usize), u32> {
-    let opened = opening_questions(bytes, store)?;
+pub fn questions_to_8(
+    bytes: &[u8],
+    given: Given<'_>,
+    act: Act,
+    id: u32,
+) -> Result<(Opened, usize), u32> {
+    let opened = opening_questions(bytes, given, act)?;
     let place = opened.question_8(id)?;
     Ok((opened, place))
 }
 
 /// The opening questions, 8 and 9: the user is a shipper.
-pub fn questions_to_9(bytes: &[u8], store: Option<&[u8]>, id: u32) -> Result<(Opened, usize), u32> {
-    let opened = opening_questions(bytes, store)?;
+pub fn questions_to_9(
+    bytes: &[u8],
+    given: Given<'_>,
+    act: Act,
+    id: u32,
+) -> Result<(Opened, usize), u32> {
+    let opened = opening_questions(bytes, given, act)?;
     let place = opened.questions_8_and_9(id)?;
     Ok((opened, place))
 }

@@ -4,6 +4,7 @@ use crate::book::{Book, Trade, User};
 use crate::group;
 use crate::levels::{above_margin, afternoon_level_of, called_in};
 use crate::logged::{has_room, logged, note};
+use crate::party::Given;
 use crate::questions::{ask, Opened, ACCEPTED};
 use crate::store::Limits;
 use crate::units::{Area, Cents, Mwh, Price};
@@ -23,11 +24,11 @@ pub struct ReductionAnswer {
 /// last.
 pub fn reduction(
     bytes: &mut [u8],
-    store: Option<&[u8]>,
+    given: Given<'_>,
     log: Option<&mut [u8]>,
     id: u32,
 ) -> ReductionAnswer {
-    let reduced = logged(bytes, store, log, true, |opened, log| {
+    let reduced = logged(bytes, given, log, true, |opened, log| {
         let place = questions_8_to_14(opened, id)?;
         ask(20, has_room(log.as_deref()))?;
         Ok(note(opened, place, log))

@@ -4,6 +4,7 @@ use crate::book::{Book, User};
 use crate::levels::{above_margin, afternoon_level_of, called_in};
 use crate::log::Log;
 use crate::logged::{has_room, logged, note};
+use crate::party::Given;
 use crate::questions::{Opened, ACCEPTED};
 use crate::reduction::has_eligible_trade;
 use crate::store::Limits;
@@ -18,8 +19,8 @@ pub struct RunAnswer {
 
 /// Reduces while some user short of cover has an eligible trade; "a run" adds an
 /// entry to the log "for each of its own" reductions.
-pub fn run(bytes: &mut [u8], store: Option<&[u8]>, log: Option<&mut [u8]>) -> RunAnswer {
-    let run = logged(bytes, store, log, true, |opened, log| {
+pub fn run(bytes: &mut [u8], given: Given<'_>, log: Option<&mut [u8]>) -> RunAnswer {
+    let run = logged(bytes, given, log, true, |opened, log| {
         Ok(run_book(opened, log))
     });
     run.unwrap_or_else(|number| RunAnswer {

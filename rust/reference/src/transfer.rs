@@ -8,7 +8,8 @@
 //! writing does not look at them.
 
 use crate::book::{length, user_length, Book, Header, LONGEST, MOST_USERS};
-use crate::questions::{ask, counts_and_length, questions_1_to_7, ACCEPTED};
+use crate::party::{Act, Party};
+use crate::questions::{ask, counts_and_length, questions_1_to_7, questions_to_26, ACCEPTED};
 use crate::version::{self, is_known, LONGEST_HEADER_LENGTH};
 
 /// The fields of a book in bytes of one length.
@@ -18,8 +19,8 @@ pub type Image = [u8; LONGEST];
 const IMAGE_TRADES: usize = length(version::LAST, MOST_USERS, 0);
 
 /// The number and the fields; every field is 0 for a refusal.
-pub fn read(bytes: &[u8]) -> (u32, Image) {
-    match questions_1_to_7(bytes) {
+pub fn read(bytes: &[u8], party: Party) -> (u32, Image) {
+    match questions_to_26(bytes, party, Act::Operators) {
         Ok(book) => (ACCEPTED, image(&book)),
         Err(number) => (number, [0; LONGEST]),
     }

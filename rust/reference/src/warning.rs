@@ -3,6 +3,7 @@
 use crate::book::{Book, Trade, User};
 use crate::group::bearer;
 use crate::levels::flagged;
+use crate::party::{Act, Given};
 use crate::questions::{questions_to_9, Opened, ACCEPTED};
 use crate::store::Limits;
 use crate::units::Mwh;
@@ -14,8 +15,8 @@ pub struct WarningAnswer {
 }
 
 /// Whether a shipper is warned at midday.
-pub fn warning(bytes: &[u8], store: Option<&[u8]>, id: u32) -> WarningAnswer {
-    match questions_to_9(bytes, store, id) {
+pub fn warning(bytes: &[u8], given: Given<'_>, id: u32) -> WarningAnswer {
+    match questions_to_9(bytes, given, Act::Operators, id) {
         Ok((Opened { book, limits }, place)) => WarningAnswer {
             number: ACCEPTED,
             warned: warned(&limits, &book, &book.users[place]),

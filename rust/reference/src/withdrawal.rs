@@ -3,6 +3,7 @@
 use crate::book::Book;
 use crate::log::Entry;
 use crate::logged::logged;
+use crate::party::Given;
 use crate::questions::ACCEPTED;
 use crate::reduction::{settle, Tally};
 
@@ -15,8 +16,8 @@ pub struct WithdrawalAnswer {
 
 /// "We want the last reduction withdrawn; the call returns its MWh and worth." "A
 /// withdrawal with an empty log gives 18", asked last.
-pub fn withdrawal(bytes: &mut [u8], store: Option<&[u8]>, log: &mut [u8]) -> WithdrawalAnswer {
-    let done = logged(bytes, store, Some(log), true, |opened, log| {
+pub fn withdrawal(bytes: &mut [u8], given: Given<'_>, log: &mut [u8]) -> WithdrawalAnswer {
+    let done = logged(bytes, given, Some(log), true, |opened, log| {
         // "A withdrawal drops the last."
         let last = log.and_then(|log| log.entries.pop()).ok_or(18_u32)?;
         Ok(restore(&mut opened.book, &last))

@@ -6,6 +6,7 @@ mod common;
 
 use common::{book, for_tomorrow, house, one_below, sale, shipper};
 use reference::book::Book;
+use reference::party::{Given, Party};
 use reference::units::Price;
 use reference::{afternoon_level, check, convert};
 
@@ -29,7 +30,7 @@ fn of_version(version: u16) -> Book {
 /// The number, and an output of this length.
 fn converted(bytes: &[u8], version: u32, length: usize) -> (u32, Vec<u8>) {
     let mut output = vec![0xAA; length];
-    let number = convert(bytes, version, &mut output);
+    let number = convert(bytes, Party::Operator, version, &mut output);
     (number, output)
 }
 
@@ -118,7 +119,7 @@ fn no_credit_by_conversion() {
         let (number, output) = converted(&first.to_bytes(), version, 200);
         assert_eq!(number, 0);
         let length = [88, 96, 108][version as usize - 1];
-        let answer = afternoon_level(&output[..length], None, 101);
+        let answer = afternoon_level(&output[..length], Given::OPERATOR, 101);
         assert_eq!((answer.number, answer.level), (0, level));
     }
 }

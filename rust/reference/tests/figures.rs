@@ -4,6 +4,7 @@
 
 use reference::book::{Book, Trade, User, TODAY, TOMORROW};
 use reference::levels::{afternoon_level_of, flagged, morning_level_of};
+use reference::party::Given;
 use reference::reduction::{cuts, tier_worth, Sale};
 use reference::store::Limits;
 use reference::units::{Area, Cents, Mwh, Price, Prices};
@@ -101,10 +102,10 @@ fn margin() {
         ..User::default()
     };
     let mut at = book(guarantees(9_000_000), Vec::new()).to_bytes();
-    let answer = reference::morning_call(&mut at, None, None, 101);
+    let answer = reference::morning_call(&mut at, Given::OPERATOR, None, 101);
     assert_eq!((answer.number, answer.level, answer.added), (11, 0, 0));
     let mut above = book(guarantees(8_999_999), Vec::new()).to_bytes();
-    let answer = reference::morning_call(&mut above, None, None, 101);
+    let answer = reference::morning_call(&mut above, Given::OPERATOR, None, 101);
     assert_eq!(
         (answer.number, answer.level, answer.added),
         (0, 10_000_000, 1_000_001)
@@ -182,14 +183,14 @@ fn short_by(target: i128, standings: [i128; 2]) -> Vec<u8> {
 #[test]
 fn reductions() {
     let mut bytes = short_by(7_000, [3, 4]);
-    let answer = reference::reduction(&mut bytes, None, None, 101);
+    let answer = reference::reduction(&mut bytes, Given::OPERATOR, None, 101);
     assert_eq!((answer.number, answer.mwh, answer.worth), (0, 4, 8_000));
     assert_eq!(
         (answer.target, answer.short, answer.over),
         (7_000, 0, 1_000)
     );
     let mut bytes = short_by(12_001, [3, 3]);
-    let answer = reference::reduction(&mut bytes, None, None, 101);
+    let answer = reference::reduction(&mut bytes, Given::OPERATOR, None, 101);
     assert_eq!((answer.number, answer.mwh, answer.worth), (0, 6, 12_000));
     assert_eq!((answer.target, answer.short, answer.over), (12_001, 1, 0));
 }

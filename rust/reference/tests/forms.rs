@@ -6,6 +6,7 @@ mod common;
 
 use common::{book, for_tomorrow, house, one_below, sale, shipper};
 use reference::book::Book;
+use reference::party::Party;
 use reference::{form, restore};
 
 /// Two shippers and a sale of 9 MWh in AVB.
@@ -56,7 +57,7 @@ fn trade_columns() -> Vec<u8> {
 fn there_and_back(book: &Book, expected: &[u8]) {
     let bytes = book.to_bytes();
     let mut output = vec![0xAA; bytes.len() + 2];
-    assert_eq!(form(&bytes, &mut output), 0);
+    assert_eq!(form(&bytes, Party::Operator, &mut output), 0);
     assert_eq!(output, [expected, &[0xAA; 2]].concat());
     let mut back = vec![0xAA; bytes.len() + 2];
     assert_eq!(restore(expected, &mut back), 0);
@@ -144,10 +145,14 @@ fn refusals() {
     for version in 1..=3 {
         let bytes = of_version(version).to_bytes();
         let mut short = vec![0xAA; bytes.len() - 1];
-        assert_eq!(form(&bytes, &mut short), 30);
-        assert_eq!(form(&bytes[..40], &mut short), 3, "before 30");
+        assert_eq!(form(&bytes, Party::Operator, &mut short), 30);
+        assert_eq!(
+            form(&bytes[..40], Party::Operator, &mut short),
+            3,
+            "before 30"
+        );
         let mut whole = vec![0; bytes.len()];
-        assert_eq!(form(&bytes, &mut whole), 0);
+        assert_eq!(form(&bytes, Party::Operator, &mut whole), 0);
         assert_eq!(restore(&whole, &mut short), 30);
         for length in 0..whole.len() {
             let number = restore(&whole[..length], &mut short);
@@ -156,7 +161,11 @@ fn refusals() {
         let longer = [&whole[..], &[0]].concat();
         assert_eq!(restore(&longer, &mut short), 29);
         assert_eq!(restore(&bytes, &mut short), 29, "a book is no form");
-        assert_eq!(form(&whole, &mut short), 1, "and a form no book");
+        assert_eq!(
+            form(&whole, Party::Operator, &mut short),
+            1,
+            "and a form no book"
+        );
         assert_eq!(short, vec![0xAA; bytes.len() - 1], "left by each refusal");
     }
 }
@@ -167,7 +176,7 @@ fn only_its_form() {
     for version in 1..=3 {
         let bytes = of_version(version).to_bytes();
         let mut whole = vec![0; bytes.len()];
-        assert_eq!(form(&bytes, &mut whole), 0);
+        assert_eq!(form(&bytes, Party::Operator, &mut whole), 0);
         let (mut taken, mut refused) = (0, 0);
         for place in 0..whole.len() {
             let mut other = whole.clone();
@@ -175,7 +184,7 @@ fn only_its_form() {
             let mut output = vec![0xAA; bytes.len()];
             if restore(&other, &mut output) == 0 {
                 let mut again = vec![0; bytes.len()];
-                assert_eq!(form(&output, &mut again), 0);
+                assert_eq!(form(&output, Party::Operator, &mut again), 0);
                 assert_eq!(again, other);
                 taken += 1;
             } else {

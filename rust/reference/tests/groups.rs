@@ -8,6 +8,7 @@ mod common;
 use common::{book, for_tomorrow, house, one_below, sale, shipper};
 use reference::book::{length, Book, LONGEST};
 use reference::levels::{called_in, flagged};
+use reference::party::{Given, Party};
 use reference::questions::questions_1_to_7;
 use reference::reduction::tiers;
 use reference::store::Limits;
@@ -23,11 +24,11 @@ fn number(book: &Book) -> u32 {
 }
 
 fn morning(book: &Book, id: u32) -> i128 {
-    morning_level(&book.to_bytes(), None, id).level
+    morning_level(&book.to_bytes(), Given::OPERATOR, id).level
 }
 
 fn afternoon(book: &Book, id: u32) -> i128 {
-    afternoon_level(&book.to_bytes(), None, id).level
+    afternoon_level(&book.to_bytes(), Given::OPERATOR, id).level
 }
 
 /// "A record is then 68 bytes, all shown."
@@ -41,7 +42,7 @@ fn records() {
     )
     .to_bytes();
     assert_eq!(bytes.len(), 176);
-    let (number, record) = show(&bytes, None, 102);
+    let (number, record) = show(&bytes, Given::OPERATOR, 102);
     assert_eq!((number, record), (0, &bytes[108..]));
     assert_eq!(record[56..], [101, 0, 0, 0, 0, 0, 0, 0, 0, 0, 0, 0]);
 }
@@ -224,12 +225,15 @@ fn reduction() {
     book.users[0].assigned = Cents(90_014_000 - 7_000);
     let mut bytes = book.to_bytes();
     // 6,000 and 8,000 cents: of the four sets the second trade alone is 1,000 over.
-    let found = cancellation(&bytes, None, 101, 9);
+    let found = cancellation(&bytes, Given::OPERATOR, 101, 9);
     assert_eq!((found.number, found.excess), (0, 1_000));
     assert_eq!((found.tries, found.complete), (4, true));
     assert_eq!(found.marks[..3], [false, true, false]);
-    assert_eq!(reference::reduction(&mut bytes, None, None, 102).number, 11);
-    let answer = reference::reduction(&mut bytes, None, None, 101);
+    assert_eq!(
+        reference::reduction(&mut bytes, Given::OPERATOR, None, 102).number,
+        11
+    );
+    let answer = reference::reduction(&mut bytes, Given::OPERATOR, None, 101);
     assert_eq!((answer.number, answer.mwh, answer.worth), (0, 4, 8_000));
     assert_eq!(
         (answer.target, answer.short, answer.over),
@@ -274,7 +278,10 @@ fn midday() {
             vec![sale(102, 103, area, 1)],
         );
         let flags = [0, 1].map(|place| flagged(&Limits::TODAY, &book, &book.users[place]));
-        (flags, warning(&book.to_bytes(), None, 103).warned)
+        (
+            flags,
+            warning(&book.to_bytes(), Given::OPERATOR, 103).warned,
+        )
     };
     assert_eq!(with([0; 3], 0), ([false, true], true));
     assert_eq!(with(PVB, 0), ([true, false], true));
@@ -298,7 +305,7 @@ fn warned_buyers() {
         let place = book.place_of(flagged).expect("the seller");
         book.users[place].physical[0] = Mwh(-40_000);
         book.users[place].position[0] = book.defined_position(&book.users[place], Area::Pvb);
-        [101, 102, 103].map(|id| warning(&book.to_bytes(), None, id).warned)
+        [101, 102, 103].map(|id| warning(&book.to_bytes(), Given::OPERATOR, id).warned)
     };
     let sold = sale(103, 102, 0, 1);
     assert_eq!(
@@ -344,7 +351,7 @@ fn fields() {
         );
         book.version = version;
         let bytes = book.to_bytes();
-        let (number, image) = read(&bytes);
+        let (number, image) = read(&bytes, Party::Operator);
         assert_eq!((number, image.len()), (0, 9_512));
         assert_eq!(image[108..112], [102, 0, 0, 0], "the second user");
         let manager = if version == 3 { 101 } else { 0 };

@@ -4,6 +4,7 @@
 
 use reference::book::{Book, Trade, User};
 use reference::log::LOG_LENGTH;
+use reference::party::Given;
 use reference::units::{Area, Cents, Mwh, Price, Prices};
 use reference::{
     afternoon_call, check, list, morning_call, posting, reduction, run, start_log, withdrawal,
@@ -133,9 +134,9 @@ fn withdraws() {
     let mut bytes = opening();
     let mut log = started(&bytes);
     let empty = log.clone();
-    let answer = withdrawal(&mut bytes, None, &mut log);
+    let answer = withdrawal(&mut bytes, Given::OPERATOR, &mut log);
     assert_eq!((answer.number, answer.mwh, answer.worth), (18, 0, 0));
-    let answer = reduction(&mut bytes, None, Some(&mut log), 101);
+    let answer = reduction(&mut bytes, Given::OPERATOR, Some(&mut log), 101);
     assert_eq!((answer.number, answer.mwh, answer.worth), (0, 4, 8_000));
     assert_eq!(word(&log, 4), 1);
     assert_eq!(log[12..12 + bytes.len()], bytes);
@@ -143,11 +144,11 @@ fn withdraws() {
     assert_eq!(cuts, [2, 0, 2, 0]);
     let (cut, noted) = (bytes.clone(), log.clone());
 
-    let answer = reduction(&mut bytes, None, Some(&mut log), 101);
+    let answer = reduction(&mut bytes, Given::OPERATOR, Some(&mut log), 101);
     assert_eq!(answer.number, 13, "the level is covered");
     assert_eq!((&bytes, &log), (&cut, &noted), "a refused call leaves it");
 
-    let answer = withdrawal(&mut bytes, None, &mut log);
+    let answer = withdrawal(&mut bytes, Given::OPERATOR, &mut log);
     assert_eq!((answer.number, answer.mwh, answer.worth), (0, 4, 8_000));
     assert_eq!((bytes, log), (opening(), empty), "byte for byte");
 }
@@ -158,11 +159,11 @@ fn withdraws() {
 fn empties() {
     let mut bytes = opening();
     let mut log = started(&bytes);
-    reduction(&mut bytes, None, Some(&mut log), 101);
+    reduction(&mut bytes, Given::OPERATOR, Some(&mut log), 101);
     let (cut, noted) = (bytes.clone(), log.clone());
-    let posted = posting(&mut bytes, None, Some(&mut log), 101, 3, 0);
+    let posted = posting(&mut bytes, Given::OPERATOR, Some(&mut log), 101, 3, 0);
     assert_eq!((posted, &log), (10, &noted));
-    let posted = posting(&mut bytes, None, Some(&mut log), 101, 0, 0);
+    let posted = posting(&mut bytes, Given::OPERATOR, Some(&mut log), 101, 0, 0);
     assert_eq!((posted, &bytes, &log), (0, &cut, &started(&cut)));
 
     let mut log = noted.clone();
@@ -171,7 +172,13 @@ fn empties() {
         areas: &[],
         amounts: &[],
     };
-    let listed = list(&mut bytes, None, Some(&mut log), columns, &mut []);
+    let listed = list(
+        &mut bytes,
+        Given::OPERATOR,
+        Some(&mut log),
+        columns,
+        &mut [],
+    );
     assert_eq!((listed, &log), (0, &started(&cut)));
 
     let (mut log, mut places) = (noted.clone(), [99]);
@@ -180,19 +187,32 @@ fn empties() {
         areas: &[0],
         amounts: &[0],
     };
-    let listed = list(&mut bytes, None, Some(&mut log), columns, &mut places);
+    let listed = list(
+        &mut bytes,
+        Given::OPERATOR,
+        Some(&mut log),
+        columns,
+        &mut places,
+    );
     assert_eq!((listed, places), (0, [8]), "every line is refused");
     assert_eq!(log, started(&cut));
 
     let mut log = noted.clone();
-    let posted = posting(&mut bytes, None, Some(&mut log), 101, 0, 1_000_000);
+    let posted = posting(
+        &mut bytes,
+        Given::OPERATOR,
+        Some(&mut log),
+        101,
+        0,
+        1_000_000,
+    );
     assert_eq!(posted, 0);
     assert_eq!(log, started(&bytes));
     let mut log = noted;
-    let called = morning_call(&mut bytes, None, Some(&mut log), 101);
+    let called = morning_call(&mut bytes, Given::OPERATOR, Some(&mut log), 101);
     assert_eq!(called.number, 19, "the held book differs");
     let mut log = with_count(&started(&bytes), 9);
-    let called = morning_call(&mut bytes, None, Some(&mut log), 101);
+    let called = morning_call(&mut bytes, Given::OPERATOR, Some(&mut log), 101);
     assert_eq!((called.number, called.added), (0, 10_000_000));
     assert_eq!(log, started(&bytes));
 }
@@ -203,7 +223,8 @@ fn empties() {
 fn forms() {
     let bytes = slow();
     let good = with_count(&started(&bytes), 1);
-    let number = |log: &[u8]| withdrawal(&mut bytes.clone(), None, &mut log.to_vec()).number;
+    let number =
+        |log: &[u8]| withdrawal(&mut bytes.clone(), Given::OPERATOR, &mut log.to_vec()).number;
     assert_eq!(number(&good), 0, "an entry of zeros");
     assert_eq!(number(&good[1..]), 19);
     assert_eq!(number(&[&good[..], &[0]].concat()), 19);
@@ -238,7 +259,7 @@ fn forms() {
     assert_eq!(number(&log), 19, "3 + 1 + 1 is not within 4");
     let mut log = good;
     log[0] = 0;
-    let posted = posting(&mut bytes.clone(), None, Some(&mut log), 7, 0, 0);
+    let posted = posting(&mut bytes.clone(), Given::OPERATOR, Some(&mut log), 7, 0, 0);
     assert_eq!(posted, 19, "before question 8");
 }
 
@@ -248,7 +269,7 @@ fn obeys_a_log_of_nobody() {
     let mut bytes = slow();
     let mut log = with_count(&started(&bytes), 1);
     put(&mut log, ENTRIES, 1);
-    let answer = withdrawal(&mut bytes, None, &mut log);
+    let answer = withdrawal(&mut bytes, Given::OPERATOR, &mut log);
     assert_eq!((answer.number, answer.mwh, answer.worth), (0, 1, 2_000));
     assert_eq!(log, started(&bytes));
     let users = [32 + 20, 88 + 20].map(|at| word(&bytes, at).cast_signed());
@@ -269,7 +290,7 @@ fn withdraws_the_last_first() {
         put(&mut log, ENTRIES + ENTRY * place, cut);
     }
     for (mwh, standing) in [(2, 5), (0, 5), (4, 9)] {
-        let answer = withdrawal(&mut bytes, None, &mut log);
+        let answer = withdrawal(&mut bytes, Given::OPERATOR, &mut log);
         assert_eq!(
             (answer.number, answer.mwh, answer.worth),
             (0, mwh, mwh * 2_100)
@@ -286,7 +307,7 @@ fn full_logs() {
     let run_with = |count: u32| {
         let mut bytes = slow();
         let mut log = with_count(&started(&bytes), count);
-        let answer = run(&mut bytes, None, Some(&mut log));
+        let answer = run(&mut bytes, Given::OPERATOR, Some(&mut log));
         let standing = word(&bytes, bytes.len() - 4);
         assert_eq!(log[12..12 + bytes.len()], bytes);
         let totals = [i128::from(answer.reductions), answer.mwh, answer.worth];
@@ -301,14 +322,14 @@ fn full_logs() {
     let mut log = with_count(&started(&bytes), 256);
     let full = log.clone();
     for (id, number) in [(101, 20), (103, 11), (7, 8)] {
-        let answer = reduction(&mut bytes, None, Some(&mut log), id);
+        let answer = reduction(&mut bytes, Given::OPERATOR, Some(&mut log), id);
         assert_eq!((answer.number, answer.mwh, answer.target), (number, 0, 0));
     }
     assert_eq!((bytes, log), (opening(), full));
     let mut bytes = opening();
-    posting(&mut bytes, None, None, 101, 0, 1_000);
+    posting(&mut bytes, Given::OPERATOR, None, 101, 0, 1_000);
     let mut log = with_count(&started(&bytes), 256);
-    let answer = run(&mut bytes, None, Some(&mut log));
+    let answer = run(&mut bytes, Given::OPERATOR, Some(&mut log));
     assert_eq!((answer.number, answer.reductions), (0, 0), "nothing is due");
 }
 
@@ -326,7 +347,13 @@ fn order_of_questions() {
         };
         let mut places = vec![99; places];
         let mut bytes = bytes.to_vec();
-        let number = list(&mut bytes, Some(store), Some(&mut []), columns, &mut places);
+        let number = list(
+            &mut bytes,
+            Given::by_operator(Some(store)),
+            Some(&mut []),
+            columns,
+            &mut places,
+        );
         assert!(places.iter().all(|place| *place == 99));
         number
     };
@@ -340,12 +367,30 @@ fn order_of_questions() {
         (None, 19),
     ] {
         let (mut book, log) = (bytes.clone(), || Some(&mut [][..]));
-        assert_eq!(posting(&mut book, store, log(), 7, 0, 0), number);
-        assert_eq!(morning_call(&mut book, store, log(), 7).number, number);
-        assert_eq!(afternoon_call(&mut book, store, log(), 7).number, number);
-        assert_eq!(reduction(&mut book, store, log(), 7).number, number);
-        assert_eq!(run(&mut book, store, log()).number, number);
-        assert_eq!(withdrawal(&mut book, store, &mut []).number, number);
+        assert_eq!(
+            posting(&mut book, Given::by_operator(store), log(), 7, 0, 0),
+            number
+        );
+        assert_eq!(
+            morning_call(&mut book, Given::by_operator(store), log(), 7).number,
+            number
+        );
+        assert_eq!(
+            afternoon_call(&mut book, Given::by_operator(store), log(), 7).number,
+            number
+        );
+        assert_eq!(
+            reduction(&mut book, Given::by_operator(store), log(), 7).number,
+            number
+        );
+        assert_eq!(
+            run(&mut book, Given::by_operator(store), log()).number,
+            number
+        );
+        assert_eq!(
+            withdrawal(&mut book, Given::by_operator(store), &mut []).number,
+            number
+        );
         assert_eq!(book, bytes);
     }
 }

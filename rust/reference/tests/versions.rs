@@ -4,6 +4,7 @@
 #![forbid(unsafe_code)]
 
 use reference::book::{length, Book, User, LONGEST};
+use reference::party::{Given, Party};
 use reference::units::{Cents, Mwh, Price, Prices};
 use reference::{afternoon_level, check, day, morning_level, read, show, warning, write};
 
@@ -79,14 +80,21 @@ fn questions() {
 /// of version 2 alone.
 #[test]
 fn credit() {
-    let level = |version: u16| afternoon_level(&book(version).to_bytes(), None, 101).level;
+    let level =
+        |version: u16| afternoon_level(&book(version).to_bytes(), Given::OPERATOR, 101).level;
     assert_eq!(level(1), 20_000_000);
     assert_eq!(level(2), 18_483_900);
     for version in [1, 2] {
         let bytes = book(version).to_bytes();
-        assert_eq!(morning_level(&bytes, None, 101).level, 20_000_000);
-        assert!(!warning(&bytes, None, 101).warned);
-        assert_eq!(show(&bytes, None, 101).1[..4], 101_u32.to_le_bytes());
+        assert_eq!(
+            morning_level(&bytes, Given::OPERATOR, 101).level,
+            20_000_000
+        );
+        assert!(!warning(&bytes, Given::OPERATOR, 101).warned);
+        assert_eq!(
+            show(&bytes, Given::OPERATOR, 101).1[..4],
+            101_u32.to_le_bytes()
+        );
     }
     assert_eq!(
         day(&book(2).to_bytes()),
@@ -107,7 +115,7 @@ fn floor() {
     ] {
         book.users[0].charges = Cents(charges);
         assert_eq!(
-            afternoon_level(&book.to_bytes(), None, 101).level,
+            afternoon_level(&book.to_bytes(), Given::OPERATOR, 101).level,
             level,
             "{charges}"
         );
@@ -120,7 +128,7 @@ fn floor() {
 fn fields() {
     for version in [1, 2] {
         let bytes = book(version).to_bytes();
-        let (number, image) = read(&bytes);
+        let (number, image) = read(&bytes, Party::Operator);
         assert_eq!(number, 0);
         let tariffs = &image[32..40];
         assert_eq!(tariffs.iter().all(|byte| *byte == 0), version == 1);

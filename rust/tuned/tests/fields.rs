@@ -5,6 +5,7 @@
 
 use books::tuned::{knows, narrowed, widened};
 use books::{Call, Generator};
+use reference::party::Party;
 use tuned::IMAGE_LENGTH;
 
 #[test]
@@ -15,7 +16,7 @@ fn drawn_books_are_read() {
         if !knows(&bytes, &Call::Read) {
             continue;
         }
-        let (number, expected) = reference::read(&bytes);
+        let (number, expected) = reference::read(&bytes, Party::Operator);
         let mut image = [0xA5; IMAGE_LENGTH];
         let read = tuned::read_image(&bytes, &mut image);
         assert_eq!(read.err().unwrap_or(0), number);

@@ -5,6 +5,7 @@
 
 use books::hard::{chain, many_sellers, one_seller, widest, MOST_REDUCTIONS};
 use reference::book::Book;
+use reference::party::Given;
 use reference::reduction::reduce;
 use reference::run::next_reduction;
 use reference::store::Limits;
@@ -58,7 +59,7 @@ fn short_runs() {
     for book in [one_seller(40), many_sellers(3), chain(5), widest(3)] {
         let mut bytes = book.to_bytes();
         let mut expected = bytes.clone();
-        let run = reference::run(&mut expected, None, None);
+        let run = reference::run(&mut expected, Given::OPERATOR, None);
         let found = tuned::run(&mut bytes).expect("an accepted book");
         assert_eq!(found.reductions, run.reductions);
         assert_eq!(i128::from(found.mwh.0), run.mwh);

@@ -6,23 +6,25 @@
 use books::tuned::knows;
 use books::vectors::{replay, replay_requests, REQUESTS};
 use books::{answer, asks, Answer, Call, Generator, Implementation};
+use reference::party::{Given, Party};
 
-/// The tuned implementation, or the reference where a call is given a log, takes no
-/// store, or questions a book of version 3.
-fn requested(book: &mut [u8], store: Option<&[u8]>, log: Option<&mut [u8]>, call: &Call) -> Answer {
-    if log.is_some() || !knows(book, call) {
-        return answer(book, store, log, call);
+/// The tuned implementation, or the reference where a call is a shipper's, is given a
+/// log, takes no store, or questions a book of version 3.
+fn requested(book: &mut [u8], given: Given<'_>, log: Option<&mut [u8]>, call: &Call) -> Answer {
+    if log.is_some() || !knows(book, call) || given.party != Party::Operator {
+        return answer(book, given, log, call);
     }
-    books::tuned::answer(book, store, call).unwrap_or_else(|| answer(book, store, None, call))
+    books::tuned::answer(book, given.store, call).unwrap_or_else(|| answer(book, given, None, call))
 }
 
 /// The same by the functions without a store.
-fn plain(book: &mut [u8], _: Option<&[u8]>, log: Option<&mut [u8]>, call: &Call) -> Answer {
+fn plain(book: &mut [u8], _: Given<'_>, log: Option<&mut [u8]>, call: &Call) -> Answer {
     assert!(log.is_none(), "a call of document 01");
     if !knows(book, call) {
-        return answer(book, None, None, call);
+        return answer(book, Given::OPERATOR, None, call);
     }
-    books::tuned::plain_answer(book, call).unwrap_or_else(|| answer(book, None, None, call))
+    books::tuned::plain_answer(book, call)
+        .unwrap_or_else(|| answer(book, Given::OPERATOR, None, call))
 }
 
 #[test]
@@ -48,7 +50,8 @@ fn drawn_requests() {
         for _ in 0..6 {
             let call = generator.call(&bytes, store);
             let before = bytes.clone();
-            let expected = answer(&mut bytes, store, None, &call);
+            let given = Given::by_operator(store);
+            let expected = answer(&mut bytes, given, None, &call);
             let mut sides = vec![requested as Implementation];
             if store.is_none() {
                 sides.push(plain);
@@ -56,7 +59,7 @@ fn drawn_requests() {
             for side in sides {
                 let mut book = before.clone();
                 assert_eq!(
-                    side(&mut book, store, None, &call),
+                    side(&mut book, given, None, &call),
                     expected,
                     "{call:?} {store:02x?}"
                 );

@@ -1,19 +1,20 @@
--- `admit` asks the book, then the store. Assumes nothing.
+-- `admit` asks the book, then 26, then the store. Assumes nothing.
 use mathlib.Core.Path.{_∙_, sym}
 use borrow.Author.Needs.{needs}
 use Rattle.call_admission.proofs.admit.Statement.{statement}
 use Rattle.call_admission.proofs.admit.Tie as tie
 
-number-requires : tie.Need-number-requires
-number-requires c κs = search needs
+ask-requires : tie.Need-ask-requires
+ask-requires c κs = (c .number .ensures, c .before .before .before .pre)
 
 by-store-requires : tie.Need-by-store-requires
-by-store-requires c κs = search needs
+by-store-requires c κs = λ e. sym (c .before .number .ensures) ∙ c .ask .ensures .1 e
 
 returns : tie.Need-returns
 returns c =
     let k = c .by-store .ensures in
-    (k .0, (k .1 .0, λ e. sym (c .before .number .ensures) ∙ k .1 .1 e))
+    let r = c .before .ask .ensures in
+    (k .0 _ _ (r .0), (k .1 .0, λ e. sym (c .before .before .number .ensures) ∙ r .1 (k .1 .1 e)))
 
 pub admit-spec : {M : Type 1} → statement M
-admit-spec = tie.close (tie.spec number-requires by-store-requires returns)
+admit-spec = tie.close (tie.spec (λ c κs. search needs) ask-requires by-store-requires returns)

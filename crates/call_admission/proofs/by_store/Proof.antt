@@ -1,5 +1,4 @@
--- `by_store` hands on the number of the book's questions; where it is 0 the number and the figures are those of the store on the book's date. Assumes nothing.
-use mathlib.Core.Path.{_∙_, sym}
+-- `by_store` hands on the number of the questions up to 26; where it is 0 the number and the figures are those of the store on the book's date. Assumes nothing.
 use native.Mathlib.Omega.{arith}
 use denote.Ref.{now}
 use borrow.Author.Needs.{needs}
@@ -16,12 +15,12 @@ returns : tie.Need-returns
 returns c =
     let o = c .before .before .before .before in
     let a = o .args in
-    (admitted-refused (now (a .book)) (given (a .with-store) (now (a .store))) (o .pre) (c .before .if1 .taken), (c .today .ensures .1, λ e. e))
+    (λ actor m h. admitted-refused (now (a .book)) (given (a .with-store) (now (a .store))) actor m h (c .before .if1 .taken), (c .today .ensures .1, λ e. e))
 
 get-u32-requires : tie.Need-get-u32-requires
 get-u32-requires c κs =
     let o = c .before .before .before in
-    omega (arith, passed (now (o .args .book)) (sym (o .pre) ∙ c .if1 .left) .form .head)
+    omega (arith, passed (now (o .args .book)) (o .pre (c .if1 .left)) .form .head)
 
 figures-on-requires : tie.Need-figures-on-requires
 figures-on-requires c κs = search needs
@@ -33,7 +32,7 @@ returns-2 c =
     let e = d .before in
     let o = e .before .before .before in
     let a = o .args in (
-      admitted-by-store (now (a .book)) (given (a .with-store) (now (a .store))) (o .pre) (e .if1 .left) (d .get-u32 .ensures) (f .figures-on .ensures),
+      λ actor m h. admitted-by-store (now (a .book)) (given (a .with-store) (now (a .store))) actor m h (e .if1 .left) (d .get-u32 .ensures) (f .figures-on .ensures),
       (f .figures-on .ensures .range, λ z. e .if1 .left),
     )
 

@@ -1,7 +1,8 @@
 -- `daybook::cancellation` searches after the opening questions, with the figures of its setting. Assumes nothing.
 use mathlib.Core.Path.{_∙_}
 use borrow.Author.Needs.{needs}
-use Rattle.requests.proofs.Cancellation.{cancellation-opened}
+use Rattle.rights.proofs.Replied.{cancelled-by}
+use Rattle.daybook.proofs.Matters.{of-operator}
 use Rattle.daybook.proofs.cancellation.Statement.{statement}
 use Rattle.daybook.proofs.cancellation.Tie as tie
 
@@ -18,10 +19,10 @@ cancellation-requires : tie.Need-cancellation-requires
 cancellation-requires c κs =
     let a = c .before .before .before .before .before .before .admit-with-sums in
     let k = a .ensures in
-    (k .1 .1 .0, (k .1 .0, ((a .kept .1 .1 .1 .0, a .kept .1 .1 .1 .1 .0), k .1 .1 .1)))
+    (k .1 .1 .0, (k .1 .0, ((a .kept .1 .1 .1 .1 .1 .0, a .kept .1 .1 .1 .1 .1 .1 .0), k .1 .1 .1)))
 
 returns : tie.Need-returns
-returns c = c .cancellation .ensures ∙ cancellation-opened _ _ _ _ (c .before .before .before .before .before .before .before .admit-with-sums .ensures .0)
+returns c = c .cancellation .ensures ∙ cancelled-by _ _ _ _ _ (of-operator (c .before .before .before .before .before .before .before .admit-with-sums .ensures .0))
 
 pub cancellation-spec : {M : Type 1} → statement M
 cancellation-spec =

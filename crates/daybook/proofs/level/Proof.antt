@@ -1,7 +1,9 @@
 -- `daybook::level` gives the level of a time of the day after the opening questions, with the figures of its setting. Assumes nothing.
 use mathlib.Core.Path.{_∙_}
+use native.Mathlib.Omega.{arith}
 use borrow.Author.Needs.{needs}
-use Rattle.requests.proofs.Opened.{replied}
+use Rattle.rights.proofs.Replied.{replied-by}
+use Rattle.daybook.proofs.Matters.{of-level}
 use Rattle.daybook.proofs.level.Statement.{statement}
 use Rattle.daybook.proofs.level.Tie as tie
 
@@ -20,7 +22,10 @@ level-requires c κs =
     (k .1 .1 .0, (k .1 .0, k .1 .1 .1))
 
 returns : tie.Need-returns
-returns c = c .level .ensures ∙ replied _ _ _ (c .before .before .before .before .before .before .before .admit-with-sums .ensures .0)
+returns c =
+    let k = c .before .before .before .before .before .before .before in
+    let o = k .before .before .before .before .before .before in
+    c .level .ensures ∙ replied-by _ _ _ _ (of-level (o .args .afternoon) (o .args .id) (omega (arith, o .fits .id)) (k .admit-with-sums .ensures .0))
 
 pub level-spec : {M : Type 1} → statement M
 level-spec =

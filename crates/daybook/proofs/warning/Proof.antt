@@ -1,7 +1,9 @@
 -- `daybook::warning` gives the warning after the opening questions, with the figures of its setting. Assumes nothing.
 use mathlib.Core.Path.{_∙_}
 use borrow.Author.Needs.{needs}
-use Rattle.requests.proofs.Opened.{replied}
+use Rattle.rights.proofs.Replied.{replied-by}
+use Rattle.daybook.proofs.Matters.{of-operator}
+use Rattle.rights.specs.Party.{matterOf}
 use Rattle.daybook.proofs.warning.Statement.{statement}
 use Rattle.daybook.proofs.warning.Tie as tie
 
@@ -12,7 +14,8 @@ warning-requires : tie.Need-warning-requires
 warning-requires c κs = search needs
 
 returns : tie.Need-returns
-returns c = c .warning .ensures ∙ replied _ _ _ (c .before .before .admit .ensures .0)
+unfolding matterOf
+returns c = c .warning .ensures ∙ replied-by _ _ _ _ (of-operator (c .before .before .admit .ensures .0))
 
 pub warning-spec : {M : Type 1} → statement M
 warning-spec = tie.close (tie.spec admit-requires warning-requires returns)

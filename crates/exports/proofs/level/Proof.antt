@@ -1,5 +1,6 @@
 -- `level` stores the level of a time of the day in a part of one place, and leaves another part as it is. Assumes nothing.
 use denote.Ref.{now}
+use Rattle.rules.specs.Queries.{Reply}
 use Rattle.exports_answers.specs.Numbers.{levelNumbers}
 use Rattle.exports.specs.Answers.{isYes}
 use Rattle.exports.proofs.Lent.{refused, replied}
@@ -24,7 +25,7 @@ unfolding isYes
 returns-2 c =
     let storing = c .before .before in
     let asked = storing .before .before in
-    replied 1 _ levelNumbers _ _ _ _ _ _ (asked .before .if1 .left) (asked .level .ensures) (storing .store-level .ensures .0) (storing .store-level .ensures .1)
+    replied 1 _ (λ (r : Reply). r .number) levelNumbers _ _ _ _ (asked .before .if1 .left) (asked .level .ensures) (storing .store-level .ensures .0) (storing .store-level .ensures .1)
 
 pub level-spec : {M : Type 1} → statement M
 level-spec =

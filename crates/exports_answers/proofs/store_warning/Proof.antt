@@ -1,19 +1,12 @@
 -- `store_warning` stores an array of the one number, which the cast makes 1 of yes and 0 of no. Assumes nothing.
-use mathlib.Core.Path.{_≡_, refl, ap, _∙_}
-use mathlib.Core.Bool.{Bool, true, false}
+use mathlib.Core.Path.{refl, ap, _∙_}
 use mathlib.Core.List.{[], _∷_}
 use Prim.Native.Nat.{ℕ}
-use mir.Val.{boolByte}
-use Rattle.exports_answers.specs.Numbers.{bit, warningNumbers}
+use Rattle.exports_answers.specs.Numbers.{warningNumbers}
+use Rattle.exports_answers.proofs.Bits.{cast-bit}
 use borrow.Author.Needs.{needs}
 use Rattle.exports_answers.proofs.store_warning.Statement.{statement}
 use Rattle.exports_answers.proofs.store_warning.Tie as tie
-
--- what the cast makes of yes and no
-cast-bit : (b : Bool) → boolByte b ≡ bit b
-unfolding bit
-cast-bit true = refl
-cast-bit false = refl
 
 cast-t4 : tie.Need-cast-t4
 cast-t4 c = search needs

@@ -73,9 +73,6 @@ part-make-start c = search needs
 part-make-end : tie.Need-part-make-end Inv-loop μ-loop
 part-make-end c = search needs
 
-amount-of-requires : tie.Need-amount-of-requires Inv-loop μ-loop
-amount-of-requires c κs = search needs
-
 make-requires : tie.Need-make-requires Inv-loop μ-loop
 make-requires c κs = search needs
 
@@ -120,7 +117,6 @@ make-calls-spec =
     sub-make
     part-make-start
     part-make-end
-    amount-of-requires
     make-requires
     add-place
     loop-less

@@ -1,13 +1,19 @@
 //! Prints what the program `try_calls` of the engine has to print for a file of
 //! calls on standard input: the place, the kind, the number and the fields of
 //! each, and after a call that may change the book the user's record; of a whole
-//! cancellation the places of the marked trades.
+//! cancellation the places of the marked trades; what a party is told of a user.
 //!
-//! A call is its kind (1 byte), id (4), area or number of tries (4), amount (8),
-//! the length of its book (2), and the book.
+//! A call is its kind (1 byte), id (4), area or number of tries (4), amount or party
+//! (8), the length of its book (2), and the book.
 
-use books::{answer, Call};
 use std::io::Read;
+
+use books::sha256::hex;
+use books::{answer, Call};
+use reference::party::{Given, Party};
+
+/// The kind of what a party is told.
+const TOLD: u8 = 8;
 
 fn call_of(kind: u8, id: u32, area: u32, amount: i64) -> Call {
     match kind {
@@ -20,6 +26,22 @@ fn call_of(kind: u8, id: u32, area: u32, amount: i64) -> Call {
         7 => Call::Cancellation { id, tries: area },
         _ => Call::Posting { id, area, amount },
     }
+}
+
+/// The numbers of flag and count with what they tell, each trade with its number, past
+/// the last too, and the record with its number.
+fn told(book: &[u8], party: Party, id: u32) -> String {
+    let given = Given { party, store: None };
+    let flag = reference::flag(book, given, id);
+    let trades = reference::trade_count(book, given, id);
+    let (flagged, count) = (u8::from(flag.flagged), trades.count);
+    let mut text = format!(" {} {flagged} {} {count}", flag.number, trades.number);
+    let count = u32::try_from(count).expect("at most 256 trades");
+    let trades = (0..=count).map(|ordinal| reference::trade(book, given, id, ordinal));
+    for (number, part) in trades.chain([reference::show(book, given, id)]) {
+        text.push_str(&format!(" {} {number}", hex(part)));
+    }
+    text
 }
 
 fn main() {
@@ -40,7 +62,14 @@ fn main() {
         }
         let mut book = rest[19..19 + length].to_vec();
         rest = &rest[19 + length..];
-        let given = answer(&mut book, None, None, &call_of(kind, id, area, amount));
+        if kind == TOLD {
+            let party = Party::of(amount.cast_unsigned());
+            println!("{place} {kind}{}", told(&book, party, id));
+            place += 1;
+            continue;
+        }
+        let call = call_of(kind, id, area, amount);
+        let given = answer(&mut book, Given::OPERATOR, None, &call);
         print!("{place} {kind} {}", given.number);
         for field in &given.fields {
             print!(" {field}");
@@ -52,7 +81,7 @@ fn main() {
             }
         } else if !(1..=3).contains(&kind) {
             print!(" ");
-            for byte in answer(&mut book, None, None, &Call::Show { id }).part {
+            for byte in answer(&mut book, Given::OPERATOR, None, &Call::Show { id }).part {
                 print!("{byte:02x}");
             }
         }

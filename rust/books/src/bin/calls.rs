@@ -1,6 +1,7 @@
 //! Writes calls of document 02 that the program `try_calls` of the engine makes,
 //! after those of document 01, in the files `calls` and `calls.index` of the
-//! folder that is the argument. `answers` prints what has to be printed for them.
+//! folder that is the argument; what parties are told stays behind them. `answers`
+//! prints what has to be printed for all of them.
 //!
 //! A call is its kind (1 byte), id (4), area or number of tries (4), amount (8),
 //! the length of its book (2), and the book.
@@ -12,6 +13,7 @@ use books::written::{
 };
 use books::{answer, Call};
 use reference::book::{Book, Trade};
+use reference::party::Given;
 use reference::units::Price;
 use std::fmt::Write;
 
@@ -648,16 +650,36 @@ fn length_of(calls: usize, file: &[u8]) -> usize {
     length
 }
 
+/// The kind of what a party is told.
+const TOLD: u8 = 8;
+
+/// What parties are told, which no program writes: each call and what it shows.
+fn told(file: &[u8], index: &str) -> Vec<(Vec<u8>, String)> {
+    let mut told = Vec::new();
+    let mut rest = file;
+    for line in index.lines() {
+        let (call, after) = rest.split_at(length_of(1, rest));
+        if call[0] == TOLD {
+            let (_, shows) = line.split_once(' ').expect("a place and words");
+            told.push((call.to_vec(), shows.to_string()));
+        }
+        rest = after;
+    }
+    told
+}
+
 fn main() -> std::io::Result<()> {
     let folder = std::env::args().nth(1).expect("a folder");
     let mut file = std::fs::read(format!("{folder}/calls"))?;
-    file.truncate(length_of(OF_DOCUMENT_01, &file));
     let index = std::fs::read_to_string(format!("{folder}/calls.index"))?;
+    let told = told(&file, &index);
+    file.truncate(length_of(OF_DOCUMENT_01, &file));
     let lines = index.split_inclusive('\n').take(OF_DOCUMENT_01);
     let mut index: String = lines.collect();
     let calls = [levels(), guarantees(), runs(), cancellations(), groups()];
-    for (place, call) in (OF_DOCUMENT_01..).zip(calls.iter().flatten()) {
-        let given = answer(&mut call.book.clone(), None, None, &call.call);
+    let mut places = OF_DOCUMENT_01..;
+    for (call, place) in calls.iter().flatten().zip(&mut places) {
+        let given = answer(&mut call.book.clone(), Given::OPERATOR, None, &call.call);
         let mut answers = vec![i128::from(given.number)];
         answers.extend(&given.fields);
         assert!(
@@ -667,6 +689,10 @@ fn main() -> std::io::Result<()> {
         );
         file.extend_from_slice(&bytes_of(&call.call, &call.book));
         let _ = writeln!(index, "{place} {}", call.shows);
+    }
+    for ((call, shows), place) in told.iter().zip(&mut places) {
+        file.extend_from_slice(call);
+        let _ = writeln!(index, "{place} {shows}");
     }
     assert!(file.len() <= 65_536, "more than the program reads");
     std::fs::write(format!("{folder}/calls"), file)?;

@@ -11,6 +11,7 @@ use books::written::{book, covered, house, printed_example, sale, shipper};
 use books::{answer, Call};
 use reference::book::Book;
 use reference::list::MOST_LINES;
+use reference::party::Given;
 use std::fmt::Write;
 
 /// A line: id, area and amount.
@@ -196,7 +197,7 @@ fn main() -> std::io::Result<()> {
     for (place, list) in accepted().iter().chain(&refused()).enumerate() {
         file.extend_from_slice(&bytes_of(&list.book, &list.call));
         let mut book = list.book.clone();
-        let given = answer(&mut book, None, None, &list.call);
+        let given = answer(&mut book, Given::OPERATOR, None, &list.call);
         assert_eq!(given.number, list.number, "{place} {}", list.shows);
         let _ = writeln!(index, "{place} {}: {}", list.shows, given.number);
         print!("{place} {}", given.number);

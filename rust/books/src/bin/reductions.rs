@@ -12,6 +12,7 @@ use books::written::{
 };
 use books::Random;
 use reference::book::{Book, Trade};
+use reference::party::Given;
 use reference::questions::questions_1_to_7;
 use reference::reduction::{sales, target, tier_worth, tiers};
 use reference::run::next_reduction;
@@ -526,7 +527,7 @@ fn drawn() -> Vec<Reduction> {
                     again("the same book, the next user of its run", 0, id)
                 });
                 let mut bytes = b.to_bytes();
-                reference::reduction(&mut bytes, None, None, id);
+                reference::reduction(&mut bytes, Given::OPERATOR, None, id);
                 b = questions_1_to_7(&bytes).expect("an accepted book");
             }
         }
@@ -592,7 +593,7 @@ fn main() -> std::io::Result<()> {
             bytes = own;
         }
         let before = bytes.clone();
-        let answer = reference::reduction(&mut bytes, None, None, call.id);
+        let answer = reference::reduction(&mut bytes, Given::OPERATOR, None, call.id);
         assert_eq!(answer.number, call.number, "{place} {}", call.shows);
         let more = match answer.number {
             0 => tiers_of(&before, call.id),

@@ -1,13 +1,15 @@
 //! The functions that may change a book, and those of a log.
 
 use super::{
-    daybook_afternoon_call, daybook_list, daybook_morning_call, daybook_posting, daybook_reduction,
-    daybook_run, daybook_start_log, daybook_withdrawal, lent, lent_mut,
+    daybook_raw_afternoon_call, daybook_raw_list, daybook_raw_morning_call, daybook_raw_posting,
+    daybook_raw_reduction, daybook_raw_run, daybook_raw_start_log, daybook_raw_withdrawal, lent,
+    lent_mut,
 };
 
 /// Adds an amount to a user's physical entry and position in an area.
 pub fn posting(
     book: &mut [u8],
+    party: u64,
     store: Option<&[u8]>,
     log: Option<&mut [u8]>,
     id: u32,
@@ -19,9 +21,10 @@ pub fn posting(
     // SAFETY: each pointer comes with the length of its slice, the slices live through the call,
     // and book and log, lent by &mut, overlap nothing. The store is only read.
     unsafe {
-        daybook_posting(
+        daybook_raw_posting(
             book.as_mut_ptr(),
             book.len(),
+            party,
             with_store,
             store,
             store_len,
@@ -41,6 +44,7 @@ pub fn posting(
 /// refused call leaves book, log and places.
 pub fn list(
     book: &mut [u8],
+    party: u64,
     store: Option<&[u8]>,
     log: Option<&mut [u8]>,
     ids: &[u32],
@@ -54,9 +58,10 @@ pub fn list(
     // the call, and book, log and places, lent by &mut, overlap nothing. Store and columns are only
     // read.
     unsafe {
-        daybook_list(
+        daybook_raw_list(
             book.as_mut_ptr(),
             book.len(),
+            party,
             with_store,
             store,
             store_len,
@@ -79,6 +84,7 @@ pub fn list(
 /// added.
 pub fn morning_call(
     book: &mut [u8],
+    party: u64,
     store: Option<&[u8]>,
     log: Option<&mut [u8]>,
     id: u32,
@@ -89,9 +95,10 @@ pub fn morning_call(
     // SAFETY: each pointer comes with the length of its slice in elements, the slices live through
     // the call, and book, log and answer, lent by &mut, overlap nothing. The store is only read.
     unsafe {
-        daybook_morning_call(
+        daybook_raw_morning_call(
             book.as_mut_ptr(),
             book.len(),
+            party,
             with_store,
             store,
             store_len,
@@ -109,6 +116,7 @@ pub fn morning_call(
 /// added.
 pub fn afternoon_call(
     book: &mut [u8],
+    party: u64,
     store: Option<&[u8]>,
     log: Option<&mut [u8]>,
     id: u32,
@@ -119,9 +127,10 @@ pub fn afternoon_call(
     // SAFETY: each pointer comes with the length of its slice in elements, the slices live through
     // the call, and book, log and answer, lent by &mut, overlap nothing. The store is only read.
     unsafe {
-        daybook_afternoon_call(
+        daybook_raw_afternoon_call(
             book.as_mut_ptr(),
             book.len(),
+            party,
             with_store,
             store,
             store_len,
@@ -138,6 +147,7 @@ pub fn afternoon_call(
 /// The reduction; the answer is MWh, worth, target, short and over.
 pub fn reduction(
     book: &mut [u8],
+    party: u64,
     store: Option<&[u8]>,
     log: Option<&mut [u8]>,
     id: u32,
@@ -148,9 +158,10 @@ pub fn reduction(
     // SAFETY: each pointer comes with the length of its slice in elements, the slices live through
     // the call, and book, log and answer, lent by &mut, overlap nothing. The store is only read.
     unsafe {
-        daybook_reduction(
+        daybook_raw_reduction(
             book.as_mut_ptr(),
             book.len(),
+            party,
             with_store,
             store,
             store_len,
@@ -169,6 +180,7 @@ pub fn reduction(
 /// entries.
 pub fn run(
     book: &mut [u8],
+    party: u64,
     store: Option<&[u8]>,
     log: Option<&mut [u8]>,
     answer: &mut [u64],
@@ -178,9 +190,10 @@ pub fn run(
     // SAFETY: each pointer comes with the length of its slice in elements, the slices live through
     // the call, and book, log and answer, lent by &mut, overlap nothing. The store is only read.
     unsafe {
-        daybook_run(
+        daybook_raw_run(
             book.as_mut_ptr(),
             book.len(),
+            party,
             with_store,
             store,
             store_len,
@@ -199,13 +212,14 @@ pub fn run(
 pub fn start_log(log: &mut [u8], book: &[u8]) -> u32 {
     // SAFETY: each pointer comes with the length of its slice, both slices live through the call,
     // and the log, lent by &mut, does not overlap the book.
-    unsafe { daybook_start_log(log.as_mut_ptr(), log.len(), book.as_ptr(), book.len()) }
+    unsafe { daybook_raw_start_log(log.as_mut_ptr(), log.len(), book.as_ptr(), book.len()) }
 }
 
 /// Withdraws the last reduction that a log has noted; the answer is its MWh and
 /// their worth.
 pub fn withdrawal(
     book: &mut [u8],
+    party: u64,
     store: Option<&[u8]>,
     log: &mut [u8],
     answer: &mut [u64],
@@ -214,9 +228,10 @@ pub fn withdrawal(
     // SAFETY: each pointer comes with the length of its slice in elements, the slices live through
     // the call, and book, log and answer, lent by &mut, overlap nothing. The store is only read.
     unsafe {
-        daybook_withdrawal(
+        daybook_raw_withdrawal(
             book.as_mut_ptr(),
             book.len(),
+            party,
             with_store,
             store,
             store_len,

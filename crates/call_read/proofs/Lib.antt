@@ -1,0 +1,2 @@
+-- Reading by a party.
+pub mod Ways

@@ -1,0 +1,2 @@
+-- Question 26 as the code asks it.
+pub mod Ways

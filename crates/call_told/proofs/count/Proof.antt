@@ -1,0 +1,41 @@
+-- `count` is refused by the entry, or counts the trades. Assumes nothing.
+use mathlib.Core.Bool.{false}
+use mathlib.Core.List.{[]}
+use mathlib.Core.Path.{_∙_, ap}
+use Prim.Native.Nat.{ℕ}
+use denote.Ref.{now}
+use Rattle.book_format.proofs.Held.{accepted-of}
+use Rattle.rights.specs.Trades.{countOf, idOf, tells, toldNumber}
+use Rattle.call_told.specs.Told.{countTold}
+use Rattle.call_told.proofs.Asked.{found-above, told-found, told-refused}
+use borrow.Author.Needs.{needs}
+use Rattle.call_told.proofs.count.Statement.{statement}
+use Rattle.call_told.proofs.count.Tie as tie
+
+returns : tie.Need-returns
+unfolding countTold toldNumber idOf
+returns c =
+    let k = c .before in
+    let a = k .before .before .args in
+    λ limits. told-refused (a .opened) (now (a .book)) (countOf (a .id)) (k .seek-shipper .ensures) limits (c .if1 .taken)
+
+count-seen-requires : tie.Need-count-seen-requires
+count-seen-requires c κs =
+    let k = c .before in
+    let n = k .before in
+    let o = n .before in
+    let z = k .seek-shipper .ensures .start (c .if1 .left) in
+    (record { accepted = accepted-of _ (λ j. n .shared-slice-known .given j .fits) (o .pre .0 z); placed = o .pre .1 z }, found-above (k .seek-shipper .ensures .found (c .if1 .left)))
+
+returns-2 : tie.Need-returns-2
+unfolding countTold tells idOf
+returns-2 c =
+    let e = c .before in
+    let k = e .before in
+    let a = k .before .before .args in
+    λ limits.
+    ap (λ (n : ℕ). record { number = 0; flagged = false; count = n; part = [] }) (c .count-seen .ensures)
+    ∙ told-found (a .opened) (now (a .book)) (countOf (a .id)) (k .seek-shipper .ensures) limits (e .if1 .left)
+
+pub count-spec : {M : Type 1} → statement M
+count-spec = tie.close (tie.spec (λ c κs. search needs) returns count-seen-requires returns-2)

@@ -1,0 +1,3 @@
+-- What a shipper is told of itself.
+pub mod Seen
+pub mod Told

@@ -1,0 +1,110 @@
+-- The converter by a party, and a party's calls on a converted book: users and trades are the same in every version, and so are rights. Assumes nothing.
+use mathlib.Core.Bool.{Bool, cond}
+use mathlib.Core.List.{List}
+use mathlib.Core.Option.{Option, none}
+use mathlib.Core.Path.{_≡_, _∙_, ap, ap₂, refl, sym}
+use Prim.Native.Nat.{ℕ, suc, zero}
+use Rattle.rules.specs.Book.{Book}
+use Rattle.rules.specs.Queries.{Query}
+use Rattle.book_format.proofs.Passed.{passed}
+use Rattle.book_format.proofs.Written.{bookOf-bytesOf}
+use Rattle.book_format.specs.After.{after}
+use Rattle.book_format.specs.Book.{bookOf}
+use Rattle.book_format.specs.Questions.{bookNumber}
+use Rattle.outputs.specs.Output.{Wrote}
+use Rattle.requests.specs.Cancellation.{Cancellation, notCancelled}
+use Rattle.requests.specs.Request.{Act, Outcome, Request, Setting, actOf}
+use Rattle.rights.proofs.Agree.{agreement-claim}
+use Rattle.rights.proofs.Entered.{entering-number, rightNumber}
+use Rattle.rights.proofs.Logged.{passed-request, stopped-request}
+use Rattle.rights.proofs.Operator.{cancellation-by, forbidden-claim, operator-claim, wrote-by}
+use Rattle.rights.proofs.Replied.{passed-enquiry, stopped-enquiry}
+use Rattle.rights.specs.Acting.{cancellationBy, enquiryBy, enteringNumber, refusedGiven, requestBy}
+use Rattle.rights.specs.Party.{Matter, Party, isShipperIn, matterOf, mayDo, operator, operators, own, shipperOf}
+use Rattle.conversions.specs.Acting.{ConversionsBy, conversionBy}
+use Rattle.conversions.specs.Conversion.{aboutConversion, asVersion, conversion, conversionAfter, converted}
+use Rattle.conversions.specs.Statements.{Alike, Convertible}
+use Rattle.conversions.proofs.Conversions.{conversions}
+use Rattle.conversions.proofs.Kept.{sound-as}
+
+-- what the public call cites: from the number of its questions up to 26 and the contract of the inner function
+pub conversion-by : (actor : Party) (version : ℕ) (s out : List ℕ) {number result : ℕ} {left : List ℕ} → number ≡ enteringNumber actor operators s
+    → Wrote (conversionAfter number version s out) result left → Wrote (conversionBy actor version s out) result left
+unfolding conversionBy conversionAfter
+conversion-by actor version s out e w = wrote-by actor s (aboutConversion version s out) (converted version s) out e w
+
+-- ---- rights in a book as a version
+
+right-as : (v : ℕ) (b : Book) (actor : Party) (m : Matter) → mayDo (asVersion v b) actor m ≡ mayDo b actor m
+unfolding mayDo isShipperIn asVersion
+right-as v b operator m = refl
+right-as v b (shipperOf party) operators = refl
+right-as v b (shipperOf party) (own id) = refl
+
+module _ {v : ℕ} {s : List ℕ} (c : Convertible v s) where
+  abbrev there : List ℕ
+  there = converted v s
+
+  book-there : bookOf there ≡ asVersion v (bookOf s)
+  unfolding converted
+  book-there = bookOf-bytesOf (asVersion v (bookOf s)) (sound-as (bookOf s) (passed s (c .accepted) .sound) v (c .known) (c .lossless))
+
+  entered-alike : (actor : Party) (m : Matter) → enteringNumber actor m there ≡ enteringNumber actor m s
+  unfolding enteringNumber rightNumber
+  entered-alike actor m =
+      entering-number actor m there
+      ∙ ap₂ (λ (n : ℕ) (b : Book). after n (λ k. k) (rightNumber b actor m)) (conversions .round v s c .there .accepted ∙ sym (c .accepted)) book-there
+      ∙ ap (λ (may : Bool). after (bookNumber s) (λ k. k) (cond may 0 26)) (right-as v (bookOf s) actor m)
+      ∙ sym (entering-number actor m s)
+
+  -- ---- calls, queries, whole cancellations
+
+  -- two outcomes that are alike, by others that they are
+  alike-of : {x y z w : Outcome} → x ≡ z → y ≡ w → Alike v z w → Alike v x y
+  alike-of e f k =
+      record {
+        answer = ap (λ (o : Outcome). o .answer) e ∙ k .answer ∙ sym (ap (λ (o : Outcome). o .answer) f);
+        numbers = ap (λ (o : Outcome). o .numbers) e ∙ k .numbers ∙ sym (ap (λ (o : Outcome). o .numbers) f);
+        bytes = ap (λ (o : Outcome). o .bytes) e ∙ k .bytes ∙ sym (ap (λ (o : Outcome). converted v (o .bytes)) f);
+        log = ap (λ (o : Outcome). o .log) e ∙ k .log ∙ sym (ap (λ (o : Outcome). o .log) f);
+      }
+
+  requests-by : (actor : Party) (store : Option (List ℕ)) (a : Act) → Alike v (requestBy actor (actOf store none a) there) (requestBy actor (actOf store none a) s)
+  unfolding refusedGiven
+  requests-by actor store a = go (enteringNumber actor operators s) refl
+    where
+      asked : Request
+      asked = actOf store none a
+
+      go : (n : ℕ) → enteringNumber actor operators s ≡ n → Alike v (requestBy actor asked there) (requestBy actor asked s)
+      go zero e =
+          alike-of (passed-request actor asked there (entered-alike actor operators ∙ e)) (passed-request actor asked s e) (conversions .requests v s c store a)
+      go (suc n) e =
+          alike-of (stopped-request actor asked there n (entered-alike actor operators ∙ e)) (stopped-request actor asked s n e)
+          (record { answer = refl; numbers = refl; bytes = refl; log = refl })
+
+  enquiries-by : (actor : Party) (g : Setting) (q : Query) → enquiryBy actor g there q ≡ enquiryBy actor g s q
+  enquiries-by actor g q = go (enteringNumber actor (matterOf q) s) refl
+    where
+      go : (n : ℕ) → enteringNumber actor (matterOf q) s ≡ n → enquiryBy actor g there q ≡ enquiryBy actor g s q
+      go zero e =
+          passed-enquiry actor g there q (entered-alike actor (matterOf q) ∙ e) ∙ conversions .enquiries v s c g q ∙ sym (passed-enquiry actor g s q e)
+      go (suc n) e = stopped-enquiry actor g there q n (entered-alike actor (matterOf q) ∙ e) ∙ sym (stopped-enquiry actor g s q n e)
+
+  cancellations-by : (actor : Party) (g : Setting) (id tries : ℕ) → cancellationBy actor g there id tries ≡ cancellationBy actor g s id tries
+  cancellations-by actor g id tries =
+      cancellation-by actor g there id tries
+      ∙ ap₂ (λ (n : ℕ) (x : Cancellation). after n notCancelled x) (entered-alike actor operators) (conversions .cancellations v s c g id tries)
+      ∙ sym (cancellation-by actor g s id tries)
+
+pub conversions-by : ConversionsBy
+unfolding conversionBy conversion
+conversions-by =
+    record {
+      of-operator = λ v s out. operator-claim .output s (aboutConversion v s out) (converted v s) out;
+      of-shipper = λ party v s out e. forbidden-claim party s e .write (aboutConversion v s out) (converted v s) out;
+      agreed = λ party v s t out e h a. agreement-claim party s t e h a .written (aboutConversion v s out) (aboutConversion v t out) (converted v s) (converted v t) out;
+      requests = λ v s c actor store a. requests-by c actor store a;
+      enquiries = λ v s c actor g q. enquiries-by c actor g q;
+      cancellations = λ v s c actor g id tries. cancellations-by c actor g id tries;
+    }

@@ -1,0 +1,26 @@
+-- `daybook::trade_count` counts the trades that a user may see after the opening questions. Assumes nothing.
+use mathlib.Core.Path.{_∙_}
+use native.Mathlib.Omega.{arith}
+use borrow.Author.Needs.{needs}
+use Rattle.rights.proofs.Replied.{told-by}
+use Rattle.rights.specs.Trades.{countOf, idOf}
+use Rattle.units.specs.Limits.{asLimits}
+use Rattle.daybook.proofs.Matters.{of-asking}
+use Rattle.daybook.proofs.trade_count.Statement.{statement}
+use Rattle.daybook.proofs.trade_count.Tie as tie
+
+count-requires : tie.Need-count-requires
+count-requires c κs =
+    let k = c .before .before .before .before .admit-with-sums .ensures in
+    (k .1 .1 .0, k .1 .1 .1 .placed)
+
+returns : tie.Need-returns
+unfolding idOf
+returns c =
+    let k = c .before .before .before .before .before in
+    let o = k .before .before .before .before .before .before in
+    c .count .ensures (asLimits (k .admit-with-sums .result .limits))
+    ∙ told-by _ _ _ _ (of-asking (countOf (o .args .id)) (omega (arith, o .fits .id)) (k .admit-with-sums .ensures .0))
+
+pub trade-count-spec : {M : Type 1} → statement M
+trade-count-spec = tie.close (tie.spec (λ c. search needs) (λ c. search needs) (λ c κs. search needs) count-requires returns)

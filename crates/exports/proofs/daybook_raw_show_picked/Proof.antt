@@ -1,0 +1,31 @@
+-- `daybook_raw_show_picked` copies the shown part of the picked book to the front of 68 zeros, and leaves a part of another length as it is. Assumes nothing.
+use denote.Ref.{now}
+use Rattle.exports.specs.Answers.{isYes}
+use Rattle.exports.proofs.Lent.{refused}
+use Rattle.exports.proofs.Shown.{shown-length, copied}
+use borrow.Author.Needs.{needs}
+use Rattle.exports.proofs.daybook_raw_show_picked.Statement.{statement}
+use Rattle.exports.proofs.daybook_raw_show_picked.Tie as tie
+
+returns : tie.Need-returns
+returns c = refused 68 (now (c .before .before .before .before .before .args .«record»)) _ _ _ (c .if1 .taken)
+
+show-picked-requires : tie.Need-show-picked-requires
+show-picked-requires c κs = search needs
+
+fill-requires : tie.Need-fill-requires
+fill-requires c κs = rw (c .before .show-picked .ensures .shows, c .before .before .before .if1 .left) (shown-length _ _ _)
+
+same-length : tie.Need-same-length
+same-length c = search needs
+
+returns-2 : tie.Need-returns-2
+unfolding isYes
+returns-2 c =
+    let filled = c .before .before in
+    let shown = filled .before .before in
+    copied _ _ _ _ _ _ _ _ (shown .before .before .if1 .left) (shown .show-picked .ensures) (filled .fill .ensures)
+
+pub daybook-raw-show-picked-spec : {M : Type 1} → statement M
+daybook-raw-show-picked-spec =
+    tie.close (tie.spec returns show-picked-requires fill-requires same-length returns-2)

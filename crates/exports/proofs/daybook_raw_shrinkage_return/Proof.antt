@@ -1,0 +1,34 @@
+-- `daybook_raw_shrinkage_return` stores a return in a part of 131 places, and leaves another part as it is. Assumes nothing.
+use mathlib.Core.Path.{ap, _∙_}
+use denote.Ref.{now}
+use Rattle.shrinkage.specs.Return.{Returned}
+use Rattle.exports_shrinkage.specs.Numbers.{returnNumbers}
+use Rattle.exports.proofs.Lent.{refused, stored}
+use borrow.Author.Needs.{needs}
+use Rattle.exports.proofs.daybook_raw_shrinkage_return.Statement.{statement}
+use Rattle.exports.proofs.daybook_raw_shrinkage_return.Tie as tie
+
+returns : tie.Need-returns
+returns c = refused 131 (now (c .before .before .args .answer)) _ _ _ (c .if1 .taken)
+
+shrinkage-return-requires : tie.Need-shrinkage-return-requires
+shrinkage-return-requires c κs = search needs
+
+store-return-requires : tie.Need-store-return-requires
+store-return-requires c κs = search needs
+
+same-length : tie.Need-same-length
+same-length c = search needs
+
+returns-2 : tie.Need-returns-2
+returns-2 c =
+    let storing = c .before .before in
+    let asked = storing .before .before in
+    let as-defined = asked .shrinkage-return .ensures in
+    stored 131 _ _ _ _ _ _ (asked .before .if1 .left)
+    (storing .store-return .ensures .0 ∙ ap (λ (r : Returned). r .number) as-defined)
+    (storing .store-return .ensures .1 ∙ ap returnNumbers as-defined)
+
+pub daybook-raw-shrinkage-return-spec : {M : Type 1} → statement M
+daybook-raw-shrinkage-return-spec =
+    tie.close (tie.spec returns shrinkage-return-requires store-return-requires same-length returns-2)

@@ -1,0 +1,2 @@
+-- Yes and no as numbers.
+mod Bits

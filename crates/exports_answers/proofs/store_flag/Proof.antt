@@ -1,0 +1,32 @@
+-- `store_flag` stores an array of the one number, which the cast makes 1 of yes and 0 of no. Assumes nothing.
+use mathlib.Core.Path.{refl, ap, _∙_}
+use mathlib.Core.List.{[], _∷_}
+use Prim.Native.Nat.{ℕ}
+use Rattle.exports_answers.specs.Numbers.{flagNumbers}
+use Rattle.exports_answers.proofs.Bits.{cast-bit}
+use Rattle.call_told.specs.Told.{flagTold}
+use borrow.Author.Needs.{needs}
+use Rattle.exports_answers.proofs.store_flag.Statement.{statement}
+use Rattle.exports_answers.proofs.store_flag.Tie as tie
+
+cast-t4 : tie.Need-cast-t4
+cast-t4 c = search needs
+
+slice-aggregate-store : tie.Need-slice-aggregate-store
+slice-aggregate-store c = search needs
+
+store-requires : tie.Need-store-requires
+store-requires c κs = search needs
+
+same-length : tie.Need-same-length
+same-length c = search needs
+
+returns : tie.Need-returns
+unfolding flagNumbers flagTold
+returns c =
+    let storing = c .before .before in
+    (refl, storing .store .ensures ∙ ap (λ (n : ℕ). n ∷ []) (cast-bit (storing .before .before .before .before .before .args .reply .flagged)))
+
+pub store-flag-spec : {M : Type 1} → statement M
+store-flag-spec =
+    tie.close (tie.spec cast-t4 slice-aggregate-store store-requires same-length returns)

@@ -1,0 +1,115 @@
+-- Sums over the elements of a list that pass a test, and users looked for among them. Assumes nothing.
+use mathlib.Core.Bool.{Bool, true, false, not, cond}
+use mathlib.Core.List.{List, [], _∷_, map}
+use mathlib.Core.Path.{_≡_, _∙_, ap, refl, sym}
+use Prim.Native.Nat.{ℕ, zero, suc, _+_, _<_, _≤_}
+use native.Mathlib.Nat.{le-of-eq}
+use native.Mathlib.Omega.{arith}
+use lib.Dec.{T, eqb, eqb→eq, ltb, ltb→lt}
+use lib.IntN.{ℤ, _+ℤ_, pos, +ℤ-idl}
+use lib.ListN.{getD}
+use Rattle.base.specs.Sums.{sum, sumℤ}
+use Rattle.base.proofs.Tests.{and-l, and-r, by-case, by-test}
+use Rattle.rules.specs.Book.{User, find, nobody}
+use Rattle.rules.specs.Questions.{idsRise}
+use Rattle.laws_sales.specs.Kept.{kept}
+use Rattle.views.specs.Kept.{placeKept}
+
+module _ {A : Type 0} (p : A → Bool) where
+  -- ---- sums in which the others count 0
+
+  pub kept-sum : (f : A → ℕ) → ((x : A) → T (not (p x)) → f x ≡ 0) → (xs : List A) → sum f (kept p xs) ≡ sum f xs
+  unfolding sum kept
+  kept-sum f z [] = refl
+  kept-sum f z (x ∷ xs) =
+      let rest = kept-sum f z xs in
+      by-test (λ (ys : List A). sum f ys ≡ f x + sum f xs) (p x) (λ t. ap (λ (n : ℕ). f x + n) rest) (λ t. rest ∙ omega (arith, z x t))
+
+  pub kept-sumℤ : (f : A → ℤ) → ((x : A) → T (not (p x)) → f x ≡ pos 0) → (xs : List A) → sumℤ f (kept p xs) ≡ sumℤ f xs
+  unfolding sumℤ kept
+  kept-sumℤ f z [] = refl
+  kept-sumℤ f z (x ∷ xs) =
+      let rest = kept-sumℤ f z xs in
+      by-test (λ (ys : List A). sumℤ f ys ≡ f x +ℤ sumℤ f xs) (p x) (λ t. ap (λ (n : ℤ). f x +ℤ n) rest)
+      (λ t. rest ∙ sym (+ℤ-idl (sumℤ f xs)) ∙ ap (λ (n : ℤ). n +ℤ sumℤ f xs) (sym (z x t)))
+
+-- ---- what is read of the elements that pass
+
+module _ {A B : Type 0} (p : B → Bool) (read : A → B) where
+  pub map-kept : (xs : List A) → map read (kept (λ x. p (read x)) xs) ≡ kept p (map read xs)
+  unfolding kept
+  map-kept [] = refl
+  map-kept (x ∷ xs) =
+      by-case (p (read x)) (λ e. rw e (ap (λ (ys : List B). read x ∷ ys) (map-kept xs))) (λ e. rw e (map-kept xs))
+
+  -- where they stand
+  pub place-map : (xs : List A) (ordinal : ℕ) → placeKept (λ x. p (read x)) xs ordinal ≡ placeKept p (map read xs) ordinal
+  unfolding placeKept
+  place-map [] ordinal = refl
+  place-map (x ∷ xs) zero = ap (λ (n : ℕ). cond (p (read x)) 0 (suc n)) (place-map xs 0)
+  place-map (x ∷ xs) (suc ordinal) = ap suc (place-map xs (cond (p (read x)) ordinal (suc ordinal)))
+
+-- the element that passes, by ordinal, stands at its place; past the last there is none
+module _ {A : Type 0} (p : A → Bool) (d : A) where
+  pub getD-kept : (xs : List A) (ordinal : ℕ) → getD (kept p xs) ordinal d ≡ getD xs (placeKept p xs ordinal) d
+  unfolding kept placeKept
+  getD-kept [] ordinal = refl
+  getD-kept (x ∷ xs) zero = go (p x) (getD-kept xs 0)
+    where
+      go : (c : Bool) → getD (kept p xs) 0 d ≡ getD xs (placeKept p xs 0) d
+          → getD (cond c (x ∷ kept p xs) (kept p xs)) 0 d ≡ getD (x ∷ xs) (cond c 0 (suc (placeKept p xs 0))) d
+      go true e = refl
+      go false e = e
+  getD-kept (x ∷ xs) (suc ordinal) = go (p x) (getD-kept xs ordinal) (getD-kept xs (suc ordinal))
+    where
+      go : (c : Bool) → getD (kept p xs) ordinal d ≡ getD xs (placeKept p xs ordinal) d → getD (kept p xs) (suc ordinal) d ≡ getD xs (placeKept p xs (suc ordinal)) d
+          → getD (cond c (x ∷ kept p xs) (kept p xs)) (suc ordinal) d ≡ getD xs (placeKept p xs (cond c ordinal (suc ordinal))) d
+      go true e f = e
+      go false e f = f
+
+-- ---- a user of an id among those that pass
+
+module _ (p : User → Bool) where
+  absent : (us : List User) (low id : ℕ) → id ≤ low → T (idsRise low us) → find (kept p us) id ≡ nobody
+  unfolding find kept idsRise
+  absent [] low id h r = refl
+  absent (u ∷ us) low id h r =
+      let lt : low < u .party .id = ltb→lt low (u .party .id) (and-l (ltb low (u .party .id)) (idsRise (u .party .id) us) r) in
+      let rest : find (kept p us) id ≡ nobody = absent us (u .party .id) id (omega arith) (and-r (ltb low (u .party .id)) (idsRise (u .party .id) us) r) in
+      by-test (λ (vs : List User). find vs id ≡ nobody) (p u)
+      (λ t. by-test (λ (v : User). v ≡ nobody) (eqb (u .party .id) id) (λ e. absurd (clash lt (eqb→eq (u .party .id) id e))) (λ e. rest))
+      (λ t. rest)
+    where
+      clash : low < u .party .id → u .party .id ≡ id → ⊥
+      clash a b = omega arith
+
+  -- ids rise, so there is one user of an id at most: it is found where it passes
+  pub find-kept : (us : List User) (low id : ℕ) → T (idsRise low us) → find (kept p us) id ≡ cond (p (find us id)) (find us id) nobody
+  unfolding find kept idsRise
+  find-kept [] low id r = by-test (λ (v : User). nobody ≡ v) (p nobody) (λ t. refl) (λ t. refl)
+  find-kept (u ∷ us) low id r =
+      let rest = and-r (ltb low (u .party .id)) (idsRise (u .party .id) us) r in
+      let others = find-kept us (u .party .id) id rest in
+      by-test
+      (λ (vs : List User). find vs id ≡ cond (p (cond (eqb (u .party .id) id) u (find us id))) (cond (eqb (u .party .id) id) u (find us id)) nobody)
+      (p u)
+      (λ t. passes (eqb (u .party .id) id) t others)
+      (λ t. fails (eqb (u .party .id) id) t (λ e. absent us (u .party .id) id (le-of-eq (sym (eqb→eq (u .party .id) id e))) rest) others)
+    where
+      taken : (c : Bool) → T c → u ≡ cond c u nobody
+      taken true h = refl
+      taken false h = absurd h
+
+      left : (c : Bool) → T (not c) → nobody ≡ cond c u nobody
+      left true h = absurd h
+      left false h = refl
+
+      passes : (c : Bool) → T (p u) → find (kept p us) id ≡ cond (p (find us id)) (find us id) nobody
+          → cond c u (find (kept p us) id) ≡ cond (p (cond c u (find us id))) (cond c u (find us id)) nobody
+      passes true t e = taken (p u) t
+      passes false t e = e
+
+      fails : (c : Bool) → T (not (p u)) → (T c → find (kept p us) id ≡ nobody) → find (kept p us) id ≡ cond (p (find us id)) (find us id) nobody
+          → find (kept p us) id ≡ cond (p (cond c u (find us id))) (cond c u (find us id)) nobody
+      fails true t f e = f tt ∙ left (p u) t
+      fails false t f e = e
