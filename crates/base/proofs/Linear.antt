@@ -7,10 +7,9 @@ use mathlib.Core.Bool.{Bool, true, false}
 use Prim.Native.Nat.{ℕ, zero, suc, _+_, _*_, _-_, _<_, _≤_}
 use native.Mathlib.Nat.{zero-mul}
 use native.Mathlib.Omega.{arith}
-use lib.Dec.{leb, ltb}
+use lib.Dec.{ltb}
 use lib.IntN.{ℤ, pos, negsuc, natAbs, negℤ, _+ℤ_, _-ℤ_, _*ℤ_, subℕ}
-use lib.Signed.{ltZ, leZ}
-use borrow.Author.Tests.{lt-ltb, le-ltb, le-leb, lt-leb, ltb-true, ltb-false}
+use borrow.Author.Tests.{lt-ltb, le-ltb, ltb-true, ltb-false}
 use Rattle.base.specs.Parts.{posPart, negPart}
 
 -- one of two orders
@@ -88,20 +87,6 @@ eq-parts (negsuc a) (negsuc b) h = ap negsuc (omega arith)
 pub diff-cong : (a b c d : ℕ) → a + d ≡ c + b → subℕ a b ≡ subℕ c d
 diff-cong a b c d e =
     eq-parts (subℕ a b) (subℕ c d) (omega (arith, posPart-diff a b, negPart-diff a b, posPart-diff c d, negPart-diff c d))
-
-pub le-parts : (x y : ℤ) → leZ x y ≡ leb (posPart x + negPart y) (posPart y + negPart x)
-unfolding posPart negPart
-le-parts (pos a) (pos b) = by-order b a (λ h. lt-leb a b h ∙ sym (lt-leb (a + 0) (b + 0) (omega arith))) (λ h. le-leb a b h ∙ sym (le-leb (a + 0) (b + 0) (omega arith)))
-le-parts (pos a) (negsuc b) = sym (lt-leb (a + suc b) (0 + 0) (omega arith))
-le-parts (negsuc a) (pos b) = sym (le-leb (0 + 0) (b + suc a) (omega arith))
-le-parts (negsuc a) (negsuc b) = by-order a b (λ h. lt-leb b a h ∙ sym (lt-leb (0 + suc b) (0 + suc a) (omega arith))) (λ h. le-leb b a h ∙ sym (le-leb (0 + suc b) (0 + suc a) (omega arith)))
-
-pub lt-parts : (x y : ℤ) → ltZ x y ≡ ltb (posPart x + negPart y) (posPart y + negPart x)
-unfolding posPart negPart
-lt-parts (pos a) (pos b) = by-order a b (λ h. lt-ltb a b h ∙ sym (lt-ltb (a + 0) (b + 0) (omega arith))) (λ h. le-ltb a b h ∙ sym (le-ltb (a + 0) (b + 0) (omega arith)))
-lt-parts (pos a) (negsuc b) = sym (le-ltb (a + suc b) (0 + 0) (omega arith))
-lt-parts (negsuc a) (pos b) = sym (lt-ltb (0 + 0) (b + suc a) (omega arith))
-lt-parts (negsuc a) (negsuc b) = by-order b a (λ h. lt-ltb b a h ∙ sym (lt-ltb (0 + suc b) (0 + suc a) (omega arith))) (λ h. le-ltb b a h ∙ sym (le-ltb (0 + suc b) (0 + suc a) (omega arith)))
 
 -- the absolute value
 pub abs-parts : (z : ℤ) → natAbs z ≡ posPart z + negPart z

@@ -6,14 +6,13 @@ use Prim.Native.Nat.{ℕ, suc, zero}
 use native.Mathlib.Omega.{arith}
 use lib.Dec.{T, ltb, ltb→lt}
 use Rattle.book_format.proofs.Formed.{bytes-numbered}
-use Rattle.book_format.specs.After.{CalledAfter, after, replyAfter, stepAfter, unchanged}
+use Rattle.book_format.specs.After.{CalledAfter, after, stepAfter, unchanged}
 use Rattle.book_format.specs.Book.{bookOf}
 use Rattle.book_format.specs.Questions.{aboutBytes, bookNumber}
-use Rattle.book_format.specs.Steps.{Called, InBytes, inBytes, replyBytes, stepBytes}
+use Rattle.book_format.specs.Steps.{Called, InBytes, inBytes, stepBytes}
 use Rattle.laws.proofs.Refusals.{numbered, refusal-first, refusal-is, refusal-next}
 use Rattle.rules.specs.Calls.{Answer, Call, about, effect}
 use Rattle.rules.specs.Levels.{Limits}
-use Rattle.rules.specs.Queries.{Query, aboutQuery, found, onlyNumber}
 use Rattle.rules.specs.Questions.{Question, decided, numberOf, refusal}
 
 -- ---- two lists of questions, one after the other
@@ -45,11 +44,6 @@ pub step-opened : (limits : Limits) (s : List ℕ) (c : Call) → stepBytes limi
 unfolding stepBytes stepAfter unchanged bookNumber
 step-opened limits s c =
     asked-after (unchanged s) (inBytes (effect limits (bookOf s) c)) (aboutBytes s) (about limits (bookOf s) c) (bytes-numbered s)
-
-pub reply-opened : (limits : Limits) (s : List ℕ) (q : Query) → replyBytes limits s q ≡ replyAfter (bookNumber s) limits s q
-unfolding replyBytes replyAfter bookNumber
-reply-opened limits s q =
-    asked-after onlyNumber (found limits (bookOf s) q) (aboutBytes s) (aboutQuery (bookOf s) q) (bytes-numbered s)
 
 -- a call on any bytes, from the contract of the inner call
 pub opened : {limits : Limits} {s t : List ℕ} {c : Call} {a : Answer} {n : ℕ} → n ≡ bookNumber s → CalledAfter n limits s c a t → Called limits s c a t

@@ -1,20 +1,17 @@
--- A call and a query on a book in bytes, by what the questions of the book answer. Assumes nothing.
+-- A call on a book in bytes, by what the questions of the book answer. Assumes nothing.
 use mathlib.Core.List.{List}
 use mathlib.Core.Path.{_≡_}
 use Prim.Native.Nat.{ℕ}
 use Rattle.book_format.proofs.Formed.{book-passed, book-refused}
 use Rattle.book_format.specs.Book.{bookOf}
 use Rattle.book_format.specs.Questions.{aboutBytes, bookNumber}
-use Rattle.book_format.specs.Steps.{replyBytes, stepBytes, inBytes}
+use Rattle.book_format.specs.Steps.{stepBytes, inBytes}
 use Rattle.laws.proofs.Refusals.{refusal-first, refusal-next}
 use Rattle.rules.specs.Calls.{Call, effect, only, about}
 use Rattle.rules.specs.Levels.{Limits}
-use Rattle.rules.specs.Queries.{found, Query, aboutQuery, onlyNumber}
 use Rattle.rules.specs.Questions.{decided, refusal}
 
 module _ (limits : Limits) (s : List ℕ) where
-  -- ---- calls
-
   pub step-refused : (c : Call) (n : ℕ) → n ≡ bookNumber s → (n ≡ 0 → ⊥) → stepBytes limits s c ≡ record { answer = only n; bytes = s }
   unfolding stepBytes decided
   step-refused c n e h = rw (refusal-first (aboutBytes s) (about limits (bookOf s) c) n (book-refused s n e h))
@@ -25,14 +22,3 @@ module _ (limits : Limits) (s : List ℕ) where
       (inBytes (effect limits (bookOf s) c))
   unfolding stepBytes
   step-passed c h = rw (refusal-next (aboutBytes s) (about limits (bookOf s) c) (book-passed s h))
-
-  -- ---- queries
-
-  pub reply-refused : (q : Query) (n : ℕ) → n ≡ bookNumber s → (n ≡ 0 → ⊥) → replyBytes limits s q ≡ onlyNumber n
-  unfolding replyBytes decided
-  reply-refused q n e h = rw (refusal-first (aboutBytes s) (aboutQuery (bookOf s) q) n (book-refused s n e h))
-
-  pub reply-passed : (q : Query) → bookNumber s ≡ 0
-      → replyBytes limits s q ≡ decided (refusal (aboutQuery (bookOf s) q)) onlyNumber (found limits (bookOf s) q)
-  unfolding replyBytes
-  reply-passed q h = rw (refusal-next (aboutBytes s) (aboutQuery (bookOf s) q) (book-passed s h))

@@ -1,4 +1,5 @@
--- A call and a query on a book in bytes: what the contracts of the public functions cite. Assumes nothing.
+-- A call and a query of document 01 on a book in bytes. The contracts of the public functions cite `request` and `enquiry` of `requests`, which are these where no store and no log
+-- is given (`requests`, Plain). Assumes nothing.
 use mathlib.Core.Path.{_≡_}
 use mathlib.Core.List.{List, [], _∷_, _++_}
 use Prim.Native.Nat.{ℕ, suc}
@@ -30,7 +31,7 @@ stepBytes limits s c =
     decided (refusal (aboutBytes s ++ about limits (bookOf s) c)) (λ n. record { answer = only n; bytes = s })
     (inBytes (effect limits (bookOf s) c))
 
--- the contract of a public call: bytes before, call, answer, bytes after
+-- such a call: bytes before, call, answer, bytes after
 pub record Called (limits : Limits) (s : List ℕ) (c : Call) (a : Answer) (t : List ℕ) : Type 0 where
   pub answer : a ≡ stepBytes limits s c .answer
   pub bytes : t ≡ stepBytes limits s c .bytes

@@ -19,9 +19,7 @@ use Rattle.base.proofs.Tests.{by-case}
 use Rattle.book_format.specs.Book.{userCount, tradeCount, versionOf, tradesAt, usersOf, tradesOf, sellingAt, pricesOf, bookOf, bytesOf, headerSize, userSize}
 use Rattle.book_format.specs.Questions.{Formed}
 use Rattle.book_format.proofs.Offsets.{header-range, header-selling, user-range, users-end, users-there, trades-there}
-use Rattle.book_format.proofs.Passed.{Passed}
 use Rattle.book_format.proofs.Places.{header-lies}
-use Rattle.book_format.proofs.Round.{bytesOf-bookOf}
 use Rattle.book_format.proofs.Written.{bookOf-fits}
 use Rattle.book_image.specs.Fitted.{fitted, refitted}
 use Rattle.book_image.proofs.Fitted.{fitted-more, length-fitted, length-refitted}
@@ -137,10 +135,6 @@ module _ (s : List ℕ) (f : Formed s) where
   pub image-book : imageBook (imageOf s) ≡ bookOf s
   unfolding imageBook bookOf
   image-book = rw (same-counts .0, same-counts .1, same-version, users-back, trades-back, start-field 4 8 (omega arith), same-prices)
-
--- an accepted book that is read into an image is written from it as the same bytes
-pub image-bytes : (s : List ℕ) → AllBytes s → Passed s → bytesOf (imageBook (imageOf s)) ≡ s
-image-bytes s bytes p = ap bytesOf (image-book s (p .form)) ∙ bytesOf-bookOf s bytes p
 
 -- what is written from an image of a known version, and read into an image again, has the fields of the first
 pub image-back : {s : List ℕ} {n m : ℕ} → CountsOf s n m → AllBytes s → T (versionKnown (versionOf s)) → imageBook (imageOf (bytesOf (imageBook s))) ≡ imageBook s

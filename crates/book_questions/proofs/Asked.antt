@@ -5,14 +5,14 @@ use mathlib.Core.List.{List}
 use mathlib.Core.Path.{_≡_, refl, sym, ap, subst, _∙_}
 use Prim.Native.Nat.{ℕ, _*_, _+_, _-_, _≤_}
 use native.Mathlib.Omega.{arith}
-use lib.Dec.{T}
+use lib.Dec.{T, eqb}
 use lib.ListN.{drop, length, length-drop, take}
 use lib.Seq.{drop-drop, take-all}
 use Rattle.rules.specs.Areas.{Prices}
 use Rattle.rules.specs.Book.{User, Trade}
 use Rattle.base.specs.Lists.{all}
 use Rattle.rules.specs.Questions.{groupsValid, headerValid, managersValid, numberOf, positionsValid, refusal, tradeValid, usersValid}
-use Rattle.base.proofs.Tests.{and-l, and-r}
+use Rattle.base.proofs.Tests.{and-l, and-r, or-r}
 use Rattle.fields.specs.Field.{field}
 use Rattle.fields.specs.Layout.{recordsOf}
 use Rattle.book_records.specs.Trade.{tradeOf, tradeZeros}
@@ -25,8 +25,9 @@ use Rattle.book_header.specs.Zeros.{zerosIn}
 use Rattle.book_sums.specs.Sums.{placesOf}
 use Rattle.book_sums.specs.Twelve.{Twelve, TwelveOf, Low}
 use Rattle.book_sums.proofs.Twelve.{twelve-of}
-use Rattle.book_questions.specs.Asked.{allValid, UsersAsked, TradesAsked, RecordsIn, RecordsAsked, FieldsPlaced, AskedOf, Summed, SumsFound, PartiesFound, pastSix, tradeAmong, recordsNumber, fieldsNumber}
-use Rattle.book_questions.proofs.Known.{all-tradeAmong, all-parties, valid-rising}
+use Rattle.book_questions.specs.Asked.{allValid, UsersAsked, TradesAsked, RecordsIn, RecordsAsked, FieldsPlaced, AskedOf, Summed, SumsFound, PartiesFound, pastFive, pastSix, tradesRead, leading, tradeAmong, recordsNumber, fieldsNumber}
+use Rattle.book_questions.proofs.Known.{all-tradeAmong, all-parties, tradeAmong-valid, valid-rising}
+use Rattle.book_questions.proofs.Loops.{leading-same}
 
 -- ---- 5 to 7
 
@@ -41,9 +42,20 @@ second-yes zeros valid h = and-r zeros valid (rw h tt)
 yes-is : (b : Bool) → T b → b ≡ true
 yes-is true t = refl
 
--- a question before 7 that refuses: nothing is told of the sums
-pub summed-none : {us : List User} {ts : List Trade} {count read : ℕ} {sums : List ℕ} (number : ℕ) → (T (pastSix number) → ⊥) → Summed us ts count number read sums
-summed-none number h = record { twelve = λ p. absurd (h p); low = λ p. absurd (h p); all-read = λ p. absurd (h p) }
+-- a question before 6 that refuses: no trade is read, and nothing told of the sums
+pub summed-none : {us : List User} {ts : List Trade} {count : ℕ} {sums : List ℕ} (number : ℕ) → (T (pastFive number) → ⊥) → Summed us ts count number 0 sums
+unfolding tradesRead pastFive
+summed-none {us} {ts} number h =
+    record {
+      counted = go (pastFive number) (leading (tradeValid us) ts) h;
+      twelve = λ p. absurd (h (or-r (eqb number 6) (pastSix number) p));
+      low = λ p. absurd (h (or-r (eqb number 6) (pastSix number) p));
+      all-read = λ p. absurd (h (or-r (eqb number 6) (pastSix number) p));
+    }
+  where
+    go : (b : Bool) (n : ℕ) → (T b → ⊥) → 0 ≡ cond b n 0
+    go true n f = absurd (f tt)
+    go false n f = refl
 
 -- where no question refuses, the sums are what each user sold and bought
 pub sums-told : {us : List User} {ts : List Trade} {count number read : ℕ} {sums : List ℕ} → Summed us ts count number read sums → number ≡ 0
@@ -60,7 +72,7 @@ module _ (version : ℕ) {us : List User} {ts : List Trade} {n : ℕ} {valid : B
   unfolding recordsNumber refusal numberOf
   records-5 {userZeros} h = record { asked = rw (and-same userZeros (users .answer) h); placed = λ e. absurd (omega arith) }
 
-  module _ {allowed : Bool} {sums : List ℕ} (trades : TradesAsked (take n ids) ts allowed sellers buyers sums) where
+  module _ {allowed : Bool} {read : ℕ} {sums : List ℕ} (trades : TradesAsked (take n ids) ts allowed read sellers buyers sums) where
     -- the answer to question 6 is that between the users
     trades-answer : T valid → allowed ≡ all (tradeValid us) ts
     trades-answer u = trades .answer ∙ ap (λ (xs : List ℕ). all (tradeAmong xs) ts) (users .listed u) ∙ all-tradeAmong us ts
@@ -71,10 +83,21 @@ module _ (version : ℕ) {us : List User} {ts : List Trade} {n : ℕ} {valid : B
         twelve-of us ts (valid-rising us (and-l (usersValid us) (all (managersValid version us) us) (rw (← users .answer) u))) (all-parties (idsOf us) ts (rw (← users .listed u, ← trades .answer) t))
         (subst (λ (xs : List ℕ). Twelve (placesOf xs (λ r. r .seller) ts) (placesOf xs (λ r. r .buyer) ts) ts 25600000 sums) (users .listed u) (trades .twelve t))
 
+    -- the number of trades that were read is that between the users
+    pub records-read : (number : ℕ) → T valid → pastFive number ≡ true → read ≡ tradesRead us ts number
+    unfolding tradesRead
+    records-read number u e =
+        trades .counted ∙ ap (λ (xs : List ℕ). leading (tradeAmong xs) ts) (users .listed u) ∙ leading-same (tradeAmong (idsOf us)) (tradeValid us) (tradeAmong-valid us) ts ∙ rw e
+
+    -- question 6 is answered by no: nothing is told of the sums
+    pub summed-6 : {count : ℕ} → T valid → Summed us ts count 6 read sums
+    unfolding pastSix pastFive
+    summed-6 u = record { counted = records-read 6 u refl; twelve = λ p. absurd p; low = λ p. absurd p; all-read = λ p. absurd p }
+
     -- and they are told, whatever it gives
-    pub records-summed : {count number read : ℕ} → T valid → T allowed → (allowed ≡ true → read ≡ count) → Summed us ts count number read sums
-    records-summed u t whole =
-        record { twelve = λ p. records-sums u t; low = λ p. record { low = trades .twelve t .low }; all-read = λ p. whole (yes-is allowed t) }
+    pub records-summed : {count : ℕ} (number : ℕ) → T valid → T allowed → pastFive number ≡ true → (allowed ≡ true → read ≡ count) → Summed us ts count number read sums
+    records-summed {count} number u t e whole =
+        record { counted = records-read number u e; twelve = λ p. records-sums u t; low = λ p. record { low = trades .twelve t .low }; all-read = λ p. whole (yes-is allowed t) }
 
     module _ {userZeros tradeZeros : Bool} (u : (userZeros && valid) ≡ true) where
       -- question 6 is answered by no
@@ -185,11 +208,11 @@ pub fields-summed : (s : List ℕ) {n m at to size r read : ℕ} {sums : List �
 fields-summed s f g begin sized behind w = rw (← users-there s begin sized f, ← trades-there s behind g, ← g) w
 
 -- the number of a form that is refused is below 4
-pub form-before : (s : List ℕ) {k : ℕ} → k ≡ formNumber s → (k ≡ 0 → ⊥) → T (pastSix k) → ⊥
-unfolding formNumber aboutForm refusal numberOf pastSix
+pub form-before : (s : List ℕ) {k : ℕ} → k ≡ formNumber s → (k ≡ 0 → ⊥) → T (pastFive k) → ⊥
+unfolding formNumber aboutForm refusal numberOf pastFive pastSix
 form-before s e h = go (marked s) (versioned s) (sized s) e h
   where
-    go : (a b c : Bool) {k : ℕ} → k ≡ numberOf (cond a (cond b (cond c none (some 3)) (some 2)) (some 1)) → (k ≡ 0 → ⊥) → T (pastSix k) → ⊥
+    go : (a b c : Bool) {k : ℕ} → k ≡ numberOf (cond a (cond b (cond c none (some 3)) (some 2)) (some 1)) → (k ≡ 0 → ⊥) → T (pastFive k) → ⊥
     go true true true e h t = absurd (h e)
     go true true false e h t = rw e at t
     go true false c e h t = rw e at t

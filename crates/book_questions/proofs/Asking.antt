@@ -13,12 +13,12 @@ use Rattle.fields.proofs.Records.{length-recordsOf}
 use Rattle.book_records.specs.User.{alone, userOf}
 use Rattle.book_records.specs.Trade.{tradeOf}
 use Rattle.book_parties.specs.Ids.{usersFrom, tradesFrom, idsOf, placeIn}
-use Rattle.book_questions.specs.Asked.{UsersAsked, TradesAsked, tradeAmong}
+use Rattle.book_questions.specs.Asked.{UsersAsked, TradesAsked, leading, tradeAmong}
 use Rattle.book_sums.specs.Sums.{placesOf}
 use Rattle.book_sums.specs.Twelve.{added, Addable, Twelve}
 use Rattle.book_sums.proofs.Twelve.{twelve-none, addable-sold, addable-bought, twelve-next, twelve-all}
 use Rattle.book_sums.proofs.Walk.{record-at, record-first, record-next, user-at, Passed, passed-start, passed-no, passed-turn, passed-end}
-use Rattle.book_questions.proofs.Loops.{UsersLeft, users-start, users-id-no, users-no, users-turn, users-end, Listed, listed-start, listed-turn, listed-end, rest-set}
+use Rattle.book_questions.proofs.Loops.{UsersLeft, users-start, users-id-no, users-no, users-turn, users-end, Listed, listed-start, listed-turn, listed-end, rest-set, Led, led-start, led-no, led-turn, led-end}
 use Rattle.book_questions.proofs.Known.{valid-rising, tradeAmong-parties, tradeAmong-day, tradeAmong-small}
 
 -- ---- users
@@ -110,12 +110,13 @@ module _ {s : List ℕ} {size at n : ℕ} where
 
 -- ---- trades
 
--- where i of m trades were valid between users of these ids, of which the next stands at a: those left have the whole answer, and of those passed the places of the
--- parties are listed, and what stands is summed at each
+-- where i of m trades were valid between users of these ids, of which the next stands at a: those left have the whole answer and the rest of the number, and of those
+-- passed the places of the parties are listed, and what stands is summed at each
 pub record TradesWalk (ids s : List ℕ) (at m : ℕ) (sellers buyers sums : List ℕ) (i a : ℕ) : Type 0 where
   pub place : a ≡ at + 20 * i
   pub within : i ≤ m
   pub left : Passed (tradeAmong ids) (tradesFrom at m s) i
+  pub counted : Led (tradeAmong ids) (tradesFrom at m s) i
   pub of-sellers : Listed (λ t. placeIn ids (t .terms .seller)) (tradesFrom at m s) 256 sellers i
   pub of-buyers : Listed (λ t. placeIn ids (t .terms .buyer)) (tradesFrom at m s) 256 buyers i
   pub twelve : Twelve (take i (placesOf ids (λ r. r .seller) (tradesFrom at m s))) (take i (placesOf ids (λ r. r .buyer) (tradesFrom at m s))) (take i (tradesFrom at m s)) (i * 100000) sums
@@ -134,6 +135,7 @@ module _ {ids s : List ℕ} {at m : ℕ} where
         place = omega arith;
         within = omega arith;
         left = passed-start;
+        counted = led-start;
         of-sellers = listed-start h;
         of-buyers = listed-start k;
         twelve = rw e (twelve-none (placesOf ids (λ r. r .seller) ts) (placesOf ids (λ r. r .buyer) ts) ts);
@@ -148,10 +150,11 @@ module _ {ids s : List ℕ} {at m : ℕ} where
     trade-read = record-at 20 tradeOf s at m i (tradeOf []) (walk .place) h e
 
     -- it is not valid: fewer than all were
-    pub trades-walk-no : tradeAmong ids t ≡ false → TradesAsked ids (tradesFrom at m s) (eqb i m) sellers buyers sums
+    pub trades-walk-no : tradeAmong ids t ≡ false → TradesAsked ids (tradesFrom at m s) (eqb i m) i sellers buyers sums
     trades-walk-no k =
-        subst (λ (valid : Bool). TradesAsked ids (tradesFrom at m s) valid sellers buyers sums) (sym (ne-eqb i m (λ f. omega arith)))
+        subst (λ (valid : Bool). TradesAsked ids (tradesFrom at m s) valid i sellers buyers sums) (sym (ne-eqb i m (λ f. omega arith)))
         (record {
+          counted = led-no (tradeOf []) (walk .counted) trade-inside (ap (tradeAmong ids) (sym trade-read) ∙ k);
           answer = passed-no (tradeOf []) (walk .left) trade-inside (ap (tradeAmong ids) (sym trade-read) ∙ k);
           placed = λ t. absurd t;
           twelve = λ t. absurd t;
@@ -180,6 +183,7 @@ module _ {ids s : List ℕ} {at m : ℕ} where
             place = omega (arith, walk .place);
             within = omega arith;
             left = passed-turn (tradeOf []) (walk .left) trade-inside (ap (tradeAmong ids) (sym trade-read) ∙ k);
+            counted = led-turn (tradeOf []) (walk .counted) trade-inside (ap (tradeAmong ids) (sym trade-read) ∙ k);
             of-sellers = listed-turn (tradeOf []) (walk .of-sellers) trade-inside (omega arith) (f ∙ ap (λ (x : Trade). placeIn ids (x .terms .seller)) trade-read);
             of-buyers = listed-turn (tradeOf []) (walk .of-buyers) trade-inside (omega arith) (g ∙ ap (λ (x : Trade). placeIn ids (x .terms .buyer)) trade-read);
             twelve =
@@ -189,15 +193,16 @@ module _ {ids s : List ℕ} {at m : ℕ} where
 
   -- none is left
   pub trades-walk-end : {sellers buyers sums : List ℕ} {i a : ℕ} → TradesWalk ids s at m sellers buyers sums i a → m ≤ i → m ≤ 256
-      → TradesAsked ids (tradesFrom at m s) (eqb i m) sellers buyers sums
+      → TradesAsked ids (tradesFrom at m s) (eqb i m) i sellers buyers sums
   trades-walk-end {sellers} {buyers} {sums} {i = i} walk h many =
       let ts = tradesFrom at m s in
       let full = trades-length s at m in
       let last : i ≡ m = omega (arith, walk .within) in
       let past : length ts ≤ i = rw full h in
       let over : i ≡ length ts = rw full last in
-      subst (λ (valid : Bool). TradesAsked ids ts valid sellers buyers sums) (sym (eq-eqb i m last))
+      subst (λ (valid : Bool). TradesAsked ids ts valid i sellers buyers sums) (sym (eq-eqb i m last))
       (record {
+        counted = led-end (walk .counted) past;
         answer = passed-end (walk .left) past;
         placed = λ t us e. record {
           of-sellers = rw (← over, e) (listed-end (walk .of-sellers) past);

@@ -2,7 +2,7 @@
 use Rattle.base.proofs.Tests.{and-false}
 use Prim.Native.Nat.{ℕ, _+_, _-_, _<_, _≤_}
 use mathlib.Core.Path.{_≡_, refl, sym, ap, ap₂, _∙_}
-use mathlib.Core.Bool.{Bool, true, false, _&&_}
+use mathlib.Core.Bool.{Bool, true, false, cond, _&&_}
 use mathlib.Core.List.{List, [], _∷_, map, map-append}
 use native.Mathlib.Omega.{arith}
 use native.Mathlib.Numerals.{add-one}
@@ -11,9 +11,10 @@ use lib.ListN.{length, take, drop, getD, set, replicate, length-set, drop-of-len
 use lib.Seq.{drop-cons, drop-drop, drop-set-lt, take-all, take-suc, take-suc-set}
 use borrow.Author.Tests.{le-ltb, lt-ltb}
 use Rattle.base.specs.Lists.{all}
-use Rattle.rules.specs.Book.{User}
+use Rattle.rules.specs.Book.{User, Trade}
 use Rattle.rules.specs.Questions.{idsRise, userValid, usersValid}
 use Rattle.fields.proofs.Sets.{drop-replicate}
+use Rattle.book_questions.specs.Asked.{leading}
 
 -- ---- users whose ids rise
 
@@ -68,6 +69,47 @@ module _ (us : List User) where
   pub users-end : {last i : ℕ} → UsersLeft us last i → length us ≤ i → true ≡ usersValid us
   unfolding validFrom idsRise all
   users-end {last} {i} before h = sym (before .answer ∙ ap (validFrom last) (drop-of-length-le us {i = i} h))
+
+-- ---- trades before the first that fails a test
+
+-- where i trades passed: those left have the rest of the number
+pub record Led (p : Trade → Bool) (ts : List Trade) (i : ℕ) : Type 0 where
+  pub rest : leading p ts ≡ i + leading p (drop i ts)
+
+-- the next trade, by the test of it
+leading-next : (p : Trade → Bool) {zs : List Trade} {t : Trade} {rest : List Trade} {b : Bool} → zs ≡ t ∷ rest → p t ≡ b → leading p zs ≡ cond b (1 + leading p rest) 0
+unfolding leading
+leading-next p {rest = rest} e h = ap (leading p) e ∙ ap (λ (b : Bool). cond b (1 + leading p rest) 0) h
+
+-- none is left
+leading-none : (p : Trade → Bool) {zs : List Trade} → zs ≡ [] → leading p zs ≡ 0
+unfolding leading
+leading-none p e = ap (leading p) e
+
+-- tests that are equal at every trade give one number
+pub leading-same : (p q : Trade → Bool) → ((t : Trade) → p t ≡ q t) → (ts : List Trade) → leading p ts ≡ leading q ts
+unfolding leading
+leading-same p q h [] = refl
+leading-same p q h (t ∷ ts) = ap₂ (λ (b : Bool) (n : ℕ). cond b (1 + n) 0) (h t) (leading-same p q h ts)
+
+module _ {p : Trade → Bool} {ts : List Trade} where
+  -- before the first
+  pub led-start : Led p ts 0
+  led-start = record { rest = omega arith }
+
+  -- the next one does not pass
+  pub led-no : {i : ℕ} (d : Trade) → Led p ts i → i < length ts → p (getD ts i d) ≡ false → i ≡ leading p ts
+  led-no {i} d before h e = omega (arith, before .rest, leading-next p (drop-cons ts i d h) e)
+
+  -- it passes
+  pub led-turn : {i : ℕ} (d : Trade) → Led p ts i → i < length ts → p (getD ts i d) ≡ true → Led p ts (i + 1)
+  led-turn {i} d before h e =
+      let next : leading p (drop i ts) ≡ 1 + leading p (drop (i + 1) ts) = leading-next p {rest = drop (i + 1) ts} (rw add-one (drop-cons ts i d h)) e in
+      record { rest = omega (arith, before .rest, next) }
+
+  -- none is left
+  pub led-end : {i : ℕ} → Led p ts i → length ts ≤ i → i ≡ leading p ts
+  led-end {i} before h = omega (arith, before .rest, leading-none p (drop-of-length-le ts {i = i} h))
 
 -- ---- what each one passed gave
 

@@ -1,6 +1,6 @@
 -- The questions 5 to 7 as the code asks them, of users and trades; and what bytes are that were asked all questions. Assumes nothing.
 use mathlib.Core.Path.{_≡_}
-use mathlib.Core.Bool.{Bool, _&&_, _||_}
+use mathlib.Core.Bool.{Bool, cond, _&&_, _||_}
 use mathlib.Core.List.{List, [], _∷_}
 use Prim.Native.Nat.{ℕ, _+_, _*_, _≤_}
 use lib.Dec.{T, eqb}
@@ -51,9 +51,15 @@ pub record GroupsAsked (s : List ℕ) (version n : ℕ) (ids : List ℕ) : Type 
 unfoldable pub tradeAmong : List ℕ → Trade → Bool
 tradeAmong ids t = tradeValidGiven (among ids (t .terms .seller)) (among ids (t .terms .buyer)) t
 
--- trades that were asked question 6 between users of these ids: the answer, and where it is yes, the places of their parties and the sums of what is sold and
--- bought at each place
-pub record TradesAsked (ids : List ℕ) (ts : List Trade) (valid : Bool) (sellers buyers sums : List ℕ) : Type 0 where
+-- how many trades stand before the first that fails a test: as many as there are where none fails
+unfoldable pub leading : (Trade → Bool) → List Trade → ℕ
+leading valid [] = 0
+leading valid (t ∷ ts) = cond (valid t) (1 + leading valid ts) 0
+
+-- trades that were asked question 6 between users of these ids: how many of them stand before the first that is not valid; the answer, and where it is yes, the places of
+-- their parties and the sums of what is sold and bought at each place
+pub record TradesAsked (ids : List ℕ) (ts : List Trade) (valid : Bool) (read : ℕ) (sellers buyers sums : List ℕ) : Type 0 where
+  pub counted : read ≡ leading (tradeAmong ids) ts
   pub answer : valid ≡ all (tradeAmong ids) ts
   pub placed : T valid → (us : List User) → idsOf us ≡ ids → Placed us ts sellers buyers
   pub twelve : T valid → Twelve (placesOf ids (λ r. r .seller) ts) (placesOf ids (λ r. r .buyer) ts) ts 25600000 sums
@@ -62,8 +68,19 @@ pub record TradesAsked (ids : List ℕ) (ts : List Trade) (valid : Bool) (seller
 unfoldable pub pastSix : ℕ → Bool
 pastSix number = eqb number 0 || eqb number 7
 
--- users and trades that pass the questions 1 to 6: each user's twelve sums are 01's, and as many trades were read as there are
+-- question 6 is asked, and with it the trades are read: no question before it refuses
+unfoldable pub pastFive : ℕ → Bool
+pastFive number = eqb number 6 || pastSix number
+
+-- the number of trades that are read: none where a question before 6 refuses; else those before the first that is not valid between the users, all of them where each is
+-- (a zero byte that is not 0 is question 6's too, and stops no reading)
+unfoldable pub tradesRead : List User → List Trade → ℕ → ℕ
+tradesRead us ts number = cond (pastFive number) (leading (tradeValid us) ts) 0
+
+-- users and trades that were asked the questions, and the first that refuses: how many trades were read, in every case; of those that pass the questions 1 to 6 each
+-- user's twelve sums are 01's, and as many trades were read as there are
 pub record Summed (us : List User) (ts : List Trade) (count number read : ℕ) (sums : List ℕ) : Type 0 where
+  pub counted : read ≡ tradesRead us ts number
   pub twelve : T (pastSix number) → TwelveOf us ts sums
   pub low : T (pastSix number) → Low sums
   pub all-read : T (pastSix number) → read ≡ count

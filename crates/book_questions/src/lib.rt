@@ -14,7 +14,8 @@ ghost use Rattle.book_parties.specs.Ids.{usersFrom, tradesFrom, Padded};
 ghost use Rattle.book_questions.specs.Asked.{allValid, managerGiven, managersGiven, GroupsIn, GroupsAsked, UsersAsked};
 ghost use Rattle.book_questions.specs.Asked.{TradesAsked, RecordsIn, RecordsAsked, FieldsPlaced, AskedOf, Summed};
 
-// What was asked: the number of the first question that is answered by no, 0 where there is none, and how many trades were read.
+// What was asked: the number of the first question that is answered by no, 0 where there is none, and how many trades were read: none
+// where a question before 6 is answered by no, else those before the first that is not valid, all of them where each is.
 pub struct Answer {
     pub number: u32,
     pub read: usize,
@@ -128,7 +129,7 @@ fn valid_trades(
 ) -> usize
     requires { ⌜ Padded (now ids) n ⌝ }
     requires { ⌜ (m ≤ 256) × (at + 20 * m ≤ length (now s)) × (length (now sellers) ≡ 256) × (length (now buyers) ≡ 256) × (now sums ≡ replicate 768 0) ⌝ }
-    ensures { λ r. ⌜ TradesAsked (take n (now (ids .entry))) (tradesFrom at m (now (s .entry))) (eqb r m) (now (sellers .exit)) (now (buyers .exit)) (now (sums .exit)) ⌝ }
+    ensures { λ r. ⌜ TradesAsked (take n (now (ids .entry))) (tradesFrom at m (now (s .entry))) (eqb r m) r (now (sellers .exit)) (now (buyers .exit)) (now (sums .exit)) ⌝ }
 {
     let mut i = 0;
     let mut a = at;
@@ -234,8 +235,8 @@ pub fn ask_fields(s: &[u8], sellers: &mut [u8], buyers: &mut [u8], sums: &mut [u
 }
 
 // Asks the questions 1 to 7 of any bytes: the number of the first that is answered by no, 0 where there is none, with the places of the
-// trades' parties; and of bytes that pass the questions 1 to 6 the twelve sums of every user, and the number of trades that were read for
-// them.
+// trades' parties; how many trades were read; and of bytes that pass the questions 1 to 6, whose trades were all read, the twelve sums of
+// every user.
 pub fn ask(s: &[u8], sellers: &mut [u8], buyers: &mut [u8], sums: &mut [u32; 768]) -> Answer
     requires { ⌜ (length (now sellers) ≡ 256) × (length (now buyers) ≡ 256) × (now sums ≡ replicate 768 0) ⌝ }
     ensures { λ r. ⌜ AskedOf (now (s .entry)) (r .number) (now (sellers .exit)) (now (buyers .exit)) ⌝ }

@@ -1,13 +1,12 @@
 -- Laws of a signed amount for each area: as an array, and in 12 bytes. Assumes nothing.
 use Prim.Native.Nat.{ℕ, zero, suc, _+_, _<_, _^_}
-use mathlib.Core.Path.{_≡_, refl, ap}
-use mathlib.Core.List.{List, [], _∷_}
+use mathlib.Core.Path.{_≡_, refl}
+use mathlib.Core.List.{List}
 use native.Mathlib.Omega.{arith}
-use lib.IntN.{ℤ, _+ℤ_}
-use lib.ListN.{length, getD, set}
+use lib.IntN.{ℤ}
+use lib.ListN.{getD}
 use Rattle.rules.specs.Signed.{signedOf, bitsOf}
 use Rattle.rules.specs.Book.{at}
-use Rattle.rules.specs.Changes.{add}
 use Rattle.fields.specs.Field.{field, AllBytes}
 use Rattle.fields.specs.Layout.{fieldsAt}
 use Rattle.fields.proofs.Field.{field-lt}
@@ -25,18 +24,6 @@ at-asAmounts v zero h = refl
 at-asAmounts v (suc zero) h = refl
 at-asAmounts v (suc (suc zero)) h = refl
 at-asAmounts v (suc (suc (suc a))) h = absurd (omega arith)
-
--- an area's amount replaced by one that is greater by z
-pub asAmounts-set : (v : List Net) (a : ℕ) (e : Net) (z : ℤ) → length v ≡ 3 → a < 3 → net e ≡ at (asAmounts v) a +ℤ z → asAmounts (set v a e) ≡ add (asAmounts v) a z
-unfolding at asAmounts add
-asAmounts-set [] a e z l h q = absurd (omega arith)
-asAmounts-set (p ∷ []) a e z l h q = absurd (omega arith)
-asAmounts-set (p ∷ (t ∷ [])) a e z l h q = absurd (omega arith)
-asAmounts-set (p ∷ (t ∷ (s ∷ r))) zero e z l h q = ap (λ (i : ℤ). record { pvb = i; tvb = net t; avb = net s }) q
-asAmounts-set (p ∷ (t ∷ (s ∷ r))) (suc zero) e z l h q = ap (λ (i : ℤ). record { pvb = net p; tvb = i; avb = net s }) q
-asAmounts-set (p ∷ (t ∷ (s ∷ r))) (suc (suc zero)) e z l h q =
-    ap (λ (i : ℤ). record { pvb = net p; tvb = net t; avb = i }) q
-asAmounts-set (p ∷ (t ∷ (s ∷ r))) (suc (suc (suc a))) e z l h q = absurd (omega arith)
 
 -- ---- in 12 bytes
 

@@ -12,7 +12,7 @@ use Rattle.call_cancellation.specs.declared.CancellationAnswer.{Cancella
 
 -- the same number, marks and amounts
 abbrev pub cancellationOf : CancellationAnswer → Cancellation
-cancellationOf a = record { number = a .number; marks = a .marks; excess = a .excess; tries = a .tries; complete = a .complete }
+cancellationOf a = record { number = a .number; marks = a .marks; excess = a .excess .0; tries = a .tries; complete = a .complete }
 
 -- the questions 14 and 24, and the cancellation for an amount
 unfoldable pub onSales : Book → User → ℕ → ℕ → Cancellation

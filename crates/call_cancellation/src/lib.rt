@@ -33,7 +33,7 @@ ghost use Rattle.call_cancellation.specs.Sales.{Selling, Worths, setsOf,
 pub struct CancellationAnswer {
     pub number: u32,
     pub marks: [bool; 256],
-    pub excess: u64,
+    pub excess: Cents,
     pub tries: u32,
     pub complete: bool,
 }
@@ -46,7 +46,7 @@ impl CancellationAnswer {
         CancellationAnswer {
             number: number,
             marks: [false; 256],
-            excess: 0,
+            excess: Cents(0),
             tries: 0,
             complete: false,
         }
@@ -189,7 +189,7 @@ fn cancel_among(
     CancellationAnswer {
         number: 0,
         marks: marks,
-        excess: found.excess,
+        excess: Cents(found.excess),
         tries: found.tries,
         complete: found.complete,
     }

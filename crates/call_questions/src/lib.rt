@@ -64,6 +64,6 @@ pub fn shortfall_at(
     }
     Shortfall {
         number: 0,
-        target: Cents(risk_user::target_of(book, place, level, day)),
+        target: risk_user::target_of(book, place, level, day),
     }
 }

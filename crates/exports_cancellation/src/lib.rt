@@ -31,7 +31,7 @@ pub fn store_cancellation(
     let marks = cancellation.marks;
     store_marks(part, marks);
     let numbers = [
-        cancellation.excess,
+        cancellation.excess.0,
         cancellation.tries as u64,
         cancellation.complete as u64,
     ];

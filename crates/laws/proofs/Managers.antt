@@ -1,7 +1,7 @@
 -- What question 5 says of managers, in an accepted book: who bears a user's risk is a user of the book and bears its own. Assumes nothing.
 use mathlib.Core.Bool.{Bool, true, false, cond, _&&_, _||_}
 use mathlib.Core.List.{List}
-use mathlib.Core.Path.{_≡_, ap, _∙_}
+use mathlib.Core.Path.{_≡_, ap}
 use Prim.Native.Nat.{ℕ, zero, suc, _<_}
 use native.Mathlib.Omega.{arith}
 use lib.Dec.{T, eqb, eqb→eq}
@@ -54,15 +54,3 @@ module _ (b : Book) (s : Sound b) where
       by-bearer (b .header .version) (b .users) (find (b .users) id) area (λ (n : ℕ). T (known (b .users) n)) (valid-manager id area l k)
       (λ none. rw (known-id (b .users) id k) k)
       (λ h. search (and-l, and-r))
-
-  -- and bears its own
-  pub bearer-bears : (id area : ℕ) → area < 3 → T (known (b .users) id) → bearer (find (b .users) (bearer (find (b .users) id) area)) area ≡ bearer (find (b .users) id) area
-  unfolding manages
-  bearer-bears id area l k =
-      by-bearer (b .header .version) (b .users) (find (b .users) id) area (λ (n : ℕ). bearer (find (b .users) n) area ≡ n) (valid-manager id area l k)
-      (λ none. own-bearer (find (b .users) (find (b .users) id .party .id)) area (rw (known-id (b .users) id k) none) ∙ known-id (b .users) (find (b .users) id .party .id) (rw (known-id (b .users) id k) k))
-      (λ h.
-      let m = managerIn (find (b .users) id .party .managers) area in
-      let unmanaged : T (eqb (managerIn (find (b .users) m .party .managers) area) 0) = search (and-l, and-r) in
-      let isKnown : T (known (b .users) m) = search (and-l, and-r) in
-      own-bearer (find (b .users) m) area (eqb→eq (managerIn (find (b .users) m .party .managers) area) 0 unmanaged) ∙ known-id (b .users) m isKnown)

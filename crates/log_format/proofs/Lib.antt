@@ -7,3 +7,5 @@ pub mod Read
 pub mod Withdrawal
 pub mod Noted
 pub mod Main
+-- What is at the boundaries of its questions.
+pub mod Boundaries

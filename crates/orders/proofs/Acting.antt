@@ -19,9 +19,9 @@ use Rattle.rules.specs.Calls.{Answer, only}
 use Rattle.sequence.specs.Acting.{endedBy, thenBy, Deed, LinkedBy, linksOf}
 use Rattle.sequence.specs.Links.{ended, then, Linked, acceptedNumber, isAccepted}
 use Rattle.orders.proofs.Lines.{lines-order-free}
-use Rattle.orders.proofs.Main.{postings-add, same-end}
-use Rattle.orders.specs.Acting.{InListBy, InOrderBy, LinesOrderFreeBy, OrderFreeBy, PostedTwiceBy, PostingsAddBy}
-use Rattle.orders.specs.Orders.{InList, InOrder, PostedTwice, Posting, actsOf, callOf}
+use Rattle.orders.proofs.Main.{order-posts, posts-same, postings-add, same-end}
+use Rattle.orders.specs.Acting.{AnyStoresBy, InListBy, InOrderBy, LinesOrderFreeBy, OrderFreeBy, PostedTwiceBy, PostingsAddBy, PostsBy, nextBy, no-moreBy}
+use Rattle.orders.specs.Orders.{InList, InOrder, PostedTwice, Posting, Posts, actsOf, callOf, next, no-more}
 
 -- ---- an accepted act is one without a party
 
@@ -51,8 +51,8 @@ posted-unparted {actor} {store} {log} {ids} {areas} {amounts} {places} {s} {l = 
 
 -- ---- two postings
 
-twice : {store log other : Option (List ℕ)} {earlier later : Party} {s t u : List ℕ} {id area : ℕ} {x y : ℤ} {a b : Answer}
-    → PostedTwiceBy store log other earlier later s t u id area x y a b → PostedTwice store log other s t u id area x y a b
+twice : {store other log lent : Option (List ℕ)} {earlier later : Party} {s t u : List ℕ} {id area : ℕ} {x y : ℤ} {a b : Answer}
+    → PostedTwiceBy store other log lent earlier later s t u id area x y a b → PostedTwice store other log lent s t u id area x y a b
 twice {a = a} {b = b} w =
     record {
       first = carried-unparted (w .first) (w .first-accepted);
@@ -61,15 +61,22 @@ twice {a = a} {b = b} w =
       second-accepted = w .second-accepted;
     }
 
-pub postings-add-by : (store : Option (List ℕ)) → PostingsAddBy store
-postings-add-by store =
+pub postings-add-by : PostingsAddBy
+postings-add-by =
     record {
-      sum = λ {log} {other} {earlier} {later} {s} {t} {u} {id} {area} {x} {y} {a} {b} w.
-          carried-operator (unparted (w .first) (w .first-accepted) .0) (postings-add store .sum (twice w));
-      fits = λ w. postings-add store .fits (twice w);
+      sum = λ {store} {other} {log} {lent} {earlier} {later} {s} {t} {u} {id} {area} {x} {y} {a} {b} w.
+          carried-operator (unparted (w .first) (w .first-accepted) .0) (postings-add .sum (twice w));
+      fits = λ w. postings-add .fits (twice w);
     }
 
 -- ---- any order
+
+posts-unparted : {s t : List ℕ} {ps : List Posting} → PostsBy s ps t → Posts s ps t
+posts-unparted no-moreBy = no-more
+posts-unparted (nextBy {a = a} actor store log k z rest) = next store log (carried-unparted k z) z (posts-unparted rest)
+
+pub any-stores-by : AnyStoresBy
+any-stores-by = record { posts = posts-unparted; same = λ {s} {t} {u} {ps} {qs} d p q. posts-same ps qs d (posts-unparted p) (posts-unparted q) }
 
 module _ (store : Option (List ℕ)) where
   links-unparted : {s t : List ℕ} (ps : List Posting) {ds : List Deed} → LinkedBy store s ds t → actsOf (linksOf ds) ≡ map (λ p. call (callOf p)) ps → T (all isAccepted (linksOf ds))
@@ -95,6 +102,7 @@ module _ (store : Option (List ℕ)) where
   pub order-free-by : OrderFreeBy store
   order-free-by =
       record {
+        posts = λ {s} {t} {u} {ps} {qs} {ds} o m. order-posts store {ls = linksOf ds} (in-order o) (o .accepted) m;
         same = λ {s} {t} {u} {ps} {qs} {ds} {es} d p q.
             same-end store ps qs {ls = linksOf ds} {ms = linksOf es} d (in-order p) (p .accepted) (in-order q) (q .accepted);
       }
@@ -103,6 +111,7 @@ module _ (store : Option (List ℕ)) where
   lines-order-free-by =
       let free = lines-order-free store in
       record {
+        posts = λ l m. free .posts (in-list l) m;
         apart = λ l. free .apart (in-list l);
         lists = λ {s} {t} {u} {places} {left} {others} {gave} {ps} {qs} d l m. free .lists {ps = ps} {qs = qs} d (in-list l) (in-list m);
         calls = λ {s} {t} {u} {places} {left} {ps} {qs} {es} d l o. free .calls {ps = ps} {qs = qs} {ms = linksOf es} d (in-list l) (in-order o) (o .accepted);

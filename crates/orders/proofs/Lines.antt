@@ -7,7 +7,7 @@ use lib.Dec.{T, eqb}
 use lib.ListN.{length}
 use Rattle.book_format.specs.After.{after}
 use Rattle.base.proofs.Tests.{and-i, and-l, and-r}
-use Rattle.orders.proofs.Main.{same-end}
+use Rattle.orders.proofs.Main.{order-posts, same-end}
 use Rattle.orders.specs.Orders.{Apart, InList, LinesOrderFree, Posting, actsOf, callOf}
 use Rattle.requests.proofs.Accepted.{accepted-lines}
 use Rattle.requests.specs.Request.{call, Act, actBy, actIn, linesIn, request, requestOf, settingOf, stepIn}
@@ -51,6 +51,7 @@ module _ (store : Option (List ℕ)) where
   pub lines-order-free : LinesOrderFree store
   lines-order-free =
       record {
+        posts = λ {s} {t} {u} {places} {left} {ps} {qs} l m. let x = list-apart l in order-posts store (x .order) (x .accepted) m;
         apart = list-apart;
         lists = λ {s} {t} {u} {places} {left} {others} {gave} {ps} {qs} d l m.
             let x = list-apart l in

@@ -1,6 +1,6 @@
 -- Ask 12, as specs/Orders.antt states it: an accepted posting is a change of one user of the book, two such changes add up where user and area are the same, and any two can change places. Assumes nothing.
 use mathlib.Core.Bool.{true}
-use mathlib.Core.List.{List, [], _∷_, map, nil≢cons, cons≢nil, head-eq-of-cons-eq, tail-eq-of-cons-eq, List·Permᴰ, List·Permᴰ·nil, List·Permᴰ·cons, List·Permᴰ·swap, List·Permᴰ·trans, Permᴰ·symm}
+use mathlib.Core.List.{List, [], _∷_, _++_, append-nil, map, nil≢cons, cons≢nil, head-eq-of-cons-eq, tail-eq-of-cons-eq, List·Permᴰ, List·Permᴰ·nil, List·Permᴰ·cons, List·Permᴰ·swap, List·Permᴰ·trans, Permᴰ·symm}
 use mathlib.Core.Option.{Option}
 use mathlib.Core.Path.{_≡_, refl, sym, ap, ap₂, subst, _∙_}
 use Prim.Native.Nat.{ℕ}
@@ -20,7 +20,7 @@ use Rattle.base.proofs.Tests.{and-l, and-r}
 use Rattle.laws.proofs.Users.{all-find}
 use Rattle.orders.proofs.Accepted.{postedBook, Accepted, accepted, book-left, bytes-left, carried, opened}
 use Rattle.orders.proofs.Changes.{change-swap, change-twice, entry-posted, find-change, posted-keeps, posted-swap, posted-twice}
-use Rattle.orders.specs.Orders.{PostedTwice, PostingsAdd, Posting, actsOf, callOf, InOrder, OrderFree}
+use Rattle.orders.specs.Orders.{PostedTwice, PostingsAdd, Posting, Posts, no-more, next, AnyStores, actsOf, callOf, InOrder, OrderFree}
 use Rattle.rules.specs.Book.{Book, User, at, find}
 use Rattle.rules.specs.Calls.{posting, Answer, only}
 use Rattle.rules.specs.Changes.{change, posted, withUsers}
@@ -39,7 +39,7 @@ book-twice id area x y b =
     (change-twice id (posted area x) (posted area y) (posted-keeps area x) (b .users)
     ∙ ap (λ (f : User → User). change id f (b .users)) (λ i u. posted-twice area x y u i))
 
-module _ (store : Option (List ℕ)) {log other : Option (List ℕ)} {s t u : List ℕ} {id area : ℕ} {x y : ℤ} {a b : Answer} (w : PostedTwice store log other s t u id area x y a b) where
+module _ {store other log lent : Option (List ℕ)} {s t u : List ℕ} {id area : ℕ} {x y : ℤ} {a b : Answer} (w : PostedTwice store other log lent s t u id area x y a b) where
   -- the new entry of the second is the old one and both amounts
   both-range : T (within 1000000 (at (find (bookOf s .users) id .physical) area +ℤ (x +ℤ y)))
   unfolding postedBook withUsers
@@ -47,7 +47,7 @@ module _ (store : Option (List ℕ)) {log other : Option (List ℕ)} {s t u : Li
       let p = accepted store (w .first) (w .first-accepted) in
       let v = find (bookOf s .users) id in
       let q : T (within 1000000 (at (find (postedBook id area x (bookOf s) .users) id .physical) area +ℤ y))
-      = subst (λ (n : Book). T (within 1000000 (at (find (n .users) id .physical) area +ℤ y))) (book-left store (w .first) (w .first-accepted)) (accepted store (w .second) (w .second-accepted) .range) in
+      = subst (λ (n : Book). T (within 1000000 (at (find (n .users) id .physical) area +ℤ y))) (book-left store (w .first) (w .first-accepted)) (accepted other (w .second) (w .second-accepted) .range) in
       let f : find (postedBook id area x (bookOf s) .users) id ≡ posted area x v = find-change id (posted area x) (posted-keeps area x) (bookOf s .users) (p .user) in
       let r : at (find (postedBook id area x (bookOf s) .users) id .physical) area +ℤ y ≡ at (v .physical) area +ℤ (x +ℤ y)
       = ap (λ (n : User). at (n .physical) area +ℤ y) f ∙ ap (λ (z : ℤ). z +ℤ y) (entry-posted v area x (p .area)) ∙ +ℤ-assoc (at (v .physical) area) x y in
@@ -65,7 +65,7 @@ module _ (store : Option (List ℕ)) {log other : Option (List ℕ)} {s t u : Li
   as-one : Carried (actOf store log (call (posting id area (x +ℤ y)))) s (only 0) u
   as-one =
       let e : u ≡ bytesOf (postedBook id area (x +ℤ y) (bookOf s))
-      = bytes-left store (w .second) (w .second-accepted) ∙ ap (λ (n : Book). bytesOf (postedBook id area y n)) (book-left store (w .first) (w .first-accepted)) ∙ ap bytesOf (book-twice id area x y (bookOf s)) in
+      = bytes-left other (w .second) (w .second-accepted) ∙ ap (λ (n : Book). bytesOf (postedBook id area y n)) (book-left store (w .first) (w .first-accepted)) ∙ ap bytesOf (book-twice id area x y (bookOf s)) in
       subst (λ (v : List ℕ). Carried (actOf store log (call (posting id area (x +ℤ y)))) s (only 0) v) (sym e) (carried store same-opening both-accepted)
 
   -- an old and a new entry within ±1,000,000 differ by at most 2,000,000
@@ -81,8 +81,8 @@ module _ (store : Option (List ℕ)) {log other : Option (List ℕ)} {s t u : Li
       le-leb (natAbs (x +ℤ y)) 2000000
       (omega (arith, e, n, abs-parts z, abs-parts (o +ℤ z), parts-add o z, posPart-of z (posPart z) (negPart z) refl))
 
-pub postings-add : (store : Option (List ℕ)) → PostingsAdd store
-postings-add store = record { sum = as-one store; fits = sum-fits store }
+pub postings-add : PostingsAdd
+postings-add = record { sum = as-one; fits = sum-fits }
 
 -- ---- any order
 
@@ -118,42 +118,60 @@ no-other (List·Permᴰ·cons g d) e = absurd (cons≢nil e)
 no-other (List·Permᴰ·swap g f) e = absurd (cons≢nil e)
 no-other (List·Permᴰ·trans d f) e = no-other f (no-other d e)
 
+-- the bytes at the end of accepted postings; where there is none, those at the start, which must then be the bytes of a book
+posts-left : {s t : List ℕ} {ps : List Posting} → Posts s ps t → (ps ≡ [] → s ≡ bytesOf (bookOf s)) → t ≡ bytesOf (allPosted ps (bookOf s))
+unfolding allPosted callOf
+posts-left no-more b = b refl
+posts-left (next {ps = ps} {a = a} store log c h m) b =
+    let n = book-left store c h in
+    posts-left m (λ z. bytes-left store c h ∙ ap bytesOf (sym n)) ∙ ap (λ (w : Book). bytesOf (allPosted ps w)) n
+
+-- no posting
+posts-none : {s t : List ℕ} {ps : List Posting} → Posts s ps t → ps ≡ [] → t ≡ s
+posts-none no-more e = refl
+posts-none (next store log c h m) e = absurd (cons≢nil e)
+
+-- the same postings in two orders, all accepted in both
+pub posts-same : {s t u : List ℕ} (ps qs : List Posting) → List·Permᴰ ps qs → Posts s ps t → Posts s qs u → t ≡ u
+posts-same [] [] d p q = posts-none p refl ∙ sym (posts-none q refl)
+posts-same [] (y ∷ qs) d p q = absurd (cons≢nil (no-other d refl))
+posts-same (x ∷ ps) [] d p q = absurd (cons≢nil (no-other (Permᴰ·symm d) refl))
+posts-same {s} (x ∷ ps) (y ∷ qs) d p q =
+    posts-left p (λ e. absurd (cons≢nil e)) ∙ ap bytesOf (any-order d (bookOf s)) ∙ sym (posts-left q (λ e. absurd (cons≢nil e)))
+
+pub any-stores : AnyStores
+any-stores = record { same = λ {s} {t} {u} {ps} {qs} d p q. posts-same ps qs d p q }
+
+-- ---- postings of a sequence
+
 module _ (store : Option (List ℕ)) where
-  -- the bytes at the end of accepted postings; where there is none, those at the start, which must then be the bytes of a book
-  all-left : {s t : List ℕ} {ls : List Link} (ps : List Posting) → Linked store s ls t → actsOf ls ≡ map (λ p. call (callOf p)) ps → T (all isAccepted ls)
-      → (ps ≡ [] → s ≡ bytesOf (bookOf s)) → t ≡ bytesOf (allPosted ps (bookOf s))
-  unfolding allPosted actsOf callOf all isAccepted acceptedNumber
-  all-left [] ended e t b = b refl
-  all-left [] (then g o k n x m) e t b = absurd (cons≢nil e)
-  all-left (p ∷ ps) ended e t b = absurd (nil≢cons e)
-  all-left {s} (p ∷ ps) (then {l = l} {ls = ls} g o k w v m) e t b =
+  -- its accepted links, before other postings
+  linked-posts : {s t u : List ℕ} {ls : List Link} {qs : List Posting} (ps : List Posting) → Linked store s ls t → actsOf ls ≡ map (λ p. call (callOf p)) ps → T (all isAccepted ls)
+      → Posts t qs u → Posts s (ps ++ qs) u
+  unfolding actsOf callOf all isAccepted acceptedNumber
+  linked-posts [] ended e t b = b
+  linked-posts [] (then g o k n x m) e t b = absurd (cons≢nil e)
+  linked-posts (p ∷ ps) ended e t b = absurd (nil≢cons e)
+  linked-posts {s} (p ∷ ps) (then {l = l} {ls = ls} g o k w v m) e t b =
       let i : l .asked .act ≡ call (callOf p) = head-eq-of-cons-eq e in
       let r : l .asked ≡ actOf store (l .asked .log) (call (callOf p)) = λ j. record { setting = record { store = o j }; log = l .asked .log; act = i j } in
       let c : Carried (actOf store (l .asked .log) (call (callOf p))) s (l .gave .answer) (l .gave .bytes)
       = subst (λ (x : List ℕ). Carried (actOf store (l .asked .log) (call (callOf p))) x (l .gave .answer) (l .gave .bytes)) g
       (subst (λ (x : Request). Carried x (l .given) (l .gave .answer) (l .gave .bytes)) r k) in
       let q : T (acceptedNumber (call (callOf p)) (l .gave .answer .number)) = subst (λ (x : Act). T (acceptedNumber x (l .gave .answer .number))) i (and-l (isAccepted l) (all isAccepted ls) t) in
-      let h : l .gave .answer .number ≡ 0 = eqb→eq (l .gave .answer .number) 0 q in
-      let n = book-left store c h in
-      all-left ps m (tail-eq-of-cons-eq e) (and-r (isAccepted l) (all isAccepted ls) t) (λ z. bytes-left store c h ∙ ap bytesOf (sym n))
-      ∙ ap (λ (w : Book). bytesOf (allPosted ps w)) n
+      next store (l .asked .log) c (eqb→eq (l .gave .answer .number) 0 q) (linked-posts ps m (tail-eq-of-cons-eq e) (and-r (isAccepted l) (all isAccepted ls) t) b)
 
-  -- no posting
-  none-left : {s t : List ℕ} {ls : List Link} → Linked store s ls t → actsOf ls ≡ [] → t ≡ s
-  unfolding actsOf
-  none-left ended e = refl
-  none-left (then g o k n x m) e = absurd (cons≢nil e)
+  pub order-posts : {s t u : List ℕ} {ps qs : List Posting} {ls : List Link} → InOrder store s ps ls t → T (all isAccepted ls) → Posts t qs u → Posts s (ps ++ qs) u
+  order-posts {ps = ps} o a b = linked-posts ps (o .linked) (o .acts) a b
+
+  -- by themselves
+  alone-posts : {s t : List ℕ} {ps : List Posting} {ls : List Link} → InOrder store s ps ls t → T (all isAccepted ls) → Posts s ps t
+  alone-posts {s} {t} {ps} o a = subst (λ (xs : List Posting). Posts s xs t) (append-nil ps) (order-posts o a no-more)
 
   -- the same postings in two orders, all accepted in both
   pub same-end : {s t u : List ℕ} (ps qs : List Posting) {ls ms : List Link} → List·Permᴰ ps qs → InOrder store s ps ls t → T (all isAccepted ls)
       → InOrder store s qs ms u → T (all isAccepted ms) → t ≡ u
-  same-end [] [] d p v q w = none-left (p .linked) (p .acts) ∙ sym (none-left (q .linked) (q .acts))
-  same-end [] (y ∷ qs) d p v q w = absurd (cons≢nil (no-other d refl))
-  same-end (x ∷ ps) [] d p v q w = absurd (cons≢nil (no-other (Permᴰ·symm d) refl))
-  same-end {s} (x ∷ ps) (y ∷ qs) d p v q w =
-      all-left (x ∷ ps) (p .linked) (p .acts) v (λ e. absurd (cons≢nil e))
-      ∙ ap bytesOf (any-order d (bookOf s))
-      ∙ sym (all-left (y ∷ qs) (q .linked) (q .acts) w (λ e. absurd (cons≢nil e)))
+  same-end ps qs d p v q w = posts-same ps qs d (alone-posts p v) (alone-posts q w)
 
   pub order-free : OrderFree store
-  order-free = record { same = λ {s} {t} {u} {ps} {qs} {ls} {ms} d p v q w. same-end ps qs {ls = ls} {ms = ms} d p v q w }
+  order-free = record { posts = order-posts; same = λ {s} {t} {u} {ps} {qs} {ls} {ms} d p v q w. same-end ps qs {ls = ls} {ms = ms} d p v q w }

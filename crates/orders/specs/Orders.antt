@@ -1,7 +1,7 @@
--- Ask 12, "Corrections in another order": of postings on a book in bytes that are all given one store, or none, and whatever logs, by the contract of the public function; and
--- of the lines of a list. Assumes nothing.
+-- Ask 12, "Corrections in another order": of postings on a book in bytes, each given a store and a log of its own, or none, by the contract of the public function; of those of a
+-- sequence, which are all given one store; and of the lines of a list. Assumes nothing.
 use mathlib.Core.Bool.{true}
-use mathlib.Core.List.{List, List·Permᴰ, map}
+use mathlib.Core.List.{List, [], _∷_, _++_, List·Permᴰ, map}
 use mathlib.Core.Option.{Option}
 use mathlib.Core.Path.{_≡_}
 use Prim.Native.Nat.{ℕ}
@@ -17,19 +17,19 @@ use Rattle.sequence.specs.Links.{Link, Linked, isAccepted}
 
 -- ---- "Two accepted postings on one user and area, one straight after the other, leave the book that a single posting of their sum leaves, and that posting is accepted too."
 
--- two such postings, of an amount x with a log, or none, and then of y with another: from bytes s over t to u
-pub record PostedTwice (store log other : Option (List ℕ)) (s t u : List ℕ) (id area : ℕ) (x y : ℤ) (a b : Answer) : Type 0 where
+-- two such postings, of an amount x with a store and a log, or none of them, and then of y with whatever others: from bytes s over t to u
+pub record PostedTwice (store other log lent : Option (List ℕ)) (s t u : List ℕ) (id area : ℕ) (x y : ℤ) (a b : Answer) : Type 0 where
   pub first : Carried (actOf store log (call (posting id area x))) s a t
   pub first-accepted : a .number ≡ 0
-  pub second : Carried (actOf store other (call (posting id area y))) t b u
+  pub second : Carried (actOf other lent (call (posting id area y))) t b u
   pub second-accepted : b .number ≡ 0
 
-pub record PostingsAdd (store : Option (List ℕ)) : Type 0 where
-  -- the posting of the sum, from s and with the first one's log, is accepted and leaves u
-  pub sum : {log other : Option (List ℕ)} {s t u : List ℕ} {id area : ℕ} {x y : ℤ} {a b : Answer} → PostedTwice store log other s t u id area x y a b
+pub record PostingsAdd : Type 0 where
+  -- the posting of the sum, from s and with the first one's store and log, is accepted and leaves u
+  pub sum : {store other log lent : Option (List ℕ)} {s t u : List ℕ} {id area : ℕ} {x y : ℤ} {a b : Answer} → PostedTwice store other log lent s t u id area x y a b
       → Carried (actOf store log (call (posting id area (x +ℤ y)))) s (only 0) u
   -- there always is such a posting: the sum is within ±2,000,000, and an amount has 64 bits
-  pub fits : {log other : Option (List ℕ)} {s t u : List ℕ} {id area : ℕ} {x y : ℤ} {a b : Answer} → PostedTwice store log other s t u id area x y a b
+  pub fits : {store other log lent : Option (List ℕ)} {s t u : List ℕ} {id area : ℕ} {x y : ℤ} {a b : Answer} → PostedTwice store other log lent s t u id area x y a b
       → within 2000000 (x +ℤ y) ≡ true
 
 -- ---- "For every list, any two orders of the same accepted postings, from one book with nothing between and all accepted in both, end in equal bytes."
@@ -44,6 +44,18 @@ pub record Posting : Type 0 where
 unfoldable pub callOf : Posting → Call
 callOf p = posting (p .id) (p .area) (p .amount)
 
+-- accepted postings one after the other and nothing between, from bytes s to bytes t, each with a store and a log of its own, or none
+pub data Posts : List ℕ → List Posting → List ℕ → Type 0 where
+  no-more : {s : List ℕ} → Posts s [] s
+  next : {s t u : List ℕ} {p : Posting} {ps : List Posting} {a : Answer} (store log : Option (List ℕ)) → Carried (actOf store log (call (callOf p))) s a t → a .number ≡ 0
+      → Posts t ps u → Posts s (p ∷ ps) u
+
+-- the postings qs are the postings ps in another order: a permutation of the list, as mathlib defines it
+pub record AnyStores : Type 0 where
+  pub same : {s t u : List ℕ} {ps qs : List Posting} → List·Permᴰ ps qs → Posts s ps t → Posts s qs u → t ≡ u
+
+-- ---- postings of a sequence, all with one store
+
 -- what the links of a sequence ask for
 unfoldable pub actsOf : List Link → List Act
 actsOf ls = map (λ l. l .asked .act) ls
@@ -53,8 +65,9 @@ pub record InOrder (store : Option (List ℕ)) (s : List ℕ) (ps : List Posting
   pub linked : Linked store s ls t
   pub acts : actsOf ls ≡ map (λ p. call (callOf p)) ps
 
--- the postings qs are the postings ps in another order: a permutation of the list, as mathlib defines it
+-- they are such postings, and so their order is free
 pub record OrderFree (store : Option (List ℕ)) : Type 0 where
+  pub posts : {s t u : List ℕ} {ps qs : List Posting} {ls : List Link} → InOrder store s ps ls t → T (all isAccepted ls) → Posts t qs u → Posts s (ps ++ qs) u
   pub same : {s t u : List ℕ} {ps qs : List Posting} {ls ms : List Link} → List·Permᴰ ps qs
       → InOrder store s ps ls t → T (all isAccepted ls)
       → InOrder store s qs ms u → T (all isAccepted ms)
@@ -77,7 +90,8 @@ pub record Apart (store : Option (List ℕ)) (s : List ℕ) (ps : List Posting) 
   pub accepted : T (all isAccepted links)
 
 pub record LinesOrderFree (store : Option (List ℕ)) : Type 0 where
-  -- such lines are accepted postings one after the other, of which all the above holds
+  -- such lines are accepted postings one after the other, of which all the above holds, among postings and lists with whatever other stores too
+  pub posts : {s t u places left : List ℕ} {ps qs : List Posting} → InList store s ps places t left → Posts t qs u → Posts s (ps ++ qs) u
   pub apart : {s t places left : List ℕ} {ps : List Posting} → InList store s ps places t left → Apart store s ps t
   -- the same lines in two orders, every place 0 after both lists
   pub lists : {s t u places left others gave : List ℕ} {ps qs : List Posting} → List·Permᴰ ps qs

@@ -7,3 +7,5 @@ pub mod Cancellation
 pub mod Logged
 pub mod Emptied
 pub mod Accepted
+-- Figures at the boundaries of document 02's questions.
+pub mod Boundaries

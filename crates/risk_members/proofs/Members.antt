@@ -1,7 +1,7 @@
 -- The amounts that are read of users, and those of a user as its risk is borne. Assumes nothing.
-use mathlib.Core.Bool.{Bool, true, false}
+use mathlib.Core.Bool.{false}
 use mathlib.Core.List.{List, [], _∷_}
-use mathlib.Core.Path.{_≡_, refl, sym, ap, subst, _∙_}
+use mathlib.Core.Path.{_≡_, refl, sym, ap, _∙_}
 use Prim.Native.Nat.{ℕ, _≤_, _<_}
 use native.Mathlib.Omega.{arith}
 use lib.IntN.{ℤ}
@@ -17,7 +17,7 @@ use Rattle.book_records.specs.User.{alone, asAmounts, asUser}
 use Rattle.book_records.specs.declared.User as code
 use Rattle.laws.proofs.Bounds.{entry-le, position-bound}
 use Rattle.laws_sales.proofs.Alone.{own-risk}
-use Rattle.laws_sales.specs.Borne.{borneBook, borneSums, borneUser}
+use Rattle.laws_sales.specs.Borne.{borneSums, borneUser}
 use Rattle.risk_bearers.specs.Bearers.{usersIn}
 use Rattle.risk_user.proofs.Borne.{member-borne}
 use Rattle.rules.specs.Areas.{managersIn}
@@ -55,10 +55,6 @@ module _ (u : code.User) (v : User) (h : asUser u ≡ alone v) where
   pub read-charges : balance (u .charges) ≡ v .party .charges
   unfolding asUser alone
   read-charges = ap (λ (w : User). w .party .charges) h
-
-  pub read-assigned : u .assigned .0 ≡ v .party .assigned
-  unfolding asUser alone
-  read-assigned = ap (λ (w : User). w .party .assigned) h
 
   pub read-blocked : u .blocked .0 ≡ v .blocked
   unfolding asUser alone

@@ -182,15 +182,15 @@ fn exceeds_margin(book: &[u8], place: usize, level: Cents, day: Day) -> bool
 }
 
 // T where the shipper at a place, of this level and called in, is short of cover; else 0.
-pub fn target_of(book: &[u8], place: usize, level: Cents, day: Day) -> u64
+pub fn target_of(book: &[u8], place: usize, level: Cents, day: Day) -> Cents
     requires { ⌜ DayOf (asLimits (day .limits)) (asPrices (day .prices)) (now book) × UserIn (now book) place ⌝ }
-    ensures { λ r. ⌜ r ≡ targetOf (asLimits (day .limits)) (getD (usersOf (now (book .entry))) place nobody) (level .0) ⌝ }
+    ensures { λ r. ⌜ r .0 ≡ targetOf (asLimits (day .limits)) (getD (usersOf (now (book .entry))) place nobody) (level .0) ⌝ }
 {
     if exceeds_margin(book, place, level, day) {
         let assigned = assigned_at(book, place);
-        return units::excess(level.0, assigned.0);
+        return Cents(units::excess(level.0, assigned.0));
     }
-    0
+    Cents(0)
 }
 
 // T where the user at a place, who is called in, is short of cover; else 0.
@@ -200,12 +200,12 @@ pub fn target_at(
     positions: &[u32; 192],
     place: usize,
     day: Day,
-) -> u64
+) -> Cents
     requires { ⌜ DayOf (asLimits (day .limits)) (asPrices (day .prices)) (now book) × UserIn (now book) place × Low (now sums) ⌝ }
-    ensures { λ r. ⌜ r ≡ targetAt (asLimits (day .limits)) (asPrices (day .prices)) (usersOf (now (book .entry))) (now (sums .entry)) (now (positions .entry)) place ⌝ }
+    ensures { λ r. ⌜ r .0 ≡ targetAt (asLimits (day .limits)) (asPrices (day .prices)) (usersOf (now (book .entry))) (now (sums .entry)) (now (positions .entry)) place ⌝ }
 {
     if role_at(book, place) != 0 {
-        return 0;
+        return Cents(0);
     }
     let level = level_at(book, sums, positions, place, day);
     target_of(book, place, level, day)
@@ -232,7 +232,8 @@ pub fn state_of(book: &[u8], place: usize, level: Cents, called: bool, day: Day)
     if !called {
         return State::Quiet;
     }
-    if 0 < target_of(book, place, level, day) {
+    let target = target_of(book, place, level, day);
+    if 0 < target.0 {
         return State::Short;
     }
     if exceeds_margin(book, place, level, day) {

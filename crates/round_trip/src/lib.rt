@@ -1,2 +1,2 @@
-// Reading and writing back: what the contracts of the public `read` and `write` give together, by fields and by the image of the C
-// interface. It has no code.
+// What the contracts of the faces give together: reading and writing back, by fields and by the image of the C interface; and that calls of
+// the C interface are links of a sequence. It has no code.

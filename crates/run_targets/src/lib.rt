@@ -1,5 +1,6 @@
 // Who owes a guarantee in a run, and how much: the targets before the first reduction, and after each those of the users that it touched.
 use risk_user::Day;
+use units::Cents;
 ghost use mathlib.Core.Bool.{false, cond};
 ghost use mathlib.Core.Path.{_≡_};
 ghost use Prim.Native.Nat.{_≤_, min};
@@ -50,18 +51,18 @@ pub fn owed_at(
     left: bool,
     cut: bool,
     day: Day,
-) -> u64
+) -> Cents
     requires { ⌜ DayOf (asLimits (day .limits)) (asPrices (day .prices)) (now book) × UserIn (now book) place × Low (now sums) ⌝ }
-    ensures { λ r. ⌜ r ≡ owedIf (flaggedAt (asLimits (day .limits)) (asPrices (day .prices)) (usersOf (now (book .entry))) (now (positions .entry)) place) left cut
+    ensures { λ r. ⌜ r .0 ≡ owedIf (flaggedAt (asLimits (day .limits)) (asPrices (day .prices)) (usersOf (now (book .entry))) (now (positions .entry)) place) left cut
         (targetAt (asLimits (day .limits)) (asPrices (day .prices)) (usersOf (now (book .entry))) (now (sums .entry)) (now (positions .entry)) place) ⌝ }
 {
     if !left {
-        return 0;
+        return Cents(0);
     }
     if risk_user::called_at(book, positions, place, cut, day) {
         return risk_user::target_at(book, sums, positions, place, day);
     }
-    0
+    Cents(0)
 }
 
 // Fills in who has an eligible trade, and T where a user is due.
@@ -87,7 +88,8 @@ pub fn fill_targets(
         let to = starts[i + 1];
         let left = any_left(standing, from, to);
         eligible[i] = left;
-        targets[i] = owed_at(book, sums, positions, i, left, cut[i], day);
+        let owed = owed_at(book, sums, positions, i, left, cut[i], day);
+        targets[i] = owed.0;
         i += 1;
     }
 }
@@ -122,7 +124,8 @@ fn look_at(
         (now (targets .entry))) × (r ≡ cond (getD (now (eligible .entry)) place false) (min least place) least) ⌝ }
 {
     if eligible[place] {
-        targets[place] = risk_user::target_at(book, sums, positions, place, day);
+        let target = risk_user::target_at(book, sums, positions, place, day);
+        targets[place] = target.0;
         return lesser(least, place);
     }
     least

@@ -81,7 +81,8 @@ pub fn turn(
     );
     let left = run_targets::any_left(standing, from, to);
     eligible[place] = left;
-    targets[place] = run_targets::owed_at(book, sums, positions, place, left, true, day);
+    let owed = run_targets::owed_at(book, sums, positions, place, left, true, day);
+    targets[place] = owed.0;
     Reduced {
         tally: tally,
         least: least,

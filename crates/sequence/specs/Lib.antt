@@ -4,5 +4,6 @@ pub mod Contracts
 pub mod Totals
 pub mod Claim
 pub mod RunLength
+pub mod Deposits
 pub mod Logs
 pub mod Acting

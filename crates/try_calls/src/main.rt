@@ -63,7 +63,7 @@ fn print_marks(marks: [bool; 256]) {
 fn print_cancellation(answer: CancellationAnswer) {
     let marks = answer.marks;
     day_print::number(answer.number as u64);
-    day_print::number(answer.excess);
+    day_print::number(answer.excess.0);
     day_print::number(answer.tries as u64);
     day_print::number(answer.complete as u64);
     print_marks(marks);

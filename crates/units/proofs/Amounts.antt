@@ -35,9 +35,6 @@ negPart-balance x = negPart-diff (x .0) (2 ^ 63)
 pub parts-net : (x : Net) → posPart (net x) + 2 ^ 31 ≡ x .0 + negPart (net x)
 parts-net x = omega (arith, posPart-net x, negPart-net x)
 
-pub parts-balance : (x : Balance) → posPart (balance x) + 2 ^ 63 ≡ x .0 + negPart (balance x)
-parts-balance x = omega (arith, posPart-balance x, negPart-balance x)
-
 -- an energy is the integer whose parts balance it
 pub net-eq : (x : Net) (z : ℤ) → posPart z + 2 ^ 31 ≡ x .0 + negPart z → net x ≡ z
 net-eq x z e = eq-parts (net x) z (omega (arith, parts-net x))
@@ -46,10 +43,6 @@ net-eq x z e = eq-parts (net x) z (omega (arith, parts-net x))
 pub net-zero : net (record { 0 = 2 ^ 31 }) ≡ pos 0
 unfolding net
 net-zero = refl
-
-pub balance-zero : balance (record { 0 = 2 ^ 63 }) ≡ pos 0
-unfolding balance
-balance-zero = refl
 
 -- ---- a range of ±n
 
@@ -83,10 +76,6 @@ offset-bounds n h x e = omega (arith, within-true n (subℕ x h) e, posPart-diff
 pub net-bounds : (n : ℕ) (x : Net) → within n (net x) ≡ true → (2 ^ 31 ≤ x .0 + n) × (x .0 ≤ 2 ^ 31 + n)
 unfolding net
 net-bounds n x e = offset-bounds n (2 ^ 31) (x .0) e
-
-pub balance-bounds : (n : ℕ) (x : Balance) → within n (balance x) ≡ true → (2 ^ 63 ≤ x .0 + n) × (x .0 ≤ 2 ^ 63 + n)
-unfolding balance
-balance-bounds n x e = offset-bounds n (2 ^ 63) (x .0) e
 
 -- ---- what moves by the difference of two amounts moves by what was added to one of them
 pub add-difference : (x old new amount : ℤ) → new ≡ old +ℤ amount → x +ℤ (new -ℤ old) ≡ x +ℤ amount

@@ -5,11 +5,14 @@ use std::fs;
 use std::path::{Path, PathBuf};
 
 use books::logs::{any_log, started};
-use books::{Call, Generator, Implementation, Kind};
+use books::shrinkage::{balances, share};
+use books::{Call, Generator, Implementation, Kind, Random};
 use reference::party::{Given, Party};
+use reference::shrinkage::{over_days, shrinkage_return};
 
 use crate::counts::{Counts, Version};
 use crate::difference::{differing, first_byte, in_words, Difference, Left, Lent};
+use crate::shrinkage::{archived, archived_days};
 use crate::{engine, tuned, typed};
 
 /// The most differences that are kept and written to files.
@@ -27,6 +30,9 @@ const LOGGED_CALLS: usize = 12;
 /// Before one drawn call in so many there is a call on bytes made of the book.
 const CALLS_BESIDE: usize = 6;
 
+/// After so many drawn calls there is a return of shrinkage.
+const CALLS_A_RETURN: u64 = 16;
+
 /// A comparison with one seed.
 pub struct Comparison {
     name: String,
@@ -37,8 +43,12 @@ pub struct Comparison {
     log: Option<Vec<u8>>,
     calls_left: usize,
     folder: PathBuf,
+    /// What returns of shrinkage are drawn from.
+    balances: Random,
     /// The calls compared so far.
     pub counts: Counts,
+    /// The returns of shrinkage among them, which are calls on no book.
+    pub returns: u64,
     /// The differences so far.
     pub differences: u64,
     /// The first of them.
@@ -58,7 +68,9 @@ impl Comparison {
             log: None,
             calls_left: 0,
             folder: folder.to_path_buf(),
+            balances: Random::new(seed),
             counts: Counts::default(),
+            returns: 0,
             differences: 0,
             kept: Vec::new(),
         }
@@ -71,9 +83,12 @@ impl Comparison {
 
     /// Makes drawn calls until this many were compared: sequences of calls by drawn
     /// parties with one store, or none, each on the book that the call before left,
-    /// and one sequence of four with a log.
+    /// and one sequence of four with a log; returns of shrinkage between them.
     pub fn random_calls(&mut self, calls: u64) {
         while self.counts.all() < calls {
+            if self.counts.all().is_multiple_of(CALLS_A_RETURN) {
+                self.shrinkage();
+            }
             if self.calls_left == 0 {
                 self.book = self.generator.any_book();
                 self.store = self.generator.store(&self.book);
@@ -108,6 +123,21 @@ impl Comparison {
             false => self.generator.conversion(book),
         };
         self.by_any_party(&mut bytes, None, None, &call);
+    }
+
+    /// A return of shrinkage for drawn balances, and a drawn share over its days.
+    fn shrinkage(&mut self) {
+        let balances = balances(&mut self.balances);
+        let share = share(&mut self.balances);
+        let (found, expected) = (archived(&balances), shrinkage_return(&balances));
+        let same_days = archived_days(share) == over_days(share);
+        if found != expected || !same_days {
+            self.differences += 1;
+            let seed = self.seed;
+            println!("seed {seed}, return of {balances:?}: {found:?}; reference: {expected:?}");
+            println!("days of {share}: the same as the reference's: {same_days}");
+        }
+        self.returns += 1;
     }
 
     /// A drawn call of a sequence with logs. Most are given the log kept so far; the

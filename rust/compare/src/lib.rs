@@ -15,6 +15,7 @@ mod difference;
 pub mod engine;
 pub mod settings;
 pub mod shown;
+pub mod shrinkage;
 pub mod tuned;
 pub mod typed;
 

@@ -28,6 +28,7 @@ fn main() -> ExitCode {
     comparison.random_calls(calls);
     println!("{}", comparison.counts);
     println!("{} calls compared", comparison.counts.all());
+    println!("{} returns of shrinkage", comparison.returns);
     for (version, name, number) in comparison.counts.not_reached() {
         println!("not reached: {name} on {version} with number {number}");
     }

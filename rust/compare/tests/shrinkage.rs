@@ -6,34 +6,13 @@
 use books::shrinkage::{balances, replay, share, LINES};
 use books::Random;
 use compare::settings::seed;
+use compare::shrinkage::{archived, archived_days};
 use daybook::archive::{self, WRONG_LENGTH};
 use daybook::shrinkage::{self, Kwh, DAYS, RETURN_NUMBERS};
 use reference::shrinkage::{over_days, shrinkage_return, ShrinkageAnswer};
 
 /// Returns and shares that are drawn.
 const DRAWN: usize = 100_000;
-
-/// The engine's answer by the C interface. The part holds something before.
-fn archived(balances: &[i64]) -> ShrinkageAnswer {
-    let mut answer = [u64::MAX; RETURN_NUMBERS];
-    let number = archive::shrinkage_return(balances, &mut answer);
-    let kwh = |place: usize| reference::shrinkage::Kwh(answer[place].into());
-    ShrinkageAnswer {
-        number,
-        half: kwh(0),
-        odd: kwh(1),
-        shares: std::array::from_fn(|user| kwh(3 + user)),
-        remainders: std::array::from_fn(|user| answer[67 + user].into()),
-        rest: kwh(2),
-    }
-}
-
-/// The days of a share by the C interface.
-fn archived_days(share: u64) -> [reference::shrinkage::Kwh; DAYS] {
-    let mut days = [u64::MAX; DAYS];
-    assert_eq!(archive::shrinkage_days(share, &mut days), 0);
-    days.map(|kwh| reference::shrinkage::Kwh(kwh.into()))
-}
 
 /// The Rust types hold what the C interface answered.
 fn expect_typed(balances: &[i64], expected: &ShrinkageAnswer) {

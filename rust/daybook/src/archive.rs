@@ -14,6 +14,8 @@
 mod changes;
 mod queries;
 
+use std::sync::atomic::{AtomicUsize, Ordering};
+
 pub use changes::{
     afternoon_call, list, morning_call, posting, reduction, run, start_log, withdrawal,
 };
@@ -282,16 +284,38 @@ pub fn interface() -> u32 {
     unsafe { daybook_raw_interface() }
 }
 
+/// The numbers for yes that [`yes_or_no`] tells with the feature `any-flags`, in turn.
+const YES: [u32; 7] = [1, 2, 255, 256, 0x1_0000, 0x8000_0000, u32::MAX];
+
+/// How many of them were told.
+static TOLD: AtomicUsize = AtomicUsize::new(0);
+
+/// What is lent with the feature `any-flags` in place of a store that is not given.
+const BESIDE: &[u8] = &[0xA5; 30];
+
+/// A yes or no as the C interface takes it: 0 is no, any other number yes.
+pub fn yes_or_no(yes: bool) -> u32 {
+    if yes && cfg!(feature = "any-flags") {
+        return YES[TOLD.fetch_add(1, Ordering::Relaxed) % YES.len()];
+    }
+    u32::from(yes)
+}
+
 /// A store, or none, as the three arguments of a C function: a flag, a pointer
 /// that is never null, and the length.
 fn lent(store: Option<&[u8]>) -> (u32, *const u8, usize) {
-    let bytes = store.unwrap_or(&[]);
-    (u32::from(store.is_some()), bytes.as_ptr(), bytes.len())
+    let none: &[u8] = if cfg!(feature = "any-flags") {
+        BESIDE
+    } else {
+        &[]
+    };
+    let bytes = store.unwrap_or(none);
+    (yes_or_no(store.is_some()), bytes.as_ptr(), bytes.len())
 }
 
 /// A log, or none, in the same way.
 fn lent_mut(log: Option<&mut [u8]>) -> (u32, *mut u8, usize) {
-    let flag = u32::from(log.is_some());
+    let given = yes_or_no(log.is_some());
     let bytes = log.unwrap_or_default();
-    (flag, bytes.as_mut_ptr(), bytes.len())
+    (given, bytes.as_mut_ptr(), bytes.len())
 }

@@ -32,7 +32,7 @@ impl Queries<'_> {
             afternoon,
             self.party,
             self.store,
-            u32::from(afternoon_picked),
+            archive::yes_or_no(afternoon_picked),
             id,
             &mut record,
         ))?;

@@ -7,7 +7,7 @@ use Rattle.book_format.proofs.Offsets.{users-end}
 use borrow.Author.Tests.{not-true, not-false}
 use Rattle.book_format.proofs.Places.{header-lies}
 use Rattle.book_format.specs.Book.{userSize, versionOf}
-use Rattle.book_questions.specs.Asked.{pastSix, RecordsIn}
+use Rattle.book_questions.specs.Asked.{pastFive, pastSix, RecordsIn}
 use Rattle.book_questions.proofs.Asked.{formed-bytes, fields-4, fields-rest, fields-summed, records-from, records-within, summed-from, summed-none}
 use borrow.Author.Needs.{needs}
 use Rattle.book_questions.proofs.ask_fields.Statement.{statement}
@@ -38,7 +38,7 @@ header-valid-requires : tie.Need-header-valid-requires
 header-valid-requires c κs = search needs
 
 returns : tie.Need-returns
-unfolding pastSix
+unfolding pastFive pastSix
 returns c =
     let header = c .before in
     let prices = header .before .before .before in

@@ -1,13 +1,14 @@
 -- `ask_records` asks the questions 5 to 7 in their order, and returns at the first that is answered by no. Assumes nothing.
-use mathlib.Core.Path.{_≡_}
+use mathlib.Core.Bool.{true}
+use mathlib.Core.Path.{_≡_, refl}
 use Prim.Native.Nat.{ℕ}
 use denote.Ref.{now}
 use borrow.Author.Tests.{not-true, not-false, eqb-true}
 use Rattle.base.specs.Lists.{all}
 use Rattle.rules.specs.Questions.{positionsValid}
 use Rattle.book_parties.specs.Ids.{usersFrom, tradesFrom}
-use Rattle.book_questions.specs.Asked.{Summed, pastSix}
-use Rattle.book_questions.proofs.Asked.{records-5, second-yes, records-6, records-sums, records-summed, summed-none, records-7, records-0}
+use Rattle.book_questions.specs.Asked.{Summed, pastFive, pastSix}
+use Rattle.book_questions.proofs.Asked.{records-5, second-yes, records-6, records-sums, records-summed, summed-none, summed-6, records-7, records-0}
 use borrow.Author.Needs.{needs}
 use Rattle.book_questions.proofs.ask_records.Statement.{statement}
 use Rattle.book_questions.proofs.ask_records.Tie as tie
@@ -19,7 +20,7 @@ users-valid-requires : tie.Need-users-valid-requires
 users-valid-requires c κs = search needs
 
 returns : tie.Need-returns
-unfolding pastSix
+unfolding pastFive pastSix
 returns c = (records-5 _ (c .before .before .users-valid .ensures) (not-true _ (c .if1 .taken)), summed-none 5 (λ p. p))
 
 fill-guesses-requires : tie.Need-fill-guesses-requires
@@ -42,13 +43,12 @@ same-length-2 : tie.Need-same-length-2
 same-length-2 c = search needs
 
 returns-2 : tie.Need-returns-2
-unfolding pastSix
 returns-2 c =
     let trades = c .before .before .before .before .before in
     let passed = trades .before .before .before .before .before .before .before .before .before in
     let a = passed .before .before .before .before .before .before .before .args in (
       records-6 (a .version) {ts = tradesFrom (a .trades-at) (a .m) (now (a .s))} (passed .before .before .users-valid .ensures) (trades .valid-trades .ensures) (not-false _ (passed .if1 .left)) (not-true _ (c .if2 .taken)),
-      summed-none 6 (λ p. p),
+      summed-6 (a .version) {ts = tradesFrom (a .trades-at) (a .m) (now (a .s))} (passed .before .before .users-valid .ensures) (trades .valid-trades .ensures) (second-yes (a .user-zeros) _ (not-false _ (passed .if1 .left))),
     )
 
 positions-valid-requires : tie.Need-positions-valid-requires
@@ -69,17 +69,17 @@ positions-answer c =
     (records-sums (a .version) {ts = ts} (users .ensures) (trades .valid-trades .ensures) (second-yes (a .user-zeros) (users .result) (not-false _ (passed .if1 .left))) (second-yes (a .trade-zeros) _ (not-false _ (allowed .if2 .left))))
 
 -- the sums are told past question 6
-summed : (number : ℕ) (c : tie.Else2)
+summed : (number : ℕ) → pastFive number ≡ true → (c : tie.Else2)
     → let t = c .before .before .before .before .before in
     let a = t .before .before .before .before .before .before .before .before .before .before .before .before .before .before .before .before .args in
     Summed (usersFrom (a .size) 0 (a .n) (now (a .s))) (tradesFrom (a .trades-at) (a .m) (now (a .s))) (a .m) number (t .valid-trades .result) (t .valid-trades .last .1 .1 .1 .1 .1 .1 .1 .1 .0)
-summed number c =
+summed number e c =
     let trades = c .before .before .before .before .before in
     let passed = trades .before .before .before .before .before .before .before .before .before in
     let users = passed .before .before .users-valid in
     let a = passed .before .before .before .before .before .before .before .args in
-    records-summed (a .version) {ts = tradesFrom (a .trades-at) (a .m) (now (a .s))} (users .ensures) (trades .valid-trades .ensures) (second-yes (a .user-zeros) (users .result) (not-false _ (passed .if1 .left)))
-    (second-yes (a .trade-zeros) _ (not-false _ (c .if2 .left))) (λ e. eqb-true (trades .valid-trades .result) (a .m) e)
+    records-summed (a .version) {ts = tradesFrom (a .trades-at) (a .m) (now (a .s))} (users .ensures) (trades .valid-trades .ensures) number (second-yes (a .user-zeros) (users .result) (not-false _ (passed .if1 .left)))
+    (second-yes (a .trade-zeros) _ (not-false _ (c .if2 .left))) e (λ e. eqb-true (trades .valid-trades .result) (a .m) e)
 
 same-length-3 : tie.Need-same-length-3
 same-length-3 c = search needs
@@ -88,6 +88,7 @@ same-length-4 : tie.Need-same-length-4
 same-length-4 c = search needs
 
 returns-3 : tie.Need-returns-3
+unfolding pastFive pastSix
 returns-3 c =
     let allowed = c .before .before .before in
     let trades = allowed .before .before .before .before .before in
@@ -95,7 +96,7 @@ returns-3 c =
     let a = passed .before .before .before .before .before .before .before .args in (
       records-7 (a .version) {ts = tradesFrom (a .trades-at) (a .m) (now (a .s))} (passed .before .before .users-valid .ensures) (trades .valid-trades .ensures) (not-false _ (passed .if1 .left))
           (not-false _ (allowed .if2 .left)) (positions-answer (c .before)) (not-true _ (c .if3 .taken)),
-      summed 7 allowed,
+      summed 7 refl allowed,
     )
 
 same-length-5 : tie.Need-same-length-5
@@ -105,6 +106,7 @@ same-length-6 : tie.Need-same-length-6
 same-length-6 c = search needs
 
 returns-4 : tie.Need-returns-4
+unfolding pastFive pastSix
 returns-4 c =
     let allowed = c .before .before .before in
     let trades = allowed .before .before .before .before .before in
@@ -112,7 +114,7 @@ returns-4 c =
     let a = passed .before .before .before .before .before .before .before .args in (
       records-0 (a .version) {ts = tradesFrom (a .trades-at) (a .m) (now (a .s))} (passed .before .before .users-valid .ensures) (trades .valid-trades .ensures) (not-false _ (passed .if1 .left))
           (not-false _ (allowed .if2 .left)) (positions-answer (c .before)) (not-false _ (c .if3 .left)),
-      summed 0 allowed,
+      summed 0 refl allowed,
     )
 
 pub ask-records-spec : {M : Type 1} → statement M

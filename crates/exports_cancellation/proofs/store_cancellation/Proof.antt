@@ -14,7 +14,7 @@ returns c =
     let storing = c .before .before in
     let marked = storing .before .before .before .before .before .before .before in
     let a = marked .before .before .before .before .before .args .cancellation in
-    (refl, marked .store-marks .ensures, storing .store .ensures ∙ ap (λ (n : ℕ). a .excess ∷ (a .tries ∷ (n ∷ []))) (byte-bit (a .complete)))
+    (refl, marked .store-marks .ensures, storing .store .ensures ∙ ap (λ (n : ℕ). a .excess .0 ∷ (a .tries ∷ (n ∷ []))) (byte-bit (a .complete)))
 
 pub store-cancellation-spec : {M : Type 1} → statement M
 store-cancellation-spec =

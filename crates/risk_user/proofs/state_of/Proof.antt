@@ -30,14 +30,15 @@ returns-2 c =
 
 returns-3 : tie.Need-returns-3
 returns-3 c =
-    let s = c .before .before .before .before .before .before in
-    state-short (l s) (u s) (s .args .level .0) (c .before .before .before .before .role-at .ensures) (c .before .before .before .if1 .left) (not-false (s .args .called) (c .before .before .if2 .left)) (c .before .target-of .ensures) (c .if3 .taken)
+    let t = c .before .before in
+    let s = t .before .before .before .before .before in
+    state-short (l s) (u s) (s .args .level .0) (t .before .before .before .role-at .ensures) (t .before .before .if1 .left) (not-false (s .args .called) (t .before .if2 .left)) (t .target-of .ensures) (c .if3 .taken)
 
 returns-4 : tie.Need-returns-4
 returns-4 c =
     let m = c .before in
     let e = m .before in
-    let t = e .before in
+    let t = e .before .before in
     let f = t .before in
     let h = f .before in
     let r = h .before in
@@ -49,7 +50,7 @@ returns-5 : tie.Need-returns-5
 returns-5 c =
     let m = c .before in
     let e = m .before in
-    let t = e .before in
+    let t = e .before .before in
     let f = t .before in
     let h = f .before in
     let r = h .before in

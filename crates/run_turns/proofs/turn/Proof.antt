@@ -41,8 +41,8 @@ owed-at-requires c κs =
     let q = s .pre .0 .0 in
     (run-day q, record { form = q .form; inside = s .pre .0 .1 }, q .low)
 
-mul-targets-2 : tie.Need-mul-targets-2
-mul-targets-2 c =
+mul-targets : tie.Need-mul-targets
+mul-targets c =
     let s = c .before .before .before .before .before .before .before .before .before .before .before .before .before .before .before .before .before .before in
     omega (arith, s .pre .0 .1, s .pre .0 .0 .form .users)
 
@@ -70,4 +70,4 @@ pub turn-spec : {M : Type 1} → statement M
 turn-spec =
     tie.close
     (tie.spec (λ c. search needs) (λ c. search needs) (λ c. search needs) (λ c. search needs) (λ c. search needs) (λ c. search needs) (λ c. search needs)
-    reduce-requires look-again-requires any-left-requires element-write-eligible owed-at-requires mul-targets-2 element-write-targets returns)
+    reduce-requires look-again-requires any-left-requires element-write-eligible owed-at-requires mul-targets element-write-targets returns)

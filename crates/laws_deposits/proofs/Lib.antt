@@ -1,0 +1,2 @@
+-- The laws of deposits.
+pub mod Deposits

@@ -1,0 +1,2 @@
+-- Deposits: the laws as statements.
+pub mod Deposits

@@ -1,0 +1,1 @@
+// What deposit stops the cuts, as it follows from the rules: statements in specs/, proofs in proofs/. It has no code.
