@@ -10,7 +10,9 @@ use lib.Seq.{sets, drop-drop, length-sets, length-take-le, take-add, take-all, t
 use borrow.Author.Tests.{leb-false}
 use borrow.Rule.Slice.PartMut.{putMid}
 use Rattle.base.proofs.Tests.{by-case, holds}
+use Rattle.fields.specs.Field.{AllBytes, field, setField, toBytes}
 use Rattle.fields.specs.Layout.{bytesOfRecords, recordsOf}
+use Rattle.fields.proofs.Field.{toBytes-field}
 use Rattle.fields.proofs.Records.{length-bytesOfRecords, length-recordsOf}
 use Rattle.fields.proofs.Sets.{sets-append}
 use Rattle.book_image.specs.Image.{padded}
@@ -26,6 +28,58 @@ part-fitted {part} s out from j to k h i l e =
     let a : to + k - to ≡ k = omega arith in
     let b : from + j - from ≡ j = omega arith in
     rw a (part-filled out to k part (take j (drop from s)) i (rw length-take (omega arith)) (rw (a, b) at e))
+
+-- the first bytes written, then the others with 0 behind them
+pub fitted-twice : {mid after : List ℕ} (s out : List ℕ) (from kept to size k : ℕ) → from + kept ≤ length s → kept ≤ size → k ≤ kept → mid ≡ sets out to (take k (drop from s))
+    → after ≡ sets mid (to + k) (padded (size - k) (take (kept - k) (drop (from + k) s))) → after ≡ sets out to (padded size (take kept (drop from s)))
+unfolding padded
+fitted-twice {mid} {after} s out from kept to size k h l m e f =
+    let x = drop from s in
+    let a = take k x in
+    let b = take (kept - k) (drop k x) in
+    let long : kept ≤ length x = rw length-drop (omega arith) in
+    let la : length a ≡ k = length-take-le k x (omega (arith, long)) in
+    let lb : length b ≡ kept - k = length-take-le (kept - k) (drop k x) (rw length-drop (omega (arith, long))) in
+    let there : drop (from + k) s ≡ drop k x = sym (drop-drop k from s) in
+    let whole : kept ≡ k + (kept - k) = omega arith in
+    let both : take kept x ≡ a ++ b = ap (λ (i : ℕ). take i x) whole ∙ take-add k (kept - k) x in
+    let lw : length (take kept x) ≡ kept = length-take-le kept x long in
+    let z : size - k - (kept - k) ≡ size - kept = omega arith in
+    f
+    ∙ ap₂ (λ (y : List ℕ) (w : List ℕ). sets y (to + k) (take (kept - k) w ++ replicate (size - k - length (take (kept - k) w)) 0)) e there
+    ∙ rw (lb, z) (ap (λ (i : ℕ). sets (sets out to a) (to + i) (b ++ replicate (size - kept) 0)) (sym la) ∙ sym (sets-append a (b ++ replicate (size - kept) 0) out to))
+    ∙ ap (sets out to) (sym (append-assoc a b (replicate (size - kept) 0)) ∙ ap₂ (λ (y : List ℕ) (i : ℕ). y ++ replicate (size - i) 0) (sym both) (sym lw))
+
+-- ---- eight bytes at a time
+
+-- where i of k numbers are copied
+pub record Copying (s : List ℕ) (from : ℕ) (entry : List ℕ) (to k : ℕ) (out : List ℕ) (i : ℕ) : Type 0 where
+  pub within : i ≤ k
+  pub same : length out ≡ length entry
+  pub front : out ≡ sets entry to (take (8 * i) (drop from s))
+
+module _ {s : List ℕ} {from : ℕ} {entry : List ℕ} {to k : ℕ} where
+  pub copying-start : Copying s from entry to k entry 0
+  copying-start = record { within = omega arith; same = refl; front = refl }
+
+  pub copying-turn : {out after : List ℕ} {i n : ℕ} → AllBytes s → from + 8 * k ≤ length s → Copying s from entry to k out i → i < k → n ≡ field 8 (from + 8 * i) s
+      → after ≡ setField 8 (to + 8 * i) n out → Copying s from entry to k after (i + 1)
+  unfolding setField
+  copying-turn {out} {after} {i} {n} b h p l e q =
+      let x = drop from s in
+      let a = take (8 * i) x in
+      let c = take 8 (drop (8 * i) x) in
+      let la : length a ≡ 8 * i = length-take-le (8 * i) x (rw length-drop (omega arith)) in
+      let eight : toBytes 8 n ≡ c = ap (toBytes 8) e ∙ toBytes-field 8 (from + 8 * i) s (omega arith) b ∙ ap (take 8) (sym (drop-drop (8 * i) from s)) in
+      let more : 8 * (i + 1) ≡ 8 * i + 8 = omega arith in
+      let f : after ≡ sets entry to (take (8 * (i + 1)) x) =
+      q ∙ ap₂ (λ (y z : List ℕ). sets y (to + 8 * i) z) (p .front) eight ∙ ap (λ (j : ℕ). sets (sets entry to a) (to + j) c) (sym la) ∙ sym (sets-append a c entry to) ∙ ap (sets entry to) (sym (ap (λ (j : ℕ). take j x) more ∙ take-add (8 * i) 8 x)) in
+      record { within = omega arith; same = ap length f ∙ length-sets entry to (take (8 * (i + 1)) x); front = f }
+
+  pub copying-end : {out : List ℕ} {i : ℕ} → Copying s from entry to k out i → k ≤ i → out ≡ sets entry to (take (8 * k) (drop from s))
+  copying-end {out} {i} p h =
+      let e : i ≡ k = omega (arith, p .within) in
+      p .front ∙ ap (λ (j : ℕ). sets entry to (take (8 * j) (drop from s))) e
 
 -- bytes that fill a room are all of it
 pub padded-all : (k : ℕ) (c : List ℕ) → length c ≡ k → padded k c ≡ c

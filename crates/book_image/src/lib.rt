@@ -81,6 +81,29 @@ fn fit(s: &[u8], from: usize, kept: usize, out: &mut [u8], to: usize, size: usiz
     fill(&mut out[to..to + size], &s[from..from + kept]);
 }
 
+// Copies k numbers of 8 bytes that stand from `from` on to `to` on.
+fn copy_eights(s: &[u8], from: usize, out: &mut [u8], to: usize, k: usize)
+    requires { ⌜ (from + 8 * k ≤ length (now s)) × (to + 8 * k ≤ length (now out)) ⌝ }
+    ensures { λ _. ⌜ now (out .exit) ≡ sets (now (out .entry)) to (take (8 * k) (drop from (now (s .entry)))) ⌝ }
+{
+    let mut i = 0;
+    while i < k {
+        fields::put_u64(out, to + 8 * i, fields::get_u64(s, from + 8 * i));
+        i += 1;
+    }
+}
+
+// As `fit`, for the bytes of one record: eight at a time, and what is left as it comes.
+fn fit_record(s: &[u8], from: usize, kept: usize, out: &mut [u8], to: usize, size: usize)
+    requires { ⌜ (from + kept ≤ length (now s)) × (to + size ≤ length (now out)) × (kept ≤ size) ⌝ }
+    ensures { λ _. ⌜ now (out .exit) ≡ sets (now (out .entry)) to (padded size (take kept (drop from (now (s .entry))))) ⌝ }
+{
+    let eights = kept / 8;
+    copy_eights(s, from, out, to, eights);
+    let k = 8 * eights;
+    fit(s, from + k, kept - k, out, to + k, size - k);
+}
+
 // Writes the n records of `size` bytes that stand from `from` on as records of `new_size` bytes from `to` on: each cut, or with 0 behind.
 fn fit_each(
     s: &[u8],
@@ -97,7 +120,7 @@ fn fit_each(
     let kept = least(size, new_size);
     let mut i = 0;
     while i < n {
-        fit(s, from + size * i, kept, out, to + new_size * i, new_size);
+        fit_record(s, from + size * i, kept, out, to + new_size * i, new_size);
         i += 1;
     }
 }

@@ -1,5 +1,5 @@
 -- The ways out of a guarantee call: refused by the entry, by a question of its own, or answered. Assumes nothing.
-use mathlib.Core.Bool.{Bool, true, false}
+use mathlib.Core.Bool.{Bool, true, false, false≢true, _&&_}
 use mathlib.Core.List.{List, _∷_}
 use mathlib.Core.Path.{_≡_, refl, sym, ap, _∙_}
 use Prim.Native.Nat.{ℕ, _+_, _-_, _*_, _≤_, _<_}
@@ -24,6 +24,18 @@ use Rattle.call_entry.proofs.Calls.{call-found, call-refused, found-at}
 use Rattle.call_level.specs.Times.{levelOf}
 use Rattle.call_guarantee.specs.Times.{dueOf, callOf}
 use Rattle.call_guarantee.specs.Raised.{calledAt, lastQuestions, raised}
+
+-- ---- two answers
+
+-- both are yes
+pub both-right : (x y : Bool) → (x && y) ≡ true → y ≡ true
+both-right true y e = e
+both-right false y e = absurd (false≢true e)
+
+-- not both, and the first is
+pub one-without : (x y : Bool) → (x && y) ≡ false → x ≡ true → y ≡ false
+one-without true y e t = e
+one-without false y e t = absurd (false≢true t)
 
 -- ---- question 11
 

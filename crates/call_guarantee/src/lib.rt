@@ -2,9 +2,11 @@
 // the day go one way, with the level of the time.
 use book_records::User;
 use call_answers::CallAnswer;
+use risk_holdings::Holdings;
 use units::Cents;
 use units::Limits;
 use units::Net;
+ghost use mathlib.Core.Bool.{true};
 ghost use mathlib.Core.Path.{_≡_};
 ghost use Prim.Native.Nat.{_<_};
 ghost use lib.ListN.{getD};
@@ -13,8 +15,9 @@ ghost use Rattle.book_records.specs.User.{alone, asAmounts, asUser};
 ghost use Rattle.book_format.specs.After.{CalledAfter};
 ghost use Rattle.book_format.specs.Book.{bookOf, userCount, usersOf};
 ghost use Rattle.risk_bearers.specs.Bearers.{BorneIn, usersIn};
-ghost use Rattle.risk_user.specs.UserAt.{UserRead};
+ghost use Rattle.risk_members.specs.Members.{HoldingsOf};
 ghost use Rattle.rules.specs.Book.{nobody};
+ghost use Rattle.book_format.specs.Held.{Accepted};
 ghost use Rattle.book_format.specs.Places.{UserIn};
 ghost use Rattle.book_format.specs.Questions.{bookNumber};
 ghost use Rattle.call_answers.specs.Call.{answerOf};
@@ -22,8 +25,8 @@ ghost use Rattle.book_questions.specs.Asked.{PartiesFound};
 ghost use Rattle.call_guarantee.specs.Times.{dueOf, callOf};
 ghost use Rattle.call_guarantee.specs.Raised.{calledAt, raised};
 
-// Question 11 of a user whose record was read at a place, of an accepted book with the places of those who bear the risk of its trades'
-// parties: does the level exceed blocked by more than the margin, and in the afternoon, is the user called in, with its positions as its
+// Question 11 of a user whose record was read at a place of an accepted book: does the level exceed blocked by more than the margin, and in
+// the afternoon, which has the places of those who bear the risk of the trades' parties, is the user called in, with its positions as its
 // risk is borne?
 fn is_due(
     book: &[u8],
@@ -36,7 +39,7 @@ fn is_due(
     level: Cents,
     afternoon: bool,
 ) -> bool
-    requires { ⌜ BorneIn (now book) (now sellers) (now buyers) × (place < userCount (now book)) × (bookNumber (now book) ≡ 0) × LimitsInRange (asLimits limits) ⌝ }
+    requires { ⌜ Accepted (now book) × (afternoon ≡ true → BorneIn (now book) (now sellers) (now buyers)) × (place < userCount (now book)) × (bookNumber (now book) ≡ 0) × LimitsInRange (asLimits limits) ⌝ }
     requires { ⌜ (asUser user ≡ alone (getD (usersOf (now book)) place nobody)) × (asAmounts position ≡ getD (usersIn (now book)) place nobody .position) ⌝ }
     ensures { λ r. ⌜ r ≡ dueOf afternoon (asLimits limits) (bookOf (now (book .entry))) (level .0) (getD (usersOf (now (book .entry))) place nobody) ⌝ }
 {
@@ -79,25 +82,31 @@ fn raise(book: &mut [u8], place: usize, user: User, level: Cents, due: bool) -> 
     }
 }
 
-// The guarantee call on the shipper at a place, whose record was read, with the places of those who bear the risk of the trades' parties
-// and the sums of what stands at these.
+// The guarantee call on the shipper at a place, whose record was read, by what it holds as its risk is borne; in the afternoon with the
+// places of those who bear the risk of the trades' parties.
 fn call_at(
     book: &mut [u8],
     sellers: &[u8; 256],
     buyers: &[u8; 256],
-    sums: &[u32; 768],
     place: usize,
     user: User,
+    holdings: Holdings,
     limits: Limits,
     afternoon: bool,
 ) -> CallAnswer
-    requires { ⌜ BorneIn (now book) (now sellers) (now buyers) × UserRead (now book) (now sums) place × LimitsInRange (asLimits limits) × (asUser user ≡ alone (getD (usersOf (now book)) place nobody)) ⌝ }
+    requires { ⌜ Accepted (now book) × (afternoon ≡ true → BorneIn (now book) (now sellers) (now buyers)) × (place < userCount (now book)) × (bookNumber (now book) ≡ 0) × LimitsInRange (asLimits limits) ⌝ }
+    requires { ⌜ (asUser user ≡ alone (getD (usersOf (now book)) place nobody)) × HoldingsOf (now book) place holdings ⌝ }
     ensures { λ r. ⌜ answerOf r ≡ calledAt afternoon (asLimits limits) (now (book .entry)) place .answer ⌝ }
     ensures { λ _. ⌜ now (book .exit) ≡ calledAt afternoon (asLimits limits) (now (book .entry)) place .bytes ⌝ }
 {
-    let amounts = risk_members::amounts_of(book, place, user);
-    let position = amounts.position;
-    let level = call_level::level_of(book, sums, place, user, amounts, limits, afternoon);
+    let pvb = holdings.pvb;
+    let tvb = holdings.tvb;
+    let avb = holdings.avb;
+    let x = pvb.position;
+    let y = tvb.position;
+    let z = avb.position;
+    let position = [x, y, z];
+    let level = call_level::level_of(book, place, user, holdings, limits, afternoon);
     let due = is_due(
         book,
         sellers,
@@ -139,7 +148,9 @@ pub fn call(
     if user.role != 0 {
         return CallAnswer::refused(9);
     }
-    if book_format::has_managers(book_format::version(book)) {
+    let holdings = risk_members::holdings_of(book, sums, place, user);
+    let managed = book_format::has_managers(book_format::version(book));
+    if afternoon & managed {
         let mut bearing_sellers = [0u8; 256];
         let mut bearing_buyers = [0u8; 256];
         call_parties::bear_managed(
@@ -154,12 +165,21 @@ pub fn call(
             book,
             &bearing_sellers,
             &bearing_buyers,
-            sums,
             place,
             user,
+            holdings,
             limits,
             afternoon,
         );
     }
-    call_at(book, sellers, buyers, sums, place, user, limits, afternoon)
+    call_at(
+        book,
+        sellers,
+        buyers,
+        place,
+        user,
+        holdings,
+        limits,
+        afternoon,
+    )
 }

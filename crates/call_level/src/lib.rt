@@ -1,7 +1,7 @@
 // The morning or the afternoon level of a user, on a lent book in bytes. Both times of the day go one way, with the level of the time.
 use book_records::User;
 use call_answers::LevelAnswer;
-use risk_members::Amounts;
+use risk_holdings::Holdings;
 use units::Cents;
 use units::Limits;
 ghost use mathlib.Core.Path.{_≡_};
@@ -9,34 +9,29 @@ ghost use Rattle.units.specs.Limits.{asLimits, LimitsInRange};
 ghost use lib.ListN.{getD};
 ghost use Rattle.rules.specs.Book.{nobody};
 ghost use Rattle.book_records.specs.User.{alone, asUser};
-ghost use Rattle.book_format.specs.Book.{bookOf, usersOf};
+ghost use Prim.Native.Nat.{_<_};
+ghost use Rattle.book_format.specs.Book.{bookOf, userCount, usersOf};
 ghost use Rattle.book_format.specs.After.{replyAfter};
 ghost use Rattle.book_format.specs.Questions.{bookNumber};
 ghost use Rattle.call_answers.specs.Level.{replyOf};
-ghost use Rattle.risk_user.specs.UserAt.{UserRead};
-ghost use Rattle.risk_members.specs.Members.{AmountsOf};
+ghost use Rattle.risk_members.specs.Members.{HoldingsOf};
 ghost use Rattle.book_questions.specs.Asked.{PartiesFound};
 ghost use Rattle.call_level.specs.Times.{levelOf, queryOf};
 
-// The level of the user whose record was read at a place, the afternoon's or the morning's, by its amounts and its sums as its risk is
-// borne.
+// The level of the user whose record was read at a place, the afternoon's or the morning's, by what it holds as its risk is borne.
 pub fn level_of(
     book: &[u8],
-    sums: &[u32; 768],
     place: usize,
     user: User,
-    amounts: Amounts,
+    holdings: Holdings,
     limits: Limits,
     afternoon: bool,
 ) -> Cents
-    requires { ⌜ UserRead (now book) (now sums) place × LimitsInRange (asLimits limits) ⌝ }
-    requires { ⌜ (asUser user ≡ alone (getD (usersOf (now book)) place nobody)) × AmountsOf (now book) place (amounts .physical) (amounts .position) ⌝ }
+    requires { ⌜ (bookNumber (now book) ≡ 0) × (place < userCount (now book)) × LimitsInRange (asLimits limits) ⌝ }
+    requires { ⌜ (asUser user ≡ alone (getD (usersOf (now book)) place nobody)) × HoldingsOf (now book) place holdings ⌝ }
     ensures { λ r. ⌜ r .0 ≡ levelOf afternoon (asLimits limits) (bookOf (now (book .entry))) (getD (usersOf (now (book .entry))) place nobody) ⌝ }
 {
     let prices = book_header::read_prices(book);
-    let physical = amounts.physical;
-    let position = amounts.position;
-    let holdings = risk_user::holdings_at(sums, place, physical, position);
     let charges = user.charges;
     if afternoon {
         return risk_levels::afternoon_level(limits, prices, charges, holdings);
@@ -77,9 +72,8 @@ pub fn level(
             level: Cents(0),
         };
     }
-    let amounts = risk_members::amounts_of(book, place, user);
-    call_parties::bear_sums(book, sellers, buyers, sums);
-    let level = level_of(book, sums, place, user, amounts, limits, afternoon);
+    let holdings = risk_members::holdings_of(book, sums, place, user);
+    let level = level_of(book, place, user, holdings, limits, afternoon);
     LevelAnswer {
         number: 0,
         level: level,

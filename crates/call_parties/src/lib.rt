@@ -84,24 +84,3 @@ pub fn bear(
     copy_places(sellers, bearing_sellers);
     copy_places(buyers, bearing_buyers);
 }
-
-// Makes of the sums of each user those of what stands at who bears the risk of the trades' parties.
-pub fn bear_sums(book: &[u8], sellers: &[u8; 256], buyers: &[u8; 256], sums: &mut [u32; 768])
-    requires { ⌜ BookIn (now book) (now sellers) (now buyers) ⌝ }
-    requires { ⌜ TwelveOf (usersOf (now book)) (tradesOf (now book)) (now sums) × Low (now sums) ⌝ }
-    ensures { λ _. ⌜ TwelveOf (usersIn (now (book .entry))) (tradesIn (now (book .entry))) (now (sums .exit)) × Low (now (sums .exit)) ⌝ }
-{
-    if !book_format::has_managers(book_format::version(book)) {
-        return;
-    }
-    let mut bearing_sellers = [0u8; 256];
-    let mut bearing_buyers = [0u8; 256];
-    bear_managed(
-        book,
-        sellers,
-        buyers,
-        &mut bearing_sellers,
-        &mut bearing_buyers,
-        sums,
-    );
-}

@@ -68,8 +68,7 @@ fn is_flagged(book: &[u8], limits: Limits, place: usize) -> bool
 {
     let user = book_format::user_at(book, place);
     let prices = book_header::read_prices(book);
-    let amounts = risk_members::amounts_of(book, place, user);
-    let position = amounts.position;
+    let position = risk_members::positions_of(book, place, user);
     risk_levels::flagged(limits, prices, user.blocked, position)
 }
 

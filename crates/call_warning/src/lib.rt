@@ -29,8 +29,7 @@ fn is_flagged_shipper(book: &[u8], prices: Prices, id: u32, limits: Limits) -> b
     if seller.role != 0 {
         return false;
     }
-    let amounts = risk_members::amounts_of(book, place, seller);
-    let position = amounts.position;
+    let position = risk_members::positions_of(book, place, seller);
     risk_levels::flagged(limits, prices, seller.blocked, position)
 }
 
@@ -44,8 +43,7 @@ fn bearer_of(book: &[u8], t: Trade) -> u32
         return t.seller;
     }
     let place = call_entry::place_of(book, t.seller);
-    let seller = book_format::user_at(book, place);
-    risk_members::bearer_of(book, place, seller, t.area as usize)
+    risk_members::bearer_of(book, place, t.area as usize)
 }
 
 // Is the user of an id the buyer of the trade, and does the trade warn its buyer?
@@ -112,8 +110,7 @@ pub fn warning(book: &[u8], number: u32, limits: Limits, id: u32) -> WarningAnsw
         };
     }
     let prices = book_header::read_prices(book);
-    let amounts = risk_members::amounts_of(book, place, user);
-    let position = amounts.position;
+    let position = risk_members::positions_of(book, place, user);
     if risk_levels::flagged(limits, prices, user.blocked, position) {
         return WarningAnswer {
             number: 0,

@@ -12,12 +12,14 @@ use lib.ListN.{length, take, getD}
 use lib.Seq.{take-all}
 use Rattle.base.proofs.Linear.{parts-add}
 use Rattle.base.specs.Parts.{negPart, posPart}
-use Rattle.base.specs.Sums.{sumℤ}
+use Rattle.base.specs.Sums.{sum, sumℤ}
 use Rattle.rules.specs.Bearers.{bearer, borneSum}
 use Rattle.rules.specs.Book.{PerArea, User, at, nobody}
 use Rattle.units.proofs.Amounts.{net-eq, net-zero, parts-net}
 use Rattle.units.specs.Amounts.{net}
 use Rattle.units.specs.declared.Net.{Net}
+use Rattle.laws.proofs.Members.{membersSum}
+use Rattle.risk_members.specs.Sums.{AmountRoom, CountTo, Passed, SumTo}
 
 -- two amounts kept with 2^31, added
 net-add : (x y : ℕ) → 2 ^ 31 ≤ x + y → net (record { 0 = x + y - 2 ^ 31 }) ≡ net (record { 0 = x }) +ℤ net (record { 0 = y })
@@ -33,51 +35,97 @@ sum-more f [] k h = absurd (not-suc-le-zero h)
 sum-more f (u ∷ us) zero h = +ℤ-idr (f u) ∙ sym (+ℤ-idl (f u))
 sum-more f (u ∷ us) (suc k) h = ap (λ (z : ℤ). f u +ℤ z) (sum-more f us k (le-of-suc-le-suc h)) ∙ sym (+ℤ-assoc (f u) (sumℤ f (take k us)) (f (getD us k nobody)))
 
+-- the same of a number
+count-more : (f : User → ℕ) (us : List User) (k : ℕ) → k < length us → sum f (take (suc k) us) ≡ sum f (take k us) + f (getD us k nobody)
+unfolding sum
+count-more f [] k h = absurd (not-suc-le-zero h)
+count-more f (u ∷ us) zero h = omega arith
+count-more f (u ∷ us) (suc k) h = omega (arith, count-more f us k (le-of-suc-le-suc h))
+
 -- an amount that a book can have, kept with 2^31
 pub record Near (y : ℕ) : Type 0 where
   pub low : 2 ^ 31 ≤ y + 26600000
   pub high : y ≤ 2 ^ 31 + 26600000
 
-module _ (amounts : User → PerArea) (us : List User) (id area : ℕ) where
-  abbrev one : User → ℤ
-  one v = cond (eqb (bearer v area) id) (at (amounts v) area) (pos 0)
+-- it can be added where there is room
+pub sum-fits : {x y : ℕ} → AmountRoom x → Near y → (2 ^ 31 ≤ x + y) × (x + y < 2 ^ 32 + 2 ^ 31)
+sum-fits r near = (omega (arith, r .low, near .low), omega (arith, r .high, near .high))
 
-  -- the sum over the first k users, within what so many can have
-  pub record SumTo (k x : ℕ) : Type 0 where
-    pub few : k ≤ 64
-    pub is : net (record { 0 = x }) ≡ sumℤ (λ v. cond (eqb (bearer v area) id) (at (amounts v) area) (pos 0)) (take k us)
-    pub low : 2 ^ 31 ≤ x + 26600000 * k
-    pub high : x ≤ 2 ^ 31 + 26600000 * k
+module _ (us : List User) (id area : ℕ) where
+  -- ---- a signed amount
+  module _ (amounts : User → PerArea) where
+    abbrev one : User → ℤ
+    one v = cond (eqb (bearer v area) id) (at (amounts v) area) (pos 0)
 
-  pub sum-start : SumTo 0 2147483648
-  unfolding sumℤ
-  sum-start = record { few = omega arith; is = net-zero; low = omega arith; high = omega arith }
+    pub sum-start : SumTo us id area amounts 0 2147483648
+    unfolding sumℤ
+    sum-start = record { few = omega arith; is = net-zero; low = omega arith; high = omega arith }
 
-  module _ {k x : ℕ} (p : SumTo k x) {y : ℕ} (near : Near y) where
-    pub sum-fits : (2 ^ 31 ≤ x + y) × (x + y < 2 ^ 32 + 2 ^ 31)
-    sum-fits = (omega (arith, p .low, p .few, near .low), omega (arith, p .high, p .few, near .high))
+    -- what there is room for before the last of 64
+    pub sum-room : {k x : ℕ} → SumTo us id area amounts k x → k < 64 → AmountRoom x
+    sum-room p l = record { low = omega (arith, p .low); high = omega (arith, p .high) }
 
-    pub sum-turn : {c : Bool} {r : ℕ} → k < length us → k < 64 → net (record { 0 = y }) ≡ at (amounts (getD us k nobody)) area → c ≡ eqb (bearer (getD us k nobody) area) id
-        → r ≡ cond c (x + y - 2 ^ 31) x → SumTo (k + 1) r
-    sum-turn {c} {r} h l e t is = rw (is, add-one k) (go c t)
+    -- a user more, who counts
+    pub sum-with : {k x y r : ℕ} → SumTo us id area amounts k x → Near y → k < length us → k < 64 → net (record { 0 = y }) ≡ at (amounts (getD us k nobody)) area → eqb (bearer (getD us k nobody) area) id ≡ true
+        → r ≡ x + y - 2 ^ 31 → SumTo us id area amounts (k + 1) r
+    sum-with {k} {x} {y} {r} p near h l e t is = rw (is, add-one k) (record {
+      few = omega arith;
+      is = net-add x y (sum-fits (sum-room p l) near .0) ∙ ap₂ (λ (a b : ℤ). a +ℤ b) (p .is) (e ∙ ap (λ (d : Bool). cond d (at (amounts (getD us k nobody)) area) (pos 0)) (sym t)) ∙ sym (sum-more one us k h);
+      low = omega (arith, p .low, near .low, sum-fits (sum-room p l) near .0);
+      high = omega (arith, p .high, near .high, sum-fits (sum-room p l) near .0);
+    })
+
+    -- a user more, who does not
+    pub sum-without : {k x : ℕ} → SumTo us id area amounts k x → k < length us → k < 64 → eqb (bearer (getD us k nobody) area) id ≡ false → SumTo us id area amounts (k + 1) x
+    sum-without {k} {x} p h l t = rw (add-one k) (record {
+      few = omega arith;
+      is = p .is ∙ sym (+ℤ-idr (sumℤ one (take k us))) ∙ ap (λ (b : ℤ). sumℤ one (take k us) +ℤ b) (ap (λ (d : Bool). cond d (at (amounts (getD us k nobody)) area) (pos 0)) (sym t)) ∙ sym (sum-more one us k h);
+      low = omega (arith, p .low);
+      high = omega (arith, p .high);
+    })
+
+    -- all of them
+    pub sum-end : {k x : ℕ} → SumTo us id area amounts k x → length us ≤ k → net (record { 0 = x }) ≡ borneSum amounts us id area
+    unfolding borneSum
+    sum-end {k} p h = p .is ∙ ap (sumℤ one) (take-all k us h)
+
+  -- ---- a number
+  module _ (amount : User → ℕ) where
+    abbrev single : User → ℕ
+    single v = cond (eqb (bearer v area) id) (amount v) 0
+
+    pub count-start : CountTo us id area amount 0 0
+    unfolding sum
+    count-start = record { is = refl; high = omega arith }
+
+    pub count-with : {k x y r : ℕ} → CountTo us id area amount k x → y ≤ 25600000 → k < length us → y ≡ amount (getD us k nobody) → eqb (bearer (getD us k nobody) area) id ≡ true → r ≡ x + y → CountTo us id area amount (k + 1) r
+    count-with {k} {x} {y} {r} p most h e t is = rw (is, add-one k) (record {
+      is = ap₂ (λ (a b : ℕ). a + b) (p .is) (e ∙ ap (λ (d : Bool). cond d (amount (getD us k nobody)) 0) (sym t)) ∙ sym (count-more single us k h);
+      high = omega (arith, p .high);
+    })
+
+    pub count-without : {k x : ℕ} → CountTo us id area amount k x → k < length us → eqb (bearer (getD us k nobody) area) id ≡ false → CountTo us id area amount (k + 1) x
+    count-without {k} {x} p h t = rw (add-one k) (record {
+      is = p .is ∙ more ∙ sym (count-more single us k h);
+      high = omega (arith, p .high);
+    })
       where
-        go : (c : Bool) → c ≡ eqb (bearer (getD us k nobody) area) id → SumTo (suc k) (cond c (x + y - 2 ^ 31) x)
-        go true t =
-            let f = sum-fits in
-            record {
-              few = omega arith;
-              is = net-add x y (f .0) ∙ ap₂ (λ (a b : ℤ). a +ℤ b) (p .is) (e ∙ ap (λ (d : Bool). cond d (at (amounts (getD us k nobody)) area) (pos 0)) t) ∙ sym (sum-more one us k h);
-              low = omega (arith, p .low, near .low);
-              high = omega (arith, p .high, near .high);
-            }
-        go false t =
-            record {
-              few = omega arith;
-              is = p .is ∙ sym (+ℤ-idr (sumℤ one (take k us))) ∙ ap (λ (b : ℤ). sumℤ one (take k us) +ℤ b) (ap (λ (d : Bool). cond d (at (amounts (getD us k nobody)) area) (pos 0)) t) ∙ sym (sum-more one us k h);
-              low = omega (arith, p .low);
-              high = omega (arith, p .high);
-            }
+        none : single (getD us k nobody) ≡ 0
+        none = ap (λ (d : Bool). cond d (amount (getD us k nobody)) 0) t
 
-  pub sum-end : {k x : ℕ} → SumTo k x → length us ≤ k → net (record { 0 = x }) ≡ borneSum amounts us id area
-  unfolding borneSum
-  sum-end {k} p h = p .is ∙ ap (sumℤ one) (take-all k us h)
+        more : sum single (take k us) ≡ sum single (take k us) + single (getD us k nobody)
+        more = omega (arith, none)
+
+    pub count-end : {k x : ℕ} → CountTo us id area amount k x → length us ≤ k → x ≡ membersSum amount us id area
+    unfolding membersSum
+    count-end {k} p h = p .is ∙ ap (sum single) (take-all k us h)
+
+  -- ---- those who do not count
+  pub passed-none : (from : ℕ) → Passed us id area from from
+  passed-none from = record { sums = λ amounts x p. p; counts = λ amount x p. p }
+
+  pub passed-more : {from k : ℕ} → Passed us id area from k → k < length us → k < 64 → eqb (bearer (getD us k nobody) area) id ≡ false → Passed us id area from (k + 1)
+  passed-more p h l t = record {
+    sums = λ amounts x q. sum-without amounts (p .sums amounts x q) h l t;
+    counts = λ amount x q. count-without amount (p .counts amount x q) h t;
+  }

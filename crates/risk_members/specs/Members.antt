@@ -1,13 +1,21 @@
--- The physical entries and the positions of the user at a place, as its risk is borne. Assumes nothing.
+-- What the user at a place holds as its risk is borne, of a book with the sums of its users. Assumes nothing.
 use mathlib.Core.List.{List}
 use mathlib.Core.Path.{_≡_}
-use Prim.Native.Nat.{ℕ}
+use Prim.Native.Nat.{ℕ, _<_, _^_}
 use lib.ListN.{getD}
-use Rattle.book_records.specs.User.{asAmounts}
-use Rattle.risk_bearers.specs.Bearers.{usersIn}
+use Rattle.book_format.specs.Book.{bookOf, tradesOf, usersOf}
+use Rattle.book_sums.specs.Twelve.{Low, TwelveOf}
+use Rattle.risk_holdings.specs.Holdings.{HoldingsWithin, heldIn}
+use Rattle.risk_holdings.specs.declared.Holdings.{Holdings}
 use Rattle.rules.specs.Book.{nobody}
-use Rattle.units.specs.declared.Net.{Net}
+use Rattle.rules.specs.Levels.{holding}
 
-pub record AmountsOf (s : List ℕ) (place : ℕ) (physical position : List Net) : Type 0 where
-  pub entries : asAmounts physical ≡ getD (usersIn s) place nobody .physical
-  pub positions : asAmounts position ≡ getD (usersIn s) place nobody .position
+-- the sums are those of the book's users, each by itself
+pub record SumsOf (s sums : List ℕ) : Type 0 where
+  pub twelve : TwelveOf (usersOf s) (tradesOf s) sums
+  pub low : Low sums
+
+-- the holdings are those of the rules, none of them high
+pub record HoldingsOf (s : List ℕ) (place : ℕ) (h : Holdings) : Type 0 where
+  pub each : (area : ℕ) → area < 3 → heldIn h area ≡ holding (bookOf s) (getD (usersOf s) place nobody) area
+  pub low : HoldingsWithin (2 ^ 40) h

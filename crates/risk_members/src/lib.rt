@@ -1,121 +1,204 @@
-// What one user has with its members: physical entries and positions as its risk is borne, for who asks it of one user alone. In a version
-// without managers they are those of its record.
+// What one user holds with its members, as its risk is borne, for who asks it of one user alone: the sums over those whose risk it bears.
+// In a version without managers they are those of its record and its own sums.
 use book_records::User;
+use risk_holdings::Holding;
+use risk_holdings::Holdings;
+use units::Mwh;
 use units::Net;
-ghost use mathlib.Core.Bool.{cond, true};
+ghost use mathlib.Core.Bool.{true};
 ghost use mathlib.Core.Path.{_≡_};
-ghost use Prim.Native.Nat.{_+_, _-_, _≤_, _<_, _^_};
+ghost use Prim.Native.Nat.{ℕ, _+_, _-_, _≤_, _<_, _^_};
+ghost use lib.Dec.{eqb};
 ghost use lib.ListN.{getD};
 ghost use Rattle.book_format.specs.Book.{userCount, usersOf, versionOf};
 ghost use Rattle.book_format.specs.Held.{Accepted};
 ghost use Rattle.book_format.specs.Places.{UserIn};
-ghost use Rattle.book_records.specs.User.{alone, asUser};
+ghost use Rattle.book_records.specs.User.{alone, asAmounts, asUser};
+ghost use Rattle.book_sums.specs.Twelve.{Low};
+ghost use Rattle.risk_bearers.specs.Bearers.{usersIn};
 ghost use Rattle.rules.specs.Areas.{managersIn};
 ghost use Rattle.rules.specs.Bearers.{bearer, borneSum};
 ghost use Rattle.rules.specs.Book.{nobody};
 ghost use Rattle.units.specs.Amounts.{net};
-ghost use Rattle.risk_members.specs.Members.{AmountsOf};
+ghost use Rattle.risk_members.specs.Members.{HoldingsOf, SumsOf};
+ghost use Rattle.risk_members.specs.Sums.{AmountRoom, HeldTo, HoldingRoom, Next, SumTo};
 
-// The id of who bears the risk of the user at a place, whose record was read, in an area: of its manager there, or where it has none its
-// own.
-pub fn bearer_of(book: &[u8], place: usize, user: User, area: usize) -> u32
-    requires { ⌜ UserIn (now book) place × (managersIn (versionOf (now book)) ≡ true) × (area < 3) × (asUser user ≡ alone (getD (usersOf (now book)) place nobody)) ⌝ }
+// ---- who bears the risk
+
+// The id of who bears the risk of the user at a place in an area: of its manager there, or where it has none its own.
+pub fn bearer_of(book: &[u8], place: usize, area: usize) -> u32
+    requires { ⌜ UserIn (now book) place × (managersIn (versionOf (now book)) ≡ true) × (area < 3) ⌝ }
     ensures { λ r. ⌜ r ≡ bearer (getD (usersOf (now (book .entry))) place nobody) area ⌝ }
 {
-    let id = fields::get_u32(
-        book,
-        book_format::user_offset(book, place) + (56 + 4 * area),
-    );
+    let at = book_format::user_offset(book, place);
+    let id = fields::get_u32(book, at + (56 + 4 * area));
     if id == 0 {
-        return user.id;
+        return fields::get_u32(book, at);
     }
     id
 }
 
-// ---- the sums over itself and its members
-
-// A sum, kept as the sum + 2^31, with an amount more where it counts.
-fn with_amount(sum: u32, amount: Net, counts: bool) -> u32
-    requires { ⌜ (2 ^ 31 ≤ sum + amount .0) × (sum + amount .0 < 2 ^ 32 + 2 ^ 31) ⌝ }
-    ensures { λ r. ⌜ r ≡ cond counts (sum + amount .0 - 2 ^ 31) sum ⌝ }
+// The next place, from one on, of a user whose risk in an area the user of an id bears; n where there is none.
+fn next_member(book: &[u8], n: usize, from: usize, id: u32, area: usize) -> usize
+    requires { ⌜ Accepted (now book) × (managersIn (versionOf (now book)) ≡ true) × (n ≡ userCount (now book)) × (from ≤ n) × (area < 3) ⌝ }
+    ensures { λ r. ⌜ Next (usersOf (now (book .entry))) id area n from r ⌝ }
 {
-    if counts {
-        return (sum as u64 + amount.0 as u64 - 2147483648) as u32;
-    }
-    sum
-}
-
-// What is held in one area: the physical entry and the position.
-struct AreaAmounts {
-    physical: Net,
-    position: Net,
-}
-
-// The sums in an area over those of the n users whose risk the user of an id bears there.
-fn sum_in(book: &[u8], n: usize, id: u32, area: usize) -> AreaAmounts
-    requires { ⌜ Accepted (now book) × (managersIn (versionOf (now book)) ≡ true) × (n ≡ userCount (now book)) × (area < 3) ⌝ }
-    ensures { λ r. ⌜ net (r .physical) ≡ borneSum (λ v. v .physical) (usersOf (now (book .entry))) id area ⌝ }
-    ensures { λ r. ⌜ net (r .position) ≡ borneSum (λ v. v .position) (usersOf (now (book .entry))) id area ⌝ }
-{
-    let mut physical = 2147483648u32;
-    let mut position = 2147483648u32;
-    let mut i = 0;
+    let mut i = from;
     while i < n {
-        let user = book_format::user_at(book, i);
-        let counts = bearer_of(book, i, user, area) == id;
-        let entries = user.physical;
-        let positions = user.position;
-        physical = with_amount(physical, entries[area], counts);
-        position = with_amount(position, positions[area], counts);
+        if bearer_of(book, i, area) == id {
+            return i;
+        }
         i += 1;
     }
-    AreaAmounts {
-        physical: Net(physical),
-        position: Net(position),
-    }
+    i
 }
 
-// Physical entries and positions, an area each.
-pub struct Amounts {
-    pub physical: [Net; 3],
-    pub position: [Net; 3],
-}
+// ---- the sums over itself and its members
 
-// The sums over the user at a place, of an id, and its members, in a version with managers.
-fn sums_of(book: &[u8], place: usize, id: u32) -> Amounts
-    requires { ⌜ Accepted (now book) × (managersIn (versionOf (now book)) ≡ true) × (place < userCount (now book)) × (id ≡ getD (usersOf (now book)) place nobody .party .id) ⌝ }
-    ensures { λ r. ⌜ AmountsOf (now (book .entry)) place (r .physical) (r .position) ⌝ }
+// A sum, kept as the sum + 2^31, with an amount more.
+fn with_amount(sum: Net, amount: Net) -> Net
+    requires { ⌜ (2 ^ 31 ≤ sum .0 + amount .0) × (sum .0 + amount .0 < 2 ^ 32 + 2 ^ 31) ⌝ }
+    ensures { λ r. ⌜ r .0 ≡ sum .0 + amount .0 - 2 ^ 31 ⌝ }
 {
-    let n = book_format::user_count(book) as usize;
-    let pvb = sum_in(book, n, id, 0);
-    let tvb = sum_in(book, n, id, 1);
-    let avb = sum_in(book, n, id, 2);
-    let x = pvb.physical;
-    let y = tvb.physical;
-    let z = avb.physical;
-    let physical = [x, y, z];
-    let x = pvb.position;
-    let y = tvb.position;
-    let z = avb.position;
-    let position = [x, y, z];
-    Amounts {
+    Net((sum.0 as u64 + amount.0 as u64 - 2147483648) as u32)
+}
+
+// An energy with a number of 32 bits more.
+fn with_energy(sum: Mwh, energy: u32) -> Mwh
+    requires { ⌜ sum .0 ≤ 2 ^ 40 ⌝ }
+    ensures { λ r. ⌜ r .0 ≡ sum .0 + energy ⌝ }
+{
+    Mwh(sum.0 + energy as u64)
+}
+
+// An energy with one of the twelve sums more.
+fn with_sum(sums: &[u32; 768], k: usize, sum: Mwh) -> Mwh
+    requires { ⌜ (k < 768) × (sum .0 ≤ 2 ^ 40) ⌝ }
+    ensures { λ r. ⌜ r .0 ≡ sum .0 + getD (now (sums .entry)) k 0 ⌝ }
+{
+    with_energy(sum, sums[k])
+}
+
+// What is held in an area with what the user at a place has there more.
+fn with_member(book: &[u8], sums: &[u32; 768], place: usize, area: usize, held: Holding) -> Holding
+    requires { ⌜ Accepted (now book) × SumsOf (now book) (now sums) × (place < userCount (now book)) × (area < 3) × HoldingRoom held ⌝ }
+    ensures { λ r. ⌜ ((id : ℕ) → eqb (bearer (getD (usersOf (now (book .entry))) place nobody) area) id ≡ true → HeldTo (now (book .entry)) id area place held → HeldTo (now (book .entry)) id area (place + 1) r) ⌝ }
+{
+    let user = book_format::user_at(book, place);
+    let entries = user.physical;
+    let positions = user.position;
+    let physical = with_amount(held.physical, entries[area]);
+    let position = with_amount(held.position, positions[area]);
+    let k = 12 * place + area;
+    let sold = with_sum(sums, k, held.sold);
+    let sold_next = with_sum(sums, k + 3, held.sold_next);
+    let bought = with_sum(sums, k + 6, held.bought);
+    let bought_next = with_sum(sums, k + 9, held.bought_next);
+    Holding {
         physical: physical,
         position: position,
+        sold: sold,
+        bought: bought,
+        sold_next: sold_next,
+        bought_next: bought_next,
     }
 }
 
-// The amounts of the user at a place, whose record was read, as its risk is borne.
-pub fn amounts_of(book: &[u8], place: usize, user: User) -> Amounts
-    requires { ⌜ Accepted (now book) × (place < userCount (now book)) × (asUser user ≡ alone (getD (usersOf (now book)) place nobody)) ⌝ }
-    ensures { λ r. ⌜ AmountsOf (now (book .entry)) place (r .physical) (r .position) ⌝ }
+// What is held in an area by those of the n users whose risk the user of an id bears there.
+fn held_in(book: &[u8], sums: &[u32; 768], n: usize, id: u32, area: usize) -> Holding
+    requires { ⌜ Accepted (now book) × (managersIn (versionOf (now book)) ≡ true) × (n ≡ userCount (now book)) × (area < 3) × SumsOf (now book) (now sums) ⌝ }
+    ensures { λ r. ⌜ HeldTo (now (book .entry)) id area n r ⌝ }
+{
+    let mut held = Holding {
+        physical: Net(2147483648),
+        position: Net(2147483648),
+        sold: Mwh(0),
+        bought: Mwh(0),
+        sold_next: Mwh(0),
+        bought_next: Mwh(0),
+    };
+    let mut i = next_member(book, n, 0, id, area);
+    while i < n {
+        held = with_member(book, sums, i, area, held);
+        i = next_member(book, n, i + 1, id, area);
+    }
+    held
+}
+
+// What the user at a place, of an id, holds with its members, in a version with managers.
+fn held_by(book: &[u8], sums: &[u32; 768], place: usize, id: u32) -> Holdings
+    requires { ⌜ Accepted (now book) × (managersIn (versionOf (now book)) ≡ true) × SumsOf (now book) (now sums) × (place < userCount (now book)) × (id ≡ getD (usersOf (now book)) place nobody .party .id) ⌝ }
+    ensures { λ r. ⌜ HoldingsOf (now (book .entry)) place r ⌝ }
+{
+    let n = book_format::user_count(book) as usize;
+    let pvb = held_in(book, sums, n, id, 0);
+    let tvb = held_in(book, sums, n, id, 1);
+    let avb = held_in(book, sums, n, id, 2);
+    Holdings {
+        pvb: pvb,
+        tvb: tvb,
+        avb: avb,
+    }
+}
+
+// What the user at a place, whose record was read, holds as its risk is borne, given the sums of each user.
+pub fn holdings_of(book: &[u8], sums: &[u32; 768], place: usize, user: User) -> Holdings
+    requires { ⌜ Accepted (now book) × SumsOf (now book) (now sums) × (place < userCount (now book)) × (asUser user ≡ alone (getD (usersOf (now book)) place nobody)) ⌝ }
+    ensures { λ r. ⌜ HoldingsOf (now (book .entry)) place r ⌝ }
 {
     if book_format::has_managers(book_format::version(book)) {
-        return sums_of(book, place, user.id);
+        return held_by(book, sums, place, user.id);
     }
     let physical = user.physical;
     let position = user.position;
-    Amounts {
-        physical: physical,
-        position: position,
+    risk_user::holdings_at(sums, place, physical, position)
+}
+
+// ---- positions alone
+
+// The position of the user at a place in an area, with a sum before it.
+fn with_position(book: &[u8], place: usize, area: usize, sum: Net) -> Net
+    requires { ⌜ Accepted (now book) × (place < userCount (now book)) × (area < 3) × AmountRoom (sum .0) ⌝ }
+    ensures { λ r. ⌜ ((id : ℕ) → eqb (bearer (getD (usersOf (now (book .entry))) place nobody) area) id ≡ true → SumTo (usersOf (now (book .entry))) id area (λ v. v .position) place (sum .0) → SumTo (usersOf (now (book .entry))) id area (λ v. v .position) (place + 1) (r .0)) ⌝ }
+{
+    let user = book_format::user_at(book, place);
+    let positions = user.position;
+    with_amount(sum, positions[area])
+}
+
+// The sum of the positions in an area over those of the n users whose risk the user of an id bears there.
+fn position_in(book: &[u8], n: usize, id: u32, area: usize) -> Net
+    requires { ⌜ Accepted (now book) × (managersIn (versionOf (now book)) ≡ true) × (n ≡ userCount (now book)) × (area < 3) ⌝ }
+    ensures { λ r. ⌜ net r ≡ borneSum (λ v. v .position) (usersOf (now (book .entry))) id area ⌝ }
+{
+    let mut position = Net(2147483648);
+    let mut i = next_member(book, n, 0, id, area);
+    while i < n {
+        position = with_position(book, i, area, position);
+        i = next_member(book, n, i + 1, id, area);
     }
+    position
+}
+
+// The positions of the user at a place, of an id, with its members, in a version with managers.
+fn positions_by(book: &[u8], place: usize, id: u32) -> [Net; 3]
+    requires { ⌜ Accepted (now book) × (managersIn (versionOf (now book)) ≡ true) × (place < userCount (now book)) × (id ≡ getD (usersOf (now book)) place nobody .party .id) ⌝ }
+    ensures { λ r. ⌜ asAmounts r ≡ getD (usersIn (now (book .entry))) place nobody .position ⌝ }
+{
+    let n = book_format::user_count(book) as usize;
+    let pvb = position_in(book, n, id, 0);
+    let tvb = position_in(book, n, id, 1);
+    let avb = position_in(book, n, id, 2);
+    [pvb, tvb, avb]
+}
+
+// The positions of the user at a place, whose record was read, as its risk is borne.
+pub fn positions_of(book: &[u8], place: usize, user: User) -> [Net; 3]
+    requires { ⌜ Accepted (now book) × (place < userCount (now book)) × (asUser user ≡ alone (getD (usersOf (now book)) place nobody)) ⌝ }
+    ensures { λ r. ⌜ asAmounts r ≡ getD (usersIn (now (book .entry))) place nobody .position ⌝ }
+{
+    if book_format::has_managers(book_format::version(book)) {
+        return positions_by(book, place, user.id);
+    }
+    user.position
 }

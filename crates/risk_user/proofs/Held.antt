@@ -116,28 +116,11 @@ module _ (b : Book) (i : ℕ) (k : i < length (b .users)) where
     unfolding calledIn
     called-row v e g c = g ∙ ap₂ (λ (x y : Bool). x || y) (flagged-row v e) (c ∙ sym (cut-borne-before limits b user))
 
-    module _ {sums : List ℕ} (w : TwelveOf (borneBook b .users) (borneBook b .trades) sums) {physical position : PerArea}
-        (ph : physical ≡ getD (borneBook b .users) i nobody .physical) (po : position ≡ getD (borneBook b .users) i nobody .position)
-        {h : Holdings} (p : HeldWith sums i physical position h) where
-      -- what it holds
-      held-row : (area : ℕ) → area < 3 → heldIn h area ≡ holding b user area
-      unfolding ownHolding
-      held-row area l =
-          let all = members-borne b in
-          p .each area l
-          ∙ cc (
-            ap (λ (q : PerArea). at q area) ph,
-            ap (λ (q : PerArea). at q area) po,
-            at-sum sums (12 * i + area) (12 * i + 3 * 0 + area) (omega arith) ∙ w .sold-at i area 0 (omega (arith, all)) l (omega arith),
-            at-sum sums (12 * i + 6 + area) (12 * i + 6 + 3 * 0 + area) (omega arith) ∙ w .bought-at i area 0 (omega (arith, all)) l (omega arith),
-            w .sold-at i area 1 (omega (arith, all)) l (omega arith),
-            at-sum sums (12 * i + 9 + area) (12 * i + 6 + 3 * 1 + area) (omega arith) ∙ w .bought-at i area 1 (omega (arith, all)) l (omega arith),
-          )
-          ∙ own-row area
-
+    -- its levels, by what it holds
+    module _ (h : Holdings) (held : (area : ℕ) → area < 3 → heldIn h area ≡ holding b (getD (b .users) i nobody) area) where
       pub morning-row : floored limits (morningSum f (heldIn h) (getD (b .users) i nobody .party .charges)) ≡ morningLevel limits b (getD (b .users) i nobody)
       unfolding morningLevel morningSum sum areas
-      morning-row = rw (priced, held-row 0 (omega arith), held-row 1 (omega arith), held-row 2 (omega arith))
+      morning-row = rw (priced, held 0 (omega arith), held 1 (omega arith), held 2 (omega arith))
 
       pub afternoon-row : levelFrom limits f (getD (b .users) i nobody) (heldIn h) ≡ afternoonLevel limits b (getD (b .users) i nobody)
       unfolding afternoonLevel
@@ -145,8 +128,27 @@ module _ (b : Book) (i : ℕ) (k : i < length (b .users)) where
           ap (λ (g : Prices). levelFrom limits g user (heldIn h)) priced
           ∙ level-next (record {
             each = λ area l. record {
-              position = ap (λ (x : Holding). x .position) (held-row area l);
-              sold = ap (λ (x : Holding). x .soldNext) (held-row area l);
-              bought = ap (λ (x : Holding). x .boughtNext) (held-row area l);
+              position = ap (λ (x : Holding). x .position) (held area l);
+              sold = ap (λ (x : Holding). x .soldNext) (held area l);
+              bought = ap (λ (x : Holding). x .boughtNext) (held area l);
             };
           }) limits (b .header .prices) user
+
+  -- what it holds, by the sums of the book as its risk is borne
+  module _ {sums : List ℕ} (w : TwelveOf (borneBook b .users) (borneBook b .trades) sums) {physical position : PerArea}
+      (ph : physical ≡ getD (borneBook b .users) i nobody .physical) (po : position ≡ getD (borneBook b .users) i nobody .position)
+      {h : Holdings} (p : HeldWith sums i physical position h) where
+    pub held-row : (area : ℕ) → area < 3 → heldIn h area ≡ holding b (getD (b .users) i nobody) area
+    unfolding ownHolding
+    held-row area l =
+        let all = members-borne b in
+        p .each area l
+        ∙ cc (
+          ap (λ (q : PerArea). at q area) ph,
+          ap (λ (q : PerArea). at q area) po,
+          at-sum sums (12 * i + area) (12 * i + 3 * 0 + area) (omega arith) ∙ w .sold-at i area 0 (omega (arith, all)) l (omega arith),
+          at-sum sums (12 * i + 6 + area) (12 * i + 6 + 3 * 0 + area) (omega arith) ∙ w .bought-at i area 0 (omega (arith, all)) l (omega arith),
+          w .sold-at i area 1 (omega (arith, all)) l (omega arith),
+          at-sum sums (12 * i + 9 + area) (12 * i + 6 + 3 * 1 + area) (omega arith) ∙ w .bought-at i area 1 (omega (arith, all)) l (omega arith),
+        )
+        ∙ own-row area

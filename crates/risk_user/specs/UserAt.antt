@@ -6,10 +6,7 @@ use mathlib.Core.Path.{_≡_}
 use Prim.Native.Nat.{ℕ, _+_, _*_, _-_, _≤_, _<_, _^_}
 use lib.IntN.{ℤ, pos}
 use lib.ListN.{length, getD}
-use Rattle.book_format.specs.Book.{userCount, usersOf}
-use Rattle.book_format.specs.Questions.{bookNumber}
-use Rattle.book_sums.specs.Twelve.{TwelveOf, Low}
-use Rattle.risk_bearers.specs.Bearers.{tradesIn, usersIn}
+use Rattle.book_format.specs.Book.{usersOf}
 use Rattle.rules.specs.Areas.{Prices}
 use Rattle.rules.specs.Book.{at, PerArea, User, nobody}
 use Rattle.rules.specs.Levels.{Limits, Holding, levelFrom, flaggedFrom, uncovered}
@@ -21,13 +18,6 @@ use Rattle.risk_holdings.specs.declared.Holdings.{Holdings}
 use Rattle.risk_holdings.specs.Holdings.{heldIn, HoldingsWithin}
 
 -- ---- what can be asked
-
--- an accepted book with the sums of its users as their risk is borne, and the place of one
-pub record UserRead (s sums : List ℕ) (place : ℕ) : Type 0 where
-  pub passes : bookNumber s ≡ 0
-  pub inside : place < userCount s
-  pub twelve : TwelveOf (usersIn s) (tradesIn s) sums
-  pub low : Low sums
 
 -- limits and prices in range, and users whose blocked guarantee is
 pub record DayOf (limits : Limits) (f : Prices) (s : List ℕ) : Type 0 where

@@ -33,20 +33,20 @@ to-lies c =
     let start = c .before .before .before .before .before in
     omega (arith, start .pre .1, c .before .loop .inv .same, mul-suc (start .args .new-size) (c .before .loop .i), mul-le-mul-left (start .args .new-size) (c .loop-test .taken))
 
-mul-fit : tie.Need-mul-fit Inv-loop μ-loop
-mul-fit c = omega (arith, from-lies c)
+mul-fit-record : tie.Need-mul-fit-record Inv-loop μ-loop
+mul-fit-record c = omega (arith, from-lies c)
 
-add-fit : tie.Need-add-fit Inv-loop μ-loop
-add-fit c = omega (arith, from-lies c)
+add-fit-record : tie.Need-add-fit-record Inv-loop μ-loop
+add-fit-record c = omega (arith, from-lies c)
 
-mul-fit-2 : tie.Need-mul-fit-2 Inv-loop μ-loop
-mul-fit-2 c = omega (arith, to-lies (c .before))
+mul-fit-record-2 : tie.Need-mul-fit-record-2 Inv-loop μ-loop
+mul-fit-record-2 c = omega (arith, to-lies (c .before))
 
-add-fit-2 : tie.Need-add-fit-2 Inv-loop μ-loop
-add-fit-2 c = omega (arith, to-lies (c .before))
+add-fit-record-2 : tie.Need-add-fit-record-2 Inv-loop μ-loop
+add-fit-record-2 c = omega (arith, to-lies (c .before))
 
-fit-requires : tie.Need-fit-requires Inv-loop μ-loop
-fit-requires c κs =
+fit-record-requires : tie.Need-fit-record-requires Inv-loop μ-loop
+fit-record-requires c κs =
     let least = c .before .before .before .least .ensures in
     (omega (arith, from-lies (c .before)), to-lies (c .before), omega arith)
 
@@ -61,7 +61,7 @@ loop-again c =
     let done = c .before .before in
     let inside = done .before .before in
     let least = inside .before .before in
-    fitting-turn (least .least .ensures) (least .before .before .before .pre .0) (inside .before .loop .inv) (inside .loop-test .taken) (done .fit .ensures)
+    fitting-turn (least .least .ensures) (least .before .before .before .pre .0) (inside .before .loop .inv) (inside .loop-test .taken) (done .fit-record .ensures)
 
 same-length : tie.Need-same-length Inv-loop μ-loop
 same-length c = c .before .loop .inv .same
@@ -77,11 +77,11 @@ fit-each-spec =
     μ-loop
     (λ c κs. search needs)
     loop-holds
-    mul-fit
-    add-fit
-    mul-fit-2
-    add-fit-2
-    fit-requires
+    mul-fit-record
+    add-fit-record
+    mul-fit-record-2
+    add-fit-record-2
+    fit-record-requires
     add-i
     loop-less
     loop-again

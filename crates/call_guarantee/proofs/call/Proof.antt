@@ -11,7 +11,7 @@ use Rattle.book_format.proofs.Held.{accepted-of}
 use Rattle.call_entry.specs.Entered.{Found}
 use Rattle.call_guarantee.specs.Times.{callOf}
 use Rattle.call_entry.proofs.Calls.{called, found-at, found-user}
-use Rattle.call_parties.proofs.Borne.{plain-in, plain-sums}
+use Rattle.call_parties.proofs.Borne.{plain-in}
 use Rattle.book_format.specs.After.{stepAfter}
 use Rattle.book_format.specs.Book.{bookOf, usersOf, versionOf}
 use Rattle.book_parties.specs.Ids.{BookIn}
@@ -20,7 +20,7 @@ use Rattle.rules.specs.Areas.{managersIn}
 use Rattle.rules.specs.Book.{User, find, nobody}
 use Rattle.call_guarantee.specs.Raised.{calledAt}
 use lib.ListN.{getD}
-use Rattle.call_guarantee.proofs.Ways.{call-unentered, call-of-house, call-ends}
+use Rattle.call_guarantee.proofs.Ways.{both-right, call-ends, call-of-house, call-unentered, one-without}
 use borrow.Author.Needs.{needs}
 use Rattle.call_guarantee.proofs.call.Statement.{statement}
 use Rattle.call_guarantee.proofs.call.Tie as tie
@@ -97,65 +97,81 @@ placed : (n : tie.Else1) → let s = start (n .before) in BookIn (bytes (n .befo
 placed n =
     record { accepted = accepted-of (bytes (n .before)) (λ j. n .before .before .before .slice-known .given j .fits) (found n .passes); placed = start (n .before) .pre .1 .1 .placed (started n) }
 
-abbrev entered : tie.After-has-managers → tie.Else1
-entered h = h .before .before .before .before .before .before .before
+-- the user that is read, once its role is known
+abbrev read : tie.Else2 → tie.After-user-at
+read n = n .before .before
 
--- whether the version has managers
-managed : (h : tie.After-has-managers) → h .has-managers .result ≡ managersIn (versionOf (bytes (entered h .before)))
-managed h = h .has-managers .ensures ∙ ap managersIn (h .before .version .ensures)
+abbrev entered : tie.Else2 → tie.Else1
+entered n = read n .before .before
+
+-- the user that is asked for, past the questions whether it is known and a shipper
+abbrev shipped : tie.After-has-managers → tie.Else2
+shipped h = h .before .before .before .before .before .before
+
+holdings-of-requires : tie.Need-holdings-of-requires
+holdings-of-requires c κs =
+    let k = c .before .before in
+    let n = entered k in
+    let told = start (n .before) .pre .1 .1 .summed in
+    (placed n .accepted, record { twelve = told .twelve (started n); low = told .low (started n) }, found n .known, read k .user-at .ensures)
 
 version-requires : tie.Need-version-requires
-version-requires c κs = let n = c .before .before .before .before .before in omega (arith, placed n .accepted .held .form .head)
+version-requires c κs = let n = entered (c .before .before .before .before) in omega (arith, placed n .accepted .held .form .head)
+
+-- whether the version has managers
+managed : (h : tie.After-has-managers) → h .has-managers .result ≡ managersIn (versionOf (bytes (entered (shipped h) .before)))
+managed h = h .has-managers .ensures ∙ ap managersIn (h .before .version .ensures)
 
 bear-managed-requires : tie.Need-bear-managed-requires
 bear-managed-requires c κs =
     let t = c .before .before .before .before in
-    let n = entered (t .before) in
-    ((placed n, sym (managed (t .before)) ∙ t .if3 .taken), (refl, refl))
+    let h = t .before in
+    let n = entered (shipped h) in
+    ((placed n, sym (managed h) ∙ both-right (start (n .before) .args .afternoon) (h .has-managers .result) (t .if3 .taken)), (refl, refl))
 
 call-at-requires : tie.Need-call-at-requires
 call-at-requires c κs =
-    let b = c .before .before .before .before in
+    let b = c .before .before .before in
     let h = b .before .before .before .before .before .before in
-    let n = entered h in
+    let k = shipped h in
+    let n = entered k in
     let f = found n in
-    let k = b .bear-managed .ensures in
-    (k .0, record { passes = f .passes; inside = f .known; twelve = k .1 .0; low = k .1 .1 }, ranged (n .before), h .before .before .before .before .before .user-at .ensures)
+    ((placed n .accepted, (λ e. b .bear-managed .ensures .0), f .known, f .passes, ranged (n .before)), (read k .user-at .ensures, h .before .before .before .holdings-of .ensures))
 
 -- the end of the call
-ended : (h : tie.After-has-managers) → let e = entered h .before in calledAt (start e .args .afternoon) (figures e) (bytes e) (e .seek .result .place) ≡ stepAfter (opened e) (figures e) (bytes e) (callOf (start e .args .afternoon) (asked e))
+ended : (h : tie.After-has-managers) → let e = entered (shipped h) .before in calledAt (start e .args .afternoon) (figures e) (bytes e) (e .seek .result .place) ≡ stepAfter (opened e) (figures e) (bytes e) (callOf (start e .args .afternoon) (asked e))
 ended h =
-    let n = entered h in
+    let k = shipped h in
+    let n = entered k in
     let e = n .before in
-    let k = h .before .before .before in
-    call-ends (opened e) (figures e) (bytes e) (asked e) (start e .args .afternoon) (started n) (found n) (λ j. e .before .before .slice-known .given j .fits) (sym (role (k .before .before)) ∙ k .if2 .left)
+    call-ends (opened e) (figures e) (bytes e) (asked e) (start e .args .afternoon) (started n) (found n) (λ j. e .before .before .slice-known .given j .fits) (sym (role (read k)) ∙ k .if2 .left)
 
 returns-3 : tie.Need-returns-3
 returns-3 c =
     let r = c .before .before in
-    let x = ended (r .before .before .before .before .before .before .before .before .before .before .before) in
+    let x = ended (r .before .before .before .before .before .before .before .before .before .before) in
     record { answer = r .call-at .ensures .0 ∙ ap (λ (y : InBytes). y .answer) x; bytes = r .call-at .ensures .1 ∙ ap (λ (y : InBytes). y .bytes) x }
 
 call-at-requires-2 : tie.Need-call-at-requires-2
 call-at-requires-2 c κs =
-    let l = c .before .before in
+    let l = c .before in
     let h = l .before in
-    let n = entered h in
+    let k = shipped h in
+    let n = entered k in
     let f = found n in
-    let s = start (n .before) in
-    let told = s .pre .1 .1 .summed in
-    let none = sym (managed h) ∙ l .if3 .left in
-    let a = placed n .accepted in
-    (plain-in (bytes (n .before)) a none (placed n), record { passes = f .passes; inside = f .known; twelve = plain-sums (bytes (n .before)) a none (told .twelve (started n)); low = told .low (started n) }, ranged (n .before), h .before .before .before .before .before .user-at .ensures)
+    let a = start (n .before) .args .afternoon in (
+      (placed n .accepted, (λ e. plain-in (bytes (n .before)) (placed n .accepted) (sym (managed h) ∙ one-without a (h .has-managers .result) (l .if3 .left) e) (placed n)), f .known, f .passes, ranged (n .before)),
+      (read k .user-at .ensures, h .before .before .before .holdings-of .ensures),
+    )
 
 returns-4 : tie.Need-returns-4
 returns-4 c =
     let r = c .before .before in
-    let x = ended (r .before .before .before .before) in
+    let x = ended (r .before .before .before) in
     record { answer = r .call-at2 .ensures .0 ∙ ap (λ (y : InBytes). y .answer) x; bytes = r .call-at2 .ensures .1 ∙ ap (λ (y : InBytes). y .bytes) x }
 
 pub call-spec : {M : Type 1} → statement M
 call-spec =
     tie.close
-    (tie.spec seek-requires refused-requires same-length returns user-at-requires refused-requires-2 same-length-2 returns-2 version-requires (λ c κs. search needs)
+    (tie.spec seek-requires refused-requires same-length returns user-at-requires refused-requires-2 same-length-2 returns-2 holdings-of-requires version-requires (λ c κs. search needs)
     bear-managed-requires call-at-requires (λ c. search needs) returns-3 call-at-requires-2 (λ c. search needs) returns-4)

@@ -27,10 +27,10 @@ use Rattle.call_guarantee.proofs.is_due.Tie as tie
 
 -- the book and the user that it is asked of
 passes : (c : tie.Start) → bookNumber (now (c .args .book)) ≡ 0
-passes c = c .pre .0 .2
+passes c = c .pre .0 .3
 
 form : (c : tie.Start) → Formed (now (c .args .book))
-form c = c .pre .0 .0 .accepted .held .form
+form c = c .pre .0 .0 .held .form
 
 -- the user of the book, and its blocked guarantee
 abbrev user : tie.Start → User
@@ -40,12 +40,12 @@ blocked-is : (c : tie.Start) → c .args .user .blocked .0 ≡ user c .blocked
 blocked-is c = read-blocked (c .args .user) (user c) (c .pre .1 .0)
 
 blocked-most : (c : tie.Start) → c .args .user .blocked .0 ≤ 1000000000000
-blocked-most c = omega (arith, blocked-is c, blocked-within (now (c .args .book)) (passes c) (c .pre .0 .1))
+blocked-most c = omega (arith, blocked-is c, blocked-within (now (c .args .book)) (passes c) (c .pre .0 .2))
 
 exceeds-margin-requires : tie.Need-exceeds-margin-requires
 exceeds-margin-requires c κs =
     let s = c .before .before in
-    (s .pre .0 .3, blocked-most s)
+    (s .pre .0 .4, blocked-most s)
 
 -- whether the level exceeds the margin, of the user of the rules
 margin : (c : tie.After-exceeds-margin) → let a = c .before .before .before .args in c .exceeds-margin .result ≡ exceedsMargin (asLimits (a .limits)) (a .level .0) (user (c .before .before .before))
@@ -76,13 +76,13 @@ cut-at-requires : tie.Need-cut-at-requires
 cut-at-requires c κs =
     let n = c .before in
     let s = n .before .before .before .before .before .before .before in
-    (s .pre .0 .0, n .user-count .ensures, c .trade-count .ensures, omega (arith, n .user-count .ensures, s .pre .0 .1))
+    (s .pre .0 .1 (n .before .before .if2 .taken), n .user-count .ensures, c .trade-count .ensures, omega (arith, n .user-count .ensures, s .pre .0 .2))
 
 called-in-requires : tie.Need-called-in-requires
 called-in-requires c κs =
     let p = c .before .before .before in
     let s = p .before .before .before .before .before .before in
-    (s .pre .0 .3, subst InRange (sym (priced p)) (prices-within (now (s .args .book)) (passes s)), blocked-most s)
+    (s .pre .0 .4, subst InRange (sym (priced p)) (prices-within (now (s .args .book)) (passes s)), blocked-most s)
 
 returns-2 : tie.Need-returns-2
 unfolding dueOf bookOf
@@ -95,7 +95,7 @@ returns-2 c =
     let a = s .args in
     let bytes = now (a .book) in
     rw (t .if2 .taken, sym (margin (e .before)) ∙ not-false (e .before .exceeds-margin .result) (e .if1 .left))
-    (called-row (bookOf bytes) (a .place) (omega (arith, s .pre .0 .1, length-usersOf bytes)) (asLimits (a .limits)) (priced p) (a .position) (s .pre .1 .1)
+    (called-row (bookOf bytes) (a .place) (omega (arith, s .pre .0 .2, length-usersOf bytes)) (asLimits (a .limits)) (priced p) (a .position) (s .pre .1 .1)
     (c .called-in .ensures (user s) (blocked-is s)) (k .cut-at .ensures ∙ ap (λ (id : ℕ). cutBefore id (tradesIn bytes)) (id-in bytes (a .place))))
 
 returns-3 : tie.Need-returns-3

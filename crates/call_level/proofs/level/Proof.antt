@@ -61,30 +61,24 @@ returns-2 c =
 accepted : (c : tie.Else1) → Accepted (bytes (c .before))
 accepted c = accepted-of (bytes (c .before)) (λ j. c .before .before .shared-slice-known .given j .fits) (found c .passes)
 
-amounts-of-requires : tie.Need-amounts-of-requires
-amounts-of-requires c κs = let u = c .before .before in (accepted (u .before), found (u .before) .known, u .user-at .ensures)
-
-bear-sums-requires : tie.Need-bear-sums-requires
-bear-sums-requires c κs =
-    let u = c .before .before .before .before in
+holdings-of-requires : tie.Need-holdings-of-requires
+holdings-of-requires c κs =
+    let u = c .before .before .before in
     let n = u .before in
-    let p = n .before .before .before .pre .1 .1 in
-    let told = p .summed in
-    (record { accepted = accepted n; placed = p .placed (started n) }, (told .twelve (started n), told .low (started n)))
+    let told = n .before .before .before .pre .1 .1 .summed in
+    (accepted n, record { twelve = told .twelve (started n); low = told .low (started n) }, found n .known, u .user-at .ensures)
 
 level-of-requires : tie.Need-level-of-requires
 level-of-requires c κs =
-    let b = c .before in
-    let a = b .before .before in
-    let u = a .before .before .before in
+    let u = c .before .before .before .before in
     let f = found (u .before) in
     let s = u .before .before .before .before in
-    ((record { passes = f .passes; inside = f .known; twelve = b .bear-sums .ensures .0; low = b .bear-sums .ensures .1 }, s .pre .1 .0), (u .user-at .ensures, a .amounts-of .ensures))
+    ((f .passes, f .known, s .pre .1 .0), (u .user-at .ensures, c .holdings-of .ensures))
 
 returns-3 : tie.Need-returns-3
 unfolding aLevel
 returns-3 c =
-    let n = c .before .before .before .before .before in
+    let n = c .before .before .before in
     let u = n .before .before in
     let e = u .before .before in
     let a = e .before .before .args in
@@ -94,4 +88,4 @@ returns-3 c =
 
 pub level-spec : {M : Type 1} → statement M
 level-spec =
-    tie.close (tie.spec seek-requires returns user-at-requires returns-2 amounts-of-requires bear-sums-requires level-of-requires returns-3)
+    tie.close (tie.spec seek-requires returns user-at-requires returns-2 holdings-of-requires level-of-requires returns-3)

@@ -1,7 +1,6 @@
--- `level_of` computes the level of the time, which is that of the rules by what the record and the sums tell of the user. Assumes nothing.
+-- `level_of` computes the level of the time, which is that of the rules by what the record tells of the user and by what it holds. Assumes nothing.
 use mathlib.Core.Path.{_≡_, sym, ap, subst, _∙_}
 use Prim.Native.Nat.{_<_}
-use native.Mathlib.Omega.{arith}
 use denote.Ref.{now}
 use lib.IntN.{ℤ}
 use lib.ListN.{getD, length}
@@ -22,7 +21,7 @@ use Rattle.call_level.proofs.level_of.Statement.{statement}
 use Rattle.call_level.proofs.level_of.Tie as tie
 
 read-prices-requires : tie.Need-read-prices-requires
-read-prices-requires c κs = header-lies (passed (now (c .before .args .book)) (c .before .pre .0 .0 .passes) .form)
+read-prices-requires c κs = header-lies (passed (now (c .before .args .book)) (c .before .pre .0 .0) .form)
 
 -- the prices are the book's
 priced : (c : tie.After-read-prices) → asPrices (c .read-prices .result) ≡ bookOf (now (c .before .before .args .book)) .header .prices
@@ -30,23 +29,18 @@ unfolding bookOf
 priced c = c .read-prices .ensures
 
 ranged : (c : tie.After-read-prices) → InRange (asPrices (c .read-prices .result))
-ranged c = subst InRange (sym (priced c)) (prices-within (now (c .before .before .args .book)) (c .before .before .pre .0 .0 .passes))
+ranged c = subst InRange (sym (priced c)) (prices-within (now (c .before .before .args .book)) (c .before .before .pre .0 .0))
 
 -- the user is one of the book's
 member : (c : tie.Start) → c .args .place < length (bookOf (now (c .args .book)) .users)
 unfolding bookOf
-member c = rw (length-usersOf (now (c .args .book))) (c .pre .0 .0 .inside)
-
-holdings-at-requires : tie.Need-holdings-at-requires
-holdings-at-requires c κs =
-    let s = c .before .before .before .before in
-    (s .pre .0 .0 .low, omega (arith, s .pre .0 .0 .inside, passed (now (s .args .book)) (s .pre .0 .0 .passes) .form .users))
+member c = rw (length-usersOf (now (c .args .book))) (c .pre .0 .1)
 
 afternoon-level-requires : tie.Need-afternoon-level-requires
 afternoon-level-requires c κs =
-    let h = c .before .before in
-    let p = h .before .before .before in
-    (p .before .before .pre .0 .1, ranged p, h .holdings-at .ensures .low)
+    let p = c .before .before in
+    let s = p .before .before in
+    (s .pre .0 .2, ranged p, s .pre .1 .1 .low)
 
 -- the charges are those of its record
 charged : (c : tie.Start) → balance (c .args .user .charges) ≡ getD (bookOf (now (c .args .book)) .users) (c .args .place) nobody .party .charges
@@ -56,33 +50,33 @@ charged c = read-charges (c .args .user) (getD (usersOf (now (c .args .book))) (
 returns : tie.Need-returns
 unfolding levelOf bookOf
 returns c =
-    let h = c .before .before .before in
-    let p = h .before .before .before in
+    let p = c .before .before .before in
     let s = p .before .before in
     let b = bookOf (now (s .args .book)) in
+    let h = s .args .holdings in
     rw (c .before .if1 .taken)
     (c .afternoon-level .ensures
-    ∙ ap (λ (z : ℤ). floored (asLimits (s .args .limits)) (afternoonSum (asPrices (p .read-prices .result)) (heldIn (h .holdings-at .result)) z)) (charged s)
-    ∙ afternoon-row b (s .args .place) (member s) (asLimits (s .args .limits)) (priced p) (s .pre .0 .0 .twelve) (s .pre .1 .1 .entries) (s .pre .1 .1 .positions) (h .holdings-at .ensures))
+    ∙ ap (λ (z : ℤ). floored (asLimits (s .args .limits)) (afternoonSum (asPrices (p .read-prices .result)) (heldIn h) z)) (charged s)
+    ∙ afternoon-row b (s .args .place) (member s) (asLimits (s .args .limits)) (priced p) h (s .pre .1 .1 .each))
 
 morning-level-requires : tie.Need-morning-level-requires
 morning-level-requires c κs =
-    let h = c .before .before in
-    let p = h .before .before .before in
-    (p .before .before .pre .0 .1, ranged p, h .holdings-at .ensures .low)
+    let p = c .before .before in
+    let s = p .before .before in
+    (s .pre .0 .2, ranged p, s .pre .1 .1 .low)
 
 returns-2 : tie.Need-returns-2
 unfolding levelOf bookOf
 returns-2 c =
-    let h = c .before .before .before in
-    let p = h .before .before .before in
+    let p = c .before .before .before in
     let s = p .before .before in
     let b = bookOf (now (s .args .book)) in
+    let h = s .args .holdings in
     rw (c .before .if1 .left)
     (c .morning-level .ensures
-    ∙ ap (λ (z : ℤ). floored (asLimits (s .args .limits)) (morningSum (asPrices (p .read-prices .result)) (heldIn (h .holdings-at .result)) z)) (charged s)
-    ∙ morning-row b (s .args .place) (member s) (asLimits (s .args .limits)) (priced p) (s .pre .0 .0 .twelve) (s .pre .1 .1 .entries) (s .pre .1 .1 .positions) (h .holdings-at .ensures))
+    ∙ ap (λ (z : ℤ). floored (asLimits (s .args .limits)) (morningSum (asPrices (p .read-prices .result)) (heldIn h) z)) (charged s)
+    ∙ morning-row b (s .args .place) (member s) (asLimits (s .args .limits)) (priced p) h (s .pre .1 .1 .each))
 
 pub level-of-spec : {M : Type 1} → statement M
 level-of-spec =
-    tie.close (tie.spec read-prices-requires holdings-at-requires afternoon-level-requires returns morning-level-requires returns-2)
+    tie.close (tie.spec read-prices-requires afternoon-level-requires returns morning-level-requires returns-2)

@@ -24,8 +24,8 @@ user-at-requires c κs = let s = c .before in record { form = passed (now (s .ar
 read-prices-requires : tie.Need-read-prices-requires
 read-prices-requires c κs = let s = c .before .before in header-lies (passed (now (s .args .book)) (s .pre .0 .0) .form)
 
-amounts-of-requires : tie.Need-amounts-of-requires
-amounts-of-requires c κs =
+positions-of-requires : tie.Need-positions-of-requires
+positions-of-requires c κs =
     let u = c .before in
     let k = u .before in
     let s = k .before in
@@ -34,7 +34,7 @@ amounts-of-requires c κs =
 flagged-requires : tie.Need-flagged-requires
 unfolding bookOf
 flagged-requires c κs =
-    let p = c .before .before in
+    let p = c .before in
     let u = p .before in
     let s = u .before .before in
     let b = now (s .args .book) in
@@ -47,14 +47,14 @@ flagged-requires c κs =
 returns : tie.Need-returns
 unfolding bookOf
 returns c =
-    let a = c .before .before in
+    let a = c .before in
     let p = a .before in
     let u = p .before in
     let s = u .before .before in
     let b = now (s .args .book) in
     let v = getD (usersOf b) (s .args .place) nobody in
     c .flagged .ensures v (read-blocked (u .user-at .result) v (u .user-at .ensures))
-    ∙ flagged-row (bookOf b) (s .args .place) (omega (arith, length-usersOf b, s .pre .0 .1)) (asLimits (s .args .limits)) (p .read-prices .ensures) (a .amounts-of .result .position) (a .amounts-of .ensures .positions)
+    ∙ flagged-row (bookOf b) (s .args .place) (omega (arith, length-usersOf b, s .pre .0 .1)) (asLimits (s .args .limits)) (p .read-prices .ensures) (a .positions-of .result) (a .positions-of .ensures)
 
 pub is-flagged-spec : {M : Type 1} → statement M
-is-flagged-spec = tie.close (tie.spec user-at-requires read-prices-requires amounts-of-requires flagged-requires returns)
+is-flagged-spec = tie.close (tie.spec user-at-requires read-prices-requires positions-of-requires flagged-requires returns)

@@ -37,20 +37,19 @@ there c =
 bearer-of-requires : tie.Need-bearer-of-requires
 unfolding asTrade
 bearer-of-requires c κs =
-    let u = c .before in
-    let p = u .before in
+    let p = c .before in
     let e = p .before in
     let h = e .before in
     let v = h .before in
     let s = v .before .before in
-    (there p, sym (h .has-managers .ensures ∙ ap managersIn (v .version .ensures)) ∙ not-false (h .has-managers .result) (e .if1 .left), area-lt (usersOf (now (s .args .book))) (asTrade (s .args .t)) (s .pre .1), u .user-at .ensures)
+    (there p, sym (h .has-managers .ensures ∙ ap managersIn (v .version .ensures)) ∙ not-false (h .has-managers .result) (e .if1 .left), area-lt (usersOf (now (s .args .book))) (asTrade (s .args .t)) (s .pre .1))
 
 returns-2 : tie.Need-returns-2
 unfolding asTrade
 returns-2 c =
-    let p = c .before .before .before in
+    let p = c .before .before in
     let s = p .before .before .before .before .before in
     seller-borne (now (s .args .book)) (s .pre .0) (asTrade (s .args .t)) (s .pre .1) (p .place-of .ensures .0) (c .bearer-of .ensures)
 
 pub bearer-of-spec : {M : Type 1} → statement M
-bearer-of-spec = tie.close (tie.spec version-requires (λ c κs. search needs) returns place-of-requires (λ c κs. there c) (λ c. search needs) bearer-of-requires returns-2)
+bearer-of-spec = tie.close (tie.spec version-requires (λ c κs. search needs) returns place-of-requires (λ c. search needs) bearer-of-requires returns-2)

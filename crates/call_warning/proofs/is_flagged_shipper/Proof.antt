@@ -38,22 +38,22 @@ returns c =
     let b = bookOf (now (s .args .book)) in
     shipper-no (asLimits (s .args .limits)) b (find (b .users) (s .args .id)) (λ h. c .if1 .taken (role u ∙ h))
 
-amounts-of-requires : tie.Need-amounts-of-requires
-amounts-of-requires c κs =
+positions-of-requires : tie.Need-positions-of-requires
+positions-of-requires c κs =
     let u = c .before .before in
     let s = u .before .before .before in
     (s .pre .0 .0 .accepted, found (u .before) .known, u .user-at .ensures)
 
 flagged-requires : tie.Need-flagged-requires
 flagged-requires c κs =
-    let u = c .before .before .before .before in
+    let u = c .before .before .before in
     let s = u .before .before .before in
     let f = found (u .before) in
     (s .pre .1, prices-range (s .pre .0 .0), blocked-most (now (s .args .book)) (f .passes) (f .known) (u .user-at .result) (u .user-at .ensures))
 
 returns-2 : tie.Need-returns-2
 returns-2 c =
-    let a = c .before .before in
+    let a = c .before in
     let e = a .before in
     let u = e .before .before in
     let p = u .before in
@@ -64,10 +64,10 @@ returns-2 c =
     let f = found p in
     let v = getD (usersOf bytes) (p .place-of .result) nobody in
     c .flagged .ensures v (read-blocked (u .user-at .result) v (u .user-at .ensures))
-    ∙ flag-at bytes (f .passes) (f .known) l (s .args .prices) (sym (s .pre .0 .0 .same)) (a .amounts-of .result .position) (a .amounts-of .ensures .positions)
+    ∙ flag-at bytes (f .passes) (f .known) l (s .args .prices) (sym (s .pre .0 .0 .same)) (a .positions-of .result) (a .positions-of .ensures)
     ∙ ap (flagged l b) (found-at f)
     ∙ shipper-yes l b (find (b .users) (s .args .id)) (sym (role u) ∙ e .if1 .left)
 
 pub is-flagged-shipper-spec : {M : Type 1} → statement M
 is-flagged-shipper-spec =
-    tie.close (tie.spec place-of-requires (λ c κs. found-user (found c)) returns amounts-of-requires flagged-requires returns-2)
+    tie.close (tie.spec place-of-requires (λ c κs. found-user (found c)) returns positions-of-requires flagged-requires returns-2)

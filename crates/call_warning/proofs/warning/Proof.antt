@@ -78,36 +78,36 @@ priced : (c : tie.After-read-prices) → let n = user (c .before) .before in Pri
 unfolding bookOf
 priced c = let n = user (c .before) .before in record { passes = found n .passes; accepted = accepted n; same = sym (c .read-prices .ensures) }
 
-amounts-of-requires : tie.Need-amounts-of-requires
-amounts-of-requires c κs = let u = user (c .before) in (accepted (u .before), found (u .before) .known, u .user-at .ensures)
+positions-of-requires : tie.Need-positions-of-requires
+positions-of-requires c κs = let u = user (c .before) in (accepted (u .before), found (u .before) .known, u .user-at .ensures)
 
 flagged-requires : tie.Need-flagged-requires
 flagged-requires c κs =
-    let p = c .before .before in
+    let p = c .before in
     let u = user (p .before) in
     let e = u .before .before in
     let f = found (u .before) in
     (e .before .before .pre .1, prices-range (priced p), blocked-most (bytes e) (f .passes) (f .known) (u .user-at .result) (u .user-at .ensures))
 
 -- whether the user of the id is flagged in the book of the bytes
-flag-is : (c : tie.After-flagged) → let u = user (c .before .before .before .before) in let e = u .before .before in
+flag-is : (c : tie.After-flagged) → let u = user (c .before .before .before) in let e = u .before .before in
     c .flagged .result ≡ flagged (figures e) (bookOf (bytes e)) (find (bookOf (bytes e) .users) (asked e))
 flag-is c =
-    let a = c .before .before in
+    let a = c .before in
     let p = a .before in
     let u = user (p .before) in
     let e = u .before .before in
     let f = found (u .before) in
     let v = getD (usersOf (bytes e)) (e .seek .result .place) nobody in
     c .flagged .ensures v (read-blocked (u .user-at .result) v (u .user-at .ensures))
-    ∙ flag-at (bytes e) (f .passes) (f .known) (figures e) (p .read-prices .result) (sym (priced p .same)) (a .amounts-of .result .position) (a .amounts-of .ensures .positions)
+    ∙ flag-at (bytes e) (f .passes) (f .known) (figures e) (p .read-prices .result) (sym (priced p .same)) (a .positions-of .result) (a .positions-of .ensures)
     ∙ ap (flagged (figures e) (bookOf (bytes e))) (found-at f)
 
 returns-3 : tie.Need-returns-3
 unfolding aWarning
 returns-3 c =
     let g = c .before in
-    let n = g .before .before .before .before in
+    let n = g .before .before .before in
     let u = user n in
     let e = u .before .before in
     ap aWarning (warned-flagged (figures e) (bookOf (bytes e)) (find (bookOf (bytes e) .users) (asked e)) (sym (flag-is g) ∙ c .if3 .taken))
@@ -115,7 +115,7 @@ returns-3 c =
 
 any-warns-requires : tie.Need-any-warns-requires
 any-warns-requires c κs =
-    let p = c .before .before .before .before in
+    let p = c .before .before .before in
     (priced p, user (p .before) .before .before .before .before .pre .1)
 
 returns-4 : tie.Need-returns-4
@@ -123,7 +123,7 @@ unfolding aWarning
 returns-4 c =
     let l = c .before in
     let g = l .before in
-    let n = g .before .before .before .before in
+    let n = g .before .before .before in
     let u = user n in
     let e = u .before .before in
     let f = found (u .before) in
@@ -139,4 +139,4 @@ returns-4 c =
 pub warning-spec : {M : Type 1} → statement M
 warning-spec =
     tie.close
-    (tie.spec seek-requires returns user-at-requires returns-2 read-prices-requires amounts-of-requires flagged-requires returns-3 any-warns-requires returns-4)
+    (tie.spec seek-requires returns user-at-requires returns-2 read-prices-requires positions-of-requires flagged-requires returns-3 any-warns-requires returns-4)

@@ -9,7 +9,7 @@ use Rattle.book_format.proofs.Places.{record-lies}
 use Rattle.book_format.specs.Book.{usersOf, versionOf}
 use Rattle.risk_bearers.proofs.Table.{manager-is}
 use Rattle.rules.specs.Book.{managerIn, nobody}
-use Rattle.risk_members.proofs.Members.{bears-itself, bears-manager, read-id}
+use Rattle.risk_members.proofs.Members.{bears-itself, bears-manager, id-is}
 use Rattle.risk_members.proofs.bearer_of.Statement.{statement}
 use Rattle.risk_members.proofs.bearer_of.Tie as tie
 
@@ -26,10 +26,12 @@ manager c =
 
 returns : tie.Need-returns
 returns c =
-    let g = c .before in
-    let s = g .before .before .before in
+    let t = c .before in
+    let g = t .before in
+    let o = g .before in
+    let s = o .before .before in
     let v = getD (usersOf (now (s .args .book))) (s .args .place) nobody in
-    bears-itself v (s .args .area) (manager g) (c .if1 .taken) (read-id (s .args .user) v (s .pre .3))
+    bears-itself v (s .args .area) (manager g) (t .if1 .taken) (c .get-u322 .ensures ∙ id-is (s .pre .0) (o .user-offset .ensures .0))
 
 returns-2 : tie.Need-returns-2
 returns-2 c =
@@ -40,4 +42,4 @@ returns-2 c =
 pub bearer-of-spec : {M : Type 1} → statement M
 bearer-of-spec =
     tie.close
-    (tie.spec (λ c κs. search needs) (λ c. search needs) (λ c. search needs) (λ c. search needs) get-u32-requires returns returns-2)
+    (tie.spec (λ c κs. search needs) (λ c. search needs) (λ c. search needs) (λ c. search needs) get-u32-requires (λ c κs. search needs) returns returns-2)
