@@ -13,7 +13,7 @@ use crate::log_file::{noted, LogFile};
 use crate::outcome::{Failure, Outcome};
 use crate::reasons::Asked;
 use crate::refusals;
-use crate::source::{accepted, open, Source, Store};
+use crate::source::{accepted, open, Given, Source, Store};
 use crate::words::{grouped, wide};
 use crate::write::{self, New};
 
@@ -62,7 +62,7 @@ impl Call {
         let held = Held::all(&over.into_iter().chain(logged).collect::<Vec<_>>())?;
         let of = |path: &Path| held.iter().find(|held| held.is_named(path));
         let source = match of(book) {
-            Some(held) => accepted(&files::shown(book), held.read(book)?),
+            Some(held) => accepted(&files::shown(book), Given::File(held.read(book)?)),
             None => open(book),
         };
         // The fields at fault are not a shipper's to know.
@@ -137,6 +137,7 @@ impl Call {
         answer: impl Fn(u32) -> Result<(String, Object), Refusal>,
     ) -> Result<Outcome, Failure> {
         let mut outcome = Outcome::default();
+        outcome.note(&self.source);
         for id in self.ids(arguments)? {
             match answer(id) {
                 Ok((line, object)) => self.tell(&mut outcome, line, object),
@@ -147,12 +148,13 @@ impl Call {
         Ok(outcome)
     }
 
-    /// An answer in words, as an object, or as a row, before the first of which
-    /// stand the names of the columns.
+    /// An answer in words, as an object with the book's name, or as a row, before the
+    /// first of which stand the names of the columns.
     pub fn tell(&self, outcome: &mut Outcome, line: String, object: Object) {
         match self.form {
             Form::Words => outcome.line(line),
-            form => outcome.object(form, object),
+            Form::Csv => outcome.object(Form::Csv, object),
+            Form::Json => outcome.line(object.of_book(&self.source.name).end()),
         }
     }
 
@@ -214,6 +216,7 @@ impl Call {
         changed: &Changed,
         outcome: &mut Outcome,
     ) -> Result<(), Failure> {
+        outcome.note(&self.source);
         let Some(target) = &self.target else {
             let (what, them) = match &self.log {
                 Some(_) => ("book and log are", "them"),

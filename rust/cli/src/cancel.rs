@@ -25,6 +25,7 @@ pub fn cancel(arguments: &Arguments) -> Result<Outcome, Failure> {
         .map_err(|_| Failure::misuse("--tries needs a number of 32 bits"))?;
     let call = Call::new(arguments)?;
     let mut outcome = Outcome::default();
+    outcome.note(&call.source);
     let found = call
         .store
         .operator()

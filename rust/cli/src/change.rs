@@ -5,16 +5,18 @@ use daybook::{Book, Operator, Refusal, Trade, User};
 
 use crate::arguments::Arguments;
 use crate::call::Call;
+use crate::compare::{Difference, DIFFERENCE};
 use crate::draft::{define_position, Mistake, Spot};
 use crate::faults::{faults_of, Fault};
 use crate::fields::{has_managers, prices, put_price, PRICES};
+use crate::form::{csv_row, Form};
 use crate::outcome::{Failure, Outcome};
 use crate::refusals;
 use crate::text::{mistake, no_manager, read_manager, short, Words, NONE};
 use crate::words::{code, date, euros, grouped, read_euros, read_whole, AREAS};
 
 pub fn change(arguments: &Arguments) -> Result<Outcome, Failure> {
-    let usage = "change BOOK CHANGE.. [-o FILE|--in-place]";
+    let usage = "change BOOK CHANGE.. [-o FILE|--in-place] [--csv|--json]";
     arguments.expect(2, usize::MAX, usage)?;
     let call = Call::new(arguments)?;
     let refused = |refusal: Refusal, faults: Vec<Fault>| {
@@ -27,7 +29,7 @@ pub fn change(arguments: &Arguments) -> Result<Outcome, Failure> {
     let (mut outcome, mut mistakes) = (Outcome::default(), Vec::new());
     for (place, word) in arguments.rest(1).iter().enumerate() {
         match made(&mut book, &word.display().to_string(), place + 1) {
-            Ok(lines) => lines.iter().for_each(|line| outcome.line(line)),
+            Ok(lines) => lines.iter().for_each(|it| tell(&mut outcome, &call, it)),
             Err(some) => mistakes.extend(some),
         }
     }
@@ -47,8 +49,29 @@ pub fn change(arguments: &Arguments) -> Result<Outcome, Failure> {
     Ok(outcome)
 }
 
+/// Tells a field that is set anew.
+fn tell(outcome: &mut Outcome, call: &Call, it: &Difference) {
+    if call.form == Form::Csv {
+        if outcome.out.is_empty() {
+            outcome.line(csv_row(DIFFERENCE));
+        }
+        return outcome.line(csv_row(it.row()));
+    }
+    let Difference {
+        about,
+        field,
+        before,
+        after,
+    } = it;
+    let about = match about.as_str() {
+        "header" => field.clone(),
+        about => format!("{about} {field}"),
+    };
+    call.tell(outcome, format!("{about} {before} -> {after}"), it.object());
+}
+
 /// Makes one change: of each field what it was and what it is, a line each.
-fn made(book: &mut Book, text: &str, number: usize) -> Result<Vec<String>, Vec<Mistake>> {
+fn made(book: &mut Book, text: &str, number: usize) -> Result<Vec<Difference>, Vec<Mistake>> {
     let mut words = Words::new(text, number);
     let mut lines = Vec::new();
     let read = statement(book, &mut words, &mut lines).and_then(|()| words.end());
@@ -60,12 +83,16 @@ fn made(book: &mut Book, text: &str, number: usize) -> Result<Vec<String>, Vec<M
     }
 }
 
-fn statement(book: &mut Book, words: &mut Words, lines: &mut Vec<String>) -> Result<(), Mistake> {
+fn statement(
+    book: &mut Book,
+    words: &mut Words,
+    lines: &mut Vec<Difference>,
+) -> Result<(), Mistake> {
     let (word, spot) = words.next("a change")?;
     match word {
         "date" => {
             let was = std::mem::replace(&mut book.date, words.date()?);
-            lines.push(line("date", date(was), date(book.date)));
+            lines.push(line("header", "date", date(was), date(book.date)));
             Ok(())
         }
         "prices" => each(words, "a price", |words, name, spot| {
@@ -79,7 +106,7 @@ fn statement(book: &mut Book, words: &mut Words, lines: &mut Vec<String>) -> Res
                 ));
             };
             let price = money(words, name, listed[place])?;
-            lines.push(line(name, euros(listed[place]), euros(price)));
+            lines.push(line("header", name, euros(listed[place]), euros(price)));
             put_price(book, place, price);
             Ok(())
         }),
@@ -135,15 +162,15 @@ fn user_field(
     user: &mut User,
     words: &mut Words,
     (name, spot): (&str, Spot),
-    lines: &mut Vec<String>,
+    lines: &mut Vec<Difference>,
 ) -> Result<(), Mistake> {
-    let about = format!("user {} {name}", user.id);
+    let about = format!("user {}", user.id);
     let guarantee = match name {
         "physical" => return physical(user, words, lines),
         "charges" => {
             let was = user.charges;
             user.charges = money(words, name, was)?;
-            lines.push(line(&about, euros(was), euros(user.charges)));
+            lines.push(line(&about, name, euros(was), euros(user.charges)));
             return Ok(());
         }
         "assigned" => &mut user.assigned,
@@ -155,19 +182,24 @@ fn user_field(
     };
     let was = *guarantee;
     *guarantee = money(words, name, was)?;
-    lines.push(line(&about, euros(was), euros(*guarantee)));
+    lines.push(line(&about, name, euros(was), euros(*guarantee)));
     Ok(())
 }
 
 /// Physical entries, an area and its MWh each.
-fn physical(user: &mut User, words: &mut Words, lines: &mut Vec<String>) -> Result<(), Mistake> {
+fn physical(
+    user: &mut User,
+    words: &mut Words,
+    lines: &mut Vec<Difference>,
+) -> Result<(), Mistake> {
     loop {
         let (area, _) = words.code("the area", &AREAS)?;
         let entry = &mut user.physical[usize::from(area)];
         let was = *entry;
         *entry = whole(words, "physical", was)?;
-        let about = format!("user {} physical {}", user.id, AREAS[usize::from(area)]);
-        lines.push(line(&about, grouped(was), grouped(*entry)));
+        let field = format!("physical {}", AREAS[usize::from(area)]);
+        let about = format!("user {}", user.id);
+        lines.push(line(&about, &field, grouped(was), grouped(*entry)));
         if words.peek().and_then(|it| code(&AREAS, it)).is_none() {
             return Ok(());
         }
@@ -175,7 +207,7 @@ fn physical(user: &mut User, words: &mut Words, lines: &mut Vec<String>) -> Resu
 }
 
 /// Managers, an area and an id each, or the word for none.
-fn manager(user: &mut User, words: &mut Words, lines: &mut Vec<String>) -> Result<(), Mistake> {
+fn manager(user: &mut User, words: &mut Words, lines: &mut Vec<Difference>) -> Result<(), Mistake> {
     let shown = |id: u32| match id {
         0 => NONE.to_string(),
         id => id.to_string(),
@@ -185,8 +217,10 @@ fn manager(user: &mut User, words: &mut Words, lines: &mut Vec<String>) -> Resul
         let area = usize::from(area);
         let was = user.managers[area];
         (user.managers[area], _) = read_manager(words, area)?;
-        let about = format!("user {} manager {}", user.id, AREAS[area]);
-        lines.push(line(&about, shown(was), shown(user.managers[area])));
+        let field = format!("manager {}", AREAS[area]);
+        let about = format!("user {}", user.id);
+        let is = shown(user.managers[area]);
+        lines.push(line(&about, &field, shown(was), is));
         if words.peek().and_then(|it| code(&AREAS, it)).is_none() {
             return Ok(());
         }
@@ -197,7 +231,7 @@ fn trade_field(
     (place, trade): (usize, &mut Trade),
     words: &mut Words,
     (name, spot): (&str, Spot),
-    lines: &mut Vec<String>,
+    lines: &mut Vec<Difference>,
 ) -> Result<(), Mistake> {
     let field = match name {
         "notified" => &mut trade.notified,
@@ -206,8 +240,8 @@ fn trade_field(
     };
     let was = *field;
     *field = whole(words, name, was)?;
-    let about = format!("trade {place} {name}");
-    lines.push(line(&about, grouped(was), grouped(*field)));
+    let about = format!("trade {place}");
+    lines.push(line(&about, name, grouped(was), grouped(*field)));
     Ok(())
 }
 
@@ -215,8 +249,13 @@ fn no_such(spot: Spot, word: &str, known: &str) -> Mistake {
     mistake(spot, format!("`{}`: {known}", short(word)))
 }
 
-fn line(about: &str, was: String, is: String) -> String {
-    format!("{about} {was} -> {is}")
+fn line(about: &str, field: &str, was: String, is: String) -> Difference {
+    Difference {
+        about: about.to_string(),
+        field: field.to_string(),
+        before: was,
+        after: is,
+    }
 }
 
 /// An amount of euros; one with + before it is added to what was.

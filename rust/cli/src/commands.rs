@@ -27,7 +27,6 @@ const STORE: Known = Known::Value("--store");
 const OUTPUT: Known = Known::Value("-o");
 const FORCE: Known = Known::Flag("--force");
 const IN_PLACE: Known = Known::Flag("--in-place");
-const ASKING: &[Known] = &[STORE, JSON];
 const ANSWERING: &[Known] = &[STORE, CSV, JSON];
 const AS: Known = Known::Value("--as");
 const TELLING: &[Known] = &[AS, STORE, CSV, JSON];
@@ -40,7 +39,7 @@ pub const COMMANDS: &[Command] = &[
         name: "check",
         about: "is a book accepted, and if not, where does it fail?",
         page: include_str!("../help/check.txt"),
-        options: ASKING,
+        options: ANSWERING,
         run: check::check,
     },
     Command {
@@ -61,14 +60,14 @@ pub const COMMANDS: &[Command] = &[
         name: "csv",
         about: "a book as three CSV files for a spreadsheet",
         page: include_str!("../help/csv.txt"),
-        options: &[FORCE],
+        options: &[Known::Flag("--semicolon"), FORCE],
         run: other_forms::csv,
     },
     Command {
         name: "from-csv",
         about: "a book from three CSV files",
         page: include_str!("../help/from-csv.txt"),
-        options: &[OUTPUT, FORCE],
+        options: &[Known::Value("--dates"), OUTPUT, FORCE],
         run: other_forms::from_csv,
     },
     Command {
@@ -116,7 +115,7 @@ pub const COMMANDS: &[Command] = &[
         name: "change",
         about: "fields of a book set anew, in the words of the text form",
         page: include_str!("../help/change.txt"),
-        options: &[OUTPUT, FORCE, IN_PLACE],
+        options: &[OUTPUT, FORCE, IN_PLACE, CSV, JSON],
         run: change::change,
     },
     Command {
@@ -250,14 +249,26 @@ pub const COMMANDS: &[Command] = &[
         name: "explain",
         about: "a run reduction by reduction: who was short, and what was cut",
         page: include_str!("../help/explain.txt"),
-        options: &[Known::Flag("--all"), Known::Value("--steps"), STORE, JSON],
+        options: &[
+            Known::Flag("--all"),
+            Known::Value("--steps"),
+            STORE,
+            CSV,
+            JSON,
+        ],
         run: explain::explain,
     },
     Command {
         name: "report",
         about: "a page about the day: figures, chains of cuts, users, trades",
         page: include_str!("../help/report.txt"),
-        options: &[OUTPUT, FORCE, Known::Value("--steps"), STORE],
+        options: &[
+            OUTPUT,
+            FORCE,
+            Known::Flag("--all"),
+            Known::Value("--steps"),
+            STORE,
+        ],
         run: report::report,
     },
     Command {
@@ -271,7 +282,7 @@ pub const COMMANDS: &[Command] = &[
         name: "shrinkage",
         about: "the return of retained shrinkage",
         page: include_str!("../help/shrinkage.txt"),
-        options: &[Known::Flag("--days"), JSON],
+        options: &[Known::Flag("--days"), CSV, JSON],
         run: shrinkage::shrinkage,
     },
 ];

@@ -6,7 +6,8 @@ use daybook::{Book, Operator, Trade, User};
 use crate::arguments::Arguments;
 use crate::day::{standings, Standing, Totals};
 use crate::fields::{prices, PRICES};
-use crate::form::{csv_row, Form};
+use crate::files;
+use crate::form::{csv_row, plain, Form};
 use crate::json::Object;
 use crate::outcome::{Failure, Outcome};
 use crate::reasons::Asked;
@@ -25,6 +26,26 @@ pub struct Difference {
     pub after: String,
 }
 
+/// The columns of a difference.
+pub const DIFFERENCE: [&str; 4] = ["about", "field", "before", "after"];
+
+impl Difference {
+    /// A row of a table, amounts without commas.
+    pub fn row(&self) -> [String; 4] {
+        let (before, after) = (plain(&self.before), plain(&self.after));
+        [self.about.clone(), self.field.clone(), before, after]
+    }
+
+    pub fn object(&self) -> Object {
+        let [about, field, before, after] = DIFFERENCE;
+        Object::new()
+            .string(about, &self.about)
+            .string(field, &self.field)
+            .string(before, &self.before)
+            .string(after, &self.after)
+    }
+}
+
 /// A book with its day.
 struct Side {
     book: Book,
@@ -38,27 +59,26 @@ pub fn compare(arguments: &Arguments) -> Result<Outcome, Failure> {
     let store = Store::open(arguments.path("--store").as_deref())?;
     let side = |place: usize| {
         let source = open(arguments.file(place))?;
-        side(&source, &store, arguments.has("--run"))
+        let side = side(&source, &store, arguments.has("--run"))?;
+        Ok((source, side))
     };
-    let (one, other) = (side(0)?, side(1)?);
+    let ((one_source, one), (other_source, other)) = (side(0)?, side(1)?);
     let found = differences(&one, &other);
+    let names = [0, 1].map(|place| files::shown(arguments.file(place)));
     let mut outcome = Outcome::default();
+    outcome.note(&one_source);
+    outcome.note(&other_source);
     match form {
         Form::Words => words(&mut outcome, (&one, &other), &found),
         Form::Csv => {
-            outcome.line(csv_row(["about", "field", "before", "after"]));
+            outcome.line(csv_row(DIFFERENCE));
             for it in &found {
-                let row = [&it.about, &it.field, &it.before, &it.after];
-                outcome.line(csv_row(row));
+                outcome.line(csv_row(it.row()));
             }
         }
         Form::Json => found.iter().for_each(|it| {
-            let object = Object::new()
-                .string("about", &it.about)
-                .string("field", &it.field)
-                .string("before", &it.before)
-                .string("after", &it.after);
-            outcome.line(object.end());
+            let object = it.object().about("other", &names[1]);
+            outcome.line(object.of_book(&names[0]).end());
         }),
     }
     Ok(outcome)

@@ -31,7 +31,11 @@ pub fn convert(arguments: &Arguments) -> Result<Outcome, Failure> {
         return Err(refusals::of_conversion(&source.name, refusal, &[], &reason));
     };
     match Operator::new().convert(&source.bytes, version) {
-        Ok(bytes) => put(arguments, &output, &bytes, &held),
+        Ok(bytes) => {
+            let mut outcome = put(arguments, &output, &bytes, &held)?;
+            outcome.note(&source);
+            Ok(outcome)
+        }
         Err(refusal) => Err(lost_in(&source, version.number(), refusal)),
     }
 }

@@ -62,6 +62,10 @@ pub struct Draft {
     header: Spots,
     users: Vec<Spots>,
     trades: Vec<Spots>,
+    /// The names of users by id, for those who read what is told.
+    pub names: Vec<(u32, String)>,
+    /// What was skipped.
+    pub notes: Vec<Mistake>,
 }
 
 /// Why a draft is no book.
@@ -86,6 +90,14 @@ impl Draft {
     pub fn add_user(&mut self, user: User, spots: Spots) {
         self.book.users.push(user);
         self.users.push(spots);
+    }
+
+    /// Puts the users in the order of their ids.
+    pub fn sort_users(&mut self) {
+        let users = std::mem::take(&mut self.book.users);
+        let mut pairs: Vec<(User, Spots)> = users.into_iter().zip(self.users.drain(..)).collect();
+        pairs.sort_by_key(|(user, _)| user.id);
+        (self.book.users, self.users) = pairs.into_iter().unzip();
     }
 
     pub fn add_trade(&mut self, trade: Trade, spots: Spots) {

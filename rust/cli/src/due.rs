@@ -10,6 +10,7 @@ use crate::form::{csv_row, Form};
 use crate::json::Object;
 use crate::outcome::{Failure, Outcome};
 use crate::reasons::Asked;
+use crate::source::Source;
 use crate::text::aligned;
 use crate::words::{counted, euros, plain_euros};
 
@@ -43,7 +44,7 @@ pub fn calls(arguments: &Arguments) -> Result<Outcome, Failure> {
         }
     };
     match call.form {
-        Form::Words => words(&mut outcome, &made),
+        Form::Words => words(&mut outcome, &call.source, &made),
         Form::Csv => table(&mut outcome, &made),
         Form::Json => objects(&mut outcome, &call, &changed, &made),
     }
@@ -97,7 +98,7 @@ fn total(made: &[Due]) -> (usize, u128) {
     (added().count(), added().map(u128::from).sum())
 }
 
-fn words(outcome: &mut Outcome, made: &[Due]) {
+fn words(outcome: &mut Outcome, source: &Source, made: &[Due]) {
     let cells = |due: &Due| {
         let level = euros(due.level);
         let (name, amount, rest) = match due.added {
@@ -115,6 +116,7 @@ fn words(outcome: &mut Outcome, made: &[Due]) {
         };
         vec![
             format!("{}:", due.id),
+            source.name_of(due.id).to_string(),
             name.to_string(),
             amount,
             format!("EUR {rest}"),
@@ -164,7 +166,7 @@ fn objects(outcome: &mut Outcome, call: &Call, changed: &Changed, made: &[Due]) 
             .put("level_cents", due.level)
             .put("added_cents", due.added.unwrap_or(0))
             .put("assigned_cents", due.assigned);
-        outcome.line(object.end());
+        outcome.line(object.of_book(&call.source.name).end());
     }
     let (count, cents) = total(made);
     let object = Object::new().string("book", &call.source.name);

@@ -5,7 +5,7 @@ use daybook::{Book, Operator, Trade};
 use crate::arguments::Arguments;
 use crate::calls::reduction_object;
 use crate::credit::{by_area, lines, Credited};
-use crate::form::or_null;
+use crate::form::{csv_row, or_null, Form};
 use crate::groups::{self, area_of, bearer, with_groups};
 use crate::json::{list, Object};
 use crate::outcome::{Failure, Outcome};
@@ -16,7 +16,7 @@ use crate::source::{open, Store};
 use crate::store::{figures, Figures};
 use crate::text::aligned;
 use crate::trace::{reference_prices, trace, Extent, Sale, Step, Tier, Trace};
-use crate::words::{counted, euros, grouped, word, AREAS};
+use crate::words::{counted, euros, grouped, plain_euros, wide, word, AREAS};
 
 /// How many reductions are shown of a long run.
 const FIRST: usize = 5;
@@ -26,8 +26,9 @@ const LAST: usize = 3;
 pub const MOST: u64 = 1_000_000;
 
 pub fn explain(arguments: &Arguments) -> Result<Outcome, Failure> {
-    let usage = "explain BOOK [--all] [--steps N] [--store FILE] [--json]";
+    let usage = "explain BOOK [--all] [--steps N] [--csv|--json] [--store FILE]";
     arguments.expect(1, 1, usage)?;
+    let form = Form::of(arguments)?;
     let source = open(arguments.file(0))?;
     let store = Store::open(arguments.path("--store").as_deref())?;
     let most = arguments.number("--steps")?.unwrap_or(MOST);
@@ -52,19 +53,75 @@ pub fn explain(arguments: &Arguments) -> Result<Outcome, Failure> {
     let trace = trace(store.operator(), &figures, &source.bytes, extent)
         .map_err(|refusal| of_call(&source, &store, None, Asked::Plain, refusal))?;
     let mut outcome = Outcome::default();
-    match arguments.has("--json") {
-        true => objects(&mut outcome, &trace),
-        false => words(&mut outcome, &trace, &figures),
+    outcome.note(&source);
+    match form {
+        Form::Json => objects(&mut outcome, &source.name, &trace),
+        Form::Csv => table(&mut outcome, &trace),
+        Form::Words => words(&mut outcome, &trace, &figures),
     }
     Ok(outcome)
 }
 
-fn objects(outcome: &mut Outcome, trace: &Trace) {
+/// The columns of a sale that a reduction looked at.
+const SALES: [&str; 14] = [
+    "reduction",
+    "id",
+    "level",
+    "assigned",
+    "target",
+    "tier",
+    "trade",
+    "seller",
+    "buyer",
+    "area",
+    "standing",
+    "share",
+    "remainder",
+    "cut",
+];
+
+/// A row for each sale of each reduction that is shown; the run's totals, and how many
+/// are left out, on standard error.
+fn table(outcome: &mut Outcome, trace: &Trace) {
+    outcome.line(csv_row(SALES));
+    let shown = trace.first.iter().chain(&trace.last);
+    for step in shown {
+        for (tier, sales) in step.tiers.iter().enumerate() {
+            for sale in &sales.sales {
+                outcome.line(csv_row([
+                    step.number.to_string(),
+                    step.user.id.to_string(),
+                    plain_euros(step.level),
+                    plain_euros(step.user.assigned),
+                    plain_euros(step.answer.target),
+                    (tier + 1).to_string(),
+                    (sale.place + 1).to_string(),
+                    sale.trade.seller.to_string(),
+                    sale.trade.buyer.to_string(),
+                    word(&AREAS, sale.trade.area),
+                    sale.trade.standing.to_string(),
+                    sale.share.to_string(),
+                    sale.remainder.to_string(),
+                    sale.cut.to_string(),
+                ]));
+            }
+        }
+    }
+    outcome.message(run_line(&trace.run));
+    let shown = wide(trace.first.len() + trace.last.len());
+    if shown < i128::from(trace.run.reductions) {
+        let hint = "--all shows those that are taken apart";
+        outcome.message(format!("{} of them are shown; {hint}", grouped(shown)));
+    }
+}
+
+fn objects(outcome: &mut Outcome, name: &str, trace: &Trace) {
     for step in trace.first.iter().chain(&trace.last) {
-        outcome.line(step_object(step, &trace.opening));
+        outcome.line(step_object(name, step, &trace.opening));
     }
     let run = &trace.run;
     let object = Object::new()
+        .string("book", name)
         .put("reductions", run.reductions)
         .put("shown", trace.first.len() + trace.last.len())
         .put("taken_apart", trace.taken)
@@ -75,8 +132,9 @@ fn objects(outcome: &mut Outcome, trace: &Trace) {
 
 /// A reduction as an object. A book keeps its managers, so that the groups are those of
 /// the opening one.
-fn step_object(step: &Step, opening: &Book) -> String {
+fn step_object(name: &str, step: &Step, opening: &Book) -> String {
     let object = Object::new()
+        .string("book", name)
         .put("reduction", step.number)
         .put("id", step.user.id);
     let object = with_groups(object, opening, &step.user).put("level_cents", step.level);

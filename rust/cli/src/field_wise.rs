@@ -15,7 +15,7 @@ use crate::form_bytes::in_records;
 use crate::made::{hold, put, read};
 use crate::outcome::{Failure, Outcome};
 use crate::refusals;
-use crate::source::accepted;
+use crate::source::{accepted, given, Given};
 use crate::table;
 
 const USAGE: &str = "fields BOOK|FORM -o FILE [--force], \
@@ -34,21 +34,22 @@ pub fn fields(arguments: &Arguments) -> Result<Outcome, Failure> {
     };
     let path = arguments.file(0);
     let held = hold(arguments, &target)?;
-    let (name, bytes) = (files::shown(path), read(path, &held)?);
-    let made = match is_form(&bytes) {
-        true => book_of(&name, &bytes)?,
-        false => {
-            let source = accepted(&name, bytes)?;
-            let refused = |refusal| refusals::of_book(&name, refusal, &[]);
-            Operator::new().field_wise(&source.bytes).map_err(refused)?
-        }
-    };
-    put(arguments, &target, &made, &held)
+    let (name, given) = (files::shown(path), read(path, &held)?);
+    if is_form(&given) {
+        let book = book_of(&name, given.bytes())?;
+        return put(arguments, &target, &book, &held);
+    }
+    let source = accepted(&name, given)?;
+    let refused = |refusal| refusals::of_book(&name, refusal, &[]);
+    let form = Operator::new().field_wise(&source.bytes).map_err(refused)?;
+    let mut outcome = put(arguments, &target, &form, &held)?;
+    outcome.note(&source);
+    Ok(outcome)
 }
 
-/// Whether bytes are meant as a form: the mark says so.
-fn is_form(bytes: &[u8]) -> bool {
-    bytes.starts_with(FORM_MARK)
+/// Whether what was given is meant as a form: the mark says so.
+fn is_form(given: &Given) -> bool {
+    given.bytes().starts_with(FORM_MARK)
 }
 
 /// The book of a form, or where it fails: its records' bytes, put together again, are
@@ -99,10 +100,14 @@ fn tell(
     field: Field,
     form: Form,
 ) -> Result<(), Failure> {
-    let (name, bytes) = (files::shown(path), files::read(path)?);
-    let book = match is_form(&bytes) {
-        true => book_of(&name, &bytes)?,
-        false => accepted(&name, bytes)?.bytes,
+    let (name, given) = (files::shown(path), given(path)?);
+    let book = match is_form(&given) {
+        true => book_of(&name, given.bytes())?,
+        false => {
+            let source = accepted(&name, given)?;
+            outcome.note(&source);
+            source.bytes
+        }
     };
     let refused = |refusal: Refusal| refusals::of_book(&name, refusal, &[]);
     let book = Operator::new().read(&book).map_err(refused)?;

@@ -54,7 +54,7 @@ fn whole(path: &Path, read: io::Result<Vec<u8>>) -> Result<Vec<u8>, Failure> {
         }
         Ok(bytes) => Ok(bytes),
         Err(error) if error.kind() == io::ErrorKind::IsADirectory => {
-            let hint = "a book is one file; `daybook from-csv` makes one of a folder's CSV files";
+            let hint = "a folder with header.csv, users.csv and trades.csv is a book";
             Err(Failure::file(format!("{name}: is a folder; {hint}")))
         }
         Err(error) => Err(unread(path, &error)),

@@ -4,6 +4,7 @@ use std::fmt::Display;
 
 use crate::arguments::Arguments;
 use crate::outcome::Failure;
+use crate::words::{read_euros, read_whole};
 
 /// The form that is asked for.
 #[derive(Clone, Copy, Debug, PartialEq, Eq)]
@@ -32,6 +33,14 @@ pub fn csv_row(fields: impl IntoIterator<Item = impl Display>) -> String {
     };
     let fields = fields.into_iter().map(|it| field(it.to_string()));
     fields.collect::<Vec<String>>().join(",")
+}
+
+/// An amount without the commas before every three digits; other words as they are.
+pub fn plain(words: &str) -> String {
+    match read_whole(words).or_else(|| read_euros(words)) {
+        Some(_) => words.replace(',', ""),
+        None => words.to_string(),
+    }
 }
 
 /// A number, or null where there is none.

@@ -30,6 +30,20 @@ impl Object {
         }
     }
 
+    /// The object with the name of what it is about in front, under this key.
+    pub fn about(mut self, key: &str, name: &str) -> Object {
+        let comma = if self.text.len() > 1 { "," } else { "" };
+        let first = format!("{}:{}{comma}", quoted(key), quoted(name));
+        self.text.insert_str(1, &first);
+        self.fields.insert(0, (key.to_string(), name.to_string()));
+        self
+    }
+
+    /// An answer about a book.
+    pub fn of_book(self, name: &str) -> Object {
+        self.about("book", name)
+    }
+
     fn key(&mut self, key: &str) {
         if self.text.len() > 1 {
             self.text.push(',');
@@ -130,6 +144,10 @@ mod tests {
             "{\"n\":1,\"s\":\"a\\\"\\\\\\u000a\",\"l\":[1,2]}"
         );
         assert_eq!(Object::new().end(), "{}");
+        let about = |object: Object| object.of_book("a\"b").end();
+        assert_eq!(about(Object::new()), "{\"book\":\"a\\\"b\"}");
+        let object = Object::new().put("n", 1);
+        assert_eq!(about(object), "{\"book\":\"a\\\"b\",\"n\":1}");
         let object = Object::new()
             .put("id", 7)
             .put("level_cents", -5)

@@ -21,11 +21,15 @@ pub fn list(arguments: &Arguments) -> Result<Outcome, Failure> {
     arguments.expect(2, 2, usage)?;
     let call = Call::new(arguments)?;
     let path = arguments.file(1);
-    let rows = read_corrections(&files::read(path)?)
+    let (rows, skipped) = read_corrections(&files::read(path)?)
         .map_err(|mistakes| refusals::of_text(&files::shown(path), &mistakes))?;
     let lines: Vec<Line> = rows.iter().map(|(_, line)| *line).collect();
     let mut changed = call.unchanged();
     let mut outcome = Outcome::default();
+    let notes = skipped
+        .iter()
+        .map(|it| refusals::noted(&files::shown(path), it));
+    notes.for_each(|note| outcome.message(note));
     let made = call
         .operator(&mut changed.log)
         .list(&mut changed.book, &lines);

@@ -14,7 +14,7 @@ use crate::log_file::{noted, together, LogFile, Noted, CUTS};
 use crate::made::{hold, put, read};
 use crate::outcome::{Failure, Outcome};
 use crate::refusals;
-use crate::source::{accepted, open, Source};
+use crate::source::{accepted, open, Given, Source};
 use crate::text;
 use crate::words::{date, grouped, wide};
 
@@ -47,23 +47,25 @@ pub fn log(arguments: &Arguments) -> Result<Outcome, Failure> {
 fn start(arguments: &Arguments, output: &Path) -> Result<Outcome, Failure> {
     let path = arguments.file(0);
     let held = hold(arguments, output)?;
-    let bytes = read(path, &held)?;
-    if bytes.starts_with(b"GDL") {
+    let given = read(path, &held)?;
+    if given.bytes().starts_with(b"GDL") {
         let name = files::shown(path);
         let hint = "is a log; --held writes the book that it holds";
         return Err(Failure::misuse(format!("{name}: {hint}")));
     }
-    let source = accepted(&files::shown(path), bytes)?;
+    let source = accepted(&files::shown(path), given)?;
     let log = Log::start(&source.bytes)
         .map_err(|refusal| refusals::of_book(&source.name, refusal, &[]))?;
-    put(arguments, output, log.as_bytes(), &held)
+    let mut outcome = put(arguments, output, log.as_bytes(), &held)?;
+    outcome.note(&source);
+    Ok(outcome)
 }
 
 /// Writes the book that a log holds, where it is an accepted one.
 fn write_held(arguments: &Arguments, output: &Path) -> Result<Outcome, Failure> {
     let path = arguments.file(0);
     let held = hold(arguments, output)?;
-    let log = LogFile::new(path, read(path, &held)?);
+    let log = LogFile::new(path, read(path, &held)?.into_bytes());
     let book = held_book(&log)?;
     let mut outcome = put(arguments, output, &book.bytes, &held)?;
     if !log.is_for(&book.bytes) {
@@ -81,7 +83,7 @@ fn held_book(log: &LogFile) -> Result<Source, Failure> {
     }
     let bytes = log.log.held().to_vec();
     match Operator::new().read(&bytes) {
-        Ok(_) => accepted(&format!("{}, the held book", log.name), bytes),
+        Ok(_) => accepted(&format!("{}, the held book", log.name), Given::File(bytes)),
         Err(refusal) => Err(refusals::of_held(log, refusal)),
     }
 }
@@ -144,7 +146,8 @@ impl Told<'_> {
             }
             Form::Json => {
                 let objects = self.reductions.iter().map(Noted::object);
-                objects.for_each(|object| outcome.line(object.end()));
+                let named = objects.map(|object| object.about("log", &self.log.name));
+                named.for_each(|object| outcome.line(object.end()));
                 outcome.line(self.object());
             }
         }
@@ -179,7 +182,7 @@ impl Told<'_> {
 
     fn object(&self) -> String {
         let sum = |of: fn(&Noted) -> u64| self.reductions.iter().map(of).sum::<u64>();
-        let object = Object::new().put("number", 0).string("log", &self.log.name);
+        let object = Object::new().string("log", &self.log.name).put("number", 0);
         let object = match self.given {
             Some((given, is_for)) => object
                 .string("book", &given.name)

@@ -6,6 +6,7 @@ use std::path::Path;
 use crate::arguments::Arguments;
 use crate::files::{self, Held};
 use crate::outcome::{Failure, Outcome};
+use crate::source::{given, Given};
 use crate::write::{self, New};
 
 /// Holds the files of a command: the one that is read, where it is a regular file,
@@ -19,11 +20,11 @@ pub fn hold(arguments: &Arguments, output: &Path) -> Result<Vec<Held>, Failure> 
     Held::all(&read.into_iter().chain(over).collect::<Vec<_>>())
 }
 
-/// The bytes of a file, which may be held.
-pub fn read(path: &Path, held: &[Held]) -> Result<Vec<u8>, Failure> {
+/// What a file has, which may be held, or a folder of CSV files.
+pub fn read(path: &Path, held: &[Held]) -> Result<Given, Failure> {
     match held.iter().find(|held| held.is_named(path)) {
-        Some(held) => held.read(path),
-        None => files::read(path),
+        Some(held) => held.read(path).map(Given::File),
+        None => given(path),
     }
 }
 

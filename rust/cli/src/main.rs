@@ -2,20 +2,31 @@
 
 #![forbid(unsafe_code)]
 
+use std::borrow::Cow;
 use std::env;
 use std::ffi::OsString;
-use std::io::{self, Write};
+use std::io::{self, IsTerminal, Write};
 use std::process::ExitCode;
 
+use cli::excerpt::excerpts;
 use cli::outcome::Status;
 
 fn main() -> ExitCode {
     let words: Vec<OsString> = env::args_os().skip(1).collect();
     let outcome = cli::commands::perform(&words);
     // Where standard error is closed there is nobody to tell.
-    let _ = io::stderr().write_all(outcome.messages.as_bytes());
+    let messages = match io::stderr().is_terminal() {
+        true => Cow::Owned(excerpts(&outcome.messages)),
+        false => Cow::Borrowed(outcome.messages.as_str()),
+    };
+    let _ = io::stderr().write_all(messages.as_bytes());
     let mut out = io::stdout();
-    match out.write_all(&outcome.out).and_then(|()| out.flush()) {
+    let is_verdict = outcome.status == Status::Refused && out.is_terminal();
+    let told = match std::str::from_utf8(&outcome.out) {
+        Ok(text) if is_verdict => Cow::Owned(excerpts(text).into_bytes()),
+        _ => Cow::Borrowed(outcome.out.as_slice()),
+    };
+    match out.write_all(&told).and_then(|()| out.flush()) {
         // A reader that has gone away needs no more.
         Err(error) if error.kind() != io::ErrorKind::BrokenPipe => {
             let (changed, status) = match &outcome.written {

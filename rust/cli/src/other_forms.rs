@@ -4,12 +4,12 @@ use std::fs;
 use std::path::PathBuf;
 
 use crate::arguments::Arguments;
-use crate::csv;
+use crate::csv::{self, Dates, Style};
 use crate::draft::Draft;
 use crate::files;
 use crate::outcome::{Failure, Outcome};
-use crate::refusals;
-use crate::source::open;
+use crate::refusals::{self, noted};
+use crate::source::{open, tables};
 use crate::text;
 use crate::write::{self, New};
 
@@ -20,7 +20,9 @@ pub fn text(arguments: &Arguments) -> Result<Outcome, Failure> {
         .read(&source.bytes)
         .map_err(|refusal| refusals::of_book(&source.name, refusal, &[]))?;
     let text = text::write(&book, arguments.has("--positions"));
-    output(arguments, text.as_bytes())
+    let mut outcome = output(arguments, text.as_bytes())?;
+    outcome.note(&source);
+    Ok(outcome)
 }
 
 pub fn book(arguments: &Arguments) -> Result<Outcome, Failure> {
@@ -34,14 +36,18 @@ pub fn book(arguments: &Arguments) -> Result<Outcome, Failure> {
 }
 
 pub fn csv(arguments: &Arguments) -> Result<Outcome, Failure> {
-    arguments.expect(2, 2, "csv BOOK DIR [--force]")?;
+    arguments.expect(2, 2, "csv BOOK DIR [--semicolon] [--force]")?;
     let source = open(arguments.file(0))?;
     let book = daybook::Operator::new()
         .read(&source.bytes)
         .map_err(|refusal| refusals::of_book(&source.name, refusal, &[]))?;
     let folder = arguments.file(1);
     let over = arguments.has("--force");
-    let texts = csv::write(&book);
+    let style = match arguments.has("--semicolon") {
+        true => Style::Semicolons,
+        false => Style::Commas,
+    };
+    let texts = csv::write_in(&book, style);
     let files = csv::FILES.iter().zip(&texts);
     let files: Vec<(&str, &[u8])> = files.map(|(file, text)| (*file, text.as_bytes())).collect();
     match fs::symlink_metadata(folder) {
@@ -54,20 +60,32 @@ pub fn csv(arguments: &Arguments) -> Result<Outcome, Failure> {
             write::write_all(&new.collect::<Vec<New>>(), &[])?;
         }
     }
-    Ok(Outcome::default())
+    let mut outcome = Outcome::default();
+    outcome.note(&source);
+    Ok(outcome)
 }
 
 pub fn from_csv(arguments: &Arguments) -> Result<Outcome, Failure> {
-    let usage = "from-csv DIR -o FILE [--force]";
+    let usage = "from-csv DIR -o FILE [--dates dmy] [--force]";
     arguments.expect(1, 1, usage)?;
+    let dates = match arguments.path("--dates") {
+        None => Dates::default(),
+        Some(order) if order.as_os_str() == "dmy" => Dates::DayFirst,
+        Some(order) => {
+            let reason = "the only order is dmy, day/month/year";
+            let order = order.display();
+            return Err(Failure::misuse(format!("--dates {order}: {reason}")));
+        }
+    };
     let folder = arguments.file(0);
-    let read = |file: &str| files::read(&folder.join(file));
-    let [header, users, trades] = csv::FILES.map(read);
-    let (header, users, trades) = (header?, users?, trades?);
+    let tables = tables(folder)?;
     let name = folder.display().to_string();
-    let draft = csv::read([&header, &users, &trades])
+    let draft = csv::read_dated(tables.each_ref().map(Vec::as_slice), dates)
         .map_err(|mistakes| refusals::of_text(&name, &mistakes))?;
-    made(arguments, &name, draft, usage)
+    let notes: Vec<String> = draft.notes.iter().map(|it| noted(&name, it)).collect();
+    let mut outcome = made(arguments, &name, draft, usage)?;
+    notes.iter().for_each(|note| outcome.message(note));
+    Ok(outcome)
 }
 
 /// Writes the book of a draft to the file that is asked for.

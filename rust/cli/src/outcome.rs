@@ -5,6 +5,7 @@ use std::fmt::Display;
 
 use crate::form::{csv_row, Form};
 use crate::json::Object;
+use crate::source::Source;
 
 /// The exit status; of two the later one counts.
 #[derive(Clone, Copy, Debug, Default, PartialEq, Eq, PartialOrd, Ord)]
@@ -81,6 +82,11 @@ impl Outcome {
     /// Adds a line to standard error.
     pub fn message(&mut self, line: impl Display) {
         self.messages.push_str(&format!("{line}\n"));
+    }
+
+    /// Adds what was skipped in reading a book to standard error.
+    pub fn note(&mut self, source: &Source) {
+        source.notes.iter().for_each(|note| self.message(note));
     }
 
     /// Leaves standard output to the changed book: what is told goes to standard

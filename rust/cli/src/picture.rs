@@ -1,10 +1,15 @@
 //! The chains of cuts as pictures (SVG): a line down for each user who sold or
 //! bought what was cut, and an arrow for each cut, from the seller to the buyer,
 //! in the order of the reductions; a dashed line leads from a manager to the member
-//! whose sale is cut for it. A long run has several, each of a size that a
-//! page or a phone can show, with the users that it needs.
+//! whose sale is cut for it, and members stand beside their manager, under one
+//! bracket. A long run has several, each of a size that a page or a phone can show,
+//! with the users that it needs. Names and marks lead to the rows of the page's tables.
+
+use daybook::Book;
 
 use crate::chapter::{Chapter, Cut};
+use crate::page::{link, reduction_place, user_place};
+use crate::picture_groups::{bracket, groups, BRACKET};
 use crate::trace::Trace;
 use crate::words::{grouped, AREAS};
 
@@ -29,10 +34,43 @@ const LEAD: usize = 7;
 const MOST_USERS: usize = 7;
 const MOST_HEIGHT: usize = 640;
 
+/// A picture, and the reductions that it shows, each chapter's first and last.
+pub struct Picture {
+    pub svg: String,
+    pub chapters: Vec<(u64, u64)>,
+}
+
+impl Picture {
+    /// Whether it shows a reduction.
+    pub fn shows(&self, number: u64) -> bool {
+        let has = |(first, last): &(u64, u64)| (*first..=*last).contains(&number);
+        self.chapters.iter().any(has)
+    }
+}
+
+/// The id of a picture, from 1.
+pub fn picture_place(place: usize) -> String {
+    format!("picture-{place}")
+}
+
+/// What the pictures of a day have in common.
+struct Scene<'a> {
+    book: &'a Book,
+    /// The states after the run, by id.
+    states: &'a [(u32, &'static str)],
+    /// The reductions that have a row of their own.
+    rows: Vec<u64>,
+}
+
 /// The pictures of the chapters that a trace shows; none where nothing was cut.
 /// The states are those after the run, by id.
-pub fn pictures(trace: &Trace, states: &[(u32, &'static str)]) -> Vec<String> {
-    let ids: Vec<u32> = trace.opening.users.iter().map(|user| user.id).collect();
+pub fn pictures(trace: &Trace, states: &[(u32, &'static str)]) -> Vec<Picture> {
+    let steps = trace.first.iter().chain(&trace.last);
+    let scene = Scene {
+        book: &trace.opening,
+        states,
+        rows: steps.map(|step| step.number).collect(),
+    };
     let (first, last) = &trace.chapters;
     let mut pieces: Vec<(u64, Chapter)> = Vec::new();
     let mut shown = 0;
@@ -59,7 +97,7 @@ pub fn pictures(trace: &Trace, states: &[(u32, &'static str)]) -> Vec<String> {
         part.after = trace.run.reductions.saturating_sub(shown);
     }
     let count = parts.len();
-    let picture = |(place, part): (usize, &Part)| part.picture(&ids, states, (place + 1, count));
+    let picture = |(place, part): (usize, &Part)| part.picture(&scene, (place + 1, count));
     parts.iter().enumerate().map(picture).collect()
 }
 
@@ -131,18 +169,11 @@ impl<'a> Part<'a> {
         self.chapters.push((before, chapter));
     }
 
-    /// The picture, with the users in the order of the book.
-    fn picture(
-        &self,
-        book: &[u32],
-        states: &[(u32, &'static str)],
-        (picture, count): (usize, usize),
-    ) -> String {
-        let ids: Vec<u32> = book
-            .iter()
-            .copied()
-            .filter(|id| self.ids.contains(id))
-            .collect();
+    /// The picture, with the users in the order of the book, but that members follow
+    /// their manager.
+    fn picture(&self, scene: &Scene, (picture, count): (usize, usize)) -> Picture {
+        let groups = groups(scene.book, &self.ids);
+        let ids: Vec<u32> = groups.concat();
         let between = (FULL / ids.len().max(1)).clamp(NARROW, WIDE);
         let at = |id: u32| {
             let place = ids.iter().position(|it| *it == id).unwrap_or(0);
@@ -156,6 +187,10 @@ impl<'a> Part<'a> {
                 y += ARROW + BETWEEN;
             }
             let (from, number) = (at(chapter.id), number(chapter));
+            let row = scene.rows.iter().copied();
+            let row = row
+                .filter(|it| (chapter.first..=chapter.last).contains(it))
+                .min();
             let mut beside = mark_width(&number) / 2;
             let top = y + ARROW / 2;
             for cut in &chapter.cuts {
@@ -170,22 +205,36 @@ impl<'a> Part<'a> {
                 beside = 0;
                 y += ARROW;
             }
-            rows.push_str(&mark(from, top, y - ARROW / 2, &number));
+            rows.push_str(&mark(from, top, y - ARROW / 2, &number, row));
             y += BETWEEN;
         }
         if self.after > 0 {
             rows.push_str(&gap(width, y, self.after));
             y += ARROW + BETWEEN;
         }
-        let lines: String = ids.iter().map(|id| user(*id, at(*id), y, states)).collect();
-        let (height, least) = (y + BETWEEN, width * 4 / 5);
+        let lines = ids.iter().map(|id| user(*id, at(*id), y, scene.states));
+        let lines: String = lines.collect();
+        let several = groups.iter().filter(|group| group.len() > 1);
+        let brackets: String = several
+            .map(|it| bracket(it[0], at(it[0]), at(it[it.len() - 1])))
+            .collect();
+        let lift = if brackets.is_empty() { 0 } else { BRACKET };
+        let (height, least) = (y + BETWEEN + lift, width * 4 / 5);
         let reductions = self.reductions();
         let label = format!("Picture {picture} of {count}, who cut whom: {reductions}");
-        format!(
-            "<svg viewBox=\"0 0 {width} {height}\" style=\"max-width:{width}px;min-width:{least}px\" \
-             role=\"img\" aria-label=\"{label}\">\n{}{lines}{rows}</svg>\n",
+        let svg = format!(
+            "<svg id=\"{}\" viewBox=\"0 0 {width} {height}\" \
+             style=\"max-width:{width}px;min-width:{least}px\" role=\"group\" \
+             aria-label=\"{label}\">\n{}<g transform=\"translate(0 {lift})\">\n\
+             {brackets}{lines}{rows}</g></svg>\n",
+            picture_place(picture),
             heads(picture)
-        )
+        );
+        let chapters = self.chapters.iter().map(|(_, it)| (it.first, it.last));
+        Picture {
+            svg,
+            chapters: chapters.collect(),
+        }
     }
 
     /// The reductions of the picture in words.
@@ -245,12 +294,13 @@ fn user(id: u32, x: usize, end: usize, states: &[(u32, &'static str)]) -> String
         .find(|(it, _)| *it == id)
         .map_or("", |it| it.1);
     let left = x - 40;
-    format!(
-        "<line class=\"life\" x1=\"{x}\" y1=\"44\" x2=\"{x}\" y2=\"{end}\"/>\
-         <rect class=\"name\" x=\"{left}\" y=\"4\" width=\"80\" height=\"40\" rx=\"6\"/>\
+    let name = format!(
+        "<rect class=\"name\" x=\"{left}\" y=\"4\" width=\"80\" height=\"40\" rx=\"6\"/>\
          <text class=\"id\" x=\"{x}\" y=\"21\">{id}</text>\
-         <text class=\"state\" x=\"{x}\" y=\"37\">{state}</text>\n"
-    )
+         <text class=\"state\" x=\"{x}\" y=\"37\">{state}</text>"
+    );
+    let name = link(&user_place(id), &name);
+    format!("<line class=\"life\" x1=\"{x}\" y1=\"44\" x2=\"{x}\" y2=\"{end}\"/>{name}\n")
 }
 
 /// How wide the mark with a number is.
@@ -258,16 +308,20 @@ fn mark_width(number: &str) -> usize {
     14 + 8 * number.chars().count()
 }
 
-/// The number of a reduction on the line of the user who was reduced, and a bar
-/// down to its last arrow.
-fn mark(x: usize, y: usize, last: usize, number: &str) -> String {
+/// The number of a reduction on the line of the user who was reduced, which leads to
+/// its row, where it has one, and a bar down to its last arrow.
+fn mark(x: usize, y: usize, last: usize, number: &str, row: Option<u64>) -> String {
     let width = mark_width(number);
     let (left, top, base) = (x.saturating_sub(width / 2), y - 11, y + 4);
-    format!(
-        "<line class=\"bar\" x1=\"{x}\" y1=\"{y}\" x2=\"{x}\" y2=\"{last}\"/>\
-         <rect class=\"mark\" x=\"{left}\" y=\"{top}\" width=\"{width}\" height=\"22\" rx=\"11\"/>\
-         <text class=\"number\" x=\"{x}\" y=\"{base}\">{number}</text>\n"
-    )
+    let mark = format!(
+        "<rect class=\"mark\" x=\"{left}\" y=\"{top}\" width=\"{width}\" height=\"22\" rx=\"11\"/>\
+         <text class=\"number\" x=\"{x}\" y=\"{base}\">{number}</text>"
+    );
+    let mark = match row {
+        Some(row) => link(&reduction_place(row), &mark),
+        None => mark,
+    };
+    format!("<line class=\"bar\" x1=\"{x}\" y1=\"{y}\" x2=\"{x}\" y2=\"{last}\"/>{mark}\n")
 }
 
 /// A cut: from the seller's line, or beside it, to the buyer's.

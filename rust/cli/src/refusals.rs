@@ -4,6 +4,7 @@ use std::path::Path;
 
 use daybook::{Operator, Refusal};
 
+use crate::advice;
 use crate::convert::Lost;
 use crate::draft::{Mistake, Spot};
 use crate::faults::Fault;
@@ -39,14 +40,22 @@ pub fn of_book(name: &str, refusal: Refusal, faults: &[(Option<Spot>, Fault)]) -
     let mut lines = vec![format!("{name}: {}", refused(refusal))];
     let places = faults.iter().map(|(spot, fault)| (spot.as_ref(), fault));
     lines.extend(fault_lines(name, places.clone()));
+    let advice = advice::of_faults(places.clone().map(|(_, fault)| fault));
+    lines.extend(advice.map(|it| to_do(name, it)));
     let faults = places.map(|(spot, fault)| fault_object(spot, fault));
     let object = Object::new()
         .string("book", name)
         .put("accepted", false)
         .put("number", refusal.number())
         .string("question", &question(refusal))
-        .put("faults", list(faults));
+        .put("faults", list(faults))
+        .put("advice", list(advice.map(quoted)));
     told(lines.join("\n"), object)
+}
+
+/// What to do, as a message ends in it.
+fn to_do(name: &str, advice: &str) -> String {
+    format!("{name}: what to do: {advice}")
 }
 
 /// The first faults, a line each, and how many there are more.
@@ -77,6 +86,8 @@ pub fn of_form(
     let mut lines = vec![format!("{name}: {}", refused(refusal))];
     lines.extend(of_book.map(|it| format!("{name}: its book is {}", refused(it))));
     lines.extend(fault_lines(name, faults.iter().map(|fault| (None, fault))));
+    let advice = advice::of_faults(faults);
+    lines.extend(advice.map(|it| to_do(name, it)));
     let faults = faults.iter().map(|fault| fault_object(None, fault));
     let object = Object::new()
         .string("book", name)
@@ -84,7 +95,8 @@ pub fn of_form(
         .put("number", refusal.number())
         .string("question", &question(refusal))
         .put("book_number", or_null(of_book.map(Refusal::number)))
-        .put("faults", list(faults));
+        .put("faults", list(faults))
+        .put("advice", list(advice.map(quoted)));
     told(lines.join("\n"), object)
 }
 
@@ -108,10 +120,14 @@ pub fn of_conversion(name: &str, refusal: Refusal, lost: &[Lost], reason: &str) 
     told(lines.join("\n"), object)
 }
 
+/// What is written, or not, at a place of a file.
+pub fn noted(name: &str, it: &Mistake) -> String {
+    format!("{name}{}: {}", it.spot, it.reason)
+}
+
 /// A text or a table that cannot be read: its mistakes, a line each.
 pub fn of_text(name: &str, mistakes: &[Mistake]) -> Failure {
-    let line = |mistake: &Mistake| format!("{name}{}: {}", mistake.spot, mistake.reason);
-    let lines: Vec<String> = mistakes.iter().map(line).collect();
+    let lines: Vec<String> = mistakes.iter().map(|it| noted(name, it)).collect();
     let object = Object::new()
         .string("book", name)
         .put("accepted", false)
@@ -128,12 +144,23 @@ pub fn of_call(
     refusal: Refusal,
 ) -> Failure {
     let reason = reason(&source.bytes, store, id.unwrap_or(0), asked, refusal);
-    let mut object = Object::new().put("number", refusal.number());
+    let object = Object::new().string("book", &source.name);
+    let mut object = object.put("number", refusal.number());
     if let Some(id) = id {
         object = object.put("id", id);
     }
-    let object = object.string("question", &question(refusal));
-    with_reason(&source.name, refusal, &reason, object)
+    let object = object
+        .string("question", &question(refusal))
+        .string("reason", &reason);
+    let advice = advice::of_call(source, store, id, asked, refusal);
+    let name = &source.name;
+    let mut lines = vec![format!("{name}: {}", refused(refusal))];
+    if !reason.is_empty() {
+        lines.push(format!("{name}: {reason}"));
+    }
+    lines.extend(advice.iter().map(|it| to_do(name, it)));
+    let advice = advice.iter().map(|it| quoted(it));
+    told(lines.join("\n"), object.put("advice", list(advice)))
 }
 
 /// A call that the party may not make. What is told is told by the two ids alone, and
@@ -145,6 +172,7 @@ pub fn of_party(name: &str, party: u32, id: u32) -> Failure {
         false => format!("a shipper is told of itself alone, and {party} asks for {id}"),
     };
     let object = Object::new()
+        .string("book", name)
         .put("number", refusal.number())
         .put("id", id)
         .string("question", &question(refusal));
@@ -182,7 +210,8 @@ pub fn of_log(
     let mut lines = vec![format!("{name}: {}", refused(refusal))];
     lines.push(format!("{name}: {reason}"));
     lines.extend(advice.iter().map(|line| format!("{name}: {line}")));
-    let mut object = Object::new().put("number", refusal.number());
+    let object = Object::new().string("book", name);
+    let mut object = object.put("number", refusal.number());
     if let Some(id) = id {
         object = object.put("id", id);
     }

@@ -1,238 +1,292 @@
 //! `daybook report`: the day of a book as one page that needs nothing beside it.
 
-use daybook::{Book, Operator, User};
+use daybook::Operator;
 
 use crate::arguments::Arguments;
-use crate::credit::{by_area, credits, has_credit};
+use crate::credit::has_credit;
+use crate::day::{deposits, standings, Deposits, Standing};
+use crate::day_tables::{trade_place, trades, users};
 use crate::explain::MOST;
 use crate::fields::{prices, PRICES};
-use crate::groups::{area_of, bearer, has_groups, shares};
+use crate::files;
+use crate::groups::has_groups;
 use crate::other_forms::output;
 use crate::outcome::{Failure, Outcome};
-use crate::picture::pictures;
+use crate::page::{
+    escaped, foot, link, page, reduction_place, row, section, table, tiles, user_link,
+};
+use crate::picture::{picture_place, pictures, Picture};
 use crate::reasons::Asked;
-use crate::refusals::of_call;
-use crate::source::{open, Store};
-use crate::state::{state, State};
+use crate::refusals::{self, of_call};
+use crate::refused_page;
+use crate::source::{given, verdict, Given, Source, Store, Verdict};
 use crate::store::{figures, Figures};
-use crate::trace::{tariffs, trace, Extent, Step, Trace};
-use crate::words::{counted, date, euros, grouped, word, AREAS, ROLES};
+use crate::to_do::Due;
+use crate::trace::{trace, Extent, Step, Trace};
+use crate::words::{counted, date, euros, grouped};
 
 /// How many reductions are shown of a long run.
 const FIRST: usize = 30;
 const LAST: usize = 10;
 
+/// How many are shown of any run where all are asked for: no page has more.
+const MOST_SHOWN: usize = 10_000;
+
 pub fn report(arguments: &Arguments) -> Result<Outcome, Failure> {
-    let usage = "report BOOK -o FILE.html [--steps N] [--store FILE] [--force]";
+    let usage = "report BOOK -o FILE.html [--all] [--steps N] [--store FILE] [--force]";
     arguments.expect(1, 1, usage)?;
     if !arguments.has("-o") {
         return Err(Failure::misuse(format!("usage: daybook {usage}")));
     }
-    let source = open(arguments.file(0))?;
-    let store = Store::open(arguments.path("--store").as_deref())?;
-    let extent = Extent {
-        first: FIRST,
-        last: LAST,
-        chapters: (FIRST, LAST),
-        most: arguments.number("--steps")?.unwrap_or(MOST),
+    let path = arguments.file(0);
+    let (name, given) = (files::shown(path), given(path)?);
+    let foot = match &given {
+        Given::File(bytes) => foot("File", Some(bytes)),
+        Given::Tables(_) => foot("", None),
     };
-    let refused = |refusal| of_call(&source, &store, None, Asked::Plain, refusal);
+    let source = match verdict(&name, given) {
+        Verdict::Accepted(source) => source,
+        Verdict::Refused(refusal, faults) => {
+            let page = refused_page::of_book(&name, refusal, &faults, &foot);
+            return refused(
+                arguments,
+                &page,
+                &refusals::of_book(&name, refusal, &faults),
+            );
+        }
+        Verdict::Unread(mistakes) => {
+            let page = refused_page::of_text(&name, &mistakes, &foot);
+            return refused(arguments, &page, &refusals::of_text(&name, &mistakes));
+        }
+    };
+    let store = Store::open(arguments.path("--store").as_deref())?;
+    let most = arguments.number("--steps")?.unwrap_or(MOST);
+    let (first, last) = match arguments.has("--all") {
+        true => (MOST_SHOWN, 0),
+        false => (FIRST, LAST),
+    };
+    let extent = Extent {
+        first,
+        last,
+        chapters: (first, last),
+        most,
+    };
+    let failed = |refusal| of_call(&source, &store, None, Asked::Plain, refusal);
     let mut operator = store.operator();
-    let book = Operator::new().read(&source.bytes).map_err(refused)?;
+    let book = Operator::new().read(&source.bytes).map_err(failed)?;
     let figures = figures(store.bytes.as_deref(), book.date);
-    let trace = trace(operator.without_log(), &figures, &source.bytes, extent).map_err(refused)?;
+    let trace = trace(operator.without_log(), &figures, &source.bytes, extent).map_err(failed)?;
     let mut after = source.bytes.clone();
-    operator.run(&mut after).map_err(refused)?;
+    operator.run(&mut after).map_err(failed)?;
+    let before = standings(&operator, &source.bytes, &trace.opening);
     let day = Day {
-        name: &source.name,
-        before: states(&operator, &source.bytes, &trace.opening),
-        after: states(&operator, &after, &trace.closing),
+        deposits: deposits(&operator, &trace.opening, &before),
+        before,
+        after: standings(&operator, &after, &trace.closing),
+        source: &source,
         trace: &trace,
         figures,
+        is_all: arguments.has("--all"),
     };
-    output(arguments, day.page().as_bytes())
+    let mut outcome = output(arguments, day.page().as_bytes())?;
+    outcome.note(&source);
+    Ok(outcome)
 }
 
-fn states(operator: &Operator, bytes: &[u8], book: &Book) -> Vec<State> {
-    let users = book.users.iter();
-    users.map(|user| state(operator, bytes, user)).collect()
+/// Writes the page of a refused book, and tells the refusal.
+fn refused(arguments: &Arguments, page: &str, failure: &Failure) -> Result<Outcome, Failure> {
+    let mut outcome = output(arguments, page.as_bytes())?;
+    outcome.fail(failure, false);
+    Ok(outcome)
 }
 
 /// What the page tells.
 struct Day<'a> {
-    name: &'a str,
-    before: Vec<State>,
-    after: Vec<State>,
+    source: &'a Source,
+    before: Vec<Standing>,
+    deposits: Deposits,
+    after: Vec<Standing>,
     trace: &'a Trace,
     figures: Figures,
+    /// Whether trades that were not cut are shown too.
+    is_all: bool,
 }
 
 impl Day<'_> {
     fn page(&self) -> String {
-        let day = date(self.trace.opening.date);
-        let style = include_str!("../page/style.css");
+        let due = Due {
+            source: self.source,
+            before: &self.before,
+            deposits: &self.deposits,
+            after: &self.after,
+        };
+        let ids = self.trace.closing.users.iter().map(|user| user.id);
+        let states: Vec<(u32, &'static str)> =
+            ids.zip(self.after.iter().map(|it| it.state.word)).collect();
+        let pictures = pictures(self.trace, &states);
         let parts = [
-            self.summary(),
-            self.chains(),
-            self.reductions(),
-            self.users(),
-            self.trades(),
+            self.opening(),
+            due.section(),
+            self.run(),
+            self.chains(&pictures),
+            self.reductions(&pictures),
+            users(self.source, self.trace, &self.before, &self.after),
+            trades(self.trace, self.is_all),
             self.terms(),
         ];
-        format!(
-            "<!DOCTYPE html>\n<html lang=\"en\">\n<head>\n<meta charset=\"utf-8\">\n\
-             <meta name=\"viewport\" content=\"width=device-width, initial-scale=1\">\n\
-             <title>Gas day {day}</title>\n<style>\n{style}</style>\n</head>\n<body>\n\
-             <h1>Gas day {day}</h1>\n{}</body>\n</html>\n",
-            parts.concat()
+        let title = format!("Gas day {}", date(self.trace.opening.date));
+        page(
+            &title,
+            &parts.concat(),
+            &foot("Book", Some(&self.source.bytes)),
         )
     }
 
-    fn summary(&self) -> String {
-        let Trace { opening, run, .. } = self.trace;
+    fn opening(&self) -> String {
+        let opening = &self.trace.opening;
         let users = counted(opening.users.len(), "user");
         let trades = counted(opening.trades.len(), "trade");
-        let name = escaped(self.name);
-        let counts = ["short", "call", "quiet"].map(|word| {
-            let count = self.after.iter().filter(|state| state.word == word).count();
-            (count.to_string(), format!("{word} at the end"))
-        });
+        format!(
+            "<p>{}: {users}, {trades}.</p>\n",
+            escaped(&self.source.name)
+        )
+    }
+
+    /// The run in a few figures.
+    fn run(&self) -> String {
+        let run = &self.trace.run;
         let figures = [
             (grouped(run.reductions), "reductions".to_string()),
             (grouped(run.mwh), "MWh cut".to_string()),
             (euros(run.worth), "EUR worth".to_string()),
         ];
-        let tile = |(figure, what): &(String, String)| {
-            format!("<div><b>{figure}</b><span>{what}</span></div>")
-        };
-        let tiles: String = figures.iter().chain(&counts).map(tile).collect();
-        format!("<p>{name}: {users}, {trades}.</p>\n<div class=\"tiles\">{tiles}</div>\n")
+        let counts = ["short", "call", "quiet"].map(|word| {
+            let is_such = |it: &&Standing| it.state.word == word;
+            let count = self.after.iter().filter(is_such).count();
+            (count.to_string(), format!("{word} at the end"))
+        });
+        let tiles = tiles(&[&figures[..], &counts[..]].concat());
+        section("run", "The run", &(tiles + &self.causes()))
     }
 
-    fn chains(&self) -> String {
-        let ids = self.trace.closing.users.iter().map(|user| user.id);
-        let states: Vec<(u32, &'static str)> =
-            ids.zip(self.after.iter().map(|it| it.word)).collect();
-        let pictures = pictures(self.trace, &states);
-        if pictures.is_empty() {
-            return "<h2>Chains of cuts</h2>\n<p>No trade was cut.</p>\n".to_string();
-        }
-        let groups = match has_groups(&self.trace.opening) {
-            true => {
-                " A dashed line leads from a manager who was reduced to the member whose sale \
-                 was cut for it."
-            }
-            false => "",
+    /// How many were reduced by themselves, and how many after a cut.
+    fn causes(&self) -> String {
+        let (alone, after) = self.trace.causes;
+        let (alone, after) = match (alone, after) {
+            (0, 0) => return String::new(),
+            (alone, after) => (grouped(alone), grouped(after)),
+        };
+        let taken = match self.trace.taken < self.trace.run.reductions {
+            true => format!(" of the first {}", grouped(self.trace.taken)),
+            false => String::new(),
         };
         format!(
-            "<h2>Chains of cuts</h2>\n<p>Down the page in the order of the reductions, whose numbers \
-             stand in the dark marks: each arrow is a cut, from the seller who was reduced to the \
-             buyer who lost it. Below a user's name stands its state after the run.{groups}</p>\n\
-             <div class=\"scroll\">{}</div>\n",
-            pictures.concat()
+            "<p>Reductions{taken} of users that were short of cover by themselves: {alone}; of \
+             users that an earlier cut had left short: {after}.</p>\n"
         )
     }
 
-    fn reductions(&self) -> String {
+    fn chains(&self, pictures: &[Picture]) -> String {
+        let title = "Chains of cuts";
+        if pictures.is_empty() {
+            return section("chains", title, "<p>No trade was cut.</p>\n");
+        }
+        let groups = match has_groups(&self.trace.opening) {
+            true => {
+                " Members stand beside their manager, under a bracket; a dashed line leads from \
+                 a manager who was reduced to the member whose sale was cut for it."
+            }
+            false => "",
+        };
+        let svgs: String = pictures.iter().map(|it| it.svg.as_str()).collect();
+        let body = format!(
+            "<p>Down the page in the order of the reductions, whose numbers stand in the dark \
+             marks: each arrow is a cut, from the seller who was reduced to the buyer who lost \
+             it. Below a user's name stands its state after the run.{groups}</p>\n\
+             <div class=\"scroll\">{svgs}</div>\n"
+        );
+        section("chains", title, &body)
+    }
+
+    fn reductions(&self, pictures: &[Picture]) -> String {
         let Trace {
             first, last, run, ..
         } = self.trace;
         if first.is_empty() {
             return String::new();
         }
-        let mut rows: Vec<String> = first.iter().map(reduction).collect();
+        let told = |step: &Step| self.reduction(step, pictures);
+        let mut rows: Vec<String> = first.iter().map(told).collect();
         let shown = u64::try_from(first.len() + last.len()).unwrap_or(u64::MAX);
         let unshown = run.reductions.saturating_sub(shown);
         if unshown > 0 {
             let unshown = grouped(unshown);
             rows.push(format!(
-                "<tr><td colspan=\"7\" class=\"gap\">… {unshown} more …</td></tr>\n"
+                "<tr><td colspan=\"8\" class=\"gap\">… {unshown} more …</td></tr>\n"
             ));
         }
-        rows.extend(last.iter().map(reduction));
+        rows.extend(last.iter().map(told));
         let names = [
             "",
             "user",
+            "because of",
             "level",
             "target T",
             "MWh cut",
             "worth",
             "against T",
         ];
-        table("Reductions", &names, &rows.concat())
-    }
-
-    fn users(&self) -> String {
-        let Trace {
-            opening, closing, ..
-        } = self.trace;
-        let (has_credit, has_groups) = (has_credit(opening), has_groups(opening));
-        let books = opening.users.iter().zip(&closing.users);
-        let states = self.before.iter().zip(&self.after);
-        let row = |(users, states): ((&User, &User), (&State, &State))| {
-            let credit = has_credit.then(|| {
-                let told = |book: &Book, user: &User, state: &State| match state.level {
-                    Some(_) => euros(by_area(&credits(book, user)).into_iter().sum::<u64>()),
-                    None => "–".to_string(),
-                };
-                let before = told(opening, users.0, states.0);
-                changed(before, told(closing, users.1, states.1))
-            });
-            let group = has_groups.then(|| {
-                let shares = shares(opening, users.0);
-                let told: Vec<String> = shares.iter().map(|it| it.short(users.0.id)).collect();
-                told.join("; ")
-            });
-            user(users, states, credit, group)
+        let bought = match has_groups(&self.trace.opening) {
+            true => "the user, or one whose risk it bears, had bought",
+            false => "the user had bought",
         };
-        let rows: String = books.zip(states).map(row).collect();
-        let positions = AREAS.map(|area| format!("position {area}"));
-        let mut names = vec!["user", "role"];
-        names.extend(has_groups.then_some("group"));
-        names.extend(["state", "level"]);
-        names.extend(has_credit.then_some("credit"));
-        names.extend(["assigned", "blocked"]);
-        names.extend(positions.iter().map(String::as_str));
-        table("Users before and after", &names, &rows)
+        let caption = format!("In their order; because of: the last earlier cut of what {bought}");
+        let table = table(&caption, &names, &rows.concat());
+        section("reductions", "Reductions", &table)
     }
 
-    fn trades(&self) -> String {
-        let Trace {
-            opening, closing, ..
-        } = self.trace;
-        let (tariffs, has_groups) = (tariffs(&opening.prices), has_groups(opening));
-        let mut rows = String::new();
-        for (place, (trade, later)) in opening.trades.iter().zip(&closing.trades).enumerate() {
-            let cut = u64::from(trade.standing.saturating_sub(later.standing));
-            if cut == 0 {
-                continue;
-            }
-            let area = area_of(trade);
-            let mut cells = vec![
-                (place + 1).to_string(),
-                trade.seller.to_string(),
-                trade.buyer.to_string(),
-            ];
-            if has_groups {
-                cells.push(bearer(opening, trade.seller, area).to_string());
-            }
-            cells.extend([
-                AREAS[area].to_string(),
-                grouped(trade.notified),
-                grouped(trade.standing),
-                grouped(later.standing),
-                grouped(cut),
-                euros(cut * tariffs[area]),
-            ]);
-            rows.push_str(&row(&cells));
-        }
-        if rows.is_empty() {
-            return String::new();
-        }
-        let mut names = vec!["trade", "seller", "buyer"];
-        names.extend(has_groups.then_some("cut for"));
-        names.extend(["area", "notified", "before", "after", "cut", "worth"]);
-        table("Trades that were cut", &names, &rows)
+    fn reduction(&self, step: &Step, pictures: &[Picture]) -> String {
+        let against = match (step.answer.short, step.answer.over) {
+            (0, 0) => "met".to_string(),
+            (0, over) => format!("{} over", euros(over)),
+            (short, _) => format!("{} short", euros(short)),
+        };
+        let picture = pictures.iter().position(|it| it.shows(step.number));
+        let number = match picture {
+            Some(place) => link(&picture_place(place + 1), &grouped(step.number)),
+            None => grouped(step.number),
+        };
+        row(
+            Some(&reduction_place(step.number)),
+            &[
+                number,
+                user_link(step.user.id),
+                self.cause(step),
+                euros(step.level),
+                euros(step.answer.target),
+                grouped(step.answer.mwh),
+                euros(step.answer.worth),
+                against,
+            ],
+        )
+    }
+
+    /// The earlier cut that left the user of a reduction short of cover.
+    fn cause(&self, step: &Step) -> String {
+        let Some(cause) = step.cause else {
+            return "itself".to_string();
+        };
+        let mut steps = self.trace.first.iter().chain(&self.trace.last);
+        let reduction = format!("reduction {}", grouped(cause.reduction));
+        let reduction = match steps.any(|it| it.number == cause.reduction) {
+            true => link(&reduction_place(cause.reduction), &reduction),
+            false => reduction,
+        };
+        let trade = link(
+            &trade_place(cause.trade),
+            &format!("trade {}", cause.trade + 1),
+        );
+        format!("{reduction}, {trade}")
     }
 
     fn terms(&self) -> String {
@@ -271,86 +325,15 @@ impl Day<'_> {
             ),
             false => String::new(),
         };
-        format!(
-            "<h2>Terms</h2>\n<p>MWh, euros; prices in euros a MWh: {priced}. Level: the \
+        let body = format!(
+            "<p>MWh, euros; prices in euros a MWh: {priced}. Level: the \
              afternoon level, at least {least}{credit}. Flagged above {mwh} MWh at the \
              least reference price; called where the level exceeds blocked by more than \
              {margin}.</p>\n<p><i>short</i>: short of cover, with no sale left to cut after the \
              run. <i>call</i>: called in, and its assigned guarantee covers the level. \
              <i>quiet</i>: neither. <i>clear</i>: a clearing house.</p>\n{groups}<p>Figures by the \
              proved engine.{taken}</p>\n"
-        )
+        );
+        section("terms", "Terms", &body)
     }
-}
-
-fn reduction(step: &Step) -> String {
-    let against = match (step.answer.short, step.answer.over) {
-        (0, 0) => "met".to_string(),
-        (0, over) => format!("{} over", euros(over)),
-        (short, _) => format!("{} short", euros(short)),
-    };
-    row(&[
-        grouped(step.number),
-        step.user.id.to_string(),
-        euros(step.level),
-        euros(step.answer.target),
-        grouped(step.answer.mwh),
-        euros(step.answer.worth),
-        against,
-    ])
-}
-
-fn user(
-    (before, after): (&User, &User),
-    (first, last): (&State, &State),
-    credit: Option<String>,
-    group: Option<String>,
-) -> String {
-    let level = |state: &State| state.level.map_or_else(|| "–".to_string(), euros);
-    let mut cells = vec![
-        before.id.to_string(),
-        word(&ROLES, before.role).replace('-', " "),
-    ];
-    cells.extend(group);
-    cells.push(changed(first.word.to_string(), last.word.to_string()));
-    cells.push(changed(level(first), level(last)));
-    cells.extend(credit);
-    cells.extend([euros(before.assigned), euros(before.blocked)]);
-    for (first, last) in before.position.iter().zip(after.position) {
-        cells.push(changed(grouped(*first), grouped(last)));
-    }
-    row(&cells)
-}
-
-/// What was, and what is where that is something else.
-fn changed(before: String, after: String) -> String {
-    match before == after {
-        true => before,
-        false => format!("<i>{before} →</i> <b>{after}</b>"),
-    }
-}
-
-fn row(cells: &[String]) -> String {
-    let cells: String = cells
-        .iter()
-        .map(|cell| format!("<td>{cell}</td>"))
-        .collect();
-    format!("<tr>{cells}</tr>\n")
-}
-
-fn table(title: &str, names: &[&str], rows: &str) -> String {
-    let names: String = names
-        .iter()
-        .map(|name| format!("<th>{name}</th>"))
-        .collect();
-    format!(
-        "<h2>{title}</h2>\n<div class=\"scroll\"><table>\n<thead><tr>{names}</tr></thead>\n\
-         <tbody>\n{rows}</tbody>\n</table></div>\n"
-    )
-}
-
-/// Text as it may stand in a page.
-fn escaped(text: &str) -> String {
-    let text = text.replace('&', "&amp;").replace('<', "&lt;");
-    text.replace('>', "&gt;").replace('"', "&quot;")
 }

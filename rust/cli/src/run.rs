@@ -68,9 +68,15 @@ fn tell_states(outcome: &mut Outcome, call: &Call, book: &[u8]) {
         .map(|user| state(&call.store.operator(), book, user));
     let states: Vec<(User, State)> = users.iter().copied().zip(states).collect();
     match call.form {
-        Form::Words => outcome.text(&text::aligned(
-            &states.iter().map(state_cells).collect::<Vec<_>>(),
-        )),
+        Form::Words => {
+            let cells = |it: &(User, State)| {
+                let mut cells = state_cells(it);
+                cells.insert(1, call.source.name_of(it.0.id).to_string());
+                cells
+            };
+            let rows: Vec<Vec<String>> = states.iter().map(cells).collect();
+            outcome.text(&text::aligned(&rows));
+        }
         _ => states
             .iter()
             .for_each(|it| call.tell(outcome, String::new(), state_object(it))),

@@ -6,6 +6,7 @@ use daybook::shrinkage::{over_days, shrinkage_return, Kwh};
 use crate::arguments::Arguments;
 use crate::draft::{too_long, Mistake, Spot};
 use crate::files;
+use crate::form::Form;
 use crate::json::{list, Object};
 use crate::outcome::{Failure, Outcome, Told};
 use crate::refusals;
@@ -19,19 +20,20 @@ pub struct Balance {
 }
 
 pub fn shrinkage(arguments: &Arguments) -> Result<Outcome, Failure> {
-    arguments.expect(1, 1, "shrinkage FILE [--days] [--json]")?;
+    arguments.expect(1, 1, "shrinkage FILE [--days] [--csv|--json]")?;
+    let form = Form::of(arguments)?;
     let path = arguments.file(0);
     let bytes = files::read(path)?;
     let name = files::shown(path);
     let balances = read(&name, &bytes)?;
     let kwh: Vec<i64> = balances.iter().map(|balance| balance.kwh).collect();
-    let json = arguments.has("--json");
     let mut outcome = Outcome::default();
     let returned = match shrinkage_return(&kwh) {
         Ok(returned) => returned,
         Err(refusal) => {
             let (number, question) = (refusal.number(), refusal.question());
             let object = Object::new()
+                .string("file", &name)
                 .put("number", number)
                 .string("question", question);
             return Err(Failure::Refused(Told {
@@ -41,29 +43,34 @@ pub fn shrinkage(arguments: &Arguments) -> Result<Outcome, Failure> {
         }
     };
     let (half, odd, rest) = (returned.half.0, returned.odd.0, returned.rest.0);
-    if json {
-        let object = Object::new().put("number", 0).put("half_kwh", half);
-        outcome.line(object.put("odd_kwh", odd).put("rest_kwh", rest).end());
-    } else {
-        let (half, odd, rest) = (grouped(half), grouped(odd), grouped(rest));
-        outcome.line(format!(
-            "H {half} kWh returned, as much kept, odd kWh {odd}, rest {rest} kWh"
-        ));
+    let object = Object::new().string("file", &name).put("number", 0);
+    let object = object.put("half_kwh", half);
+    let object = object.put("odd_kwh", odd).put("rest_kwh", rest);
+    let (half, odd, rest) = (grouped(half), grouped(odd), grouped(rest));
+    let line = format!("H {half} kWh returned, as much kept, odd kWh {odd}, rest {rest} kWh");
+    match form {
+        Form::Json => outcome.line(object.end()),
+        Form::Words => outcome.line(line),
+        Form::Csv => outcome.message(line),
     }
     let mut rows = Vec::new();
     for (balance, share) in balances.iter().zip(&returned.shares) {
         let days = over_days(share.kwh).map(|Kwh(day)| day);
-        if json {
+        if form != Form::Words {
             let object = Object::new()
                 .string("name", &balance.name)
                 .put("balance_kwh", balance.kwh)
                 .put("share_kwh", share.kwh.0)
                 .put("remainder", share.remainder);
-            let object = match arguments.has("--days") {
-                true => object.put("days_kwh", list(days)),
-                false => object,
-            };
-            outcome.line(object.end());
+            outcome.object(
+                form,
+                match (form, arguments.has("--days")) {
+                    (Form::Json, true) => object.put("days_kwh", list(days)).about("file", &name),
+                    (Form::Json, false) => object.about("file", &name),
+                    (_, true) => by_day(object, &days),
+                    (_, false) => object,
+                },
+            );
             continue;
         }
         let mut row = vec![
@@ -82,6 +89,14 @@ pub fn shrinkage(arguments: &Arguments) -> Result<Outcome, Failure> {
     }
     outcome.text(&aligned(&rows));
     Ok(outcome)
+}
+
+/// Each day in a column of its own.
+fn by_day(object: Object, days: &[u64]) -> Object {
+    let days = days.iter().enumerate();
+    days.fold(object, |object, (day, kwh)| {
+        object.put(&format!("day_{}", day + 1), kwh)
+    })
 }
 
 /// Which balance is out of range, where one is.

@@ -13,7 +13,7 @@ use crate::outcome::{Failure, Outcome};
 use crate::reasons::Asked;
 use crate::refusals::of_call;
 use crate::run::run_line;
-use crate::source::{open, Store};
+use crate::source::{open, Source, Store};
 use crate::store::figures;
 use crate::text::aligned;
 use crate::why::why;
@@ -51,6 +51,7 @@ pub fn status(arguments: &Arguments) -> Result<Outcome, Failure> {
     let bytes = if is_after { &after } else { &source.bytes };
     let book = Operator::new().read(bytes).map_err(refused)?;
     let mut outcome = Outcome::default();
+    outcome.note(&source);
     if let Some(id) = asked {
         let figures = figures(store.bytes.as_deref(), book.date);
         match why(&operator, &figures, bytes, id).map_err(refused)? {
@@ -64,7 +65,7 @@ pub fn status(arguments: &Arguments) -> Result<Outcome, Failure> {
     }
     let standings = standings(&operator, bytes, &book);
     let day = Day {
-        name: &source.name,
+        source: &source,
         book: &book,
         deposits: deposits(&operator, &book, &standings),
         standings,
@@ -81,7 +82,7 @@ pub fn status(arguments: &Arguments) -> Result<Outcome, Failure> {
 
 /// What is told of a book.
 struct Day<'a> {
-    name: &'a str,
+    source: &'a Source,
     book: &'a Book,
     standings: Vec<Standing>,
     deposits: Deposits,
@@ -94,6 +95,7 @@ impl Day<'_> {
     fn words(&self, outcome: &mut Outcome) {
         let cells = |it: &Standing| {
             let mut cells = cells(it);
+            cells.insert(1, self.source.name_of(it.user.id).to_string());
             if has_groups(self.book) {
                 let shares = shares(self.book, &it.user);
                 let shares: Vec<String> =
@@ -179,7 +181,7 @@ impl Day<'_> {
     fn objects(&self, outcome: &mut Outcome) {
         for it in &self.standings {
             let object = Object::new()
-                .string("book", self.name)
+                .string("book", &self.source.name)
                 .put("id", it.user.id)
                 .string("role", &word(&ROLES, it.user.role))
                 .string("state", it.state.word)
@@ -193,7 +195,7 @@ impl Day<'_> {
         }
         let confirmed = self.deposits.confirmed == Confirmed::Yes;
         let object = Object::new()
-            .string("book", self.name)
+            .string("book", &self.source.name)
             .put("after", self.is_after)
             .put("reductions", self.run.reductions)
             .put("mwh", self.run.mwh)

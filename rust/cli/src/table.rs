@@ -13,7 +13,7 @@ use crate::files;
 use crate::form::{csv_row, or_null, Form};
 use crate::json::Object;
 use crate::outcome::{Failure, Outcome, Status};
-use crate::source::{verdict, Store, Verdict};
+use crate::source::{given, is_tables, verdict, Store, Verdict};
 use crate::text::aligned;
 use crate::words::{counted, date, euros, grouped, plain_euros, wide};
 
@@ -85,10 +85,10 @@ pub fn table(arguments: &Arguments) -> Result<Outcome, Failure> {
     Ok(outcome)
 }
 
-/// The files of a folder by name, hidden ones and folders in it left out; any other
-/// file is one by itself.
+/// The books of a folder by name, files and folders of CSV files, hidden ones and other
+/// folders in it left out; any other file, and a folder of CSV files, is one by itself.
 pub fn books(path: &Path) -> Result<Vec<PathBuf>, Failure> {
-    if files::is_standard(path) || !path.is_dir() {
+    if files::is_standard(path) || !path.is_dir() || is_tables(path) {
         return Ok(vec![path.to_path_buf()]);
     }
     let failed =
@@ -97,7 +97,7 @@ pub fn books(path: &Path) -> Result<Vec<PathBuf>, Failure> {
     for file in fs::read_dir(path).map_err(failed)? {
         let file = file.map_err(failed)?;
         let hidden = file.file_name().as_encoded_bytes().starts_with(b".");
-        if !hidden && file.path().is_file() {
+        if !hidden && (file.path().is_file() || is_tables(&file.path())) {
             paths.push(file.path());
         }
     }
@@ -137,7 +137,7 @@ pub fn rows(paths: &[PathBuf], store: &Store) -> Vec<Result<Row, Failure>> {
 
 fn row(path: &Path, store: &Store) -> Result<Row, Failure> {
     let name = files::shown(path);
-    let found = match verdict(&name, files::read(path)?) {
+    let found = match verdict(&name, given(path)?) {
         Verdict::Unread(_) => Found::Unread,
         Verdict::Refused(refusal, _) => Found::Refused(refusal.number()),
         Verdict::Accepted(source) => day(&source.bytes, store),

@@ -92,6 +92,7 @@ pub fn trades(arguments: &Arguments) -> Result<Outcome, Failure> {
         return Err(Failure::misuse(format!("usage: daybook {usage}")));
     };
     let mut outcome = Outcome::default();
+    outcome.note(&call.source);
     match call.trades(id) {
         Err(refusal) => call.refuse(&mut outcome, Some(id), Asked::Plain, refusal),
         Ok(trades) => tell(&call, &mut outcome, id, &trades),
@@ -109,13 +110,16 @@ fn tell(call: &Call, outcome: &mut Outcome, id: u32, trades: &[Trade]) {
                 &trades.iter().map(trade_cells).collect::<Vec<_>>(),
             ));
         }
-        Form::Json => outcome.line(answer(id).put("trades", trades.len()).end()),
+        Form::Json => {
+            let object = answer(id).put("trades", trades.len());
+            call.tell(outcome, String::new(), object);
+        }
         Form::Csv if trades.is_empty() => outcome.heads(&object(id, 0, &Trade::default())),
         Form::Csv => {}
     }
     if call.form != Form::Words {
         for (ordinal, trade) in trades.iter().enumerate() {
-            outcome.object(call.form, object(id, ordinal, trade));
+            call.tell(outcome, String::new(), object(id, ordinal, trade));
         }
     }
 }

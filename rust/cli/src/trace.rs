@@ -7,6 +7,7 @@
 use daybook::{Book, Level, Operator, Prices, Reduction, Refusal, Run, Trade, User};
 
 use crate::called_in::{called_in, CalledIn};
+use crate::cause::{Cause, Causes};
 use crate::chapter::{Chapter, Span};
 use crate::credit::{credited, Credited};
 use crate::ends::Ends;
@@ -62,6 +63,9 @@ pub struct Step {
     pub answer: Reduction,
     pub tiers: [Tier; 2],
     pub moves: Vec<Move>,
+    /// The earlier cut that made the user short of cover; none of one that is so by
+    /// itself.
+    pub cause: Option<Cause>,
     /// Who is reduced next.
     pub next: Option<u32>,
 }
@@ -81,6 +85,9 @@ pub struct Trace {
     /// How often each user was reduced, in the order of the book, as far as the
     /// run was taken apart.
     pub counts: Vec<(u32, u64)>,
+    /// How many of them were of users short of cover by themselves, and how many came of
+    /// an earlier cut.
+    pub causes: (u64, u64),
     /// How many reductions were taken apart, and the book after them.
     pub taken: u64,
     pub reached: Book,
@@ -113,6 +120,7 @@ pub fn trace(
     let mut counts: Vec<(u32, u64)> = opening.users.iter().map(|user| (user.id, 0)).collect();
     let mut steps: Ends<Raw> = Ends::new(extent.first, extent.last);
     let mut chapters: Ends<Span> = Ends::new(extent.chapters.0, extent.chapters.1);
+    let mut causes = Causes::new(&operator, bytes, &opening);
     let mut taken = 0;
     while taken < extent.most {
         let before = walk.bytes.clone();
@@ -139,10 +147,12 @@ pub fn trace(
                 after: walk.bytes.clone(),
             }),
         }
+        let cause = causes.tell(taken, id, &before, &walk.bytes);
         steps.push(Raw {
             number: taken,
             id,
             answer,
+            cause,
             before,
             after: walk.bytes.clone(),
             next: None,
@@ -168,6 +178,7 @@ pub fn trace(
             closed.iter().map(chapter).collect::<Result<_, _>>()?,
         ),
         counts,
+        causes: causes.counts,
         taken,
         reached: Operator::new().read(&walk.bytes)?,
     })
@@ -238,6 +249,7 @@ struct Raw {
     number: u64,
     id: u32,
     answer: Reduction,
+    cause: Option<Cause>,
     before: Vec<u8>,
     after: Vec<u8>,
     next: Option<u32>,
@@ -261,6 +273,7 @@ impl Raw {
             answer: self.answer,
             tiers: tiers(&before, &after, &user, self.answer.target),
             moves: moves(&before, &after),
+            cause: self.cause,
             next: self.next,
         })
     }

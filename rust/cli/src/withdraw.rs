@@ -38,7 +38,7 @@ pub fn withdraw(arguments: &Arguments) -> Result<Outcome, Failure> {
         Form::Json => {
             for it in &made {
                 let object = it.object().put("noted", it.place - 1);
-                outcome.line(object.end());
+                outcome.line(object.of_book(&call.source.name).end());
             }
         }
     }

@@ -92,23 +92,32 @@ fn refused_forms() {
         (
             changed(blocked, 1),
             5,
-            "user 3, id 203: blocked 720,575,940,479,279.36 EUR exceeds assigned 300,000.00 EUR",
+            "user 3, id 203: blocked 720,575,940,479,279.36 EUR exceeds assigned 300,000.00 EUR\n\
+             bad: what to do: assign more, or block less",
         ),
-        (changed(32, 202), 5, "user 2, id 202: the id of user 1"),
+        (
+            changed(32, 202),
+            5,
+            "user 2, id 202: the id of user 1\nbad: what to do: give every user an id of its own, \
+             rising from one to the next",
+        ),
         (
             changed(3, 7),
             2,
-            "header: version 7, the engine knows versions 1, 2 and 3",
+            "header: version 7, the engine knows versions 1, 2 and 3\n\
+             bad: what to do: write version 1, 2 or 3",
         ),
         (
             form[..279].to_vec(),
             3,
-            "header: 279 bytes, but a version 1 book of 3 users and 4 trades has 280 bytes",
+            "header: 279 bytes, but a version 1 book of 3 users and 4 trades has 280 bytes\n\
+             bad: what to do: the file is cut off, or goes on behind its book: fetch it again",
         ),
         (
             form[..20].to_vec(),
             1,
-            "header: 20 bytes, a header has at least 32",
+            "header: 20 bytes, a header has at least 32\n\
+             bad: what to do: the file is cut off, or goes on behind its book: fetch it again",
         ),
     ] {
         fs::write(folder.0.join("bad"), &form).expect("a file");

@@ -224,13 +224,14 @@ fn the_page_of_a_day_with_a_group() {
     let day = file("page-3.txt", DAY);
     let page = out(&["report", &day, "-o", "-"]);
     for part in [
-        "<th>user</th><th>role</th><th>group</th><th>state</th>",
+        "<th scope=\"col\">role</th><th scope=\"col\">group</th><th scope=\"col\">state</th>",
         "<td>shipper</td><td>bears PVB of 102 103</td>",
         "<td>PVB borne by 101; bears TVB of 103</td>",
-        "A dashed line leads from a manager",
+        "a dashed line leads from a manager",
+        ">managed by 101</text>",
         "a managed user counts 0 there",
         "<path class=\"lead\" d=\"M80 79V86H250V79\"/>",
-        "<td>103</td><td>104</td><td>101</td><td>PVB</td>",
+        "103</a></td><td><a href=\"#user-104\">104</a></td><td><a href=\"#user-101\">101</a></td><td>PVB</td>",
         "6,000 MWh PVB</text>",
     ] {
         assert!(page.contains(part), "{part} of {page}");

@@ -9,9 +9,11 @@
 use std::env;
 
 use books::{Generator, Kind, Random};
+use cli::csv::Style;
 use cli::draft::{Mistake, Refused, Spot, MOST_MISTAKES};
-use cli::source::{verdict, Verdict};
+use cli::source::{verdict, Given, Verdict};
 use cli::{csv, parameters, text};
+use daybook::Book;
 
 fn setting(name: &str, else_this: u64) -> u64 {
     env::var(name).map_or(else_this, |value| value.parse().expect("a number"))
@@ -177,7 +179,7 @@ fn are_told(mistakes: &[Mistake], lines: usize) {
     assert!((1..=3 * MOST_MISTAKES).contains(&mistakes.len()));
     for Mistake { spot, reason } in mistakes {
         is_within(spot, lines);
-        assert!(!reason.is_empty() && reason.len() < 400, "{reason}");
+        assert!(!reason.is_empty() && reason.len() < 700, "{reason}");
     }
 }
 
@@ -226,7 +228,7 @@ fn texts() {
         if let Err(mistakes) = text::read(&bytes) {
             are_told(&mistakes, lines);
         }
-        match verdict("a text", bytes) {
+        match verdict("a text", Given::File(bytes)) {
             Verdict::Accepted(source) => {
                 is_the_same(&source.bytes);
                 counts[0] += 1;
@@ -266,10 +268,7 @@ fn tables() {
             let fields = daybook::Operator::new()
                 .read(&book(&mut generator))
                 .expect("a book");
-            written = csv::write(&fields).map(String::into_bytes);
-            if generator.random().one_in(3) {
-                written = written.map(|file| file.iter().map(|byte| semicolon(*byte)).collect());
-            }
+            written = spelt(generator.random(), &fields);
         }
         let random = generator.random();
         let mut files = written.clone();
@@ -355,11 +354,30 @@ fn stores_and_balances() {
     );
 }
 
-/// A comma as a Spanish spreadsheet has it.
-fn semicolon(byte: u8) -> u8 {
-    if byte == b',' {
-        b';'
-    } else {
-        byte
+/// The files of a book as one spreadsheet or another writes them: commas, semicolons
+/// with a decimal comma, tabs, a column of its own, or UTF-16.
+fn spelt(random: &mut Random, fields: &Book) -> [Vec<u8>; 3] {
+    let mut files = match random.below(4) {
+        0 => csv::write_in(fields, Style::Semicolons),
+        1 => csv::write(fields).map(|file| file.replace(',', ";")),
+        2 => csv::write(fields).map(|file| file.replace(',', "\t")),
+        _ => csv::write(fields),
+    };
+    if random.one_in(4) {
+        let users = files[1].trim_start_matches('\u{feff}');
+        let apart = users
+            .find([',', ';', '\t'])
+            .map_or(",", |it| &users[it..=it]);
+        let named = [format!("name{apart}"), format!("Norte{apart}")];
+        let lines = users.lines().enumerate();
+        let lines = lines.map(|(place, line)| format!("{}{line}\n", named[place.min(1)]));
+        files[1] = lines.collect();
+    }
+    match random.one_in(8) {
+        true => files.map(|file| {
+            let units = std::iter::once(0xfeff).chain(file.encode_utf16());
+            units.flat_map(u16::to_le_bytes).collect()
+        }),
+        false => files.map(String::into_bytes),
     }
 }

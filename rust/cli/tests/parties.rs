@@ -60,8 +60,8 @@ fn a_shipper_is_told_what_its_calls_answer() {
             let Level(morning) = shipper.morning_level(bytes).expect("a level");
             let Level(afternoon) = shipper.afternoon_level(bytes).expect("a level");
             let object = format!(
-                "{{\"number\":0,\"id\":{id},\"morning_cents\":{morning},\"afternoon_cents\":\
-                 {afternoon}}}\n"
+                "{{\"book\":\"{file}\",\"number\":0,\"id\":{id},\"morning_cents\":{morning},\
+                 \"afternoon_cents\":{afternoon}}}\n"
             );
             assert_eq!((out, messages.as_str(), status), (object, "", 0));
 
@@ -69,7 +69,7 @@ fn a_shipper_is_told_what_its_calls_answer() {
             let (out, ..) = done(&["trades", file, "--as", &id, "--json"]);
             assert_eq!(out.lines().count(), 1 + trades.len());
             assert!(out.starts_with(&format!(
-                "{{\"number\":0,\"id\":{id},\"trades\":{}}}\n",
+                "{{\"book\":\"{file}\",\"number\":0,\"id\":{id},\"trades\":{}}}\n",
                 trades.len()
             )));
             for (line, trade) in out.lines().skip(1).zip(&trades) {
@@ -117,7 +117,8 @@ fn others_are_told_the_two_ids_and_the_question() {
                 assert_eq!((out.as_str(), messages, status), ("", told, 1));
                 let words = [command, file, &asked, "--as", &acts, "--json"];
                 let (out, messages, _) = done(&words);
-                assert!(out.starts_with(&format!("{{\"number\":26,\"id\":{id},")));
+                let start = format!("{{\"book\":\"{file}\",\"number\":26,\"id\":{id},");
+                assert!(out.starts_with(&start), "{out}");
                 assert_eq!((out.lines().count(), messages.as_str()), (1, ""));
             }
         }

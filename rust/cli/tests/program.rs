@@ -234,37 +234,37 @@ fn answers_as_objects() {
         (
             "level day.gdb 101 --json",
             0,
-            r#"{"number":0,"id":101,"morning_cents":80000000,"afternoon_cents":80000000}"#,
+            r#"{"book":"day.gdb","number":0,"id":101,"morning_cents":80000000,"afternoon_cents":80000000}"#,
         ),
         (
             "warn day.gdb 102 --json",
             0,
-            r#"{"number":0,"id":102,"warned":true}"#,
+            r#"{"book":"day.gdb","number":0,"id":102,"warned":true}"#,
         ),
         (
             "show day.gdb 101 --json",
             0,
-            r#"{"number":0,"id":101,"role":"shipper","physical_mwh":[-10000,0,0],"position_mwh":[-40000,0,0],"charges_cents":0,"assigned_cents":50000000,"blocked_cents":10000000}"#,
+            r#"{"book":"day.gdb","number":0,"id":101,"role":"shipper","physical_mwh":[-10000,0,0],"position_mwh":[-40000,0,0],"charges_cents":0,"assigned_cents":50000000,"blocked_cents":10000000}"#,
         ),
         (
             "post day.gdb 101 pvb 20,000 --json -o posted.gdb",
             0,
-            r#"{"number":0,"id":101,"area":"PVB","mwh":20000,"physical_mwh":10000,"position_mwh":-20000}"#,
+            r#"{"book":"day.gdb","number":0,"id":101,"area":"PVB","mwh":20000,"physical_mwh":10000,"position_mwh":-20000}"#,
         ),
         (
             "call posted.gdb 101 --morning --json -o called.gdb",
             0,
-            r#"{"number":0,"id":101,"level_cents":40000000,"added_cents":30000000}"#,
+            r#"{"book":"posted.gdb","number":0,"id":101,"level_cents":40000000,"added_cents":30000000}"#,
         ),
         (
             "reduce day.gdb 101 --json -o reduced.gdb",
             0,
-            r#"{"number":0,"id":101,"mwh":15000,"worth_cents":30000000,"target_cents":30000000,"short_cents":0,"over_cents":0}"#,
+            r#"{"book":"day.gdb","number":0,"id":101,"mwh":15000,"worth_cents":30000000,"target_cents":30000000,"short_cents":0,"over_cents":0}"#,
         ),
         (
             "reduce day.gdb 102 --json",
             1,
-            r#"{"number":11,"id":102,"question":"level − blocked > 10,000.00 EUR (with a store, its figure), and, but for the morning call, user called in?","reason":"user 2, id 102: level 100,000.00 - blocked 100,000.00 = 0.00 EUR, not above 10,000.00 EUR"}"#,
+            r#"{"book":"day.gdb","number":11,"id":102,"question":"level − blocked > 10,000.00 EUR (with a store, its figure), and, but for the morning call, user called in?","reason":"user 2, id 102: level 100,000.00 - blocked 100,000.00 = 0.00 EUR, not above 10,000.00 EUR","advice":["nothing: neither a call nor a cut is due"]}"#,
         ),
     ] {
         assert_eq!(
@@ -282,11 +282,11 @@ fn answers_as_objects() {
         ),
         (
             "level no.gdb 1 --json",
-            r#"{"book":"no.gdb","accepted":false,"number":1,"question":"at least 32 bytes, starting with the mark?","faults":[{"record":"header","field":"length","reason":"header: 3 bytes, a header has at least 32"}]}"#,
+            r#"{"book":"no.gdb","accepted":false,"number":1,"question":"at least 32 bytes, starting with the mark?","faults":[{"record":"header","field":"length","reason":"header: 3 bytes, a header has at least 32"}],"advice":["the file is cut off, or goes on behind its book: fetch it again"]}"#,
         ),
         (
             "run day.gdb --store no.gdb --json",
-            r#"{"number":16,"question":"is the store well formed?","reason":"store: 3 bytes, the start alone has 6"}"#,
+            r#"{"book":"day.gdb","number":16,"question":"is the store well formed?","reason":"store: 3 bytes, the start alone has 6","advice":["`daybook store TEXT -o FILE` makes a store of text"]}"#,
         ),
         (
             "check day.gdb --store no.gdb --json",
@@ -302,9 +302,9 @@ fn answers_as_objects() {
     let (_, out, _) = folder.run("run day.gdb --json -o run.gdb");
     assert_eq!(
         out,
-        "{\"number\":0,\"reductions\":1,\"mwh\":15000,\"worth_cents\":30000000}\n\
-         {\"id\":101,\"state\":\"call\",\"afternoon_cents\":50000000,\"position_mwh\":[-25000,0,0]}\n\
-         {\"id\":102,\"state\":\"quiet\",\"afternoon_cents\":10000000,\"position_mwh\":[15000,0,0]}\n"
+        "{\"book\":\"day.gdb\",\"number\":0,\"reductions\":1,\"mwh\":15000,\"worth_cents\":30000000}\n\
+         {\"book\":\"day.gdb\",\"id\":101,\"state\":\"call\",\"afternoon_cents\":50000000,\"position_mwh\":[-25000,0,0]}\n\
+         {\"book\":\"day.gdb\",\"id\":102,\"state\":\"quiet\",\"afternoon_cents\":10000000,\"position_mwh\":[15000,0,0]}\n"
     );
     assert_eq!(folder.bytes("run.gdb"), folder.bytes("reduced.gdb"));
 }
@@ -329,7 +329,7 @@ fn shrinkage_of_a_file() {
     assert_eq!(status, 0);
     assert!(
         out.contains(
-            r#"{"name":"North","balance_kwh":-100,"share_kwh":29,"remainder":75,"days_kwh":[1,1,"#
+            r#"{"file":"kwh","name":"North","balance_kwh":-100,"share_kwh":29,"remainder":75,"days_kwh":[1,1,"#
         ),
         "{out}"
     );

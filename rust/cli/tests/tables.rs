@@ -43,7 +43,7 @@ fn mistakes_of_csv_files() {
         (
             0,
             "version,day\n",
-            "/header.csv:1:9: `day` is none of the names version,date,P,Q,L,X,I,S,U",
+            "/header.csv:1:1: the column date is missing; none of the names: day",
         ),
         (
             0,
@@ -53,7 +53,7 @@ fn mistakes_of_csv_files() {
         (
             0,
             "version,date,P,Q,L,X,I\n1,18/03/2026,1,1,1,1,1\n",
-            "/header.csv:2:3: date is written as 2026-03-18, not `18/03/2026`",
+            "/header.csv:2:3: date is written as 2026-03-18 or 18.03.2026, not `18/03/2026`; `daybook from-csv --dates dmy` reads day/month/year",
         ),
         (
             0,

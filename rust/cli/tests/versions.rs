@@ -283,7 +283,9 @@ fn the_sample_of_version_2() {
     let cents = "\"level_without_credit_cents\":126000000,\"credit_cents\":[0,9500000,0],";
     assert!(object.contains(cents), "{object}");
     let page = done(&format!("report {file} -o -"));
-    assert!(page.contains("<th>level</th><th>credit</th><th>assigned</th>"));
+    assert!(page.contains(
+        "<th scope=\"col\">level</th><th scope=\"col\">credit</th><th scope=\"col\">assigned</th>"
+    ));
     assert!(page.contains("<td>95,000.00</td>"));
     assert!(page.contains("I 0.50, S 18.00, U 19.00. Level"));
     assert!(page.contains("at S in PVB and at U in TVB and AVB"));

@@ -1,29 +1,61 @@
 //! A CSV file row by row, its fields asked for by the names over the columns. A row
-//! is read to its end: each of its fields that cannot be read is told.
+//! is read to its end: each of its fields that cannot be read is told. Columns of
+//! other names are skipped, and noted.
 
+use std::borrow::Cow;
 use std::cell::RefCell;
 
+use super::convention::{Convention, Dates};
 use crate::draft::{too_long, Mistake, Spot, MOST_MISTAKES};
 use crate::limits::limits;
 use crate::text::short;
-use crate::words::{code, read_date, read_euros, read_whole};
+use crate::words::{code, read_whole};
 
-/// Reads a file row by row; names that are optional may be missing.
-pub fn read_file(
-    file: &'static str,
-    bytes: &[u8],
-    names: &[&str],
-    optional: &[&str],
-    mistakes: &mut Vec<Mistake>,
-    mut take: impl FnMut(&Row),
-) {
+/// How many columns of other names are told by name.
+const MOST_NAMED: usize = 3;
+
+/// How much of such a name is told.
+const LONGEST_NAMED: usize = 24;
+
+/// A file that is read: its name in a folder, its bytes, the names of its columns, and
+/// those of them that may be missing.
+pub struct Table<'a> {
+    pub file: &'static str,
+    pub bytes: &'a [u8],
+    pub names: &'a [&'a str],
+    pub optional: &'a [&'a str],
+    pub dates: Dates,
+}
+
+/// What is found on the way.
+#[derive(Debug, Default)]
+pub struct Found {
+    pub mistakes: Vec<Mistake>,
+    /// The columns that are skipped.
+    pub skipped: Vec<Mistake>,
+}
+
+/// Reads a file row by row.
+pub fn read_file(table: &Table, found: &mut Found, mut take: impl FnMut(&Row)) {
+    let Table {
+        file, bytes, names, ..
+    } = *table;
+    let mistakes = &mut found.mistakes;
     let text = match text_of(file, bytes) {
+        Ok(text) if text.contains('\0') => {
+            let reason = "the file is no text: it has bytes of 0 (UTF-16 without its mark?)";
+            return mistakes.push(Mistake {
+                spot: start_of(file, 1),
+                reason: reason.to_string(),
+            });
+        }
         Ok(text) => text,
         Err(mistake) => return mistakes.push(mistake),
     };
-    let semicolons = text.lines().next().is_some_and(|line| line.contains(';'));
-    let separator = if semicolons { ';' } else { ',' };
-    let mut columns: Option<Vec<Option<usize>>> = None;
+    let first = text.lines().find(|line| !line.trim().is_empty());
+    let convention = Convention::of(first.unwrap_or(""));
+    let separator = convention.separator();
+    let mut columns: Option<Columns> = None;
     let most = mistakes.len() + MOST_MISTAKES;
     for (place, line) in text.lines().enumerate() {
         if line.trim().trim_matches(separator).is_empty() {
@@ -33,7 +65,7 @@ pub fn read_file(
         let read = cells(file, place + 1, line, separator);
         let some = match (read, &columns) {
             (Err(mistake), _) => vec![mistake],
-            (Ok(cells), None) => match columns_of(&cells, names, optional, start) {
+            (Ok(cells), None) => match columns_of(&cells, table, start, &mut found.skipped) {
                 Ok(found) => {
                     columns = Some(found);
                     Vec::new()
@@ -46,7 +78,8 @@ pub fn read_file(
                     columns,
                     cells: &cells,
                     start,
-                    decimal_comma: semicolons,
+                    convention,
+                    dates: table.dates,
                     mistakes: RefCell::default(),
                 };
                 match row.count() {
@@ -74,61 +107,104 @@ fn start_of(file: &'static str, line: usize) -> Spot {
     Spot { file, line, column }
 }
 
-/// The text of a file, without its byte order mark.
-fn text_of<'a>(file: &'static str, bytes: &'a [u8]) -> Result<&'a str, Mistake> {
+/// The text of a file, without its byte order mark: in UTF-8, in UTF-16 where the mark
+/// says so, else in the 8 bits of an older spreadsheet, whose names alone have other
+/// letters.
+fn text_of<'a>(file: &'static str, bytes: &'a [u8]) -> Result<Cow<'a, str>, Mistake> {
     if let Some(mistake) = too_long(file, bytes) {
         return Err(mistake);
     }
+    let wide = |bytes: &[u8], unit: fn([u8; 2]) -> u16| {
+        let units: Vec<u16> = bytes.as_chunks().0.iter().map(|it| unit(*it)).collect();
+        Cow::Owned(String::from_utf16_lossy(&units))
+    };
+    if let Some(bytes) = bytes.strip_prefix(b"\xff\xfe") {
+        return Ok(wide(bytes, u16::from_le_bytes));
+    }
+    if let Some(bytes) = bytes.strip_prefix(b"\xfe\xff") {
+        return Ok(wide(bytes, u16::from_be_bytes));
+    }
     let bytes = bytes.strip_prefix(b"\xef\xbb\xbf").unwrap_or(bytes);
-    std::str::from_utf8(bytes).map_err(|error| {
-        let before = &bytes[..error.valid_up_to()];
-        let line = before.iter().filter(|byte| **byte == b'\n').count() + 1;
-        let reason = "the file is not in UTF-8 here".to_string();
-        let spot = start_of(file, line);
-        Mistake { spot, reason }
-    })
+    let narrow = |_| bytes.iter().map(|byte| char::from(*byte)).collect();
+    Ok(std::str::from_utf8(bytes).map_or_else(|it| Cow::Owned(narrow(it)), Cow::Borrowed))
 }
 
-/// For each name the column that it stands over.
+/// The columns of a file.
+struct Columns {
+    /// For each name the column that it stands over.
+    of: Vec<Option<usize>>,
+    /// How many there are, up to the last that has a name.
+    count: usize,
+}
+
+/// The names of some columns, the first few of many.
+fn named(cells: &[&Cell]) -> String {
+    let start = |it: &&Cell| it.text.chars().take(LONGEST_NAMED).collect::<String>();
+    let names = cells.iter().take(MOST_NAMED).map(|it| short(&start(it)));
+    let names = names.collect::<Vec<String>>().join(", ");
+    match cells.len().saturating_sub(MOST_NAMED) {
+        0 => names,
+        more => format!("{names} and {more} more"),
+    }
+}
+
+/// The columns under the names that the file's first line has.
 fn columns_of(
     cells: &[Cell],
-    names: &[&str],
-    optional: &[&str],
+    table: &Table,
     start: Spot,
-) -> Result<Vec<Option<usize>>, Mistake> {
+    skipped: &mut Vec<Mistake>,
+) -> Result<Columns, Mistake> {
+    let Table {
+        names, optional, ..
+    } = *table;
+    let mut unknown = Vec::new();
     for (place, cell) in cells.iter().enumerate() {
         let same = |it: &str| it.eq_ignore_ascii_case(&cell.text);
-        let reason = if !names.iter().any(|name| same(name)) {
-            format!(
-                "`{}` is none of the names {}",
-                short(&cell.text),
-                names.join(",")
-            )
+        if !names.iter().any(|name| same(name)) {
+            if !cell.text.is_empty() {
+                unknown.push(cell);
+            }
         } else if cells[..place].iter().any(|before| same(&before.text)) {
-            format!("a second column {}", short(&cell.text))
-        } else {
-            continue;
-        };
-        return Err(Mistake {
-            spot: cell.spot,
-            reason,
-        });
+            return Err(Mistake {
+                spot: cell.spot,
+                reason: format!("a second column {}", short(&cell.text)),
+            });
+        }
     }
-    let mut columns = Vec::new();
+    let mut of = Vec::new();
     for name in names {
         let column = cells
             .iter()
             .position(|cell| cell.text.eq_ignore_ascii_case(name));
         if column.is_none() && !optional.contains(name) {
-            let reason = format!("the column {name} is missing");
+            let others = match unknown.is_empty() {
+                true => String::new(),
+                false => format!("; none of the names: {}", named(&unknown)),
+            };
             return Err(Mistake {
                 spot: start,
-                reason,
+                reason: format!("the column {name} is missing{others}"),
             });
         }
-        columns.push(column);
+        of.push(column);
     }
-    Ok(columns)
+    if let Some(first) = unknown.first() {
+        let (ending, verb) = if unknown.len() == 1 {
+            ("", "is")
+        } else {
+            ("s", "are")
+        };
+        skipped.push(Mistake {
+            spot: first.spot,
+            reason: format!("the column{ending} {} {verb} skipped", named(&unknown)),
+        });
+    }
+    let last = cells.iter().rposition(|cell| !cell.text.is_empty());
+    Ok(Columns {
+        of,
+        count: last.map_or(0, |last| last + 1),
+    })
 }
 
 /// A field of a row, without its quotes and the blanks around it.
@@ -185,21 +261,22 @@ fn cells(
 /// A row, asked for by the places of the names.
 pub struct Row<'a> {
     names: &'a [&'a str],
-    columns: &'a [Option<usize>],
+    columns: &'a Columns,
     cells: &'a [Cell],
     /// Where the row is, for a field that it lacks.
     start: Spot,
-    decimal_comma: bool,
+    convention: Convention,
+    dates: Dates,
     mistakes: RefCell<Vec<Mistake>>,
 }
 
 impl Row<'_> {
     fn cell(&self, name: usize) -> Option<&Cell> {
-        let column = self.columns.get(name).copied().flatten()?;
+        let column = self.columns.of.get(name).copied().flatten()?;
         self.cells.get(column)
     }
 
-    fn text(&self, name: usize) -> &str {
+    pub fn text(&self, name: usize) -> &str {
         self.cell(name).map_or("", |cell| cell.text.as_str())
     }
 
@@ -222,12 +299,14 @@ impl Row<'_> {
 
     /// No field stands past the last column.
     fn count(&self) -> Result<(), Mistake> {
-        let columns = self.columns.iter().flatten().count();
+        let columns = self.columns.count;
         match self.cells.get(columns..) {
             Some(rest) if rest.iter().any(|cell| !cell.text.is_empty()) => {
-                let hint = match self.decimal_comma {
-                    true => "",
-                    false => "; a comma within an amount? Euros are written as 1234.50",
+                let hint = match self.convention {
+                    Convention::Commas => {
+                        "; a comma within an amount? Euros are written as 1234.50"
+                    }
+                    _ => "",
                 };
                 let reason = format!("{} fields in {columns} columns{hint}", self.cells.len());
                 Err(Mistake {
@@ -265,32 +344,45 @@ impl Row<'_> {
     }
 
     pub fn whole<T: TryFrom<i128> + Default>(&self, name: usize) -> T {
-        let text = self.text(name);
-        let number = (!text.contains(',')).then(|| read_whole(text)).flatten();
+        let number = self.convention.whole(self.text(name));
         self.fitting(name, number, "is a whole number")
     }
 
-    /// Euros with at most two decimals; spreadsheets drop zeros at the end.
+    /// A whole number, 0 for an empty field.
+    pub fn whole_or_0<T: TryFrom<i128> + Default>(&self, name: usize) -> T {
+        match self.is_left_empty(name) {
+            true => T::default(),
+            false => self.whole(name),
+        }
+    }
+
+    /// Euros, 0 for an empty field.
     pub fn money<T: TryFrom<i128> + Default>(&self, name: usize) -> T {
-        let text = self.text(name);
-        let point = match self.decimal_comma {
-            true => text.replace(',', "."),
-            false => text.to_string(),
-        };
-        let padded = match point.split_once('.') {
-            None => format!("{point}.00"),
-            Some((_, decimals)) if decimals.len() == 1 => format!("{point}0"),
-            Some(_) => point,
-        };
-        let cents = (!padded.contains(','))
-            .then(|| read_euros(&padded))
-            .flatten();
-        self.fitting(name, cents, "is euros, as 1234.50")
+        if self.is_left_empty(name) {
+            return T::default();
+        }
+        let cents = self.convention.euros(self.text(name));
+        let what = format!("is euros, as {}", self.convention.example());
+        self.fitting(name, cents, &what)
+    }
+
+    /// Whether a field is there, with nothing in it.
+    fn is_left_empty(&self, name: usize) -> bool {
+        self.cell(name).is_some_and(|cell| cell.text.is_empty())
     }
 
     pub fn date(&self, name: usize) -> u32 {
-        let read = read_date(self.text(name));
-        self.noted(name, read, "is written as 2026-03-18")
+        let text = self.text(name);
+        self.dates.read(text).unwrap_or_else(|| {
+            let hint = match text.contains('/') {
+                true => "; `daybook from-csv --dates dmy` reads day/month/year",
+                false => "",
+            };
+            let (written, text) = ("is written as 2026-03-18 or 18.03.2026", short(text));
+            let reason = format!("{} {written}, not `{text}`{hint}", self.names[name]);
+            self.mistake(name, reason);
+            0
+        })
     }
 
     pub fn code(&self, name: usize, among: &[&str]) -> u8 {

@@ -1,4 +1,6 @@
-//! A folder in which the program is called by a shell.
+//! A folder in which the program is called by a shell. No test needs all of it.
+
+#![allow(dead_code)]
 
 use std::fs;
 use std::path::{Path, PathBuf};
