@@ -93,6 +93,19 @@ fn the_readme() {
     assert!(walk("README.md", "readme") >= 5);
 }
 
+/// What the pages show of the printed day is what the program `day` is held to.
+#[test]
+fn the_printed_day() {
+    let read = |path: &str| fs::read(root().join(path)).expect("a file");
+    assert_eq!(read("crates/day/stdin"), read("samples/day.gdb"));
+    let lines = String::from_utf8(read("crates/day/stdout")).expect("a text");
+    let lines: String = lines.lines().map(|line| format!("    {line}\n")).collect();
+    for page in ["README.md", "docs/CALLS.md"] {
+        let text = String::from_utf8(read(page)).expect("a text");
+        assert!(text.contains(&format!("\n\n{lines}\n")), "{page}: {lines}");
+    }
+}
+
 /// The numbers of three digits and more in a line, without commas and cents of 0.
 fn figures(line: &str) -> Vec<String> {
     let words = line.split(|c: char| !c.is_ascii_digit() && c != ',' && c != '.');
