@@ -28,6 +28,7 @@ for file in $files; do
     fi
     there="$there
 $prefix/$file"
+    [ -L "$prefix/$file" ] || [ -f "$prefix/$file" ] || { echo "install.sh: $prefix/$file is no file; nothing was installed" >&2; exit 1; }
 done
 if [ -n "$there" ] && [ -z "$force" ]; then
     echo "install.sh: there already, with another content:$there" >&2
@@ -36,10 +37,14 @@ if [ -n "$there" ] && [ -z "$force" ]; then
 fi
 
 # One file to its place below the prefix.
+new=
+trap '[ -z "$new" ] || rm -f "$new"' EXIT
 place() {
     mkdir -p "$(dirname "$prefix/$2")"
-    cp -P "$1" "$prefix/$2.new.$$"
-    mv -f "$prefix/$2.new.$$" "$prefix/$2"
+    new=$prefix/$2.new.$$
+    cp -P "$1" "$new"
+    mv -f "$new" "$prefix/$2"
+    new=
 }
 for file in $files; do place "$file" "$file"; done
 place SHA256SUMS share/daybook/SHA256SUMS
