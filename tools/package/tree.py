@@ -7,6 +7,7 @@ import io
 import os
 import tarfile
 import tempfile
+import zlib
 from dataclasses import dataclass
 from pathlib import Path
 
@@ -63,25 +64,34 @@ def archive(tree: Tree, top: str) -> bytes:
 def opened(path: str) -> Tree:
     """The files of such an archive, without the folder above them."""
     tree: Tree = {}
-    with tarfile.open(path, "r:gz") as tar:
-        for entry in tar:
-            name = entry.name.partition("/")[2]
-            if entry.issym():
-                tree[name] = File(b"", link=entry.linkname)
-            elif entry.isfile():
-                part = tar.extractfile(entry)
-                tree[name] = File(part.read() if part else b"", entry.mode)
+    try:
+        plain = io.BytesIO(gzip.decompress(Path(path).read_bytes()))
+        with tarfile.open(fileobj=plain, mode="r:") as tar:
+            for entry in tar:
+                name = entry.name.partition("/")[2]
+                if entry.issym():
+                    tree[name] = File(b"", link=entry.linkname)
+                elif entry.isfile():
+                    part = tar.extractfile(entry)
+                    tree[name] = File(part.read() if part else b"", entry.mode)
+    except (gzip.BadGzipFile, EOFError, zlib.error, tarfile.TarError) as why:
+        raise ValueError(f"{path} is no package: {why}") from None
     return tree
 
 
 def faults(tree: Tree) -> list[str]:
-    """What differs from the list of sums of a package."""
+    """What differs from the list of sums of a package, and links that lead nowhere in it."""
     if SUMS not in tree:
         return [f"no {SUMS}"]
-    listed = {path: sum for sum, path in (line.split("  ", 1) for line in tree[SUMS].data.decode().splitlines())}
+    listed = {path: sum for sum, _, path in (line.partition("  ") for line in tree[SUMS].data.decode(errors="replace").splitlines())}
     there = {path: sha256(file.data) for path, file in tree.items() if path != SUMS and not file.link}
-    return sorted(f"{path}: another sum than {SUMS} has" if path in listed and path in there else f"{path}: not in both the package and {SUMS}"
-                  for path in {*listed, *there} if listed.get(path) != there.get(path))
+    found = [f"{path}: leads to {file.link}, which is not in the package" for path, file in tree.items() if file.link and str(Path(path).parent / file.link) not in there]
+    for path in {*listed, *there}:
+        if path not in listed or path not in there:
+            found.append(f"{path}: in the {'package' if path in there else 'list of sums'} alone")
+        elif listed[path] != there[path]:
+            found.append(f"{path}: another sum than {SUMS} has")
+    return sorted(found)
 
 
 def put(path: Path, data: bytes) -> None:
