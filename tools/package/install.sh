@@ -17,7 +17,7 @@ case $prefix in /*) ;; *) prefix=$PWD/$prefix ;; esac
 cd "$(dirname "$0")"
 
 sha256sum --quiet -c SHA256SUMS || { echo "install.sh: the package is damaged; nothing was installed" >&2; exit 1; }
-files=$(find bin lib include share \( -type f -o -type l \) | LC_ALL=C sort)
+files=$(cut -c 67- SHA256SUMS | grep -E '^(bin|lib|include|share)/'; find lib -type l)
 there=
 for file in $files; do
     [ -e "$prefix/$file" ] || [ -L "$prefix/$file" ] || continue

@@ -107,14 +107,15 @@ def program(place: Place) -> None:
 
 
 def compiled(place: Place) -> None:
-    """C by pkg-config and the shared object, C++ with the archive."""
+    """C and C++ with the archive, and C by pkg-config with the shared object."""
     cc, cxx = os.environ.get("CC", "cc"), os.environ.get("CXX", "c++")
-    if place.has(cc, "C") and place.has("pkg-config", "C by pkg-config"):
-        place.run("sh", "-ec", f"{cc} -Wall -Wextra -Werror '{place.examples}/book.c' -o in_c $(pkg-config --cflags --libs daybook) -Wl,-rpath,$PWD/prefix/lib")
-        place.hold(DAY, "./in_c")
-    if place.has(cxx, "C++"):
-        place.run(cxx, "-std=c++11", "-Wall", "-Wextra", "-Werror", f"-I{place.prefix}/include", "-o", "in_cpp", f"{place.examples}/book.cpp", f"{place.prefix}/lib/libdaybook.a")
-        place.hold(DAY, "./in_cpp")
+    for compiler, name in ((cc, "book.c"), (cxx, "book.cpp")):
+        if place.has(compiler, name):
+            place.run(compiler, "-Wall", "-Wextra", "-Werror", "-Iprefix/include", "-o", "compiled", f"{place.examples}/{name}", "prefix/lib/libdaybook.a")
+            place.hold(DAY, "./compiled")
+    if place.has(cc, "pkg-config") and place.has("pkg-config", "C by pkg-config"):
+        place.run("sh", "-ec", f"{cc} -o shared '{place.examples}/book.c' $(pkg-config --cflags --libs daybook) -Wl,-rpath,$PWD/prefix/lib")
+        place.hold(DAY, "./shared")
 
 
 def rust(place: Place) -> None:
@@ -135,7 +136,7 @@ def python(place: Place) -> None:
         print("tools/dist: no pip, so the wheel is not tried")
         return
     wheels = [str(path) for path in (place.prefix / "share" / "daybook").glob("*.whl")]
-    pip = ("-m", "pip", "--quiet", "--disable-pip-version-check", "install", "--no-index", "--no-compile", "--target", "in_python")
+    pip = ("-m", "pip", "--isolated", "--quiet", "--disable-pip-version-check", "install", "--no-index", "--no-compile", "--target", "in_python")
     place.run(sys.executable, *pip, *wheels)
     place.settings["PYTHONPATH"] = "in_python"
     place.hold(DAY, sys.executable, "-B", f"{place.examples}/book.py")
