@@ -24,14 +24,18 @@ def load_tests(loader: unittest.TestLoader, tests: unittest.TestSuite, pattern: 
 
 class Documents(unittest.TestCase):
     def test_documents(self) -> None:
-        """The examples of the documents, which begin at the root."""
+        """The examples of every document that has some, which begin at the root."""
+        pages = [ROOT / "README.md", ROOT / "CONTRIBUTING.md", *sorted((ROOT / "docs").glob("*.md"))]
+        texts = {page.name: page.read_text(encoding="utf-8") for page in pages}
+        shown = {name: text for name, text in texts.items() if ">>> " in text}
+        self.assertLessEqual({"CALLS.md", "FORMS.md", "TOOL.md"}, set(shown))
         here = os.getcwd()
         os.chdir(ROOT)
         try:
-            for name in ("README.md", "docs/TOOL.md", "docs/FORMS.md"):
-                text = Path(name).read_text(encoding="utf-8")
+            for name, text in shown.items():
                 lines = text[text.rindex("\n", 0, text.index(">>> import daybook")) + 1 :].splitlines()
                 block = "\n".join(line[4:] for line in itertools.takewhile(lambda line: line.startswith("    "), lines))
+                self.assertEqual(text.count(">>> "), block.count(">>> "), f"{name}: an example outside its block")
                 example = doctest.DocTestParser().get_doctest(block + "\n", {}, name, name, 0)
                 told = doctest.DocTestRunner(verbose=False).run(example)
                 self.assertEqual((told.failed, told.attempted > 3), (0, True), name)

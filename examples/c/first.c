@@ -1,4 +1,4 @@
-/* A first program: the afternoon level of user 101 of the book on standard input. README.md shows it. */
+/* A first program: the afternoon level of user 101 of the book on standard input. docs/CALLS.md shows it. */
 #include <inttypes.h>
 #include <stdio.h>
 #include "daybook.h"

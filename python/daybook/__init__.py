@@ -98,8 +98,9 @@ Traceback (most recent call last):
     ...
 daybook.Refused: refused by question 26: may the party make this call?
 
-Both take a store of parameter sets in bytes, or none. `python/build` makes the shared
-object that is called, from the engine's archive; DAYBOOK_LIBRARY names another one.
+Both take a store of parameter sets in bytes, or none. The shared object that is called
+is inside the module where a wheel was installed; in the repository `python/build` makes
+it from the engine's archive. DAYBOOK_LIBRARY names another one.
 """
 
 from .answers import Cancellation, GuaranteeCall, Posting, PostingList, Reduction, Run, Withdrawal

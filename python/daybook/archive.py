@@ -62,9 +62,11 @@ def _declared(library: ctypes.CDLL) -> None:
 
 
 def _opened() -> ctypes.CDLL:
-    """The shared object, whose interface has to be the one that this module is written for."""
-    beside = Path(__file__).resolve().parents[2] / "target" / "python" / "libdaybook.so"
-    path = os.environ.get("DAYBOOK_LIBRARY") or str(beside)
+    """The shared object, whose interface has to be the one that this module is written for: inside
+    the module, as a wheel has it, else where python/build puts it."""
+    inside = Path(__file__).resolve().with_name("libdaybook.so")
+    built = Path(__file__).resolve().parents[2] / "target" / "python" / "libdaybook.so"
+    path = os.environ.get("DAYBOOK_LIBRARY") or str(inside if inside.exists() else built)
     if not os.path.exists(path):
         raise ImportError(f"no {path}: run python/build, or name the shared object in DAYBOOK_LIBRARY")
     library = ctypes.CDLL(os.path.abspath(path))

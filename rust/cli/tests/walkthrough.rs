@@ -1,8 +1,10 @@
-//! The walk-through of docs/TOOL.md, and of README.md where it has one: each
-//! command is run as it is printed, and has to print what stands below it.
+//! The commands of docs/TOOL.md, docs/RULES.md and README.md: each is run as it is
+//! printed, and has to print what stands below it. The figures in the words of
+//! docs/RULES.md have to be among those that its commands print.
 
 #![forbid(unsafe_code)]
 
+use std::collections::HashSet;
 use std::env;
 use std::fs;
 use std::path::{Path, PathBuf};
@@ -88,7 +90,51 @@ fn the_page_of_the_tool() {
 
 #[test]
 fn the_readme() {
-    walk("README.md", "readme");
+    assert!(walk("README.md", "readme") >= 5);
+}
+
+/// What the pages show of the printed day is what the program `day` is held to.
+#[test]
+fn the_printed_day() {
+    let read = |path: &str| fs::read(root().join(path)).expect("a file");
+    assert_eq!(read("crates/day/stdin"), read("samples/day.gdb"));
+    let lines = String::from_utf8(read("crates/day/stdout")).expect("a text");
+    let lines: String = lines.lines().map(|line| format!("    {line}\n")).collect();
+    for page in ["README.md", "docs/CALLS.md"] {
+        let text = String::from_utf8(read(page)).expect("a text");
+        assert!(text.contains(&format!("\n\n{lines}\n")), "{page}: {lines}");
+    }
+}
+
+/// The numbers of three digits and more in a line, without commas and cents of 0.
+fn figures(line: &str) -> Vec<String> {
+    let words = line.split(|c: char| !c.is_ascii_digit() && c != ',' && c != '.');
+    let words = words.map(|word| word.trim_matches([',', '.']).replace(',', ""));
+    let long = words.filter(|word| word.chars().filter(char::is_ascii_digit).count() >= 3);
+    long.map(|word| word.trim_end_matches(".00").to_string())
+        .collect()
+}
+
+#[test]
+fn the_page_of_the_rules() {
+    let name = "docs/RULES.md";
+    assert!(walk(name, "rules") >= 15);
+    let page = fs::read_to_string(root().join(name)).expect("a page");
+    let printed: HashSet<String> = commands(&page)
+        .iter()
+        .flat_map(|(_, printed)| figures(printed))
+        .collect();
+    let mut told = 0;
+    for line in page.lines().filter(|line| !line.starts_with("    ")) {
+        for figure in figures(line) {
+            assert!(
+                printed.contains(&figure),
+                "{name}: no command prints {figure}: {line}"
+            );
+            told += 1;
+        }
+    }
+    assert!(told >= 60, "{told}");
 }
 
 #[test]
