@@ -64,7 +64,7 @@ fn links_lead_somewhere(page: &str) {
     assert!(labels
         .iter()
         .all(|it| labels.iter().filter(|other| other == &it).count() == 1));
-    let tables = page.matches("<table>").count();
+    let tables = page.matches("<table ").count();
     assert_eq!(page.matches("<caption>").count(), tables);
     assert_eq!(page.matches("<main>").count(), 1);
 }
