@@ -7,7 +7,7 @@ use std::io;
 use std::path::{Path, PathBuf};
 use std::process;
 
-use crate::files::is_same;
+use crate::files::{is_same, Held};
 
 /// How many names are tried; each is the first that is not there.
 const MOST_NAMES: u32 = 1_000;
@@ -112,8 +112,9 @@ fn names(path: &Path, file: &File) -> bool {
     }
 }
 
-/// Removes what killed processes have left beside a file: nobody holds it.
-pub fn sweep(place: &Path) {
+/// Removes what killed processes have left beside a file: nobody holds it, or it is a
+/// second name of a file that the caller holds, and only who holds a file gives it one.
+pub fn sweep(place: &Path, held: &[&Held]) {
     let Ok(files) = fs::read_dir(folder_of(place)) else {
         return;
     };
@@ -126,12 +127,16 @@ pub fn sweep(place: &Path) {
         if !is_ours {
             continue;
         }
-        if let Ok(file) = File::open(&path) {
-            if file.try_lock().is_ok() && names(&path, &file) {
-                remove(&path);
-            }
+        let is_second_name = held.iter().any(|held| held.is_named(&path));
+        if is_second_name || is_free(&path) {
+            remove(&path);
         }
     }
+}
+
+/// Whether nobody holds a file, and its name still leads to it.
+fn is_free(path: &Path) -> bool {
+    File::open(path).is_ok_and(|file| file.try_lock().is_ok() && names(path, &file))
 }
 
 /// Whether a name is one of those beside: `.daybook.PID.N.new`.

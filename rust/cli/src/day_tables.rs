@@ -25,7 +25,7 @@ pub fn users(source: &Source, trace: &Trace, before: &[Standing], after: &[Stand
         cells.extend(has_groups.then(|| {
             let shares = shares(opening, &before.user);
             let told: Vec<String> = shares.iter().map(|it| it.short(id)).collect();
-            told.join("; ")
+            together(&told.join("; "))
         }));
         let (first, last) = (&before.state, &after.state);
         cells.push(changed(first.word.to_string(), last.word.to_string()));
@@ -55,6 +55,21 @@ pub fn users(source: &Source, trace: &Trace, before: &[Standing], after: &[Stand
     let caption = "In the order of the book; what the run changed stands as before → after";
     let table = table(caption, &names, &rows);
     section("users", "Users before and after", &table)
+}
+
+/// A text that does not break into lines after a word, but after a number.
+fn together(text: &str) -> String {
+    let mut last = ' ';
+    let blank = |letter: char| {
+        let is_held = letter == ' ' && last.is_alphabetic();
+        last = letter;
+        if is_held {
+            '\u{a0}'
+        } else {
+            letter
+        }
+    };
+    text.chars().map(blank).collect()
 }
 
 fn level(state: &State) -> String {

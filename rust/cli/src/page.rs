@@ -28,14 +28,39 @@ pub fn section(id: &str, title: &str, body: &str) -> String {
     format!("<section aria-labelledby=\"{id}\">\n<h2 id=\"{id}\">{title}</h2>\n{body}</section>\n")
 }
 
+/// The columns of words, which stand to the left and wrap on a narrow window; the
+/// others are of figures. The style has the places up to the fifth.
+const WORDS: [&str; 15] = [
+    "",
+    "user",
+    "name",
+    "what",
+    "because of",
+    "role",
+    "group",
+    "state",
+    "trade",
+    "seller",
+    "buyer",
+    "cut for",
+    "area",
+    "where",
+    "why",
+];
+
 /// A table with the names of its columns, under a caption.
 pub fn table(caption: &str, names: &[&str], rows: &str) -> String {
+    let places = (1..).zip(names);
+    let words = places.filter(|(_, name)| WORDS.contains(name));
+    let words: Vec<String> = words.map(|(place, _)| format!("words-{place}")).collect();
+    let words = words.join(" ");
     let names: String = names
         .iter()
         .map(|name| format!("<th scope=\"col\">{name}</th>"))
         .collect();
     format!(
-        "<div class=\"table\" tabindex=\"0\"><table>\n<caption>{caption}</caption>\n\
+        "<div class=\"table\" tabindex=\"0\"><table class=\"{words}\">\n\
+         <caption><span>{caption}</span></caption>\n\
          <thead><tr>{names}</tr></thead>\n<tbody>\n{rows}</tbody>\n</table></div>\n"
     )
 }

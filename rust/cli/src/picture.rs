@@ -26,6 +26,12 @@ const TOP: usize = 64;
 const ARROW: usize = 30;
 const BETWEEN: usize = 12;
 
+/// A letter of a label at most, an arrow's head with a little room, and how far a label
+/// stands above its arrow.
+const LETTER: usize = 8;
+const HEAD: usize = 18;
+const ABOVE: usize = 8;
+
 /// How far below a cut the line from the manager to the member is.
 const LEAD: usize = 7;
 
@@ -174,11 +180,10 @@ impl<'a> Part<'a> {
     fn picture(&self, scene: &Scene, (picture, count): (usize, usize)) -> Picture {
         let groups = groups(scene.book, &self.ids);
         let ids: Vec<u32> = groups.concat();
+        let place = |id: u32| ids.iter().position(|it| *it == id).unwrap_or(0);
         let between = (FULL / ids.len().max(1)).clamp(NARROW, WIDE);
-        let at = |id: u32| {
-            let place = ids.iter().position(|it| *it == id).unwrap_or(0);
-            SIDE + between * place
-        };
+        let between = between.max(self.least_between(place));
+        let at = |id: u32| SIDE + between * place(id);
         let width = 2 * SIDE + between * ids.len().saturating_sub(1);
         let (mut rows, mut y) = (String::new(), TOP);
         for (before, chapter) in &self.chapters {
@@ -219,14 +224,18 @@ impl<'a> Part<'a> {
             .map(|it| bracket(it[0], at(it[0]), at(it[it.len() - 1])))
             .collect();
         let lift = if brackets.is_empty() { 0 } else { BRACKET };
-        let (height, least) = (y + BETWEEN + lift, width * 4 / 5);
+        let height = y + BETWEEN + lift;
         let reductions = self.reductions();
+        let caption = match count {
+            1 => String::new(),
+            _ => format!("<figcaption>Picture {picture} of {count}: {reductions}</figcaption>\n"),
+        };
         let label = format!("Picture {picture} of {count}, who cut whom: {reductions}");
         let svg = format!(
-            "<svg id=\"{}\" viewBox=\"0 0 {width} {height}\" \
-             style=\"max-width:{width}px;min-width:{least}px\" role=\"group\" \
+            "<figure>\n{caption}<svg id=\"{}\" viewBox=\"0 0 {width} {height}\" \
+             style=\"--width:{width}\" role=\"group\" \
              aria-label=\"{label}\">\n{}<g transform=\"translate(0 {lift})\">\n\
-             {brackets}{lines}{rows}</g></svg>\n",
+             {brackets}{lines}{rows}</g></svg>\n</figure>\n",
             picture_place(picture),
             heads(picture)
         );
@@ -235,6 +244,21 @@ impl<'a> Part<'a> {
             svg,
             chapters: chapters.collect(),
         }
+    }
+
+    /// How far apart users have to be so that every label stands between the mark and
+    /// the head of its arrow.
+    fn least_between(&self, place: impl Fn(u32) -> usize) -> usize {
+        let chapters = self.chapters.iter();
+        let least = chapters.flat_map(|(_, chapter)| {
+            let beside = mark_width(&number(chapter)) / 2 + HEAD;
+            let place = &place;
+            chapter.cuts.iter().map(move |cut| {
+                let over = place(cut.seller).abs_diff(place(cut.buyer)).max(1);
+                (label(cut).chars().count() * LETTER + beside).div_ceil(over)
+            })
+        });
+        least.max().unwrap_or(0)
     }
 
     /// The reductions of the picture in words.
@@ -331,13 +355,18 @@ fn arrow(from: usize, to: usize, beside: usize, y: usize, cut: &Cut, picture: us
         true => (from + beside, to - 2),
         false => (from.saturating_sub(beside), to + 2),
     };
-    let (middle, above) = (start.midpoint(end), y - 5);
-    let mwh = grouped(cut.mwh);
+    let (middle, above) = (start.midpoint(end), y - ABOVE);
+    let label = label(cut);
     format!(
         "<line class=\"cut {area}\" x1=\"{start}\" y1=\"{y}\" x2=\"{end}\" y2=\"{y}\" \
          marker-end=\"url(#head-{picture}-{area})\"/>\
-         <text class=\"mwh\" x=\"{middle}\" y=\"{above}\">{mwh} MWh {area}</text>\n"
+         <text class=\"mwh\" x=\"{middle}\" y=\"{above}\">{label}</text>\n"
     )
+}
+
+/// How many MWh a cut took, and in which area.
+fn label(cut: &Cut) -> String {
+    format!("{} MWh {}", grouped(cut.mwh), AREAS[cut.area])
 }
 
 /// From the line of a manager to that of the member whose sale is cut for it, a

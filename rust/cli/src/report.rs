@@ -155,8 +155,12 @@ impl Day<'_> {
     /// The run in a few figures.
     fn run(&self) -> String {
         let run = &self.trace.run;
+        let reductions = match run.reductions {
+            1 => "reduction",
+            _ => "reductions",
+        };
         let figures = [
-            (grouped(run.reductions), "reductions".to_string()),
+            (grouped(run.reductions), reductions.to_string()),
             (grouped(run.mwh), "MWh cut".to_string()),
             (euros(run.worth), "EUR worth".to_string()),
         ];

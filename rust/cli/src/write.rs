@@ -60,7 +60,7 @@ pub fn write_folder(folder: &Path, files: &[(&str, &[u8])]) -> Result<(), Failur
     let failed = |error: io::Error| unwritten(folder, &error);
     let parent = folder.parent().filter(|it| !it.as_os_str().is_empty());
     fs::create_dir_all(parent.unwrap_or(Path::new("."))).map_err(failed)?;
-    sweep(folder);
+    sweep(folder, &[]);
     let (beside, _locked) = Beside::folder(folder).map_err(failed)?;
     for (name, bytes) in files {
         write(&beside.path.join(name), bytes, false)?;
@@ -90,15 +90,16 @@ struct Placed {
 }
 
 impl Staged {
-    fn new(new: &New, held: &[Held]) -> Result<Staged, Failure> {
+    fn new(new: &New, callers: &[Held]) -> Result<Staged, Failure> {
         let (path, is_there) = place(new.path, new.over)?;
         let failed = |error: io::Error| unwritten(&path, &error);
-        let is_held = held.iter().any(|held| held.is_named(&path));
+        let is_held = callers.iter().any(|held| held.is_named(&path));
         let held = (is_there && !is_held).then(|| Held::new(&path, "--force"));
         let held = held.transpose()?;
         let old = is_there.then(|| fs::metadata(&path));
         let old = old.transpose().map_err(failed)?;
-        sweep(&path);
+        let all_held: Vec<&Held> = callers.iter().chain(&held).collect();
+        sweep(&path, &all_held);
         // The bytes of a file that others may not read are never open to them.
         let (beside, mut file) = Beside::file(&path, is_there).map_err(failed)?;
         let written = (|| {

@@ -225,8 +225,8 @@ fn the_page_of_a_day_with_a_group() {
     let page = out(&["report", &day, "-o", "-"]);
     for part in [
         "<th scope=\"col\">role</th><th scope=\"col\">group</th><th scope=\"col\">state</th>",
-        "<td>shipper</td><td>bears PVB of 102 103</td>",
-        "<td>PVB borne by 101; bears TVB of 103</td>",
+        "<td>shipper</td><td>bears\u{a0}PVB\u{a0}of\u{a0}102 103</td>",
+        "<td>PVB\u{a0}borne\u{a0}by\u{a0}101; bears\u{a0}TVB\u{a0}of\u{a0}103</td>",
         "a dashed line leads from a manager",
         ">managed by 101</text>",
         "a managed user counts 0 there",

@@ -117,6 +117,21 @@ fn killed_at_any_moment() {
     assert_eq!(folder.names(), ["chain.gdb", "chain.log", "chain.txt"]);
 }
 
+/// A second name of the book or of the log that a killed process has left goes with
+/// the next write.
+#[test]
+fn left_second_names() {
+    let folder = folder("second_names");
+    for (number, file) in ["chain.gdb", "chain.log"].iter().enumerate() {
+        let left = folder.0.join(format!(".daybook.9122.{number}.new"));
+        fs::hard_link(folder.0.join(file), left).expect("a second name");
+        let line = "daybook post chain.gdb 101 PVB 1 --log chain.log --in-place";
+        let (status, _, messages) = folder.shell(line);
+        assert_eq!(status, 0, "{messages}");
+        assert_eq!(folder.names(), ["chain.gdb", "chain.log", "chain.txt"]);
+    }
+}
+
 /// Under a limit on the size of files, which the log exceeds and the book does not,
 /// and with a log that is read-only, neither is written.
 #[test]

@@ -221,8 +221,8 @@ fn pictures_of_many_buyers() {
         )));
         assert!(picture.contains(&format!("id=\"head-{number}-PVB\"")));
         assert!(picture.contains(&format!("url(#head-{number}-PVB)")));
-        let (_, width) = picture.split_once("max-width:").expect("a width");
-        let (width, _) = width.split_once("px").expect("a width");
+        let (_, width) = picture.split_once("--width:").expect("a width");
+        let (width, _) = width.split_once('"').expect("a width");
         assert!(width.parse::<u32>().is_ok_and(|it| it < 1_000), "{width}");
     }
     let cuts = page.matches("class=\"cut PVB\"").count();

@@ -64,7 +64,7 @@ fn links_lead_somewhere(page: &str) {
     assert!(labels
         .iter()
         .all(|it| labels.iter().filter(|other| other == &it).count() == 1));
-    let tables = page.matches("<table>").count();
+    let tables = page.matches("<table ").count();
     assert_eq!(page.matches("<caption>").count(), tables);
     assert_eq!(page.matches("<main>").count(), 1);
 }
@@ -122,6 +122,60 @@ fn names_are_escaped() {
     let page = page("a<b>&\"c\".txt", &fs::read(sample).expect("a sample"));
     assert!(page.contains("a&lt;b&gt;&amp;&quot;c&quot;.txt"), "{page}");
     assert!(is_balanced(&page));
+}
+
+/// Columns of words stand to the left, those of figures to the right; a picture says
+/// which one of several it is; users are as far apart as the longest label between two
+/// neighbours needs.
+#[test]
+fn words_and_labels() {
+    let sample = concat!(env!("CARGO_MANIFEST_DIR"), "/../../samples/chain.txt");
+    let chain = page("chain-words.txt", &fs::read(sample).expect("a sample"));
+    for (table, name) in [
+        ("words-1 words-2", "user</th><th scope=\"col\">what"),
+        ("words-1 words-2 words-3", "</th><th scope=\"col\">user"),
+        ("words-1 words-2 words-3", "user</th><th scope=\"col\">role"),
+        ("words-1 words-2 words-3 words-4", "trade</th>"),
+    ] {
+        let mut tables = chain.split("<table class=\"").skip(1);
+        let has = |it: &str| {
+            let (_, names) = it
+                .split_once("<thead><tr><th scope=\"col\">")
+                .expect("names");
+            it.starts_with(&format!("{table}\"")) && names.starts_with(name)
+        };
+        assert!(tables.any(has), "{table} {name}");
+    }
+    assert!(!chain.contains("<figcaption>"));
+    let mut seller = "daybook 1\ndate 2026-03-18\nprices P 20.00 Q 21.00 L 3.00 X 1.00 I 0.50\n\
+                      user 101 shipper\n"
+        .to_string();
+    for id in 102..=164 {
+        seller.push_str(&format!("user {id} shipper\n"));
+    }
+    for place in 0..256 {
+        let buyer = 102 + place % 63;
+        seller.push_str(&format!("trade 101 to {buyer} PVB bilateral d 1000\n"));
+    }
+    let seller = page("seller-words.txt", seller.as_bytes());
+    assert_eq!(seller.matches("<svg").count(), 11);
+    assert_eq!(seller.matches("<figcaption>").count(), 11);
+    assert!(seller.contains("<figcaption>Picture 11 of 11: reduction 1</figcaption>"));
+    let far = |mwh: u64| {
+        let text = format!(
+            "daybook 1\ndate 2026-03-18\nprices P 0.50 Q 0.50 L 3.00 X 1.00 I 0.50\n\
+             user 101 shipper\nuser 102 shipper\ntrade 101 to 102 PVB bilateral d {mwh}\n"
+        );
+        let page = page("far.txt", text.as_bytes());
+        let widths = page.split("--width:").skip(1);
+        let mut widths = widths.filter_map(|it| it.split('"').next());
+        widths
+            .next()
+            .expect("a picture")
+            .parse::<usize>()
+            .expect("a width")
+    };
+    assert!(far(100_000) >= 160 + 15 * 7 + 11 + 14);
 }
 
 /// The longest numbers that a mark can have still fit the picture.

@@ -125,6 +125,12 @@ fn what_is_no_amount() {
             "/users.csv:2:17: charges is euros, as 1234.50, not `1.234`",
         ),
         (
+            "1,shipper,0,0,0,\"1@5\",5,0",
+            ",",
+            "/users.csv:2:17: charges is euros, as 1234.50, or 1234,50 with semicolons between \
+             the columns, not `1,5`",
+        ),
+        (
             "1,shipper,0,0,0,1.234,5,0",
             "\t",
             "/users.csv:2:17: charges is euros, as 1234.50 or 1234,50, not `1.234`",

@@ -34,7 +34,15 @@ pub fn answer(book: &mut [u8], given: Given<'_>, log: Option<&mut [u8]>, call: &
             pick,
             id,
         } => record(if *pick { afternoon } else { book }, |part| {
-            archive::show_picked(book, afternoon, party, store, archive::yes_or_no(*pick), *id, part)
+            archive::show_picked(
+                book,
+                afternoon,
+                party,
+                store,
+                archive::yes_or_no(*pick),
+                *id,
+                part,
+            )
         }),
         Call::MorningLevel { id } => {
             fields::<1>(|part| archive::morning_level(book, party, store, *id, part))

@@ -36,9 +36,15 @@ impl Convention {
         }
     }
 
-    /// How euros are written, for messages.
-    pub fn example(self) -> &'static str {
+    /// How euros are written, for messages about a text that is none; a spreadsheet
+    /// with a decimal comma has to save with other separators.
+    pub fn example(self, text: &str) -> &'static str {
         match self {
+            Convention::Commas
+                if text.contains(',') && Convention::Semicolons.euros(text).is_some() =>
+            {
+                "1234.50, or 1234,50 with semicolons between the columns"
+            }
             Convention::Commas => "1234.50",
             Convention::Semicolons => "1234,50",
             Convention::Tabs => "1234.50 or 1234,50",
@@ -112,13 +118,15 @@ pub enum Dates {
     /// None of them: day or month may stand first.
     #[default]
     NoSlashes,
-    /// Day, month, year.
+    /// Day, month, year, of which the last two digits may stand alone: the years of a
+    /// book are 2020 to 2099.
     DayFirst,
 }
 
 impl Dates {
     /// A date as the number of the book: 2026-03-18, 18.03.2026, and 18/03/2026 where
-    /// the day is known to stand first. It need not be a real day.
+    /// the day is known to stand first, then 18/03/26 too, which spreadsheets make of it.
+    /// It need not be a real day.
     pub fn read(self, text: &str) -> Option<u32> {
         let mark = match self {
             _ if text.contains('.') => '.',
@@ -134,7 +142,11 @@ impl Dates {
             formed.then(|| text.parse::<u32>().ok())?
         };
         let (day, month) = (number(day, 1..=2)?, number(month, 1..=2)?);
-        Some(number(year, 4..=4)? * 10_000 + month * 100 + day)
+        let year = match self {
+            Dates::DayFirst if year.len() == 2 => 2000 + number(year, 2..=2)?,
+            _ => number(year, 4..=4)?,
+        };
+        Some(year * 10_000 + month * 100 + day)
     }
 }
 
@@ -187,7 +199,9 @@ mod tests {
             ("18.03.2026", [Some(20_260_318); 2]),
             ("8.3.2026", [Some(20_260_308); 2]),
             ("18/03/2026", [None, Some(20_260_318)]),
-            ("18.03.26", [None; 2]),
+            ("18.03.26", [None, Some(20_260_318)]),
+            ("18/03/26", [None, Some(20_260_318)]),
+            ("18/03/126", [None; 2]),
             ("03/18/2026", [None, Some(20_261_803)]),
             ("2026/03/18", [None; 2]),
             ("1.2.3.2026", [None; 2]),

@@ -361,8 +361,9 @@ impl Row<'_> {
         if self.is_left_empty(name) {
             return T::default();
         }
-        let cents = self.convention.euros(self.text(name));
-        let what = format!("is euros, as {}", self.convention.example());
+        let text = self.text(name);
+        let cents = self.convention.euros(text);
+        let what = format!("is euros, as {}", self.convention.example(text));
         self.fitting(name, cents, &what)
     }
 
