@@ -7,15 +7,6 @@ use Rattle.book_columns.proofs.Written.{all-copied}
 use Rattle.book_columns.proofs.copy_marked.Statement.{statement}
 use Rattle.book_columns.proofs.copy_marked.Tie as tie
 
-copy-requires : tie.Need-copy-requires
-copy-requires c κs = search needs
-
-put-requires : tie.Need-put-requires
-put-requires c κs = search needs
-
-same-length : tie.Need-same-length
-same-length c = search needs
-
 returns : tie.Need-returns
 returns c =
     let s = c .before .before .before .before .before .before .before .before .before .before in
@@ -23,4 +14,4 @@ returns c =
     c .before .before .put .ensures ∙ ap (setField 3 0 (a .mark)) (c .before .before .before .before .before .before .copy .ensures .1 ∙ all-copied (now (a .s)) (now (a .out)) (s .pre .0))
 
 pub copy-marked-spec : {M : Type 1} → statement M
-copy-marked-spec = tie.close (tie.spec copy-requires put-requires same-length returns)
+copy-marked-spec = tie.close (tie.spec (λ c κs. search needs) (λ c κs. search needs) (λ c. search needs) returns)

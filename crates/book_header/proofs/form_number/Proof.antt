@@ -21,9 +21,6 @@ is-marked c = sym (c .before .is-marked .ensures) ∙ not-false _ (c .if1 .left)
 is-versioned : (c : tie.Else2) → versioned (bytes (c .before .before .before)) ≡ true
 is-versioned c = sym (c .before .is-versioned .ensures) ∙ not-false _ (c .if2 .left)
 
-is-marked-requires : tie.Need-is-marked-requires
-is-marked-requires c κs = search needs
-
 returns : tie.Need-returns
 unfolding formNumber aboutForm refusal numberOf
 returns c = simp (sym (c .before .is-marked .ensures) ∙ not-true _ (c .if1 .taken))
@@ -52,7 +49,7 @@ pub form-number-spec : {M : Type 1} → statement M
 form-number-spec =
     tie.close
     (tie.spec
-    is-marked-requires
+    (λ c κs. search needs)
     returns
     is-versioned-requires
     returns-2

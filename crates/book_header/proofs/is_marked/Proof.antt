@@ -10,12 +10,9 @@ returns : tie.Need-returns
 unfolding marked
 returns c = simp (lt-leb _ _ (c .if1 .taken))
 
-get-requires : tie.Need-get-requires
-get-requires c κs = search needs
-
 returns-2 : tie.Need-returns-2
 unfolding marked mark markOf
 returns-2 c = rw (c .get .ensures .0, le-leb _ _ (c .before .if1 .left))
 
 pub is-marked-spec : {M : Type 1} → statement M
-is-marked-spec = tie.close (tie.spec returns get-requires returns-2)
+is-marked-spec = tie.close (tie.spec returns (λ c κs. search needs) returns-2)

@@ -30,9 +30,6 @@ put-u32-requires c κs = let l = room (c .before) in search needs
 put-u32-requires-2 : tie.Need-put-u32-requires-2
 put-u32-requires-2 c κs = let l = room (c .before .before .before .before .before) in search needs
 
-same-length : tie.Need-same-length
-same-length c = search needs
-
 returns : tie.Need-returns
 unfolding sellingWidths setFields
 returns c =
@@ -50,4 +47,4 @@ returns-2 c =
     sym (ap (sets (now (a .out)) 32) (selling-none (a .version) (asPrices (a .prices)) (sym (c .before .has-selling .ensures) ∙ c .if1 .left)))
 
 pub write-selling-spec : {M : Type 1} → statement M
-write-selling-spec = tie.close (tie.spec (λ c κs. search needs) put-u32-requires put-u32-requires-2 same-length returns returns-2)
+write-selling-spec = tie.close (tie.spec (λ c κs. search needs) put-u32-requires put-u32-requires-2 (λ c. search needs) returns returns-2)

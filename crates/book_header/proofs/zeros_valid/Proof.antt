@@ -29,12 +29,6 @@ returns c =
 add-a : tie.Need-add-a Inv-loop μ-loop
 add-a c = omega (arith, zeros-lie (c .before .before .before .loop .inv) (omega arith))
 
-add-i : tie.Need-add-i Inv-loop μ-loop
-add-i c = search needs
-
-loop-less : tie.Need-loop-less Inv-loop μ-loop
-loop-less c = search needs
-
 loop-again : tie.Need-loop-again Inv-loop μ-loop
 loop-again c =
     let l = c .before .before .before .loop in
@@ -54,7 +48,7 @@ zeros-valid-spec =
     get-requires
     returns
     add-a
-    add-i
-    loop-less
+    (λ c. search needs)
+    (λ c. search needs)
     loop-again
     returns-2)

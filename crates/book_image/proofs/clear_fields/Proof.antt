@@ -24,12 +24,6 @@ put-requires c κs = omega (arith, clearing-lies (c .before .before .loop .inv) 
 add-a : tie.Need-add-a Inv-loop μ-loop
 add-a c = omega (arith, clearing-lies (c .before .before .before .before .before .loop .inv) (omega (arith, c .before .before .before .before .loop-test)), c .before .before .before .before .before .loop .inv .kept, c .before .before .before .before .before .before .before .fits)
 
-add-i : tie.Need-add-i Inv-loop μ-loop
-add-i c = search needs
-
-loop-less : tie.Need-loop-less Inv-loop μ-loop
-loop-less c = search needs
-
 loop-again : tie.Need-loop-again Inv-loop μ-loop
 loop-again c = clearing-turn (c .before .before .before .before .before .before .before .pre .0) (c .before .before .before .before .before .loop .inv) (omega (arith, c .before .before .before .before .loop-test)) (c .before .before .put .ensures)
 
@@ -49,8 +43,8 @@ clear-fields-spec =
     add-put
     put-requires
     add-a
-    add-i
-    loop-less
+    (λ c. search needs)
+    (λ c. search needs)
     loop-again
     same-length
     returns)

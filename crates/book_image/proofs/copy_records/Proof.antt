@@ -7,15 +7,6 @@ use Rattle.book_image.proofs.Turns.{all-copied}
 use Rattle.book_image.proofs.copy_records.Statement.{statement}
 use Rattle.book_image.proofs.copy_records.Tie as tie
 
-copy-requires : tie.Need-copy-requires
-copy-requires c κs = search needs
-
-clear-fields-requires : tie.Need-clear-fields-requires
-clear-fields-requires c κs = search needs
-
-same-length : tie.Need-same-length
-same-length c = search needs
-
 returns : tie.Need-returns
 returns c =
     let s = c .before .before .before .before .before .before .before .before .before .before in
@@ -23,4 +14,4 @@ returns c =
     c .before .before .clear-fields .ensures ∙ ap (zeroedRecords (a .width) (a .offset) (a .size) (a .n)) (c .before .before .before .before .before .before .copy .ensures .1 ∙ all-copied (now (a .s)) (now (a .out)) (s .pre .2 ∙ sym (s .pre .1)))
 
 pub copy-records-spec : {M : Type 1} → statement M
-copy-records-spec = tie.close (tie.spec copy-requires clear-fields-requires same-length returns)
+copy-records-spec = tie.close (tie.spec (λ c κs. search needs) (λ c κs. search needs) (λ c. search needs) returns)

@@ -8,39 +8,6 @@ use borrow.Author.Needs.{needs}
 use Rattle.book_image.proofs.copy_trades.Statement.{statement}
 use Rattle.book_image.proofs.copy_trades.Tie as tie
 
-mul-size : tie.Need-mul-size
-mul-size c = search needs
-
-add-copy-records : tie.Need-add-copy-records
-add-copy-records c = search needs
-
-sub-copy-records : tie.Need-sub-copy-records
-sub-copy-records c = search needs
-
-part-copy-records-start : tie.Need-part-copy-records-start
-part-copy-records-start c = search needs
-
-part-copy-records-end : tie.Need-part-copy-records-end
-part-copy-records-end c = search needs
-
-add-copy-records-2 : tie.Need-add-copy-records-2
-add-copy-records-2 c = search needs
-
-sub-copy-records-2 : tie.Need-sub-copy-records-2
-sub-copy-records-2 c = search needs
-
-part-copy-records-start-2 : tie.Need-part-copy-records-start-2
-part-copy-records-start-2 c = search needs
-
-part-copy-records-end-2 : tie.Need-part-copy-records-end-2
-part-copy-records-end-2 c = search needs
-
-copy-records-requires : tie.Need-copy-records-requires
-copy-records-requires c κs = search needs
-
-same-length : tie.Need-same-length
-same-length c = search needs
-
 returns : tie.Need-returns
 returns c =
     let start = c .before .before .before .before .before .before .before in
@@ -51,15 +18,15 @@ pub copy-trades-spec : {M : Type 1} → statement M
 copy-trades-spec =
     tie.close
     (tie.spec
-    mul-size
-    add-copy-records
-    sub-copy-records
-    part-copy-records-start
-    part-copy-records-end
-    add-copy-records-2
-    sub-copy-records-2
-    part-copy-records-start-2
-    part-copy-records-end-2
-    copy-records-requires
-    same-length
+    (λ c. search needs)
+    (λ c. search needs)
+    (λ c. search needs)
+    (λ c. search needs)
+    (λ c. search needs)
+    (λ c. search needs)
+    (λ c. search needs)
+    (λ c. search needs)
+    (λ c. search needs)
+    (λ c κs. search needs)
+    (λ c. search needs)
     returns)

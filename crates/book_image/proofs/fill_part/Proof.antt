@@ -7,21 +7,6 @@ use borrow.Author.Needs.{needs}
 use Rattle.book_image.proofs.fill_part.Statement.{statement}
 use Rattle.book_image.proofs.fill_part.Tie as tie
 
-sub-fill : tie.Need-sub-fill
-sub-fill c = search needs
-
-part-fill-start : tie.Need-part-fill-start
-part-fill-start c = search needs
-
-part-fill-end : tie.Need-part-fill-end
-part-fill-end c = search needs
-
-fill-requires : tie.Need-fill-requires
-fill-requires c κs = search needs
-
-same-length : tie.Need-same-length
-same-length c = search needs
-
 returns : tie.Need-returns
 returns c =
     let filled = c .before .before in
@@ -30,4 +15,4 @@ returns c =
 
 pub fill-part-spec : {M : Type 1} → statement M
 fill-part-spec =
-    tie.close (tie.spec sub-fill part-fill-start part-fill-end fill-requires same-length returns)
+    tie.close (tie.spec (λ c. search needs) (λ c. search needs) (λ c. search needs) (λ c κs. search needs) (λ c. search needs) returns)

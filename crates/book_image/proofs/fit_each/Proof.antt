@@ -50,12 +50,6 @@ fit-record-requires c κs =
     let least = c .before .before .before .least .ensures in
     (omega (arith, from-lies (c .before)), to-lies (c .before), omega arith)
 
-add-i : tie.Need-add-i Inv-loop μ-loop
-add-i c = search needs
-
-loop-less : tie.Need-loop-less Inv-loop μ-loop
-loop-less c = search needs
-
 loop-again : tie.Need-loop-again Inv-loop μ-loop
 loop-again c =
     let done = c .before .before in
@@ -82,8 +76,8 @@ fit-each-spec =
     mul-fit-record-2
     add-fit-record-2
     fit-record-requires
-    add-i
-    loop-less
+    (λ c. search needs)
+    (λ c. search needs)
     loop-again
     same-length
     returns)

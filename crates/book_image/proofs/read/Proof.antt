@@ -12,15 +12,6 @@ use borrow.Author.Needs.{needs}
 use Rattle.book_image.proofs.read.Statement.{statement}
 use Rattle.book_image.proofs.read.Tie as tie
 
-number-requires : tie.Need-number-requires
-number-requires c κs = search needs
-
-clear-requires : tie.Need-clear-requires
-clear-requires c κs = search needs
-
-same-length : tie.Need-same-length
-same-length c = search needs
-
 returns : tie.Need-returns
 unfolding readImage bookNumber decided
 returns c =
@@ -39,14 +30,8 @@ formed c = passed (now (c .before .before .before .before .args .book)) (accepte
 user-count-requires : tie.Need-user-count-requires
 user-count-requires c κs = omega (arith, formed c .head)
 
-cast-n : tie.Need-cast-n
-cast-n c = search needs
-
 copy-book-requires : tie.Need-copy-book-requires
 copy-book-requires c κs = (formed (c .before .before), c .before .user-count .ensures, c .before .before .before .before .before .before .pre)
-
-same-length-2 : tie.Need-same-length-2
-same-length-2 c = search needs
 
 returns-2 : tie.Need-returns-2
 unfolding readImage decided
@@ -58,12 +43,12 @@ pub read-spec : {M : Type 1} → statement M
 read-spec =
     tie.close
     (tie.spec
-    number-requires
-    clear-requires
-    same-length
+    (λ c κs. search needs)
+    (λ c κs. search needs)
+    (λ c. search needs)
     returns
     user-count-requires
-    cast-n
+    (λ c. search needs)
     copy-book-requires
-    same-length-2
+    (λ c. search needs)
     returns-2)

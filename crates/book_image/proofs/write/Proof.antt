@@ -17,12 +17,6 @@ use borrow.Author.Needs.{needs}
 use Rattle.book_image.proofs.write.Statement.{statement}
 use Rattle.book_image.proofs.write.Tie as tie
 
-cast-n : tie.Need-cast-n
-cast-n c = search needs
-
-cast-m : tie.Need-cast-m
-cast-m c = search needs
-
 -- ---- what was asked of the numbers that were read is asked of the image
 
 -- the version
@@ -124,9 +118,6 @@ write-fields-requires c κs =
     let m = i .before .trade-count .result in
     (counts (e .before .before), whole e ∙ ap (λ (v : ℕ). lengthBy v n m) (i .before .before .before .version .ensures))
 
-same-length : tie.Need-same-length
-same-length c = search needs
-
 returns-5 : tie.Need-returns-5
 returns-5 c =
     let w = c .before .before in
@@ -142,9 +133,9 @@ write-spec =
     (tie.spec
     (λ c κs. search needs)
     (λ c κs. search needs)
-    cast-n
+    (λ c. search needs)
     (λ c κs. search needs)
-    cast-m
+    (λ c. search needs)
     (λ c κs. search needs)
     returns
     returns-2
@@ -153,5 +144,5 @@ write-spec =
     ask-written-requires
     returns-4
     write-fields-requires
-    same-length
+    (λ c. search needs)
     returns-5)

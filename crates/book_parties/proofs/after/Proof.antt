@@ -18,9 +18,6 @@ product-added : (low half : ℕ) (b : Bool) → low + half * boolByte b ≡ cond
 product-added low half true = omega arith
 product-added low half false = omega arith
 
-cast-result : tie.Need-cast-result
-cast-result c = search needs
-
 mul-result : tie.Need-mul-result
 mul-result c = record { fits = omega (arith, product-le (c .args .half) (c .args .below)) }
 
@@ -31,4 +28,4 @@ returns : tie.Need-returns
 returns c = product-added (c .args .low) (c .args .half) (c .args .below)
 
 pub after-spec : {M : Type 1} → statement M
-after-spec = tie.close (tie.spec cast-result mul-result add-result returns)
+after-spec = tie.close (tie.spec (λ c. search needs) mul-result add-result returns)

@@ -18,38 +18,11 @@ loop-holds c =
     let s = c .before in
     search-start (now (s .args .ids)) (s .args .n) (s .args .id) (s .pre)
 
-add-after : tie.Need-add-after Inv-loop μ-loop
-add-after c = search needs
-
-sub-after : tie.Need-sub-after Inv-loop μ-loop
-sub-after c = search needs
-
-mul-after : tie.Need-mul-after Inv-loop μ-loop
-mul-after c = search needs
-
-shared-slice-read-after : tie.Need-shared-slice-read-after Inv-loop μ-loop
-shared-slice-read-after c = search needs
-
-after-requires : tie.Need-after-requires Inv-loop μ-loop
-after-requires c κs = search needs
-
-sub-count : tie.Need-sub-count Inv-loop μ-loop
-sub-count c = search needs
-
-loop-less : tie.Need-loop-less Inv-loop μ-loop
-loop-less c = search needs
-
 loop-again : tie.Need-loop-again Inv-loop μ-loop
 loop-again c =
     let s = c .before .before .before .before .before in
     search-turn (now (s .args .ids)) (s .args .n) (s .args .id) (s .pre) _ _ (c .after .result) (c .before .before .before .loop .inv)
     (omega arith) (omega arith) (omega arith) (omega arith) (c .after .ensures)
-
-mul-if1 : tie.Need-mul-if1 Inv-loop μ-loop
-mul-if1 c = search needs
-
-shared-slice-read-if1 : tie.Need-shared-slice-read-if1 Inv-loop μ-loop
-shared-slice-read-if1 c = search needs
 
 returns : tie.Need-returns Inv-loop μ-loop
 returns c =
@@ -68,15 +41,15 @@ place-of-spec =
     Inv-loop
     μ-loop
     loop-holds
-    add-after
-    sub-after
-    mul-after
-    shared-slice-read-after
-    after-requires
-    sub-count
-    loop-less
+    (λ c. search needs)
+    (λ c. search needs)
+    (λ c. search needs)
+    (λ c. search needs)
+    (λ c κs. search needs)
+    (λ c. search needs)
+    (λ c. search needs)
     loop-again
-    mul-if1
-    shared-slice-read-if1
+    (λ c. search needs)
+    (λ c. search needs)
     returns
     returns-2)

@@ -8,9 +8,6 @@ use borrow.Author.Needs.{needs}
 use Rattle.book_questions.proofs.ask.Statement.{statement}
 use Rattle.book_questions.proofs.ask.Tie as tie
 
-form-number-requires : tie.Need-form-number-requires
-form-number-requires c κs = search needs
-
 returns : tie.Need-returns
 returns c =
     let form = c .before in
@@ -27,12 +24,6 @@ ask-fields-requires c κs =
     let passed = c .before .before .before in
     let form = passed .before in
     (formed (now (form .before .before .before .before .args .s)) (sym (form .form-number .ensures) ∙ passed .if1 .left), search needs, search needs, search needs)
-
-same-length : tie.Need-same-length
-same-length c = search needs
-
-same-length-2 : tie.Need-same-length-2
-same-length-2 c = search needs
 
 returns-2 : tie.Need-returns-2
 unfolding fieldsNumber
@@ -53,9 +44,9 @@ pub ask-spec : {M : Type 1} → statement M
 ask-spec =
     tie.close
     (tie.spec
-    form-number-requires
+    (λ c κs. search needs)
     returns
     ask-fields-requires
-    same-length
-    same-length-2
+    (λ c. search needs)
+    (λ c. search needs)
     returns-2)

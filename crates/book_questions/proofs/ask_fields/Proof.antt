@@ -13,29 +13,8 @@ use borrow.Author.Needs.{needs}
 use Rattle.book_questions.proofs.ask_fields.Statement.{statement}
 use Rattle.book_questions.proofs.ask_fields.Tie as tie
 
-user-count-requires : tie.Need-user-count-requires
-user-count-requires c κs = search needs
-
-cast-n : tie.Need-cast-n
-cast-n c = search needs
-
-trade-count-requires : tie.Need-trade-count-requires
-trade-count-requires c κs = search needs
-
-cast-m : tie.Need-cast-m
-cast-m c = search needs
-
 read-prices-requires : tie.Need-read-prices-requires
 read-prices-requires c κs = header-lies (c .before .before .before .before .before .pre .0)
-
-version-requires : tie.Need-version-requires
-version-requires c κs = search needs
-
-get-u32-requires : tie.Need-get-u32-requires
-get-u32-requires c κs = search needs
-
-header-valid-requires : tie.Need-header-valid-requires
-header-valid-requires c κs = search needs
 
 returns : tie.Need-returns
 unfolding pastFive pastSix
@@ -86,12 +65,6 @@ ask-records-requires c κs =
     let p = offsets .before .before .before .before .before .before .before .before .before .before .before .before .before .pre in
     ((records-within _ _ _ (behind offsets) (placed offsets), offsets .before .before .user-size .ensures .0), (p .1, p .2, p .3))
 
-same-length : tie.Need-same-length
-same-length c = search needs
-
-same-length-2 : tie.Need-same-length-2
-same-length-2 c = search needs
-
 returns-2 : tie.Need-returns-2
 returns-2 c =
     let records = c .before .before .before .before in
@@ -113,14 +86,14 @@ pub ask-fields-spec : {M : Type 1} → statement M
 ask-fields-spec =
     tie.close
     (tie.spec
-    user-count-requires
-    cast-n
-    trade-count-requires
-    cast-m
+    (λ c κs. search needs)
+    (λ c. search needs)
+    (λ c κs. search needs)
+    (λ c. search needs)
     read-prices-requires
-    version-requires
-    get-u32-requires
-    header-valid-requires
+    (λ c κs. search needs)
+    (λ c κs. search needs)
+    (λ c κs. search needs)
     returns
     (λ c κs. search needs)
     (λ c κs. search needs)
@@ -132,6 +105,6 @@ ask-fields-spec =
     part-ask-records-end
     sub-ask-records-2
     ask-records-requires
-    same-length
-    same-length-2
+    (λ c. search needs)
+    (λ c. search needs)
     returns-2)

@@ -13,21 +13,9 @@ use borrow.Author.Needs.{needs}
 use Rattle.book_questions.proofs.ask_records.Statement.{statement}
 use Rattle.book_questions.proofs.ask_records.Tie as tie
 
-slice-aggregate-users-valid : tie.Need-slice-aggregate-users-valid
-slice-aggregate-users-valid c = search needs
-
-users-valid-requires : tie.Need-users-valid-requires
-users-valid-requires c κs = search needs
-
 returns : tie.Need-returns
 unfolding pastFive pastSix
 returns c = (records-5 _ (c .before .before .users-valid .ensures) (not-true _ (c .if1 .taken)), summed-none 5 (λ p. p))
-
-fill-guesses-requires : tie.Need-fill-guesses-requires
-fill-guesses-requires c κs = search needs
-
-slice-aggregate-valid-trades : tie.Need-slice-aggregate-valid-trades
-slice-aggregate-valid-trades c = search needs
 
 valid-trades-requires : tie.Need-valid-trades-requires
 valid-trades-requires c κs =
@@ -35,12 +23,6 @@ valid-trades-requires c κs =
     let users = passed .before .before .users-valid in
     let start = passed .before .before .before .before .before .before .before in
     (users .ensures .padded (second-yes (start .args .user-zeros) (users .result) (not-false _ (passed .if1 .left))), search needs)
-
-same-length : tie.Need-same-length
-same-length c = search needs
-
-same-length-2 : tie.Need-same-length-2
-same-length-2 c = search needs
 
 returns-2 : tie.Need-returns-2
 returns-2 c =
@@ -50,9 +32,6 @@ returns-2 c =
       records-6 (a .version) {ts = tradesFrom (a .trades-at) (a .m) (now (a .s))} (passed .before .before .users-valid .ensures) (trades .valid-trades .ensures) (not-false _ (passed .if1 .left)) (not-true _ (c .if2 .taken)),
       summed-6 (a .version) {ts = tradesFrom (a .trades-at) (a .m) (now (a .s))} (passed .before .before .users-valid .ensures) (trades .valid-trades .ensures) (second-yes (a .user-zeros) _ (not-false _ (passed .if1 .left))),
     )
-
-positions-valid-requires : tie.Need-positions-valid-requires
-positions-valid-requires c κs = search needs
 
 -- the answer to question 7 is that of the rules
 positions-answer : (c : tie.After-positions-valid)
@@ -81,12 +60,6 @@ summed number e c =
     records-summed (a .version) {ts = tradesFrom (a .trades-at) (a .m) (now (a .s))} (users .ensures) (trades .valid-trades .ensures) number (second-yes (a .user-zeros) (users .result) (not-false _ (passed .if1 .left)))
     (second-yes (a .trade-zeros) _ (not-false _ (c .if2 .left))) e (λ e. eqb-true (trades .valid-trades .result) (a .m) e)
 
-same-length-3 : tie.Need-same-length-3
-same-length-3 c = search needs
-
-same-length-4 : tie.Need-same-length-4
-same-length-4 c = search needs
-
 returns-3 : tie.Need-returns-3
 unfolding pastFive pastSix
 returns-3 c =
@@ -98,12 +71,6 @@ returns-3 c =
           (not-false _ (allowed .if2 .left)) (positions-answer (c .before)) (not-true _ (c .if3 .taken)),
       summed 7 refl allowed,
     )
-
-same-length-5 : tie.Need-same-length-5
-same-length-5 c = search needs
-
-same-length-6 : tie.Need-same-length-6
-same-length-6 c = search needs
 
 returns-4 : tie.Need-returns-4
 unfolding pastFive pastSix
@@ -121,19 +88,19 @@ pub ask-records-spec : {M : Type 1} → statement M
 ask-records-spec =
     tie.close
     (tie.spec
-    slice-aggregate-users-valid
-    users-valid-requires
+    (λ c. search needs)
+    (λ c κs. search needs)
     returns
-    fill-guesses-requires
-    slice-aggregate-valid-trades
+    (λ c κs. search needs)
+    (λ c. search needs)
     valid-trades-requires
-    same-length
-    same-length-2
+    (λ c. search needs)
+    (λ c. search needs)
     returns-2
-    positions-valid-requires
-    same-length-3
-    same-length-4
+    (λ c κs. search needs)
+    (λ c. search needs)
+    (λ c. search needs)
     returns-3
-    same-length-5
-    same-length-6
+    (λ c. search needs)
+    (λ c. search needs)
     returns-4)

@@ -30,20 +30,11 @@ loop-holds c = users-walk-start (c .before .before .pre .3)
 add-read-user : tie.Need-add-read-user Inv-loop μ-loop
 add-read-user c = omega (arith, lies c .0, c .before .before .before .before .fits)
 
-sub-read-user : tie.Need-sub-read-user Inv-loop μ-loop
-sub-read-user c = search needs
-
-part-read-user-start : tie.Need-part-read-user-start Inv-loop μ-loop
-part-read-user-start c = search needs
-
 part-read-user-end : tie.Need-part-read-user-end Inv-loop μ-loop
 part-read-user-end c = omega (arith, lies c .0)
 
 read-user-requires : tie.Need-read-user-requires Inv-loop μ-loop
 read-user-requires c κs = simp (length-take, length-drop) (omega (arith, lies (c .before) .0))
-
-same-length : tie.Need-same-length Inv-loop μ-loop
-same-length c = search needs
 
 returns : tie.Need-returns Inv-loop μ-loop
 unfolding asUser
@@ -51,32 +42,14 @@ returns c =
     let read = c .before .before in
     users-walk-id-no (read .before .before .before .before .before .before .pre .1) (read .before .before .before .loop .inv) (omega arith) (read .read-user .ensures) (c .if1 .taken)
 
-user-valid-requires : tie.Need-user-valid-requires Inv-loop μ-loop
-user-valid-requires c κs = search needs
-
-same-length-2 : tie.Need-same-length-2 Inv-loop μ-loop
-same-length-2 c = search needs
-
 returns-2 : tie.Need-returns-2 Inv-loop μ-loop
 returns-2 c =
     let asked = c .before .user-valid in
     let read = c .before .before .before .before in
     users-walk-no (read .before .before .before .before .before .before .pre .1) (read .before .before .before .loop .inv) (omega arith) (read .read-user .ensures) (sym (asked .ensures) ∙ not-true (asked .result) (c .if2 .taken))
 
-mul-ids : tie.Need-mul-ids Inv-loop μ-loop
-mul-ids c = search needs
-
-slice-write-ids : tie.Need-slice-write-ids Inv-loop μ-loop
-slice-write-ids c = search needs
-
 add-a : tie.Need-add-a Inv-loop μ-loop
 add-a c = let inside = c .before .before .before .before .before .before in omega (arith, lies inside .1, inside .before .before .before .before .fits)
-
-add-i : tie.Need-add-i Inv-loop μ-loop
-add-i c = search needs
-
-loop-less : tie.Need-loop-less Inv-loop μ-loop
-loop-less c = search needs
 
 loop-again : tie.Need-loop-again Inv-loop μ-loop
 unfolding asUser
@@ -85,9 +58,6 @@ loop-again c =
     let read = c .before .before .before .before in
     users-walk-turn (read .before .before .before .before .before .before .pre .1) (read .before .before .before .loop .inv) (omega arith) (read .read-user .ensures) (search needs) (c .before .before .if1 .left)
     (sym (asked .ensures) ∙ not-false (asked .result) (c .if2 .left))
-
-same-length-3 : tie.Need-same-length-3 Inv-loop μ-loop
-same-length-3 c = search needs
 
 returns-3 : tie.Need-returns-3 Inv-loop μ-loop
 returns-3 c = users-walk-end (c .before .loop .inv) (omega arith) (search needs)
@@ -100,20 +70,20 @@ fields-valid-spec =
     μ-loop
     loop-holds
     add-read-user
-    sub-read-user
-    part-read-user-start
+    (λ c. search needs)
+    (λ c. search needs)
     part-read-user-end
     read-user-requires
-    same-length
+    (λ c. search needs)
     returns
-    user-valid-requires
-    same-length-2
+    (λ c κs. search needs)
+    (λ c. search needs)
     returns-2
-    mul-ids
-    slice-write-ids
+    (λ c. search needs)
+    (λ c. search needs)
     add-a
-    add-i
-    loop-less
+    (λ c. search needs)
+    (λ c. search needs)
     loop-again
-    same-length-3
+    (λ c. search needs)
     returns-3)

@@ -22,27 +22,12 @@ abbrev μ-loop : tie.MeasureT-loop
 loop-holds : tie.Need-loop-holds Inv-loop μ-loop
 loop-holds c = passed-start
 
-manager-valid-requires : tie.Need-manager-valid-requires Inv-loop μ-loop
-manager-valid-requires c κs = search needs
-
-manager-valid-requires-2 : tie.Need-manager-valid-requires-2 Inv-loop μ-loop
-manager-valid-requires-2 c κs = search needs
-
-manager-valid-requires-3 : tie.Need-manager-valid-requires-3 Inv-loop μ-loop
-manager-valid-requires-3 c κs = search needs
-
 returns : tie.Need-returns Inv-loop μ-loop
 returns c =
     let asked = c .before in
     let inside = asked .before .before .before in
     passed-no nobody (inside .before .loop .inv) (rw length-recordsOf (omega arith))
     (sym (managers-three _ _ (asked .before .before .manager-valid .ensures) (asked .before .manager-valid2 .ensures) (asked .manager-valid3 .ensures)) ∙ not-true _ (c .if1 .taken))
-
-add-i : tie.Need-add-i Inv-loop μ-loop
-add-i c = search needs
-
-loop-less : tie.Need-loop-less Inv-loop μ-loop
-loop-less c = search needs
 
 loop-again : tie.Need-loop-again Inv-loop μ-loop
 loop-again c =
@@ -57,4 +42,4 @@ returns-2 c = passed-end (c .before .loop .inv) (rw length-recordsOf (omega arit
 pub managers-valid-spec : {M : Type 1} → statement M
 managers-valid-spec =
     tie.close
-    (tie.spec Inv-loop μ-loop loop-holds manager-valid-requires manager-valid-requires-2 manager-valid-requires-3 returns add-i loop-less loop-again returns-2)
+    (tie.spec Inv-loop μ-loop loop-holds (λ c κs. search needs) (λ c κs. search needs) (λ c κs. search needs) returns (λ c. search needs) (λ c. search needs) loop-again returns-2)

@@ -16,9 +16,6 @@ fields-valid-requires c κs =
     let p = c .before .before .before .pre in
     (p .1, omega (arith, p .0, user-range (c .before .before .before .args .version)), p .2, p .3)
 
-same-length : tie.Need-same-length
-same-length c = search needs
-
 returns : tie.Need-returns
 returns c = users-no _ (c .before .before .before .fields-valid .ensures) (not-true _ (c .if1 .taken))
 
@@ -29,9 +26,6 @@ groups-valid-requires c κs =
     let a = start .args in
     fields-groups (a .version) (fields .fields-valid .ensures) (now (a .s)) (ap (λ (size : ℕ). usersFrom size 0 (a .n) (now (a .s))) (start .pre .0)) (rw (start .pre .0) at (start .pre .2)) (not-false _ (c .before .if1 .left))
 
-same-length-2 : tie.Need-same-length-2
-same-length-2 c = search needs
-
 returns-2 : tie.Need-returns-2
 returns-2 c =
     let fields = c .before .before .before .before .before in
@@ -39,4 +33,4 @@ returns-2 c =
     users-yes (start .args .version) (fields .fields-valid .ensures) (not-false _ (c .before .before .if1 .left)) (rw (start .pre .0) (c .groups-valid .ensures))
 
 pub users-valid-spec : {M : Type 1} → statement M
-users-valid-spec = tie.close (tie.spec fields-valid-requires same-length returns groups-valid-requires same-length-2 returns-2)
+users-valid-spec = tie.close (tie.spec fields-valid-requires (λ c. search needs) returns groups-valid-requires (λ c. search needs) returns-2)

@@ -47,53 +47,14 @@ loop-holds c =
     let start = c .before .before .before .before in
     trades-walk-start (search needs) (search needs) (start .pre .1 .4)
 
-add-read-trade : tie.Need-add-read-trade Inv-loop μ-loop
-add-read-trade c = search needs
-
-sub-read-trade : tie.Need-sub-read-trade Inv-loop μ-loop
-sub-read-trade c = search needs
-
-part-read-trade-start : tie.Need-part-read-trade-start Inv-loop μ-loop
-part-read-trade-start c = search needs
-
-part-read-trade-end : tie.Need-part-read-trade-end Inv-loop μ-loop
-part-read-trade-end c = search needs
-
 read-trade-requires : tie.Need-read-trade-requires Inv-loop μ-loop
 read-trade-requires c κs = simp (length-take, length-drop) (omega arith)
-
-find-requires : tie.Need-find-requires Inv-loop μ-loop
-find-requires c κs = search needs
-
-find-requires-2 : tie.Need-find-requires-2 Inv-loop μ-loop
-find-requires-2 c κs = search needs
-
-trade-valid-requires : tie.Need-trade-valid-requires Inv-loop μ-loop
-trade-valid-requires c κs = search needs
-
-same-length : tie.Need-same-length Inv-loop μ-loop
-same-length c = search needs
-
-same-length-2 : tie.Need-same-length-2 Inv-loop μ-loop
-same-length-2 c = search needs
 
 returns : tie.Need-returns Inv-loop μ-loop
 unfolding asTrade
 returns c =
     let read = c .before .before .before .before in
     trades-walk-no (read .before .before .before .loop .inv) (omega arith) (read .read-trade .ensures) (asked (c .before) (not-true (c .before .trade-valid .result) (c .if1 .taken)))
-
-cast-sellers : tie.Need-cast-sellers Inv-loop μ-loop
-cast-sellers c = search needs
-
-slice-write-sellers : tie.Need-slice-write-sellers Inv-loop μ-loop
-slice-write-sellers c = search needs
-
-cast-buyers : tie.Need-cast-buyers Inv-loop μ-loop
-cast-buyers c = search needs
-
-slice-write-buyers : tie.Need-slice-write-buyers Inv-loop μ-loop
-slice-write-buyers c = search needs
 
 add-trade-requires : tie.Need-add-trade-requires Inv-loop μ-loop
 add-trade-requires c κs =
@@ -123,9 +84,6 @@ add-i c =
     let inside = c .before .before .before .before .before .before .before .before .before .before in
     omega (arith, inside .loop-test, inside .before .before .before .before .before .before .pre .1 .0)
 
-loop-less : tie.Need-loop-less Inv-loop μ-loop
-loop-less c = search needs
-
 loop-again : tie.Need-loop-again Inv-loop μ-loop
 unfolding asTrade
 loop-again c =
@@ -138,12 +96,6 @@ loop-again c =
     trades-walk-turn (read .before .before .before .loop .inv) (omega (arith, read .before .before .loop-test)) (read .read-trade .ensures) (rw length-take (omega (arith, start .pre .0 .few))) (start .pre .1 .0)
     (asked answer (not-false (answer .trade-valid .result) (valid .if1 .left))) (places .before .find .ensures .0) (places .find2 .ensures .0) (sold .add-trade .ensures) (c .add-trade2 .ensures)
 
-same-length-3 : tie.Need-same-length-3 Inv-loop μ-loop
-same-length-3 c = search needs
-
-same-length-4 : tie.Need-same-length-4 Inv-loop μ-loop
-same-length-4 c = search needs
-
 returns-2 : tie.Need-returns-2 Inv-loop μ-loop
 returns-2 c = trades-walk-end (c .before .loop .inv) (omega arith) (search needs)
 
@@ -154,27 +106,27 @@ valid-trades-spec =
     Inv-loop
     μ-loop
     loop-holds
-    add-read-trade
-    sub-read-trade
-    part-read-trade-start
-    part-read-trade-end
+    (λ c. search needs)
+    (λ c. search needs)
+    (λ c. search needs)
+    (λ c. search needs)
     read-trade-requires
-    find-requires
-    find-requires-2
-    trade-valid-requires
-    same-length
-    same-length-2
+    (λ c κs. search needs)
+    (λ c κs. search needs)
+    (λ c κs. search needs)
+    (λ c. search needs)
+    (λ c. search needs)
     returns
-    cast-sellers
-    slice-write-sellers
-    cast-buyers
-    slice-write-buyers
+    (λ c. search needs)
+    (λ c. search needs)
+    (λ c. search needs)
+    (λ c. search needs)
     add-trade-requires
     add-trade-requires-2
     add-a
     add-i
-    loop-less
+    (λ c. search needs)
     loop-again
-    same-length-3
-    same-length-4
+    (λ c. search needs)
+    (λ c. search needs)
     returns-2)

@@ -4,30 +4,6 @@ use borrow.Author.Needs.{needs}
 use Rattle.book_records.proofs.get_amounts.Statement.{statement}
 use Rattle.book_records.proofs.get_amounts.Tie as tie
 
-get-u32-requires : tie.Need-get-u32-requires
-get-u32-requires c κs = search needs
-
-of-bits-requires : tie.Need-of-bits-requires
-of-bits-requires c κs = search needs
-
-add-get-u32 : tie.Need-add-get-u32
-add-get-u32 c = search needs
-
-get-u32-requires-2 : tie.Need-get-u32-requires-2
-get-u32-requires-2 c κs = search needs
-
-of-bits-requires-2 : tie.Need-of-bits-requires-2
-of-bits-requires-2 c κs = search needs
-
-add-get-u32-2 : tie.Need-add-get-u32-2
-add-get-u32-2 c = search needs
-
-get-u32-requires-3 : tie.Need-get-u32-requires-3
-get-u32-requires-3 c κs = search needs
-
-of-bits-requires-3 : tie.Need-of-bits-requires-3
-of-bits-requires-3 c κs = search needs
-
 returns : tie.Need-returns
 unfolding amountsAt asAmounts
 returns c =
@@ -38,12 +14,12 @@ pub get-amounts-spec : {M : Type 1} → statement M
 get-amounts-spec =
     tie.close
     (tie.spec
-    get-u32-requires
-    of-bits-requires
-    add-get-u32
-    get-u32-requires-2
-    of-bits-requires-2
-    add-get-u32-2
-    get-u32-requires-3
-    of-bits-requires-3
+    (λ c κs. search needs)
+    (λ c κs. search needs)
+    (λ c. search needs)
+    (λ c κs. search needs)
+    (λ c κs. search needs)
+    (λ c. search needs)
+    (λ c κs. search needs)
+    (λ c κs. search needs)
     returns)

@@ -4,27 +4,6 @@ use borrow.Author.Needs.{needs}
 use Rattle.book_records.proofs.read_trade.Statement.{statement}
 use Rattle.book_records.proofs.read_trade.Tie as tie
 
-get-u32-requires : tie.Need-get-u32-requires
-get-u32-requires c κs = search needs
-
-get-u32-requires-2 : tie.Need-get-u32-requires-2
-get-u32-requires-2 c κs = search needs
-
-get-u8-requires : tie.Need-get-u8-requires
-get-u8-requires c κs = search needs
-
-get-u8-requires-2 : tie.Need-get-u8-requires-2
-get-u8-requires-2 c κs = search needs
-
-get-u8-requires-3 : tie.Need-get-u8-requires-3
-get-u8-requires-3 c κs = search needs
-
-get-u32-requires-3 : tie.Need-get-u32-requires-3
-get-u32-requires-3 c κs = search needs
-
-get-u32-requires-4 : tie.Need-get-u32-requires-4
-get-u32-requires-4 c κs = search needs
-
 returns : tie.Need-returns
 unfolding tradeOf asTrade
 returns c =
@@ -42,11 +21,11 @@ pub read-trade-spec : {M : Type 1} → statement M
 read-trade-spec =
     tie.close
     (tie.spec
-    get-u32-requires
-    get-u32-requires-2
-    get-u8-requires
-    get-u8-requires-2
-    get-u8-requires-3
-    get-u32-requires-3
-    get-u32-requires-4
+    (λ c κs. search needs)
+    (λ c κs. search needs)
+    (λ c κs. search needs)
+    (λ c κs. search needs)
+    (λ c κs. search needs)
+    (λ c κs. search needs)
+    (λ c κs. search needs)
     returns)

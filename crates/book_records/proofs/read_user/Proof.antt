@@ -7,30 +7,6 @@ use borrow.Author.Needs.{needs}
 use Rattle.book_records.proofs.read_user.Statement.{statement}
 use Rattle.book_records.proofs.read_user.Tie as tie
 
-get-amounts-requires : tie.Need-get-amounts-requires
-get-amounts-requires c κs = search needs
-
-get-amounts-requires-2 : tie.Need-get-amounts-requires-2
-get-amounts-requires-2 c κs = search needs
-
-get-u64-requires : tie.Need-get-u64-requires
-get-u64-requires c κs = search needs
-
-of-bits-requires : tie.Need-of-bits-requires
-of-bits-requires c κs = search needs
-
-get-u32-requires : tie.Need-get-u32-requires
-get-u32-requires c κs = search needs
-
-get-u8-requires : tie.Need-get-u8-requires
-get-u8-requires c κs = search needs
-
-get-u64-requires-2 : tie.Need-get-u64-requires-2
-get-u64-requires-2 c κs = search needs
-
-get-u64-requires-3 : tie.Need-get-u64-requires-3
-get-u64-requires-3 c κs = search needs
-
 returns : tie.Need-returns
 unfolding userOf asUser
 returns c =
@@ -51,12 +27,12 @@ pub read-user-spec : {M : Type 1} → statement M
 read-user-spec =
     tie.close
     (tie.spec
-    get-amounts-requires
-    get-amounts-requires-2
-    get-u64-requires
-    of-bits-requires
-    get-u32-requires
-    get-u8-requires
-    get-u64-requires-2
-    get-u64-requires-3
+    (λ c κs. search needs)
+    (λ c κs. search needs)
+    (λ c κs. search needs)
+    (λ c κs. search needs)
+    (λ c κs. search needs)
+    (λ c κs. search needs)
+    (λ c κs. search needs)
+    (λ c κs. search needs)
     returns)

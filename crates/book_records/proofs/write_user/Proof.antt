@@ -8,36 +8,6 @@ use borrow.Author.Needs.{needs}
 use Rattle.book_records.proofs.write_user.Statement.{statement}
 use Rattle.book_records.proofs.write_user.Tie as tie
 
-put-u32-requires : tie.Need-put-u32-requires
-put-u32-requires c κs = search needs
-
-put-u8-requires : tie.Need-put-u8-requires
-put-u8-requires c κs = search needs
-
-put-requires : tie.Need-put-requires
-put-requires c κs = search needs
-
-put-amounts-requires : tie.Need-put-amounts-requires
-put-amounts-requires c κs = search needs
-
-put-amounts-requires-2 : tie.Need-put-amounts-requires-2
-put-amounts-requires-2 c κs = search needs
-
-bits-requires : tie.Need-bits-requires
-bits-requires c κs = search needs
-
-put-u64-requires : tie.Need-put-u64-requires
-put-u64-requires c κs = search needs
-
-put-u64-requires-2 : tie.Need-put-u64-requires-2
-put-u64-requires-2 c κs = search needs
-
-put-u64-requires-3 : tie.Need-put-u64-requires-3
-put-u64-requires-3 c κs = search needs
-
-same-length : tie.Need-same-length
-same-length c = search needs
-
 returns : tie.Need-returns
 unfolding userBytes asUser setFields userWidths userValues amountWidths amountValues size
 returns c =
@@ -61,14 +31,14 @@ pub write-user-spec : {M : Type 1} → statement M
 write-user-spec =
     tie.close
     (tie.spec
-    put-u32-requires
-    put-u8-requires
-    put-requires
-    put-amounts-requires
-    put-amounts-requires-2
-    bits-requires
-    put-u64-requires
-    put-u64-requires-2
-    put-u64-requires-3
-    same-length
+    (λ c κs. search needs)
+    (λ c κs. search needs)
+    (λ c κs. search needs)
+    (λ c κs. search needs)
+    (λ c κs. search needs)
+    (λ c κs. search needs)
+    (λ c κs. search needs)
+    (λ c κs. search needs)
+    (λ c κs. search needs)
+    (λ c. search needs)
     returns)

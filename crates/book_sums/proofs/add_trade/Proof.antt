@@ -13,33 +13,6 @@ inside : (c : tie.Start) → slot (c .args .place) (c .args .side) (c .args .t .
 unfolding asTrade
 inside c = omega (arith, c .pre .place, c .pre .of-side, c .pre .day, c .pre .area)
 
-mul-k : tie.Need-mul-k
-mul-k c = search needs
-
-mul-k-2 : tie.Need-mul-k-2
-mul-k-2 c = search needs
-
-add-k : tie.Need-add-k
-add-k c = search needs
-
-cast-k : tie.Need-cast-k
-cast-k c = search needs
-
-mul-k-3 : tie.Need-mul-k-3
-mul-k-3 c = search needs
-
-add-k-2 : tie.Need-add-k-2
-add-k-2 c = search needs
-
-cast-k-2 : tie.Need-cast-k-2
-cast-k-2 c = search needs
-
-add-k-3 : tie.Need-add-k-3
-add-k-3 c = search needs
-
-mul-x : tie.Need-mul-x
-mul-x c = search needs
-
 element-copy-out-x : tie.Need-element-copy-out-x
 element-copy-out-x c = omega (arith, inside (c .before .before))
 
@@ -48,9 +21,6 @@ unfolding asTrade
 add-sums c =
     let s = c .before .before .before .before in
     record { fits = omega (arith, s .pre .low (slot (s .args .place) (s .args .side) (s .args .t .day) (s .args .t .area))) }
-
-mul-sums : tie.Need-mul-sums
-mul-sums c = search needs
 
 element-write-sums : tie.Need-element-write-sums
 element-write-sums c = omega (arith, inside (c .before .before .before .before))
@@ -63,17 +33,17 @@ pub add-trade-spec : {M : Type 1} → statement M
 add-trade-spec =
     tie.close
     (tie.spec
-    mul-k
-    mul-k-2
-    add-k
-    cast-k
-    mul-k-3
-    add-k-2
-    cast-k-2
-    add-k-3
-    mul-x
+    (λ c. search needs)
+    (λ c. search needs)
+    (λ c. search needs)
+    (λ c. search needs)
+    (λ c. search needs)
+    (λ c. search needs)
+    (λ c. search needs)
+    (λ c. search needs)
+    (λ c. search needs)
     element-copy-out-x
     add-sums
-    mul-sums
+    (λ c. search needs)
     element-write-sums
     returns)

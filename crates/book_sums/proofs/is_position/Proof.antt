@@ -6,21 +6,9 @@ use borrow.Author.Needs.{needs}
 use Rattle.book_sums.proofs.is_position.Statement.{statement}
 use Rattle.book_sums.proofs.is_position.Tie as tie
 
-cast-result : tie.Need-cast-result
-cast-result c = search needs
-
-add-result : tie.Need-add-result
-add-result c = search needs
-
-cast-result-2 : tie.Need-cast-result-2
-cast-result-2 c = search needs
-
-add-result-2 : tie.Need-add-result-2
-add-result-2 c = search needs
-
 returns : tie.Need-returns
 unfolding positionAs net
 returns c = eqb-position (c .args .position .0) (c .args .physical .0) 2147483648 (c .args .bought) (c .args .sold)
 
 pub is-position-spec : {M : Type 1} → statement M
-is-position-spec = tie.close (tie.spec cast-result add-result cast-result-2 add-result-2 returns)
+is-position-spec = tie.close (tie.spec (λ c. search needs) (λ c. search needs) (λ c. search needs) (λ c. search needs) returns)

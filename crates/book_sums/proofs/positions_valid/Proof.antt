@@ -52,9 +52,6 @@ loop-holds c = (record-first _ _, λ ts sums. passed-start)
 add-read-user : tie.Need-add-read-user Inv-loop μ-loop
 add-read-user c = omega (arith, lies c .0, c .before .before .before .fits)
 
-sub-read-user : tie.Need-sub-read-user Inv-loop μ-loop
-sub-read-user c = search needs
-
 part-read-user-start : tie.Need-part-read-user-start Inv-loop μ-loop
 part-read-user-start c = omega arith
 
@@ -79,12 +76,6 @@ returns c =
 add-a : tie.Need-add-a Inv-loop μ-loop
 add-a c = omega (arith, lies (c .before .before .before .before) .1, c .before .before .before .before .before .before .before .fits)
 
-add-i : tie.Need-add-i Inv-loop μ-loop
-add-i c = search needs
-
-loop-less : tie.Need-loop-less Inv-loop μ-loop
-loop-less c = search needs
-
 loop-again : tie.Need-loop-again Inv-loop μ-loop
 loop-again c =
     let asks = c .before in
@@ -105,14 +96,14 @@ positions-valid-spec =
     μ-loop
     loop-holds
     add-read-user
-    sub-read-user
+    (λ c. search needs)
     part-read-user-start
     part-read-user-end
     read-user-requires
     user-positions-valid-requires
     returns
     add-a
-    add-i
-    loop-less
+    (λ c. search needs)
+    (λ c. search needs)
     loop-again
     returns-2)

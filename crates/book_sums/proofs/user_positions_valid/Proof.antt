@@ -9,87 +9,6 @@ use borrow.Author.Needs.{needs}
 use Rattle.book_sums.proofs.user_positions_valid.Statement.{statement}
 use Rattle.book_sums.proofs.user_positions_valid.Tie as tie
 
-mul-k : tie.Need-mul-k
-mul-k c = search needs
-
-array-copy-out-is-position : tie.Need-array-copy-out-is-position
-array-copy-out-is-position c = search needs
-
-array-copy-out-is-position-2 : tie.Need-array-copy-out-is-position-2
-array-copy-out-is-position-2 c = search needs
-
-mul-is-position : tie.Need-mul-is-position
-mul-is-position c = search needs
-
-element-copy-out-is-position : tie.Need-element-copy-out-is-position
-element-copy-out-is-position c = search needs
-
-add-is-position : tie.Need-add-is-position
-add-is-position c = search needs
-
-mul-is-position-2 : tie.Need-mul-is-position-2
-mul-is-position-2 c = search needs
-
-element-copy-out-is-position-2 : tie.Need-element-copy-out-is-position-2
-element-copy-out-is-position-2 c = search needs
-
-is-position-requires : tie.Need-is-position-requires
-is-position-requires c κs = search needs
-
-array-copy-out-is-position-3 : tie.Need-array-copy-out-is-position-3
-array-copy-out-is-position-3 c = search needs
-
-array-copy-out-is-position-4 : tie.Need-array-copy-out-is-position-4
-array-copy-out-is-position-4 c = search needs
-
-add-is-position-2 : tie.Need-add-is-position-2
-add-is-position-2 c = search needs
-
-mul-is-position-3 : tie.Need-mul-is-position-3
-mul-is-position-3 c = search needs
-
-element-copy-out-is-position-3 : tie.Need-element-copy-out-is-position-3
-element-copy-out-is-position-3 c = search needs
-
-add-is-position-3 : tie.Need-add-is-position-3
-add-is-position-3 c = search needs
-
-mul-is-position-4 : tie.Need-mul-is-position-4
-mul-is-position-4 c = search needs
-
-element-copy-out-is-position-4 : tie.Need-element-copy-out-is-position-4
-element-copy-out-is-position-4 c = search needs
-
-is-position-requires-2 : tie.Need-is-position-requires-2
-is-position-requires-2 c κs = search needs
-
-array-copy-out-is-position-5 : tie.Need-array-copy-out-is-position-5
-array-copy-out-is-position-5 c = search needs
-
-array-copy-out-is-position-6 : tie.Need-array-copy-out-is-position-6
-array-copy-out-is-position-6 c = search needs
-
-add-is-position-4 : tie.Need-add-is-position-4
-add-is-position-4 c = search needs
-
-mul-is-position-5 : tie.Need-mul-is-position-5
-mul-is-position-5 c = search needs
-
-element-copy-out-is-position-5 : tie.Need-element-copy-out-is-position-5
-element-copy-out-is-position-5 c = search needs
-
-add-is-position-5 : tie.Need-add-is-position-5
-add-is-position-5 c = search needs
-
-mul-is-position-6 : tie.Need-mul-is-position-6
-mul-is-position-6 c = search needs
-
-element-copy-out-is-position-6 : tie.Need-element-copy-out-is-position-6
-element-copy-out-is-position-6 c = search needs
-
-is-position-requires-3 : tie.Need-is-position-requires-3
-is-position-requires-3 c κs = search needs
-
 returns : tie.Need-returns
 unfolding positionsFrom positionFrom at asUser asAmounts
 returns c =
@@ -104,31 +23,31 @@ pub user-positions-valid-spec : {M : Type 1} → statement M
 user-positions-valid-spec =
     tie.close
     (tie.spec
-    mul-k
-    array-copy-out-is-position
-    array-copy-out-is-position-2
-    mul-is-position
-    element-copy-out-is-position
-    add-is-position
-    mul-is-position-2
-    element-copy-out-is-position-2
-    is-position-requires
-    array-copy-out-is-position-3
-    array-copy-out-is-position-4
-    add-is-position-2
-    mul-is-position-3
-    element-copy-out-is-position-3
-    add-is-position-3
-    mul-is-position-4
-    element-copy-out-is-position-4
-    is-position-requires-2
-    array-copy-out-is-position-5
-    array-copy-out-is-position-6
-    add-is-position-4
-    mul-is-position-5
-    element-copy-out-is-position-5
-    add-is-position-5
-    mul-is-position-6
-    element-copy-out-is-position-6
-    is-position-requires-3
+    (λ c. search needs)
+    (λ c. search needs)
+    (λ c. search needs)
+    (λ c. search needs)
+    (λ c. search needs)
+    (λ c. search needs)
+    (λ c. search needs)
+    (λ c. search needs)
+    (λ c κs. search needs)
+    (λ c. search needs)
+    (λ c. search needs)
+    (λ c. search needs)
+    (λ c. search needs)
+    (λ c. search needs)
+    (λ c. search needs)
+    (λ c. search needs)
+    (λ c. search needs)
+    (λ c κs. search needs)
+    (λ c. search needs)
+    (λ c. search needs)
+    (λ c. search needs)
+    (λ c. search needs)
+    (λ c. search needs)
+    (λ c. search needs)
+    (λ c. search needs)
+    (λ c. search needs)
+    (λ c κs. search needs)
     returns)

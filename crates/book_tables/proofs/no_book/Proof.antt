@@ -3,12 +3,6 @@ use borrow.Author.Needs.{needs}
 use Rattle.book_tables.proofs.no_book.Statement.{statement}
 use Rattle.book_tables.proofs.no_book.Tie as tie
 
-no-record-requires : tie.Need-no-record-requires
-no-record-requires c κs = search needs
-
-no-trade-requires : tie.Need-no-trade-requires
-no-trade-requires c κs = search needs
-
 returns : tie.Need-returns
 returns c = cc
 
@@ -16,6 +10,6 @@ pub no-book-spec : {M : Type 1} → statement M
 no-book-spec =
     tie.close
     (tie.spec
-    no-record-requires
-    no-trade-requires
+    (λ c κs. search needs)
+    (λ c κs. search needs)
     returns)

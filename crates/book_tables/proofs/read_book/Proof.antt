@@ -10,12 +10,6 @@ use Rattle.book_tables.specs.Book.{asBook}
 use Rattle.book_tables.proofs.read_book.Statement.{statement}
 use Rattle.book_tables.proofs.read_book.Tie as tie
 
-user-count-requires : tie.Need-user-count-requires
-user-count-requires c κs = search needs
-
-trade-count-requires : tie.Need-trade-count-requires
-trade-count-requires c κs = search needs
-
 read-prices-requires : tie.Need-read-prices-requires
 read-prices-requires c κs = header-lies (c .before .before .before .pre)
 
@@ -34,12 +28,6 @@ read-trades-requires c κs =
     let m = c .before .before .before .before .before in
     let h = m .before .before .before .pre in
     (omega (arith, h .trades, m .trade-count .ensures), omega (arith, h .whole, c .trades-offset .ensures, m .trade-count .ensures))
-
-version-requires : tie.Need-version-requires
-version-requires c κs = search needs
-
-get-u32-requires : tie.Need-get-u32-requires
-get-u32-requires c κs = search needs
 
 returns : tie.Need-returns
 unfolding asBook bookOf
@@ -77,8 +65,8 @@ pub read-book-spec : {M : Type 1} → statement M
 read-book-spec =
     tie.close
     (tie.spec
-    user-count-requires
-    trade-count-requires
+    (λ c κs. search needs)
+    (λ c κs. search needs)
     read-prices-requires
     (λ c. search needs)
     (λ c κs. search needs)
@@ -87,6 +75,6 @@ read-book-spec =
     (λ c κs. search needs)
     (λ c. search needs)
     read-trades-requires
-    version-requires
-    get-u32-requires
+    (λ c κs. search needs)
+    (λ c κs. search needs)
     returns)

@@ -14,41 +14,11 @@ Inv-loop s at n trades₀ i₀ a₀ trades i a = Reading asTrade 20 tradeOf 256 
 abbrev μ-loop : tie.MeasureT-loop
 μ-loop s at n trades₀ i₀ a₀ trades i a = n - i
 
-no-trade-requires : tie.Need-no-trade-requires Inv-loop μ-loop
-no-trade-requires c κs = search needs
-
 loop-holds : tie.Need-loop-holds Inv-loop μ-loop
 loop-holds c = reading-start (c .no-trade .ensures)
 
-add-read-trade : tie.Need-add-read-trade Inv-loop μ-loop
-add-read-trade c = search needs
-
-sub-read-trade : tie.Need-sub-read-trade Inv-loop μ-loop
-sub-read-trade c = search needs
-
-part-read-trade-start : tie.Need-part-read-trade-start Inv-loop μ-loop
-part-read-trade-start c = search needs
-
-part-read-trade-end : tie.Need-part-read-trade-end Inv-loop μ-loop
-part-read-trade-end c = search needs
-
 read-trade-requires : tie.Need-read-trade-requires Inv-loop μ-loop
 read-trade-requires c κs = simp (length-take, length-drop) (omega arith)
-
-mul-trades : tie.Need-mul-trades Inv-loop μ-loop
-mul-trades c = search needs
-
-array-set-from-trades : tie.Need-array-set-from-trades Inv-loop μ-loop
-array-set-from-trades c = search needs
-
-add-a : tie.Need-add-a Inv-loop μ-loop
-add-a c = search needs
-
-add-i : tie.Need-add-i Inv-loop μ-loop
-add-i c = search needs
-
-loop-less : tie.Need-loop-less Inv-loop μ-loop
-loop-less c = search needs
 
 loop-again : tie.Need-loop-again Inv-loop μ-loop
 loop-again c = reading-turn (c .before .before .before .loop .inv) (omega arith) (omega arith) (c .read-trade .ensures)
@@ -62,17 +32,17 @@ read-trades-spec =
     (tie.spec
     Inv-loop
     μ-loop
-    no-trade-requires
+    (λ c κs. search needs)
     loop-holds
-    add-read-trade
-    sub-read-trade
-    part-read-trade-start
-    part-read-trade-end
+    (λ c. search needs)
+    (λ c. search needs)
+    (λ c. search needs)
+    (λ c. search needs)
     read-trade-requires
-    mul-trades
-    array-set-from-trades
-    add-a
-    add-i
-    loop-less
+    (λ c. search needs)
+    (λ c. search needs)
+    (λ c. search needs)
+    (λ c. search needs)
+    (λ c. search needs)
     loop-again
     returns)

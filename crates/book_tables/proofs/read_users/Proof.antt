@@ -25,20 +25,11 @@ lies c =
     let s = c .before .before .before .before in
     omega (arith, size-lies (s .args .size) (c .before .loop .i) (s .args .n) (omega (arith, c .loop-test)), c .before .loop .inv .place, s .pre .2)
 
-no-record-requires : tie.Need-no-record-requires Inv-loop μ-loop
-no-record-requires c κs = search needs
-
 loop-holds : tie.Need-loop-holds Inv-loop μ-loop
 loop-holds c = reading-start (c .no-record .ensures)
 
 add-read-record : tie.Need-add-read-record Inv-loop μ-loop
 add-read-record c = omega (arith, lies c, c .before .before .before .before .fits)
-
-sub-read-record : tie.Need-sub-read-record Inv-loop μ-loop
-sub-read-record c = search needs
-
-part-read-record-start : tie.Need-part-read-record-start Inv-loop μ-loop
-part-read-record-start c = search needs
 
 part-read-record-end : tie.Need-part-read-record-end Inv-loop μ-loop
 part-read-record-end c = omega (arith, lies c)
@@ -50,20 +41,8 @@ read-record-requires c κs =
     let k : a + s .args .size - a ≡ s .args .size = omega arith in
     rw k (length-part (now (s .args .s)) a (s .args .size) (lies (c .before)) ∙ s .pre .1 .size-is)
 
-mul-users : tie.Need-mul-users Inv-loop μ-loop
-mul-users c = search needs
-
-array-set-from-users : tie.Need-array-set-from-users Inv-loop μ-loop
-array-set-from-users c = search needs
-
 add-a : tie.Need-add-a Inv-loop μ-loop
 add-a c = let inside = c .before .before in omega (arith, lies inside, inside .before .before .before .before .fits)
-
-add-i : tie.Need-add-i Inv-loop μ-loop
-add-i c = search needs
-
-loop-less : tie.Need-loop-less Inv-loop μ-loop
-loop-less c = search needs
 
 loop-again : tie.Need-loop-again Inv-loop μ-loop
 loop-again c = reading-turn (c .before .before .before .loop .inv) (omega arith) (omega arith) (c .read-record .ensures)
@@ -77,17 +56,17 @@ read-users-spec =
     (tie.spec
     Inv-loop
     μ-loop
-    no-record-requires
+    (λ c κs. search needs)
     loop-holds
     add-read-record
-    sub-read-record
-    part-read-record-start
+    (λ c. search needs)
+    (λ c. search needs)
     part-read-record-end
     read-record-requires
-    mul-users
-    array-set-from-users
+    (λ c. search needs)
+    (λ c. search needs)
     add-a
-    add-i
-    loop-less
+    (λ c. search needs)
+    (λ c. search needs)
     loop-again
     returns)

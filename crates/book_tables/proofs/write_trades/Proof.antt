@@ -18,35 +18,8 @@ abbrev μ-loop : tie.MeasureT-loop
 loop-holds : tie.Need-loop-holds Inv-loop μ-loop
 loop-holds c = writing-start
 
-mul-t : tie.Need-mul-t Inv-loop μ-loop
-mul-t c = search needs
-
-array-copy-out-t : tie.Need-array-copy-out-t Inv-loop μ-loop
-array-copy-out-t c = search needs
-
-add-write-trade : tie.Need-add-write-trade Inv-loop μ-loop
-add-write-trade c = search needs
-
-sub-write-trade : tie.Need-sub-write-trade Inv-loop μ-loop
-sub-write-trade c = search needs
-
-part-write-trade-start : tie.Need-part-write-trade-start Inv-loop μ-loop
-part-write-trade-start c = search needs
-
-part-write-trade-end : tie.Need-part-write-trade-end Inv-loop μ-loop
-part-write-trade-end c = search needs
-
 write-trade-requires : tie.Need-write-trade-requires Inv-loop μ-loop
 write-trade-requires c κs = simp (length-take, length-drop) (omega arith)
-
-add-a : tie.Need-add-a Inv-loop μ-loop
-add-a c = search needs
-
-add-i : tie.Need-add-i Inv-loop μ-loop
-add-i c = search needs
-
-loop-less : tie.Need-loop-less Inv-loop μ-loop
-loop-less c = search needs
 
 loop-again : tie.Need-loop-again Inv-loop μ-loop
 loop-again c =
@@ -67,16 +40,16 @@ write-trades-spec =
     Inv-loop
     μ-loop
     loop-holds
-    mul-t
-    array-copy-out-t
-    add-write-trade
-    sub-write-trade
-    part-write-trade-start
-    part-write-trade-end
+    (λ c. search needs)
+    (λ c. search needs)
+    (λ c. search needs)
+    (λ c. search needs)
+    (λ c. search needs)
+    (λ c. search needs)
     write-trade-requires
-    add-a
-    add-i
-    loop-less
+    (λ c. search needs)
+    (λ c. search needs)
+    (λ c. search needs)
     loop-again
     same-length
     returns)

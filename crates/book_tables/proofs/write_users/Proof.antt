@@ -30,20 +30,8 @@ lies c =
 loop-holds : tie.Need-loop-holds Inv-loop μ-loop
 loop-holds c = writing-start
 
-mul-u : tie.Need-mul-u Inv-loop μ-loop
-mul-u c = search needs
-
-array-copy-out-u : tie.Need-array-copy-out-u Inv-loop μ-loop
-array-copy-out-u c = search needs
-
 add-write-record : tie.Need-add-write-record Inv-loop μ-loop
 add-write-record c = let inside = c .before in omega (arith, lies inside, inside .before .loop .inv .kept, inside .before .before .before .fits)
-
-sub-write-record : tie.Need-sub-write-record Inv-loop μ-loop
-sub-write-record c = search needs
-
-part-write-record-start : tie.Need-part-write-record-start Inv-loop μ-loop
-part-write-record-start c = search needs
 
 part-write-record-end : tie.Need-part-write-record-end Inv-loop μ-loop
 part-write-record-end c = omega (arith, lies (c .before))
@@ -57,12 +45,6 @@ write-record-requires c κs =
 
 add-a : tie.Need-add-a Inv-loop μ-loop
 add-a c = let inside = c .before .before .before .before .before in omega (arith, lies inside, inside .before .loop .inv .kept, inside .before .before .before .fits)
-
-add-i : tie.Need-add-i Inv-loop μ-loop
-add-i c = search needs
-
-loop-less : tie.Need-loop-less Inv-loop μ-loop
-loop-less c = search needs
 
 loop-again : tie.Need-loop-again Inv-loop μ-loop
 loop-again c =
@@ -84,16 +66,16 @@ write-users-spec =
     Inv-loop
     μ-loop
     loop-holds
-    mul-u
-    array-copy-out-u
+    (λ c. search needs)
+    (λ c. search needs)
     add-write-record
-    sub-write-record
-    part-write-record-start
+    (λ c. search needs)
+    (λ c. search needs)
     part-write-record-end
     write-record-requires
     add-a
-    add-i
-    loop-less
+    (λ c. search needs)
+    (λ c. search needs)
     loop-again
     same-length
     returns)

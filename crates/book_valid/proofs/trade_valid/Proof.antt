@@ -6,12 +6,9 @@ use borrow.Author.Needs.{needs}
 use Rattle.book_valid.proofs.trade_valid.Statement.{statement}
 use Rattle.book_valid.proofs.trade_valid.Tie as tie
 
-is-bilateral-for-day-requires : tie.Need-is-bilateral-for-day-requires
-is-bilateral-for-day-requires c κs = search needs
-
 returns : tie.Need-returns
 unfolding tradeValidGiven codesValid amountsValid asTrade
 returns c = rw (c .before .before .before .before .before .before .before .before .is-bilateral-for-day .ensures)
 
 pub trade-valid-spec : {M : Type 1} → statement M
-trade-valid-spec = tie.close (tie.spec is-bilateral-for-day-requires returns)
+trade-valid-spec = tie.close (tie.spec (λ c κs. search needs) returns)

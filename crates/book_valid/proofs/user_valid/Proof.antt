@@ -8,27 +8,6 @@ use borrow.Author.Needs.{needs}
 use Rattle.book_valid.proofs.user_valid.Statement.{statement}
 use Rattle.book_valid.proofs.user_valid.Tie as tie
 
-array-copy-out-pvb : tie.Need-array-copy-out-pvb
-array-copy-out-pvb c = search needs
-
-array-copy-out-tvb : tie.Need-array-copy-out-tvb
-array-copy-out-tvb c = search needs
-
-array-copy-out-avb : tie.Need-array-copy-out-avb
-array-copy-out-avb c = search needs
-
-is-entry-requires : tie.Need-is-entry-requires
-is-entry-requires c κs = search needs
-
-is-entry-requires-2 : tie.Need-is-entry-requires-2
-is-entry-requires-2 c κs = search needs
-
-is-entry-requires-3 : tie.Need-is-entry-requires-3
-is-entry-requires-3 c κs = search needs
-
-is-charges-requires : tie.Need-is-charges-requires
-is-charges-requires c κs = search needs
-
 returns : tie.Need-returns
 unfolding userValid guaranteesValid entriesValid at asUser asAmounts
 returns c =
@@ -40,11 +19,11 @@ pub user-valid-spec : {M : Type 1} → statement M
 user-valid-spec =
     tie.close
     (tie.spec
-    array-copy-out-pvb
-    array-copy-out-tvb
-    array-copy-out-avb
-    is-entry-requires
-    is-entry-requires-2
-    is-entry-requires-3
-    is-charges-requires
+    (λ c. search needs)
+    (λ c. search needs)
+    (λ c. search needs)
+    (λ c κs. search needs)
+    (λ c κs. search needs)
+    (λ c κs. search needs)
+    (λ c κs. search needs)
     returns)

@@ -24,9 +24,6 @@ written c =
     let n : length (w .write-book .last .0) ≡ st .args .len = ap length (w .write-book .ensures .bytes) ∙ length-written (st .args .b) (st .pre .0) (w .write-book .ensures .user-room) (w .write-book .ensures .trade-room) ∙ sym (st .pre .1) in
     take-at (w .write-book .last .0) (drop (st .args .len) (now (st .args .scratch))) (st .args .len) n ∙ w .write-book .ensures .bytes
 
-slice-relend-prefix-write-book : tie.Need-slice-relend-prefix-write-book
-slice-relend-prefix-write-book c = search needs
-
 slice-aggregate-write-book : tie.Need-slice-aggregate-write-book
 slice-aggregate-write-book c = rw length-take (omega (arith, c .before .before .pre .2))
 
@@ -35,20 +32,11 @@ write-book-requires c κs =
     let p = c .before .before .pre in
     (p .0 .users, p .0 .trades, rw length-take (omega (arith, p .1, p .2)))
 
-slice-reshare-prefix-fields-number : tie.Need-slice-reshare-prefix-fields-number
-slice-reshare-prefix-fields-number c = search needs
-
 slice-aggregate-fields-number : tie.Need-slice-aggregate-fields-number
 slice-aggregate-fields-number c =
     let w = c .before .before .before in
     let st = w .before .before .before in
     sym (ap length (written c) ∙ length-written (st .args .b) (st .pre .0) (w .write-book .ensures .user-room) (w .write-book .ensures .trade-room) ∙ sym (st .pre .1))
-
-slice-aggregate-fields-number-2 : tie.Need-slice-aggregate-fields-number-2
-slice-aggregate-fields-number-2 c = search needs
-
-slice-aggregate-fields-number-3 : tie.Need-slice-aggregate-fields-number-3
-slice-aggregate-fields-number-3 c = search needs
 
 fields-number-requires : tie.Need-fields-number-requires
 fields-number-requires c κs =
@@ -60,9 +48,6 @@ fields-number-requires c κs =
       search needs,
     )
 
-same-length : tie.Need-same-length
-same-length c = search needs
-
 returns : tie.Need-returns
 returns c = c .before .before .fields-number .ensures .asked ∙ ap fieldsNumber (written (c .before .before .before .before .before))
 
@@ -70,13 +55,13 @@ pub ask-in-spec : {M : Type 1} → statement M
 ask-in-spec =
     tie.close
     (tie.spec
-    slice-relend-prefix-write-book
+    (λ c. search needs)
     slice-aggregate-write-book
     write-book-requires
-    slice-reshare-prefix-fields-number
+    (λ c. search needs)
     slice-aggregate-fields-number
-    slice-aggregate-fields-number-2
-    slice-aggregate-fields-number-3
+    (λ c. search needs)
+    (λ c. search needs)
     fields-number-requires
-    same-length
+    (λ c. search needs)
     returns)

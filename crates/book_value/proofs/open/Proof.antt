@@ -7,12 +7,6 @@ use borrow.Author.Needs.{needs}
 use Rattle.book_value.proofs.open.Statement.{statement}
 use Rattle.book_value.proofs.open.Tie as tie
 
-form-number-requires : tie.Need-form-number-requires
-form-number-requires c κs = search needs
-
-no-book-requires : tie.Need-no-book-requires
-no-book-requires c κs = search needs
-
 returns : tie.Need-returns
 returns c =
     let f = c .before .before in
@@ -39,4 +33,4 @@ returns-2 c =
 
 pub open-spec : {M : Type 1} → statement M
 open-spec =
-    tie.close (tie.spec form-number-requires no-book-requires returns ask-fields-requires returns-2)
+    tie.close (tie.spec (λ c κs. search needs) (λ c κs. search needs) returns ask-fields-requires returns-2)

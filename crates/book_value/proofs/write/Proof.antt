@@ -35,12 +35,6 @@ sized c =
     let a = c .before .before .before .before .before .before .before .before .args in
     ap₂ (λ (x y : Bool). x && y) (counted (c .before .before)) (eq-eqb (length (now (a .out))) _ (c .if3 .left ∙ asked-length (c .before)))
 
-cast-n : tie.Need-cast-n
-cast-n c = search needs
-
-cast-m : tie.Need-cast-m
-cast-m c = search needs
-
 returns : tie.Need-returns
 unfolding asBook
 returns c =
@@ -77,9 +71,6 @@ write-book-requires c κs =
     let k = in-counts (e .before .before .before .before .before .before .before .before .args .b) (version (e .before .before .before)) (counted (e .before .before)) in
     (k .users, k .trades, e .if3 .left ∙ asked-length (e .before))
 
-same-length : tie.Need-same-length
-same-length c = search needs
-
 returns-5 : tie.Need-returns-5
 unfolding asBook
 returns-5 c =
@@ -93,8 +84,8 @@ pub write-spec : {M : Type 1} → statement M
 write-spec =
     tie.close
     (tie.spec
-    cast-n
-    cast-m
+    (λ c. search needs)
+    (λ c. search needs)
     (λ c κs. search needs)
     returns
     returns-2
@@ -103,5 +94,5 @@ write-spec =
     ask-written-requires
     returns-4
     write-book-requires
-    same-length
+    (λ c. search needs)
     returns-5)

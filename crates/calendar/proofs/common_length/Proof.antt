@@ -19,15 +19,6 @@ lengths-right : T (every isLength 0 lengths)
 unfolding lengths isLength daysInMonth leapYear
 lengths-right = tt
 
-sub-place : tie.Need-sub-place
-sub-place c = search needs
-
-cast-place : tie.Need-cast-place
-cast-place c = search needs
-
-array-read-result : tie.Need-array-read-result
-array-read-result c = search needs
-
 cast-result : tie.Need-cast-result
 unfolding lengths
 cast-result c = fits-under _ _ 32 (entry-below lengths lengths-right _ (c .pre .0) (c .pre .1)) tt
@@ -39,4 +30,4 @@ returns c =
 
 pub common-length-spec : {M : Type 1} → statement M
 common-length-spec =
-    tie.close (tie.spec sub-place cast-place array-read-result cast-result returns)
+    tie.close (tie.spec (λ c. search needs) (λ c. search needs) (λ c. search needs) cast-result returns)

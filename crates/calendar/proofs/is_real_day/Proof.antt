@@ -33,9 +33,6 @@ returns-4 c =
       lt-leb _ _ (c .if4 .taken),
     )
 
-month-length-requires : tie.Need-month-length-requires
-month-length-requires c κs = search needs
-
 returns-5 : tie.Need-returns-5
 unfolding realDay yearOf monthOf dayOf
 returns-5 c =
@@ -49,4 +46,4 @@ returns-5 c =
 
 pub is-real-day-spec : {M : Type 1} → statement M
 is-real-day-spec =
-    tie.close (tie.spec returns returns-2 returns-3 returns-4 month-length-requires returns-5)
+    tie.close (tie.spec returns returns-2 returns-3 returns-4 (λ c κs. search needs) returns-5)

@@ -7,15 +7,6 @@ use Rattle.calendar.proofs.Months.{days-leap-february, days-common-year
 use Rattle.calendar.proofs.month_length.Statement.{statement}
 use Rattle.calendar.proofs.month_length.Tie as tie
 
-common-length-requires : tie.Need-common-length-requires
-common-length-requires c κs = search needs
-
-leap-requires : tie.Need-leap-requires
-leap-requires c κs = search needs
-
-add-result : tie.Need-add-result
-add-result c = search needs
-
 returns : tie.Need-returns
 returns c =
     ap (λ n. n + 1) (c .before .before .before .common-length .ensures .0)
@@ -33,9 +24,9 @@ pub month-length-spec : {M : Type 1} → statement M
 month-length-spec =
     tie.close
     (tie.spec
-    common-length-requires
-    leap-requires
-    add-result
+    (λ c κs. search needs)
+    (λ c κs. search needs)
+    (λ c. search needs)
     returns
     returns-2
     returns-3)

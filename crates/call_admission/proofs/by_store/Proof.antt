@@ -8,9 +8,6 @@ use Rattle.call_admission.proofs.Asked.{admitted-by-store, admitted-ref
 use Rattle.call_admission.proofs.by_store.Statement.{statement}
 use Rattle.call_admission.proofs.by_store.Tie as tie
 
-today-requires : tie.Need-today-requires
-today-requires c κs = search needs
-
 returns : tie.Need-returns
 returns c =
     let o = c .before .before .before .before in
@@ -21,9 +18,6 @@ get-u32-requires : tie.Need-get-u32-requires
 get-u32-requires c κs =
     let o = c .before .before .before in
     omega (arith, passed (now (o .args .book)) (o .pre (c .if1 .left)) .form .head)
-
-figures-on-requires : tie.Need-figures-on-requires
-figures-on-requires c κs = search needs
 
 returns-2 : tie.Need-returns-2
 returns-2 c =
@@ -37,4 +31,4 @@ returns-2 c =
     )
 
 pub by-store-spec : {M : Type 1} → statement M
-by-store-spec = tie.close (tie.spec today-requires returns get-u32-requires figures-on-requires returns-2)
+by-store-spec = tie.close (tie.spec (λ c κs. search needs) returns get-u32-requires (λ c κs. search needs) returns-2)

@@ -16,12 +16,6 @@ Inv-loop s id n size i₀ a₀ i a = Seeking s id n i a
 abbrev μ-loop : tie.MeasureT-loop
 μ-loop s id n size i₀ a₀ i a = n - i
 
-user-count-requires : tie.Need-user-count-requires Inv-loop μ-loop
-user-count-requires c κs = search needs
-
-cast-n : tie.Need-cast-n Inv-loop μ-loop
-cast-n c = search needs
-
 loop-holds : tie.Need-loop-holds Inv-loop μ-loop
 loop-holds c = seeking-start (c .users-offset .ensures .0) (c .before .before .user-count .ensures)
 
@@ -43,12 +37,6 @@ returns c =
 add-a : tie.Need-add-a Inv-loop μ-loop
 add-a c = let inside = c .before .before in omega (arith, lies inside .1, inside .before .before .before .before .before .before .fits)
 
-add-i : tie.Need-add-i Inv-loop μ-loop
-add-i c = search needs
-
-loop-less : tie.Need-loop-less Inv-loop μ-loop
-loop-less c = search needs
-
 loop-again : tie.Need-loop-again Inv-loop μ-loop
 loop-again c =
     let l = c .before .before .before .loop in
@@ -63,15 +51,15 @@ place-of-spec =
     (tie.spec
     Inv-loop
     μ-loop
-    user-count-requires
-    cast-n
+    (λ c κs. search needs)
+    (λ c. search needs)
     (λ c κs. search needs)
     (λ c κs. search needs)
     loop-holds
     get-u32-requires
     returns
     add-a
-    add-i
-    loop-less
+    (λ c. search needs)
+    (λ c. search needs)
     loop-again
     returns-2)

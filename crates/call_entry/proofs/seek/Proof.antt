@@ -45,9 +45,6 @@ place-of-requires c κs = passed (bytes (c .before .before)) (passes c) .form
 user-count-requires : tie.Need-user-count-requires
 user-count-requires c κs = let e = c .before in omega (arith, passed (bytes (e .before .before)) (passes e) .form .head)
 
-cast-n : tie.Need-cast-n
-cast-n c = search needs
-
 returns-2 : tie.Need-returns-2
 returns-2 c =
     let p = c .before .before in
@@ -78,6 +75,6 @@ seek-spec =
     returns
     place-of-requires
     user-count-requires
-    cast-n
+    (λ c. search needs)
     returns-2
     returns-3)

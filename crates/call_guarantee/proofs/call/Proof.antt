@@ -53,12 +53,6 @@ ranged c = start c .pre .1 .0
 seek-requires : tie.Need-seek-requires
 seek-requires c κs = c .before .before .pre .0
 
-refused-requires : tie.Need-refused-requires
-refused-requires c κs = search needs
-
-same-length : tie.Need-same-length
-same-length c = search needs
-
 returns : tie.Need-returns
 returns c =
     let e = c .before .before in
@@ -75,12 +69,6 @@ role c =
     let n = c .before .before in
     let e = n .before in
     read-role (c .user-at .result) (getD (usersOf (bytes e)) (e .seek .result .place) nobody) (c .user-at .ensures) ∙ ap (λ (v : User). v .party .role) (found-at (found n))
-
-refused-requires-2 : tie.Need-refused-requires-2
-refused-requires-2 c κs = search needs
-
-same-length-2 : tie.Need-same-length-2
-same-length-2 c = search needs
 
 returns-2 : tie.Need-returns-2
 returns-2 c =
@@ -173,5 +161,5 @@ returns-4 c =
 pub call-spec : {M : Type 1} → statement M
 call-spec =
     tie.close
-    (tie.spec seek-requires refused-requires same-length returns user-at-requires refused-requires-2 same-length-2 returns-2 holdings-of-requires version-requires (λ c κs. search needs)
+    (tie.spec seek-requires (λ c κs. search needs) (λ c. search needs) returns user-at-requires (λ c κs. search needs) (λ c. search needs) returns-2 holdings-of-requires version-requires (λ c κs. search needs)
     bear-managed-requires call-at-requires (λ c. search needs) returns-3 call-at-requires-2 (λ c. search needs) returns-4)

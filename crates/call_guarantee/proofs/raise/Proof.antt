@@ -13,18 +13,12 @@ use borrow.Author.Needs.{needs}
 use Rattle.call_guarantee.proofs.raise.Statement.{statement}
 use Rattle.call_guarantee.proofs.raise.Tie as tie
 
-refused-requires : tie.Need-refused-requires
-refused-requires c κs = search needs
-
 returns : tie.Need-returns
 returns c =
     let t = c .before in
     let a = t .before .before .before .args in
     let e = raised-undue (now (a .book)) (a .place) (asUser (a .user)) (a .level .0) (not-true (a .due) (t .if1 .taken)) in
     (c .refused .ensures ∙ sym (ap (λ (x : InBytes). x .answer) e), sym (ap (λ (x : InBytes). x .bytes) e))
-
-refused-requires-2 : tie.Need-refused-requires-2
-refused-requires-2 c κs = search needs
 
 returns-2 : tie.Need-returns-2
 unfolding asUser
@@ -34,15 +28,6 @@ returns-2 c =
     let a = f .before .before .before .args in
     let e = raised-short (now (a .book)) (a .place) (asUser (a .user)) (a .level .0) (not-false (a .due) (f .if1 .left)) (t .if2 .taken) in
     (c .refused2 .ensures ∙ sym (ap (λ (x : InBytes). x .answer) e), sym (ap (λ (x : InBytes). x .bytes) e))
-
-blocked-user-requires : tie.Need-blocked-user-requires
-blocked-user-requires c κs = search needs
-
-put-user-requires : tie.Need-put-user-requires
-put-user-requires c κs = search needs
-
-same-length : tie.Need-same-length
-same-length c = search needs
 
 returns-3 : tie.Need-returns-3
 unfolding ofLevel asUser
@@ -60,11 +45,11 @@ pub raise-spec : {M : Type 1} → statement M
 raise-spec =
     tie.close
     (tie.spec
-    refused-requires
+    (λ c κs. search needs)
     returns
-    refused-requires-2
+    (λ c κs. search needs)
     returns-2
-    blocked-user-requires
-    put-user-requires
-    same-length
+    (λ c κs. search needs)
+    (λ c κs. search needs)
+    (λ c. search needs)
     returns-3)

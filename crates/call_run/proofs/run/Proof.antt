@@ -20,9 +20,6 @@ start c = c .before .before
 passes : (c : tie.Else1) → bookNumber (now (start c .args .book)) ≡ 0
 passes c = start c .pre .0 (c .if1 .left)
 
-refused-requires : tie.Need-refused-requires
-refused-requires c κs = search needs
-
 returns : tie.Need-returns
 returns c =
     let a = c .before .before .before .args in
@@ -53,12 +50,6 @@ run-book-requires c κs =
     let k = o .bear .ensures in
     (placed e, record { book = k .0; limits-in = start e .pre .1 .0; prices-are = r .read-prices .ensures; twelve = k .1 .0; low = k .1 .1 })
 
-accepted-requires : tie.Need-accepted-requires
-accepted-requires c κs = search needs
-
-same-length : tie.Need-same-length
-same-length c = search needs
-
 returns-2 : tie.Need-returns-2
 returns-2 c =
     let r = c .before .before .before in
@@ -70,11 +61,11 @@ pub run-spec : {M : Type 1} → statement M
 run-spec =
     tie.close
     (tie.spec
-    refused-requires
+    (λ c κs. search needs)
     returns
     read-prices-requires
     bear-requires
     run-book-requires
-    accepted-requires
-    same-length
+    (λ c κs. search needs)
+    (λ c. search needs)
     returns-2)

@@ -30,9 +30,6 @@ started c = c .before .before .seek .ensures .start (c .if1 .left)
 seek-requires : tie.Need-seek-requires
 seek-requires c κs = c .before .pre
 
-slice-aggregate-result : tie.Need-slice-aggregate-result
-slice-aggregate-result c = search needs
-
 returns : tie.Need-returns
 unfolding aboutQuery
 returns c =
@@ -73,7 +70,7 @@ show-spec =
     tie.close
     (tie.spec
     seek-requires
-    slice-aggregate-result
+    (λ c. search needs)
     returns
     user-offset-requires
     users-size-requires

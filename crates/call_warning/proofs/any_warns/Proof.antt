@@ -38,14 +38,8 @@ form c = passed (now (c .args .book)) (c .pre .0 .passes) .form
 user-count-requires : tie.Need-user-count-requires Inv-loop μ-loop
 user-count-requires c κs = omega (arith, form (c .before) .head)
 
-cast-n : tie.Need-cast-n Inv-loop μ-loop
-cast-n c = search needs
-
 trade-count-requires : tie.Need-trade-count-requires Inv-loop μ-loop
 trade-count-requires c κs = omega (arith, form (c .before .before) .head)
-
-cast-m : tie.Need-cast-m Inv-loop μ-loop
-cast-m c = search needs
 
 trades-offset-requires : tie.Need-trades-offset-requires Inv-loop μ-loop
 trades-offset-requires c κs = (form (c .before .before .before), c .before .user-count .ensures)
@@ -67,12 +61,6 @@ by-trades c p = ap (any p) (trades-there (now (c .before .before .before .before
 
 add-read-trade : tie.Need-add-read-trade Inv-loop μ-loop
 add-read-trade c = omega (arith, lies c)
-
-sub-read-trade : tie.Need-sub-read-trade Inv-loop μ-loop
-sub-read-trade c = search needs
-
-part-read-trade-start : tie.Need-part-read-trade-start Inv-loop μ-loop
-part-read-trade-start c = search needs
 
 part-read-trade-end : tie.Need-part-read-trade-end Inv-loop μ-loop
 part-read-trade-end c = omega (arith, lies c)
@@ -111,12 +99,6 @@ returns c =
 add-a : tie.Need-add-a Inv-loop μ-loop
 add-a c = omega (arith, lies (c .before .before .before .before))
 
-add-i : tie.Need-add-i Inv-loop μ-loop
-add-i c = search needs
-
-loop-less : tie.Need-loop-less Inv-loop μ-loop
-loop-less c = search needs
-
 loop-again : tie.Need-loop-again Inv-loop μ-loop
 loop-again c = searching-turn (c .before .before .before .before .before .loop .inv) (omega arith) (told (c .before)) (c .if1 .left)
 
@@ -130,20 +112,20 @@ any-warns-spec =
     Inv-loop
     μ-loop
     user-count-requires
-    cast-n
+    (λ c. search needs)
     trade-count-requires
-    cast-m
+    (λ c. search needs)
     trades-offset-requires
     loop-holds
     add-read-trade
-    sub-read-trade
-    part-read-trade-start
+    (λ c. search needs)
+    (λ c. search needs)
     part-read-trade-end
     read-trade-requires
     warns-buyer-requires
     returns
     add-a
-    add-i
-    loop-less
+    (λ c. search needs)
+    (λ c. search needs)
     loop-again
     returns-2)

@@ -17,9 +17,6 @@ returns c =
     let a = c .before .before .before .args in
     other-buyer (asLimits (a .limits)) (bookOf (now (a .book))) (a .id) (asTrade (a .t)) (c .if1 .taken)
 
-is-bilateral-for-day-requires : tie.Need-is-bilateral-for-day-requires
-is-bilateral-for-day-requires c κs = search needs
-
 returns-2 : tie.Need-returns-2
 unfolding asTrade
 returns-2 c =
@@ -62,4 +59,4 @@ returns-4 c =
 
 pub warns-buyer-spec : {M : Type 1} → statement M
 warns-buyer-spec =
-    tie.close (tie.spec returns is-bilateral-for-day-requires returns-2 returns-3 bearer-of-requires is-flagged-shipper-requires returns-4)
+    tie.close (tie.spec returns (λ c κs. search needs) returns-2 returns-3 bearer-of-requires is-flagged-shipper-requires returns-4)

@@ -48,12 +48,6 @@ add-put c = omega (arith, to-lies (c .before .before))
 put-requires : tie.Need-put-requires Inv-loop μ-loop
 put-requires c κs = to-lies (c .before .before)
 
-add-i : tie.Need-add-i Inv-loop μ-loop
-add-i c = search needs
-
-loop-less : tie.Need-loop-less Inv-loop μ-loop
-loop-less c = search needs
-
 loop-again : tie.Need-loop-again Inv-loop μ-loop
 loop-again c =
     let put = c .before .before in
@@ -84,8 +78,8 @@ move-fields-spec =
     mul-put
     add-put
     put-requires
-    add-i
-    loop-less
+    (λ c. search needs)
+    (λ c. search needs)
     loop-again
     same-length
     returns)

@@ -20,11 +20,8 @@ few n h =
 returns : tie.Need-returns
 returns c = many _ (c .if1 .taken)
 
-shl-result : tie.Need-shl-result
-shl-result c = search needs
-
 returns-2 : tie.Need-returns-2
 returns-2 c = few _ (c .if1 .left)
 
 pub sets-of-spec : {M : Type 1} → statement M
-sets-of-spec = tie.close (tie.spec returns shl-result returns-2)
+sets-of-spec = tie.close (tie.spec returns (λ c. search needs) returns-2)

@@ -34,9 +34,6 @@ element-copy-out-last-of c =
     let l = c .before in
     omega (arith, l .before .pre .0 .few, l .loop .inv .0, bit-step (l .before .pre .0) (l .loop .i) (l .loop .rest) (l .loop .inv .0) (c .loop-test .taken) (l .loop .inv .1) .0)
 
-last-of-requires : tie.Need-last-of-requires Inv-loop μ-loop
-last-of-requires c κs = search needs
-
 add-sum : tie.Need-add-sum Inv-loop μ-loop
 add-sum c =
     let l = c .before .before .before in
@@ -72,7 +69,7 @@ worth-of-spec =
     sub-i
     mul-last-of
     element-copy-out-last-of
-    last-of-requires
+    (λ c κs. search needs)
     add-sum
     loop-less
     loop-again

@@ -23,9 +23,6 @@ called-at-requires c κs = let p = c .before .before .before .before .pre in (li
 state-of-requires : tie.Need-state-of-requires
 state-of-requires c κs = let p = c .before .before .before .before .before .pre in (line-day p, line-user p)
 
-printed-level-requires : tie.Need-printed-level-requires
-printed-level-requires c κs = search needs
-
 returns : tie.Need-returns
 unfolding asLine
 returns c =
@@ -46,5 +43,5 @@ line-at-spec =
     level-at-requires
     called-at-requires
     state-of-requires
-    printed-level-requires
+    (λ c κs. search needs)
     returns)

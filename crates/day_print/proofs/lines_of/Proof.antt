@@ -14,9 +14,6 @@ Inv-loop book n sums positions cut day i₀ i = i ≤ n
 abbrev μ-loop : tie.MeasureT-loop
 μ-loop book n sums positions cut day i₀ i = n - i
 
-loop-holds : tie.Need-loop-holds Inv-loop μ-loop
-loop-holds c = search needs
-
 element-copy-out-line-at : tie.Need-element-copy-out-line-at Inv-loop μ-loop
 element-copy-out-line-at c =
     let s = c .before .before .before in
@@ -25,32 +22,17 @@ element-copy-out-line-at c =
 line-at-requires : tie.Need-line-at-requires Inv-loop μ-loop
 line-at-requires c κs = line-asked (c .before .before .before .before .pre) (c .before .before .loop .i) (c .before .loop-test .taken)
 
-line-requires : tie.Need-line-requires Inv-loop μ-loop
-line-requires c κs = search needs
-
-add-i : tie.Need-add-i Inv-loop μ-loop
-add-i c = search needs
-
-loop-less : tie.Need-loop-less Inv-loop μ-loop
-loop-less c = search needs
-
-loop-again : tie.Need-loop-again Inv-loop μ-loop
-loop-again c = search needs
-
-returns : tie.Need-returns Inv-loop μ-loop
-returns c = search needs
-
 pub lines-of-spec : {M : Type 1} → statement M
 lines-of-spec =
     tie.close
     (tie.spec
     Inv-loop
     μ-loop
-    loop-holds
+    (λ c. search needs)
     element-copy-out-line-at
     line-at-requires
-    line-requires
-    add-i
-    loop-less
-    loop-again
-    returns)
+    (λ c κs. search needs)
+    (λ c. search needs)
+    (λ c. search needs)
+    (λ c. search needs)
+    (λ c. search needs))

@@ -11,27 +11,12 @@ use Rattle.rules.specs.Levels.{Limits}
 use Rattle.day_print.proofs.run.Statement.{statement}
 use Rattle.day_print.proofs.run.Tie as tie
 
-slice-aggregate-ask : tie.Need-slice-aggregate-ask
-slice-aggregate-ask c = search needs
-
-slice-aggregate-ask-2 : tie.Need-slice-aggregate-ask-2
-slice-aggregate-ask-2 c = search needs
-
-ask-requires : tie.Need-ask-requires
-ask-requires c κs = search needs
-
-today-requires : tie.Need-today-requires
-today-requires c κs = search needs
-
 run-requires : tie.Need-run-requires
 run-requires c κs =
     let t = c .before .before .before in
     let a = t .before .before .before .before .ask in
     let told = a .ensures in
     (λ z. sym (told .0 .number) ∙ z, (t .today .ensures .1, ((a .kept .1 .0, a .kept .1 .1 .0), parties-found (told .1) (λ z. z) (told .0))))
-
-same-length : tie.Need-same-length
-same-length c = search needs
 
 returns : tie.Need-returns
 returns c =
@@ -46,10 +31,10 @@ pub run-spec : {M : Type 1} → statement M
 run-spec =
     tie.close
     (tie.spec
-    slice-aggregate-ask
-    slice-aggregate-ask-2
-    ask-requires
-    today-requires
+    (λ c. search needs)
+    (λ c. search needs)
+    (λ c κs. search needs)
+    (λ c κs. search needs)
     run-requires
-    same-length
+    (λ c. search needs)
     returns)

@@ -6,15 +6,6 @@ use Rattle.daybook.proofs.Matters.{of-operator}
 use Rattle.daybook.proofs.cancellation.Statement.{statement}
 use Rattle.daybook.proofs.cancellation.Tie as tie
 
-slice-aggregate-admit-with-sums : tie.Need-slice-aggregate-admit-with-sums
-slice-aggregate-admit-with-sums c = search needs
-
-slice-aggregate-admit-with-sums-2 : tie.Need-slice-aggregate-admit-with-sums-2
-slice-aggregate-admit-with-sums-2 c = search needs
-
-admit-with-sums-requires : tie.Need-admit-with-sums-requires
-admit-with-sums-requires c κs = search needs
-
 cancellation-requires : tie.Need-cancellation-requires
 cancellation-requires c κs =
     let a = c .before .before .before .before .before .before .admit-with-sums in
@@ -28,8 +19,8 @@ pub cancellation-spec : {M : Type 1} → statement M
 cancellation-spec =
     tie.close
     (tie.spec
-    slice-aggregate-admit-with-sums
-    slice-aggregate-admit-with-sums-2
-    admit-with-sums-requires
+    (λ c. search needs)
+    (λ c. search needs)
+    (λ c κs. search needs)
     cancellation-requires
     returns)

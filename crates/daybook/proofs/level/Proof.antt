@@ -7,15 +7,6 @@ use Rattle.daybook.proofs.Matters.{of-level}
 use Rattle.daybook.proofs.level.Statement.{statement}
 use Rattle.daybook.proofs.level.Tie as tie
 
-slice-aggregate-admit-with-sums : tie.Need-slice-aggregate-admit-with-sums
-slice-aggregate-admit-with-sums c = search needs
-
-slice-aggregate-admit-with-sums-2 : tie.Need-slice-aggregate-admit-with-sums-2
-slice-aggregate-admit-with-sums-2 c = search needs
-
-admit-with-sums-requires : tie.Need-admit-with-sums-requires
-admit-with-sums-requires c κs = search needs
-
 level-requires : tie.Need-level-requires
 level-requires c κs =
     let k = c .before .before .before .before .before .before .admit-with-sums .ensures in
@@ -31,8 +22,8 @@ pub level-spec : {M : Type 1} → statement M
 level-spec =
     tie.close
     (tie.spec
-    slice-aggregate-admit-with-sums
-    slice-aggregate-admit-with-sums-2
-    admit-with-sums-requires
+    (λ c. search needs)
+    (λ c. search needs)
+    (λ c κs. search needs)
     level-requires
     returns)

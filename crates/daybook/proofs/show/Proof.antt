@@ -6,16 +6,10 @@ use Rattle.daybook.proofs.Matters.{of-record}
 use Rattle.daybook.proofs.show.Statement.{statement}
 use Rattle.daybook.proofs.show.Tie as tie
 
-admit-requires : tie.Need-admit-requires
-admit-requires c κs = search needs
-
-show-requires : tie.Need-show-requires
-show-requires c κs = search needs
-
 returns : tie.Need-returns
 returns c =
     let o = c .before .before .before .before .before in
     handed _ _ _ _ _ (of-record (o .args .id) (omega (arith, o .fits .id)) (c .before .before .admit .ensures .0)) (c .show .ensures .0) (c .show .ensures .1)
 
 pub show-spec : {M : Type 1} → statement M
-show-spec = tie.close (tie.spec admit-requires show-requires returns)
+show-spec = tie.close (tie.spec (λ c κs. search needs) (λ c κs. search needs) returns)

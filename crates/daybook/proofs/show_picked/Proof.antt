@@ -3,16 +3,10 @@ use borrow.Author.Needs.{needs}
 use Rattle.daybook.proofs.show_picked.Statement.{statement}
 use Rattle.daybook.proofs.show_picked.Tie as tie
 
-pick-requires : tie.Need-pick-requires
-pick-requires c κs = search needs
-
-show-requires : tie.Need-show-requires
-show-requires c κs = search needs
-
 returns : tie.Need-returns
 returns c =
     let k = c .before .before .pick .ensures in
     rw (← k .0, ← k .1) (c .show .ensures)
 
 pub show-picked-spec : {M : Type 1} → statement M
-show-picked-spec = tie.close (tie.spec pick-requires show-requires returns)
+show-picked-spec = tie.close (tie.spec (λ c κs. search needs) (λ c κs. search needs) returns)

@@ -7,15 +7,9 @@ use Rattle.rights.specs.Party.{matterOf}
 use Rattle.daybook.proofs.warning.Statement.{statement}
 use Rattle.daybook.proofs.warning.Tie as tie
 
-admit-requires : tie.Need-admit-requires
-admit-requires c κs = search needs
-
-warning-requires : tie.Need-warning-requires
-warning-requires c κs = search needs
-
 returns : tie.Need-returns
 unfolding matterOf
 returns c = c .warning .ensures ∙ replied-by _ _ _ _ (of-operator (c .before .before .admit .ensures .0))
 
 pub warning-spec : {M : Type 1} → statement M
-warning-spec = tie.close (tie.spec admit-requires warning-requires returns)
+warning-spec = tie.close (tie.spec (λ c κs. search needs) (λ c κs. search needs) returns)

@@ -8,16 +8,10 @@ use Rattle.exports.proofs.daybook_raw_read.Tie as tie
 returns : tie.Need-returns
 returns c = refused 9512 (now (c .before .before .before .args .image)) _ _ _ (c .if1 .taken)
 
-read-image-requires : tie.Need-read-image-requires
-read-image-requires c κs = search needs
-
-same-length : tie.Need-same-length
-same-length c = search needs
-
 returns-2 : tie.Need-returns-2
 returns-2 c =
     let e = c .before .before .read-image .ensures in
     stored 9512 _ _ _ _ _ _ (c .before .before .before .before .if1 .left) (e .asked) (e .fields)
 
 pub daybook-raw-read-spec : {M : Type 1} → statement M
-daybook-raw-read-spec = tie.close (tie.spec returns read-image-requires same-length returns-2)
+daybook-raw-read-spec = tie.close (tie.spec returns (λ c κs. search needs) (λ c. search needs) returns-2)

@@ -10,14 +10,8 @@ use Rattle.exports.proofs.daybook_raw_show.Tie as tie
 returns : tie.Need-returns
 returns c = refused 68 (now (c .before .before .before .before .args .«record»)) _ _ _ (c .if1 .taken)
 
-show-requires : tie.Need-show-requires
-show-requires c κs = search needs
-
 fill-requires : tie.Need-fill-requires
 fill-requires c κs = rw (c .before .show .ensures .shows, c .before .before .before .if1 .left) (shown-length _ _ _)
-
-same-length : tie.Need-same-length
-same-length c = search needs
 
 returns-2 : tie.Need-returns-2
 unfolding isYes
@@ -27,4 +21,4 @@ returns-2 c =
     copied _ _ _ _ _ _ _ _ (shown .before .before .if1 .left) (shown .show .ensures) (filled .fill .ensures)
 
 pub daybook-raw-show-spec : {M : Type 1} → statement M
-daybook-raw-show-spec = tie.close (tie.spec returns show-requires fill-requires same-length returns-2)
+daybook-raw-show-spec = tie.close (tie.spec returns (λ c κs. search needs) fill-requires (λ c. search needs) returns-2)

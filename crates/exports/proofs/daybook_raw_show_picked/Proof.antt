@@ -10,14 +10,8 @@ use Rattle.exports.proofs.daybook_raw_show_picked.Tie as tie
 returns : tie.Need-returns
 returns c = refused 68 (now (c .before .before .before .before .before .args .«record»)) _ _ _ (c .if1 .taken)
 
-show-picked-requires : tie.Need-show-picked-requires
-show-picked-requires c κs = search needs
-
 fill-requires : tie.Need-fill-requires
 fill-requires c κs = rw (c .before .show-picked .ensures .shows, c .before .before .before .if1 .left) (shown-length _ _ _)
-
-same-length : tie.Need-same-length
-same-length c = search needs
 
 returns-2 : tie.Need-returns-2
 unfolding isYes
@@ -28,4 +22,4 @@ returns-2 c =
 
 pub daybook-raw-show-picked-spec : {M : Type 1} → statement M
 daybook-raw-show-picked-spec =
-    tie.close (tie.spec returns show-picked-requires fill-requires same-length returns-2)
+    tie.close (tie.spec returns (λ c κs. search needs) fill-requires (λ c. search needs) returns-2)

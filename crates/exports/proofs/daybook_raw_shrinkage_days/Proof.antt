@@ -9,15 +9,6 @@ use Rattle.exports.proofs.daybook_raw_shrinkage_days.Tie as tie
 returns : tie.Need-returns
 returns c = refused 30 (now (c .before .before .args .answer)) _ _ _ (c .if1 .taken)
 
-over-days-requires : tie.Need-over-days-requires
-over-days-requires c κs = search needs
-
-store-days-requires : tie.Need-store-days-requires
-store-days-requires c κs = search needs
-
-same-length : tie.Need-same-length
-same-length c = search needs
-
 returns-2 : tie.Need-returns-2
 returns-2 c =
     let storing = c .before .before in
@@ -26,4 +17,4 @@ returns-2 c =
 
 pub daybook-raw-shrinkage-days-spec : {M : Type 1} → statement M
 daybook-raw-shrinkage-days-spec =
-    tie.close (tie.spec returns over-days-requires store-days-requires same-length returns-2)
+    tie.close (tie.spec returns (λ c κs. search needs) (λ c κs. search needs) (λ c. search needs) returns-2)

@@ -11,15 +11,6 @@ use Rattle.exports.proofs.daybook_raw_shrinkage_return.Tie as tie
 returns : tie.Need-returns
 returns c = refused 131 (now (c .before .before .args .answer)) _ _ _ (c .if1 .taken)
 
-shrinkage-return-requires : tie.Need-shrinkage-return-requires
-shrinkage-return-requires c κs = search needs
-
-store-return-requires : tie.Need-store-return-requires
-store-return-requires c κs = search needs
-
-same-length : tie.Need-same-length
-same-length c = search needs
-
 returns-2 : tie.Need-returns-2
 returns-2 c =
     let storing = c .before .before in
@@ -31,4 +22,4 @@ returns-2 c =
 
 pub daybook-raw-shrinkage-return-spec : {M : Type 1} → statement M
 daybook-raw-shrinkage-return-spec =
-    tie.close (tie.spec returns shrinkage-return-requires store-return-requires same-length returns-2)
+    tie.close (tie.spec returns (λ c κs. search needs) (λ c κs. search needs) (λ c. search needs) returns-2)

@@ -11,15 +11,6 @@ use Rattle.exports.proofs.daybook_raw_warning.Tie as tie
 returns : tie.Need-returns
 returns c = refused 1 (now (c .before .before .before .before .args .answer)) _ _ _ (c .if1 .taken)
 
-warning-requires : tie.Need-warning-requires
-warning-requires c κs = search needs
-
-store-warning-requires : tie.Need-store-warning-requires
-store-warning-requires c κs = search needs
-
-same-length : tie.Need-same-length
-same-length c = search needs
-
 returns-2 : tie.Need-returns-2
 unfolding isYes
 returns-2 c =
@@ -29,4 +20,4 @@ returns-2 c =
 
 pub daybook-raw-warning-spec : {M : Type 1} → statement M
 daybook-raw-warning-spec =
-    tie.close (tie.spec returns warning-requires store-warning-requires same-length returns-2)
+    tie.close (tie.spec returns (λ c κs. search needs) (λ c κs. search needs) (λ c. search needs) returns-2)

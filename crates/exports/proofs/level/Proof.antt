@@ -11,15 +11,6 @@ use Rattle.exports.proofs.level.Tie as tie
 returns : tie.Need-returns
 returns c = refused 1 (now (c .before .before .before .before .args .answer)) _ _ _ (c .if1 .taken)
 
-level-requires : tie.Need-level-requires
-level-requires c κs = search needs
-
-store-level-requires : tie.Need-store-level-requires
-store-level-requires c κs = search needs
-
-same-length : tie.Need-same-length
-same-length c = search needs
-
 returns-2 : tie.Need-returns-2
 unfolding isYes
 returns-2 c =
@@ -29,4 +20,4 @@ returns-2 c =
 
 pub level-spec : {M : Type 1} → statement M
 level-spec =
-    tie.close (tie.spec returns level-requires store-level-requires same-length returns-2)
+    tie.close (tie.spec returns (λ c κs. search needs) (λ c κs. search needs) (λ c. search needs) returns-2)

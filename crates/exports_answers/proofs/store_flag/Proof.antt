@@ -9,18 +9,6 @@ use borrow.Author.Needs.{needs}
 use Rattle.exports_answers.proofs.store_flag.Statement.{statement}
 use Rattle.exports_answers.proofs.store_flag.Tie as tie
 
-cast-t4 : tie.Need-cast-t4
-cast-t4 c = search needs
-
-slice-aggregate-store : tie.Need-slice-aggregate-store
-slice-aggregate-store c = search needs
-
-store-requires : tie.Need-store-requires
-store-requires c κs = search needs
-
-same-length : tie.Need-same-length
-same-length c = search needs
-
 returns : tie.Need-returns
 unfolding flagNumbers flagTold
 returns c =
@@ -29,4 +17,4 @@ returns c =
 
 pub store-flag-spec : {M : Type 1} → statement M
 store-flag-spec =
-    tie.close (tie.spec cast-t4 slice-aggregate-store store-requires same-length returns)
+    tie.close (tie.spec (λ c. search needs) (λ c. search needs) (λ c κs. search needs) (λ c. search needs) returns)

@@ -8,18 +8,6 @@ use borrow.Author.Needs.{needs}
 use Rattle.exports_answers.proofs.store_warning.Statement.{statement}
 use Rattle.exports_answers.proofs.store_warning.Tie as tie
 
-cast-t4 : tie.Need-cast-t4
-cast-t4 c = search needs
-
-slice-aggregate-store : tie.Need-slice-aggregate-store
-slice-aggregate-store c = search needs
-
-store-requires : tie.Need-store-requires
-store-requires c κs = search needs
-
-same-length : tie.Need-same-length
-same-length c = search needs
-
 returns : tie.Need-returns
 unfolding warningNumbers
 returns c =
@@ -28,4 +16,4 @@ returns c =
 
 pub store-warning-spec : {M : Type 1} → statement M
 store-warning-spec =
-    tie.close (tie.spec cast-t4 slice-aggregate-store store-requires same-length returns)
+    tie.close (tie.spec (λ c. search needs) (λ c. search needs) (λ c κs. search needs) (λ c. search needs) returns)

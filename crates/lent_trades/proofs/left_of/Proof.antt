@@ -5,18 +5,6 @@ use borrow.Author.Needs.{needs}
 use Rattle.lent_trades.proofs.left_of.Statement.{statement}
 use Rattle.lent_trades.proofs.left_of.Tie as tie
 
-mul-cut : tie.Need-mul-cut
-mul-cut c = search needs
-
-shared-slice-read-cut : tie.Need-shared-slice-read-cut
-shared-slice-read-cut c = search needs
-
-sub-result : tie.Need-sub-result
-sub-result c = search needs
-
-cast-result : tie.Need-cast-result
-cast-result c = search needs
-
 returns : tie.Need-returns
 returns c = omega arith
 
@@ -29,4 +17,4 @@ returns-3 c = let a = c .before .args in omega (arith, List·getD-eq-default (a 
 pub left-of-spec : {M : Type 1} → statement M
 left-of-spec =
     tie.close
-    (tie.spec mul-cut shared-slice-read-cut sub-result cast-result returns returns-2 returns-3)
+    (tie.spec (λ c. search needs) (λ c. search needs) (λ c. search needs) (λ c. search needs) returns returns-2 returns-3)

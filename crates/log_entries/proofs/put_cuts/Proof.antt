@@ -18,9 +18,6 @@ loop-holds c = put-start (c .before .pre .1)
 element-copy-out-index : tie.Need-element-copy-out-index Inv-loop μ-loop
 element-copy-out-index c = omega (arith, c .before .before .before .pre .1 .few)
 
-index-requires : tie.Need-index-requires Inv-loop μ-loop
-index-requires c κs = search needs
-
 mul-put-u32 : tie.Need-mul-put-u32 Inv-loop μ-loop
 mul-put-u32 c = omega (arith, c .before .index .ensures .1)
 
@@ -39,12 +36,6 @@ put-u32-requires : tie.Need-put-u32-requires Inv-loop μ-loop
 put-u32-requires c κs =
     let l = c .before .before .before .before .before in
     omega (arith, c .before .before .index .ensures .1, l .loop .inv .long, l .before .before .pre .0)
-
-add-k : tie.Need-add-k Inv-loop μ-loop
-add-k c = search needs
-
-loop-less : tie.Need-loop-less Inv-loop μ-loop
-loop-less c = search needs
 
 loop-again : tie.Need-loop-again Inv-loop μ-loop
 loop-again c =
@@ -66,14 +57,14 @@ put-cuts-spec =
     μ-loop
     loop-holds
     element-copy-out-index
-    index-requires
+    (λ c κs. search needs)
     mul-put-u32
     mul-put-u32-2
     element-copy-out-put-u32
     cast-put-u32
     put-u32-requires
-    add-k
-    loop-less
+    (λ c. search needs)
+    (λ c. search needs)
     loop-again
     same-length
     returns)

@@ -20,9 +20,6 @@ loop-holds c =
     let s = c .before in
     (summed-start (s .args .m) (s .args .log .now) (s .pre .0 .2) (s .pre .1), omega arith)
 
-entry-offset-requires : tie.Need-entry-offset-requires Inv-loop μ-loop
-entry-offset-requires c κs = search needs
-
 add-cuts-requires : tie.Need-add-cuts-requires Inv-loop μ-loop
 add-cuts-requires c κs =
     let l = c .before .before .before in
@@ -54,7 +51,7 @@ returns c =
 pub sum-entries-spec : {M : Type 1} → statement M
 sum-entries-spec =
     tie.close
-    (tie.spec Inv-loop μ-loop loop-holds entry-offset-requires add-cuts-requires
+    (tie.spec Inv-loop μ-loop loop-holds (λ c κs. search needs) add-cuts-requires
     (λ c. omega (
       arith,
       c .before .before .entry-offset .ensures .1,

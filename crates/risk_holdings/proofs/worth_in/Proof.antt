@@ -6,15 +6,9 @@ use borrow.Author.Needs.{needs}
 use Rattle.risk_holdings.proofs.worth_in.Statement.{statement}
 use Rattle.risk_holdings.proofs.worth_in.Tie as tie
 
-reference-price-requires : tie.Need-reference-price-requires
-reference-price-requires c κs = search needs
-
-worth-requires : tie.Need-worth-requires
-worth-requires c κs = search needs
-
 returns : tie.Need-returns
 returns c =
     (c .worth .ensures .0 ∙ ap (λ (n : ℕ). c .before .before .args .energy .0 * n) (c .before .reference-price .ensures .0), omega arith)
 
 pub worth-in-spec : {M : Type 1} → statement M
-worth-in-spec = tie.close (tie.spec reference-price-requires worth-requires returns)
+worth-in-spec = tie.close (tie.spec (λ c κs. search needs) (λ c κs. search needs) returns)

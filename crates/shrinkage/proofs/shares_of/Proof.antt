@@ -24,9 +24,6 @@ mul-balance c = omega (arith, c .before .before .pre .few)
 shared-slice-copy-out-balance : tie.Need-shared-slice-copy-out-balance Inv-loop μ-loop
 shared-slice-copy-out-balance c = omega arith
 
-of-requires : tie.Need-of-requires Inv-loop μ-loop
-of-requires c κs = search needs
-
 product-requires : tie.Need-product-requires Inv-loop μ-loop
 product-requires c κs =
     let l = c .before .before .before .before in
@@ -62,12 +59,6 @@ add-given c =
     let g = given-next q (l .loop .inv) (pos 0) (c .before .before .before .before .before .before .loop-test .taken) (e .1) (c .before .before .product .ensures) in
     omega (arith, q .half-most, g)
 
-add-i : tie.Need-add-i Inv-loop μ-loop
-add-i c = search needs
-
-loop-less : tie.Need-loop-less Inv-loop μ-loop
-loop-less c = search needs
-
 loop-again : tie.Need-loop-again Inv-loop μ-loop
 loop-again c =
     let l = c .before .before .before .before .before .before .before in
@@ -87,7 +78,7 @@ shares-of-spec =
     loop-holds
     mul-balance
     shared-slice-copy-out-balance
-    of-requires
+    (λ c κs. search needs)
     product-requires
     div-share
     mul-shares
@@ -96,7 +87,7 @@ shares-of-spec =
     mul-remainders
     array-write-remainders
     add-given
-    add-i
-    loop-less
+    (λ c. search needs)
+    (λ c. search needs)
     loop-again
     returns)

@@ -6,25 +6,13 @@ use Rattle.shrinkage.proofs.Ways.{too-many, one-out, no-return, divisib
 use Rattle.shrinkage.proofs.shrinkage_return.Statement.{statement}
 use Rattle.shrinkage.proofs.shrinkage_return.Tie as tie
 
-nothing-requires : tie.Need-nothing-requires
-nothing-requires c κs = search needs
-
 returns : tie.Need-returns
 returns c = c .nothing .ensures ∙ too-many _ (c .before .if1 .taken)
-
-sums-of-requires : tie.Need-sums-of-requires
-sums-of-requires c κs = search needs
-
-nothing-requires-2 : tie.Need-nothing-requires-2
-nothing-requires-2 c κs = search needs
 
 returns-2 : tie.Need-returns-2
 returns-2 c =
     let sums = c .before .before .before in
     c .nothing2 .ensures ∙ one-out _ (sums .before .if1 .left) (sym (sums .sums-of .ensures .test) ∙ not-true _ (c .before .if2 .taken))
-
-nothing-requires-3 : tie.Need-nothing-requires-3
-nothing-requires-3 c κs = search needs
 
 returns-3 : tie.Need-returns-3
 returns-3 c =
@@ -32,18 +20,12 @@ returns-3 c =
     let sums = valid .before .before in
     c .nothing3 .ensures ∙ no-return _ (sums .before .if1 .left) (sums .sums-of .ensures) (not-false _ (valid .if2 .left)) (c .before .if3 .taken)
 
-sub-negative : tie.Need-sub-negative
-sub-negative c = search needs
-
 shares-of-requires : tie.Need-shares-of-requires
 shares-of-requires c κs =
     let negative = c .before .before in
     let valid = negative .before .before .before .before .before in
     let sums = valid .before .before in
     divisible _ (sums .before .if1 .left) (sums .sums-of .ensures) (not-false _ (valid .if2 .left)) (negative .if3 .left)
-
-sub-t14 : tie.Need-sub-t14
-sub-t14 c = search needs
 
 returns-4 : tie.Need-returns-4
 returns-4 c =
@@ -57,14 +39,14 @@ pub shrinkage-return-spec : {M : Type 1} → statement M
 shrinkage-return-spec =
     tie.close
     (tie.spec
-    nothing-requires
+    (λ c κs. search needs)
     returns
-    sums-of-requires
-    nothing-requires-2
+    (λ c κs. search needs)
+    (λ c κs. search needs)
     returns-2
-    nothing-requires-3
+    (λ c κs. search needs)
     returns-3
-    sub-negative
+    (λ c. search needs)
     shares-of-requires
-    sub-t14
+    (λ c. search needs)
     returns-4)

@@ -24,9 +24,6 @@ mul-balance c = omega arith
 shared-slice-copy-out-balance : tie.Need-shared-slice-copy-out-balance Inv-loop μ-loop
 shared-slice-copy-out-balance c = omega arith
 
-of-requires : tie.Need-of-requires Inv-loop μ-loop
-of-requires c κs = search needs
-
 add-if1 : tie.Need-add-if1 Inv-loop μ-loop
 add-if1 c = omega arith
 
@@ -42,12 +39,6 @@ add-above c = omega arith
 
 add-below : tie.Need-add-below Inv-loop μ-loop
 add-below c = omega arith
-
-add-i : tie.Need-add-i Inv-loop μ-loop
-add-i c = search needs
-
-loop-less : tie.Need-loop-less Inv-loop μ-loop
-loop-less c = search needs
 
 loop-again : tie.Need-loop-again Inv-loop μ-loop
 loop-again c =
@@ -68,12 +59,12 @@ sums-of-spec =
     loop-holds
     mul-balance
     shared-slice-copy-out-balance
-    of-requires
+    (λ c κs. search needs)
     add-if1
     returns
     add-above
     add-below
-    add-i
-    loop-less
+    (λ c. search needs)
+    (λ c. search needs)
     loop-again
     returns-2)

@@ -6,19 +6,13 @@ use Rattle.store.proofs.Ways.{no-store}
 use Rattle.store.proofs.figures_on.Statement.{statement}
 use Rattle.store.proofs.figures_on.Tie as tie
 
-today-with-requires : tie.Need-today-with-requires
-today-with-requires c κs = search needs
-
 returns : tie.Need-returns
 unfolding given
 returns c = rw (not-true (c .before .before .before .args .with-store) (c .before .if1 .taken)) (no-store (c .today-with .ensures .0) (c .today-with .ensures .1))
-
-of-store-requires : tie.Need-of-store-requires
-of-store-requires c κs = search needs
 
 returns-2 : tie.Need-returns-2
 unfolding given
 returns-2 c = rw (not-false (c .before .before .before .args .with-store) (c .before .if1 .left)) (c .of-store .ensures)
 
 pub figures-on-spec : {M : Type 1} → statement M
-figures-on-spec = tie.close (tie.spec today-with-requires returns of-store-requires returns-2)
+figures-on-spec = tie.close (tie.spec (λ c κs. search needs) returns (λ c κs. search needs) returns-2)

@@ -9,24 +9,6 @@ returns : tie.Need-returns
 unfolding storeFormed
 returns c = simp (lt-leb _ _ (c .if1 .taken))
 
-get-requires : tie.Need-get-requires
-get-requires c κs = search needs
-
-get-u16-requires : tie.Need-get-u16-requires
-get-u16-requires c κs = search needs
-
-get-u8-requires : tie.Need-get-u8-requires
-get-u8-requires c κs = search needs
-
-cast-n : tie.Need-cast-n
-cast-n c = search needs
-
-mul-result : tie.Need-mul-result
-mul-result c = search needs
-
-add-result : tie.Need-add-result
-add-result c = search needs
-
 returns-2 : tie.Need-returns-2
 unfolding storeFormed storeMark setCount
 returns-2 c =
@@ -42,10 +24,10 @@ is-formed-spec =
     tie.close
     (tie.spec
     returns
-    get-requires
-    get-u16-requires
-    get-u8-requires
-    cast-n
-    mul-result
-    add-result
+    (λ c κs. search needs)
+    (λ c κs. search needs)
+    (λ c κs. search needs)
+    (λ c. search needs)
+    (λ c. search needs)
+    (λ c. search needs)
     returns-2)

@@ -29,12 +29,6 @@ by-sets c =
     let read = c .before in
     formed-by-sets (bytes (read .before .before)) (is-formed (read .before)) (count read) (c .sets-valid .ensures)
 
-is-formed-requires : tie.Need-is-formed-requires
-is-formed-requires c κs = search needs
-
-today-with-requires : tie.Need-today-with-requires
-today-with-requires c κs = search needs
-
 returns : tie.Need-returns
 returns c =
     let asked = c .before .before in
@@ -44,14 +38,8 @@ returns c =
 get-u8-requires : tie.Need-get-u8-requires
 get-u8-requires c κs = omega (arith, formed-room (bytes (c .before)) (is-formed c))
 
-cast-n : tie.Need-cast-n
-cast-n c = search needs
-
 sets-valid-requires : tie.Need-sets-valid-requires
 sets-valid-requires c κs = omega (arith, formed-room (bytes (c .before .before)) (is-formed (c .before)), count c)
-
-today-with-requires-2 : tie.Need-today-with-requires-2
-today-with-requires-2 c κs = search needs
 
 returns-2 : tie.Need-returns-2
 returns-2 c =
@@ -71,13 +59,13 @@ pub of-store-spec : {M : Type 1} → statement M
 of-store-spec =
     tie.close
     (tie.spec
-    is-formed-requires
-    today-with-requires
+    (λ c κs. search needs)
+    (λ c κs. search needs)
     returns
     get-u8-requires
-    cast-n
+    (λ c. search needs)
     sets-valid-requires
-    today-with-requires-2
+    (λ c κs. search needs)
     returns-2
     in-force-requires
     returns-3)

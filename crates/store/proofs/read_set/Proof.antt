@@ -5,21 +5,6 @@ use Rattle.store.specs.Asked.{asSet}
 use Rattle.store.proofs.read_set.Statement.{statement}
 use Rattle.store.proofs.read_set.Tie as tie
 
-get-u32-requires : tie.Need-get-u32-requires
-get-u32-requires c κs = search needs
-
-get-u32-requires-2 : tie.Need-get-u32-requires-2
-get-u32-requires-2 c κs = search needs
-
-cast-energy : tie.Need-cast-energy
-cast-energy c = search needs
-
-get-u64-requires : tie.Need-get-u64-requires
-get-u64-requires c κs = search needs
-
-get-u64-requires-2 : tie.Need-get-u64-requires-2
-get-u64-requires-2 c κs = search needs
-
 returns : tie.Need-returns
 unfolding setOf asSet
 returns c =
@@ -30,9 +15,9 @@ pub read-set-spec : {M : Type 1} → statement M
 read-set-spec =
     tie.close
     (tie.spec
-    get-u32-requires
-    get-u32-requires-2
-    cast-energy
-    get-u64-requires
-    get-u64-requires-2
+    (λ c κs. search needs)
+    (λ c κs. search needs)
+    (λ c. search needs)
+    (λ c κs. search needs)
+    (λ c κs. search needs)
     returns)

@@ -5,12 +5,9 @@ use Rattle.store.specs.Asked.{asSet}
 use Rattle.store.proofs.set_valid.Statement.{statement}
 use Rattle.store.proofs.set_valid.Tie as tie
 
-is-real-day-requires : tie.Need-is-real-day-requires
-is-real-day-requires c κs = search needs
-
 returns : tie.Need-returns
 unfolding setValid limitsValid asSet
 returns c = rw (c .before .before .before .before .is-real-day .ensures)
 
 pub set-valid-spec : {M : Type 1} → statement M
-set-valid-spec = tie.close (tie.spec is-real-day-requires returns)
+set-valid-spec = tie.close (tie.spec (λ c κs. search needs) returns)

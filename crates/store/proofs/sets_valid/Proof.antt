@@ -19,18 +19,6 @@ abbrev μ-loop : tie.MeasureT-loop
 loop-holds : tie.Need-loop-holds Inv-loop μ-loop
 loop-holds c = sets-start
 
-add-read-set : tie.Need-add-read-set Inv-loop μ-loop
-add-read-set c = search needs
-
-sub-read-set : tie.Need-sub-read-set Inv-loop μ-loop
-sub-read-set c = search needs
-
-part-read-set-start : tie.Need-part-read-set-start Inv-loop μ-loop
-part-read-set-start c = search needs
-
-part-read-set-end : tie.Need-part-read-set-end Inv-loop μ-loop
-part-read-set-end c = search needs
-
 read-set-requires : tie.Need-read-set-requires Inv-loop μ-loop
 read-set-requires c κs = simp (length-take, length-drop) (omega arith)
 
@@ -40,23 +28,11 @@ returns c =
     let read = c .before .before in
     sets-date-no (read .before .before .before .loop .inv) (omega arith) (read .read-set .ensures) (c .if1 .taken)
 
-set-valid-requires : tie.Need-set-valid-requires Inv-loop μ-loop
-set-valid-requires c κs = search needs
-
 returns-2 : tie.Need-returns-2 Inv-loop μ-loop
 returns-2 c =
     let asked = c .before .set-valid in
     let read = c .before .before .before .before in
     sets-no (read .before .before .before .loop .inv) (omega arith) (read .read-set .ensures) (sym (asked .ensures) ∙ not-true (asked .result) (c .if2 .taken))
-
-add-a : tie.Need-add-a Inv-loop μ-loop
-add-a c = search needs
-
-add-i : tie.Need-add-i Inv-loop μ-loop
-add-i c = search needs
-
-loop-less : tie.Need-loop-less Inv-loop μ-loop
-loop-less c = search needs
 
 loop-again : tie.Need-loop-again Inv-loop μ-loop
 unfolding asSet
@@ -76,16 +52,16 @@ sets-valid-spec =
     Inv-loop
     μ-loop
     loop-holds
-    add-read-set
-    sub-read-set
-    part-read-set-start
-    part-read-set-end
+    (λ c. search needs)
+    (λ c. search needs)
+    (λ c. search needs)
+    (λ c. search needs)
     read-set-requires
     returns
-    set-valid-requires
+    (λ c κs. search needs)
     returns-2
-    add-a
-    add-i
-    loop-less
+    (λ c. search needs)
+    (λ c. search needs)
+    (λ c. search needs)
     loop-again
     returns-3)

@@ -4,15 +4,9 @@ use Rattle.rules.specs.Calls.{ofCuts}
 use Rattle.call_answers.proofs.ReductionAnswer.of_cuts.Statement.{statement}
 use Rattle.call_answers.proofs.ReductionAnswer.of_cuts.Tie as tie
 
-excess-requires : tie.Need-excess-requires
-excess-requires c κs = search needs
-
-excess-requires-2 : tie.Need-excess-requires-2
-excess-requires-2 c κs = search needs
-
 returns : tie.Need-returns
 unfolding ofCuts
 returns c = cc (c .excess2 .ensures, c .before .excess .ensures)
 
 pub of-cuts-spec : {M : Type 1} → statement M
-of-cuts-spec = tie.close (tie.spec excess-requires excess-requires-2 returns)
+of-cuts-spec = tie.close (tie.spec (λ c κs. search needs) (λ c κs. search needs) returns)

@@ -12,15 +12,6 @@ use Rattle.exports.proofs.told.daybook_raw_flag.Tie as tie
 returns : tie.Need-returns
 returns c = refused 1 (now (c .before .before .before .before .args .answer)) _ _ _ (c .if1 .taken)
 
-flag-requires : tie.Need-flag-requires
-flag-requires c κs = search needs
-
-store-flag-requires : tie.Need-store-flag-requires
-store-flag-requires c κs = search needs
-
-same-length : tie.Need-same-length
-same-length c = search needs
-
 returns-2 : tie.Need-returns-2
 unfolding isYes flagTold
 returns-2 c =
@@ -30,4 +21,4 @@ returns-2 c =
 
 pub daybook-raw-flag-spec : {M : Type 1} → statement M
 daybook-raw-flag-spec =
-    tie.close (tie.spec returns flag-requires store-flag-requires same-length returns-2)
+    tie.close (tie.spec returns (λ c κs. search needs) (λ c κs. search needs) (λ c. search needs) returns-2)

@@ -12,15 +12,6 @@ use Rattle.exports.proofs.told.daybook_raw_trade_count.Tie as tie
 returns : tie.Need-returns
 returns c = refused 1 (now (c .before .before .before .before .args .answer)) _ _ _ (c .if1 .taken)
 
-trade-count-requires : tie.Need-trade-count-requires
-trade-count-requires c κs = search needs
-
-store-count-requires : tie.Need-store-count-requires
-store-count-requires c κs = search needs
-
-same-length : tie.Need-same-length
-same-length c = search needs
-
 returns-2 : tie.Need-returns-2
 unfolding isYes countTold
 returns-2 c =
@@ -30,4 +21,4 @@ returns-2 c =
 
 pub daybook-raw-trade-count-spec : {M : Type 1} → statement M
 daybook-raw-trade-count-spec =
-    tie.close (tie.spec returns trade-count-requires store-count-requires same-length returns-2)
+    tie.close (tie.spec returns (λ c κs. search needs) (λ c κs. search needs) (λ c. search needs) returns-2)

@@ -11,12 +11,9 @@ returns : tie.Need-returns
 unfolding stock asHolding
 returns c = (rw (eq-eqb (c .before .before .args .area) 0 (omega arith)), omega arith)
 
-long-requires : tie.Need-long-requires
-long-requires c κs = search needs
-
 returns-2 : tie.Need-returns-2
 unfolding stock asHolding
 returns-2 c = (rw (ne-eqb (c .before .before .before .args .area) 0 (λ h. omega arith)) (c .long .ensures .0), omega arith)
 
 pub stock-spec : {M : Type 1} → statement M
-stock-spec = tie.close (tie.spec returns long-requires returns-2)
+stock-spec = tie.close (tie.spec returns (λ c κs. search needs) returns-2)

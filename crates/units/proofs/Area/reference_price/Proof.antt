@@ -6,15 +6,6 @@ use borrow.Author.Needs.{needs}
 use Rattle.units.proofs.Area.reference_price.Statement.{statement}
 use Rattle.units.proofs.Area.reference_price.Tie as tie
 
-add-t5 : tie.Need-add-t5
-add-t5 c = search needs
-
-add-t6 : tie.Need-add-t6
-add-t6 c = search needs
-
-add-t7 : tie.Need-add-t7
-add-t7 c = search needs
-
 returns : tie.Need-returns
 unfolding referencePrice
 returns c = (rw (eq-eqb _ _ (c .match .keys1)), omega arith)
@@ -28,4 +19,4 @@ unfolding referencePrice
 returns-3 c = (rw (ne-eqb _ _ (c .before .before .match .rest .0 .1), ne-eqb _ _ (c .before .before .match .rest .1)), omega arith)
 
 pub reference-price-spec : {M : Type 1} → statement M
-reference-price-spec = tie.close (tie.spec add-t5 add-t6 add-t7 returns returns-2 returns-3)
+reference-price-spec = tie.close (tie.spec (λ c. search needs) (λ c. search needs) (λ c. search needs) returns returns-2 returns-3)

@@ -7,15 +7,9 @@ use borrow.Author.Needs.{needs}
 use Rattle.units.proofs.Balance.is_charges.Statement.{statement}
 use Rattle.units.proofs.Balance.is_charges.Tie as tie
 
-sub-result : tie.Need-sub-result
-sub-result c = search needs
-
-add-result : tie.Need-add-result
-add-result c = search needs
-
 returns : tie.Need-returns
 unfolding balance
 returns c = within-offset 1000000000000 (2 ^ 63) (c .args .self .0) (omega arith)
 
 pub is-charges-spec : {M : Type 1} → statement M
-is-charges-spec = tie.close (tie.spec sub-result add-result returns)
+is-charges-spec = tie.close (tie.spec (λ c. search needs) (λ c. search needs) returns)

@@ -7,9 +7,6 @@ use borrow.Author.Needs.{needs}
 use Rattle.units.proofs.Net.bits.Statement.{statement}
 use Rattle.units.proofs.Net.bits.Tie as tie
 
-add-result : tie.Need-add-result
-add-result c = search needs
-
 returns : tie.Need-returns
 unfolding net
 returns c = bitsOf-below 32 (2 ^ 31) refl (c .before .args .self .0) (c .if1 .taken)
@@ -19,4 +16,4 @@ unfolding net
 returns-2 c = bitsOf-from 32 (2 ^ 31) refl (c .before .args .self .0) (c .if1 .left)
 
 pub bits-spec : {M : Type 1} → statement M
-bits-spec = tie.close (tie.spec add-result returns returns-2)
+bits-spec = tie.close (tie.spec (λ c. search needs) returns returns-2)

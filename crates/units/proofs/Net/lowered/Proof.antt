@@ -8,14 +8,8 @@ use borrow.Author.Needs.{needs}
 use Rattle.units.proofs.Net.lowered.Statement.{statement}
 use Rattle.units.proofs.Net.lowered.Tie as tie
 
-cast-t4 : tie.Need-cast-t4
-cast-t4 c = search needs
-
 sub-t5 : tie.Need-sub-t5
 sub-t5 c = omega (arith, parts-net (c .before .args .self))
-
-cast-t6 : tie.Need-cast-t6
-cast-t6 c = search needs
 
 returns : tie.Need-returns
 returns c =
@@ -24,4 +18,4 @@ returns c =
     net-eq _ (x -ℤ pos e) (omega (arith, parts-net (c .before .args .self), parts-sub x (pos e), posPart-pos e, negPart-pos e))
 
 pub lowered-spec : {M : Type 1} → statement M
-lowered-spec = tie.close (tie.spec cast-t4 sub-t5 cast-t6 returns)
+lowered-spec = tie.close (tie.spec (λ c. search needs) sub-t5 (λ c. search needs) returns)

@@ -19,18 +19,6 @@ sum-fits : (x old new : Net) → within 26600000 (net x) ≡ true → (within 10
 sum-fits x old new p e =
     omega (arith, net-bounds 26600000 x p, net-bounds 1000000 old (e .0), net-bounds 1000000 new (e .1))
 
-cast-t7 : tie.Need-cast-t7
-cast-t7 c = search needs
-
-cast-t8 : tie.Need-cast-t8
-cast-t8 c = search needs
-
-add-t9 : tie.Need-add-t9
-add-t9 c = search needs
-
-cast-t10 : tie.Need-cast-t10
-cast-t10 c = search needs
-
 sub-t11 : tie.Need-sub-t11
 sub-t11 c = sum-fits (c .args .self) (c .args .old) (c .args .new) (c .pre .0) (c .pre .1) .0
 
@@ -48,4 +36,4 @@ returns c =
     (arith, sum-fits x old new (c .pre .0) (c .pre .1), parts-add (net x) amount, parts-sub (net new) (net old), parts-net x, parts-net old, parts-net new))
 
 pub moved-spec : {M : Type 1} → statement M
-moved-spec = tie.close (tie.spec cast-t7 cast-t8 add-t9 cast-t10 sub-t11 cast-t12 returns)
+moved-spec = tie.close (tie.spec (λ c. search needs) (λ c. search needs) (λ c. search needs) (λ c. search needs) sub-t11 cast-t12 returns)

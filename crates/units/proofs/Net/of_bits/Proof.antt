@@ -7,9 +7,6 @@ use borrow.Author.Needs.{needs}
 use Rattle.units.proofs.Net.of_bits.Statement.{statement}
 use Rattle.units.proofs.Net.of_bits.Tie as tie
 
-add-t4 : tie.Need-add-t4
-add-t4 c = search needs
-
 returns : tie.Need-returns
 unfolding net
 returns c = signedOf-below 32 (2 ^ 31) refl (c .before .args .bits) (c .if1 .taken)
@@ -19,4 +16,4 @@ unfolding net
 returns-2 c = signedOf-from 32 (2 ^ 31) refl (c .before .args .bits) (c .if1 .left)
 
 pub of-bits-spec : {M : Type 1} → statement M
-of-bits-spec = tie.close (tie.spec add-t4 returns returns-2)
+of-bits-spec = tie.close (tie.spec (λ c. search needs) returns returns-2)

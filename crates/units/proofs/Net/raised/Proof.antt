@@ -8,12 +8,6 @@ use borrow.Author.Needs.{needs}
 use Rattle.units.proofs.Net.raised.Statement.{statement}
 use Rattle.units.proofs.Net.raised.Tie as tie
 
-cast-t4 : tie.Need-cast-t4
-cast-t4 c = search needs
-
-add-t5 : tie.Need-add-t5
-add-t5 c = search needs
-
 cast-t6 : tie.Need-cast-t6
 cast-t6 c = omega (arith, posPart-net (c .before .args .self))
 
@@ -24,4 +18,4 @@ returns c =
     net-eq _ (x +ℤ pos e) (omega (arith, parts-net (c .before .args .self), parts-add x (pos e), posPart-pos e, negPart-pos e))
 
 pub raised-spec : {M : Type 1} → statement M
-raised-spec = tie.close (tie.spec cast-t4 add-t5 cast-t6 returns)
+raised-spec = tie.close (tie.spec (λ c. search needs) (λ c. search needs) cast-t6 returns)

@@ -22,24 +22,6 @@ sum-parts : (old : Net) (z : ℤ) → SFits w64 z → {i o : ℕ} → (i ≡ pos
 sum-parts old z f e =
     omega (arith, parts-net old, parts-add (net old) z, ap posPart (toZ-ofZ w64 z f), ap negPart (toZ-ofZ w64 z f))
 
-of-requires : tie.Need-of-requires
-of-requires c κs = search needs
-
-cast-above : tie.Need-cast-above
-cast-above c = search needs
-
-add-above : tie.Need-add-above
-add-above c = search needs
-
-cast-below : tie.Need-cast-below
-cast-below c = search needs
-
-add-below : tie.Need-add-below
-add-below c = search needs
-
-add-if1 : tie.Need-add-if1
-add-if1 c = search needs
-
 returns : tie.Need-returns
 returns c =
     let s = c .before .before .before .before in
@@ -47,21 +29,12 @@ returns c =
     let e = sum-parts (s .args .old) (s .args .amount) (s .fits .amount) (c .before .before .before .of .ensures .0) in
     (sym (lt-within 1000000 z (omega arith)), refl)
 
-add-if2 : tie.Need-add-if2
-add-if2 c = search needs
-
 returns-2 : tie.Need-returns-2
 returns-2 c =
     let s = c .before .before .before .before .before in
     let z = net (s .args .old) +ℤ s .args .amount in
     let e = sum-parts (s .args .old) (s .args .amount) (s .fits .amount) (c .before .before .before .before .of .ensures .0) in
     (sym (lt-within 1000000 z (omega arith)), refl)
-
-sub-t7 : tie.Need-sub-t7
-sub-t7 c = search needs
-
-cast-t9 : tie.Need-cast-t9
-cast-t9 c = search needs
 
 returns-3 : tie.Need-returns-3
 returns-3 c =
@@ -76,4 +49,4 @@ returns-3 c =
     )
 
 pub of-spec : {M : Type 1} → statement M
-of-spec = tie.close (tie.spec of-requires cast-above add-above cast-below add-below add-if1 returns add-if2 returns-2 sub-t7 cast-t9 returns-3)
+of-spec = tie.close (tie.spec (λ c κs. search needs) (λ c. search needs) (λ c. search needs) (λ c. search needs) (λ c. search needs) (λ c. search needs) returns (λ c. search needs) returns-2 (λ c. search needs) (λ c. search needs) returns-3)

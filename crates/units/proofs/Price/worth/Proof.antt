@@ -6,9 +6,6 @@ use borrow.Author.Needs.{needs}
 use Rattle.units.proofs.Price.worth.Statement.{statement}
 use Rattle.units.proofs.Price.worth.Tie as tie
 
-cast-t4 : tie.Need-cast-t4
-cast-t4 c = search needs
-
 mul-t5 : tie.Need-mul-t5
 mul-t5 c = omega (arith, mul-le-mul-left (c .before .args .energy .0) (c .before .pre .0))
 
@@ -16,4 +13,4 @@ returns : tie.Need-returns
 returns c = (refl, omega (arith, mul-le-mul-left (c .before .args .energy .0) (c .before .pre .0)))
 
 pub worth-spec : {M : Type 1} → statement M
-worth-spec = tie.close (tie.spec cast-t4 mul-t5 returns)
+worth-spec = tie.close (tie.spec (λ c. search needs) mul-t5 returns)
