@@ -29,13 +29,13 @@ pub fn convert(book: &[u8], number: u32, version: u32, out: &mut [u8]) -> u32
         return 23;
     }
     let target = version as u16;
-    if !book_conversion::keeps(book, target) {
+    if !call_versions::keeps(book, target) {
         return 21;
     }
-    let size = book_conversion::length_as(book, target);
+    let size = call_versions::length_as(book, target);
     if out.len() < size {
         return 22;
     }
-    book_conversion::convert(book, target, &mut out[..size]);
+    call_versions::convert(book, target, &mut out[..size]);
     0
 }

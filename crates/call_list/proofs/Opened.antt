@@ -9,9 +9,9 @@ use lib.IntN.{ℤ}
 use lib.ListN.{length}
 use Rattle.book_format.specs.Questions.{bookNumber}
 use Rattle.base.proofs.Tests.{and-l, and-r}
+use Rattle.log_format.specs.Noted.{emptiedBy}
 use Rattle.requests.proofs.Lines.{lines-opening}
 use Rattle.requests.proofs.Passed.{opening-book}
-use Rattle.requests.specs.Logged.{emptiedBy}
 use Rattle.requests.specs.Request.{linesFit, linesOf, openingNumber, settingOf}
 use Rattle.rights.proofs.Logged.{lines-with-opening-by, posted-list-by}
 use Rattle.rights.specs.Logged.{PostedBy, linesNumberWithBy}

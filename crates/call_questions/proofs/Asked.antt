@@ -10,7 +10,7 @@ use lib.Dec.{T, leb, ltb}
 use lib.ListN.{length, getD}
 use borrow.Author.Tests.{lt-ltb, le-ltb, le-leb}
 use Rattle.book_parties.specs.Ids.{idAt}
-use Rattle.risk_holdings.specs.Parties.{cutBefore}
+use Rattle.laws_sales.specs.Parties.{cutBefore}
 use Rattle.book_format.proofs.Passed.{length-usersOf}
 use Rattle.book_format.specs.Book.{bookOf, userCount, usersOf}
 use Rattle.risk_bearers.proofs.Borne.{id-in}

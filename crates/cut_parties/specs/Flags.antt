@@ -5,7 +5,7 @@ use mathlib.Core.Path.{_≡_}
 use Prim.Native.Nat.{ℕ, _<_}
 use lib.ListN.{length, getD}
 use Rattle.book_parties.specs.Ids.{idAt}
-use Rattle.risk_holdings.specs.Parties.{cutBefore}
+use Rattle.laws_sales.specs.Parties.{cutBefore}
 use Rattle.rules.specs.Book.{Trade, User}
 
 -- a flag for each user that is party to a trade standing below notified

@@ -10,7 +10,7 @@ ghost use Rattle.book_format.specs.Book.{tradeCount, tradesOf, userCount};
 ghost use Rattle.book_format.specs.Places.{TradeIn};
 ghost use Rattle.book_parties.specs.Ids.{idAt};
 ghost use Rattle.risk_bearers.specs.Bearers.{BorneIn, tradesIn, usersIn};
-ghost use Rattle.risk_holdings.specs.Parties.{cutBefore};
+ghost use Rattle.laws_sales.specs.Parties.{cutBefore};
 ghost use Rattle.rules.specs.Book.{noTrade};
 ghost use Rattle.cut_parties.specs.Flags.{CutFlags};
 

@@ -4,7 +4,7 @@ use mathlib.Core.List.{List}
 use mathlib.Core.Path.{_≡_}
 use Prim.Native.Nat.{ℕ, _<_}
 use lib.ListN.{getD}
-use Rattle.risk_holdings.specs.Parties.{cutBefore}
+use Rattle.laws_sales.specs.Parties.{cutBefore}
 use Rattle.book_format.specs.Book.{bookOf, userCount, usersOf}
 use Rattle.book_format.specs.Questions.{bookNumber}
 use Rattle.book_sums.specs.Twelve.{Low, TwelveOf}

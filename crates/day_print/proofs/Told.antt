@@ -16,7 +16,7 @@ use Rattle.day_lines.specs.Lines.{LineAsked}
 use Rattle.fields.specs.Field.{AllBytes}
 use Rattle.risk_bearers.proofs.Borne.{id-in, length-usersIn}
 use Rattle.risk_bearers.specs.Bearers.{tradesIn, usersIn}
-use Rattle.risk_holdings.specs.Parties.{cutBefore}
+use Rattle.laws_sales.specs.Parties.{cutBefore}
 use Rattle.risk_user.specs.UserAt.{PositionsOf}
 use Rattle.rules.specs.Areas.{Prices}
 use Rattle.rules.specs.Levels.{Limits}

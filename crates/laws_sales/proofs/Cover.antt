@@ -8,7 +8,7 @@ use lib.Dec.{T, eqb, ltb, leb, leb→le, eqb→eq, ltb→lt}
 use lib.IntN.{ℤ, pos, _+ℤ_, _-ℤ_}
 use lib.ListN.{length}
 use borrow.Author.Tests.{lt-ltb, le-ltb, ltb-true, ltb-false, ne-eqb}
-use Rattle.risk_holdings.specs.Parties.{isCut, cutBefore}
+use Rattle.laws_sales.specs.Parties.{isCut, cutBefore}
 use Rattle.base.specs.Parts.{posPart, negPart}
 use Rattle.base.specs.Sums.{sum}
 use Rattle.laws.proofs.Shares.{eachWithin}

@@ -9,7 +9,7 @@ use lib.Dec.{T, eqb, ltb}
 use lib.IntN.{negℤ}
 use lib.ListN.{getD}
 use borrow.Author.Tests.{ltb-false}
-use Rattle.risk_holdings.specs.Parties.{cutBefore}
+use Rattle.laws_sales.specs.Parties.{cutBefore}
 use Rattle.laws.proofs.Reduction.{cuts-lowered}
 use Rattle.laws.specs.Sound.{Sound}
 use Rattle.laws.specs.Statements.{ownHolding}

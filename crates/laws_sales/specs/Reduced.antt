@@ -4,7 +4,7 @@ use mathlib.Core.List.{List, map}
 use mathlib.Core.Path.{_≡_}
 use Prim.Native.Nat.{ℕ}
 use lib.ListN.{take}
-use Rattle.risk_holdings.specs.Parties.{cutBefore}
+use Rattle.laws_sales.specs.Parties.{cutBefore}
 use Rattle.laws.specs.Trades.{Lowered, Pairwise}
 use Rattle.rules.specs.Book.{Book, User, Trade}
 use Rattle.rules.specs.Calls.{Result, ofCuts}

@@ -1,5 +1,6 @@
 -- Document 02, ask 6: what the calls do on a book with the entries of a log: "A reduction adds an entry, a run one for each of its own, a withdrawal drops the last, an
 -- accepted posting, list or guarantee call empties it"; and a run that meets a full log. Entries stand newest first. Assumes nothing.
+use mathlib.Core.Bool.{Bool, cond}
 use mathlib.Core.List.{List, [], _∷_}
 use mathlib.Core.Option.{Option, none, some}
 use Prim.Native.Nat.{ℕ, zero, suc, _-_}
@@ -10,7 +11,8 @@ use Rattle.rules.specs.Calls.{posting, morningCall, afternoonCall, reduction, r
 use Rattle.rules.specs.Levels.{Limits}
 use Rattle.rules.specs.Questions.{Question}
 use Rattle.rules.specs.Reduction.{cuts, target}
-use Rattle.log_format.specs.Log.{entryCount, mostEntries}
+use Rattle.book_format.specs.After.{after}
+use Rattle.log_format.specs.Log.{entryCount, logBytes, mostEntries}
 use Rattle.log_format.specs.Withdrawal.{returned, withdrawn}
 
 -- how many entries a log has room for
@@ -68,6 +70,10 @@ module _ (limits : Limits) where
       let r = effect limits b (reduction id) in
       record { answer = r .answer; book = r .book; entries = entryOf limits b (find (b .users) id) ∷ es }
   callEntered n es b run = let r = runWithin limits n b in record { answer = r .answer; book = r .book; entries = noted limits n b es }
+
+-- a lent log, given or not, after such a call by its number: "an accepted posting, list or guarantee call empties it, a refused call leaves it"
+unfoldable pub emptiedBy : Bool → ℕ → List ℕ → List ℕ → List ℕ
+emptiedBy lent number t l = cond lent (after number (λ n. l) (logBytes [] t)) l
 
 -- the last entry, and those before it
 unfoldable pub lastEntry : List (List ℕ) → List ℕ

@@ -15,8 +15,7 @@ use Rattle.log_entries.specs.Entries.{NotedAt, cleared, sealed}
 use Rattle.log_format.proofs.Read.{fits-facts}
 use Rattle.log_format.specs.Fits.{aboutLog, logFits, logNumber}
 use Rattle.log_format.specs.Log.{entriesAt, entryCount, entrySize, logBytes}
-use Rattle.log_format.specs.Noted.{room}
-use Rattle.requests.specs.Logged.{emptiedBy}
+use Rattle.log_format.specs.Noted.{emptiedBy, room}
 use Rattle.rules.specs.Questions.{numberOf, refusal}
 use Rattle.store.specs.Store.{given}
 use Rattle.log_lent.specs.Lent.{Emptiable, NotedLent, roomIn}

@@ -5,7 +5,7 @@ ghost use mathlib.Core.Path.{_≡_};
 ghost use lib.ListN.{length};
 ghost use Rattle.book_format.specs.Questions.{Formed};
 ghost use Rattle.log_format.specs.Fits.{logNumber};
-ghost use Rattle.requests.specs.Logged.{emptiedBy};
+ghost use Rattle.log_format.specs.Noted.{emptiedBy};
 ghost use Rattle.store.specs.Store.{given};
 ghost use Rattle.log_lent.specs.Lent.{Emptiable, NotableIn, NotedLent, roomIn};
 

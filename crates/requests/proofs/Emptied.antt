@@ -21,12 +21,12 @@ use Rattle.store.specs.Store.{given}
 use Rattle.log_format.proofs.Noted.{Empties}
 use Rattle.log_format.specs.Fits.{logNumber}
 use Rattle.log_format.specs.Log.{entriesOf, logBytes}
-use Rattle.log_format.specs.Noted.{Entered, callEntered, emptying, room}
+use Rattle.log_format.specs.Noted.{Entered, callEntered, emptiedBy, emptying, room}
 use Rattle.requests.proofs.Lines.{lines-answer, list-opened}
 use Rattle.requests.proofs.Logged.{actLent, call-logged, lines-log, lines-without, list-logged, logged-call, logged-without, with-number, without-number}
 use Rattle.requests.proofs.Opened.{outcome, request-opened}
 use Rattle.requests.specs.Carried.{Carried}
-use Rattle.requests.specs.Logged.{AdmittedWith, Logged, Posted, emptiedBy, lentLog, linesNumberWith, listWith, loggedAfter, openingNumberWith}
+use Rattle.requests.specs.Logged.{AdmittedWith, Logged, Posted, lentLog, linesNumberWith, listWith, loggedAfter, openingNumberWith}
 use Rattle.requests.specs.Request.{call, Lines, Outcome, Setting, callIn, emptiedIn, enteredIn, limitsOn, linesIn, linesOf, openingNumber, refused, refusedWith, request, settingOf}
 
 -- no question of a call has the number 0

@@ -1,6 +1,5 @@
 -- The contracts of the public calls that a log is lent to, given or not, and of what asks their opening questions; calls with a log and withdrawals after those questions, by their number.
 -- Assumes nothing.
-use mathlib.Core.Bool.{Bool, cond}
 use mathlib.Core.List.{List, [], _∷_, _++_}
 use mathlib.Core.Option.{Option, none, some}
 use mathlib.Core.Path.{_≡_}
@@ -12,7 +11,7 @@ use Rattle.rules.specs.Levels.{Limits}
 use Rattle.rules.specs.Questions.{decided, numberOf, refusal}
 use Rattle.book_format.specs.After.{after}
 use Rattle.book_format.specs.Book.{bookOf}
-use Rattle.log_format.specs.Log.{entriesOf, logBytes}
+use Rattle.log_format.specs.Log.{entriesOf}
 use Rattle.log_format.specs.Noted.{callEntered, hasEntry, lastly, room, withdrawalEntered}
 use Rattle.requests.specs.Carried.{Carried}
 use Rattle.requests.specs.Request.{call, postings, Act, Lines, Outcome, Request, Setting, actIn, actOf, callIn, enteredIn, limitsOn, linesOf, openingLinesWith, openingWith, refusedWith, request}
@@ -50,10 +49,6 @@ pub record GivesLogged (o : Outcome) (a : Answer) (t m : List ℕ) : Type 0 wher
   pub answer : a ≡ o .answer
   pub bytes : t ≡ o .bytes
   pub log : some m ≡ o .log
-
--- a lent log, given or not, after a call by its number: "an accepted posting, list or guarantee call empties it, a refused call leaves it"
-unfoldable pub emptiedBy : Bool → ℕ → List ℕ → List ℕ → List ℕ
-emptiedBy lent number t l = cond lent (after number (λ n. l) (logBytes [] t)) l
 
 -- ---- the public calls
 

@@ -16,11 +16,12 @@ use Rattle.book_format.specs.Book.{bookOf}
 use Rattle.book_format.specs.Questions.{bookNumber}
 use Rattle.log_format.proofs.Noted.{Empties}
 use Rattle.log_format.specs.Fits.{aboutLog, logNumber}
+use Rattle.log_format.specs.Noted.{emptiedBy}
 use Rattle.requests.proofs.Emptied.{logged-emptied, posted-list}
 use Rattle.requests.proofs.Lines.{fitNumber, lines-number}
 use Rattle.requests.proofs.Logged.{actLent, lines-with-number, logged-call, logged-withdrawal, logged-without, with-number}
 use Rattle.requests.proofs.Opened.{opening-number}
-use Rattle.requests.specs.Logged.{AdmittedWith, GivesLogged, Logged, emptiedBy, lentLog, linesNumberWith, listWith, loggedAfter, openingNumberWith, withdrawalAfter}
+use Rattle.requests.specs.Logged.{AdmittedWith, GivesLogged, Logged, lentLog, linesNumberWith, listWith, loggedAfter, openingNumberWith, withdrawalAfter}
 use Rattle.requests.specs.Request.{call, withdrawal, Lines, Outcome, Request, Setting, linesFit, linesIn, linesNumber, linesOf, refusedWith, request, settingOf}
 use Rattle.store.specs.Store.{given, storeNumber}
 use Rattle.rights.proofs.Entered.{after-passed, after-refused, entering-book, opening-by-entering, opening-by-numbered}

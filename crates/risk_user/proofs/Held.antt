@@ -21,7 +21,7 @@ use Rattle.book_records.specs.User.{asAmounts}
 use Rattle.book_sums.specs.Twelve.{TwelveOf}
 use Rattle.risk_holdings.specs.declared.Holdings.{Holdings}
 use Rattle.risk_holdings.specs.Holdings.{asHolding, heldIn, positioned}
-use Rattle.risk_holdings.specs.Parties.{cutBefore}
+use Rattle.laws_sales.specs.Parties.{cutBefore}
 use Rattle.risk_user.proofs.Borne.{member-borne, members-borne}
 use Rattle.risk_user.specs.UserAt.{HeldWith, heldAt, heldBy, positionIn, positionsIn}
 

@@ -6,7 +6,7 @@ use Prim.Native.Nat.{ℕ, _+_, _*_, _<_}
 use native.Mathlib.Omega.{arith}
 use lib.Dec.{leb, ltb}
 use lib.ListN.{length, getD}
-use Rattle.risk_holdings.specs.Parties.{cutBefore}
+use Rattle.laws_sales.specs.Parties.{cutBefore}
 use Rattle.laws.specs.Statements.{ownHolding}
 use Rattle.laws_sales.proofs.Sums.{held-borne}
 use Rattle.laws_sales.specs.Borne.{borneBook}

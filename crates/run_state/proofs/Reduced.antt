@@ -8,7 +8,7 @@ use native.Mathlib.Omega.{arith}
 use lib.Dec.{T, eqb, ltb, eqb→eq, ltb→lt}
 use lib.ListN.{length, getD}
 use borrow.Author.Tests.{eq-eqb, ltb-false}
-use Rattle.risk_holdings.specs.Parties.{cutBefore}
+use Rattle.laws_sales.specs.Parties.{cutBefore}
 use Rattle.book_format.proofs.OneUser.{place-known}
 use Rattle.book_format.specs.Steps.{placeOf}
 use Rattle.laws.proofs.Fuel.{reducedBy-mwh}

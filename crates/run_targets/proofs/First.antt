@@ -7,7 +7,7 @@ use native.Mathlib.Numerals.{add-one}
 use native.Mathlib.Omega.{arith}
 use lib.Dec.{T, ltb}
 use lib.ListN.{length, getD, set, length-set}
-use Rattle.risk_holdings.specs.Parties.{cutBefore}
+use Rattle.laws_sales.specs.Parties.{cutBefore}
 use Rattle.book_format.specs.Book.{bookOf, usersOf}
 use Rattle.laws_sales.specs.Borne.{borneBook}
 use Rattle.risk_bearers.proofs.Borne.{length-usersIn}

@@ -13,7 +13,7 @@ use Rattle.book_format.proofs.Passed.{length-usersOf}
 use Rattle.book_format.specs.Book.{bookOf, usersOf}
 use Rattle.book_format.specs.Questions.{Formed, bookNumber}
 use Rattle.book_format.proofs.Places.{header-lies}
-use Rattle.risk_holdings.specs.Parties.{cutBefore}
+use Rattle.laws_sales.specs.Parties.{cutBefore}
 use Rattle.risk_bearers.proofs.Borne.{id-in}
 use Rattle.risk_bearers.specs.Bearers.{tradesIn}
 use Rattle.risk_members.proofs.Members.{read-blocked}

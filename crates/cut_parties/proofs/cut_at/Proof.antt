@@ -8,7 +8,7 @@ use native.Mathlib.Omega.{arith}
 use Rattle.book_format.specs.Book.{tradeCount, userCount}
 use Rattle.risk_bearers.specs.Bearers.{tradesIn, usersIn}
 use Rattle.book_parties.specs.Ids.{idAt}
-use Rattle.risk_holdings.specs.Parties.{cutBefore, isCut}
+use Rattle.laws_sales.specs.Parties.{cutBefore, isCut}
 use Rattle.base.specs.Lists.{any}
 use Rattle.cut_parties.proofs.Cut.{one-found, one-more, one-none}
 use Rattle.cut_parties.proofs.cut_at.Statement.{statement}

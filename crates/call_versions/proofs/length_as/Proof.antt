@@ -1,7 +1,7 @@
 -- `length_as` takes the counts of the book. Assumes nothing.
 use borrow.Author.Needs.{needs}
-use Rattle.book_conversion.proofs.length_as.Statement.{statement}
-use Rattle.book_conversion.proofs.length_as.Tie as tie
+use Rattle.call_versions.proofs.length_as.Statement.{statement}
+use Rattle.call_versions.proofs.length_as.Tie as tie
 
 returns : tie.Need-returns
 returns c =

@@ -3,8 +3,8 @@ use mathlib.Core.Bool.{Bool, _&&_}
 use mathlib.Core.Path.{ap₂}
 use Rattle.conversions.specs.Conversion.{kept}
 use borrow.Author.Needs.{needs}
-use Rattle.book_conversion.proofs.keeps.Statement.{statement}
-use Rattle.book_conversion.proofs.keeps.Tie as tie
+use Rattle.call_versions.proofs.keeps.Statement.{statement}
+use Rattle.call_versions.proofs.keeps.Tie as tie
 
 returns : tie.Need-returns
 unfolding kept

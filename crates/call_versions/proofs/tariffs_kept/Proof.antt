@@ -7,10 +7,10 @@ use denote.Ref.{now}
 use Rattle.rules.specs.Areas.{sellingIn}
 use Rattle.book_format.specs.Book.{versionOf}
 use Rattle.conversions.specs.Conversion.{tariffsKept}
-use Rattle.book_conversion.proofs.Kept.{selling-lies, tariffs-plain, tariffs-some}
+use Rattle.call_versions.proofs.Kept.{selling-lies, tariffs-plain, tariffs-some}
 use borrow.Author.Needs.{needs}
-use Rattle.book_conversion.proofs.tariffs_kept.Statement.{statement}
-use Rattle.book_conversion.proofs.tariffs_kept.Tie as tie
+use Rattle.call_versions.proofs.tariffs_kept.Statement.{statement}
+use Rattle.call_versions.proofs.tariffs_kept.Tie as tie
 
 returns : tie.Need-returns
 unfolding tariffsKept

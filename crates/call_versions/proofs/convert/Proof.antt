@@ -7,10 +7,10 @@ use lib.ListN.{length}
 use Rattle.book_format.specs.Book.{tradeCount, userCount}
 use Rattle.book_format.proofs.Offsets.{length-by}
 use Rattle.book_format.proofs.Passed.{passed}
-use Rattle.book_conversion.proofs.Whole.{all-converted, book-long}
+use Rattle.call_versions.proofs.Whole.{all-converted, book-long}
 use borrow.Author.Needs.{needs}
-use Rattle.book_conversion.proofs.convert.Statement.{statement}
-use Rattle.book_conversion.proofs.convert.Tie as tie
+use Rattle.call_versions.proofs.convert.Statement.{statement}
+use Rattle.call_versions.proofs.convert.Tie as tie
 
 user-count-requires : tie.Need-user-count-requires
 user-count-requires c κs = passed (now (c .before .before .args .s)) (c .before .before .pre .0) .form .head

@@ -17,7 +17,7 @@ use Rattle.book_format.proofs.Passed.{passed}
 use Rattle.conversions.specs.Conversion.{converted}
 use Rattle.book_image.specs.Fitted.{fitted, refitted}
 use Rattle.book_image.proofs.Fitted.{length-fitted, length-refitted}
-use Rattle.book_conversion.proofs.Parts.{converted-parts}
+use Rattle.call_versions.proofs.Parts.{converted-parts}
 
 -- one record
 one-refitted : (k size : ℕ) (s : List ℕ) → refitted k size 1 s ≡ fitted k (take size s)

@@ -1,9 +1,9 @@
 -- `copy_rest` lends what stands behind two places. Assumes nothing.
 use denote.Ref.{now}
-use Rattle.book_conversion.proofs.Whole.{rest-copied}
+use Rattle.call_versions.proofs.Whole.{rest-copied}
 use borrow.Author.Needs.{needs}
-use Rattle.book_conversion.proofs.copy_rest.Statement.{statement}
-use Rattle.book_conversion.proofs.copy_rest.Tie as tie
+use Rattle.call_versions.proofs.copy_rest.Statement.{statement}
+use Rattle.call_versions.proofs.copy_rest.Tie as tie
 
 returns : tie.Need-returns
 returns c =

@@ -6,10 +6,10 @@ use denote.Ref.{now}
 use Rattle.rules.specs.Areas.{managersIn}
 use Rattle.book_format.specs.Book.{versionOf}
 use Rattle.conversions.specs.Conversion.{managersKept}
-use Rattle.book_conversion.proofs.Kept.{managers-lie, managers-plain, managers-some}
+use Rattle.call_versions.proofs.Kept.{managers-lie, managers-plain, managers-some}
 use borrow.Author.Needs.{needs}
-use Rattle.book_conversion.proofs.managers_kept.Statement.{statement}
-use Rattle.book_conversion.proofs.managers_kept.Tie as tie
+use Rattle.call_versions.proofs.managers_kept.Statement.{statement}
+use Rattle.call_versions.proofs.managers_kept.Tie as tie
 
 returns : tie.Need-returns
 unfolding managersKept

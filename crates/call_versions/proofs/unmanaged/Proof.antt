@@ -4,10 +4,10 @@ use native.Mathlib.Omega.{arith}
 use lib.ListN.{length}
 use denote.Ref.{now}
 use borrow.Author.Tests.{not-true, not-false}
-use Rattle.book_conversion.proofs.Kept.{Walk, walk-start, walk-turn, walk-stop, walk-end}
+use Rattle.call_versions.proofs.Kept.{Walk, walk-start, walk-turn, walk-stop, walk-end}
 use borrow.Author.Needs.{needs}
-use Rattle.book_conversion.proofs.unmanaged.Statement.{statement}
-use Rattle.book_conversion.proofs.unmanaged.Tie as tie
+use Rattle.call_versions.proofs.unmanaged.Statement.{statement}
+use Rattle.call_versions.proofs.unmanaged.Tie as tie
 
 abbrev Inv-loop : tie.InvT-loop
 Inv-loop s at n i₀ a₀ i a = Walk s at n i a
