@@ -5,7 +5,7 @@ use risk_user::Day;
 use units::Area;
 use units::Cents;
 use units::Limits;
-use units::Mwh;
+use units::Energy;
 use units::Prices;
 ghost use mathlib.Core.Bool.{cond, not, _&&_};
 ghost use mathlib.Core.List.{[], _∷_};
@@ -82,7 +82,7 @@ fn worth_at(book: &[u8], at: usize, i: usize, prices: Prices) -> u64
     let t = book_format::trade_at(book, at, i);
     let area = t.area;
     let standing = t.standing;
-    let worth = Area(area).tariff(prices).worth(Mwh(standing as u64));
+    let worth = Area(area).tariff(prices).worth(Energy(standing as u64));
     worth.0
 }
 
