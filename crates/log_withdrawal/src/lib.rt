@@ -2,6 +2,7 @@
 // the buyer's rises by it.
 use book_records::Trade;
 use cut_worth::Tally;
+use units::Energy;
 use units::Prices;
 ghost use mathlib.Core.Path.{_≡_};
 ghost use Prim.Native.Nat.{_≤_};
@@ -33,7 +34,7 @@ fn raised(t: Trade, cut: u32) -> Trade
         kind: t.kind,
         day: t.day,
         notified: t.notified,
-        standing: t.standing + cut,
+        standing: t.standing.plus(Energy(cut as u64)),
     }
 }
 
