@@ -27,13 +27,14 @@ fn raised(t: Trade, cut: u32) -> Trade
     requires { ⌜ cut ≤ 100000 ⌝ }
     ensures { λ r. ⌜ asTrade r ≡ raiseBy cut (asTrade t) ⌝ }
 {
+    let notified = t.notified;
     Trade {
         seller: t.seller,
         buyer: t.buyer,
         area: t.area,
         kind: t.kind,
         day: t.day,
-        notified: t.notified,
+        notified: notified,
         standing: t.standing.plus(Energy(cut as u64)),
     }
 }

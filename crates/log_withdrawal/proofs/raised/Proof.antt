@@ -4,17 +4,16 @@ use Prim.Native.Nat.{ℕ}
 use native.Mathlib.Omega.{arith}
 use Rattle.book_records.specs.Trade.{asTrade}
 use Rattle.log_format.specs.Withdrawal.{raiseBy}
-use borrow.Author.Needs.{needs}
 use Rattle.log_withdrawal.proofs.raised.Statement.{statement}
 use Rattle.log_withdrawal.proofs.raised.Tie as tie
 
 plus-requires : tie.Need-plus-requires
 unfolding asTrade
-plus-requires c κs = omega (arith, c .pre .0, c .pre .1)
+plus-requires c κs = omega (arith, c .before .pre .0, c .before .pre .1)
 
 returns : tie.Need-returns
 unfolding asTrade raiseBy
-returns c = ap (λ (n : ℕ). record { terms = asTrade (c .before .args .t) .terms; standing = n }) (c .plus .ensures)
+returns c = ap (λ (n : ℕ). record { terms = asTrade (c .before .before .args .t) .terms; standing = n }) (c .plus .ensures)
 
 pub raised-spec : {M : Type 1} → statement M
-raised-spec = tie.close (tie.spec (λ c. search needs) plus-requires returns)
+raised-spec = tie.close (tie.spec plus-requires returns)
