@@ -33,7 +33,7 @@ returns c =
     let a = t .before .before .args in
     let low : e .energy .result .0 ≤ 100000 = omega (arith, e .energy .ensures, standing-is t, t .before .before .pre .1 .1) in (
       c .worth .ensures .0
-      ∙ ap₂ (λ (x y : ℕ). x * y) (e .energy .ensures ∙ standing-is t) (p .tariff .ensures .0 ∙ ap (λ (x : Trade). tariff (asPrices (a .prices)) (x .terms .area)) (t .trade-at .ensures)),
+          ∙ ap₂ (λ (x y : ℕ). x * y) (e .energy .ensures ∙ standing-is t) (p .tariff .ensures .0 ∙ ap (λ (x : Trade). tariff (asPrices (a .prices)) (x .terms .area)) (t .trade-at .ensures)),
       omega (arith, c .worth .ensures .0, mul-le-mul low (p .tariff .ensures .1 .1)),
     )
 
