@@ -42,13 +42,13 @@ tradeBytes t = pack tradeWidths (tradeValues t)
 unfoldable pub asTrade : Trade → model.Trade
 asTrade t =
     record {
-      terms = record { seller = t .seller; buyer = t .buyer; area = t .area; kind = t .kind; day = t .day; notified = t .notified };
-      standing = t .standing;
+      terms = record { seller = t .seller; buyer = t .buyer; area = t .area; kind = t .kind; day = t .day; notified = t .notified .0 };
+      standing = t .standing .0;
     }
 
 -- the struct whose every field is 0
 unfoldable pub blankTrade : Trade
-blankTrade = record { seller = 0; buyer = 0; area = 0; kind = 0; day = 0; notified = 0; standing = 0 }
+blankTrade = record { seller = 0; buyer = 0; area = 0; kind = 0; day = 0; notified = record { 0 = 0 }; standing = record { 0 = 0 } }
 
 -- ---- widths
 

@@ -8,6 +8,7 @@ ghost use Rattle.book_records.specs.User.{amountsAt, amountWidths, amoun
 ghost use Rattle.book_records.specs.Trade.{tradeOf, tradeBytes, asTrade, blankTrade};
 use units::Balance;
 use units::Cents;
+use units::Mwh;
 use units::Net;
 
 // A user. Role and amounts are as the bytes have them: whether they are valid is asked apart.
@@ -28,8 +29,8 @@ pub struct Trade {
     pub area: u8,
     pub kind: u8,
     pub day: u8,
-    pub notified: u32,
-    pub standing: u32,
+    pub notified: Mwh,
+    pub standing: Mwh,
 }
 
 // The signed amounts of the three areas, 12 bytes from `at`.
@@ -121,8 +122,8 @@ pub fn read_trade(c: &[u8]) -> Trade
         area: fields::get_u8(c, 8),
         kind: fields::get_u8(c, 9),
         day: fields::get_u8(c, 10),
-        notified: fields::get_u32(c, 12),
-        standing: fields::get_u32(c, 16),
+        notified: Mwh(fields::get_u32(c, 12)),
+        standing: Mwh(fields::get_u32(c, 16)),
     }
 }
 
@@ -137,8 +138,8 @@ pub fn write_trade(c: &mut [u8], t: Trade)
     fields::put_u8(c, 9, t.kind);
     fields::put_u8(c, 10, t.day);
     fields::put_u8(c, 11, 0);
-    fields::put_u32(c, 12, t.notified);
-    fields::put_u32(c, 16, t.standing);
+    fields::put_u32(c, 12, t.notified.0);
+    fields::put_u32(c, 16, t.standing.0);
 }
 
 // Is the trade bilateral and for day d? Only such trades can be cut.
@@ -158,7 +159,7 @@ pub fn no_trade() -> Trade
         area: 0,
         kind: 0,
         day: 0,
-        notified: 0,
-        standing: 0,
+        notified: Mwh(0),
+        standing: Mwh(0),
     }
 }

@@ -22,7 +22,7 @@ pub fn add_trade(sums: &mut [u32; 768], place: usize, side: usize, t: Trade)
 {
     let k = 12 * place + 6 * side + 3 * (t.day as usize) + t.area as usize;
     let x = sums[k];
-    sums[k] = x + t.standing;
+    sums[k] = x + t.standing.0;
 }
 
 // ---- the positions

@@ -32,6 +32,6 @@ pub fn trade_valid(seller_known: bool, buyer_known: bool, t: Trade) -> bool
     let bilateral = book_records::is_bilateral_for_day(t);
     (seller_known & buyer_known & (t.seller != t.buyer))
         & (((t.area < 3) & ((t.kind < 3) & (t.day < 2)))
-            & (((1 <= t.notified) & (t.notified <= 100000))
-                & ((t.standing <= t.notified) & (bilateral | (t.standing == t.notified)))))
+            & (((1 <= t.notified.0) & (t.notified.0 <= 100000))
+                & ((t.standing.0 <= t.notified.0) & (bilateral | (t.standing.0 == t.notified.0)))))
 }

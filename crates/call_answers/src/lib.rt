@@ -1,7 +1,7 @@
 // The answers of the public calls: a number, and what the call found, made or cut; 0 in every other field where the number is not 0.
 use cut_worth::Tally;
 use units::Cents;
-use units::Mwh;
+use units::Energy;
 ghost use mathlib.Core.Path.{_≡_};
 ghost use Prim.Native.Nat.{_-_};
 ghost use Rattle.rules.specs.Calls.{only, ofCuts};
@@ -50,7 +50,7 @@ impl CallAnswer {
 // of the first question that is answered by no.
 pub struct ReductionAnswer {
     pub number: u32,
-    pub mwh: Mwh,
+    pub mwh: Energy,
     pub worth: Cents,
     pub target: Cents,
     pub short: Cents,
@@ -64,7 +64,7 @@ impl ReductionAnswer {
     {
         ReductionAnswer {
             number: number,
-            mwh: Mwh(0),
+            mwh: Energy(0),
             worth: Cents(0),
             target: Cents(0),
             short: Cents(0),
@@ -83,8 +83,8 @@ impl ReductionAnswer {
             mwh: mwh,
             worth: worth,
             target: asked,
-            short: Cents(units::excess(asked.0, worth.0)),
-            over: Cents(units::excess(worth.0, asked.0)),
+            short: asked.less(worth),
+            over: worth.less(asked),
         }
     }
 }
@@ -96,7 +96,7 @@ impl ReductionAnswer {
 pub struct RunAnswer {
     pub number: u32,
     pub reductions: u64,
-    pub mwh: Mwh,
+    pub mwh: Energy,
     pub worth: Cents,
 }
 
@@ -108,7 +108,7 @@ impl RunAnswer {
         RunAnswer {
             number: number,
             reductions: 0,
-            mwh: Mwh(0),
+            mwh: Energy(0),
             worth: Cents(0),
         }
     }

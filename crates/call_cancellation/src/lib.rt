@@ -5,7 +5,6 @@ use risk_user::Day;
 use units::Area;
 use units::Cents;
 use units::Limits;
-use units::Mwh;
 use units::Prices;
 ghost use mathlib.Core.Bool.{cond, not, _&&_};
 ghost use mathlib.Core.List.{[], _∷_};
@@ -68,7 +67,7 @@ fn eligible_at(book: &[u8], at: usize, i: usize, seller: u8, buyer: u8, place: u
         return false;
     }
     let t = book_format::trade_at(book, at, i);
-    let stands = 0 < t.standing;
+    let stands = 0 < t.standing.0;
     book_records::is_bilateral_for_day(t) & stands
 }
 
@@ -81,8 +80,7 @@ fn worth_at(book: &[u8], at: usize, i: usize, prices: Prices) -> u64
 {
     let t = book_format::trade_at(book, at, i);
     let area = t.area;
-    let standing = t.standing;
-    let worth = Area(area).tariff(prices).worth(Mwh(standing as u64));
+    let worth = Area(area).tariff(prices).worth(t.standing.energy());
     worth.0
 }
 

@@ -5,8 +5,8 @@ use cut_worth::Tally;
 use cut_worth::Totals;
 use risk_user::Day;
 use units::Cents;
+use units::Energy;
 use units::Limits;
-use units::Mwh;
 ghost use mathlib.Core.Bool.{cond};
 ghost use mathlib.Core.Path.{_≡_};
 ghost use Prim.Native.Nat.{suc};
@@ -106,7 +106,7 @@ pub fn run(
 // What a withdrawal returns: the number, the MWh and the worth of the reduction that was withdrawn.
 pub struct WithdrawalAnswer {
     pub number: u32,
-    pub mwh: Mwh,
+    pub mwh: Energy,
     pub worth: Cents,
 }
 
@@ -116,7 +116,7 @@ fn not_withdrawn(number: u32) -> WithdrawalAnswer
 {
     WithdrawalAnswer {
         number: number,
-        mwh: Mwh(0),
+        mwh: Energy(0),
         worth: Cents(0),
     }
 }

@@ -58,7 +58,7 @@ fn warns_buyer(book: &[u8], prices: Prices, t: Trade, id: u32, limits: Limits) -
     if !book_records::is_bilateral_for_day(t) {
         return false;
     }
-    if t.standing == 0 {
+    if t.standing.0 == 0 {
         return false;
     }
     let seller = bearer_of(book, t);

@@ -31,7 +31,7 @@ pub fn fill_cut(
     let mut i = 0;
     while i < m {
         let t = book_format::trade_at(book, at, i);
-        let below = t.standing < t.notified;
+        let below = t.standing.0 < t.notified.0;
         let seller = cut_lists::index(sellers[i]);
         cut[seller] = cut[seller] | below;
         let buyer = cut_lists::index(buyers[i]);
@@ -50,7 +50,7 @@ fn is_cut(book: &[u8], at: usize, i: usize, seller: u8, buyer: u8, place: usize)
         return false;
     }
     let t = book_format::trade_at(book, at, i);
-    t.standing < t.notified
+    t.standing.0 < t.notified.0
 }
 
 // Is the user at a place party to a trade standing below notified? The same of one user alone.

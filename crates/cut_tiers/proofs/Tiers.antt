@@ -148,13 +148,13 @@ module _ (f : Prices) (range : InRange f) (short : ℕ → Bool) (asked : ℕ) {
           first-stored ∙ ap (sets cuts from) (sym (together-none ones) ∙ ap (together ones) none ∙ cuts-both)
 
       -- tier two takes the rest
-      pub both-tiers : {other last : List ℕ} → other ≡ ratesFor f (λ area. not (short area))
-          → last ≡ added from to first (tierCuts (asked - v) (lotsIn other (part from to ss) (part from to areas))) → last ≡ sets cuts from (cutsOf f short asked (part from to ss) (part from to areas))
+      pub both-tiers : {other last : List ℕ} {left : ℕ} → other ≡ ratesFor f (λ area. not (short area)) → left ≡ asked - v
+          → last ≡ added from to first (tierCuts left (lotsIn other (part from to ss) (part from to areas))) → last ≡ sets cuts from (cutsOf f short asked (part from to ss) (part from to areas))
       unfolding added
-      both-tiers two g =
+      both-tiers two rest g =
           let sums : length (together ones (twos (asked - v))) ≡ length ones
           = together-length ones (twos (asked - v)) (tier-many (asked - v) (ratesFor f (λ area. not (short area))) ∙ sym ones-length) in
-          g ∙ ap (λ (rs : List ℕ). added from to first (tierCuts (asked - v) (lotsIn rs (part from to ss) (part from to areas)))) two
+          g ∙ ap₂ (λ (rs : List ℕ) (m : ℕ). added from to first (tierCuts m (lotsIn rs (part from to ss) (part from to areas)))) two rest
           ∙ ap₂ (λ (zs cs : List ℕ). sets zs from (together cs (twos (asked - v)))) first-stored first-part
           ∙ stored-over cuts ones (together ones (twos (asked - v))) from sums (omega (arith, ones-length, n .rising, n .long, s .inside))
           ∙ ap (sets cuts from) cuts-both

@@ -3,7 +3,7 @@
 use cut_worth::Tally;
 use units::Area;
 use units::Cents;
-use units::Mwh;
+use units::Energy;
 use units::Prices;
 ghost use mathlib.Core.Bool.{Bool, cond};
 ghost use mathlib.Core.Path.{_≡_};
@@ -69,9 +69,7 @@ pub fn fill_cuts(
     let one = rates_of(pvb, tvb, avb, prices);
     let worth = cut_worth::worth_of(standing, areas, &one, from, to);
     cut_shares::tier_cuts(standing, areas, &one, asked, worth, from, to, cuts, rests);
-    let a = asked.0;
-    let v = worth.0;
-    if a <= v {
+    if asked.0 <= worth.0 {
         return;
     }
     let two = rates_of(!pvb, !tvb, !avb, prices);
@@ -80,7 +78,7 @@ pub fn fill_cuts(
         standing,
         areas,
         &two,
-        Cents(a - v),
+        asked.less(worth),
         other,
         from,
         to,
@@ -100,7 +98,7 @@ pub fn tally_with(tally: Tally, cut: u64, area: u8, prices: Prices) -> Tally
     if cut == 0 {
         return tally;
     }
-    tally.with(Mwh(cut), Area(area).tariff(prices))
+    tally.with(Energy(cut), Area(area).tariff(prices))
 }
 
 // Takes a cut off what stands at a place.

@@ -14,7 +14,7 @@ ghost use Rattle.cut_worth.specs.Tallies.{asTally};
 ghost use Rattle.cut_worth.specs.Totals.{totals, Within};
 ghost use Rattle.laws_sales.specs.Parts.{part};
 use units::Cents;
-use units::Mwh;
+use units::Energy;
 use units::Price;
 
 // ---- the worth of a tier
@@ -65,7 +65,7 @@ pub fn worth_of(
 
 // The running tally of a reduction: the MWh cut and their worth, each cut × t.
 pub struct Tally {
-    pub mwh: Mwh,
+    pub mwh: Energy,
     pub worth: Cents,
 }
 
@@ -76,21 +76,21 @@ impl Tally {
         ensures { λ r. ⌜ (r .mwh .0 ≡ 0) × (r .worth .0 ≡ 0) ⌝ }
     {
         Tally {
-            mwh: Mwh(0),
+            mwh: Energy(0),
             worth: Cents(0),
         }
     }
 
     // The tally with one trade's cut, at the trade's tariff.
-    pub fn with(mut self, cut: Mwh, price: Price) -> Tally
+    pub fn with(mut self, cut: Energy, price: Price) -> Tally
         requires { ⌜ (self .mwh .0 ≤ 2 ^ 50) × (self .worth .0 ≤ 2 ^ 50) ⌝ }
         requires { ⌜ (cut .0 ≤ 100000) × (price .0 ≤ 100000) ⌝ }
         ensures { λ r. ⌜ ((f : Prices) (t : Trade) → price .0 ≡ tariff f (t .terms .area) → asTally r ≡ tallied f (cut .0) t (asTally self)) ⌝ }
         ensures { λ r. ⌜ (r .mwh .0 ≤ self .mwh .0 + 100000) × (r .worth .0 ≤ self .worth .0 + 10000000000) ⌝ }
     {
         let added = price.worth(cut);
-        let mwh = Mwh(self.mwh.0 + cut.0);
-        let worth = Cents(self.worth.0 + added.0);
+        let mwh = self.mwh.plus(cut);
+        let worth = self.worth.plus(added);
         self.mwh = mwh;
         self.worth = worth;
         self
@@ -102,7 +102,7 @@ impl Tally {
 // The totals of a run: the number of its reductions, the MWh cut and their worth.
 pub struct Totals {
     pub reductions: u64,
-    pub mwh: Mwh,
+    pub mwh: Energy,
     pub worth: Cents,
 }
 
@@ -113,7 +113,7 @@ impl Totals {
     {
         Totals {
             reductions: 0,
-            mwh: Mwh(0),
+            mwh: Energy(0),
             worth: Cents(0),
         }
     }
@@ -124,8 +124,8 @@ impl Totals {
         requires { ⌜ (tally .mwh .0 ≤ 25600000) × (tally .worth .0 ≤ 2560000000000) ⌝ }
         ensures { λ r. ⌜ totals r ≡ ofRun (self .reductions + 1) (self .mwh .0 + tally .mwh .0) (self .worth .0 + tally .worth .0) ⌝ }
     {
-        let mwh = Mwh(self.mwh.0 + tally.mwh.0);
-        let worth = Cents(self.worth.0 + tally.worth.0);
+        let mwh = self.mwh.plus(tally.mwh);
+        let worth = self.worth.plus(tally.worth);
         self.reductions = self.reductions + 1;
         self.mwh = mwh;
         self.worth = worth;

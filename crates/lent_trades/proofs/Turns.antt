@@ -13,7 +13,7 @@ use Rattle.lent_trades.proofs.Trades.{with-standing}
 
 -- the trade with a cut
 abbrev pub lowered : ℕ → Trade → Trade
-lowered c t = with-standing t (t .standing - c)
+lowered c t = with-standing t (t .standing .0 - c)
 
 -- the list after the turn at place i
 abbrev pub turned : ℕ → List ℕ → List Trade → List Trade
@@ -32,7 +32,7 @@ from (suc i) cs (t ∷ ts) = asTrade t ∷ from i (rest cs) ts
 
 -- a cut of 0 leaves the trade as it is
 uncut : (t : Trade) → asTrade (lowered 0 t) ≡ asTrade t
-uncut t = ap (λ (n : ℕ). asTrade (with-standing t n)) (sub-zero (t .standing))
+uncut t = ap (λ (n : ℕ). asTrade (with-standing t n)) (sub-zero (t .standing .0))
 
 get-rest : (cs : List ℕ) (i : ℕ) → getD cs (suc i) 0 ≡ getD (rest cs) i 0
 get-rest [] i = refl

@@ -5,6 +5,8 @@ ghost use Prim.Native.Nat.{_-_};
 ghost use lib.ListN.{getD};
 ghost use Rattle.lent_trades.specs.Lowering.{LoweredBy};
 use book_records::Trade;
+use units::Energy;
+use units::Mwh;
 
 // What stands after the cut at a place. Past the cuts nothing is cut, and of no trade more is cut than stands.
 pub fn left_of(cuts: &[u64], i: usize, standing: u32) -> u32
@@ -12,11 +14,7 @@ pub fn left_of(cuts: &[u64], i: usize, standing: u32) -> u32
 {
     if i < cuts.len() {
         let cut = cuts[i];
-        let amount = standing as u64;
-        if cut < amount {
-            return (amount - cut) as u32;
-        }
-        return 0;
+        return Mwh(standing).less(Energy(cut)).0;
     }
     standing
 }
@@ -28,9 +26,9 @@ pub fn lower_all(trades: &mut [Trade], cuts: &[u64])
 {
     let mut i = 0;
     while (i < trades.len()) & (i < cuts.len()) {
-        let standing = trades[i].standing;
+        let standing = trades[i].standing.0;
         let left = left_of(cuts, i, standing);
-        trades[i].standing = left;
+        trades[i].standing.0 = left;
         i += 1;
     }
 }

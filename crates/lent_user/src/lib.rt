@@ -13,15 +13,10 @@ pub struct Raised {
 pub fn raise(blocked: Cents, level: Cents) -> Raised
     ensures { λ r. ⌜ RaisedTo (level .0) (blocked .0) r ⌝ }
 {
-    if blocked.0 < level.0 {
-        return Raised {
-            blocked: level,
-            added: Cents(level.0 - blocked.0),
-        };
-    }
+    let added = level.less(blocked);
     Raised {
-        blocked: blocked,
-        added: Cents(0),
+        blocked: blocked.plus(added),
+        added: added,
     }
 }
 

@@ -108,8 +108,8 @@ fn is_within(t: Trade, cut: u64) -> bool
     requires { ⌜ cut ≤ 1099511627776 ⌝ }
     ensures { λ r. ⌜ r ≡ raiseWithin cut (asTrade t) ⌝ }
 {
-    let standing = t.standing as u64;
-    let notified = t.notified as u64;
+    let standing = t.standing.0 as u64;
+    let notified = t.notified.0 as u64;
     let bilateral = book_records::is_bilateral_for_day(t);
     (standing + cut <= notified) & ((cut == 0) | bilateral)
 }

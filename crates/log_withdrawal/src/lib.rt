@@ -2,6 +2,7 @@
 // the buyer's rises by it.
 use book_records::Trade;
 use cut_worth::Tally;
+use units::Energy;
 use units::Prices;
 ghost use mathlib.Core.Path.{_≡_};
 ghost use Prim.Native.Nat.{_≤_};
@@ -26,14 +27,15 @@ fn raised(t: Trade, cut: u32) -> Trade
     requires { ⌜ cut ≤ 100000 ⌝ }
     ensures { λ r. ⌜ asTrade r ≡ raiseBy cut (asTrade t) ⌝ }
 {
+    let notified = t.notified;
     Trade {
         seller: t.seller,
         buyer: t.buyer,
         area: t.area,
         kind: t.kind,
         day: t.day,
-        notified: t.notified,
-        standing: t.standing + cut,
+        notified: notified,
+        standing: t.standing.plus(Energy(cut as u64)),
     }
 }
 

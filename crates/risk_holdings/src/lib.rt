@@ -11,7 +11,7 @@ ghost use Rattle.units.specs.Prices.{asPrices, InRange};
 ghost use Rattle.risk_holdings.specs.Holdings.{asHolding, HoldingWithin};
 use units::Area;
 use units::Cents;
-use units::Mwh;
+use units::Energy;
 use units::Net;
 use units::Prices;
 
@@ -19,15 +19,15 @@ use units::Prices;
 pub struct Holding {
     pub physical: Net,
     pub position: Net,
-    pub sold: Mwh,
-    pub bought: Mwh,
-    pub sold_next: Mwh,
-    pub bought_next: Mwh,
+    pub sold: Energy,
+    pub bought: Energy,
+    pub sold_next: Energy,
+    pub bought_next: Energy,
 }
 
 impl Holding {
     // The morning's need, over d and d+1, and never below 0.
-    pub fn morning_need(self) -> Mwh
+    pub fn morning_need(self) -> Energy
         requires { ⌜ HoldingWithin (2 ^ 40) self ⌝ }
         ensures { λ r. ⌜ r .0 ≡ posPart (morningNeed (asHolding self)) ⌝ }
         ensures { λ r. ⌜ r .0 ≤ 2 ^ 42 ⌝ }
@@ -35,37 +35,39 @@ impl Holding {
         let physical = self.physical;
         let short = physical.short();
         let long = physical.long();
-        let out = short.0 + (self.sold.0 + self.sold_next.0);
-        let covered = long.0 + (self.bought.0 + self.bought_next.0);
-        Mwh(units::excess(out, covered))
+        let sold = self.sold;
+        let bought = self.bought;
+        let out = short.plus(sold.plus(self.sold_next));
+        let covered = long.plus(bought.plus(self.bought_next));
+        out.less(covered)
     }
 
     // What a long position takes off the afternoon's need: nothing in PVB.
-    pub fn stock(self, area: u8) -> Mwh
+    pub fn stock(self, area: u8) -> Energy
         ensures { λ r. ⌜ r .0 ≡ stock area (asHolding self) ⌝ }
         ensures { λ r. ⌜ r .0 < 2 ^ 31 ⌝ }
     {
         let position = self.position;
         if area == Area::PVB {
-            return Mwh(0);
+            return Energy(0);
         }
         position.long()
     }
 
     // The afternoon's need in an area, for d+1, and never below 0.
-    pub fn afternoon_need(self, area: u8) -> Mwh
+    pub fn afternoon_need(self, area: u8) -> Energy
         requires { ⌜ HoldingWithin (2 ^ 40) self ⌝ }
         ensures { λ r. ⌜ r .0 ≡ posPart (afternoonNeed area (asHolding self)) ⌝ }
         ensures { λ r. ⌜ r .0 ≤ 2 ^ 42 ⌝ }
     {
-        let out = self.sold_next.0;
-        let covered = self.bought_next.0 + self.stock(area).0;
-        Mwh(units::excess(out, covered))
+        let out = self.sold_next;
+        let bought = self.bought_next;
+        out.less(bought.plus(self.stock(area)))
     }
 }
 
 // What an energy is worth at the reference price of an area.
-pub fn worth_in(prices: Prices, area: u8, energy: Mwh) -> Cents
+pub fn worth_in(prices: Prices, area: u8, energy: Energy) -> Cents
     requires { ⌜ InRange (asPrices prices) ⌝ }
     requires { ⌜ energy .0 ≤ 2 ^ 42 ⌝ }
     ensures { λ r. ⌜ r .0 ≡ energy .0 * referencePrice (asPrices prices) area ⌝ }

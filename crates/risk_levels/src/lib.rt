@@ -27,7 +27,7 @@ pub fn exposure(prices: Prices, positions: [Net; 3]) -> Cents
     let pvb = risk_holdings::short_worth(prices, Area::PVB, positions[0]);
     let tvb = risk_holdings::short_worth(prices, Area::TVB, positions[1]);
     let avb = risk_holdings::short_worth(prices, Area::AVB, positions[2]);
-    Cents(pvb.0 + tvb.0 + avb.0)
+    pvb.plus(tvb).plus(avb)
 }
 
 // The sum over the areas of what long positions are worth at the selling tariffs.
@@ -39,7 +39,7 @@ pub fn credit(prices: Prices, positions: [Net; 3]) -> Cents
     let pvb = risk_holdings::long_worth(prices, Area::PVB, positions[0]);
     let tvb = risk_holdings::long_worth(prices, Area::TVB, positions[1]);
     let avb = risk_holdings::long_worth(prices, Area::AVB, positions[2]);
-    Cents(pvb.0 + tvb.0 + avb.0)
+    pvb.plus(tvb).plus(avb)
 }
 
 // Charges and a worth together, less a credit, and never below the floor.
@@ -51,12 +51,12 @@ pub fn floored(limits: Limits, charges: Balance, worth: Cents, credit: Cents) ->
     let floor = limits.floor;
     let owed = charges.owed();
     let paid = charges.credit();
-    let due = owed.0 + worth.0;
-    let off = paid.0 + credit.0;
-    if due < off + floor.0 {
+    let due = owed.plus(worth);
+    let off = paid.plus(credit);
+    if off.plus(floor).exceeds(due) {
         return floor;
     }
-    Cents(due - off)
+    due.less(off)
 }
 
 // The morning level of a user with these charges and holdings.
@@ -67,7 +67,7 @@ pub fn morning_level(limits: Limits, prices: Prices, charges: Balance, holdings:
     let pvb = risk_holdings::morning_worth(prices, Area::PVB, holdings.pvb);
     let tvb = risk_holdings::morning_worth(prices, Area::TVB, holdings.tvb);
     let avb = risk_holdings::morning_worth(prices, Area::AVB, holdings.avb);
-    floored(limits, charges, Cents(pvb.0 + tvb.0 + avb.0), Cents(0))
+    floored(limits, charges, pvb.plus(tvb).plus(avb), Cents(0))
 }
 
 // The afternoon level of a user with these charges and holdings.
@@ -86,12 +86,7 @@ pub fn afternoon_level(
     let positions = holdings.positions();
     let short = exposure(prices, positions);
     let long = credit(prices, positions);
-    floored(
-        limits,
-        charges,
-        Cents(pvb.0 + tvb.0 + avb.0 + short.0),
-        long,
-    )
+    floored(limits, charges, pvb.plus(tvb).plus(avb).plus(short), long)
 }
 
 // The lower of two prices.
@@ -126,7 +121,7 @@ pub fn flagged(limits: Limits, prices: Prices, blocked: Cents, positions: [Net; 
     let energy = limits.flag_mwh;
     let allowed = least_reference_price(prices).worth(energy);
     let short = exposure(prices, positions);
-    allowed.0 + blocked.0 < short.0
+    short.exceeds(allowed.plus(blocked))
 }
 
 // Is a user called in: flagged, or party to a trade standing below notified (`cut`)?
@@ -152,5 +147,5 @@ pub fn exceeds_margin(limits: Limits, level: Cents, blocked: Cents) -> bool
     ensures { λ r. ⌜ ((u : User) → blocked .0 ≡ u .blocked → r ≡ exceedsMargin (asLimits limits) (level .0) u) ⌝ }
 {
     let margin = limits.margin;
-    margin.0 + blocked.0 < level.0
+    level.exceeds(margin.plus(blocked))
 }

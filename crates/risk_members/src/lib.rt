@@ -3,7 +3,7 @@
 use book_records::User;
 use risk_holdings::Holding;
 use risk_holdings::Holdings;
-use units::Mwh;
+use units::Energy;
 use units::Net;
 ghost use mathlib.Core.Bool.{true};
 ghost use mathlib.Core.Path.{_≡_};
@@ -64,15 +64,15 @@ fn with_amount(sum: Net, amount: Net) -> Net
 }
 
 // An energy with a number of 32 bits more.
-fn with_energy(sum: Mwh, energy: u32) -> Mwh
+fn with_energy(sum: Energy, energy: u32) -> Energy
     requires { ⌜ sum .0 ≤ 2 ^ 40 ⌝ }
     ensures { λ r. ⌜ r .0 ≡ sum .0 + energy ⌝ }
 {
-    Mwh(sum.0 + energy as u64)
+    sum.plus(Energy(energy as u64))
 }
 
 // An energy with one of the twelve sums more.
-fn with_sum(sums: &[u32; 768], k: usize, sum: Mwh) -> Mwh
+fn with_sum(sums: &[u32; 768], k: usize, sum: Energy) -> Energy
     requires { ⌜ (k < 768) × (sum .0 ≤ 2 ^ 40) ⌝ }
     ensures { λ r. ⌜ r .0 ≡ sum .0 + getD (now (sums .entry)) k 0 ⌝ }
 {
@@ -112,10 +112,10 @@ fn held_in(book: &[u8], sums: &[u32; 768], n: usize, id: u32, area: usize) -> Ho
     let mut held = Holding {
         physical: Net(2147483648),
         position: Net(2147483648),
-        sold: Mwh(0),
-        bought: Mwh(0),
-        sold_next: Mwh(0),
-        bought_next: Mwh(0),
+        sold: Energy(0),
+        bought: Energy(0),
+        sold_next: Energy(0),
+        bought_next: Energy(0),
     };
     let mut i = next_member(book, n, 0, id, area);
     while i < n {

@@ -21,8 +21,8 @@ use risk_holdings::Holding;
 use risk_holdings::Holdings;
 use units::Balance;
 use units::Cents;
+use units::Energy;
 use units::Limits;
-use units::Mwh;
 use units::Net;
 use units::Prices;
 
@@ -75,14 +75,14 @@ fn positions_at(positions: &[u32; 192], place: usize) -> [Net; 3]
 }
 
 // A number of 32 bits as an energy.
-fn energy(x: u32) -> Mwh
+fn energy(x: u32) -> Energy
     ensures { λ r. ⌜ r .0 ≡ x ⌝ }
 {
-    Mwh(x as u64)
+    Energy(x as u64)
 }
 
 // One of the twelve sums.
-fn sum_at(sums: &[u32; 768], k: usize) -> Mwh
+fn sum_at(sums: &[u32; 768], k: usize) -> Energy
     requires { ⌜ Low (now sums) × (k < 768) ⌝ }
     ensures { λ r. ⌜ (r .0 ≡ getD (now (sums .entry)) k 0) × (r .0 ≤ 25600000) ⌝ }
 {
@@ -188,7 +188,7 @@ pub fn target_of(book: &[u8], place: usize, level: Cents, day: Day) -> Cents
 {
     if exceeds_margin(book, place, level, day) {
         let assigned = assigned_at(book, place);
-        return Cents(units::excess(level.0, assigned.0));
+        return level.less(assigned);
     }
     Cents(0)
 }

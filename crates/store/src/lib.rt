@@ -1,8 +1,8 @@
 // The store of parameter sets, in any bytes: is it well formed, which of its sets is in force on a book's date, and the figures that a call
 // takes from it.
 use units::Cents;
+use units::Energy;
 use units::Limits;
-use units::Mwh;
 ghost use mathlib.Core.Path.{_≡_};
 ghost use mathlib.Core.Option.{some};
 ghost use Prim.Native.Nat.{_+_, _*_, _≤_};
@@ -52,7 +52,7 @@ fn read_set(c: &[u8]) -> ParameterSet
     let limits = Limits {
         margin: Cents(fields::get_u64(c, 8)),
         floor: Cents(fields::get_u64(c, 16)),
-        flag_mwh: Mwh(energy),
+        flag_mwh: Energy(energy),
     };
     ParameterSet {
         first: first,

@@ -194,7 +194,7 @@ fn print_standing(b: Book)
     io::write_all(STDOUT_FILENO, b"standing");
     while i < n {
         let trade = trades[i];
-        day_print::number(trade.standing as u64);
+        day_print::number(trade.standing.0 as u64);
         i += 1;
     }
     io::write_all(STDOUT_FILENO, b"\n");

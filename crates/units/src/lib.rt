@@ -2,8 +2,9 @@
 // in; the limits of the rules. A signed amount is kept as an unsigned number, the amount + an offset, and every contract speaks of the
 // integer itself.
 ghost use mathlib.Core.Path.{_≡_};
-ghost use mathlib.Core.Bool.{true, cond};
+ghost use mathlib.Core.Bool.{true};
 ghost use Prim.Native.Nat.{_+_, _-_, _*_, _≤_, _<_, _^_};
+ghost use lib.Dec.{ltb};
 ghost use lib.IntN.{pos, _+ℤ_, _-ℤ_};
 ghost use Rattle.base.specs.Parts.{posPart, negPart};
 ghost use Rattle.rules.specs.Areas.{tariff, referencePrice, sellingTariff};
@@ -13,14 +14,13 @@ ghost use Rattle.units.specs.Amounts.{net, balance};
 ghost use Rattle.units.specs.Prices.{asPrices, InRange};
 ghost use Rattle.units.specs.Limits.{asLimits, LimitsInRange};
 
-// An energy, in MWh.
-pub struct Mwh(pub u64);
+mod postings;
 
-// A sum of money, in cents.
-pub struct Cents(pub u64);
+pub use postings::Flow;
+pub use postings::Posted;
 
-// What an amount is above another, and 0 where it is not: max(0, a − b).
-pub fn excess(a: u64, b: u64) -> u64
+// What a number is above another, and 0 where it is not: max(0, a − b).
+fn excess(a: u64, b: u64) -> u64
     ensures { λ r. ⌜ r ≡ a - b ⌝ }
 {
     if a < b {
@@ -29,13 +29,88 @@ pub fn excess(a: u64, b: u64) -> u64
     a - b
 }
 
+// An energy, in MWh. Energies are added to energies alone, and taken from them.
+pub struct Energy(pub u64);
+
+impl Energy {
+    // This energy and another together.
+    pub fn plus(self, other: Energy) -> Energy
+        requires { ⌜ self .0 + other .0 < 2 ^ 64 ⌝ }
+        ensures { λ r. ⌜ r .0 ≡ self .0 + other .0 ⌝ }
+    {
+        Energy(self.0 + other.0)
+    }
+
+    // What this energy is above another, and 0 where it is not.
+    pub fn less(self, other: Energy) -> Energy
+        ensures { λ r. ⌜ r .0 ≡ self .0 - other .0 ⌝ }
+    {
+        Energy(excess(self.0, other.0))
+    }
+}
+
+// The energy of a trade, in MWh: one that fits the 32 bits of its record.
+pub struct Mwh(pub u32);
+
+impl Mwh {
+    // The energy by itself.
+    pub fn energy(self) -> Energy
+        ensures { λ r. ⌜ r .0 ≡ self .0 ⌝ }
+    {
+        let x = self.0;
+        Energy(x as u64)
+    }
+
+    // This energy and another together.
+    pub fn plus(self, other: Energy) -> Mwh
+        requires { ⌜ self .0 + other .0 < 2 ^ 32 ⌝ }
+        ensures { λ r. ⌜ r .0 ≡ self .0 + other .0 ⌝ }
+    {
+        Mwh(self.energy().plus(other).0 as u32)
+    }
+
+    // What this energy is above another, and 0 where it is not.
+    pub fn less(self, other: Energy) -> Mwh
+        ensures { λ r. ⌜ r .0 ≡ self .0 - other .0 ⌝ }
+    {
+        Mwh(self.energy().less(other).0 as u32)
+    }
+}
+
+// A sum of money, in cents. Money is added to money alone, taken from it and compared with it.
+pub struct Cents(pub u64);
+
+impl Cents {
+    // This sum of money and another together.
+    pub fn plus(self, other: Cents) -> Cents
+        requires { ⌜ self .0 + other .0 < 2 ^ 64 ⌝ }
+        ensures { λ r. ⌜ r .0 ≡ self .0 + other .0 ⌝ }
+    {
+        Cents(self.0 + other.0)
+    }
+
+    // What this sum of money is above another, and 0 where it is not.
+    pub fn less(self, other: Cents) -> Cents
+        ensures { λ r. ⌜ r .0 ≡ self .0 - other .0 ⌝ }
+    {
+        Cents(excess(self.0, other.0))
+    }
+
+    // Is this sum of money more than another?
+    pub fn exceeds(self, other: Cents) -> bool
+        ensures { λ r. ⌜ r ≡ ltb (other .0) (self .0) ⌝ }
+    {
+        other.0 < self.0
+    }
+}
+
 // Cents for each MWh.
 pub struct Price(pub u32);
 
 impl Price {
     // What an energy is worth at this price: the way from energy to money. Only the cuts of a tier, which are plain numbers, multiply by
     // the rate of an area (`cut_worth`). No reference price in range is above 300,000.
-    pub fn worth(self, energy: Mwh) -> Cents
+    pub fn worth(self, energy: Energy) -> Cents
         requires { ⌜ (self .0 ≤ 300000) × (energy .0 ≤ 2 ^ 45) ⌝ }
         ensures { λ r. ⌜ r .0 ≡ energy .0 * self .0 ⌝ }
         ensures { λ r. ⌜ r .0 ≤ 300000 * energy .0 ⌝ }
@@ -78,21 +153,21 @@ impl Net {
     }
 
     // How long it is: what it is above 0.
-    pub fn long(self) -> Mwh
+    pub fn long(self) -> Energy
         ensures { λ r. ⌜ r .0 ≡ posPart (net self) ⌝ }
         ensures { λ r. ⌜ r .0 < 2 ^ 31 ⌝ }
     {
         let x = self.0;
-        Mwh(excess(x as u64, Net::OFFSET as u64))
+        Energy(excess(x as u64, Net::OFFSET as u64))
     }
 
     // How short it is: what it is below 0.
-    pub fn short(self) -> Mwh
+    pub fn short(self) -> Energy
         ensures { λ r. ⌜ r .0 ≡ negPart (net self) ⌝ }
         ensures { λ r. ⌜ r .0 ≤ 2 ^ 31 ⌝ }
     {
         let x = self.0;
-        Mwh(excess(Net::OFFSET as u64, x as u64))
+        Energy(excess(Net::OFFSET as u64, x as u64))
     }
 
     // Is it within the range of a physical entry, a million MWh either way?
@@ -104,7 +179,7 @@ impl Net {
     }
 
     // More by an energy.
-    pub fn raised(self, energy: Mwh) -> Net
+    pub fn raised(self, energy: Energy) -> Net
         requires { ⌜ posPart (net self) + energy .0 < 2 ^ 31 ⌝ }
         ensures { λ r. ⌜ net r ≡ net self +ℤ pos (energy .0) ⌝ }
     {
@@ -113,7 +188,7 @@ impl Net {
     }
 
     // Less by an energy.
-    pub fn lowered(self, energy: Mwh) -> Net
+    pub fn lowered(self, energy: Energy) -> Net
         requires { ⌜ negPart (net self) + energy .0 ≤ 2 ^ 31 ⌝ }
         ensures { λ r. ⌜ net r ≡ net self -ℤ pos (energy .0) ⌝ }
     {
@@ -193,66 +268,6 @@ impl Balance {
     }
 }
 
-// The energy that a signed amount brings in, and the energy that it takes out: one of the two is 0.
-pub struct Flow {
-    pub inflow: Mwh,
-    pub outflow: Mwh,
-}
-
-impl Flow {
-    // The flow of a signed amount, in MWh.
-    pub fn of(amount: i64) -> Flow
-        ensures { λ r. ⌜ (r .inflow .0 ≡ posPart amount) × (r .outflow .0 ≡ negPart amount) ⌝ }
-        ensures { λ r. ⌜ (r .inflow .0 < 2 ^ 63) × (r .outflow .0 ≤ 2 ^ 63) ⌝ }
-    {
-        if amount < 0 {
-            return Flow {
-                inflow: Mwh(0),
-                outflow: Mwh((-1 - amount) as u64 + 1),
-            };
-        }
-        Flow {
-            inflow: Mwh(amount as u64),
-            outflow: Mwh(0),
-        }
-    }
-}
-
-// A posting: whether it is accepted, and the physical entry after it.
-pub struct Posted {
-    pub accepted: bool,
-    pub entry: Net,
-}
-
-impl Posted {
-    // An amount is posted to a physical entry. It is accepted where the sum is within the range of an entry; else the entry stays.
-    pub fn of(old: Net, amount: i64) -> Posted
-        ensures { λ r. ⌜ r .accepted ≡ within 1000000 (net old +ℤ amount) ⌝ }
-        ensures { λ r. ⌜ net (r .entry) ≡ cond (r .accepted) (net old +ℤ amount) (net old) ⌝ }
-    {
-        let x = old.0;
-        let flow = Flow::of(amount);
-        let above = x as u64 + flow.inflow.0;
-        let below = Net::OFFSET as u64 + flow.outflow.0;
-        if above + 1000000 < below {
-            return Posted {
-                accepted: false,
-                entry: old,
-            };
-        }
-        if below + 1000000 < above {
-            return Posted {
-                accepted: false,
-                entry: old,
-            };
-        }
-        Posted {
-            accepted: true,
-            entry: Net((above - flow.outflow.0) as u32),
-        }
-    }
-}
-
 // The prices of a day, in cents per MWh: the tariffs P of PVB and Q of TVB and AVB, the tolls L for liquefaction, X for PVB exit and I for
 // injection, and the selling tariffs S of PVB and U of TVB and AVB, 0 in a version of the book that has none.
 pub struct Prices {
@@ -324,7 +339,7 @@ impl Area {
 pub struct Limits {
     pub margin: Cents,
     pub floor: Cents,
-    pub flag_mwh: Mwh,
+    pub flag_mwh: Energy,
 }
 
 impl Limits {
@@ -336,7 +351,7 @@ impl Limits {
         Limits {
             margin: Cents(1000000),
             floor: Cents(10000000),
-            flag_mwh: Mwh(30000),
+            flag_mwh: Energy(30000),
         }
     }
 }

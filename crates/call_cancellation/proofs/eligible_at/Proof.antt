@@ -30,7 +30,7 @@ returns-3 c =
     let i = j .before .before in
     let a = i .before .before .args in
     rw (eq-eqb (a .seller) (a .place) (sym (i .index .ensures .0) ∙ j .before .if1 .left), ne-eqb (a .buyer) (a .place) (λ e. t .before .if2 .left (j .index2 .ensures .0 ∙ e)))
-    (ap (λ (x : Bool). x && ltb 0 (t .trade-at .result .standing)) (c .is-bilateral-for-day .ensures)
+    (ap (λ (x : Bool). x && ltb 0 (t .trade-at .result .standing .0)) (c .is-bilateral-for-day .ensures)
     ∙ ap (λ (x : Trade). bilateralForDay x && ltb 0 (x .standing)) (t .trade-at .ensures))
 
 pub eligible-at-spec : {M : Type 1} → statement M

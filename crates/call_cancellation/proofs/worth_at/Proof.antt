@@ -15,22 +15,27 @@ use Rattle.call_cancellation.proofs.worth_at.Statement.{statement}
 use Rattle.call_cancellation.proofs.worth_at.Tie as tie
 
 -- what stands
-standing-is : (c : tie.After-trade-at) → let a = c .before .before .args in c .trade-at .result .standing ≡ getD (tradesOf (now (a .book))) (a .i) noTrade .standing
+standing-is : (c : tie.After-trade-at) → let a = c .before .before .args in c .trade-at .result .standing .0 ≡ getD (tradesOf (now (a .book))) (a .i) noTrade .standing
 unfolding asTrade
 standing-is c = ap (λ (t : Trade). t .standing) (c .trade-at .ensures)
 
 worth-requires : tie.Need-worth-requires
 worth-requires c κs =
-    let t = c .before in
-    (omega (arith, c .tariff .ensures .1 .1), omega (arith, standing-is t, t .before .before .pre .1 .1))
+    let t = c .before .before in
+    (omega (arith, c .before .tariff .ensures .1 .1), omega (arith, c .energy .ensures, standing-is t, t .before .before .pre .1 .1))
 
 returns : tie.Need-returns
 unfolding asTrade
 returns c =
-    let t = c .before .before in
+    let e = c .before in
+    let p = e .before in
+    let t = p .before in
     let a = t .before .before .args in
-    let low : t .trade-at .result .standing ≤ 100000 = omega (arith, standing-is t, t .before .before .pre .1 .1) in
-    (c .worth .ensures .0 ∙ ap₂ (λ (x y : ℕ). x * y) (standing-is t) (c .before .tariff .ensures .0 ∙ ap (λ (x : Trade). tariff (asPrices (a .prices)) (x .terms .area)) (t .trade-at .ensures)), omega (arith, c .worth .ensures .0, mul-le-mul low (c .before .tariff .ensures .1 .1)))
+    let low : e .energy .result .0 ≤ 100000 = omega (arith, e .energy .ensures, standing-is t, t .before .before .pre .1 .1) in (
+      c .worth .ensures .0
+          ∙ ap₂ (λ (x y : ℕ). x * y) (e .energy .ensures ∙ standing-is t) (p .tariff .ensures .0 ∙ ap (λ (x : Trade). tariff (asPrices (a .prices)) (x .terms .area)) (t .trade-at .ensures)),
+      omega (arith, c .worth .ensures .0, mul-le-mul low (p .tariff .ensures .1 .1)),
+    )
 
 pub worth-at-spec : {M : Type 1} → statement M
-worth-at-spec = tie.close (tie.spec (λ c κs. search needs) (λ c κs. search needs) (λ c. search needs) worth-requires returns)
+worth-at-spec = tie.close (tie.spec (λ c κs. search needs) (λ c κs. search needs) (λ c κs. search needs) worth-requires returns)

@@ -213,14 +213,14 @@ module _ {M : Type 1} (𝓤 : URA M) (H : Heap 𝓤) (A : Atoms 𝓤) (W : Given
         -- the record is taken out, and its field is read
         elem-out ! R (Is R) (shows 𝓤 H A R) vals-of (LL.tells T.the-type T′.the-laws) fullShare zs i blankTrade b o within (λ was. move ! (1 ∷ []) $ drop ! $
         -- [the record's cell; the others; i (2); _4 (3); _5 (4); _6 (5); _7; _8 (7); _9; _10; _11 (10); _12 (11); trades (12); cuts (13); _0; obor; obs; auth; what the cuts own (18); their token (19); …]
-        assigns ! (of-opd ! (load ! (start ! (hop ! (look ! 10 refl) (fld ! refl (stop !)))) (look-in ! 0 (sub ! 6 refl (whole !))))) (start ! (stop !)) (init ! 3 refl (tt, record { fits = had (getD zs i blankTrade) was })) $
+        assigns ! (of-opd ! (load ! (start ! (hop ! (look ! 10 refl) (fld ! refl (fld ! refl (stop !))))) (look-in ! 0 (sub ! 0 refl (sub ! 6 refl (whole !)))))) (start ! (stop !)) (init ! 3 refl (tt, record { fits = had (getD zs i blankTrade) was })) $
         move ! (18 ∷ []) $ use1 W (‵ Own ⊛ ‵ Own) (shr-slice-copy 𝓤 H A W (named 1) κ′ u64 .twice cuts (cv ∷ [])) $ split ! $ move ! (20 ∷ 0 ∷ []) $
-        use2 W (raw (LeftOf 𝓤 H A at-mem run .pre (to-left-of i (getD zs i blankTrade .standing)))) (goes-left-of i (getD zs i blankTrade .standing) i-fits (had (getD zs i blankTrade) was)) $
-        calls-at ! (fmOf 𝓤 H (W .laws) 𝓣) (LeftOf 𝓤 H A at-mem run) known (to-left-of i (getD zs i blankTrade .standing))
+        use2 W (raw (LeftOf 𝓤 H A at-mem run .pre (to-left-of i (getD zs i blankTrade .standing .0)))) (goes-left-of i (getD zs i blankTrade .standing .0) i-fits (had (getD zs i blankTrade) was)) $
+        calls-at ! (fmOf 𝓤 H (W .laws) 𝓣) (LeftOf 𝓤 H A at-mem run) known (to-left-of i (getD zs i blankTrade .standing .0))
         (and-then ! (load ! (start ! (stop !)) (look ! 15 refl))
         (and-then ! (load ! (start ! (stop !)) (look ! 4 refl)) (and-then ! (load ! (start ! (stop !)) (look ! 5 refl)) (no-more !)))) (λ v.
-        use1 W (later (some (λ (r : ℕ). ((‵ (flft κ′ q′) ⊛ ‵ ftrue) ⊛ ‵ (u32 .own r (v ∷ []))) ⊛ raw (ensured 𝓤 H A left-of.ended (left-of.clauses 𝓤 H A at-mem run) (κ′, tt) (cuts, (i, (getD zs i blankTrade .standing, tt))) tt r)))) (id⊢ 𝓤 _) $ await ! tt $ pick ! (λ r.
-        split ! $ move ! (1 ∷ []) $ use1 W (raw (fact 𝓤 (Says i (getD zs i blankTrade .standing) r))) (left-of-says i (getD zs i blankTrade .standing) r) $ heard ! (Says i (getD zs i blankTrade .standing) r) (λ e. split ! $ move ! (1 ∷ []) $
+        use1 W (later (some (λ (r : ℕ). ((‵ (flft κ′ q′) ⊛ ‵ ftrue) ⊛ ‵ (u32 .own r (v ∷ []))) ⊛ raw (ensured 𝓤 H A left-of.ended (left-of.clauses 𝓤 H A at-mem run) (κ′, tt) (cuts, (i, (getD zs i blankTrade .standing .0, tt))) tt r)))) (id⊢ 𝓤 _) $ await ! tt $ pick ! (λ r.
+        split ! $ move ! (1 ∷ []) $ use1 W (raw (fact 𝓤 (Says i (getD zs i blankTrade .standing .0) r))) (left-of-says i (getD zs i blankTrade .standing .0) r) $ heard ! (Says i (getD zs i blankTrade .standing .0) r) (λ e. split ! $ move ! (1 ∷ []) $
         peeks ! u32 (Is u32) (shows 𝓤 H A u32) r (v ∷ []) (λ is. drop ! $
         -- [the cuts' token; what they own; the record's cell (2); the others (3); i (4); _4 (5); _5 (6); _6 (7); _7 (8); _8 (9); _9 (10); _10 (11); _11 (12); _12 (13); trades (14); …]
         land ! (start ! (stop !)) (init ! 6 refl (uint-lawful 𝓤 H A W w32 .typed r _ is .0)) $ rewrite ! 6 (λ (u : Val). ‵ (fat fullShare half l₅ 0 u)) (ap only (is .0)) refl $
@@ -228,7 +228,7 @@ module _ {M : Type 1} (𝓤 : URA M) (H : Heap 𝓤) (A : Atoms 𝓤) (W : Given
         assigns ! (bin ! (load ! (start ! (stop !)) (look ! 4 refl)) (lit ! tt) (record { fits = fits })) (start ! (stop !)) (store ! 9 refl (tt, record { fits = fits })) $
         assigns ! (bin ! (load ! (start ! (fld ! refl (stop !))) (look-in ! 14 (sub ! 0 refl (whole !)))) (load ! (start ! (stop !)) (look ! 9 refl)) tt) (start ! (stop !)) (init ! 13 refl (tt, tt)) $
         rewrite ! 13 (λ (p : ℕ). ‵ (fat fullShare tyPtr l₁₂ 0 (vptr b p))) (sym (place-is 20 o i)) refl $
-        assigns ! (of-opd ! (load ! (start ! (stop !)) (look ! 6 refl))) (start ! (hop ! (look ! 13 refl) (fld ! refl (stop !)))) (store-in ! 2 (sub ! 6 refl (whole !)) (tt, record { fits = is .1 })) $
+        assigns ! (of-opd ! (load ! (start ! (stop !)) (look ! 6 refl))) (start ! (hop ! (look ! 13 refl) (fld ! refl (fld ! refl (stop !))))) (store-in ! 2 (sub ! 0 refl (sub ! 6 refl (whole !))) (tt, record { fits = is .1 })) $
         -- the new record is put in its place
         owned ! R (Is R) ((LL.makes T.the-type T′.the-plain) 𝓤 H A) (with-standing (getD zs i blankTrade) r) _ (made (getD zs i blankTrade) r (is .1) was) $ move ! (3 ∷ 0 ∷ 4 ∷ []) $
         elem-put ! R fullShare zs i (with-standing (getD zs i blankTrade) r) (vals-of (with-standing (getD zs i blankTrade) r)) b o within $

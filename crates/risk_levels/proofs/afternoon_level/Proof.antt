@@ -18,7 +18,8 @@ use Rattle.risk_levels.proofs.afternoon_level.Tie as tie
 returns : tie.Need-returns
 unfolding afternoonSum sum areas heldIn
 returns c =
-    let l = c .before .before .before .before .before in
+    let sum = c .before in
+    let l = sum .before .before .before in
     let e = l .before in
     let w = e .before .before in
     let a = w .before .before .before .args in
@@ -31,6 +32,9 @@ returns c =
       w .before .before .afternoon-worth .ensures .0,
       w .before .afternoon-worth2 .ensures .0,
       w .afternoon-worth3 .ensures .0,
+      sum .before .before .plus .ensures,
+      sum .before .plus2 .ensures,
+      sum .plus3 .ensures,
       e .exposure .ensures .0 ∙ exposure-held (asPrices (a .prices)) (a .holdings) held,
     ))
     ∙ sym (add-worths (balance (a .charges)) _ (exposure (asPrices (a .prices)) (heldIn (a .holdings)))))
@@ -40,4 +44,4 @@ pub afternoon-level-spec : {M : Type 1} → statement M
 afternoon-level-spec =
     tie.close
     (tie.spec (λ c κs. search needs) (λ c κs. search needs) (λ c κs. search needs) (λ c κs. search needs) (λ c κs. search needs) (λ c κs. search needs)
-    (λ c. search needs) (λ c. search needs) (λ c. search needs) (λ c κs. search needs) returns)
+    (λ c κs. search needs) (λ c κs. search needs) (λ c κs. search needs) (λ c κs. search needs) returns)

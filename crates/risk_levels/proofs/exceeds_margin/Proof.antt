@@ -1,5 +1,5 @@
 -- `exceeds_margin` tests what the definition does. Assumes nothing.
-use mathlib.Core.Path.{ap}
+use mathlib.Core.Path.{ap, _∙_}
 use Prim.Native.Nat.{ℕ, _+_}
 use lib.Dec.{ltb}
 use Rattle.rules.specs.Levels.{exceedsMargin}
@@ -10,8 +10,9 @@ use Rattle.risk_levels.proofs.exceeds_margin.Tie as tie
 returns : tie.Need-returns
 unfolding exceedsMargin
 returns c = λ u e.
-    let a = c .before .before .before .before .args in
-    ap (λ (n : ℕ). ltb (a .limits .margin .0 + n) (a .level .0)) e
+    let a = c .before .before .before .args in
+    c .exceeds .ensures
+    ∙ ap (λ (n : ℕ). ltb n (a .level .0)) (c .before .plus .ensures ∙ ap (λ (n : ℕ). a .limits .margin .0 + n) e)
 
 pub exceeds-margin-spec : {M : Type 1} → statement M
-exceeds-margin-spec = tie.close (tie.spec (λ c. search needs) returns)
+exceeds-margin-spec = tie.close (tie.spec (λ c κs. search needs) (λ c κs. search needs) returns)

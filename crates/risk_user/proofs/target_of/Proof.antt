@@ -14,7 +14,7 @@ returns c =
     let t = c .before .before in
     let a = t .before .before .before .args in
     target-beyond (asLimits (a .day .limits)) (getD (usersOf (now (a .book))) (a .place) nobody) (a .level .0) (t .before .exceeds-margin .ensures) (t .if1 .taken)
-    (c .before .assigned-at .ensures) (c .excess .ensures)
+    (c .before .assigned-at .ensures) (c .less .ensures)
 
 returns-2 : tie.Need-returns-2
 returns-2 c =

@@ -6,7 +6,7 @@ use Rattle.call_answers.proofs.ReductionAnswer.of_cuts.Tie as tie
 
 returns : tie.Need-returns
 unfolding ofCuts
-returns c = cc (c .excess2 .ensures, c .before .excess .ensures)
+returns c = cc (c .less2 .ensures, c .before .less .ensures)
 
 pub of-cuts-spec : {M : Type 1} → statement M
 of-cuts-spec = tie.close (tie.spec (λ c κs. search needs) (λ c κs. search needs) returns)

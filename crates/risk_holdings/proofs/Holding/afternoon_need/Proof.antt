@@ -9,8 +9,8 @@ use Rattle.risk_holdings.proofs.Holding.afternoon_need.Tie as tie
 returns : tie.Need-returns
 unfolding asHolding
 returns c =
-    let a = c .before .before .before .before .args in
-    omega (arith, afternoon-need-of (a .area) (asHolding (a .self)), c .excess .ensures)
+    let a = c .before .before .before .before .before .args in
+    omega (arith, afternoon-need-of (a .area) (asHolding (a .self)), c .less .ensures, c .before .plus .ensures)
 
 pub afternoon-need-spec : {M : Type 1} → statement M
-afternoon-need-spec = tie.close (tie.spec (λ c κs. search needs) (λ c. search needs) (λ c κs. search needs) returns)
+afternoon-need-spec = tie.close (tie.spec (λ c κs. search needs) (λ c κs. search needs) (λ c κs. search needs) returns)

@@ -9,10 +9,11 @@ use Rattle.risk_holdings.proofs.Holding.morning_need.Tie as tie
 returns : tie.Need-returns
 unfolding asHolding
 returns c =
-    omega (arith, morning-need-of (asHolding (c .before .before .before .before .before .before .before .before .args .self)), c .excess .ensures)
+    let sums = c .before .before .before .before in
+    omega (arith, morning-need-of (asHolding (sums .before .before .before .before .before .before .args .self)), c .less .ensures, c .before .plus4 .ensures, c .before .before .plus3 .ensures, c .before .before .before .plus2 .ensures, sums .plus .ensures)
 
 pub morning-need-spec : {M : Type 1} → statement M
 morning-need-spec =
     tie.close
-    (tie.spec (λ c κs. search needs) (λ c κs. search needs) (λ c. search needs) (λ c. search needs) (λ c. search needs) (λ c. search needs)
-    (λ c κs. search needs) returns)
+    (tie.spec (λ c κs. search needs) (λ c κs. search needs) (λ c κs. search needs) (λ c κs. search needs) (λ c κs. search needs)
+    (λ c κs. search needs) (λ c κs. search needs) returns)

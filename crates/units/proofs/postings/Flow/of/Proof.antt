@@ -13,8 +13,8 @@ use mir.ValLaws.{toZ-ofZ}
 use borrow.Author.Tests.{ltb-true}
 use Rattle.base.specs.Parts.{posPart, negPart}
 use Rattle.base.proofs.Linear.{eq-parts, parts-sub}
-use Rattle.units.proofs.Flow.of.Statement.{statement}
-use Rattle.units.proofs.Flow.of.Tie as tie
+use Rattle.units.proofs.postings.Flow.of.Statement.{statement}
+use Rattle.units.proofs.postings.Flow.of.Tie as tie
 
 -- an amount below 0 and what the machine makes of −1 − amount
 record Below (z : ℤ) : Type 0 where

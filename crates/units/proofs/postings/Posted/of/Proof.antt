@@ -13,8 +13,8 @@ use Rattle.units.specs.declared.Net.{Net}
 use Rattle.units.specs.Amounts.{net}
 use Rattle.units.proofs.Amounts.{parts-net, le-within, lt-within, net-eq}
 use borrow.Author.Needs.{needs}
-use Rattle.units.proofs.Posted.of.Statement.{statement}
-use Rattle.units.proofs.Posted.of.Tie as tie
+use Rattle.units.proofs.postings.Posted.of.Statement.{statement}
+use Rattle.units.proofs.postings.Posted.of.Tie as tie
 
 -- the parts of the sum, by what flows in and out
 sum-parts : (old : Net) (z : ℤ) → SFits w64 z → {i o : ℕ} → (i ≡ posPart (toZ w64 (ofZ w64 z))) × (o ≡ negPart (toZ w64 (ofZ w64 z)))

@@ -1,0 +1,15 @@
+-- `Totals::with`: one reduction more, and the tally's MWh and worth each added to its own. Assumes nothing.
+use mathlib.Core.Path.{ap₂}
+use Prim.Native.Nat.{_+_}
+use Rattle.rules.specs.Calls.{ofRun}
+use borrow.Author.Needs.{needs}
+use Rattle.cut_worth.proofs.Totals.with.Statement.{statement}
+use Rattle.cut_worth.proofs.Totals.with.Tie as tie
+
+returns : tie.Need-returns
+returns c =
+    let b = c .before .before .before in
+    ap₂ (ofRun (b .args .self .reductions + 1)) (c .before .before .plus .ensures) (c .before .plus2 .ensures)
+
+pub with-spec : {M : Type 1} → statement M
+with-spec = tie.close (tie.spec (λ c κs. search needs) (λ c κs. search needs) (λ c. search needs) returns)
