@@ -1,41 +1,54 @@
--- The number of the opening questions is that up to 26, or where it is 0 that of the store; the figures are those of the setting. Assumes nothing.
+-- The number of the opening questions is that of those before the store, or where it is 0 that of the store; the figures are those of the setting. Assumes nothing.
+use mathlib.Core.Bool.{Bool, cond, true, false}
 use mathlib.Core.List.{List}
 use mathlib.Core.Option.{Option}
-use mathlib.Core.Path.{_≡_, _∙_, refl, sym, ap}
+use mathlib.Core.Path.{_≡_, _∙_, refl, subst, sym}
 use Prim.Native.Nat.{ℕ, suc, zero}
 use Rattle.fields.specs.Field.{field}
 use Rattle.book_format.specs.After.{after}
 use Rattle.book_format.specs.Book.{bookOf}
+use Rattle.book_format.specs.Questions.{bookNumber}
 use Rattle.rules.specs.Levels.{Limits}
 use Rattle.store.specs.Asked.{ByStore}
-use Rattle.store.specs.Store.{storeNumber}
-use Rattle.requests.specs.Request.{limitsOn, settingOf}
-use Rattle.rights.proofs.Entered.{entering-number, opening-by-number}
-use Rattle.rights.specs.Acting.{AdmittedBy, enteringNumber, openingNumberBy}
-use Rattle.rights.specs.Party.{Party, Matter}
+use Rattle.requests.proofs.Opened.{opening-zero}
+use Rattle.requests.specs.Carried.{Admitted}
+use Rattle.requests.specs.Request.{Setting, firstOf, limitsOn, opening, settingOf}
+use Rattle.rights.proofs.Entered.{entering-book}
+use Rattle.rights.specs.Acting.{enteringNumber}
+use Rattle.rights.specs.Party.{Matter, Party}
 
-module _ (s : List ℕ) (store : Option (List ℕ)) {asked : ℕ} (actor : Party) (m : Matter) (e : asked ≡ enteringNumber actor m s) where
-  by-setting : openingNumberBy actor m (settingOf store) s ≡ after asked (λ n. n) (storeNumber store (bookOf s .header .date))
-  unfolding enteringNumber
-  by-setting =
-      opening-by-number actor m s (settingOf store)
-      ∙ ap (λ (n : ℕ). after n (λ k. k) (storeNumber store (bookOf s .header .date))) (sym (e ∙ entering-number actor m s))
+-- a number other than 0 stays, whatever is asked after it
+pub stays : (n m : ℕ) → (n ≡ 0 → ⊥) → n ≡ firstOf n m
+unfolding after
+stays zero m h = absurd (h refl)
+stays (suc n) m h = refl
 
-  -- a question up to 26 refuses: whatever the figures
-  pub admitted-refused : {limits : Limits} → (asked ≡ 0 → ⊥) → AdmittedBy actor m (settingOf store) s asked limits
-  unfolding after
-  admitted-refused h = record { asked = go asked h (storeNumber store (bookOf s .header .date)) ∙ sym by-setting; taken = λ z. absurd (h z) }
-    where
-      go : (n : ℕ) → (n ≡ 0 → ⊥) → (k : ℕ) → n ≡ after n (λ j. j) k
-      go zero z k = absurd (z refl)
-      go (suc n) z k = refl
+-- 15, where no question before it refuses
+pub unfit : (n : ℕ) (fits : Bool) → n ≡ 0 → fits ≡ false → 15 ≡ firstOf n (cond fits 0 15)
+unfolding after
+unfit n fits z e = rw (z, e)
+
+pub fit : (n : ℕ) (fits : Bool) → n ≡ 0 → fits ≡ true → 0 ≡ firstOf n (cond fits 0 15)
+unfolding after
+fit n fits z e = rw (z, e)
+
+module _ (s : List ℕ) (store : Option (List ℕ)) {asked : ℕ} where
+  -- a question before the store's refuses: whatever the figures
+  pub admitted-refused : {limits : Limits} → (asked ≡ 0 → ⊥) → Admitted asked (settingOf store) s asked limits
+  unfolding opening
+  admitted-refused h = record { asked = stays asked _ h; taken = λ z. absurd (h z) }
 
   -- none does: by the store, on the book's date
-  pub admitted-by-store : {limits : Limits} {date number : ℕ} → asked ≡ 0 → date ≡ field 4 8 s → ByStore store date number limits → AdmittedBy actor m (settingOf store) s number limits
-  unfolding after bookOf limitsOn
-  admitted-by-store {number = number} z d f =
-      let g = rw d at f in
-      record {
-        asked = g .asked ∙ ap (λ (n : ℕ). after n (λ k. k) (storeNumber store (bookOf s .header .date))) (sym z) ∙ sym by-setting;
-        taken = λ k. g .taken;
-      }
+  pub admitted-by-store : {limits : Limits} {date number : ℕ} → asked ≡ 0 → date ≡ field 4 8 s → ByStore store date number limits → Admitted asked (settingOf store) s number limits
+  unfolding after bookOf limitsOn opening
+  admitted-by-store z d f = let g = rw d at f in record { asked = rw z (g .asked); taken = λ k. g .taken }
+
+-- ---- what the calls cite
+
+module _ (actor : Party) (m : Matter) {g : Setting} {s : List ℕ} {entered number : ℕ} {limits : Limits} (e : entered ≡ enteringNumber actor m s) (a : Admitted entered g s number limits) where
+  pub admitted-by : Admitted (enteringNumber actor m s) g s number limits
+  admitted-by = subst (λ (n : ℕ). Admitted n g s number limits) e a
+
+  -- where no question refuses, none of the book's does
+  pub admitted-book : number ≡ 0 → bookNumber s ≡ 0
+  admitted-book z = entering-book actor m s (sym e ∙ opening-zero entered g s (sym (a .asked) ∙ z))

@@ -1,18 +1,22 @@
 -- The opening questions with that of a lent log are those without it, and then 19. Assumes nothing.
-use mathlib.Core.Bool.{Bool, true, false}
+use mathlib.Core.Bool.{Bool, cond, true, false}
 use mathlib.Core.List.{List, [], _∷_}
 use mathlib.Core.Path.{_≡_, refl, sym, ap, _∙_}
 use Prim.Native.Nat.{ℕ, zero, suc}
 use native.Mathlib.Omega.{arith}
 use lib.Dec.{T}
 use Rattle.book_format.specs.After.{after}
+use Rattle.book_format.specs.Questions.{bookNumber}
 use Rattle.book_questions.specs.Asked.{PartiesFound}
 use Rattle.log_format.specs.Fits.{aboutLog, logFits, logNumber}
-use Rattle.requests.specs.Request.{Lines, Setting}
-use Rattle.rights.proofs.Logged.{lines-with-by-number, with-by-number}
-use Rattle.rights.specs.Acting.{AdmittedBy, linesNumberBy}
-use Rattle.rights.specs.Logged.{AdmittedWithBy, linesNumberWithBy}
-use Rattle.rights.specs.Party.{Party, matterBy}
+use Rattle.requests.proofs.Lines.{fit-number}
+use Rattle.requests.proofs.Opened.{first-zero, opening-zero}
+use Rattle.requests.specs.Carried.{Admitted}
+use Rattle.requests.specs.Logged.{AdmittedWith}
+use Rattle.requests.specs.Request.{Lines, Setting, firstOf, linesFit, opening, openingLines, openingWith}
+use Rattle.rights.proofs.Entered.{entering-book}
+use Rattle.rights.specs.Acting.{enteringNumber}
+use Rattle.rights.specs.Party.{Matter, Party}
 use Rattle.rules.specs.Levels.{Limits}
 use Rattle.rules.specs.Questions.{numberOf, refusal}
 use Rattle.store.specs.Store.{given}
@@ -46,19 +50,24 @@ module _ (l s : List ℕ) (lent : Bool) where
 
 -- ---- what the calls cite
 
-pub admitted-with : {actor : Party} {g : Setting} {s l : List ℕ} {asked number : ℕ} {limits : Limits} (lent : Bool) → AdmittedBy actor (matterBy 4294967296) g s asked limits → LogAsked asked lent l s number
-    → AdmittedWithBy actor g (given lent l) s number limits
-unfolding matterBy
-admitted-with {actor} {g} {s} {l} lent a k =
-    record {
-      asked = k .is ∙ ap (λ (n : ℕ). after n (λ m. m) (logNumber (given lent l) s)) (a .asked) ∙ sym (with-by-number actor g (given lent l) s);
-      taken = λ z. a .taken (k .before z);
-    }
+pub admitted-with : {n : ℕ} {g : Setting} {s l : List ℕ} {asked number : ℕ} {limits : Limits} (lent : Bool) → Admitted n g s asked limits → LogAsked asked lent l s number
+    → AdmittedWith n g (given lent l) s number limits
+unfolding openingWith
+admitted-with {s = s} {l} lent a k =
+    record { asked = k .is ∙ ap (λ (n : ℕ). after n (λ m. m) (logNumber (given lent l) s)) (a .asked); taken = λ z. a .taken (k .before z) }
 
-pub lines-with : (actor : Party) (g : Setting) (v : Lines) {s l : List ℕ} {asked number : ℕ} (lent : Bool) → asked ≡ linesNumberBy actor g v s → LogAsked asked lent l s number
-    → number ≡ linesNumberWithBy actor g (given lent l) v s
-lines-with actor g v {s} {l} lent a k =
-    k .is ∙ ap (λ (n : ℕ). after n (λ m. m) (logNumber (given lent l) s)) a ∙ sym (lines-with-by-number actor g (given lent l) v s)
+-- of a list, whose question 15 was answered by what it passes
+pub lines-with : (n : ℕ) (g : Setting) (v : Lines) {fits : Bool} {s l : List ℕ} {asked number : ℕ} (lent : Bool) → fits ≡ linesFit v → asked ≡ opening (firstOf n (cond fits 0 15)) g s
+    → LogAsked asked lent l s number → number ≡ openingWith (openingLines n v) g (given lent l) s
+unfolding openingWith openingLines
+lines-with n g v {s = s} {l} lent e a k =
+    k .is
+    ∙ ap (λ (i : ℕ). after i (λ m. m) (logNumber (given lent l) s)) a
+    ∙ ap (λ (i : ℕ). firstOf (opening (firstOf n i) g s) (logNumber (given lent l) s)) (ap (λ (c : Bool). cond {A = ℕ} c 0 15) e ∙ sym (fit-number v))
+
+-- it passes the questions of the book where none refuses
+pub list-entered : (actor : Party) (m : Matter) (g : Setting) (fits : Bool) (s : List ℕ) {number : ℕ} → number ≡ opening (firstOf (enteringNumber actor m s) (cond fits 0 15)) g s → number ≡ 0 → bookNumber s ≡ 0
+list-entered actor m g fits s e z = entering-book actor m s (first-zero _ (cond fits 0 15) (opening-zero _ g s (sym e ∙ z)))
 
 -- what was found where no question refuses is there where 19 does not either
 pub parties-with : {s l : List ℕ} {asked number : ℕ} {lent : Bool} {sellers buyers sums : List ℕ} → LogAsked asked lent l s number → PartiesFound s asked sellers buyers sums → PartiesFound s number sellers buyers sums

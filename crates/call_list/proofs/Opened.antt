@@ -9,13 +9,12 @@ use lib.IntN.{ℤ}
 use lib.ListN.{length}
 use Rattle.book_format.specs.Questions.{bookNumber}
 use Rattle.base.proofs.Tests.{and-l, and-r}
-use Rattle.log_format.specs.Noted.{emptiedBy}
+use Rattle.requests.proofs.Emptied.{posted-list, with-opening}
 use Rattle.requests.proofs.Lines.{lines-opening}
-use Rattle.requests.proofs.Passed.{opening-book}
-use Rattle.requests.specs.Request.{linesFit, linesOf, openingNumber, settingOf}
-use Rattle.rights.proofs.Logged.{lines-with-opening-by, posted-list-by}
-use Rattle.rights.specs.Logged.{PostedBy, linesNumberWithBy}
-use Rattle.rights.specs.Party.{Party}
+use Rattle.requests.proofs.Opened.{opening-zero}
+use Rattle.log_format.specs.Noted.{emptiedBy}
+use Rattle.requests.specs.Logged.{PostedAfter}
+use Rattle.requests.specs.Request.{linesFit, linesOf, opening, openingLines, openingWith, settingOf}
 use Rattle.store.specs.Store.{given}
 use Rattle.call_list.specs.Lines.{Even, ListedAfter}
 
@@ -35,23 +34,26 @@ even-fit ids areas amounts places t =
       of-places = eqb→eq (length places) n (and-r z p last);
     }
 
-module _ (actor : Party) (store : Option (List ℕ)) (ids areas : List ℕ) (amounts : List ℤ) (places s : List ℕ) (lent : Bool) (l : List ℕ) {number : ℕ}
-    (e : number ≡ linesNumberWithBy actor (settingOf store) (given lent l) (linesOf ids areas amounts (length places)) s) where
-  passes : number ≡ 0 → (linesFit (linesOf ids areas amounts (length places)) ≡ true) × (openingNumber (settingOf store) s ≡ 0)
+module _ (n : ℕ) (store : Option (List ℕ)) (ids areas : List ℕ) (amounts : List ℤ) (places s : List ℕ) (lent : Bool) (l : List ℕ) {number : ℕ}
+    (book : n ≡ 0 → bookNumber s ≡ 0) (e : number ≡ openingWith (openingLines n (linesOf ids areas amounts (length places))) (settingOf store) (given lent l) s) where
+  -- a list that passes fits, and its lines pass what is asked before them
+  passes : number ≡ 0 → (linesFit (linesOf ids areas amounts (length places)) ≡ true) × (opening n (settingOf store) s ≡ 0)
   passes z =
       let v = linesOf ids areas amounts (length places) in
-      lines-opening (settingOf store) v s (lines-with-opening-by actor (settingOf store) (given lent l) s v (sym e ∙ z))
+      lines-opening n (settingOf store) v s (with-opening (openingLines n v) (settingOf store) (given lent l) s (sym e ∙ z))
 
   pub list-book : number ≡ 0 → bookNumber s ≡ 0
-  list-book z = opening-book (settingOf store) s (passes z .1)
+  list-book z = book (opening-zero n (settingOf store) s (passes z .1))
 
   pub list-even : number ≡ 0 → Even ids areas amounts places
   list-even z = even-fit ids areas amounts places (subst T (sym (passes z .0)) tt)
 
+  lines-pass : number ≡ 0 → opening (bookNumber s) (settingOf store) s ≡ 0
+  lines-pass z = ap (λ (k : ℕ). opening k (settingOf store) s) (list-book z ∙ sym (opening-zero n (settingOf store) s (passes z .1))) ∙ passes z .1
+
   -- with the lent log emptied where the list is accepted
   pub list-posted : {result : ℕ} {t left m : List ℕ} → ListedAfter number ids areas amounts places s result t left → m ≡ emptiedBy lent result t l
-      → PostedBy actor store (given lent l) ids areas amounts places s result t left l m
+      → PostedAfter n store (given lent l) ids areas amounts places s result t left l m
   list-posted {result} {t} {left} {m} p k =
-      let o : number ≡ 0 → openingNumber (settingOf store) s ≡ 0 = λ z. passes z .1 in
-      subst (λ (n : ℕ). PostedBy actor store (given lent l) ids areas amounts places s n t left l m) (sym (p .asked))
-      (posted-list-by actor store ids areas amounts places s l lent e (p .bytes (settingOf store) o) (p .beside (settingOf store) o) (k ∙ ap (λ (n : ℕ). emptiedBy lent n t l) (p .asked)))
+      subst (λ (i : ℕ). PostedAfter n store (given lent l) ids areas amounts places s i t left l m) (sym (p .asked))
+      (posted-list n store ids areas amounts places s l lent e (p .bytes (settingOf store) lines-pass) (p .beside (settingOf store) lines-pass) (k ∙ ap (λ (i : ℕ). emptiedBy lent i t l) (p .asked)))

@@ -11,14 +11,14 @@ use Rattle.call_entry.proofs.Asked.{entry-unknown}
 use Rattle.fields.specs.Field.{AllBytes}
 use Rattle.book_format.specs.After.{CalledAfter, after, stepAfter}
 use Rattle.book_format.specs.Book.{bookOf, usersOf}
+use Rattle.book_format.specs.Questions.{bookNumber}
 use Rattle.book_format.specs.Steps.{placeOf}
 use Rattle.book_parties.proofs.Known.{placeIn-placeOf}
 use Rattle.book_parties.specs.Ids.{placeIn}
 use Rattle.call_posting.proofs.Ways.{refused}
 use Rattle.call_posting.specs.Posting.{postingOf}
 use Rattle.requests.proofs.Lines.{Onward, one-line, onward-opening, posting-onward}
-use Rattle.requests.proofs.Opened.{call-opened, outcome}
-use Rattle.requests.specs.Request.{Outcome, Setting, limitsOn, linesIn, openingNumber, stepIn}
+use Rattle.requests.specs.Request.{Outcome, Setting, limitsOn, linesIn, opening, outcome, stepIn}
 use Rattle.rules.specs.Calls.{Answer, only, posting}
 use Rattle.rules.specs.Levels.{Limits, today}
 use Rattle.call_list.proofs.Ids.{known-onward}
@@ -52,9 +52,9 @@ pub record Going (known : List ℕ) (n at size : ℕ) (ids areas : List ℕ) (am
   pub whole : length s ≡ length s₀
   pub room : length places ≡ length ids
   pub within : i ≤ length ids
-  pub opened : (g : Setting) → openingNumber g s₀ ≡ 0 → openingNumber g s ≡ 0
-  pub onBytes : (g : Setting) → openingNumber g s₀ ≡ 0 → linesIn g s (drop i ids) (drop i areas) (drop i amounts) .bytes ≡ linesIn g s₀ ids areas amounts .bytes
-  pub onNumbers : (g : Setting) → openingNumber g s₀ ≡ 0 → take i places ++ linesIn g s (drop i ids) (drop i areas) (drop i amounts) .numbers ≡ linesIn g s₀ ids areas amounts .numbers
+  pub opened : (g : Setting) → opening (bookNumber s₀) g s₀ ≡ 0 → opening (bookNumber s) g s ≡ 0
+  pub onBytes : (g : Setting) → opening (bookNumber s₀) g s₀ ≡ 0 → linesIn g s (drop i ids) (drop i areas) (drop i amounts) .bytes ≡ linesIn g s₀ ids areas amounts .bytes
+  pub onNumbers : (g : Setting) → opening (bookNumber s₀) g s₀ ≡ 0 → take i places ++ linesIn g s (drop i ids) (drop i areas) (drop i amounts) .numbers ≡ linesIn g s₀ ids areas amounts .numbers
 
 module _ {known : List ℕ} {n at size : ℕ} {ids areas : List ℕ} {amounts : List ℤ} {s₀ : List ℕ} where
   pub going-start : {places : List ℕ} → AllBytes s₀ → Known known n at size s₀ → length places ≡ length ids → Going known n at size ids areas amounts s₀ s₀ places 0
@@ -69,16 +69,16 @@ module _ {known : List ℕ} {n at size : ℕ} {ids areas : List ℕ} {amounts : 
         (posting-onward today s (getD ids i 0) (getD areas i 0) (getD amounts i (pos 0)) (p .bytes) (p .searched .passes))
 
     -- the line by itself, in a setting
-    first : (g : Setting) → openingNumber g s ≡ 0 → (stepIn g s (posting (getD ids i 0) (getD areas i 0) (getD amounts i (pos 0))) .answer .number ≡ r) × (stepIn g s (posting (getD ids i 0) (getD areas i 0) (getD amounts i (pos 0))) .bytes ≡ t)
-    unfolding outcome only
+    first : (g : Setting) → opening (bookNumber s) g s ≡ 0 → (stepIn (bookNumber s) g s (posting (getD ids i 0) (getD areas i 0) (getD amounts i (pos 0))) .answer .number ≡ r) × (stepIn (bookNumber s) g s (posting (getD ids i 0) (getD areas i 0) (getD amounts i (pos 0))) .bytes ≡ t)
+    unfolding stepIn outcome only
     first g e =
         let call = posting (getD ids i 0) (getD areas i 0) (getD amounts i (pos 0)) in
         let limits = limitsOn g (bookOf s) in
-        let o : stepIn g s call ≡ outcome (stepAfter 0 limits s call) = call-opened g s call ∙ ap (λ (m : ℕ). outcome (stepAfter m limits s call)) e in
+        let o : stepIn (bookNumber s) g s call ≡ outcome (stepAfter 0 limits s call) = ap (λ (m : ℕ). outcome (stepAfter m limits s call)) e in
         (ap (λ (x : Outcome). x .answer .number) o ∙ ap (λ (a : Answer). a .number) (sym (c limits .answer)), ap (λ (x : Outcome). x .bytes) o ∙ sym (c limits .bytes))
 
     -- the line and those after it
-    line-then : (g : Setting) → openingNumber g s ≡ 0
+    line-then : (g : Setting) → opening (bookNumber s) g s ≡ 0
         → (linesIn g s (drop i ids) (drop i areas) (drop i amounts) .bytes ≡ linesIn g t (drop (i + 1) ids) (drop (i + 1) areas) (drop (i + 1) amounts) .bytes)
         × (linesIn g s (drop i ids) (drop i areas) (drop i amounts) .numbers ≡ r ∷ linesIn g t (drop (i + 1) ids) (drop (i + 1) areas) (drop (i + 1) amounts) .numbers)
     line-then g e =

@@ -28,8 +28,8 @@ use Rattle.log_format.specs.Log.{cutsAt, entriesIn, entriesOf, entryAt, entryCo
 use Rattle.log_format.specs.Noted.{beforeLast, hasEntry, lastEntry, withdrawalEntered}
 use Rattle.log_format.specs.Withdrawal.{returned, withdrawn, withdrawnTally}
 use Rattle.log_questions.specs.Form.{cutsFrom}
-use Rattle.requests.specs.Logged.{GivesLogged, withdrawalAfter}
-use Rattle.requests.specs.Request.{Outcome, enteredIn, refusedWith}
+use Rattle.requests.specs.Logged.{GivesLogged}
+use Rattle.requests.specs.Request.{Outcome, enteredIn, refusedGiven, withdrawalAfter}
 use Rattle.rules.specs.Areas.{Prices}
 use Rattle.rules.specs.Calls.{Answer, ofRun, only}
 use Rattle.rules.specs.Questions.{decided, refusal}
@@ -38,7 +38,7 @@ use Rattle.rules.specs.Reduction.{nothing, tallyAll}
 -- ---- refused
 
 pub withdrawal-refused : (s l : List ℕ) (n : ℕ) → (n ≡ 0 → ⊥) → {a : Answer} → a ≡ only n → GivesLogged (withdrawalAfter n l s) a s l
-unfolding withdrawalAfter after refusedWith
+unfolding withdrawalAfter after refusedGiven
 withdrawal-refused s l zero h e = absurd (h refl)
 withdrawal-refused s l (suc n) h e = record { answer = e; bytes = refl; log = refl }
 
@@ -47,12 +47,12 @@ no-entries : (s l : List ℕ) → entryCount l ≡ 0 → entriesOf s l ≡ []
 unfolding entriesOf entriesIn
 no-entries s l e = ap (λ (k : ℕ). entriesIn (tradeCount s) k l) e
 
-empty-refused : (s l : List ℕ) {n : ℕ} → n ≡ 0 → entryCount l ≡ 0 → withdrawalAfter n l s ≡ refusedWith l s 18
+empty-refused : (s l : List ℕ) {n : ℕ} → n ≡ 0 → entryCount l ≡ 0 → withdrawalAfter n l s ≡ refusedGiven (some l) s 18
 unfolding withdrawalAfter after hasEntry refusal decided
 empty-refused s l z e = rw (z, no-entries s l e)
 
 pub withdrawal-none : (s l : List ℕ) {n : ℕ} → n ≡ 0 → entryCount l ≡ 0 → {a : Answer} → a ≡ only 18 → GivesLogged (withdrawalAfter n l s) a s l
-unfolding refusedWith
+unfolding refusedGiven
 withdrawal-none s l {n} z e {a} f = subst (λ (o : Outcome). GivesLogged o a s l) (sym (empty-refused s l z e)) (record { answer = f; bytes = refl; log = refl })
 
 -- some number above 0

@@ -17,8 +17,8 @@ use Rattle.log_format.specs.Noted.{callEntered, lastly, noted, room, runWithin,
 use Rattle.log_entries.proofs.Entries.{log-sealed}
 use Rattle.log_entries.proofs.Fitting.{fitting-count, fitting-trades}
 use Rattle.log_entries.specs.Entries.{sealed}
-use Rattle.requests.specs.Logged.{GivesLogged, loggedAfter}
-use Rattle.requests.specs.Request.{Outcome, enteredIn, refusedWith}
+use Rattle.requests.specs.Logged.{GivesLogged}
+use Rattle.requests.specs.Request.{Outcome, enteredIn, loggedAfter, refusedGiven}
 use Rattle.rules.specs.Book.{User}
 use Rattle.rules.specs.Calls.{Answer, Call, about, nextReduced, ofRun, only, runFor}
 use Rattle.rules.specs.Levels.{Limits}
@@ -30,7 +30,7 @@ use Rattle.call_logged.specs.Given.{numbered}
 
 module _ (limits : Limits) (s l : List ℕ) (c : Call) where
   pub logged-refused : (n : ℕ) → (n ≡ 0 → ⊥) → {a : Answer} → a ≡ only n → GivesLogged (loggedAfter n limits l s c) a s l
-  unfolding loggedAfter after refusedWith
+  unfolding loggedAfter after refusedGiven
   logged-refused zero h e = absurd (h refl)
   logged-refused (suc n) h e = record { answer = e; bytes = refl; log = refl }
 

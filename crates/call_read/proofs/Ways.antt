@@ -7,15 +7,15 @@ use lib.ListN.{length, replicate}
 use borrow.Author.Tests.{eq-eqb, ne-eqb}
 use Rattle.book_format.proofs.Formed.{bytes-numbered}
 use Rattle.book_format.specs.After.{after}
-use Rattle.book_format.specs.Book.{bookOf}
 use Rattle.book_format.specs.Questions.{aboutBytes, bookNumber}
 use Rattle.book_image.specs.Image.{ImageRead, imageOf, imageSize, padded, readImage}
 use Rattle.book_tables.specs.Book.{blankBook}
 use Rattle.book_tables.specs.declared.Book.{Book}
 use Rattle.book_value.specs.Opened.{Opened}
-use Rattle.rights.proofs.Entered.{decided-after, entering-number, entering-numbered, rightNumber}
-use Rattle.rights.specs.Acting.{entering, enteringNumber}
-use Rattle.rights.specs.Party.{Party, matterBy, mayDo, operators, partyOf}
+use Rattle.requests.proofs.Opened.{decided-after}
+use Rattle.rights.proofs.Operator.{operator-asked}
+use Rattle.rights.specs.Acting.{enteringNumber}
+use Rattle.rights.specs.Party.{matterBy, mayDo, operators, partyOf, rightNumber}
 use Rattle.rights.specs.Read.{ReadBy}
 use Rattle.call_read.specs.Image.{ImageReadBy, imageBy}
 
@@ -23,18 +23,14 @@ use Rattle.call_read.specs.Image.{ImageReadBy, imageBy}
 
 -- the operator's is that of the book's questions
 operator-number : (s : List ℕ) (party : ℕ) → party ≡ 4294967296 → enteringNumber (partyOf party) operators s ≡ bookNumber s
-unfolding enteringNumber rightNumber partyOf mayDo after
-operator-number s party e = entering-number (partyOf party) operators s ∙ rw (eq-eqb party 4294967296 e) (go (bookNumber s))
-  where
-    go : (n : ℕ) → after n (λ k. k) 0 ≡ n
-    go zero = refl
-    go (suc n) = refl
+unfolding partyOf
+operator-number s party e = rw (eq-eqb party 4294967296 e) (operator-asked operators s)
 
 -- another's is never 0
 other-number : (s : List ℕ) (party : ℕ) → (party ≡ 4294967296 → ⊥) → enteringNumber (partyOf party) operators s ≡ 0 → ⊥
 unfolding enteringNumber rightNumber partyOf mayDo after
 other-number s party n z =
-    let h : enteringNumber (partyOf party) operators s ≡ after (bookNumber s) (λ m. m) 26 = entering-number (partyOf party) operators s ∙ rw (ne-eqb party 4294967296 n) refl in
+    let h : enteringNumber (partyOf party) operators s ≡ after (bookNumber s) (λ m. m) 26 = rw (ne-eqb party 4294967296 n) refl in
     never (bookNumber s) (sym h ∙ z)
   where
     never : (m : ℕ) → after m (λ j. j) 26 ≡ 0 → ⊥
@@ -53,29 +49,25 @@ read-other {s} {party} n e k = record { asked = e; book = λ z. absurd (other-nu
 
 -- ---- as an image
 
--- by the number of the questions
-image-by : (actor : Party) (s : List ℕ) → imageBy actor s ≡ after (enteringNumber actor operators s) (λ n. replicate imageSize 0) (imageOf s)
-unfolding imageBy enteringNumber
-image-by actor s = decided-after (λ n. replicate imageSize 0) (imageOf s) (entering actor operators s) (entering-numbered actor operators s)
-
 image-book : (s : List ℕ) → readImage s ≡ after (bookNumber s) (λ n. replicate imageSize 0) (imageOf s)
 unfolding readImage bookNumber
 image-book s = decided-after (λ n. replicate imageSize 0) (imageOf s) (aboutBytes s) (bytes-numbered s)
 
 pub image-operator : {s : List ℕ} {party number : ℕ} {image : List ℕ} → party ≡ 4294967296 → ImageRead s number image → ImageReadBy (partyOf party) s number image
+unfolding imageBy
 image-operator {s} {party} e o =
     let h = sym (operator-number s party e) in
     record {
       asked = o .asked ∙ h;
-      fields = o .fields ∙ image-book s ∙ ap (λ (n : ℕ). after n (λ m. replicate imageSize 0) (imageOf s)) h ∙ sym (image-by (partyOf party) s);
+      fields = o .fields ∙ image-book s ∙ ap (λ (n : ℕ). after n (λ m. replicate imageSize 0) (imageOf s)) h;
     }
 
 pub image-other : {s : List ℕ} {party number : ℕ} (lent : List ℕ) {image : List ℕ} → (party ≡ 4294967296 → ⊥) → length lent ≡ imageSize
     → number ≡ enteringNumber (partyOf party) (matterBy 4294967296) s → image ≡ padded (length lent) [] → ImageReadBy (partyOf party) s number image
-unfolding matterBy padded after
+unfolding matterBy padded imageBy after
 image-other {s} {party} lent n l e k =
     let room : length lent - 0 ≡ imageSize = omega (arith, l) in
-    record { asked = e; fields = k ∙ ap (λ (m : ℕ). replicate m 0) room ∙ go (enteringNumber (partyOf party) operators s) (other-number s party n) ∙ sym (image-by (partyOf party) s) }
+    record { asked = e; fields = k ∙ ap (λ (m : ℕ). replicate m 0) room ∙ go (enteringNumber (partyOf party) operators s) (other-number s party n) }
   where
     go : (m : ℕ) → (m ≡ 0 → ⊥) → replicate imageSize 0 ≡ after m (λ i. replicate imageSize 0) (imageOf s)
     go zero z = absurd (z refl)

@@ -4,13 +4,13 @@ use mathlib.Core.Path.{_≡_}
 use Prim.Native.Nat.{ℕ}
 use lib.ListN.{replicate}
 use Rattle.book_image.specs.Image.{imageOf, imageSize}
-use Rattle.rules.specs.Questions.{decided, refusal}
-use Rattle.rights.specs.Acting.{entering, enteringNumber}
+use Rattle.book_format.specs.After.{after}
+use Rattle.rights.specs.Acting.{enteringNumber}
 use Rattle.rights.specs.Party.{Party, operators}
 
 -- a refusal returns "every other field 0"
 unfoldable pub imageBy : Party → List ℕ → List ℕ
-imageBy actor s = decided (refusal (entering actor operators s)) (λ n. replicate imageSize 0) (imageOf s)
+imageBy actor s = after (enteringNumber actor operators s) (λ n. replicate imageSize 0) (imageOf s)
 
 -- the number of the questions 1 to 7 and 26, and the whole image
 pub record ImageReadBy (actor : Party) (s : List ℕ) (number : ℕ) (image : List ℕ) : Type 0 where

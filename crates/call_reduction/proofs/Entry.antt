@@ -31,8 +31,7 @@ use Rattle.log_format.specs.Log.{entriesOf, entryCount, logBytes}
 use Rattle.log_format.specs.Noted.{callEntered, entryOf, hasRoom, lastly, room}
 use Rattle.log_lent.specs.Lent.{NotableIn, NotedLent, roomIn}
 use Rattle.requests.proofs.Emptied.{about-numbered}
-use Rattle.requests.specs.Logged.{loggedAfter}
-use Rattle.requests.specs.Request.{Outcome, enteredIn, refusedWith}
+use Rattle.requests.specs.Request.{Outcome, enteredIn, loggedAfter, refusedGiven}
 use Rattle.rules.specs.Areas.{Prices}
 use Rattle.risk_user.proofs.Borne.{party-borne}
 use Rattle.rules.specs.Book.{Party, User, find, nobody}
@@ -136,14 +135,14 @@ module _ (number : ℕ) (limits : Limits) (l s : List ℕ) (id : ℕ) where
   asks-numbered = all-append (λ q. ltb 0 (q .number)) (about limits (bookOf s) (reduction id)) (hasRoom (room l) ∷ []) (about-numbered limits (bookOf s) (reduction id)) tt
 
   noted-decided : (o : Option ℕ) → refusal asks ≡ o
-      → decided o (refusedWith l s) (enteredIn (callEntered limits (room l) (entriesOf s l) (bookOf s) (reduction id))) ≡ withNoted (decided o (unchanged s) (inBytes (effect limits (bookOf s) (reduction id))))
-  unfolding decided enteredIn callEntered inBytes refusedWith unchanged withNoted only after effect reduced reducedBy ofCuts numbered
+      → decided o (refusedGiven (some l) s) (enteredIn (callEntered limits (room l) (entriesOf s l) (bookOf s) (reduction id))) ≡ withNoted (decided o (unchanged s) (inBytes (effect limits (bookOf s) (reduction id))))
+  unfolding decided enteredIn callEntered inBytes refusedGiven unchanged withNoted only after effect reduced reducedBy ofCuts numbered
   noted-decided none k = refl
   noted-decided (some zero) k = absurd (let n = ltb→lt 0 0 (refusal-is (λ i. ltb 0 i) asks 0 asks-numbered k) in omega arith)
   noted-decided (some (suc n)) k = refl
 
   noted-after : (n : ℕ) → loggedAfter n limits l s (reduction id) ≡ withNoted (stepWith (hasRoom (room l) ∷ []) n limits s id)
-  unfolding loggedAfter stepWith after refusedWith unchanged withNoted only lastly asks
+  unfolding loggedAfter stepWith after refusedGiven unchanged withNoted only lastly asks
   noted-after (suc n) = refl
   noted-after zero = noted-decided (refusal asks) refl
 

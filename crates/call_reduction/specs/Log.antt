@@ -5,7 +5,8 @@ use mathlib.Core.Path.{_≡_}
 use Prim.Native.Nat.{ℕ}
 use Rattle.book_format.specs.After.{CalledAfter, after}
 use Rattle.log_format.specs.Log.{entriesOf, logBytes}
-use Rattle.requests.specs.Logged.{GivesLogged, loggedAfter}
+use Rattle.requests.specs.Logged.{GivesLogged}
+use Rattle.requests.specs.Request.{loggedAfter}
 use Rattle.rules.specs.Calls.{Answer}
 use Rattle.rules.specs.Levels.{Limits}
 use Rattle.call_reduction.specs.Call.{reductionOf}

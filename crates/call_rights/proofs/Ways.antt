@@ -18,9 +18,8 @@ use Rattle.book_records.specs.declared.User as code
 use Rattle.rules.specs.Book.{User, find, nobody}
 use Rattle.rules.specs.Levels.{shipper}
 use Rattle.rules.specs.Questions.{known}
-use Rattle.rights.proofs.Entered.{entering-number, rightNumber}
 use Rattle.rights.specs.Acting.{enteringNumber}
-use Rattle.rights.specs.Party.{partyOf, isShipperIn, matterBy, mayDo, operator, own}
+use Rattle.rights.specs.Party.{partyOf, isShipperIn, matterBy, mayDo, operator, own, rightNumber}
 
 -- ---- a shipper of the book
 
@@ -48,7 +47,6 @@ module _ (s : List ℕ) (party matter : ℕ) where
   asked-refused {asked} e h =
       go asked h (rightNumber (bookOf s) (partyOf party) (matterBy matter))
       ∙ ap (λ (n : ℕ). after n (λ k. k) (rightNumber (bookOf s) (partyOf party) (matterBy matter))) e
-      ∙ sym (entering-number (partyOf party) (matterBy matter) s)
     where
       go : (n : ℕ) → (n ≡ 0 → ⊥) → (m : ℕ) → n ≡ after n (λ k. k) m
       go zero k m = absurd (k refl)
@@ -60,7 +58,6 @@ module _ (s : List ℕ) (party matter : ℕ) where
   asked-right z e =
       ap (λ (c : Bool). cond c 0 26) e
       ∙ ap (λ (n : ℕ). after n (λ k. k) (cond (mayDo (bookOf s) (partyOf party) (matterBy matter)) 0 26)) (sym z)
-      ∙ sym (entering-number (partyOf party) (matterBy matter) s)
 
   -- the operator
   pub for-operator : bookNumber s ≡ 0 → party ≡ 4294967296 → 0 ≡ enteringNumber (partyOf party) (matterBy matter) s

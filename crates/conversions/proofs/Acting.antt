@@ -12,19 +12,17 @@ use Rattle.book_format.specs.After.{after}
 use Rattle.book_format.specs.Book.{bookOf}
 use Rattle.book_format.specs.Questions.{bookNumber}
 use Rattle.outputs.specs.Output.{Wrote}
-use Rattle.requests.specs.Cancellation.{Cancellation, notCancelled}
-use Rattle.requests.specs.Request.{Act, Outcome, Request, Setting, actOf}
+use Rattle.requests.specs.Cancellation.{cancellationIn}
+use Rattle.requests.specs.Request.{Act, Outcome, Request, Setting, actOf, enquiryAfter, refusedGiven}
 use Rattle.rights.proofs.Agree.{agreement-claim}
-use Rattle.rights.proofs.Entered.{entering-number, rightNumber}
 use Rattle.rights.proofs.Logged.{passed-request, stopped-request}
-use Rattle.rights.proofs.Operator.{cancellation-by, forbidden-claim, operator-claim, wrote-by}
-use Rattle.rights.proofs.Replied.{passed-enquiry, stopped-enquiry}
-use Rattle.rights.specs.Acting.{cancellationBy, enquiryBy, enteringNumber, refusedGiven, requestBy}
-use Rattle.rights.specs.Party.{Matter, Party, isShipperIn, matterOf, mayDo, operator, operators, own, shipperOf}
+use Rattle.rights.proofs.Operator.{forbidden-claim, operator-claim, wrote-by}
+use Rattle.rights.specs.Acting.{cancellationBy, enquiryBy, enteringNumber, requestBy}
+use Rattle.rights.specs.Party.{Matter, Party, isShipperIn, matterOf, mayDo, operator, operators, own, rightNumber, shipperOf}
 use Rattle.conversions.specs.Acting.{ConversionsBy, conversionBy}
 use Rattle.conversions.specs.Conversion.{aboutConversion, asVersion, conversion, conversionAfter, converted}
 use Rattle.conversions.specs.Statements.{Alike, Convertible}
-use Rattle.conversions.proofs.Conversions.{conversions}
+use Rattle.conversions.proofs.Conversions.{cancellations-alike, conversions, enquiries-alike}
 use Rattle.conversions.proofs.Kept.{sound-as}
 
 -- what the public call cites: from the number of its questions up to 26 and the contract of the inner function
@@ -52,10 +50,8 @@ module _ {v : ℕ} {s : List ℕ} (c : Convertible v s) where
   entered-alike : (actor : Party) (m : Matter) → enteringNumber actor m there ≡ enteringNumber actor m s
   unfolding enteringNumber rightNumber
   entered-alike actor m =
-      entering-number actor m there
-      ∙ ap₂ (λ (n : ℕ) (b : Book). after n (λ k. k) (rightNumber b actor m)) (conversions .round v s c .there .accepted ∙ sym (c .accepted)) book-there
+      ap₂ (λ (n : ℕ) (b : Book). after n (λ k. k) (rightNumber b actor m)) (conversions .round v s c .there .accepted ∙ sym (c .accepted)) book-there
       ∙ ap (λ (may : Bool). after (bookNumber s) (λ k. k) (cond may 0 26)) (right-as v (bookOf s) actor m)
-      ∙ sym (entering-number actor m s)
 
   -- ---- calls, queries, whole cancellations
 
@@ -84,18 +80,11 @@ module _ {v : ℕ} {s : List ℕ} (c : Convertible v s) where
           (record { answer = refl; numbers = refl; bytes = refl; log = refl })
 
   enquiries-by : (actor : Party) (g : Setting) (q : Query) → enquiryBy actor g there q ≡ enquiryBy actor g s q
-  enquiries-by actor g q = go (enteringNumber actor (matterOf q) s) refl
-    where
-      go : (n : ℕ) → enteringNumber actor (matterOf q) s ≡ n → enquiryBy actor g there q ≡ enquiryBy actor g s q
-      go zero e =
-          passed-enquiry actor g there q (entered-alike actor (matterOf q) ∙ e) ∙ conversions .enquiries v s c g q ∙ sym (passed-enquiry actor g s q e)
-      go (suc n) e = stopped-enquiry actor g there q n (entered-alike actor (matterOf q) ∙ e) ∙ sym (stopped-enquiry actor g s q n e)
+  enquiries-by actor g q = ap (λ (n : ℕ). enquiryAfter n g there q) (entered-alike actor (matterOf q)) ∙ enquiries-alike c (enteringNumber actor (matterOf q) s) g q
 
   cancellations-by : (actor : Party) (g : Setting) (id tries : ℕ) → cancellationBy actor g there id tries ≡ cancellationBy actor g s id tries
   cancellations-by actor g id tries =
-      cancellation-by actor g there id tries
-      ∙ ap₂ (λ (n : ℕ) (x : Cancellation). after n notCancelled x) (entered-alike actor operators) (conversions .cancellations v s c g id tries)
-      ∙ sym (cancellation-by actor g s id tries)
+      ap (λ (n : ℕ). cancellationIn n g there id tries) (entered-alike actor operators) ∙ cancellations-alike c (enteringNumber actor operators s) g id tries
 
 pub conversions-by : ConversionsBy
 unfolding conversionBy conversion

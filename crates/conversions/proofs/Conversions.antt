@@ -1,6 +1,6 @@
 -- A book in bytes as another version: it is accepted, back again it is the first bytes, and no call answers otherwise on it. Assumes nothing.
 use mathlib.Core.Bool.{false, true}
-use mathlib.Core.List.{List, [], _∷_, _++_, append-assoc}
+use mathlib.Core.List.{List, [], _∷_, _++_}
 use mathlib.Core.Option.{Option, none, some}
 use mathlib.Core.Path.{_≡_, refl, subst, sym, ap, ap₂, _∙_}
 use Prim.Native.Nat.{ℕ, _<_, _≤_}
@@ -17,19 +17,21 @@ use Rattle.rules.specs.Questions.{Question, decided, refusal, versionKnown}
 use Rattle.rules.specs.Reduction.{eligible, target}
 use Rattle.laws.specs.Sound.{Sound}
 use Rattle.laws.proofs.Refusals.{refusal-first, refusal-next, yes-first}
+use Rattle.book_format.specs.After.{after, replyAfter}
 use Rattle.book_format.specs.Book.{bookOf, bytesOf, versionOf}
 use Rattle.book_format.specs.Questions.{aboutBytes, bookNumber}
 use Rattle.book_format.proofs.Formed.{book-passed}
 use Rattle.book_format.proofs.Passed.{passed}
 use Rattle.book_format.proofs.Round.{bytesOf-bookOf}
 use Rattle.book_format.proofs.Written.{all-bytes-bytesOf, bookOf-bytesOf, written-number}
-use Rattle.requests.specs.Cancellation.{Cancellation, aboutCancellation, cancellation, cancelled, cancelledFor, marksOf, notCancelled, searchFor, triesInRange, wholeWorth, worthSuffices}
-use Rattle.requests.specs.Request.{Act, Event, Setting, aboutSetting, actGiven, actOf, enquiry, limitsOn, opening, request, requestGiven, settingOf}
+use Rattle.requests.specs.Cancellation.{Cancellation, aboutCancellation, cancellationAfter, cancellationIn, cancelled, cancelledFor, marksOf, notCancelled, searchFor, triesInRange, wholeWorth, worthSuffices}
+use Rattle.requests.specs.Request.{Act, Event, Setting, actGiven, actOf, enquiryAfter, firstOf, limitsOn, opening, request, requestGiven, settingOf}
+use Rattle.store.specs.Store.{storeNumber}
 use Rattle.sequence.proofs.Sequence.{Left, left-of}
 use Rattle.outputs.specs.Output.{accepted, refused, written}
 use Rattle.conversions.specs.Conversion.{aboutConversion, asVersion, conversion, converted, kept, nothingLost, roomFor}
 use Rattle.conversions.specs.Statements.{Alike, Back, Conversions, Convertible, NothingLost}
-use Rattle.conversions.proofs.Acts.{act-alike, eventAs, limits-alike, setting-alike}
+use Rattle.conversions.proofs.Acts.{act-alike, eventAs}
 use Rattle.conversions.proofs.Alike.{about-alike, found-alike, query-alike}
 use Rattle.conversions.proofs.Kept.{own-kept, sound-as, upward-kept}
 
@@ -167,36 +169,32 @@ module _ {v : ℕ} {s : List ℕ} (c : Convertible v s) where
         log = there .log ∙ ap (λ (x : Event). x .log) e ∙ sym (here .log);
       }
 
-  -- the opening questions and others that are alike give one number
-  opened-alike : (g : Setting) {there here : List Question} → there ≡ here → refusal (opening g t ++ there) ≡ refusal (opening g s ++ here)
-  unfolding opening
-  opened-alike g {there} {here} e =
-      let setting : aboutSetting g (bookOf t) ≡ aboutSetting g b = ap (aboutSetting g) book-there ∙ setting-alike g v b in
-      ap refusal (append-assoc (aboutBytes t) (aboutSetting g (bookOf t)) there)
-      ∙ refusal-next (aboutBytes t) (aboutSetting g (bookOf t) ++ there) (book-passed t number-there)
-      ∙ ap₂ (λ (x y : List Question). refusal (x ++ y)) setting e
-      ∙ sym (refusal-next (aboutBytes s) (aboutSetting g b ++ here) (book-passed s (c .accepted)))
-      ∙ sym (ap refusal (append-assoc (aboutBytes s) (aboutSetting g b) here))
+  -- a query and a whole cancellation after any opening number, by the book that the bytes hold; the date and the figures are the same
+  replied : ℕ → Setting → Query → Book → Reply
+  replied n g q x = after (firstOf n (storeNumber (g .store) (x .header .date))) onlyNumber (decided (refusal (aboutQuery x q)) onlyNumber (found (limitsOn g x) x q))
 
-  -- the figures are the same
-  limits-there : (g : Setting) → limitsOn g (bookOf t) ≡ limitsOn g b
-  limits-there g = ap (limitsOn g) book-there ∙ limits-alike g v b
-
-  pub enquiries-alike : (g : Setting) (q : Query) → enquiry g t q ≡ enquiry g s q
-  unfolding enquiry
-  enquiries-alike g q =
+  pub enquiries-alike : (n : ℕ) (g : Setting) (q : Query) → enquiryAfter n g t q ≡ enquiryAfter n g s q
+  unfolding enquiryAfter replyAfter opening replied limitsOn asVersion
+  enquiries-alike n g q =
       let limits = limitsOn g b in
-      ap₂ (λ (o : Option ℕ) (r : Reply). decided o onlyNumber r)
-      (opened-alike g (ap (λ (n : Book). aboutQuery n q) book-there ∙ query-alike limits v b q))
-      (ap₂ (λ (l : Limits) (n : Book). found l n q) (limits-there g) book-there ∙ found-alike limits v b q)
+      ap (replied n g q) book-there
+      ∙ ap₂ (λ (qs : List Question) (r : Reply). after (opening n g s) onlyNumber (decided (refusal qs) onlyNumber r)) (query-alike limits v b q) (found-alike limits v b q)
 
-  pub cancellations-alike : (g : Setting) (id tries : ℕ) → cancellation g t id tries ≡ cancellation g s id tries
-  unfolding cancellation
-  cancellations-alike g id tries =
+  searched : ℕ → Setting → ℕ → ℕ → Book → Cancellation
+  searched n g id tries x =
+      after (firstOf n (storeNumber (g .store) (x .header .date))) notCancelled
+      (decided (refusal (aboutCancellation (limitsOn g x) x id tries)) notCancelled (cancelled (limitsOn g x) x (find (x .users) id) tries))
+
+  pub cancellations-alike : (n : ℕ) (g : Setting) (id tries : ℕ) → cancellationIn n g t id tries ≡ cancellationIn n g s id tries
+  unfolding cancellationIn cancellationAfter opening searched limitsOn asVersion
+  cancellations-alike n g id tries =
       let limits = limitsOn g b in
-      ap₂ (λ (o : Option ℕ) (r : Cancellation). decided o notCancelled r)
-      (opened-alike g (ap₂ (λ (l : Limits) (n : Book). aboutCancellation l n id tries) (limits-there g) book-there ∙ asked-alike limits v b id tries))
-      (ap₂ (λ (l : Limits) (n : Book). cancelled l n (find (n .users) id) tries) (limits-there g) book-there ∙ cancelled-alike limits v b id tries)
+      ap (searched n g id tries) book-there
+      ∙ ap₂ (λ (qs : List Question) (r : Cancellation). after (opening n g s) notCancelled (decided (refusal qs) notCancelled r)) (asked-alike limits v b id tries) (cancelled-alike limits v b id tries)
+
+  -- both pass the questions of the book
+  same-number : bookNumber t ≡ bookNumber s
+  same-number = number-there ∙ sym (c .accepted)
 
 -- upward nothing is lost
 nothing-lost : NothingLost
@@ -218,6 +216,6 @@ conversions =
           };
       round = λ v s c. round c;
       requests = λ v s c store a. requests-alike c store a;
-      enquiries = λ v s c g q. enquiries-alike c g q;
-      cancellations = λ v s c g id tries. cancellations-alike c g id tries;
+      enquiries = λ v s c g q. ap (λ (n : ℕ). enquiryAfter n g (converted v s) q) (same-number c) ∙ enquiries-alike c (bookNumber s) g q;
+      cancellations = λ v s c g id tries. ap (λ (n : ℕ). cancellationIn n g (converted v s) id tries) (same-number c) ∙ cancellations-alike c (bookNumber s) g id tries;
     }

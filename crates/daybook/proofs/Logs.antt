@@ -16,12 +16,9 @@ use Rattle.call_reduction.specs.Log.{ReducedWith}
 use Rattle.log_format.proofs.Noted.{Empties, afternoon-empties, morning-empties}
 use Rattle.log_format.proofs.Read.{fits-facts}
 use Rattle.log_lent.specs.Lent.{Emptiable}
-use Rattle.requests.proofs.Logged.{actLent}
-use Rattle.requests.specs.Logged.{GivesLogged, loggedAfter}
-use Rattle.requests.specs.Request.{call, Setting}
-use Rattle.rights.proofs.Logged.{logged-call-by, logged-without-by}
-use Rattle.rights.specs.Logged.{AdmittedWithBy, LoggedBy}
-use Rattle.rights.specs.Party.{Party}
+use Rattle.requests.proofs.Logged.{actLent, logged-call, logged-without}
+use Rattle.requests.specs.Logged.{AdmittedWith, GivesLogged, LoggedAfter}
+use Rattle.requests.specs.Request.{call, Setting, loggedAfter}
 use Rattle.rules.specs.Calls.{Answer, Call, only}
 use Rattle.rules.specs.Levels.{Limits}
 use Rattle.store.specs.Store.{given}
@@ -50,22 +47,22 @@ call-empties false id = morning-empties id
 
 -- ---- with a log, or without
 
-module _ {actor : Party} {g : Setting} {l s : List ℕ} {number : ℕ} {limits : Limits} where
-  pub called-without : (lent : Bool) {c : Call} {a : Answer} {t : List ℕ} → lent ≡ false → AdmittedWithBy actor g (given lent l) s number limits → CalledAfter number limits s c a t
-      → LoggedBy actor (actLent g (given lent l) (call c)) s a t l l
+module _ {n : ℕ} {g : Setting} {l s : List ℕ} {number : ℕ} {limits : Limits} where
+  pub called-without : (lent : Bool) {c : Call} {a : Answer} {t : List ℕ} → lent ≡ false → AdmittedWith n g (given lent l) s number limits → CalledAfter number limits s c a t
+      → LoggedAfter n (actLent g (given lent l) (call c)) s a t l l
   unfolding given
   called-without true e d k = absurd (subst T e tt)
-  called-without false e d k = logged-without-by d k
+  called-without false e d k = logged-without d k
 
-  pub called-with : (lent : Bool) {c : Call} {a : Answer} {t m : List ℕ} → lent ≡ true → AdmittedWithBy actor g (given lent l) s number limits → GivesLogged (loggedAfter number limits l s c) a t m
-      → LoggedBy actor (actLent g (given lent l) (call c)) s a t l m
+  pub called-with : (lent : Bool) {c : Call} {a : Answer} {t m : List ℕ} → lent ≡ true → AdmittedWith n g (given lent l) s number limits → GivesLogged (loggedAfter number limits l s c) a t m
+      → LoggedAfter n (actLent g (given lent l) (call c)) s a t l m
   unfolding given
-  called-with true e d k = logged-call-by d k
+  called-with true e d k = logged-call d k
   called-with false e d k = absurd (subst T (sym e) tt)
 
-  pub reduction-logged : {id : ℕ} {a : Answer} {t m : List ℕ} (lent : Bool) → AdmittedWithBy actor g (given lent l) s number limits → ReducedWith lent number limits l s id a t m
-      → LoggedBy actor (actLent g (given lent l) (call (reductionOf id))) s a t l m
+  pub reduction-logged : {id : ℕ} {a : Answer} {t m : List ℕ} (lent : Bool) → AdmittedWith n g (given lent l) s number limits → ReducedWith lent number limits l s id a t m
+      → LoggedAfter n (actLent g (given lent l) (call (reductionOf id))) s a t l m
   unfolding given
   reduction-logged {id} {a} {t} {m} false d k =
-      subst (λ (x : List ℕ). LoggedBy actor (actLent g (given false l) (call (reductionOf id))) s a t l x) (sym (k .stays refl)) (logged-without-by d (k .without refl))
-  reduction-logged true d k = logged-call-by d (k .within refl)
+      subst (λ (x : List ℕ). LoggedAfter n (actLent g (given false l) (call (reductionOf id))) s a t l x) (sym (k .stays refl)) (logged-without d (k .without refl))
+  reduction-logged true d k = logged-call d (k .within refl)

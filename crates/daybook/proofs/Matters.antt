@@ -1,37 +1,28 @@
--- Whose the matter of a call is, as its opening questions were asked. Assumes nothing.
-use mathlib.Core.Bool.{Bool, true, false, cond}
+-- Whose the matter of a call is, by the number that the code passes on: an id has 32 bits, and the operator's number none of them. Assumes nothing.
+use mathlib.Core.Bool.{Bool, true, false}
 use mathlib.Core.List.{List}
-use mathlib.Core.Path.{_≡_, refl, subst, sym}
+use mathlib.Core.Path.{_≡_, subst}
 use Prim.Native.Nat.{ℕ, _<_}
 use native.Mathlib.Omega.{arith}
 use borrow.Author.Tests.{ne-eqb}
 use Rattle.rules.specs.Levels.{Limits}
-use Rattle.rules.specs.Queries.{afternoonLevelOf, morningLevelOf, shownRecord}
+use Rattle.requests.specs.Carried.{Admitted}
 use Rattle.requests.specs.Request.{Setting}
 use Rattle.call_level.specs.Times.{queryOf}
-use Rattle.rights.specs.Acting.{AdmittedBy}
-use Rattle.rights.specs.Trades.{Asking, idOf}
-use Rattle.rights.specs.Party.{Party, Matter, matterBy, matterOf, operators, own}
+use Rattle.rights.specs.Acting.{enteringNumber}
+use Rattle.rights.specs.Party.{Party, Matter, matterBy, matterOf, own}
 
-module _ {actor : Party} {g : Setting} {s : List ℕ} {number : ℕ} {limits : Limits} where
-  -- the operator's
-  pub of-operator : AdmittedBy actor (matterBy 4294967296) g s number limits → AdmittedBy actor operators g s number limits
-  unfolding matterBy
-  of-operator d = d
+-- an id's own
+matter-own : (id : ℕ) → id < 4294967296 → matterBy id ≡ own id
+unfolding matterBy
+matter-own id h = let e = ne-eqb id 4294967296 (λ z. omega (arith, z)) in rw e
 
-  -- an id's own
-  of-id : (id : ℕ) → id < 4294967296 → AdmittedBy actor (matterBy id) g s number limits → AdmittedBy actor (own id) g s number limits
-  unfolding matterBy
-  of-id id h d = let e = ne-eqb id 4294967296 (λ z. omega (arith, z)) in rw e at d
+module _ (actor : Party) {g : Setting} {s : List ℕ} {number : ℕ} {limits : Limits} where
+  pub of-id : (id : ℕ) → id < 4294967296 → Admitted (enteringNumber actor (matterBy id) s) g s number limits → Admitted (enteringNumber actor (own id) s) g s number limits
+  of-id id h d = subst (λ (m : Matter). Admitted (enteringNumber actor m s) g s number limits) (matter-own id h) d
 
-  pub of-level : (afternoon : Bool) (id : ℕ) → id < 4294967296 → AdmittedBy actor (matterBy id) g s number limits → AdmittedBy actor (matterOf (queryOf afternoon id)) g s number limits
+  pub of-level : (afternoon : Bool) (id : ℕ) → id < 4294967296 → Admitted (enteringNumber actor (matterBy id) s) g s number limits
+      → Admitted (enteringNumber actor (matterOf (queryOf afternoon id)) s) g s number limits
   unfolding matterOf
   of-level true id h d = of-id id h d
   of-level false id h d = of-id id h d
-
-  pub of-record : (id : ℕ) → id < 4294967296 → AdmittedBy actor (matterBy id) g s number limits → AdmittedBy actor (matterOf (shownRecord id)) g s number limits
-  unfolding matterOf
-  of-record id h d = of-id id h d
-
-  pub of-asking : (a : Asking) → idOf a < 4294967296 → AdmittedBy actor (matterBy (idOf a)) g s number limits → AdmittedBy actor (own (idOf a)) g s number limits
-  of-asking a h d = of-id (idOf a) h d

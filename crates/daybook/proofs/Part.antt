@@ -13,12 +13,12 @@ use Rattle.rules.specs.Queries.{Reply, aRecord, aboutQuery, found, onlyNumber, 
 use Rattle.rules.specs.Questions.{decided, numberOf, refusal}
 use Rattle.book_format.specs.After.{after, replyAfter}
 use Rattle.book_format.specs.Book.{bookOf}
-use Rattle.requests.specs.Carried.{partAt, partShown}
+use Rattle.requests.specs.Carried.{Admitted, partAt, partShown}
 use Rattle.requests.specs.Request.{Setting}
 use Rattle.rights.proofs.Replied.{replied-by, told-by}
 use Rattle.rights.specs.Trades.{Told, TradeHanded, idOf, tradeOf}
 use Rattle.call_told.specs.Told.{TradeAfter}
-use Rattle.rights.specs.Acting.{AdmittedBy, HandedBy}
+use Rattle.rights.specs.Acting.{HandedBy, enteringNumber}
 use Rattle.rights.specs.Party.{Party, matterOf, own}
 use Rattle.call_show.specs.Shown.{PartAfter, ShownAfter, showing}
 
@@ -45,11 +45,11 @@ module _ (actor : Party) (g : Setting) (s : List ℕ) (id opened : ℕ) where
       go zero none = refl
       go zero (some n) = refl
 
-  pub handed : {limits : Limits} {number : ℕ} {part : List ℕ} {book place : ℕ × ℕ} → AdmittedBy actor (matterOf (shownRecord id)) g s opened limits → ShownAfter opened s id number part → PartAfter opened s id book place → HandedBy actor g s id number part book place
-  unfolding partShown partAt
+  pub handed : {limits : Limits} {number : ℕ} {part : List ℕ} {book place : ℕ × ℕ} → Admitted (enteringNumber actor (own id) s) g s opened limits → ShownAfter opened s id number part → PartAfter opened s id book place → HandedBy actor g s id number part book place
+  unfolding partShown partAt matterOf
   handed {limits} {book = book} d shown at =
       record {
-        asked = shown .asked ∙ asked-number limits ∙ ap (λ (r : Reply). r .number) (replied-by actor g s (shownRecord id) d);
+        asked = shown .asked ∙ asked-number limits ∙ ap (λ (r : Reply). r .number) (replied-by (shownRecord id) d);
         shows = shown .shows ∙ by-number (λ n. []) _ (shown .asked);
         block = at .block;
         offset = at .offset ∙ ap (λ (n : ℕ). book .1 + n) (by-number (λ n. 0) _ (shown .asked));
@@ -57,10 +57,11 @@ module _ (actor : Party) (g : Setting) (s : List ℕ) (id opened : ℕ) where
 
 -- a trade by ordinal after the opening questions is the part that its request hands back
 pub trade-handed : (actor : Party) (g : Setting) (s : List ℕ) (id ordinal : ℕ) {opened number : ℕ} {limits : Limits} {part : List ℕ} {book place : ℕ × ℕ}
-    → AdmittedBy actor (own (idOf (tradeOf id ordinal))) g s opened limits → TradeAfter opened s id ordinal number part book place
+    → Admitted (enteringNumber actor (own id) s) g s opened limits → TradeAfter opened s id ordinal number part book place
     → TradeHanded actor g s id ordinal number part book place
+unfolding idOf
 trade-handed actor g s id ordinal {limits = limits} d t =
-    let e = told-by actor g s (tradeOf id ordinal) d in
+    let e = told-by (tradeOf id ordinal) d in
     record {
       asked = t .asked limits ∙ ap (λ (r : Told). r .number) e;
       shows = t .shows limits ∙ ap (λ (r : Told). r .part) e;

@@ -1,7 +1,7 @@
 -- A shown part has at most 68 bytes; copied to a part of 68, with 0 behind it, it is the record or 68 times 0. Assumes nothing.
 use mathlib.Core.Path.{_≡_, _∙_, ap, ap₂, refl}
 use mathlib.Core.Bool.{Bool, true, false, cond}
-use mathlib.Core.List.{List, [], _∷_, _++_}
+use mathlib.Core.List.{List, [], _∷_}
 use mathlib.Core.Option.{Option, none, some}
 use Prim.Native.Nat.{ℕ, _≤_, suc, zero}
 use native.Mathlib.Omega.{arith}
@@ -17,10 +17,10 @@ use Rattle.book_records.specs.Trade as trade
 use Rattle.book_format.specs.Steps.{placeOf}
 use Rattle.requests.specs.Carried.{partShown}
 use Rattle.requests.specs.Request.{Setting, limitsOn}
-use Rattle.rights.specs.Acting.{HandedBy, openingBy}
+use Rattle.rights.specs.Acting.{HandedBy, openingNumberBy}
 use Rattle.rights.specs.Party.{Party, own}
 use Rattle.rights.specs.Seen.{tradesShown}
-use Rattle.rights.specs.Trades.{aboutUser, idOf, tells, toldBy, toldNumber, tradeOf}
+use Rattle.rights.specs.Trades.{aboutUser, idOf, tells, toldAfter, toldBy, toldIn, toldNumber, tradeOf}
 use Rattle.views.specs.Views.{seesTrade}
 use Rattle.book_image.specs.Image.{padded}
 use Rattle.exports.specs.Answers.{Copied}
@@ -54,12 +54,13 @@ part-length p (suc n) s k = go (p (take 20 s)) k (part-length p n (drop 20 s))
 
 -- what is told of a trade
 pub trade-length : (actor : Party) (g : Setting) (s : List ℕ) (id ordinal : ℕ) → length (toldBy actor g s (tradeOf id ordinal) .part) ≤ 20
-unfolding toldBy tells tradesShown decided toldNumber
-trade-length actor g s id ordinal = go (refusal (openingBy actor (own (idOf (tradeOf id ordinal))) g s ++ aboutUser (bookOf s) (idOf (tradeOf id ordinal))))
+unfolding idOf toldIn toldAfter tells tradesShown after decided toldNumber
+trade-length actor g s id ordinal = go (openingNumberBy actor (own id) g s) (refusal (aboutUser (bookOf s) id))
   where
-    go : (o : Option ℕ) → length (decided o toldNumber (tells (limitsOn g (bookOf s)) s (tradeOf id ordinal)) .part) ≤ 20
-    go none = part-length (λ c. seesTrade (usersOf s) id (trade.tradeOf c)) (tradeCount s) (drop (tradesAt s) s) ordinal
-    go (some n) = omega arith
+    go : (n : ℕ) (o : Option ℕ) → length (after n toldNumber (decided o toldNumber (tells (limitsOn g (bookOf s)) s (tradeOf id ordinal))) .part) ≤ 20
+    go zero none = part-length (λ c. seesTrade (usersOf s) id (trade.tradeOf c)) (tradeCount s) (drop (tradesAt s) s) ordinal
+    go zero (some m) = omega arith
+    go (suc n) o = omega arith
 
 -- a part of one place with its only number stored
 pub one-stored : (xs : List ℕ) (v : ℕ) → length xs ≡ 1 → set xs 0 v ≡ v ∷ []

@@ -9,7 +9,7 @@ use lib.IntN.{ℤ, _+ℤ_}
 use Rattle.book_format.proofs.Passed.{passed-of}
 use Rattle.book_format.proofs.Written.{bookOf-bytesOf}
 use Rattle.book_format.specs.Book.{bookOf, bytesOf}
-use Rattle.book_format.specs.Questions.{aboutBytes, aboutFields, aboutForm}
+use Rattle.book_format.specs.Questions.{aboutBytes, aboutFields, aboutForm, bookNumber}
 use Rattle.book_format.specs.Steps.{Called, inBytes, stepBytes}
 use Rattle.laws.proofs.Posting.{posting-sound}
 use Rattle.laws.proofs.Refusals.{append-yes, first-yes, number-none, numbered, refusal-next}
@@ -19,8 +19,7 @@ use Rattle.log_format.proofs.Noted.{posting-empties}
 use Rattle.requests.proofs.Emptied.{accepted-with, log-off, log-on, with-opening}
 use Rattle.requests.proofs.Passed.{passed-called, passed-carried}
 use Rattle.requests.specs.Carried.{Carried}
-use Rattle.requests.specs.Logged.{openingNumberWith}
-use Rattle.requests.specs.Request.{call, actOf, limitsOn, settingOf}
+use Rattle.requests.specs.Request.{call, actOf, limitsOn, openingWith, settingOf}
 use Rattle.rules.specs.Book.{Book, at, find}
 use Rattle.rules.specs.Calls.{posting, Answer, about, effect, entryInRange, idKnown, only}
 use Rattle.rules.specs.Changes.{change, posted, withUsers}
@@ -105,12 +104,12 @@ module _ (limits : Limits) {s : List ℕ} {id area : ℕ} {z : ℤ} where
 module _ (store : Option (List ℕ)) {log : Option (List ℕ)} {s : List ℕ} {id area : ℕ} {z : ℤ} where
   module _ {a : Answer} {t : List ℕ} (k : Carried (actOf store log (call (posting id area z))) s a t) (h : a .number ≡ 0) where
     -- the book, the store and the log pass their questions
-    pub opened : openingNumberWith (settingOf store) log s ≡ 0
+    pub opened : openingWith (bookNumber s) (settingOf store) log s ≡ 0
     opened = accepted-with (posting-empties id area z) (settingOf store) s k h
 
     as-called : Called (limitsOn (settingOf store) (bookOf s)) s (posting id area z) a t
     as-called =
-        passed-called (settingOf store) (posting id area z) s (with-opening (settingOf store) log s opened) (log-off (posting-empties id area z) (settingOf store) s opened k)
+        passed-called (settingOf store) (posting id area z) s (with-opening (bookNumber s) (settingOf store) log s opened) (log-off (posting-empties id area z) (settingOf store) s opened k)
 
     pub accepted : Accepted s id area z
     accepted = call-accepted (limitsOn (settingOf store) (bookOf s)) as-called h
@@ -124,7 +123,7 @@ module _ (store : Option (List ℕ)) {log : Option (List ℕ)} {s : List ℕ} {i
     book-left = ap bookOf bytes-left ∙ bookOf-bytesOf (postedBook id area z (bookOf s)) (sound-after accepted)
 
   -- where every question is answered by yes, the posting is accepted
-  pub carried : openingNumberWith (settingOf store) log s ≡ 0 → Accepted s id area z → Carried (actOf store log (call (posting id area z))) s (only 0) (bytesOf (postedBook id area z (bookOf s)))
+  pub carried : openingWith (bookNumber s) (settingOf store) log s ≡ 0 → Accepted s id area z → Carried (actOf store log (call (posting id area z))) s (only 0) (bytesOf (postedBook id area z (bookOf s)))
   carried e q =
       log-on (posting-empties id area z) (settingOf store) s e
-      (passed-carried (settingOf store) (posting id area z) s (with-opening (settingOf store) log s e) (call-made (limitsOn (settingOf store) (bookOf s)) q))
+      (passed-carried (settingOf store) (posting id area z) s (with-opening (bookNumber s) (settingOf store) log s e) (call-made (limitsOn (settingOf store) (bookOf s)) q))

@@ -10,9 +10,9 @@ use lib.Dec.{T, eqb→eq, leb→le}
 use lib.IntN.{ℤ, natAbs, _+ℤ_, +ℤ-assoc}
 use Rattle.book_format.proofs.Passed.{passed-of}
 use Rattle.book_format.specs.Book.{bookOf, bytesOf}
+use Rattle.book_format.specs.Questions.{bookNumber}
 use Rattle.requests.specs.Carried.{Carried}
-use Rattle.requests.specs.Logged.{openingNumberWith}
-use Rattle.requests.specs.Request.{call, Act, Request, actOf, settingOf}
+use Rattle.requests.specs.Request.{call, Act, Request, actOf, openingWith, settingOf}
 use Rattle.base.proofs.Linear.{abs-parts, parts-add, posPart-of}
 use Rattle.base.specs.Parts.{posPart, negPart}
 use Rattle.laws.proofs.Bounds.{entry-le}
@@ -54,7 +54,7 @@ module _ {store other log lent : Option (List ℕ)} {s t u : List ℕ} {id area 
       subst (λ (z : ℤ). T (within 1000000 z)) r q
 
   -- store and log are the same, and so is the book that is given
-  same-opening : openingNumberWith (settingOf store) log s ≡ 0
+  same-opening : openingWith (bookNumber s) (settingOf store) log s ≡ 0
   same-opening = opened store (w .first) (w .first-accepted)
 
   -- so the posting of the sum passes every question

@@ -24,36 +24,29 @@ use Rattle.log_format.proofs.Main.{runs-within}
 use Rattle.log_format.specs.Log.{entriesOf}
 use Rattle.log_format.specs.Noted.{callEntered, emptying, hasRoom, lastly, room}
 use Rattle.requests.proofs.Emptied.{about-numbered, with-opening}
-use Rattle.requests.proofs.Lines.{list-opened}
-use Rattle.requests.proofs.Logged.{actLent, call-logged, list-logged}
-use Rattle.requests.proofs.Opened.{outcome, request-opened}
-use Rattle.requests.proofs.Passed.{opening-book}
-use Rattle.requests.specs.Logged.{LogOnlyNotes, linesNumberWith, listWith, loggedAfter, openingNumberWith}
-use Rattle.requests.specs.Request.{call, Outcome, Setting, actBy, callIn, emptiedIn, enteredIn, limitsOn, linesIn, linesNumber, linesOf, refused, refusedWith, request, settingOf}
+use Rattle.requests.proofs.Logged.{actLent}
+use Rattle.requests.proofs.Opened.{opening-zero}
+use Rattle.requests.specs.Logged.{LogOnlyNotes, listWith}
+use Rattle.requests.specs.Request.{call, Outcome, Setting, actBy, actIn, actWith, callIn, emptiedIn, enteredIn, limitsOn, linesIn, linesOf, loggedAfter, opening, openingLines, openingWith, outcome, refusedGiven, request, requestAfter, settingOf, stepIn}
 
 pub accepted-lines : (store log : Option (List ℕ)) (ids areas : List ℕ) (amounts : List ℤ) (n : ℕ) (s : List ℕ) → request (listWith store log ids areas amounts n) s .answer ≡ only 0
     → (request (listWith store log ids areas amounts n) s .bytes ≡ linesIn (settingOf store) s ids areas amounts .bytes)
     × (request (listWith store log ids areas amounts n) s .numbers ≡ linesIn (settingOf store) s ids areas amounts .numbers)
-unfolding after refused refusedWith emptiedIn only
-accepted-lines store none ids areas amounts n s e = go (linesNumber (settingOf store) (linesOf ids areas amounts n) s) (list-opened store ids areas amounts n s)
+unfolding requestAfter actBy actIn actWith after refusedGiven emptiedIn only
+accepted-lines store log ids areas amounts n s e = of-log log e
   where
     gives : Outcome
     gives = linesIn (settingOf store) s ids areas amounts
 
-    go : (m : ℕ) → request (listWith store none ids areas amounts n) s ≡ after m (refused s) gives
-        → (request (listWith store none ids areas amounts n) s .bytes ≡ gives .bytes) × (request (listWith store none ids areas amounts n) s .numbers ≡ gives .numbers)
-    go zero k = (ap (λ (o : Outcome). o .bytes) k, ap (λ (o : Outcome). o .numbers) k)
-    go (suc m) k = absurd (let x : _≡_ {A = ℕ} 0 (suc m) = ap (λ (a : Answer). a .number) (sym e ∙ ap (λ (o : Outcome). o .answer) k) in omega arith)
-accepted-lines store (some l) ids areas amounts n s e =
-    go (linesNumberWith (settingOf store) (some l) (linesOf ids areas amounts n) s) (list-logged (settingOf store) l s (linesOf ids areas amounts n))
-  where
-    gives : Outcome
-    gives = linesIn (settingOf store) s ids areas amounts
+    by-number : (kept : Option (List ℕ)) (x : Outcome) → x .bytes ≡ gives .bytes → x .numbers ≡ gives .numbers → (m : ℕ) → after m (refusedGiven kept s) x .answer ≡ only 0
+        → (after m (refusedGiven kept s) x .bytes ≡ gives .bytes) × (after m (refusedGiven kept s) x .numbers ≡ gives .numbers)
+    by-number kept x b p zero k = (b, p)
+    by-number kept x b p (suc m) k = absurd (let z : _≡_ {A = ℕ} (suc m) 0 = ap (λ (a : Answer). a .number) k in omega arith)
 
-    go : (m : ℕ) → request (listWith store (some l) ids areas amounts n) s ≡ after m (refusedWith l s) (emptiedIn gives)
-        → (request (listWith store (some l) ids areas amounts n) s .bytes ≡ gives .bytes) × (request (listWith store (some l) ids areas amounts n) s .numbers ≡ gives .numbers)
-    go zero k = (ap (λ (o : Outcome). o .bytes) k, ap (λ (o : Outcome). o .numbers) k)
-    go (suc m) k = absurd (let x : _≡_ {A = ℕ} 0 (suc m) = ap (λ (a : Answer). a .number) (sym e ∙ ap (λ (o : Outcome). o .answer) k) in omega arith)
+    of-log : (log : Option (List ℕ)) → request (listWith store log ids areas amounts n) s .answer ≡ only 0
+        → (request (listWith store log ids areas amounts n) s .bytes ≡ gives .bytes) × (request (listWith store log ids areas amounts n) s .numbers ≡ gives .numbers)
+    of-log none k = by-number none gives refl refl (opening (openingLines (bookNumber s) (linesOf ids areas amounts n)) (settingOf store) s) k
+    of-log (some l) k = by-number (some l) (emptiedIn gives) refl refl (openingWith (openingLines (bookNumber s) (linesOf ids areas amounts n)) (settingOf store) (some l) s) k
 
 -- ---- calls
 
@@ -94,9 +87,9 @@ module _ (g : Setting) (l s : List ℕ) (c : Call) where
   unfolding stepAfter after decided
   step-none e = rw e
 
-  by-own : (o : Option ℕ) → refusal own ≡ o → bookNumber s ≡ 0 → let r = decided o (refusedWith l s) (enteredIn (callEntered limits (room l) (entriesOf s l) (bookOf s) c)) in
+  by-own : (o : Option ℕ) → refusal own ≡ o → bookNumber s ≡ 0 → let r = decided o (refusedGiven (some l) s) (enteredIn (callEntered limits (room l) (entriesOf s l) (bookOf s) c)) in
       r .answer .number ≡ 0 → (r .answer ≡ stepAfter 0 limits s c .answer) × (r .bytes ≡ stepAfter 0 limits s c .bytes)
-  unfolding own decided refusedWith enteredIn only inBytes numbered
+  unfolding own decided refusedGiven enteredIn only inBytes numbered
   by-own none e p h =
       let q = entered-effect limits (room l) (entriesOf s l) (bookOf s) c (passed s p .sound) h in
       let w = sym (step-none (append-yes (about limits (bookOf s) c) (lastly (room l) c) e .0)) in
@@ -106,28 +99,27 @@ module _ (g : Setting) (l s : List ℕ) (c : Call) where
   -- the call after its opening questions
   same-after : (n : ℕ) → (n ≡ 0 → bookNumber s ≡ 0) → let r = loggedAfter n limits l s c in
       r .answer .number ≡ 0 → (r .answer ≡ stepAfter n limits s c .answer) × (r .bytes ≡ stepAfter n limits s c .bytes)
-  unfolding loggedAfter after refusedWith only own
+  unfolding loggedAfter after refusedGiven only own
   same-after zero p h = by-own (refusal own) refl (p refl) h
   same-after (suc n) p h = absurd (omega arith)
 
   -- by the number of the opening questions, with the log and without it
-  same-by : (n : ℕ) → openingNumberWith g (some l) s ≡ n → let r = request (actLent g (some l) (call c)) s in
-      r .answer .number ≡ 0 → (r .answer ≡ request (callIn g c) s .answer) × (r .bytes ≡ request (callIn g c) s .bytes)
-  unfolding loggedAfter after refusedWith only outcome
+  same-by : (n : ℕ) → openingWith (bookNumber s) g (some l) s ≡ n → let r = loggedAfter n limits l s c in let w = stepAfter (opening (bookNumber s) g s) limits s c in
+      r .answer .number ≡ 0 → (r .answer ≡ w .answer) × (r .bytes ≡ w .bytes)
+  unfolding loggedAfter after refusedGiven only
   same-by zero e h =
-      let o = with-opening g (some l) s e in
-      let r : request (actLent g (some l) (call c)) s ≡ loggedAfter 0 limits l s c = call-logged g l s c ∙ ap (λ (n : ℕ). loggedAfter n limits l s c) e in
-      let w : request (callIn g c) s ≡ outcome (stepAfter 0 limits s c) = request-opened g s c ∙ ap (λ (n : ℕ). outcome (stepAfter n limits s c)) o in
-      let q = same-after 0 (λ z. opening-book g s o) (sym (ap (λ (x : Outcome). x .answer .number) r) ∙ h) in
-      (ap (λ (x : Outcome). x .answer) r ∙ q .0 ∙ sym (ap (λ (x : Outcome). x .answer) w), ap (λ (x : Outcome). x .bytes) r ∙ q .1 ∙ sym (ap (λ (x : Outcome). x .bytes) w))
-  same-by (suc n) e h =
-      absurd (let k : _≡_ {A = ℕ} (suc n) 0 = sym (ap (λ (x : Outcome). x .answer .number) (call-logged g l s c ∙ ap (λ (m : ℕ). loggedAfter m limits l s c) e)) ∙ h in omega arith)
+      let o = with-opening (bookNumber s) g (some l) s e in
+      let q = same-after 0 (λ z. opening-zero (bookNumber s) g s o) h in
+      let w = ap (λ (m : ℕ). stepAfter m limits s c) (sym o) in
+      (q .0 ∙ ap (λ (x : InBytes). x .answer) w, q .1 ∙ ap (λ (x : InBytes). x .bytes) w)
+  same-by (suc n) e h = absurd (omega arith)
+
+  same : let r = request (actLent g (some l) (call c)) s in r .answer .number ≡ 0 → (r .answer ≡ request (callIn g c) s .answer) × (r .bytes ≡ request (callIn g c) s .bytes)
+  unfolding requestAfter actBy actIn actWith stepIn outcome
+  same h =
+      let e = openingWith (bookNumber s) g (some l) s in
+      same-by e refl h
 
 pub log-only-notes : LogOnlyNotes
-unfolding request actBy
-log-only-notes =
-    record {
-      without = λ g s a. refl;
-      answer = λ g l s c h. same-by g l s c (openingNumberWith g (some l) s) refl h .0;
-      bytes = λ g l s c h. same-by g l s c (openingNumberWith g (some l) s) refl h .1;
-    }
+unfolding requestAfter actBy
+log-only-notes = record { without = λ g s a. refl; answer = λ g l s c h. same g l s c h .0; bytes = λ g l s c h. same g l s c h .1 }

@@ -1,29 +1,48 @@
 -- A whole cancellation after its opening questions, and what is claimed of an accepted one. Assumes nothing.
 use mathlib.Core.Bool.{Bool}
-use mathlib.Core.List.{List, _++_}
+use mathlib.Core.List.{List}
 use mathlib.Core.Option.{Option, none, some}
 use mathlib.Core.Path.{_≡_, _∙_, ap, refl, subst, sym}
 use Prim.Native.Nat.{ℕ, suc, zero, _-_, _≤_}
 use native.Mathlib.Omega.{arith}
 use lib.Dec.{T, leb, leb→le, ltb, ltb→lt}
 use Rattle.laws.proofs.Refusals.{append-yes, first-yes, numbered, refusal-is}
-use Rattle.base.proofs.Tests.{all-append, and-l}
+use Rattle.base.proofs.Tests.{and-l}
 use Rattle.rules.specs.Book.{Book, User, find}
 use Rattle.rules.specs.Calls.{about, assignedFallsShort, calledInBeyondMargin, eligibleTrade, idKnown, isShipper, reduction}
 use Rattle.rules.specs.Levels.{Limits}
 use Rattle.base.specs.Lists.{all}
 use Rattle.rules.specs.Questions.{Question, decided, refusal}
 use Rattle.rules.specs.Reduction.{eligible, target}
-use Rattle.book_format.proofs.After.{asked-after}
 use Rattle.book_format.specs.After.{after}
 use Rattle.book_format.specs.Book.{bookOf}
+use Rattle.book_format.specs.Questions.{bookNumber}
 use Rattle.cut_sets.specs.Places.{marksAt, setNumber, worthIn}
 use Rattle.cut_sets.proofs.Places.{place-claim, place-more-tries}
 use Rattle.cut_sets.proofs.Reading.{every-set}
-use Rattle.requests.proofs.Opened.{opening-numbered}
-use Rattle.requests.specs.Cancellation.{Cancellation, CancellationClaim, CancelledSet, CancelledSetClaim, Cancels, MoreTries, aboutCancellation, cancellation, cancellationAfter, cancelled, cancelledFor, marksOf, notCancelled, searchFor, setWorth, triesInRange, wholeWorth, worthSuffices}
+use Rattle.requests.specs.Cancellation.{
+  Cancellation,
+  CancellationClaim,
+  CancelledSet,
+  CancelledSetClaim,
+  Cancels,
+  MoreTries,
+  aboutCancellation,
+  cancellation,
+  cancellationAfter,
+  cancellationIn,
+  cancelled,
+  cancelledFor,
+  marksOf,
+  notCancelled,
+  searchFor,
+  setWorth,
+  triesInRange,
+  wholeWorth,
+  worthSuffices,
+}
 use Rattle.requests.specs.Carried.{Admitted}
-use Rattle.requests.specs.Request.{Setting, limitsOn, opening, openingNumber}
+use Rattle.requests.specs.Request.{Setting, limitsOn, opening}
 
 -- ---- after the opening questions
 
@@ -34,14 +53,9 @@ cancellation-same zero s id tries h = ap (λ (k : Limits). cancellationAfter 0 k
 cancellation-same (suc n) s id tries h = refl
 
 -- a public call, from what asked its opening questions and the contract of the inner call
-pub cancellation-opened : (g : Setting) (s : List ℕ) (id tries : ℕ) {number : ℕ} {limits : Limits} → Admitted g s number limits → cancellationAfter number limits s id tries ≡ cancellation g s id tries
-unfolding cancellation cancellationAfter openingNumber
-cancellation-opened g s id tries {number} {limits} d =
-    let b = bookOf s in
-    let l = limitsOn g b in
-    cancellation-same number s id tries (d .taken)
-    ∙ ap (λ (n : ℕ). cancellationAfter n l s id tries) (d .asked)
-    ∙ sym (asked-after notCancelled (cancelled l b (find (b .users) id) tries) (opening g s) (aboutCancellation l b id tries) (opening-numbered g s))
+pub cancellation-opened : {n : ℕ} {g : Setting} {s : List ℕ} (id tries : ℕ) {number : ℕ} {limits : Limits} → Admitted n g s number limits → cancellationAfter number limits s id tries ≡ cancellationIn n g s id tries
+unfolding cancellationIn
+cancellation-opened {g = g} {s} id tries {number} d = cancellation-same number s id tries (d .taken) ∙ ap (λ (k : ℕ). cancellationAfter k (limitsOn g (bookOf s)) s id tries) (d .asked)
 
 -- ---- an accepted one
 
@@ -49,30 +63,35 @@ module _ (g : Setting) (s : List ℕ) (id tries : ℕ) where
   abbrev limits : Limits
   limits = limitsOn g (bookOf s)
 
-  asks : List Question
-  asks = opening g s ++ aboutCancellation limits (bookOf s) id tries
+  own : List Question
+  own = aboutCancellation limits (bookOf s) id tries
 
-  asks-numbered : T (numbered asks)
-  unfolding asks numbered aboutCancellation triesInRange about idKnown isShipper calledInBeyondMargin assignedFallsShort eligibleTrade worthSuffices all
-  asks-numbered = all-append (λ q. ltb 0 (q .number)) (opening g s) (aboutCancellation limits (bookOf s) id tries) (opening-numbered g s) tt
+  own-numbered : T (numbered own)
+  unfolding own numbered aboutCancellation triesInRange about idKnown isShipper calledInBeyondMargin assignedFallsShort eligibleTrade worthSuffices all
+  own-numbered = tt
 
   -- no question refuses it
-  none-refuses : cancellation g s id tries .number ≡ 0 → refusal asks ≡ none
-  unfolding cancellation asks numbered decided notCancelled
-  none-refuses h = go (refusal asks) refl h
+  none-refuses : (k : ℕ) → cancellationAfter k limits s id tries .number ≡ 0 → (k ≡ 0) × (refusal own ≡ none)
+  unfolding cancellationAfter after own numbered decided notCancelled
+  none-refuses zero h = (refl, go (refusal own) refl h)
     where
-      go : (o : Option ℕ) → refusal asks ≡ o → decided o notCancelled (cancelled limits (bookOf s) (find (bookOf s .users) id) tries) .number ≡ 0 → o ≡ none
+      go : (o : Option ℕ) → refusal own ≡ o → decided o notCancelled (cancelled limits (bookOf s) (find (bookOf s .users) id) tries) .number ≡ 0 → o ≡ none
       go none e k = refl
-      go (some n) e k = absurd (let l = ltb→lt 0 n (refusal-is (λ i. ltb 0 i) asks n asks-numbered e) in omega (arith, k))
+      go (some n) e k = absurd (let l = ltb→lt 0 n (refusal-is (λ i. ltb 0 i) own n own-numbered e) in omega (arith, k))
+  none-refuses (suc k) h = absurd (omega (arith, h))
 
   module _ (h : cancellation g s id tries .number ≡ 0) where
+    passes : (opening (bookNumber s) g s ≡ 0) × (refusal own ≡ none)
+    unfolding cancellationIn
+    passes = none-refuses (opening (bookNumber s) g s) h
+
     accepted-is : cancellation g s id tries ≡ cancelled limits (bookOf s) (find (bookOf s .users) id) tries
-    unfolding cancellation decided asks
-    accepted-is = rw (none-refuses h)
+    unfolding cancellationIn cancellationAfter decided after own
+    accepted-is = rw (passes .0, passes .1)
 
     own-none : refusal (aboutCancellation limits (bookOf s) id tries) ≡ none
-    unfolding asks
-    own-none = append-yes (opening g s) (aboutCancellation limits (bookOf s) id tries) (none-refuses h) .1
+    unfolding own
+    own-none = passes .1
 
     some-tries : 1 ≤ tries
     unfolding aboutCancellation triesInRange

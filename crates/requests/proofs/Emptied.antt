@@ -16,18 +16,19 @@ use Rattle.rules.specs.Levels.{Limits}
 use Rattle.rules.specs.Questions.{Question, decided, refusal}
 use Rattle.book_format.specs.After.{CalledAfter, after, stepAfter, unchanged}
 use Rattle.book_format.specs.Book.{bookOf, bytesOf}
+use Rattle.book_format.specs.Questions.{bookNumber}
 use Rattle.book_format.specs.Steps.{InBytes, inBytes}
 use Rattle.store.specs.Store.{given}
 use Rattle.log_format.proofs.Noted.{Empties}
 use Rattle.log_format.specs.Fits.{logNumber}
 use Rattle.log_format.specs.Log.{entriesOf, logBytes}
 use Rattle.log_format.specs.Noted.{Entered, callEntered, emptiedBy, emptying, room}
-use Rattle.requests.proofs.Lines.{lines-answer, list-opened}
-use Rattle.requests.proofs.Logged.{actLent, call-logged, lines-log, lines-without, list-logged, logged-call, logged-without, with-number, without-number}
-use Rattle.requests.proofs.Opened.{outcome, request-opened}
+use Rattle.requests.proofs.Lines.{lines-answer}
+use Rattle.requests.proofs.Logged.{actLent, lines-log, logged-call, logged-without, without-number}
+use Rattle.requests.proofs.Opened.{first-zero}
 use Rattle.requests.specs.Carried.{Carried}
-use Rattle.requests.specs.Logged.{AdmittedWith, Logged, Posted, lentLog, linesNumberWith, listWith, loggedAfter, openingNumberWith}
-use Rattle.requests.specs.Request.{call, Lines, Outcome, Setting, callIn, emptiedIn, enteredIn, limitsOn, linesIn, linesOf, openingNumber, refused, refusedWith, request, settingOf}
+use Rattle.requests.specs.Logged.{AdmittedWith, LoggedAfter, PostedAfter, lentLog, listWith}
+use Rattle.requests.specs.Request.{call, Lines, Outcome, Setting, actBy, actIn, actWith, callIn, emptiedIn, enteredIn, limitsOn, linesIn, linesOf, loggedAfter, opening, openingLines, openingWith, outcome, refusedGiven, request, requestAfter, settingOf, stepIn}
 
 -- no question of a call has the number 0
 pub about-numbered : (limits : Limits) (b : Book) (c : Call) → T (numbered (about limits b c))
@@ -46,8 +47,8 @@ withEmptied l x = record { answer = x .answer; numbers = []; bytes = x .bytes; l
 
 module _ {c : Call} (e : Empties c) where
   decided-emptied : (limits : Limits) (l s : List ℕ) (o : Option ℕ) → refusal (about limits (bookOf s) c) ≡ o
-      → decided o (refusedWith l s) (enteredIn (emptying (effect limits (bookOf s) c))) ≡ withEmptied l (decided o (unchanged s) (inBytes (effect limits (bookOf s) c)))
-  unfolding decided enteredIn emptying inBytes refusedWith unchanged withEmptied only after numbered
+      → decided o (refusedGiven (some l) s) (enteredIn (emptying (effect limits (bookOf s) c))) ≡ withEmptied l (decided o (unchanged s) (inBytes (effect limits (bookOf s) c)))
+  unfolding decided enteredIn emptying inBytes refusedGiven unchanged withEmptied only after numbered
   decided-emptied limits l s none k =
       let r = effect limits (bookOf s) c in
       ap (λ (n : ℕ). record { answer = r .answer; numbers = []; bytes = bytesOf (r .book); log = some (after n (λ i. l) (logBytes [] (bytesOf (r .book)))) }) (sym (e .number limits (bookOf s)))
@@ -56,21 +57,22 @@ module _ {c : Call} (e : Empties c) where
   decided-emptied limits l s (some (suc n)) k = refl
 
   emptied-after : (number : ℕ) (limits : Limits) (l s : List ℕ) → loggedAfter number limits l s c ≡ withEmptied l (stepAfter number limits s c)
-  unfolding loggedAfter stepAfter after refusedWith unchanged withEmptied only
+  unfolding loggedAfter stepAfter after refusedGiven unchanged withEmptied only
   emptied-after (suc n) limits l s = refl
   emptied-after zero limits l s =
-      ap (λ (qs : List Question). decided (refusal (about limits (bookOf s) c ++ qs)) (refusedWith l s) (enteredIn (callEntered limits (room l) (entriesOf s l) (bookOf s) c))) (e .last (room l))
-      ∙ ap (λ (qs : List Question). decided (refusal qs) (refusedWith l s) (enteredIn (callEntered limits (room l) (entriesOf s l) (bookOf s) c))) (append-nil (about limits (bookOf s) c))
-      ∙ ap (λ (x : Entered). decided (refusal (about limits (bookOf s) c)) (refusedWith l s) (enteredIn x)) (e .entered limits (room l) (entriesOf s l) (bookOf s))
+      ap (λ (qs : List Question). decided (refusal (about limits (bookOf s) c ++ qs)) (refusedGiven (some l) s) (enteredIn (callEntered limits (room l) (entriesOf s l) (bookOf s) c))) (e .last (room l))
+      ∙ ap (λ (qs : List Question). decided (refusal qs) (refusedGiven (some l) s) (enteredIn (callEntered limits (room l) (entriesOf s l) (bookOf s) c))) (append-nil (about limits (bookOf s) c))
+      ∙ ap (λ (x : Entered). decided (refusal (about limits (bookOf s) c)) (refusedGiven (some l) s) (enteredIn x)) (e .entered limits (room l) (entriesOf s l) (bookOf s))
       ∙ decided-emptied limits l s (refusal (about limits (bookOf s) c)) refl
 
-  pub logged-emptied : {g : Setting} {s : List ℕ} {number : ℕ} {limits : Limits} {a : Answer} {t l m : List ℕ} (lent : Bool) → AdmittedWith g (given lent l) s number limits → CalledAfter number limits s c a t
-      → m ≡ emptiedBy lent (a .number) t l → Logged (actLent g (given lent l) (call c)) s a t l m
+  pub logged-emptied : {n : ℕ} {g : Setting} {s : List ℕ} {number : ℕ} {limits : Limits} {a : Answer} {t l m : List ℕ} (lent : Bool) → AdmittedWith n g (given lent l) s number limits
+      → CalledAfter number limits s c a t → m ≡ emptiedBy lent (a .number) t l → LoggedAfter n (actLent g (given lent l) (call c)) s a t l m
   unfolding given emptiedBy withEmptied
-  logged-emptied {g} {s} {number} {limits} {a} {t} {l} {m} false d k h = subst (λ (x : List ℕ). Logged (actLent g none (call c)) s a t l x) (sym h) (logged-without d k)
-  logged-emptied {g} {s} {number} {limits} {a} {t} {l} {m} true d k h =
+  logged-emptied {n} {g} {s} {number} {limits} {a} {t} {l} {m} false d k h =
+      subst (λ (x : List ℕ). LoggedAfter n (actLent g none (call c)) s a t l x) (sym h) (logged-without d k)
+  logged-emptied {n} {g} {s} {number} {limits} {a} {t} {l} {m} true d k h =
       let e = sym (emptied-after number limits l s) in
-      let emptied = ap (λ (n : ℕ). after n (λ i. l) (logBytes [] t)) (ap (λ (r : Answer). r .number) (k .answer))
+      let emptied = ap (λ (i : ℕ). after i (λ j. l) (logBytes [] t)) (ap (λ (r : Answer). r .number) (k .answer))
       ∙ ap (λ (x : List ℕ). after (stepAfter number limits s c .answer .number) (λ i. l) (logBytes [] x)) (k .bytes) in
       logged-call d (record {
         answer = k .answer ∙ ap (λ (o : Outcome). o .answer) e;
@@ -80,66 +82,59 @@ module _ {c : Call} (e : Empties c) where
 
 -- ---- lists
 
--- a refusal and an accepted list, with a lent log that is given or not
-refusedLent : Bool → List ℕ → List ℕ → ℕ → Outcome
-refusedLent true l s = refusedWith l s
-refusedLent false l s = refused s
-
+-- an accepted list, with a lent log that is given or not
 emptiedLent : Bool → Outcome → Outcome
 emptiedLent true o = emptiedIn o
 emptiedLent false o = o
 
-module _ (store : Option (List ℕ)) (ids areas : List ℕ) (amounts : List ℤ) (places s l : List ℕ) where
+module _ (n : ℕ) (store : Option (List ℕ)) (ids areas : List ℕ) (amounts : List ℤ) (places s l : List ℕ) where
   abbrev lines : Lines
   lines = linesOf ids areas amounts (length places)
 
   abbrev gives : Outcome
   gives = linesIn (settingOf store) s ids areas amounts
 
-  list-lent : (lent : Bool) → request (listWith store (given lent l) ids areas amounts (length places)) s
-      ≡ after (linesNumberWith (settingOf store) (given lent l) lines s) (refusedLent lent l s) (emptiedLent lent gives)
-  unfolding given refusedLent emptiedLent
-  list-lent true = list-logged (settingOf store) l s lines
-  list-lent false =
-      list-opened store ids areas amounts (length places) s ∙ ap (λ (n : ℕ). after n (refused s) gives) (sym (lines-without (settingOf store) lines s))
+  list-lent : (lent : Bool) → requestAfter n (listWith store (given lent l) ids areas amounts (length places)) s
+      ≡ after (openingWith (openingLines n lines) (settingOf store) (given lent l) s) (refusedGiven (given lent l) s) (emptiedLent lent gives)
+  unfolding given emptiedLent requestAfter actBy actIn actWith
+  list-lent true = refl
+  list-lent false = ap (λ (i : ℕ). after i (refusedGiven none s) gives) (sym (without-number (openingLines n lines) (settingOf store) s))
 
-  by-answer : (n : ℕ) (lent : Bool) → only n ≡ after n (refusedLent lent l s) (emptiedLent lent gives) .answer
-  unfolding after refusedLent emptiedLent refused refusedWith emptiedIn
+  by-answer : (k : ℕ) (lent : Bool) → only k ≡ after k (refusedGiven (given lent l) s) (emptiedLent lent gives) .answer
+  unfolding after emptiedLent refusedGiven emptiedIn
   by-answer zero true = sym (lines-answer (settingOf store) s ids areas amounts)
   by-answer zero false = sym (lines-answer (settingOf store) s ids areas amounts)
-  by-answer (suc n) true = refl
-  by-answer (suc n) false = refl
+  by-answer (suc k) lent = refl
 
-  by-bytes : (n : ℕ) (lent : Bool) → after n (λ i. s) (gives .bytes) ≡ after n (refusedLent lent l s) (emptiedLent lent gives) .bytes
-  unfolding after refusedLent emptiedLent refused refusedWith emptiedIn
+  by-bytes : (k : ℕ) (lent : Bool) → after k (λ i. s) (gives .bytes) ≡ after k (refusedGiven (given lent l) s) (emptiedLent lent gives) .bytes
+  unfolding after emptiedLent refusedGiven emptiedIn
   by-bytes zero true = refl
   by-bytes zero false = refl
-  by-bytes (suc n) true = refl
-  by-bytes (suc n) false = refl
+  by-bytes (suc k) lent = refl
 
-  by-numbers : (n : ℕ) (lent : Bool) → after n (λ i. places) (gives .numbers) ≡ after n (λ i. places) (after n (refusedLent lent l s) (emptiedLent lent gives) .numbers)
+  by-numbers : (k : ℕ) (lent : Bool) → after k (λ i. places) (gives .numbers) ≡ after k (λ i. places) (after k (refusedGiven (given lent l) s) (emptiedLent lent gives) .numbers)
   unfolding after emptiedLent emptiedIn
   by-numbers zero true = refl
   by-numbers zero false = refl
-  by-numbers (suc n) lent = refl
+  by-numbers (suc k) lent = refl
 
-  by-log : (n : ℕ) (lent : Bool) (t : List ℕ) → t ≡ after n (λ i. s) (gives .bytes) → emptiedBy lent n t l ≡ lentLog (after n (refusedLent lent l s) (emptiedLent lent gives) .log) l
-  unfolding after refusedLent emptiedLent refused refusedWith emptiedIn emptiedBy lentLog
+  by-log : (k : ℕ) (lent : Bool) (t : List ℕ) → t ≡ after k (λ i. s) (gives .bytes) → emptiedBy lent k t l ≡ lentLog (after k (refusedGiven (given lent l) s) (emptiedLent lent gives) .log) l
+  unfolding after given emptiedLent refusedGiven emptiedIn emptiedBy lentLog
   by-log zero true t e = ap (logBytes []) e
   by-log zero false t e = sym (ap (λ (o : Option (List ℕ)). lentLog o l) (lines-log (settingOf store) s ids areas amounts))
-  by-log (suc n) true t e = refl
-  by-log (suc n) false t e = refl
+  by-log (suc k) true t e = refl
+  by-log (suc k) false t e = refl
 
   -- a public list, from the number of its opening questions, what the inner list leaves, and the log emptied where it is accepted
   pub posted-list : {number : ℕ} {t left m : List ℕ} (lent : Bool)
-      → number ≡ linesNumberWith (settingOf store) (given lent l) lines s
-      → t ≡ after number (λ n. s) (gives .bytes)
-      → left ≡ after number (λ n. places) (gives .numbers)
+      → number ≡ openingWith (openingLines n lines) (settingOf store) (given lent l) s
+      → t ≡ after number (λ i. s) (gives .bytes)
+      → left ≡ after number (λ i. places) (gives .numbers)
       → m ≡ emptiedBy lent number t l
-      → Posted store (given lent l) ids areas amounts places s number t left l m
+      → PostedAfter n store (given lent l) ids areas amounts places s number t left l m
   posted-list {number} {t} {left} {m} lent e b p k =
-      let whole : request (listWith store (given lent l) ids areas amounts (length places)) s ≡ after number (refusedLent lent l s) (emptiedLent lent gives)
-      = list-lent lent ∙ ap (λ (n : ℕ). after n (refusedLent lent l s) (emptiedLent lent gives)) (sym e) in
+      let whole : requestAfter n (listWith store (given lent l) ids areas amounts (length places)) s ≡ after number (refusedGiven (given lent l) s) (emptiedLent lent gives)
+      = list-lent lent ∙ ap (λ (i : ℕ). after i (refusedGiven (given lent l) s) (emptiedLent lent gives)) (sym e) in
       record {
         logged = record {
           carried = record {
@@ -148,58 +143,54 @@ module _ (store : Option (List ℕ)) (ids areas : List ℕ) (amounts : List ℤ)
           };
           log = k ∙ by-log number lent t b ∙ sym (ap (λ (o : Outcome). lentLog (o .log) l) whole);
         };
-        beside = p ∙ by-numbers number lent ∙ ap (λ (o : Outcome). after number (λ n. places) (o .numbers)) (sym whole);
+        beside = p ∙ by-numbers number lent ∙ ap (λ (o : Outcome). after number (λ i. places) (o .numbers)) (sym whole);
       }
 
 -- ---- an accepted call that empties the log answers and leaves the book as without one
 
--- where two parts of questions have the number 0, the first has
-first-zero : (n k : ℕ) → after n (λ i. i) k ≡ 0 → n ≡ 0
-unfolding after
-first-zero zero k e = refl
-first-zero (suc n) k e = absurd (omega arith)
-
 -- who passes the opening questions with a log passes those without it
-pub with-opening : (g : Setting) (log : Option (List ℕ)) (s : List ℕ) → openingNumberWith g log s ≡ 0 → openingNumber g s ≡ 0
-with-opening g log s h = first-zero (openingNumber g s) (logNumber log s) (sym (with-number g log s) ∙ h)
+pub with-opening : (n : ℕ) (g : Setting) (log : Option (List ℕ)) (s : List ℕ) → openingWith n g log s ≡ 0 → opening n g s ≡ 0
+unfolding openingWith
+with-opening n g log s h = first-zero (opening n g s) (logNumber log s) h
 
 module _ {c : Call} (e : Empties c) (g : Setting) (s : List ℕ) where
-  abbrev stepWith : Option (List ℕ) → InBytes
-  stepWith log = stepAfter (openingNumberWith g log s) (limitsOn g (bookOf s)) s c
+  abbrev asked : Option (List ℕ) → ℕ
+  asked log = openingWith (bookNumber s) g log s
 
   -- the inner call after the opening questions
-  emptied-step : (log : Option (List ℕ)) → (request (actLent g log (call c)) s .answer ≡ stepWith log .answer) × (request (actLent g log (call c)) s .bytes ≡ stepWith log .bytes)
-  unfolding outcome withEmptied
+  emptied-step : (log : Option (List ℕ)) → let x = stepAfter (asked log) (limitsOn g (bookOf s)) s c in
+      (request (actLent g log (call c)) s .answer ≡ x .answer) × (request (actLent g log (call c)) s .bytes ≡ x .bytes)
+  unfolding requestAfter actBy actIn actWith stepIn outcome withEmptied
   emptied-step none =
-      let k = request-opened g s c ∙ ap (λ (n : ℕ). outcome (stepAfter n (limitsOn g (bookOf s)) s c)) (sym (without-number g s)) in
-      (ap (λ (o : Outcome). o .answer) k, ap (λ (o : Outcome). o .bytes) k)
+      let k = ap (λ (n : ℕ). stepAfter n (limitsOn g (bookOf s)) s c) (sym (without-number (bookNumber s) g s)) in
+      (ap (λ (o : InBytes). o .answer) k, ap (λ (o : InBytes). o .bytes) k)
   emptied-step (some l) =
-      let k = call-logged g l s c ∙ emptied-after e (openingNumberWith g (some l) s) (limitsOn g (bookOf s)) l s in
+      let k = emptied-after e (asked (some l)) (limitsOn g (bookOf s)) l s in
       (ap (λ (o : Outcome). o .answer) k, ap (λ (o : Outcome). o .bytes) k)
 
   module _ {log : Option (List ℕ)} {a : Answer} {t : List ℕ} where
     -- an accepted one passed its opening questions
-    pub accepted-with : Carried (actLent g log (call c)) s a t → a .number ≡ 0 → openingNumberWith g log s ≡ 0
+    pub accepted-with : Carried (actLent g log (call c)) s a t → a .number ≡ 0 → asked log ≡ 0
     unfolding stepAfter after unchanged only
-    accepted-with k h = go (openingNumberWith g log s) refl
+    accepted-with k h = go (asked log) refl
       where
-        go : (n : ℕ) → openingNumberWith g log s ≡ n → n ≡ 0
+        go : (n : ℕ) → asked log ≡ n → n ≡ 0
         go zero i = refl
         go (suc n) i =
             absurd (let x : _≡_ {A = ℕ} 0 (suc n) = sym h ∙ ap (λ (r : Answer). r .number) (k .answer ∙ emptied-step log .0 ∙ ap (λ (m : ℕ). stepAfter m (limitsOn g (bookOf s)) s c .answer) i) in omega arith)
 
     -- with its log and without it
-    pub log-off : openingNumberWith g log s ≡ 0 → Carried (actLent g log (call c)) s a t → Carried (callIn g c) s a t
+    pub log-off : asked log ≡ 0 → Carried (actLent g log (call c)) s a t → Carried (callIn g c) s a t
     log-off h k =
-        let n : openingNumberWith g log s ≡ openingNumberWith g none s = h ∙ sym (without-number g s ∙ with-opening g log s h) in
+        let n : asked log ≡ asked none = h ∙ sym (without-number (bookNumber s) g s ∙ with-opening (bookNumber s) g log s h) in
         record {
           answer = k .answer ∙ emptied-step log .0 ∙ ap (λ (m : ℕ). stepAfter m (limitsOn g (bookOf s)) s c .answer) n ∙ sym (emptied-step none .0);
           bytes = k .bytes ∙ emptied-step log .1 ∙ ap (λ (m : ℕ). stepAfter m (limitsOn g (bookOf s)) s c .bytes) n ∙ sym (emptied-step none .1);
         }
 
-    pub log-on : openingNumberWith g log s ≡ 0 → Carried (callIn g c) s a t → Carried (actLent g log (call c)) s a t
+    pub log-on : asked log ≡ 0 → Carried (callIn g c) s a t → Carried (actLent g log (call c)) s a t
     log-on h k =
-        let n : openingNumberWith g none s ≡ openingNumberWith g log s = without-number g s ∙ with-opening g log s h ∙ sym h in
+        let n : asked none ≡ asked log = without-number (bookNumber s) g s ∙ with-opening (bookNumber s) g log s h ∙ sym h in
         record {
           answer = k .answer ∙ emptied-step none .0 ∙ ap (λ (m : ℕ). stepAfter m (limitsOn g (bookOf s)) s c .answer) n ∙ sym (emptied-step log .0);
           bytes = k .bytes ∙ emptied-step none .1 ∙ ap (λ (m : ℕ). stepAfter m (limitsOn g (bookOf s)) s c .bytes) n ∙ sym (emptied-step log .1);

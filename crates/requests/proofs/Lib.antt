@@ -7,5 +7,6 @@ pub mod Cancellation
 pub mod Logged
 pub mod Emptied
 pub mod Accepted
+pub mod Order
 -- Figures at the boundaries of document 02's questions.
 pub mod Boundaries

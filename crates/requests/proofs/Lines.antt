@@ -1,74 +1,64 @@
 -- A list of postings after its opening questions, asked once: an accepted posting leaves a book that passes them again, so that asking them before each line gives the
 -- same. Assumes nothing.
 use mathlib.Core.Bool.{Bool, cond, true, false}
-use mathlib.Core.List.{List, [], _∷_, _++_, map}
+use mathlib.Core.List.{List, [], _∷_, map}
 use mathlib.Core.Option.{Option, none, some}
 use mathlib.Core.Path.{_≡_, _∙_, ap, ap₂, refl, sym}
-use Prim.Native.Nat.{ℕ, suc, zero}
+use Prim.Native.Nat.{ℕ}
 use native.Mathlib.Omega.{arith}
 use lib.Dec.{T, ltb, ltb→lt}
 use lib.IntN.{ℤ, _+ℤ_}
 use Rattle.fields.specs.Field.{AllBytes}
 use Rattle.laws.proofs.Posting.{posting-sound}
-use Rattle.laws.proofs.Refusals.{first-yes, numbered, refusal-is}
-use Rattle.base.proofs.Tests.{all-append, and-l, and-r}
+use Rattle.laws.proofs.Refusals.{first-yes, numbered}
+use Rattle.base.proofs.Tests.{and-l, and-r}
+use Rattle.base.specs.Lists.{all}
 use Rattle.laws.proofs.Changed.{keeps-party}
 use Rattle.laws.specs.Sound.{Sound}
 use Rattle.rules.specs.Book.{Book, Header, User, at, find}
 use Rattle.rules.specs.Calls.{about, effect, entryInRange, idKnown, only, posting}
 use Rattle.rules.specs.Changes.{change, posted, withUsers}
 use Rattle.rules.specs.Levels.{Limits}
-use Rattle.base.specs.Lists.{all}
 use Rattle.rules.specs.Questions.{decided, numberOf, refusal}
 use Rattle.rules.specs.Signed.{within}
-use Rattle.book_format.proofs.After.{number-after}
-use Rattle.book_format.proofs.Formed.{bytes-numbered}
 use Rattle.book_format.proofs.Passed.{passed}
 use Rattle.book_format.proofs.Written.{all-bytes-bytesOf, bookOf-bytesOf, written-number}
 use Rattle.book_format.specs.After.{after, stepAfter, unchanged}
 use Rattle.book_format.specs.Book.{bookOf}
-use Rattle.book_format.specs.Questions.{aboutBytes, bookNumber}
+use Rattle.book_format.specs.Questions.{bookNumber}
 use Rattle.book_format.specs.Steps.{inBytes}
 use Rattle.store.specs.Store.{storeNumber}
-use Rattle.requests.proofs.Opened.{opening-number, setting-numbered}
-use Rattle.requests.specs.Request.{Lines, Setting, aboutLines, aboutSetting, actBy, actIn, linesFit, linesIn, linesNumber, linesOf, listOf, openingLines, openingNumber, refused, request, settingOf, stepIn}
+use Rattle.requests.proofs.Opened.{first-zero, second-zero}
+use Rattle.requests.specs.Request.{Lines, Setting, aboutLines, firstOf, linesFit, linesIn, opening, openingLines, stepIn}
 
 -- ---- the opening questions
 
--- the number of question 15
-unfoldable pub fitNumber : Bool → ℕ
-fitNumber fits = cond fits 0 15
-
-pub lines-numbered : (g : Setting) (v : Lines) (s : List ℕ) → T (numbered (openingLines g v s))
-unfolding openingLines aboutLines numbered all
-lines-numbered g v s = all-append (λ q. ltb 0 (q .number)) (aboutBytes s) (aboutLines v ++ aboutSetting g (bookOf s)) (bytes-numbered s) (setting-numbered g (bookOf s))
-
--- that of the book's questions, or where it is 0 that of 15, or where it is 0 that of the store's
-pub lines-number : (g : Setting) (v : Lines) (s : List ℕ)
-    → linesNumber g v s ≡ after (bookNumber s) (λ n. n) (after (fitNumber (linesFit v)) (λ n. n) (storeNumber (g .store) (bookOf s .header .date)))
-unfolding linesNumber openingLines bookNumber aboutLines refusal storeNumber aboutSetting fitNumber after numberOf
-lines-number g v s =
-    number-after (aboutBytes s) (aboutLines v ++ aboutSetting g (bookOf s)) (bytes-numbered s)
-    ∙ ap (λ (n : ℕ). after (numberOf (refusal (aboutBytes s))) (λ m. m) n) fit
+-- 15 by itself
+pub fit-number : (v : Lines) → numberOf (refusal (aboutLines v)) ≡ cond (linesFit v) 0 15
+unfolding aboutLines refusal numberOf
+fit-number v = go (linesFit v)
   where
-    fit : numberOf (refusal (aboutLines v ++ aboutSetting g (bookOf s))) ≡ after (fitNumber (linesFit v)) (λ n. n) (storeNumber (g .store) (bookOf s .header .date))
-    fit = go (linesFit v)
-      where
-        go : (c : Bool) → numberOf (refusal (record { number = 15; holds = c } ∷ aboutSetting g (bookOf s))) ≡ after (cond c 0 15) (λ n. n) (storeNumber (g .store) (bookOf s .header .date))
-        go true = refl
-        go false = refl
+    go : (c : Bool) → numberOf (refusal (record { number = 15; holds = c } ∷ [])) ≡ cond c 0 15
+    go true = refl
+    go false = refl
 
--- a list that passes them fits, and each of its lines would pass its own
-pub lines-opening : (g : Setting) (v : Lines) (s : List ℕ) → linesNumber g v s ≡ 0 → (linesFit v ≡ true) × (openingNumber g s ≡ 0)
-unfolding after fitNumber
-lines-opening g v s e =
-    go (bookNumber s) (linesFit v) (storeNumber (g .store) (bookOf s .header .date)) (sym (lines-number g v s) ∙ e) (λ h. opening-number g s ∙ h)
+-- which is not 0
+pub lines-numbered : (v : Lines) → T (numbered (aboutLines v))
+unfolding aboutLines numbered all
+lines-numbered v = tt
+
+-- a list that passes its opening questions fits, and each of its lines would pass its own
+pub lines-opening : (n : ℕ) (g : Setting) (v : Lines) (s : List ℕ) → opening (openingLines n v) g s ≡ 0 → (linesFit v ≡ true) × (opening n g s ≡ 0)
+unfolding opening openingLines
+lines-opening n g v s e =
+    let store = storeNumber (g .store) (bookOf s .header .date) in
+    let own = numberOf (refusal (aboutLines v)) in
+    let z = first-zero (firstOf n own) store e in
+    (fits (linesFit v) (sym (fit-number v) ∙ second-zero n own z), ap (λ (k : ℕ). firstOf k store) (first-zero n own z ∙ sym z) ∙ e)
   where
-    go : (n : ℕ) (fits : Bool) (m : ℕ) → after n (λ k. k) (after (fitNumber fits) (λ k. k) m) ≡ 0
-        → (after n (λ k. k) m ≡ 0 → openingNumber g s ≡ 0) → (fits ≡ true) × (openingNumber g s ≡ 0)
-    go zero true m h k = (refl, k h)
-    go zero false m h k = absurd (omega arith)
-    go (suc n) fits m h k = absurd (omega arith)
+    fits : (c : Bool) → cond {A = ℕ} c 0 15 ≡ 0 → c ≡ true
+    fits true h = refl
+    fits false h = absurd (omega (arith, h))
 
 -- ---- a list by its number
 
@@ -80,26 +70,11 @@ lines-answer g t (x ∷ xs) [] zs = refl
 lines-answer g t (x ∷ xs) (y ∷ ys) [] = refl
 lines-answer g t (x ∷ xs) (y ∷ ys) (z ∷ zs) = refl
 
-module _ (store : Option (List ℕ)) (ids areas : List ℕ) (amounts : List ℤ) (n : ℕ) (s : List ℕ) where
-  abbrev pub lines : Lines
-  lines = linesOf ids areas amounts n
-
-  pub list-opened : request (listOf store ids areas amounts n) s
-      ≡ after (linesNumber (settingOf store) lines s) (refused s) (linesIn (settingOf store) s ids areas amounts)
-  unfolding request actBy actIn linesNumber numbered after decided numberOf
-  list-opened = go (refusal (openingLines (settingOf store) lines s)) refl
-    where
-      go : (o : Option ℕ) → refusal (openingLines (settingOf store) lines s) ≡ o
-          → decided o (refused s) (linesIn (settingOf store) s ids areas amounts) ≡ after (numberOf o) (refused s) (linesIn (settingOf store) s ids areas amounts)
-      go none e = refl
-      go (some zero) e = absurd (let l = ltb→lt 0 0 (refusal-is (λ i. ltb 0 i) (openingLines (settingOf store) lines s) 0 (lines-numbered (settingOf store) lines s) e) in omega arith)
-      go (some (suc m)) e = refl
-
 -- ---- one posting after another
 
 -- one line, and the lines after it on the bytes that it leaves
 pub one-line : (g : Setting) (s t : List ℕ) (id area : ℕ) (z : ℤ) (r : ℕ) (ids areas : List ℕ) (amounts : List ℤ)
-    → stepIn g s (posting id area z) .answer .number ≡ r → stepIn g s (posting id area z) .bytes ≡ t
+    → stepIn (bookNumber s) g s (posting id area z) .answer .number ≡ r → stepIn (bookNumber s) g s (posting id area z) .bytes ≡ t
     → (linesIn g s (id ∷ ids) (area ∷ areas) (z ∷ amounts) .bytes ≡ linesIn g t ids areas amounts .bytes)
     × (linesIn g s (id ∷ ids) (area ∷ areas) (z ∷ amounts) .numbers ≡ r ∷ linesIn g t ids areas amounts .numbers)
 unfolding linesIn
@@ -145,10 +120,7 @@ posting-onward limits s id area z b h = go (refusal (about limits (bookOf s) (po
     go (some n) e = record { bytes = b; number = h; header = refl; parties = refl }
 
 -- and so the opening questions of the next posting are passed too: the store is asked on the same date
-pub onward-opening : (g : Setting) {s t : List ℕ} → Onward s t → bookNumber s ≡ 0 → openingNumber g s ≡ 0 → openingNumber g t ≡ 0
+pub onward-opening : (g : Setting) {s t : List ℕ} → Onward s t → bookNumber s ≡ 0 → opening (bookNumber s) g s ≡ 0 → opening (bookNumber t) g t ≡ 0
+unfolding opening
 onward-opening g {s} {t} w h e =
-    opening-number g t
-    ∙ ap (λ (n : ℕ). after n (λ m. m) (storeNumber (g .store) (bookOf t .header .date))) (w .number ∙ sym h)
-    ∙ ap (λ (x : Header). after (bookNumber s) (λ m. m) (storeNumber (g .store) (x .date))) (w .header)
-    ∙ sym (opening-number g s)
-    ∙ e
+    ap (λ (x : Header). firstOf (bookNumber t) (storeNumber (g .store) (x .date))) (w .header) ∙ ap (λ (n : ℕ). firstOf n (storeNumber (g .store) (bookOf s .header .date))) (w .number ∙ sym h) ∙ e

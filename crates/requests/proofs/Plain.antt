@@ -1,5 +1,5 @@
 -- A request without a store is the call of document 01: its opening questions are those of the book alone, and its figures are today's. Assumes nothing.
-use mathlib.Core.List.{List, [], _++_, append-nil}
+use mathlib.Core.List.{List, [], _++_}
 use mathlib.Core.Option.{Option, none, some}
 use mathlib.Core.Path.{_≡_, _∙_, ap, refl, sym}
 use Prim.Native.Nat.{ℕ, suc, zero}
@@ -13,33 +13,33 @@ use Rattle.rules.specs.Levels.{today}
 use Rattle.base.specs.Lists.{all}
 use Rattle.rules.specs.Queries.{Query, Reply, aRecord, aboutQuery, found, onlyNumber, shownRecord}
 use Rattle.rules.specs.Questions.{Question, decided, numberOf, refusal}
-use Rattle.book_format.proofs.After.{step-opened}
+use Rattle.book_format.proofs.After.{asked-after, step-opened}
 use Rattle.book_format.proofs.Formed.{bytes-numbered}
-use Rattle.book_format.specs.After.{after, stepAfter}
+use Rattle.book_format.specs.After.{after, replyAfter, stepAfter}
 use Rattle.book_format.specs.Book.{bookOf, userAt, userSize, versionOf}
 use Rattle.book_format.specs.Questions.{aboutBytes, bookNumber}
 use Rattle.book_format.specs.Steps.{Called, placeOf, replyBytes, shownPart, stepBytes}
-use Rattle.store.specs.Store.{aboutStore, limitsOf}
-use Rattle.requests.proofs.Opened.{outcome, request-opened}
+use Rattle.store.specs.Store.{aboutStore, limitsOf, storeNumber}
+use Rattle.requests.proofs.Opened.{first-alone, request-opened}
 use Rattle.requests.specs.Carried.{Carried, partShown}
-use Rattle.requests.specs.Request.{Outcome, Setting, aboutSetting, enquiry, limitsOn, opening, openingNumber, request, requestOf}
+use Rattle.requests.specs.Request.{Outcome, Setting, enquiry, enquiryAfter, limitsOn, opening, outcome, request, requestOf}
 
 -- the setting of a call of document 01
 unfoldable pub alone : Setting
 alone = record { store = none }
 
 -- nothing is asked but the questions of the book
-opening-alone : (s : List ℕ) → opening alone s ≡ aboutBytes s
-unfolding opening aboutSetting aboutStore alone
-opening-alone s = append-nil (aboutBytes s)
+opening-alone : (s : List ℕ) → opening (bookNumber s) alone s ≡ bookNumber s
+unfolding opening storeNumber aboutStore alone refusal numberOf
+opening-alone s = first-alone (bookNumber s)
 
 -- ---- calls
 
 request-alone : (s : List ℕ) (c : Call) → request (requestOf none c) s ≡ outcome (stepBytes today s c)
-unfolding limitsOn limitsOf alone openingNumber bookNumber
+unfolding limitsOn limitsOf alone
 request-alone s c =
     request-opened alone s c
-    ∙ ap (λ (qs : List Question). outcome (stepAfter (numberOf (refusal qs)) today s c)) (opening-alone s)
+    ∙ ap (λ (n : ℕ). outcome (stepAfter n today s c)) (opening-alone s)
     ∙ ap outcome (sym (step-opened today s c))
 
 -- the contract of a call without a store is that of the call of document 01,
@@ -59,9 +59,10 @@ plain-carried {s} {c = c} k =
 -- ---- queries
 
 pub plain-reply : (s : List ℕ) (q : Query) → enquiry alone s q ≡ replyBytes today s q
-unfolding enquiry replyBytes limitsOn limitsOf alone
+unfolding enquiryAfter replyBytes replyAfter limitsOn limitsOf alone bookNumber
 plain-reply s q =
-    ap (λ (qs : List Question). decided (refusal (qs ++ aboutQuery (bookOf s) q)) onlyNumber (found today (bookOf s) q)) (opening-alone s)
+    ap (λ (n : ℕ). replyAfter n today s q) (opening-alone s)
+    ∙ sym (asked-after onlyNumber (found today (bookOf s) q) (aboutBytes s) (aboutQuery (bookOf s) q) (bytes-numbered s))
 
 -- a shown record: the part of document 01
 pub plain-part : (s : List ℕ) (id : ℕ) → partShown (enquiry alone s (shownRecord id) .number) s id ≡ shownPart s id

@@ -14,6 +14,7 @@ use Rattle.rules.specs.Questions.{Question, decided, refusal}
 use Rattle.rules.specs.Reduction.{eligible, target}
 use Rattle.book_format.specs.After.{after}
 use Rattle.book_format.specs.Book.{bookOf}
+use Rattle.book_format.specs.Questions.{bookNumber}
 use Rattle.cut_sets.specs.Sets.{markedWorth}
 use Rattle.cut_sets.specs.Search.{Search}
 use Rattle.cut_sets.specs.Places.{countOf, isSet, marksAt, placeSearch, worthIn}
@@ -85,12 +86,12 @@ cancellationAfter number limits s id tries =
     let b = bookOf s in
     after number notCancelled (decided (refusal (aboutCancellation limits b id tries)) notCancelled (cancelled limits b (find (b .users) id) tries))
 
--- in a setting: the opening questions, then its own by the figures of the setting
-unfoldable pub cancellation : Setting → List ℕ → ℕ → ℕ → Cancellation
-cancellation g s id tries =
-    let b = bookOf s in
-    let limits = limitsOn g b in
-    decided (refusal (opening g s ++ aboutCancellation limits b id tries)) notCancelled (cancelled limits b (find (b .users) id) tries)
+-- in a setting: after the questions of the book, and 26 where a party is asked, whose number is n, the other opening questions, then its own by the figures of the setting
+unfoldable pub cancellationIn : ℕ → Setting → List ℕ → ℕ → ℕ → Cancellation
+cancellationIn n g s id tries = cancellationAfter (opening n g s) (limitsOn g (bookOf s)) s id tries
+
+abbrev pub cancellation : Setting → List ℕ → ℕ → ℕ → Cancellation
+cancellation g s id tries = cancellationIn (bookNumber s) g s id tries
 
 -- ---- what is claimed
 

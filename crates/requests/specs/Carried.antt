@@ -7,17 +7,22 @@ use Rattle.rules.specs.Calls.{Answer}
 use Rattle.rules.specs.Levels.{Limits}
 use Rattle.book_format.specs.After.{after}
 use Rattle.book_format.specs.Book.{bookOf, userAt, userSize, versionOf}
+use Rattle.book_format.specs.Questions.{bookNumber}
 use Rattle.book_format.specs.Steps.{placeOf}
-use Rattle.requests.specs.Request.{Request, Setting, limitsOn, openingNumber, request}
+use Rattle.requests.specs.Request.{Request, Setting, limitsOn, opening, requestAfter}
 
--- a call: bytes before, answer, bytes after
-pub record Carried (r : Request) (s : List ℕ) (a : Answer) (t : List ℕ) : Type 0 where
-  pub answer : a ≡ request r s .answer
-  pub bytes : t ≡ request r s .bytes
+-- a call after the questions of the book, and 26, whose number is n: bytes before, answer, bytes after
+pub record CarriedAfter (n : ℕ) (r : Request) (s : List ℕ) (a : Answer) (t : List ℕ) : Type 0 where
+  pub answer : a ≡ requestAfter n r s .answer
+  pub bytes : t ≡ requestAfter n r s .bytes
 
--- the opening questions of a call, asked: their number, and the figures of the call where it is 0
-pub record Admitted (g : Setting) (s : List ℕ) (number : ℕ) (limits : Limits) : Type 0 where
-  pub asked : number ≡ openingNumber g s
+-- a call
+abbrev pub Carried : Request → List ℕ → Answer → List ℕ → Type 0
+Carried r s a t = CarriedAfter (bookNumber s) r s a t
+
+-- the opening questions of a call, asked after those of the book, and 26, whose number is n: their number, and the figures of the call where it is 0
+pub record Admitted (n : ℕ) (g : Setting) (s : List ℕ) (number : ℕ) (limits : Limits) : Type 0 where
+  pub asked : number ≡ opening n g s
   pub taken : number ≡ 0 → limits ≡ limitsOn g (bookOf s)
 
 -- ---- a shown record

@@ -10,13 +10,15 @@ use lib.ListN.{length}
 use Rattle.rules.specs.Book.{Book}
 use Rattle.rules.specs.Calls.{Answer, Call, Result, about, effect, only, posting}
 use Rattle.rules.specs.Levels.{Limits}
-use Rattle.rules.specs.Queries.{Query, Reply, aboutQuery, found, onlyNumber}
+use Rattle.rules.specs.Queries.{Query, Reply}
 use Rattle.rules.specs.Questions.{Question, aboutBook, decided, numberOf, refusal}
+use Rattle.book_format.specs.After.{after, replyAfter, stepAfter}
 use Rattle.book_format.specs.Book.{bookOf, bytesOf}
-use Rattle.book_format.specs.Questions.{aboutBytes}
-use Rattle.store.specs.Store.{aboutStore, limitsOf}
+use Rattle.book_format.specs.Questions.{bookNumber}
+use Rattle.book_format.specs.Steps.{InBytes}
+use Rattle.store.specs.Store.{aboutStore, limitsOf, storeNumber}
 use Rattle.log_format.specs.Log.{entriesOf, logBytes}
-use Rattle.log_format.specs.Fits.{aboutLog}
+use Rattle.log_format.specs.Fits.{aboutLog, logNumber}
 use Rattle.log_format.specs.Noted.{Entered, callEntered, hasEntry, lastly, room, withdrawalEntered}
 
 -- ---- what is asked for
@@ -158,15 +160,25 @@ unfoldable pub requestGiven : Setting → Option (List ℕ) → Book → Act →
 requestGiven g none b a = actGiven g b a
 requestGiven g (some l) b a = actLogged g l b a
 
--- ---- on a book in bytes
+-- ---- on a book in bytes: the opening questions
 
--- the questions before those of the call, "Asked in this order": those of the book, then 16 and 17, "both asked after question 7"
-unfoldable pub opening : Setting → List ℕ → List Question
-opening g s = aboutBytes s ++ aboutSetting g (bookOf s)
+-- The number of questions that are asked one after the other, by that of the first and that of the second: "the first "no" gives the number", 0 where there is none.
+abbrev pub firstOf : ℕ → ℕ → ℕ
+firstOf n m = after n (λ k. k) m
 
--- "the first "no" gives the number", 0 where there is none
-unfoldable pub openingNumber : Setting → List ℕ → ℕ
-openingNumber g s = numberOf (refusal (opening g s))
+-- After the questions of the book, and 26 where a party is asked, whose number is n. Of a list 15, "asked after question 7",
+unfoldable pub openingLines : ℕ → Lines → ℕ
+openingLines n v = firstOf n (numberOf (refusal (aboutLines v)))
+
+-- then 16 and 17, "both asked after question 7 and 15",
+unfoldable pub opening : ℕ → Setting → List ℕ → ℕ
+opening n g s = firstOf n (storeNumber (g .store) (bookOf s .header .date))
+
+-- then 19: it "is asked after question 7 and 15 to 17"
+unfoldable pub openingWith : ℕ → Setting → Option (List ℕ) → List ℕ → ℕ
+openingWith n g log s = firstOf (opening n g s) (logNumber log s)
+
+-- ---- on a book in bytes: what an act gives after the questions of the book, and 26, whose number is n
 
 -- what a request gives: its answer, the numbers of a list's lines, the bytes afterwards, and the log where one is given
 pub record Outcome : Type 0 where
@@ -175,26 +187,17 @@ pub record Outcome : Type 0 where
   pub bytes : List ℕ
   pub log : Option (List ℕ)
 
--- "A refusal returns the number with every other field 0 and the book byte for byte the same."
-unfoldable pub refused : List ℕ → ℕ → Outcome
-refused s n = record { answer = only n; numbers = []; bytes = s; log = none }
+-- "A refusal returns the number with every other field 0 and the book byte for byte the same"; the log, where one is given, stays too: "a refused call leaves it"
+unfoldable pub refusedGiven : Option (List ℕ) → List ℕ → ℕ → Outcome
+refusedGiven log s n = record { answer = only n; numbers = []; bytes = s; log = log }
 
--- what the rules give, with the book written as bytes
-unfoldable pub carriedOut : Result → Outcome
-carriedOut r = record { answer = r .answer; numbers = []; bytes = bytesOf (r .book); log = none }
+-- what a call gives without a log
+unfoldable pub outcome : InBytes → Outcome
+outcome x = record { answer = x .answer; numbers = []; bytes = x .bytes; log = none }
 
--- a call on a book in bytes: the opening questions, then those of the call by the figures of the setting
-unfoldable pub stepIn : Setting → List ℕ → Call → Outcome
-stepIn g s c =
-    let limits = limitsOn g (bookOf s) in
-    decided (refusal (opening g s ++ about limits (bookOf s) c)) (refused s) (carriedOut (effect limits (bookOf s) c))
-
--- the opening questions of a list: 15 "asked after question 7", 16 and 17 "both asked after question 7 and 15"
-unfoldable pub openingLines : Setting → Lines → List ℕ → List Question
-openingLines g v s = aboutBytes s ++ (aboutLines v ++ aboutSetting g (bookOf s))
-
-unfoldable pub linesNumber : Setting → Lines → List ℕ → ℕ
-linesNumber g v s = numberOf (refusal (openingLines g v s))
+-- a call in its setting
+unfoldable pub stepIn : ℕ → Setting → List ℕ → Call → Outcome
+stepIn n g s c = outcome (stepAfter (opening n g s) (limitsOn g (bookOf s)) s c)
 
 -- "Book and answers equal those of the postings made one after another", each a call of its own on the bytes that the last one left
 unfoldable pub linesIn : Setting → List ℕ → List ℕ → List ℕ → List ℤ → Outcome
@@ -202,28 +205,17 @@ linesIn g s [] areas amounts = record { answer = only 0; numbers = []; bytes = s
 linesIn g s (id ∷ ids) [] amounts = record { answer = only 0; numbers = []; bytes = s; log = none }
 linesIn g s (id ∷ ids) (area ∷ areas) [] = record { answer = only 0; numbers = []; bytes = s; log = none }
 linesIn g s (id ∷ ids) (area ∷ areas) (z ∷ amounts) =
-    let first = stepIn g s (posting id area z) in
+    let first = stepIn (bookNumber s) g s (posting id area z) in
     let rest = linesIn g (first .bytes) ids areas amounts in
     record { answer = only 0; numbers = first .answer .number ∷ rest .numbers; bytes = rest .bytes; log = none }
 
--- an act on a book in bytes, without a log
-unfoldable pub actIn : Setting → List ℕ → Act → Outcome
-actIn g s (call c) = stepIn g s c
-actIn g s (postings v) = decided (refusal (openingLines g v s)) (refused s) (linesIn g s (v .ids) (v .areas) (v .amounts))
-actIn g s withdrawal = decided (refusal (opening g s ++ (hasEntry [] ∷ []))) (refused s) (refused s 18)
+-- without a log; then there is no entry to withdraw
+unfoldable pub actIn : ℕ → Setting → List ℕ → Act → Outcome
+actIn n g s (call c) = stepIn n g s c
+actIn n g s (postings v) = after (opening (openingLines n v) g s) (refusedGiven none s) (linesIn g s (v .ids) (v .areas) (v .amounts))
+actIn n g s withdrawal = refusedGiven none s (firstOf (opening n g s) 18)
 
--- ---- on a book in bytes, with a log
-
--- the opening questions with a log: 19 "is asked after question 7 and 15 to 17"
-unfoldable pub openingWith : Setting → Option (List ℕ) → List ℕ → List Question
-openingWith g log s = opening g s ++ aboutLog log s
-
-unfoldable pub openingLinesWith : Setting → Option (List ℕ) → Lines → List ℕ → List Question
-openingLinesWith g log v s = openingLines g v s ++ aboutLog log s
-
--- "a refused call leaves it"
-unfoldable pub refusedWith : List ℕ → List ℕ → ℕ → Outcome
-refusedWith l s n = record { answer = only n; numbers = []; bytes = s; log = some l }
+-- ---- with a log
 
 -- what the rules give, with the book written as bytes, and the log of the entries that holds it
 unfoldable pub enteredIn : Entered → Outcome
@@ -233,30 +225,42 @@ enteredIn e = record { answer = e .answer; numbers = []; bytes = bytesOf (e .boo
 unfoldable pub emptiedIn : Outcome → Outcome
 emptiedIn o = record { answer = o .answer; numbers = o .numbers; bytes = o .bytes; log = some (logBytes [] (o .bytes)) }
 
--- an act on a book in bytes with a log: 18 and 20 are asked last
-unfoldable pub actWith : Setting → List ℕ → List ℕ → Act → Outcome
-actWith g l s (call c) =
-    let b = bookOf s in
-    decided (refusal (openingWith g (some l) s ++ (about (limitsOn g b) b c ++ lastly (room l) c))) (refusedWith l s)
-    (enteredIn (callEntered (limitsOn g b) (room l) (entriesOf s l) b c))
-actWith g l s (postings v) =
-    decided (refusal (openingLinesWith g (some l) v s)) (refusedWith l s) (emptiedIn (linesIn g s (v .ids) (v .areas) (v .amounts)))
-actWith g l s withdrawal =
-    decided (refusal (openingWith g (some l) s ++ (hasEntry (entriesOf s l) ∷ []))) (refusedWith l s)
-    (enteredIn (withdrawalEntered (entriesOf s l) (bookOf s)))
+-- a call with a log, after its opening questions by their number: 20 is asked last
+unfoldable pub loggedAfter : ℕ → Limits → List ℕ → List ℕ → Call → Outcome
+loggedAfter number limits l s c =
+    after number (refusedGiven (some l) s)
+    (decided (refusal (about limits (bookOf s) c ++ lastly (room l) c)) (refusedGiven (some l) s) (enteredIn (callEntered limits (room l) (entriesOf s l) (bookOf s) c)))
+
+-- a withdrawal: 18 is asked last
+unfoldable pub withdrawalAfter : ℕ → List ℕ → List ℕ → Outcome
+withdrawalAfter number l s =
+    after number (refusedGiven (some l) s)
+    (decided (refusal (hasEntry (entriesOf s l) ∷ [])) (refusedGiven (some l) s) (enteredIn (withdrawalEntered (entriesOf s l) (bookOf s))))
+
+unfoldable pub actWith : ℕ → Setting → List ℕ → List ℕ → Act → Outcome
+actWith n g l s (call c) = loggedAfter (openingWith n g (some l) s) (limitsOn g (bookOf s)) l s c
+actWith n g l s (postings v) =
+    after (openingWith (openingLines n v) g (some l) s) (refusedGiven (some l) s) (emptiedIn (linesIn g s (v .ids) (v .areas) (v .amounts)))
+actWith n g l s withdrawal = withdrawalAfter (openingWith n g (some l) s) l s
 
 -- ---- requests and queries on a book in bytes
 
 -- without a log as before it, so that calls without a log answer as they did
-unfoldable pub actBy : Setting → Option (List ℕ) → List ℕ → Act → Outcome
-actBy g none s a = actIn g s a
-actBy g (some l) s a = actWith g l s a
+unfoldable pub actBy : ℕ → Setting → Option (List ℕ) → List ℕ → Act → Outcome
+actBy n g none s a = actIn n g s a
+actBy n g (some l) s a = actWith n g l s a
+
+-- a request after the questions of the book, and 26 where a party is asked
+unfoldable pub requestAfter : ℕ → Request → List ℕ → Outcome
+requestAfter n r s = actBy n (r .setting) (r .log) s (r .act)
 
 -- a request on a book in bytes
-unfoldable pub request : Request → List ℕ → Outcome
-request r s = actBy (r .setting) (r .log) s (r .act)
+abbrev pub request : Request → List ℕ → Outcome
+request r s = requestAfter (bookNumber s) r s
 
--- a query in a setting
-unfoldable pub enquiry : Setting → List ℕ → Query → Reply
-enquiry g s q =
-    decided (refusal (opening g s ++ aboutQuery (bookOf s) q)) onlyNumber (found (limitsOn g (bookOf s)) (bookOf s) q)
+-- a query in a setting, after the same questions
+unfoldable pub enquiryAfter : ℕ → Setting → List ℕ → Query → Reply
+enquiryAfter n g s q = replyAfter (opening n g s) (limitsOn g (bookOf s)) s q
+
+abbrev pub enquiry : Setting → List ℕ → Query → Reply
+enquiry g s q = enquiryAfter (bookNumber s) g s q

@@ -12,25 +12,23 @@ use Rattle.rules.specs.Calls.{idKnown, isShipper}
 use Rattle.rules.specs.Levels.{Limits, afternoonLevel, flagged, morningLevel, shipper}
 use Rattle.rules.specs.Queries.{Query, Reply, aLevel, aRecord, aboutQuery, afternoonLevelOf, found, morningLevelOf, onlyNumber, shownRecord, warning}
 use Rattle.rules.specs.Questions.{Question, decided, idsRise, known, refusal}
-use Rattle.book_format.proofs.After.{asked-after}
 use Rattle.book_format.proofs.Passed.{passed}
-use Rattle.book_format.specs.After.{after}
+use Rattle.book_format.specs.After.{after, replyAfter}
 use Rattle.book_format.specs.Book.{bookOf, userAt, userSize, versionOf}
 use Rattle.book_format.specs.Questions.{bookNumber}
 use Rattle.book_format.specs.Steps.{placeOf}
 use Rattle.requests.specs.Carried.{partShown}
-use Rattle.requests.specs.Request.{Outcome, Setting, limitsOn}
+use Rattle.requests.specs.Request.{Outcome, Setting, enquiryAfter, limitsOn, opening, refusedGiven}
 use Rattle.store.specs.Store.{limitsOf, storeNumber}
 use Rattle.views.proofs.Told.{same-afternoon, same-flag, same-header, same-known, same-morning, same-trades, same-user}
 use Rattle.views.specs.Views.{viewOf}
-use Rattle.rights.proofs.Entered.{opening-by-number, opening-by-numbered, rightNumber}
-use Rattle.rights.proofs.Operator.{enquiry-by, forbidden-claim}
+use Rattle.rights.proofs.Operator.{forbidden-claim}
 use Rattle.rights.proofs.Parts.{own-shown, ownPart, view-agrees}
-use Rattle.rights.specs.Acting.{enquiryBy, openingBy, openingNumberBy, refusedGiven}
-use Rattle.rights.specs.Party.{Matter, isShipperIn, matterOf, mayDo, operators, own, shipperOf}
+use Rattle.rights.specs.Acting.{enquiryBy, enteringNumber, openingNumberBy}
+use Rattle.rights.specs.Party.{Matter, isShipperIn, matterOf, mayDo, operators, own, rightNumber, shipperOf}
 use Rattle.rights.specs.Claim.{AgreementClaim, AnswersAgree}
 use Rattle.rights.specs.Seen.{Agree}
-use Rattle.rights.specs.Trades.{Asking, Told, aboutUser, countOf, flagOf, idOf, tells, toldBy, toldNumber, tradeOf}
+use Rattle.rights.specs.Trades.{Asking, Told, aboutUser, countOf, flagOf, idOf, tells, toldAfter, toldBy, toldIn, toldNumber, tradeOf}
 
 -- where 26 is answered by no the number is not 0
 never : (n m : ℕ) → after (after n (λ k. k) 26) (λ k. k) m ≡ 0 → ⊥
@@ -66,17 +64,15 @@ module _ (party : ℕ) (s t : List ℕ) (passes : bookNumber s ≡ 0) (passed-to
 
   -- one number
   number-same : (m : Matter) (g : Setting) → openingNumberBy (shipperOf party) m g s ≡ openingNumberBy (shipperOf party) m g t
-  unfolding rightNumber
+  unfolding opening enteringNumber rightNumber
   number-same m g =
-      opening-by-number (shipperOf party) m s g
-      ∙ ap₂ (λ (n : ℕ) (h : Header). after (after n (λ k. k) (rightNumber (bookOf s) (shipperOf party) m)) (λ k. k) (storeNumber (g .store) (h .date))) (passes ∙ sym passed-too) header-same
+      ap₂ (λ (n : ℕ) (h : Header). after (after n (λ k. k) (rightNumber (bookOf s) (shipperOf party) m)) (λ k. k) (storeNumber (g .store) (h .date))) (passes ∙ sym passed-too) header-same
       ∙ ap (λ (r : Bool). after (after (bookNumber t) (λ k. k) (cond r 0 26)) (λ k. k) (storeNumber (g .store) (bookOf t .header .date))) (right-same m)
-      ∙ sym (opening-by-number (shipperOf party) m t g)
 
   -- which is 0 for no matter of the operator's, and of the others only for who asks for itself and is a shipper of the book
   granted : (m : Matter) (g : Setting) → openingNumberBy (shipperOf party) m g s ≡ 0 → T (mayDo (bookOf s) (shipperOf party) m)
-  unfolding rightNumber
-  granted m g e = go (bookNumber s) (mayDo (bookOf s) (shipperOf party) m) (sym (opening-by-number (shipperOf party) m s g) ∙ e)
+  unfolding opening enteringNumber rightNumber
+  granted m g e = go (bookNumber s) (mayDo (bookOf s) (shipperOf party) m) e
     where
       go : (n : ℕ) (may : Bool) → after (after n (λ k. k) (cond may 0 26)) (λ k. k) (storeNumber (g .store) (bookOf s .header .date)) ≡ 0 → T may
       go n true e = tt
@@ -173,19 +169,13 @@ module _ (party : ℕ) (s t : List ℕ) (passes : bookNumber s ≡ 0) (passed-to
     by-query (shownRecord id) = own-same onlyNumber id g (λ i. answered s (shownRecord i)) (λ i. answered t (shownRecord i)) record-answered
 
     query-same : (q : Query) → enquiryBy (shipperOf party) g s q ≡ enquiryBy (shipperOf party) g t q
-    unfolding answered
-    query-same q = enquiry-by (shipperOf party) g s q ∙ by-query q ∙ sym (enquiry-by (shipperOf party) g t q)
+    unfolding enquiryAfter replyAfter answered
+    query-same q = by-query q
 
     -- ---- flag and trades
 
     asked : List ℕ → Asking → Told
     asked u a = decided (refusal (aboutUser (bookOf u) (idOf a))) toldNumber (tells (limitsOn g (bookOf u)) u a)
-
-    told-by : (u : List ℕ) (a : Asking) → toldBy (shipperOf party) g u a ≡ after (openingNumberBy (shipperOf party) (own (idOf a)) g u) toldNumber (asked u a)
-    unfolding toldBy openingNumberBy asked
-    told-by u a =
-        asked-after toldNumber (tells (limitsOn g (bookOf u)) u a) (openingBy (shipperOf party) (own (idOf a)) g u) (aboutUser (bookOf u) (idOf a))
-        (opening-by-numbered (shipperOf party) (own (idOf a)) u g)
 
     by-asking : (a : Asking) → after (openingNumberBy (shipperOf party) (own (idOf a)) g s) toldNumber (asked s a) ≡ after (openingNumberBy (shipperOf party) (own (idOf a)) g t) toldNumber (asked t a)
     unfolding idOf asked
@@ -194,14 +184,14 @@ module _ (party : ℕ) (s t : List ℕ) (passes : bookNumber s ≡ 0) (passed-to
     by-asking (tradeOf id ordinal) = own-same toldNumber id g (λ i. asked s (tradeOf i ordinal)) (λ i. asked t (tradeOf i ordinal)) (λ k. trade-told k ordinal)
 
     told-same : (a : Asking) → toldBy (shipperOf party) g s a ≡ toldBy (shipperOf party) g t a
-    told-same a = told-by s a ∙ by-asking a ∙ sym (told-by t a)
+    unfolding toldIn toldAfter asked
+    told-same a = by-asking a
 
     -- ---- the bytes of the shown record
 
     shown-number : (id : ℕ) → enquiryBy (shipperOf party) g s (shownRecord id) .number ≡ 0 → openingNumberBy (shipperOf party) (own id) g s ≡ 0
-    unfolding after onlyNumber answered matterOf
-    shown-number id e =
-        go (openingNumberBy (shipperOf party) (own id) g s) (sym (ap (λ (r : Reply). r .number) (enquiry-by (shipperOf party) g s (shownRecord id))) ∙ e)
+    unfolding enquiryAfter replyAfter after onlyNumber answered matterOf
+    shown-number id e = go (openingNumberBy (shipperOf party) (own id) g s) e
       where
         go : (n : ℕ) → after n onlyNumber (answered s (shownRecord id)) .number ≡ 0 → n ≡ 0
         go zero e = refl

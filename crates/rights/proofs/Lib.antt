@@ -5,7 +5,6 @@ pub mod Operator
 pub mod Own
 pub mod Numbers
 pub mod Replied
-pub mod Lines
 pub mod Logged
 pub mod Failing
 pub mod Parts

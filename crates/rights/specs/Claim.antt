@@ -15,9 +15,9 @@ use Rattle.book_tables.specs.declared.Book.{Book}
 use Rattle.outputs.specs.Output.{refused, written}
 use Rattle.requests.specs.Cancellation.{cancellation, notCancelled}
 use Rattle.requests.specs.Carried.{partShown}
-use Rattle.requests.specs.Request.{Request, Setting, enquiry, request}
+use Rattle.requests.specs.Request.{Request, Setting, enquiry, refusedGiven, request}
 use Rattle.rights.specs.Party.{Matter, Party, isShipperIn, mayDo, operator, partyOf, shipperOf}
-use Rattle.rights.specs.Acting.{cancellationBy, enquiryBy, refusedGiven, requestBy}
+use Rattle.rights.specs.Acting.{cancellationBy, enquiryBy, requestBy}
 use Rattle.rights.specs.Outputs.{storedBy, writtenBy}
 use Rattle.rights.specs.Read.{ReadBy}
 use Rattle.rights.specs.Seen.{Agree}

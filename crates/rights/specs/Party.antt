@@ -1,12 +1,11 @@
 -- Document 02, ask 9: "Every call on a book gains an acting party: the operator, or a shipper with an id". Who may do what. Assumes nothing.
 use mathlib.Core.Bool.{Bool, true, false, cond, _&&_}
-use mathlib.Core.List.{List, [], _∷_}
 use Prim.Native.Nat.{ℕ, _^_}
 use lib.Dec.{eqb}
 use Rattle.rules.specs.Book.{Book, find}
 use Rattle.rules.specs.Levels.{shipper}
 use Rattle.rules.specs.Queries.{Query, afternoonLevelOf, morningLevelOf, shownRecord, warning}
-use Rattle.rules.specs.Questions.{Question, known}
+use Rattle.rules.specs.Questions.{known}
 
 -- "the operator, or a shipper with an id"
 pub data Party : Type 0 where
@@ -37,9 +36,9 @@ mayDo b operator m = true
 mayDo b (shipperOf party) operators = false
 mayDo b (shipperOf party) (own id) = eqb party id && isShipperIn b party
 
--- 26, "asked directly after question 7, before every later question"
-unfoldable pub aboutParty : Party → Matter → Book → List Question
-aboutParty actor m b = record { number = 26; holds = mayDo b actor m } ∷ []
+-- 26: "A forbidden act .. gives 26"; 0 where the party may do it
+unfoldable pub rightNumber : Book → Party → Matter → ℕ
+rightNumber b actor m = cond (mayDo b actor m) 0 26
 
 -- whose a query of document 01 is: "A buyer's warning shows another's flag and is the operator's."
 unfoldable pub matterOf : Query → Matter

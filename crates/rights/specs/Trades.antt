@@ -1,7 +1,7 @@
 -- Document 02, ask 9: the flag of a user, "the count of the trades it may see and, by ordinal from 0 in book order, that trade's 20 bytes (an empty part past the last); flag
 -- and trades are new calls under questions 8 and 9". Asked by the operator of an id, they tell what that id may see. Assumes nothing.
 use mathlib.Core.Bool.{Bool, cond, false}
-use mathlib.Core.List.{List, [], _∷_, _++_}
+use mathlib.Core.List.{List, [], _∷_}
 use mathlib.Core.Path.{_≡_}
 use Prim.Native.Nat.{ℕ, _+_, _*_}
 use lib.Dec.{ltb}
@@ -12,11 +12,11 @@ use Rattle.rules.specs.Levels.{Limits, flagged}
 use Rattle.rules.specs.Questions.{Question, decided, refusal}
 use Rattle.book_format.specs.After.{after}
 use Rattle.book_format.specs.Book.{bookOf, tradeCount, tradeSize, tradesAt, tradesOf, usersOf, versionOf}
-use Rattle.requests.specs.Request.{Setting, limitsOn}
+use Rattle.requests.specs.Request.{Setting, limitsOn, opening}
 use Rattle.views.specs.Kept.{placeKept}
 use Rattle.views.specs.Views.{seesTrade, tradesSeen}
 use Rattle.rights.specs.Party.{Party, own}
-use Rattle.rights.specs.Acting.{openingBy}
+use Rattle.rights.specs.Acting.{enteringNumber}
 use Rattle.rights.specs.Seen.{tradesShown}
 
 -- 8 and 9
@@ -50,13 +50,16 @@ tells limits s (flagOf id) = let b = bookOf s in record { number = 0; flagged = 
 tells limits s (countOf id) = record { number = 0; flagged = false; count = length (tradesSeen (bookOf s) id); part = [] }
 tells limits s (tradeOf id ordinal) = record { number = 0; flagged = false; count = 0; part = getD (tradesShown id s) ordinal [] }
 
-unfoldable pub toldBy : Party → Setting → List ℕ → Asking → Told
-toldBy actor g s a =
-    decided (refusal (openingBy actor (own (idOf a)) g s ++ aboutUser (bookOf s) (idOf a))) toldNumber (tells (limitsOn g (bookOf s)) s a)
-
--- the same after the opening questions, by their number
+-- after the opening questions, by their number
 unfoldable pub toldAfter : ℕ → Limits → List ℕ → Asking → Told
 toldAfter number limits s a = after number toldNumber (decided (refusal (aboutUser (bookOf s) (idOf a))) toldNumber (tells limits s a))
+
+-- after the questions of the book and 26, whose number is n
+unfoldable pub toldIn : ℕ → Setting → List ℕ → Asking → Told
+toldIn n g s a = toldAfter (opening n g s) (limitsOn g (bookOf s)) s a
+
+abbrev pub toldBy : Party → Setting → List ℕ → Asking → Told
+toldBy actor g s a = toldIn (enteringNumber actor (own (idOf a)) s) g s a
 
 -- where a part begins in the book: at the trade of a place; an empty part at the book's own beginning
 unfoldable pub tradeStart : List ℕ → ℕ → ℕ

@@ -13,9 +13,9 @@ use Rattle.exports.specs.Lent.{byLength}
 use Rattle.exports_answers.specs.Numbers.{runNumbers}
 use Rattle.fields.specs.Field.{AllBytes}
 use Rattle.requests.specs.Logged.{lentLog}
-use Rattle.requests.specs.Request.{call, Outcome, Request, actOf, request}
+use Rattle.requests.specs.Request.{call, Outcome, Request, actOf, refusedGiven, request}
 use Rattle.rights.proofs.Logged.{passed-request, stopped-request}
-use Rattle.rights.specs.Acting.{enteringNumber, refusedGiven, requestBy}
+use Rattle.rights.specs.Acting.{enteringNumber, requestBy}
 use Rattle.rights.specs.Party.{Party, operators}
 use Rattle.rules.specs.Calls.{Answer, cuttable, run}
 use Rattle.round_trip.specs.Links.{LinksInC, Made, NotMade, RunLengthInC}

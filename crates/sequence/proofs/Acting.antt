@@ -1,30 +1,26 @@
 -- Any finite sequence of requests, each by any party: those of shippers change nothing, the others are a sequence of the operator's. Assumes nothing.
-use mathlib.Core.Bool.{Bool, true, false, not}
+use mathlib.Core.Bool.{not, true}
 use mathlib.Core.List.{List, [], _∷_}
 use mathlib.Core.Option.{Option, none, some}
 use mathlib.Core.Path.{_≡_, _∙_, ap, refl, subst, sym}
 use Prim.Native.Nat.{ℕ, suc, zero, _≤_}
 use native.Mathlib.Omega.{arith}
 use lib.Dec.{T}
-use lib.IntN.{ℤ}
 use lib.ListN.{length}
 use Rattle.fields.specs.Field.{AllBytes}
 use Rattle.book_format.proofs.Written.{all-bytes-bytesOf}
-use Rattle.book_format.specs.After.{after}
 use Rattle.book_format.specs.Book.{tradesOf}
 use Rattle.book_format.specs.Questions.{bookNumber}
-use Rattle.requests.proofs.Logged.{actLent, with-log, without-log}
 use Rattle.requests.specs.Carried.{Carried}
-use Rattle.requests.specs.Logged.{lentLog, listWith}
-use Rattle.requests.specs.Request.{call, postings, withdrawal, Act, Lines, Outcome, Request, Setting, actOf, linesOf, request, settingOf}
+use Rattle.requests.specs.Logged.{lentLog}
+use Rattle.requests.specs.Request.{call, postings, withdrawal, Outcome, Request, actOf, linesOf, refusedGiven, request, settingOf}
 use Rattle.rights.proofs.Logged.{passed-request, stopped-request}
 use Rattle.rights.proofs.Operator.{forbidden-claim, operator-request}
-use Rattle.rights.specs.Acting.{CarriedBy, enteringNumber, refusedGiven, requestBy}
-use Rattle.rights.specs.Logged.{LoggedBy, PostedBy}
+use Rattle.rights.specs.Acting.{CarriedBy, enteringNumber, requestBy}
 use Rattle.rights.specs.Party.{Party, operator, operators, shipperOf}
 use Rattle.rules.specs.Calls.{Answer, cuttable, only, run}
 use Rattle.store.specs.Store.{given}
-use Rattle.sequence.proofs.Contracts.{call-numbers, refused-numbers, withdrawal-numbers}
+use Rattle.sequence.proofs.Contracts.{call-numbers, list-numbers, log-left, withdrawal-numbers}
 use Rattle.sequence.proofs.Logs.{log-back}
 use Rattle.sequence.proofs.RunLength.{run-length}
 use Rattle.sequence.proofs.Sequence.{sequence}
@@ -202,45 +198,20 @@ run-length-by store log =
 
 -- ---- the contracts
 
--- a request without lines has none by a party, nor has a refused list
-no-numbers : (actor : Party) (r : Request) (s : List ℕ) → [] ≡ request r s .numbers → [] ≡ requestBy actor r s .numbers
-unfolding refusedGiven
-no-numbers actor r s e = either actor r s (λ o. [] ≡ o .numbers) e (λ n. refl)
-
-refused-list : (actor : Party) (g : Setting) (log : Option (List ℕ)) (s : List ℕ) (v : Lines) (m : ℕ) → requestBy actor (actLent g log (postings v)) s .answer ≡ only (suc m)
-    → [] ≡ requestBy actor (actLent g log (postings v)) s .numbers
-unfolding refusedGiven
-refused-list actor g log s v m =
-    either actor (actLent g log (postings v)) s (λ o. o .answer ≡ only (suc m) → [] ≡ o .numbers) (refused-numbers g log s v m) (λ n e. refl)
-
--- the log afterwards
-log-left : (actor : Party) (g : Setting) (lent : Bool) (s : List ℕ) (a : Act) {x : Answer} {t l m : List ℕ} → LoggedBy actor (actLent g (given lent l) a) s x t l m
-    → given lent m ≡ requestBy actor (actLent g (given lent l) a) s .log
-unfolding given lentLog refusedGiven
-log-left actor g true s a {l = l} k =
-    ap some (k .log) ∙ sym (either actor (actLent g (some l) a) s (λ o. o .log ≡ some (lentLog (o .log) l)) (with-log g l s a l) (λ n. refl))
-log-left actor g false s a k = sym (either actor (actLent g none a) s (λ o. o .log ≡ none) (without-log g s a) (λ n. refl))
-
--- what the places of a list hold, by the number that it returned
-list-numbers : {actor : Party} {store : Option (List ℕ)} {ids areas : List ℕ} {amounts : List ℤ} {places s t left l m : List ℕ} (lent : Bool) (number : ℕ)
-    → PostedBy actor store (given lent l) ids areas amounts places s number t left l m
-    → listLink store lent ids areas amounts places s number t left l m .gave .numbers ≡ requestBy actor (listWith store (given lent l) ids areas amounts (length places)) s .numbers
-unfolding listLink after
-list-numbers lent zero p = p .beside
-list-numbers {actor} {store} {ids} {areas} {amounts} {places} {s} {l = l} lent (suc n) p =
-    refused-list actor (settingOf store) (given lent l) s (linesOf ids areas amounts (length places)) n (sym (p .logged .carried .answer))
-
 pub contracts-link-by : (store : Option (List ℕ)) → ContractsLinkBy store
 unfolding callLink withdrawalLink listLink given
 contracts-link-by store =
+    let g = settingOf store in
     record {
       carried-links = λ {actor} {s} {t} {u} {l} {m} {c} {a} {ds} lent k rest.
-          let r = actLent (settingOf store) (given lent l) (call c) in
-          thenBy refl refl (k .carried) (no-numbers actor r s (call-numbers (settingOf store) (given lent l) s c)) (log-left actor (settingOf store) lent s (call c) k) rest;
+          let n = enteringNumber actor operators s in
+          thenBy refl refl (k .carried) (call-numbers n g (given lent l) s c) (log-left n g lent s (call c) l (k .log)) rest;
       withdrawn-links = λ {actor} {s} {t} {u} {l} {m} {a} {ds} k rest.
-          let r = actLent (settingOf store) (some l) withdrawal in
-          thenBy refl refl (k .carried) (no-numbers actor r s (withdrawal-numbers (settingOf store) l s)) (log-left actor (settingOf store) true s withdrawal k) rest;
+          let n = enteringNumber actor operators s in
+          thenBy refl refl (k .carried) (withdrawal-numbers n g l s) (log-left n g true s withdrawal l (k .log)) rest;
       posted-links = λ {actor} {s} {t} {u} {ids} {areas} {places} {left} {l} {m} {amounts} {number} {ds} lent p rest.
-          thenBy refl refl (p .logged .carried) (list-numbers lent number p)
-          (log-left actor (settingOf store) lent s (postings (linesOf ids areas amounts (length places))) (p .logged)) rest;
+          let n = enteringNumber actor operators s in
+          let v = linesOf ids areas amounts (length places) in
+          thenBy refl refl (p .logged .carried) (list-numbers n g (given lent l) s v number places (p .logged .carried .answer) (p .beside))
+          (log-left n g lent s (postings v) l (p .logged .log)) rest;
     }

@@ -6,89 +6,89 @@ use mathlib.Core.Option.{Option, none, some}
 use mathlib.Core.Path.{_≡_, _∙_, ap, refl, sym}
 use Prim.Native.Nat.{ℕ, suc, zero}
 use native.Mathlib.Omega.{arith}
-use lib.IntN.{ℤ}
 use lib.ListN.{length}
 use Rattle.book_format.specs.After.{after}
 use Rattle.book_format.specs.Book.{bookOf}
+use Rattle.book_format.specs.Questions.{bookNumber}
 use Rattle.log_format.specs.Log.{entriesOf}
-use Rattle.log_format.specs.Noted.{callEntered, hasEntry, lastly, room, withdrawalEntered}
+use Rattle.log_format.specs.Noted.{Entered, callEntered, hasEntry, lastly, room, withdrawalEntered}
 use Rattle.requests.proofs.Lines.{lines-answer}
 use Rattle.requests.proofs.Logged.{actLent, with-log, without-log}
-use Rattle.requests.proofs.Opened.{outcome, request-opened}
-use Rattle.requests.specs.Logged.{Logged, Posted, listWith}
-use Rattle.requests.specs.Request.{call, postings, withdrawal, Act, Lines, Outcome, Setting, actBy, actIn, actWith, emptiedIn, enteredIn, limitsOn, linesIn, linesOf, openingLines, openingLinesWith, openingWith, refused, refusedWith, request, settingOf}
+use Rattle.requests.specs.Logged.{lentLog}
+use Rattle.requests.specs.Request.{call, postings, withdrawal, Act, Lines, Outcome, Setting, actBy, actIn, actWith, emptiedIn, enteredIn, limitsOn, linesIn, linesOf, loggedAfter, opening, openingLines, openingWith, outcome, refusedGiven, requestAfter, settingOf, stepIn, withdrawalAfter}
 use Rattle.rules.specs.Calls.{Answer, Call, about, only}
 use Rattle.rules.specs.Questions.{decided, refusal}
 use Rattle.store.specs.Store.{given}
 use Rattle.sequence.specs.Contracts.{ContractsLink, callLink, listLink, withdrawalLink}
 use Rattle.sequence.specs.Links.{then}
 
--- ---- numbers of lines
+-- ---- numbers of lines: of requests after the questions of the book, and 26, whose number is n
 
--- a call has none,
-pub call-numbers : (g : Setting) (log : Option (List ℕ)) (s : List ℕ) (c : Call) → [] ≡ request (actLent g log (call c)) s .numbers
-unfolding outcome request actBy actWith decided refusedWith enteredIn
-call-numbers g none s c = sym (ap (λ (o : Outcome). o .numbers) (request-opened g s c))
-call-numbers g (some l) s c = go (refusal (openingWith g (some l) s ++ (about (limitsOn g (bookOf s)) (bookOf s) c ++ lastly (room l) c)))
-  where
-    go : (o : Option ℕ) → [] ≡ decided o (refusedWith l s) (enteredIn (callEntered (limitsOn g (bookOf s)) (room l) (entriesOf s l) (bookOf s) c)) .numbers
-    go none = refl
-    go (some n) = refl
+-- what is entered in a log, or a refusal, has none
+entered-numbers : (k : ℕ) (o : Option ℕ) (l s : List ℕ) (e : Entered) → [] ≡ after k (refusedGiven (some l) s) (decided o (refusedGiven (some l) s) (enteredIn e)) .numbers
+unfolding after decided refusedGiven enteredIn
+entered-numbers zero none l s e = refl
+entered-numbers zero (some n) l s e = refl
+entered-numbers (suc k) o l s e = refl
+
+-- so a call has none,
+pub call-numbers : (n : ℕ) (g : Setting) (log : Option (List ℕ)) (s : List ℕ) (c : Call) → [] ≡ requestAfter n (actLent g log (call c)) s .numbers
+unfolding requestAfter actBy actIn actWith stepIn outcome loggedAfter
+call-numbers n g none s c = refl
+call-numbers n g (some l) s c =
+    let b = bookOf s in
+    let limits = limitsOn g b in
+    entered-numbers (openingWith n g (some l) s) (refusal (about limits b c ++ lastly (room l) c)) l s (callEntered limits (room l) (entriesOf s l) b c)
 
 -- nor has a withdrawal
-pub withdrawal-numbers : (g : Setting) (l s : List ℕ) → [] ≡ request (actLent g (some l) withdrawal) s .numbers
-unfolding request actBy actWith decided refusedWith enteredIn
-withdrawal-numbers g l s = go (refusal (openingWith g (some l) s ++ (hasEntry (entriesOf s l) ∷ [])))
-  where
-    go : (o : Option ℕ) → [] ≡ decided o (refusedWith l s) (enteredIn (withdrawalEntered (entriesOf s l) (bookOf s))) .numbers
-    go none = refl
-    go (some n) = refl
+pub withdrawal-numbers : (n : ℕ) (g : Setting) (l s : List ℕ) → [] ≡ requestAfter n (actLent g (some l) withdrawal) s .numbers
+unfolding requestAfter actBy actWith withdrawalAfter
+withdrawal-numbers n g l s = entered-numbers (openingWith n g (some l) s) (refusal (hasEntry (entriesOf s l) ∷ [])) l s (withdrawalEntered (entriesOf s l) (bookOf s))
 
 -- a refused list has none
-pub refused-numbers : (g : Setting) (log : Option (List ℕ)) (s : List ℕ) (v : Lines) (m : ℕ) → request (actLent g log (postings v)) s .answer ≡ only (suc m) → [] ≡ request (actLent g log (postings v)) s .numbers
-unfolding request actBy actIn actWith decided refused refusedWith emptiedIn only
-refused-numbers g none s v m e = go (refusal (openingLines g v s)) e
+pub refused-numbers : (n : ℕ) (g : Setting) (log : Option (List ℕ)) (s : List ℕ) (v : Lines) (m : ℕ) → requestAfter n (actLent g log (postings v)) s .answer ≡ only (suc m)
+    → [] ≡ requestAfter n (actLent g log (postings v)) s .numbers
+unfolding requestAfter actBy actIn actWith after refusedGiven emptiedIn only
+refused-numbers n g log s v m = of-log log
   where
-    gives : Outcome
-    gives = linesIn g s (v .ids) (v .areas) (v .amounts)
+    by-number : (kept : Option (List ℕ)) (x : Outcome) → x .answer ≡ only 0 → (k : ℕ) → after k (refusedGiven kept s) x .answer ≡ only (suc m) → [] ≡ after k (refusedGiven kept s) x .numbers
+    by-number kept x z zero e = absurd (let i : _≡_ {A = ℕ} 0 (suc m) = ap (λ (a : Answer). a .number) (sym z ∙ e) in omega arith)
+    by-number kept x z (suc k) e = refl
 
-    go : (o : Option ℕ) → decided o (refused s) gives .answer ≡ only (suc m) → [] ≡ decided o (refused s) gives .numbers
-    go none k = absurd (let n : _≡_ {A = ℕ} 0 (suc m) = ap (λ (a : Answer). a .number) (sym (lines-answer g s (v .ids) (v .areas) (v .amounts)) ∙ k) in omega arith)
-    go (some n) k = refl
-refused-numbers g (some l) s v m e = go (refusal (openingLinesWith g (some l) v s)) e
-  where
-    gives : Outcome
-    gives = linesIn g s (v .ids) (v .areas) (v .amounts)
+    zero-answer : linesIn g s (v .ids) (v .areas) (v .amounts) .answer ≡ only 0
+    zero-answer = lines-answer g s (v .ids) (v .areas) (v .amounts)
 
-    go : (o : Option ℕ) → decided o (refusedWith l s) (emptiedIn gives) .answer ≡ only (suc m) → [] ≡ decided o (refusedWith l s) (emptiedIn gives) .numbers
-    go none k = absurd (let n : _≡_ {A = ℕ} 0 (suc m) = ap (λ (a : Answer). a .number) (sym (lines-answer g s (v .ids) (v .areas) (v .amounts)) ∙ k) in omega arith)
-    go (some n) k = refl
+    of-log : (log : Option (List ℕ)) → requestAfter n (actLent g log (postings v)) s .answer ≡ only (suc m) → [] ≡ requestAfter n (actLent g log (postings v)) s .numbers
+    of-log none e = by-number none (linesIn g s (v .ids) (v .areas) (v .amounts)) zero-answer (opening (openingLines n v) g s) e
+    of-log (some l) e = by-number (some l) (emptiedIn (linesIn g s (v .ids) (v .areas) (v .amounts))) zero-answer (openingWith (openingLines n v) g (some l) s) e
+
+-- what the places of a list hold, by the number that it returned
+pub list-numbers : (n : ℕ) (g : Setting) (log : Option (List ℕ)) (s : List ℕ) (v : Lines) (number : ℕ) (places : List ℕ) {left : List ℕ} → let r = requestAfter n (actLent g log (postings v)) s in
+    only number ≡ r .answer → left ≡ after number (λ k. places) (r .numbers) → after number (λ k. []) left ≡ r .numbers
+unfolding after
+list-numbers n g log s v zero places a p = p
+list-numbers n g log s v (suc m) places a p = refused-numbers n g log s v m (sym a)
 
 -- ---- the log afterwards
 
-log-left : (g : Setting) (lent : Bool) (s : List ℕ) (a : Act) {x : Answer} {t l m : List ℕ} → Logged (actLent g (given lent l) a) s x t l m → given lent m ≡ request (actLent g (given lent l) a) s .log
+pub log-left : (n : ℕ) (g : Setting) (lent : Bool) (s : List ℕ) (a : Act) (l : List ℕ) {m : List ℕ} → let r = requestAfter n (actLent g (given lent l) a) s in m ≡ lentLog (r .log) l → given lent m ≡ r .log
 unfolding given
-log-left g true s a {l = l} k = ap some (k .log) ∙ sym (with-log g l s a l)
-log-left g false s a k = sym (without-log g s a)
+log-left n g true s a l k = ap some k ∙ sym (with-log n g l s a l)
+log-left n g false s a l k = sym (without-log n g s a)
 
 -- ---- links
-
--- what the places of a list hold, by the number that it returned
-list-numbers : {store : Option (List ℕ)} {ids areas : List ℕ} {amounts : List ℤ} {places s t left l m : List ℕ} (lent : Bool) (number : ℕ) → Posted store (given lent l) ids areas amounts places s number t left l m
-    → listLink store lent ids areas amounts places s number t left l m .gave .numbers ≡ request (listWith store (given lent l) ids areas amounts (length places)) s .numbers
-unfolding listLink after
-list-numbers lent zero p = p .beside
-list-numbers {store} {ids} {areas} {amounts} {places} {s} {l = l} lent (suc n) p =
-    refused-numbers (settingOf store) (given lent l) s (linesOf ids areas amounts (length places)) n (sym (p .logged .carried .answer))
 
 pub contracts-link : (store : Option (List ℕ)) → ContractsLink store
 unfolding callLink withdrawalLink listLink given
 contracts-link store =
+    let g = settingOf store in
     record {
       carried-links = λ {s} {t} {u} {l} {m} {c} {a} {ls} lent k rest.
-          then refl refl (k .carried) (call-numbers (settingOf store) (given lent l) s c) (log-left (settingOf store) lent s (call c) k) rest;
+          then refl refl (k .carried) (call-numbers (bookNumber s) g (given lent l) s c) (log-left (bookNumber s) g lent s (call c) l (k .log)) rest;
       withdrawn-links = λ {s} {t} {u} {l} {m} {a} {ls} k rest.
-          then refl refl (k .carried) (withdrawal-numbers (settingOf store) l s) (log-left (settingOf store) true s withdrawal k) rest;
+          then refl refl (k .carried) (withdrawal-numbers (bookNumber s) g l s) (log-left (bookNumber s) g true s withdrawal l (k .log)) rest;
       posted-links = λ {s} {t} {u} {ids} {areas} {places} {left} {l} {m} {amounts} {number} {ls} lent p rest.
-          then refl refl (p .logged .carried) (list-numbers lent number p) (log-left (settingOf store) lent s (postings (linesOf ids areas amounts (length places))) (p .logged)) rest;
+          let v = linesOf ids areas amounts (length places) in
+          then refl refl (p .logged .carried) (list-numbers (bookNumber s) g (given lent l) s v number places (p .logged .carried .answer) (p .beside))
+          (log-left (bookNumber s) g lent s (postings v) l (p .logged .log)) rest;
     }

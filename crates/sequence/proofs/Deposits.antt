@@ -12,17 +12,15 @@ use Rattle.book_format.proofs.Passed.{passed-of}
 use Rattle.book_format.proofs.Round.{bytesOf-bookOf}
 use Rattle.book_format.specs.After.{after, stepAfter, unchanged}
 use Rattle.book_format.specs.Book.{bookOf, bytesOf}
+use Rattle.book_format.specs.Questions.{bookNumber}
 use Rattle.book_format.specs.Steps.{inBytes}
 use Rattle.laws_deposits.proofs.Deposits.{deposits-least, deposits-suffice}
 use Rattle.laws_deposits.specs.Deposits.{lacking, withDeposits}
-use Rattle.log_format.specs.Fits.{logNumber}
 use Rattle.log_format.specs.Noted.{callEntered, lastly, room, runWithin, stopped}
-use Rattle.requests.proofs.Logged.{call-logged, with-number, without-number}
-use Rattle.requests.proofs.Opened.{outcome, request-opened}
-use Rattle.requests.proofs.Passed.{opening-book}
-use Rattle.requests.specs.Carried.{Carried}
-use Rattle.requests.specs.Logged.{loggedAfter, openingNumberWith}
-use Rattle.requests.specs.Request.{actOf, call, enteredIn, limitsOn, openingNumber, refusedWith, request, settingOf, Outcome}
+use Rattle.requests.proofs.Emptied.{with-opening}
+use Rattle.requests.proofs.Logged.{without-number}
+use Rattle.requests.proofs.Opened.{opening-zero}
+use Rattle.requests.specs.Request.{actOf, call, actBy, actIn, actWith, enteredIn, limitsOn, loggedAfter, opening, openingWith, outcome, refusedGiven, request, requestAfter, settingOf, stepIn}
 use Rattle.rules.specs.Book.{Book, User}
 use Rattle.rules.specs.Calls.{Answer, Result, about, cuttable, effect, nextReduced, only, run, runFor}
 use Rattle.rules.specs.Changes.{withUsers}
@@ -44,32 +42,25 @@ module _ (store : Option (List ℕ)) (s : List ℕ) where
   abbrev figures : Limits
   figures = limitsOn (settingOf store) (bookOf s)
 
-  -- who passes the opening questions passes those of the book
-  log-book : (log : Option (List ℕ)) → openingNumberWith (settingOf store) log s ≡ 0 → openingNumber (settingOf store) s ≡ 0
-  unfolding after
-  log-book log e = go (openingNumber (settingOf store) s) (logNumber log s) (sym (with-number (settingOf store) log s) ∙ e)
-    where
-      go : (n m : ℕ) → after n (λ k. k) m ≡ 0 → n ≡ 0
-      go zero m h = refl
-      go (suc n) m h = absurd (omega arith)
+  -- the opening questions of a run without a log, and with one
+  abbrev asked : Option (List ℕ) → ℕ
+  asked log = openingWith (bookNumber s) (settingOf store) log s
 
-  -- a run as it is by the number of its opening questions
+  -- a run as it is by their number
   by-number : (log : Option (List ℕ)) (P : ℕ → Answer → List ℕ → Type 0) → ((n : ℕ) → P (suc n) (only (suc n)) s)
-      → (openingNumber (settingOf store) s ≡ 0 → let r = runs figures log (bookOf s) in P 0 (r .answer) (bytesOf (r .book)))
-      → let x = request (actOf store log (call run)) s in P (openingNumberWith (settingOf store) log s) (x .answer) (x .bytes)
-  unfolding runs outcome stepAfter loggedAfter after unchanged inBytes decided refusal about lastly callEntered enteredIn refusedWith
+      → (bookNumber s ≡ 0 → let r = runs figures log (bookOf s) in P 0 (r .answer) (bytesOf (r .book)))
+      → let x = request (actOf store log (call run)) s in P (asked log) (x .answer) (x .bytes)
+  unfolding requestAfter actBy actIn actWith stepIn runs outcome stepAfter loggedAfter after unchanged inBytes decided refusal about lastly callEntered enteredIn refusedGiven
   by-number none P refused passed =
-      let g = settingOf store in
-      subst (λ (n : ℕ). P n (request (actOf store none (call run)) s .answer) (request (actOf store none (call run)) s .bytes)) (sym (without-number g s))
-      (subst (λ (x : Outcome). P (openingNumber g s) (x .answer) (x .bytes)) (sym (request-opened g s run)) (go (openingNumber g s) passed))
+      subst (λ (n : ℕ). P n (request (actOf store none (call run)) s .answer) (request (actOf store none (call run)) s .bytes)) (sym (without-number (bookNumber s) (settingOf store) s))
+      (go (opening (bookNumber s) (settingOf store) s) (λ e. passed (opening-zero (bookNumber s) (settingOf store) s e)))
     where
       go : (n : ℕ) → (n ≡ 0 → let r = runs figures none (bookOf s) in P 0 (r .answer) (bytesOf (r .book)))
           → let x = outcome (stepAfter n figures s run) in P n (x .answer) (x .bytes)
       go zero h = h refl
       go (suc n) h = refused n
   by-number (some l) P refused passed =
-      let g = settingOf store in
-      subst (λ (x : Outcome). P (openingNumberWith g (some l) s) (x .answer) (x .bytes)) (sym (call-logged g l s run)) (go (openingNumberWith g (some l) s) (λ e. passed (log-book (some l) e)))
+      go (asked (some l)) (λ e. passed (opening-zero (bookNumber s) (settingOf store) s (with-opening (bookNumber s) (settingOf store) (some l) s e)))
     where
       go : (n : ℕ) → (n ≡ 0 → let r = runs figures (some l) (bookOf s) in P 0 (r .answer) (bytesOf (r .book)))
           → let x = loggedAfter n figures l s run in P n (x .answer) (x .bytes)
@@ -112,13 +103,13 @@ module _ (limits : Limits) where
 
 module _ (store log : Option (List ℕ)) where
   suffices : (b : Book) (s : List ℕ) → AllBytes s → bookOf s ≡ withDeposits (lacking (limitsOf store (b .header .date)) b) b
-      → let x = request (actOf store log (call run)) s in (x .answer ≡ only (openingNumberWith (settingOf store) log s)) × (x .bytes ≡ s)
+      → let x = request (actOf store log (call run)) s in (x .answer ≡ only (openingWith (bookNumber s) (settingOf store) log s)) × (x .bytes ≡ s)
   unfolding limitsOn withDeposits withUsers
   suffices b s h e =
       by-number store s log (λ n a t. (a ≡ only n) × (t ≡ s)) (λ n. (refl, refl))
       (λ z. let r : runs (figures store s) log (bookOf s) ≡ record { answer = only 0; book = withDeposits (lacking (limitsOf store (b .header .date)) b) b }
       = ap (λ (c : Book). runs (limitsOn (settingOf store) c) log c) e ∙ idle (limitsOf store (b .header .date)) log b in
-      (ap (λ (x : Result). x .answer) r, ap (λ (x : Result). bytesOf (x .book)) r ∙ ap bytesOf (sym e) ∙ bytesOf-bookOf s h (passed-of s (book-passed s (opening-book (settingOf store) s z)))))
+      (ap (λ (x : Result). x .answer) r, ap (λ (x : Result). bytesOf (x .book)) r ∙ ap bytesOf (sym e) ∙ bytesOf-bookOf s h (passed-of s (book-passed s z))))
 
   lessens : (b : Book) (amounts : User → ℕ) (u : User) (s : List ℕ) → bookOf s ≡ withDeposits amounts b → List·Memᴰ u (b .users)
       → let limits = limitsOf store (b .header .date) in T (shortOfCover limits b u) → T (hasEligible b u) → amounts u < target limits b u

@@ -1,33 +1,39 @@
 -- How long a run can be: a refused run reports none and leaves the bytes; every other, also one that a full log stops, has done some reductions of the rules' run, each of which
 -- cuts at least one MWh, and no reduction leaves the book, whose bytes are those that it was read from. Assumes nothing.
 use mathlib.Core.Bool.{true, not}
-use mathlib.Core.List.{List, [], _++_}
+use mathlib.Core.List.{List}
 use mathlib.Core.Option.{Option, none, some}
 use mathlib.Core.Path.{_≡_, refl, sym, ap, ap₂, subst, _∙_}
 use Prim.Native.Nat.{ℕ, zero, suc, _+_, _≤_}
 use native.Mathlib.Omega.{arith}
 use lib.Dec.{T}
 use Rattle.fields.specs.Field.{AllBytes}
+use Rattle.book_format.proofs.Formed.{book-passed}
 use Rattle.book_format.proofs.Passed.{passed-of}
 use Rattle.book_format.proofs.Round.{bytesOf-bookOf}
+use Rattle.book_format.specs.After.{after, stepAfter, unchanged}
 use Rattle.book_format.specs.Book.{bookOf, bytesOf, tradesOf}
-use Rattle.book_format.specs.Questions.{aboutBytes}
+use Rattle.book_format.specs.Questions.{aboutBytes, bookNumber}
+use Rattle.book_format.specs.Steps.{inBytes}
 use Rattle.laws.proofs.Fuel.{reduced-less}
-use Rattle.laws.proofs.Refusals.{append-yes, first-yes}
+use Rattle.laws.proofs.Refusals.{first-yes, number-none, numbered}
+use Rattle.base.specs.Lists.{all}
 use Rattle.laws.proofs.Run.{reduced-law, run-none}
 use Rattle.laws.specs.Sound.{Sound}
 use Rattle.log_format.proofs.Main.{number-zero, runs-within}
 use Rattle.log_format.proofs.Parts.{logged-bytes}
 use Rattle.log_format.proofs.Read.{fits-logged}
-use Rattle.log_format.specs.Fits.{aboutLog, logFits}
+use Rattle.log_format.specs.Fits.{aboutLog, logFits, logNumber}
 use Rattle.log_format.specs.Log.{entriesOf, logBytes}
 use Rattle.log_format.specs.Noted.{callEntered, lastly, room, runWithin, stopped}
+use Rattle.requests.proofs.Emptied.{with-opening}
+use Rattle.requests.proofs.Opened.{opening-zero, second-zero}
 use Rattle.requests.specs.Carried.{Carried}
-use Rattle.requests.specs.Request.{call, actBy, actIn, actOf, actWith, aboutSetting, carriedOut, enteredIn, limitsOn, opening, openingWith, refused, refusedWith, request, settingOf, stepIn}
+use Rattle.requests.specs.Request.{call, actBy, actIn, actOf, actWith, enteredIn, limitsOn, loggedAfter, opening, openingWith, outcome, refusedGiven, request, requestAfter, settingOf, stepIn}
 use Rattle.rules.specs.Book.{Book, User}
 use Rattle.rules.specs.Calls.{Answer, about, cuttable, effect, nextReduced, ofRun, only, onward, reduced, run, runFor}
 use Rattle.rules.specs.Levels.{Limits}
-use Rattle.rules.specs.Questions.{Question, decided, refusal}
+use Rattle.rules.specs.Questions.{decided, refusal}
 use Rattle.sequence.proofs.Acts.{accepted-zero}
 use Rattle.sequence.specs.Links.{acceptedNumber}
 use Rattle.sequence.specs.RunLength.{RunLeavesLog, RunLength}
@@ -57,36 +63,29 @@ module _ (store : Option (List ℕ)) (s : List ℕ) where
   abbrev most : ℕ
   most = cuttable (bookOf s .trades)
 
-  -- the questions of the book come first
-  book-first : (qs : List Question) → refusal ((aboutBytes s ++ aboutSetting (settingOf store) (bookOf s)) ++ qs) ≡ none → refusal (aboutBytes s) ≡ none
-  book-first qs e = append-yes (aboutBytes s) (aboutSetting (settingOf store) (bookOf s)) (append-yes (aboutBytes s ++ aboutSetting (settingOf store) (bookOf s)) qs e .0) .0
-
-  without : (o : Option ℕ) → (o ≡ none → refusal (aboutBytes s) ≡ none)
-      → let x = decided o (refused s) (carriedOut (runFor limits most (bookOf s))) in RunGave limits s (x .answer) (x .bytes)
-  unfolding decided refused carriedOut
-  without none h = ran most (h refl) refl (accepted-zero (call run) (number-zero limits most (bookOf s))) refl
-  without (some n) h = stayed n refl refl
+  without : (n : ℕ) → (n ≡ 0 → bookNumber s ≡ 0) → let x = stepAfter n limits s run in RunGave limits s (x .answer) (x .bytes)
+  unfolding stepAfter after unchanged inBytes decided refusal about effect
+  without zero h = ran most (book-passed s (h refl)) refl (accepted-zero (call run) (number-zero limits most (bookOf s))) refl
+  without (suc n) h = stayed (suc n) refl refl
 
   stops : (o : Option User) (a : Answer) → (stopped o a .reductions ≡ a .reductions) × (a .number ≡ 0 → acceptedNumber (call run) (stopped o a .number) ≡ true)
   unfolding stopped acceptedNumber
   stops none a = (refl, λ e. accepted-zero (call run) e)
   stops (some u) a = (refl, λ e. refl)
 
-  within : (l : List ℕ) (es : List (List ℕ)) (n : ℕ) (o : Option ℕ) → (o ≡ none → refusal (aboutBytes s) ≡ none)
-      → let x = decided o (refusedWith l s) (enteredIn (callEntered limits n es (bookOf s) run)) in RunGave limits s (x .answer) (x .bytes)
-  unfolding decided refusedWith enteredIn callEntered runWithin
-  within l es n none h =
-      let r = runFor limits n (bookOf s) in
+  within : (l : List ℕ) (n : ℕ) → (n ≡ 0 → bookNumber s ≡ 0) → let x = loggedAfter n limits l s run in RunGave limits s (x .answer) (x .bytes)
+  unfolding loggedAfter after decided refusal about lastly refusedGiven enteredIn callEntered runWithin
+  within l zero h =
+      let r = runFor limits (room l) (bookOf s) in
       let q = stops (nextReduced limits (r .book) (r .book .users)) (r .answer) in
-      ran n (h refl) (q .0) (q .1 (number-zero limits n (bookOf s))) refl
-  within l es n (some i) h = stayed i refl refl
+      ran (room l) (book-passed s (h refl)) (q .0) (q .1 (number-zero limits (room l) (bookOf s))) refl
+  within l (suc n) h = stayed (suc n) refl refl
 
   gave : (log : Option (List ℕ)) → RunGave limits s (request (actOf store log (call run)) s .answer) (request (actOf store log (call run)) s .bytes)
-  unfolding request actBy actIn stepIn actWith opening openingWith about lastly effect
-  gave none = without (refusal ((aboutBytes s ++ aboutSetting (settingOf store) (bookOf s)) ++ [])) (book-first [])
+  unfolding requestAfter actBy actIn stepIn actWith outcome
+  gave none = without (opening (bookNumber s) (settingOf store) s) (opening-zero (bookNumber s) (settingOf store) s)
   gave (some l) =
-      within l (entriesOf s l) (room l) (refusal (((aboutBytes s ++ aboutSetting (settingOf store) (bookOf s)) ++ aboutLog (some l) s) ++ []))
-      (λ e. book-first (aboutLog (some l) s) (append-yes ((aboutBytes s ++ aboutSetting (settingOf store) (bookOf s)) ++ aboutLog (some l) s) [] e .0))
+      within l (openingWith (bookNumber s) (settingOf store) (some l) s) (λ e. opening-zero (bookNumber s) (settingOf store) s (with-opening (bookNumber s) (settingOf store) (some l) s e))
 
 module _ {limits : Limits} {s : List ℕ} {a : Answer} {t : List ℕ} where
   gave-most : RunGave limits s a t → a .reductions ≤ cuttable (tradesOf s)
@@ -124,24 +123,27 @@ module _ (store : Option (List ℕ)) (l s : List ℕ) (c : AllBytes l) (b : AllB
   log-whole : refusal (aboutBytes s) ≡ none → T (logFits l s) → logBytes (entriesOf s l) s ≡ l
   log-whole p h = sym (logged-bytes (fits-logged c (passed-of s p .form .trades) h))
 
-  by-log : (o : Option ℕ) → (o ≡ none → (refusal (aboutBytes s) ≡ none) × T (logFits l s)) → let x = decided o (refusedWith l s) (enteredIn (callEntered (limits store s) (room l) (entriesOf s l) (bookOf s) run)) in
-      x .answer .reductions ≡ 0 → x .log ≡ some l
-  unfolding decided refusedWith enteredIn callEntered
-  by-log none h z =
-      let p = h refl in
+  by-log : (n : ℕ) → (n ≡ 0 → (bookNumber s ≡ 0) × T (logFits l s)) → let x = loggedAfter n (limits store s) l s run in x .answer .reductions ≡ 0 → x .log ≡ some l
+  unfolding loggedAfter after decided refusal about lastly refusedGiven enteredIn callEntered
+  by-log zero h z =
+      let p = book-passed s (h refl .0) in
       let q = runs-within (limits store s) .idle (room l) (bookOf s) (entriesOf s l) z in
       ap₂ (λ (es : List (List ℕ)) (n : Book). some (logBytes es (bytesOf n))) (q .0) (q .1)
-      ∙ ap (λ (x : List ℕ). some (logBytes (entriesOf s l) x)) (bytesOf-bookOf s b (passed-of s (p .0)))
-      ∙ ap some (log-whole (p .0) (p .1))
-  by-log (some n) h z = refl
+      ∙ ap (λ (x : List ℕ). some (logBytes (entriesOf s l) x)) (bytesOf-bookOf s b (passed-of s p))
+      ∙ ap some (log-whole p (h refl .1))
+  by-log (suc n) h z = refl
+
+  -- a log that is not refused passes question 19
+  log-fits : logNumber (some l) s ≡ 0 → T (logFits l s)
+  unfolding logNumber aboutLog numbered all
+  log-fits e = first-yes _ _ (number-none (aboutLog (some l) s) tt e) .0
 
   leaves-log : request (actOf store (some l) (call run)) s .answer .reductions ≡ 0 → request (actOf store (some l) (call run)) s .log ≡ some l
-  unfolding request actBy actWith opening openingWith about lastly aboutLog
+  unfolding requestAfter actBy actWith openingWith
   leaves-log z =
-      let first = aboutBytes s ++ aboutSetting (settingOf store) (bookOf s) in
-      by-log (refusal ((first ++ aboutLog (some l) s) ++ []))
-      (λ e. let k = append-yes (first ++ aboutLog (some l) s) [] e .0 in (book-first store s (aboutLog (some l) s) k, first-yes _ _ (append-yes first (aboutLog (some l) s) k .1) .0))
-      z
+      let g = settingOf store in
+      by-log (openingWith (bookNumber s) g (some l) s)
+      (λ e. (opening-zero (bookNumber s) g s (with-opening (bookNumber s) g (some l) s e), log-fits (second-zero (opening (bookNumber s) g s) (logNumber (some l) s) e))) z
 
 pub run-leaves-log : (store : Option (List ℕ)) → RunLeavesLog store
 run-leaves-log store = record { leaves = λ {l} {s} {t} {a} c b k z. leaves-log store l s c b (sym (ap (λ (x : Answer). x .reductions) (k .answer)) ∙ z) }

@@ -1,19 +1,21 @@
 -- Any finite sequence of requests with one store and whatever logs from any bytes that pass the questions 1 to 7. One request on bytes is the request of the rules on the book that they
 -- hold; what it does to the book composes over the sequence; positions come at the end from double counting. Assumes nothing.
 use mathlib.Core.Bool.{not}
-use mathlib.Core.List.{List, [], _∷_, _++_, append-assoc}
+use mathlib.Core.List.{List, [], _∷_, _++_}
 use mathlib.Core.Option.{Option, none, some}
 use mathlib.Core.Path.{_≡_, _∙_, ap, ap₂, refl, subst, sym}
-use Prim.Native.Nat.{ℕ}
+use Prim.Native.Nat.{ℕ, suc, zero}
 use lib.Dec.{T}
 use lib.IntN.{ℤ}
 use Rattle.fields.specs.Field.{AllBytes}
-use Rattle.book_format.proofs.Formed.{book-passed}
+use Rattle.book_format.proofs.After.{asked-after}
 use Rattle.book_format.proofs.Passed.{passed}
 use Rattle.book_format.proofs.Round.{bytesOf-bookOf}
 use Rattle.book_format.proofs.Written.{all-bytes-bytesOf, bookOf-bytesOf, written-number}
+use Rattle.book_format.specs.After.{after, stepAfter, unchanged}
 use Rattle.book_format.specs.Book.{bookOf, bytesOf, tradesOf, usersOf}
-use Rattle.book_format.specs.Questions.{aboutBytes, bookNumber}
+use Rattle.book_format.specs.Questions.{bookNumber}
+use Rattle.book_format.specs.Steps.{inBytes}
 use Rattle.base.specs.Sums.{sumℤ}
 use Rattle.laws.proofs.Moved.{Moved, moved-refl, moved-trans}
 use Rattle.laws.proofs.Positions.{positions-sum}
@@ -21,8 +23,11 @@ use Rattle.laws.proofs.Refusals.{refusal-next}
 use Rattle.laws.proofs.Sound.{none-refuses}
 use Rattle.laws.specs.Statements.{AllCovered}
 use Rattle.laws.specs.Trades.{Lowered, Pairwise}
+use Rattle.requests.proofs.Lines.{lines-numbered}
+use Rattle.requests.proofs.Logged.{log-numbered}
+use Rattle.requests.proofs.Opened.{after-first, decided-after, setting-numbered}
 use Rattle.requests.specs.Carried.{Carried}
-use Rattle.log_format.specs.Fits.{aboutLog}
+use Rattle.log_format.specs.Fits.{aboutLog, logNumber}
 use Rattle.log_format.specs.Log.{entriesOf, logBytes}
 use Rattle.log_format.specs.Noted.{Entered, callEntered, hasEntry, lastly, room, withdrawalEntered}
 use Rattle.requests.specs.Request.{
@@ -41,31 +46,33 @@ use Rattle.requests.specs.Request.{
   actIn,
   actLogged,
   actWith,
-  carriedOut,
   emptiedIn,
   emptiedOn,
   enteredIn,
   enteredOn,
+  firstOf,
   limitsOn,
   linesGiven,
   linesIn,
+  loggedAfter,
   ofCall,
   opening,
   openingLines,
-  openingLinesWith,
   openingWith,
-  refused,
+  outcome,
+  refusedGiven,
   refusedOn,
-  refusedWith,
   request,
+  requestAfter,
   requestGiven,
   stepGiven,
   stepIn,
+  withdrawalAfter,
 }
 use Rattle.rules.specs.Book.{Book, Header}
 use Rattle.rules.specs.Calls.{posting, Answer, Call, Result, about, effect, only}
 use Rattle.rules.specs.Levels.{Limits}
-use Rattle.rules.specs.Questions.{Question, aboutBook, decided, refusal}
+use Rattle.rules.specs.Questions.{Question, aboutBook, decided, numberOf, refusal}
 use Rattle.sequence.proofs.Acts.{Acted}
 use Rattle.sequence.proofs.Entered.{request-law}
 use Rattle.sequence.proofs.Step.{step-law}
@@ -73,7 +80,7 @@ use Rattle.sequence.proofs.TradeBytes.{trade-bytes}
 use Rattle.sequence.specs.Claim.{asNone, asAlso, eachNone, eachAlso, AsDefined, Each, Kept, events, final, Claim}
 use Rattle.sequence.specs.Links.{ended, then, Link, acceptedNumber, requestsOf, isAccepted, Linked}
 use Rattle.sequence.specs.Totals.{postedIn, reportedMwh, reportedWorth}
-use Rattle.store.specs.Store.{limitsOf}
+use Rattle.store.specs.Store.{limitsOf, storeNumber}
 
 -- ---- one request on bytes
 
@@ -84,21 +91,45 @@ record Same (o : Outcome) (e : Event) : Type 0 where
   bytes : o .bytes ≡ bytesOf (e .book)
   log : o .log ≡ e .log
 
--- by the questions of a call: the same answer, and the bytes of the same book, also where it is refused and the very bytes are left
-by-questions : (o : Option ℕ) (s : List ℕ) (b : Book) (r : Result) → s ≡ bytesOf b → Same (decided o (refused s) (carriedOut r)) (ofCall (decided o (λ n. record { answer = only n; book = b }) r))
-unfolding decided refused carriedOut ofCall
-by-questions none s b r e = record { answer = refl; numbers = refl; bytes = refl; log = refl }
-by-questions (some n) s b r e = record { answer = refl; numbers = refl; bytes = e; log = refl }
+-- what is asked on the book that bytes hold, and what on the bytes: where both pass the questions of the book, the rest by its numbers
+module _ (g : Setting) (s : List ℕ) (h : bookNumber s ≡ 0) where
+  abbrev store : ℕ
+  store = storeNumber (g .store) (bookOf s .header .date)
 
-call-bytes : (g : Setting) (s : List ℕ) (c : Call) → AllBytes s → bookNumber s ≡ 0 → Same (stepIn g s c) (ofCall (stepGiven g (bookOf s) c))
-unfolding stepIn stepGiven opening
+  on-bytes : (n : ℕ) → opening (firstOf (bookNumber s) n) g s ≡ firstOf n store
+  unfolding opening after
+  on-bytes n = rw h
+
+  on-bytes-alone : opening (bookNumber s) g s ≡ store
+  unfolding opening after
+  on-bytes-alone = rw h
+
+  on-book : {R : Type 0} (f : ℕ → R) (x : R) (own : List Question) → decided (refusal (aboutBook (bookOf s) ++ own)) f x ≡ decided (refusal own) f x
+  on-book f x own = ap (λ (o : Option ℕ). decided o f x) (refusal-next (aboutBook (bookOf s)) own (none-refuses (bookOf s) (passed s h .sound)))
+
+  then-own : {R : Type 0} (f : ℕ → R) (x : R) (own : List Question)
+      → decided (refusal (aboutBook (bookOf s) ++ (aboutSetting g (bookOf s) ++ own))) f x ≡ after (opening (bookNumber s) g s) f (decided (refusal own) f x)
+  unfolding aboutSetting storeNumber
+  then-own f x own =
+      on-book f x (aboutSetting g (bookOf s) ++ own)
+      ∙ asked-after f x (aboutSetting g (bookOf s)) own (setting-numbered g (bookOf s))
+      ∙ ap (λ (n : ℕ). after n f (decided (refusal own) f x)) (sym on-bytes-alone)
+
+-- by the questions of a call: the same answer, and the bytes of the same book, also where it is refused and the very bytes are left
+by-questions : (n : ℕ) (o : Option ℕ) (s : List ℕ) (b : Book) (r : Result) → s ≡ bytesOf b → let f : ℕ → Result = λ k. record { answer = only k; book = b } in
+    Same (outcome (after n (unchanged s) (decided o (unchanged s) (inBytes r)))) (ofCall (after n f (decided o f r)))
+unfolding after decided unchanged inBytes outcome ofCall
+by-questions zero none s b r e = record { answer = refl; numbers = refl; bytes = refl; log = refl }
+by-questions zero (some n) s b r e = record { answer = refl; numbers = refl; bytes = e; log = refl }
+by-questions (suc n) o s b r e = record { answer = refl; numbers = refl; bytes = e; log = refl }
+
+call-bytes : (g : Setting) (s : List ℕ) (c : Call) → AllBytes s → bookNumber s ≡ 0 → Same (stepIn (bookNumber s) g s c) (ofCall (stepGiven g (bookOf s) c))
+unfolding stepIn stepAfter stepGiven
 call-bytes g s c b h =
     let n = bookOf s in
-    let p = passed s h in
     let limits = limitsOn g n in
-    let own = aboutSetting g n ++ about limits n c in
-    rw (append-assoc (aboutBytes s) (aboutSetting g n) (about limits n c), refusal-next (aboutBytes s) own (book-passed s h), refusal-next (aboutBook n) own (none-refuses n (p .sound)))
-    (by-questions (refusal own) s n (effect limits n c) (sym (bytesOf-bookOf s b p)))
+    rw (then-own g s h (λ k. record { answer = only k; book = n }) (effect limits n c) (about limits n c))
+    (by-questions (opening (bookNumber s) g s) (refusal (about limits n c)) s n (effect limits n c) (sym (bytesOf-bookOf s b (passed s h))))
 
 -- the lines of a list, one after another
 lines-bytes : (g : Setting) (s ids areas : List ℕ) (amounts : List ℤ) → AllBytes s → bookNumber s ≡ 0 → Same (linesIn g s ids areas amounts) (linesGiven g (bookOf s) ids areas amounts)
@@ -109,7 +140,7 @@ lines-bytes g s (id ∷ ids) (area ∷ areas) [] b h = record { answer = refl; n
 lines-bytes g s (id ∷ ids) (area ∷ areas) (z ∷ amounts) b h =
     let c = call-bytes g s (posting id area z) b h in
     let n = stepGiven g (bookOf s) (posting id area z) .book in
-    let t = stepIn g s (posting id area z) .bytes in
+    let t = stepIn (bookNumber s) g s (posting id area z) .bytes in
     let sound = step-law g (bookOf s) (posting id area z) (passed s h .sound) .sound in
     let e : t ≡ bytesOf n = c .bytes in
     let r : Same (linesIn g t ids areas amounts) (linesGiven g n ids areas amounts)
@@ -130,77 +161,87 @@ module _ (g : Setting) (s : List ℕ) (b : AllBytes s) (h : bookNumber s ≡ 0) 
   bytes-held : s ≡ bytesOf held
   bytes-held = sym (bytesOf-bookOf s b (passed s h))
 
-  -- what is asked after the questions 1 to 7
-  bytes-next : (own : List Question) → refusal (aboutBytes s ++ own) ≡ refusal own
-  bytes-next own = refusal-next (aboutBytes s) own (book-passed s h)
-
-  book-next : (own : List Question) → refusal (aboutBook held ++ own) ≡ refusal own
-  book-next own = refusal-next (aboutBook held) own (none-refuses held (passed s h .sound))
-
   -- ---- without a log
 
-  act-bytes : (a : Act) → Same (actIn g s a) (actGiven g held a)
-  unfolding actIn actGiven openingLines opening decided refused refusedOn
+  act-bytes : (a : Act) → Same (actIn (bookNumber s) g s a) (actGiven g held a)
+  unfolding actIn actGiven openingLines after decided refusedGiven refusedOn refusal hasEntry aboutSetting storeNumber
   act-bytes (call c) = call-bytes g s c b h
   act-bytes (postings v) =
       let own = aboutLines v ++ aboutSetting g held in
-      rw (bytes-next own, book-next own) (go (refusal own))
+      rw (
+        on-bytes g s h (numberOf (refusal (aboutLines v))),
+        on-book g s h (refusedOn held none) (linesGiven g held (v .ids) (v .areas) (v .amounts)) own,
+        asked-after (refusedOn held none) (linesGiven g held (v .ids) (v .areas) (v .amounts)) (aboutLines v) (aboutSetting g held) (lines-numbered v),
+        decided-after (refusedOn held none) (linesGiven g held (v .ids) (v .areas) (v .amounts)) (aboutSetting g held) (setting-numbered g held),
+        after-first (numberOf (refusal (aboutLines v))) (store g s h) (refusedOn held none) (linesGiven g held (v .ids) (v .areas) (v .amounts)),
+      )
+      (go (firstOf (numberOf (refusal (aboutLines v))) (store g s h)))
     where
-      go : (o : Option ℕ)
-          → Same (decided o (refused s) (linesIn g s (v .ids) (v .areas) (v .amounts))) (decided o (refusedOn held none) (linesGiven g held (v .ids) (v .areas) (v .amounts)))
-      go none = lines-bytes g s (v .ids) (v .areas) (v .amounts) b h
-      go (some n) = record { answer = refl; numbers = refl; bytes = bytes-held; log = refl }
+      go : (n : ℕ)
+          → Same (after n (refusedGiven none s) (linesIn g s (v .ids) (v .areas) (v .amounts))) (after n (refusedOn held none) (linesGiven g held (v .ids) (v .areas) (v .amounts)))
+      go zero = lines-bytes g s (v .ids) (v .areas) (v .amounts) b h
+      go (suc n) = record { answer = refl; numbers = refl; bytes = bytes-held; log = refl }
   act-bytes withdrawal =
-      let own = aboutSetting g held ++ (hasEntry [] ∷ []) in
-      rw (append-assoc (aboutBytes s) (aboutSetting g held) (hasEntry [] ∷ []), bytes-next own, book-next own) (go (refusal own))
+      rw (then-own g s h (refusedOn held none) (refusedOn held none 18) (hasEntry [] ∷ [])) (go (opening (bookNumber s) g s))
     where
-      go : (o : Option ℕ) → Same (decided o (refused s) (refused s 18)) (decided o (refusedOn held none) (refusedOn held none 18))
-      go none = record { answer = refl; numbers = refl; bytes = bytes-held; log = refl }
-      go (some n) = record { answer = refl; numbers = refl; bytes = bytes-held; log = refl }
+      go : (n : ℕ) → Same (refusedGiven none s (firstOf n 18)) (after n (refusedOn held none) (refusedOn held none 18))
+      go zero = record { answer = refl; numbers = refl; bytes = bytes-held; log = refl }
+      go (suc n) = record { answer = refl; numbers = refl; bytes = bytes-held; log = refl }
 
   -- ---- with a log
 
   module _ (l : List ℕ) where
     -- what is entered in a log, or a refusal
-    by-log : (o : Option ℕ) (x : Entered) → Same (decided o (refusedWith l s) (enteredIn x)) (decided o (refusedOn held (some l)) (enteredOn x))
-    unfolding decided refusedWith refusedOn enteredIn enteredOn
-    by-log none x = record { answer = refl; numbers = refl; bytes = refl; log = refl }
-    by-log (some n) x = record { answer = refl; numbers = refl; bytes = bytes-held; log = refl }
+    by-log : (n : ℕ) (o : Option ℕ) (x : Entered) → Same (after n (refusedGiven (some l) s) (decided o (refusedGiven (some l) s) (enteredIn x))) (after n (refusedOn held (some l)) (decided o (refusedOn held (some l)) (enteredOn x)))
+    unfolding after decided refusedGiven refusedOn enteredIn enteredOn
+    by-log zero none x = record { answer = refl; numbers = refl; bytes = refl; log = refl }
+    by-log zero (some n) x = record { answer = refl; numbers = refl; bytes = bytes-held; log = refl }
+    by-log (suc n) o x = record { answer = refl; numbers = refl; bytes = bytes-held; log = refl }
 
-    by-list : (o : Option ℕ) {x : Outcome} {y : Event} → Same x y → Same (decided o (refusedWith l s) (emptiedIn x)) (decided o (refusedOn held (some l)) (emptiedOn y))
-    unfolding decided refusedWith refusedOn emptiedIn emptiedOn
-    by-list none w = record { answer = w .answer; numbers = w .numbers; bytes = w .bytes; log = ap (λ (t : List ℕ). some (logBytes [] t)) (w .bytes) }
-    by-list (some n) w = record { answer = refl; numbers = refl; bytes = bytes-held; log = refl }
+    by-list : (n : ℕ) {x : Outcome} {y : Event} → Same x y → Same (after n (refusedGiven (some l) s) (emptiedIn x)) (after n (refusedOn held (some l)) (emptiedOn y))
+    unfolding after refusedGiven refusedOn emptiedIn emptiedOn
+    by-list zero w = record { answer = w .answer; numbers = w .numbers; bytes = w .bytes; log = ap (λ (t : List ℕ). some (logBytes [] t)) (w .bytes) }
+    by-list (suc n) w = record { answer = refl; numbers = refl; bytes = bytes-held; log = refl }
 
-    -- the questions of bytes and of the book that they hold, 19 among them
-    then-bytes : (own : List Question) → refusal (openingWith g (some l) s ++ own) ≡ refusal (aboutSetting g held ++ (aboutLog (some l) s ++ own))
-    unfolding openingWith opening
-    then-bytes own =
-        ap refusal (append-assoc (aboutBytes s ++ aboutSetting g held) (aboutLog (some l) s) own ∙ append-assoc (aboutBytes s) (aboutSetting g held) (aboutLog (some l) s ++ own))
-        ∙ bytes-next (aboutSetting g held ++ (aboutLog (some l) s ++ own))
+    -- the questions of the book that bytes hold, 19 among them
+    then-logged : {R : Type 0} (f : ℕ → R) (x : R) (own : List Question)
+        → decided (refusal (aboutBook held ++ (aboutSetting g held ++ (aboutLog (some l) s ++ own)))) f x ≡ after (openingWith (bookNumber s) g (some l) s) f (decided (refusal own) f x)
+    unfolding openingWith logNumber
+    then-logged f x own =
+        then-own g s h f x (aboutLog (some l) s ++ own)
+        ∙ ap (λ y. after (opening (bookNumber s) g s) f y) (asked-after f x (aboutLog (some l) s) own (log-numbered (some l) s))
+        ∙ after-first (opening (bookNumber s) g s) (logNumber (some l) s) f (decided (refusal own) f x)
 
-    logged-bytes : (a : Act) → Same (actWith g l s a) (actLogged g l held a)
-    unfolding actWith actLogged openingLinesWith openingLines
+    logged-bytes : (a : Act) → Same (actWith (bookNumber s) g l s a) (actLogged g l held a)
+    unfolding actWith actLogged loggedAfter withdrawalAfter openingWith openingLines aboutSetting storeNumber logNumber
     logged-bytes (call c) =
         let own = about (limitsOn g held) held c ++ lastly (room l) c in
-        rw (bytesOf-bookOf s b (passed s h), then-bytes own, book-next (aboutSetting g held ++ (aboutLog (some l) s ++ own)))
-        (by-log (refusal (aboutSetting g held ++ (aboutLog (some l) s ++ own))) (callEntered (limitsOn g held) (room l) (entriesOf s l) held c))
+        let x = callEntered (limitsOn g held) (room l) (entriesOf s l) held c in
+        rw (bytesOf-bookOf s b (passed s h), then-logged (refusedOn held (some l)) (enteredOn x) own)
+        (by-log (openingWith (bookNumber s) g (some l) s) (refusal own) x)
     logged-bytes (postings v) =
-        let own = aboutLines v ++ (aboutSetting g held ++ aboutLog (some l) s) in
+        let own = aboutSetting g held ++ aboutLog (some l) s in
+        let x = emptiedOn (linesGiven g held (v .ids) (v .areas) (v .amounts)) in
+        let f = refusedOn held (some l) in
+        let fit = numberOf (refusal (aboutLines v)) in
         rw (
           bytesOf-bookOf s b (passed s h),
-          append-assoc (aboutBytes s) (aboutLines v ++ aboutSetting g held) (aboutLog (some l) s),
-          append-assoc (aboutLines v) (aboutSetting g held) (aboutLog (some l) s),
-          bytes-next own,
-          book-next own,
+          on-bytes g s h fit,
+          on-book g s h f x (aboutLines v ++ own),
+          asked-after f x (aboutLines v) own (lines-numbered v),
+          asked-after f x (aboutSetting g held) (aboutLog (some l) s) (setting-numbered g held),
+          decided-after f x (aboutLog (some l) s) (log-numbered (some l) s),
+          after-first fit (store g s h) f (after (logNumber (some l) s) f x),
+          after-first (firstOf fit (store g s h)) (logNumber (some l) s) f x,
         )
-        (by-list (refusal own) (lines-bytes g s (v .ids) (v .areas) (v .amounts) b h))
+        (by-list (firstOf (firstOf fit (store g s h)) (logNumber (some l) s)) (lines-bytes g s (v .ids) (v .areas) (v .amounts) b h))
     logged-bytes withdrawal =
         let own : List Question = hasEntry (entriesOf s l) ∷ [] in
-        rw (bytesOf-bookOf s b (passed s h), then-bytes own, book-next (aboutSetting g held ++ (aboutLog (some l) s ++ own)))
-        (by-log (refusal (aboutSetting g held ++ (aboutLog (some l) s ++ own))) (withdrawalEntered (entriesOf s l) held))
+        let x = withdrawalEntered (entriesOf s l) held in
+        rw (bytesOf-bookOf s b (passed s h), then-logged (refusedOn held (some l)) (enteredOn x) own)
+        (by-log (openingWith (bookNumber s) g (some l) s) (refusal own) x)
 
-  request-bytes : (log : Option (List ℕ)) (a : Act) → Same (actBy g log s a) (requestGiven g log held a)
+  request-bytes : (log : Option (List ℕ)) (a : Act) → Same (actBy (bookNumber s) g log s a) (requestGiven g log held a)
   unfolding actBy requestGiven
   request-bytes none a = act-bytes a
   request-bytes (some l) a = logged-bytes l a
@@ -222,7 +263,7 @@ pub record Left (l : Link) : Type 0 where
 
 pub left-of : (l : Link) → AllBytes (l .given) → bookNumber (l .given) ≡ 0 → Carried (l .asked) (l .given) (l .gave .answer) (l .gave .bytes)
     → l .gave .numbers ≡ request (l .asked) (l .given) .numbers → l .gave .log ≡ request (l .asked) (l .given) .log → Left l
-unfolding request
+unfolding requestAfter
 left-of l b h k w m =
     let n = givenBy (l .asked) (l .given) .book in
     let r = request-bytes (l .asked .setting) (l .given) b h (l .asked .log) (l .asked .act) in

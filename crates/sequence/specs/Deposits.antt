@@ -7,10 +7,10 @@ use Prim.Native.Nat.{ℕ, _<_}
 use lib.Dec.{T}
 use Rattle.fields.specs.Field.{AllBytes}
 use Rattle.book_format.specs.Book.{bookOf}
+use Rattle.book_format.specs.Questions.{bookNumber}
 use Rattle.laws_deposits.specs.Deposits.{lacking, withDeposits}
 use Rattle.requests.specs.Carried.{Carried}
-use Rattle.requests.specs.Logged.{openingNumberWith}
-use Rattle.requests.specs.Request.{actOf, call, settingOf}
+use Rattle.requests.specs.Request.{actOf, call, openingWith, settingOf}
 use Rattle.rules.specs.Book.{Book, User}
 use Rattle.rules.specs.Calls.{Answer, only, run}
 use Rattle.rules.specs.Levels.{shortOfCover}
@@ -21,7 +21,7 @@ use Rattle.store.specs.Store.{limitsOf}
 pub record DepositsStop (store log : Option (List ℕ)) : Type 0 where
   -- each user deposited what it lacked: the number of the opening questions alone, so that a full log does not stop it, and the bytes as they were
   pub suffice : (b : Book) {s t : List ℕ} {a : Answer} → AllBytes s → bookOf s ≡ withDeposits (lacking (limitsOf store (b .header .date)) b) b
-      → Carried (actOf store log (call run)) s a t → (a ≡ only (openingNumberWith (settingOf store) log s)) × (t ≡ s)
+      → Carried (actOf store log (call run)) s a t → (a ≡ only (openingWith (bookNumber s) (settingOf store) log s)) × (t ≡ s)
   -- one that was short of cover with an eligible trade deposited less than its target: a run that returns 0 has reduced
   pub least : (b : Book) (amounts : User → ℕ) (u : User) {s t : List ℕ} {a : Answer} → bookOf s ≡ withDeposits amounts b → List·Memᴰ u (b .users)
       → let limits = limitsOf store (b .header .date) in

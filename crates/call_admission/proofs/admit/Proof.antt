@@ -1,6 +1,7 @@
 -- `admit` asks the book, then 26, then the store. Assumes nothing.
 use mathlib.Core.Path.{_∙_, sym}
 use borrow.Author.Needs.{needs}
+use Rattle.call_admission.proofs.Asked.{admitted-book, admitted-by}
 use Rattle.call_admission.proofs.admit.Statement.{statement}
 use Rattle.call_admission.proofs.admit.Tie as tie
 
@@ -14,7 +15,7 @@ returns : tie.Need-returns
 returns c =
     let k = c .by-store .ensures in
     let r = c .before .ask .ensures in
-    (k .0 _ _ (r .0), (k .1 .0, λ e. sym (c .before .before .number .ensures) ∙ r .1 (k .1 .1 e)))
+    (admitted-by _ _ (r .0) (k .0), (k .1, admitted-book _ _ (r .0) (k .0)))
 
 pub admit-spec : {M : Type 1} → statement M
 admit-spec = tie.close (tie.spec (λ c κs. search needs) ask-requires by-store-requires returns)

@@ -2,6 +2,7 @@
 use mathlib.Core.Path.{_∙_, sym}
 use borrow.Author.Needs.{needs}
 use Rattle.book_questions.proofs.Asked.{parties-found}
+use Rattle.call_admission.proofs.Asked.{admitted-book, admitted-by}
 use Rattle.call_admission.proofs.admit_with_sums.Statement.{statement}
 use Rattle.call_admission.proofs.admit_with_sums.Tie as tie
 
@@ -16,7 +17,8 @@ returns c =
     let k = c .by-store .ensures in
     let r = c .before .ask2 .ensures in
     let told = c .before .before .before .before .before .before .ask .ensures in
-    (k .0 _ _ (r .0), (k .1 .0, (λ e. sym (told .0 .number) ∙ r .1 (k .1 .1 e), parties-found (told .1) (λ e. r .1 (k .1 .1 e)) (told .0))))
+    let book = admitted-book _ _ (r .0) (k .0) in
+    (admitted-by _ _ (r .0) (k .0), (k .1, (book, parties-found (told .1) (λ e. told .0 .number ∙ book e) (told .0))))
 
 pub admit-with-sums-spec : {M : Type 1} → statement M
 admit-with-sums-spec = tie.close (tie.spec (λ c κs. search needs) ask-requires-2 by-store-requires (λ c. search needs) (λ c. search needs) returns)

@@ -1,4 +1,4 @@
--- `by_store` hands on the number of the questions up to 26; where it is 0 the number and the figures are those of the store on the book's date. Assumes nothing.
+-- `by_store` hands on the number of the questions before; where it is 0 the number and the figures are those of the store on the book's date. Assumes nothing.
 use native.Mathlib.Omega.{arith}
 use denote.Ref.{now}
 use borrow.Author.Needs.{needs}
@@ -12,7 +12,7 @@ returns : tie.Need-returns
 returns c =
     let o = c .before .before .before .before in
     let a = o .args in
-    (λ actor m h. admitted-refused (now (a .book)) (given (a .with-store) (now (a .store))) actor m h (c .before .if1 .taken), (c .today .ensures .1, λ e. e))
+    (admitted-refused (now (a .book)) (given (a .with-store) (now (a .store))) (c .before .if1 .taken), c .today .ensures .1)
 
 get-u32-requires : tie.Need-get-u32-requires
 get-u32-requires c κs =
@@ -25,10 +25,8 @@ returns-2 c =
     let d = f .before in
     let e = d .before in
     let o = e .before .before .before in
-    let a = o .args in (
-      λ actor m h. admitted-by-store (now (a .book)) (given (a .with-store) (now (a .store))) actor m h (e .if1 .left) (d .get-u32 .ensures) (f .figures-on .ensures),
-      (f .figures-on .ensures .range, λ z. e .if1 .left),
-    )
+    let a = o .args in
+    (admitted-by-store (now (a .book)) (given (a .with-store) (now (a .store))) (e .if1 .left) (d .get-u32 .ensures) (f .figures-on .ensures), f .figures-on .ensures .range)
 
 pub by-store-spec : {M : Type 1} → statement M
 by-store-spec = tie.close (tie.spec (λ c κs. search needs) returns get-u32-requires (λ c κs. search needs) returns-2)

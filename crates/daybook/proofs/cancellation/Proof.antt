@@ -1,8 +1,8 @@
 -- `daybook::cancellation` searches after the opening questions, with the figures of its setting. Assumes nothing.
 use mathlib.Core.Path.{_∙_}
 use borrow.Author.Needs.{needs}
-use Rattle.rights.proofs.Replied.{cancelled-by}
-use Rattle.daybook.proofs.Matters.{of-operator}
+use Rattle.requests.proofs.Cancellation.{cancellation-opened}
+use Rattle.rights.specs.Party.{matterBy}
 use Rattle.daybook.proofs.cancellation.Statement.{statement}
 use Rattle.daybook.proofs.cancellation.Tie as tie
 
@@ -13,7 +13,8 @@ cancellation-requires c κs =
     (k .1 .1 .0, (k .1 .0, ((a .kept .1 .1 .1 .1 .1 .0, a .kept .1 .1 .1 .1 .1 .1 .0), k .1 .1 .1)))
 
 returns : tie.Need-returns
-returns c = c .cancellation .ensures ∙ cancelled-by _ _ _ _ _ (of-operator (c .before .before .before .before .before .before .before .admit-with-sums .ensures .0))
+unfolding matterBy
+returns c = c .cancellation .ensures ∙ cancellation-opened _ _ (c .before .before .before .before .before .before .before .admit-with-sums .ensures .0)
 
 pub cancellation-spec : {M : Type 1} → statement M
 cancellation-spec =

@@ -4,7 +4,7 @@ use native.Mathlib.Omega.{arith}
 use borrow.Author.Needs.{needs}
 use Rattle.rights.proofs.Replied.{told-by}
 use Rattle.rights.specs.Trades.{flagOf, idOf}
-use Rattle.daybook.proofs.Matters.{of-asking}
+use Rattle.daybook.proofs.Matters.{of-id}
 use Rattle.daybook.proofs.flag.Statement.{statement}
 use Rattle.daybook.proofs.flag.Tie as tie
 
@@ -13,7 +13,7 @@ unfolding idOf
 returns c =
     let k = c .before .before in
     let o = k .before .before .before in
-    c .flag .ensures ∙ told-by _ _ _ _ (of-asking (flagOf (o .args .id)) (omega (arith, o .fits .id)) (k .admit .ensures .0))
+    c .flag .ensures ∙ told-by (flagOf (o .args .id)) (of-id _ (o .args .id) (omega (arith, o .fits .id)) (k .admit .ensures .0))
 
 pub flag-spec : {M : Type 1} → statement M
 flag-spec = tie.close (tie.spec (λ c κs. search needs) (λ c κs. search needs) returns)

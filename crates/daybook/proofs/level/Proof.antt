@@ -16,7 +16,7 @@ returns : tie.Need-returns
 returns c =
     let k = c .before .before .before .before .before .before .before in
     let o = k .before .before .before .before .before .before in
-    c .level .ensures ∙ replied-by _ _ _ _ (of-level (o .args .afternoon) (o .args .id) (omega (arith, o .fits .id)) (k .admit-with-sums .ensures .0))
+    c .level .ensures ∙ replied-by _ (of-level _ (o .args .afternoon) (o .args .id) (omega (arith, o .fits .id)) (k .admit-with-sums .ensures .0))
 
 pub level-spec : {M : Type 1} → statement M
 level-spec =

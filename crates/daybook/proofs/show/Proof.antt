@@ -2,14 +2,14 @@
 use native.Mathlib.Omega.{arith}
 use borrow.Author.Needs.{needs}
 use Rattle.daybook.proofs.Part.{handed}
-use Rattle.daybook.proofs.Matters.{of-record}
+use Rattle.daybook.proofs.Matters.{of-id}
 use Rattle.daybook.proofs.show.Statement.{statement}
 use Rattle.daybook.proofs.show.Tie as tie
 
 returns : tie.Need-returns
 returns c =
     let o = c .before .before .before .before .before in
-    handed _ _ _ _ _ (of-record (o .args .id) (omega (arith, o .fits .id)) (c .before .before .admit .ensures .0)) (c .show .ensures .0) (c .show .ensures .1)
+    handed _ _ _ _ _ (of-id _ (o .args .id) (omega (arith, o .fits .id)) (c .before .before .admit .ensures .0)) (c .show .ensures .0) (c .show .ensures .1)
 
 pub show-spec : {M : Type 1} → statement M
 show-spec = tie.close (tie.spec (λ c κs. search needs) (λ c κs. search needs) returns)

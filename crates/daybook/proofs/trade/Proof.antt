@@ -2,8 +2,7 @@
 use native.Mathlib.Omega.{arith}
 use borrow.Author.Needs.{needs}
 use Rattle.daybook.proofs.Part.{trade-handed}
-use Rattle.rights.specs.Trades.{idOf, tradeOf}
-use Rattle.daybook.proofs.Matters.{of-asking}
+use Rattle.daybook.proofs.Matters.{of-id}
 use Rattle.daybook.proofs.trade.Statement.{statement}
 use Rattle.daybook.proofs.trade.Tie as tie
 
@@ -13,11 +12,10 @@ trade-requires c κs =
     (k .1 .1 .0, k .1 .1 .1 .placed)
 
 returns : tie.Need-returns
-unfolding idOf
 returns c =
     let k = c .before .before .before .before .before .before in
     let o = k .before .before .before .before .before .before in
-    trade-handed _ _ _ _ _ (of-asking (tradeOf (o .args .id) (o .args .ordinal)) (omega (arith, o .fits .id)) (k .admit-with-sums .ensures .0)) (c .trade .ensures)
+    trade-handed _ _ _ _ _ (of-id _ (o .args .id) (omega (arith, o .fits .id)) (k .admit-with-sums .ensures .0)) (c .trade .ensures)
 
 pub trade-spec : {M : Type 1} → statement M
 trade-spec = tie.close (tie.spec (λ c. search needs) (λ c. search needs) (λ c κs. search needs) trade-requires returns)

@@ -2,14 +2,13 @@
 use mathlib.Core.Path.{_∙_}
 use borrow.Author.Needs.{needs}
 use Rattle.rights.proofs.Replied.{replied-by}
-use Rattle.daybook.proofs.Matters.{of-operator}
-use Rattle.rights.specs.Party.{matterOf}
+use Rattle.rights.specs.Party.{matterBy, matterOf}
 use Rattle.daybook.proofs.warning.Statement.{statement}
 use Rattle.daybook.proofs.warning.Tie as tie
 
 returns : tie.Need-returns
-unfolding matterOf
-returns c = c .warning .ensures ∙ replied-by _ _ _ _ (of-operator (c .before .before .admit .ensures .0))
+unfolding matterOf matterBy
+returns c = c .warning .ensures ∙ replied-by _ (c .before .before .admit .ensures .0)
 
 pub warning-spec : {M : Type 1} → statement M
 warning-spec = tie.close (tie.spec (λ c κs. search needs) (λ c κs. search needs) returns)

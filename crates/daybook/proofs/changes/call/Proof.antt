@@ -1,7 +1,9 @@
 -- `daybook::call` makes the call of a time of the day after the opening questions, with the figures of its setting; a log that is given is emptied. Assumes nothing.
 use borrow.Author.Needs.{needs}
 use Rattle.call_admission.proofs.Log.{admitted-with, parties-with}
-use Rattle.rights.proofs.Logged.{logged-emptied-by}
+use Rattle.requests.proofs.Emptied.{logged-emptied}
+use Rattle.rights.proofs.Logged.{logged-by}
+use Rattle.rights.specs.Party.{matterBy}
 use Rattle.daybook.proofs.Logs.{accepted, call-empties, emptiable}
 use Rattle.daybook.proofs.changes.call.Statement.{statement}
 use Rattle.daybook.proofs.changes.call.Tie as tie
@@ -26,15 +28,16 @@ empty-requires c κs =
     λ e z. emptiable asked (λ n. k .1 .1 .0 (asked .before n)) (accepted _ (made .ensures) z) (made .kept .0) e
 
 returns : tie.Need-returns
+unfolding matterBy
 returns c =
     let at-call = c .before .before .before .before .before .before .before in
     let at-by-log = at-call .before .before .before .before .before in
     let at-admit-with-sums = at-by-log .before .before .before .before .before .before in
     let at-args = at-admit-with-sums .before .before .before .before .before .before .before .before in
     let a = at-args .args in
-    logged-emptied-by (call-empties (a .afternoon) (a .id)) (a .with-log)
+    logged-by (logged-emptied (call-empties (a .afternoon) (a .id)) (a .with-log)
     (admitted-with (a .with-log) (at-admit-with-sums .admit-with-sums .ensures .0) (at-by-log .by-log .ensures)) (at-call .call .ensures)
-    (c .before .before .empty .ensures)
+    (c .before .before .empty .ensures))
 
 pub call-spec : {M : Type 1} → statement M
 call-spec =

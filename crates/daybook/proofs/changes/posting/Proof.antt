@@ -6,7 +6,9 @@ use Rattle.call_admission.proofs.Log.{admitted-with}
 use Rattle.log_format.proofs.Noted.{posting-empties}
 use Rattle.rules.specs.Calls.{only}
 use Rattle.units.specs.Limits.{asLimits}
-use Rattle.rights.proofs.Logged.{logged-emptied-by}
+use Rattle.requests.proofs.Emptied.{logged-emptied}
+use Rattle.rights.proofs.Logged.{logged-by}
+use Rattle.rights.specs.Party.{matterBy}
 use Rattle.daybook.proofs.Logs.{accepted, emptiable}
 use Rattle.daybook.proofs.changes.posting.Statement.{statement}
 use Rattle.daybook.proofs.changes.posting.Tie as tie
@@ -26,13 +28,13 @@ empty-requires c κs =
     λ e z. emptiable asked (λ k. admitted .ensures .1 .1 (asked .before k)) (accepted _ (posted .ensures (asLimits (admitted .result .limits))) z) (posted .kept .0) e
 
 returns : tie.Need-returns
-unfolding only
+unfolding only matterBy
 returns c =
     let admitted = c .before .before .before .before .before .before .before .before .before .before .before .before .admit in
     let start = c .before .before .before .before .before .before .before .before .before .before .before .before .before .before .before .before .before in
     let a = start .args in
-    logged-emptied-by (posting-empties (a .id) (a .area) (a .amount)) (a .with-log) (admitted-with (a .with-log) (admitted .ensures .0) (c .before .before .before .before .before .before .before .before .before .by-log .ensures))
-    (rw (toZ-ofZ w64 (a .amount) (start .fits .amount)) at (c .before .before .before .before .before .before .before .posting .ensures (asLimits (admitted .result .limits)))) (c .before .before .empty .ensures)
+    logged-by (logged-emptied (posting-empties (a .id) (a .area) (a .amount)) (a .with-log) (admitted-with (a .with-log) (admitted .ensures .0) (c .before .before .before .before .before .before .before .before .before .by-log .ensures))
+    (rw (toZ-ofZ w64 (a .amount) (start .fits .amount)) at (c .before .before .before .before .before .before .before .posting .ensures (asLimits (admitted .result .limits)))) (c .before .before .empty .ensures))
 
 pub posting-spec : {M : Type 1} → statement M
 posting-spec =

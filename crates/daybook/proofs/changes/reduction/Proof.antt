@@ -1,6 +1,8 @@
 -- `daybook::reduction` reduces after the opening questions, with the figures of its setting, and a log that is given has it noted. Assumes nothing.
 use borrow.Author.Needs.{needs}
 use Rattle.call_admission.proofs.Log.{admitted-with, parties-with}
+use Rattle.rights.proofs.Logged.{logged-by}
+use Rattle.rights.specs.Party.{matterBy}
 use Rattle.daybook.proofs.Logs.{reduction-logged}
 use Rattle.daybook.proofs.changes.reduction.Statement.{statement}
 use Rattle.daybook.proofs.changes.reduction.Tie as tie
@@ -16,14 +18,15 @@ reduction-requires c κs =
     (λ z. k .1 .1 .0 (asked .before z), (asked .fits, (k .1 .0, ((a .kept .1 .1 .1 .1 .1 .0, a .kept .1 .1 .1 .1 .1 .1 .0), parties-with asked (k .1 .1 .1)))))
 
 returns : tie.Need-returns
+unfolding matterBy
 returns c =
     let at-reduction = c .before .before .before .before in
     let at-by-log = at-reduction .before .before .before .before .before .before in
     let at-admit-with-sums = at-by-log .before .before .before .before .before .before in
     let at-args = at-admit-with-sums .before .before .before .before .before .before .before .before in
     let a = at-args .args in
-    reduction-logged (a .with-log) (admitted-with (a .with-log) (at-admit-with-sums .admit-with-sums .ensures .0) (at-by-log .by-log .ensures))
-    (at-reduction .reduction .ensures)
+    logged-by (reduction-logged (a .with-log) (admitted-with (a .with-log) (at-admit-with-sums .admit-with-sums .ensures .0) (at-by-log .by-log .ensures))
+    (at-reduction .reduction .ensures))
 
 pub reduction-spec : {M : Type 1} → statement M
 reduction-spec =

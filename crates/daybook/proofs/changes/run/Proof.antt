@@ -2,6 +2,8 @@
 use borrow.Author.Needs.{needs}
 use borrow.Author.Tests.{not-false, not-true}
 use Rattle.call_admission.proofs.Log.{admitted-with, parties-with}
+use Rattle.rights.proofs.Logged.{logged-by}
+use Rattle.rights.specs.Party.{matterBy}
 use Rattle.daybook.proofs.Logs.{called-with, called-without}
 use Rattle.daybook.proofs.changes.run.Statement.{statement}
 use Rattle.daybook.proofs.changes.run.Tie as tie
@@ -17,14 +19,15 @@ run-requires c κs =
     (λ z. k .1 .1 .0 (asked .before z), (k .1 .0, ((a .kept .1 .1 .1 .1 .1 .0, a .kept .1 .1 .1 .1 .1 .1 .0), parties-with asked (k .1 .1 .1))))
 
 returns : tie.Need-returns
+unfolding matterBy
 returns c =
     let at-passed = c .before .before .before .before .before .before .before in
     let at-by-log = at-passed .before in
     let at-admit-with-sums = at-by-log .before .before .before .before .before .before in
     let at-args = at-admit-with-sums .before .before .before .before .before .before .before .before in
     let a = at-args .args in
-    called-without (a .with-log) (not-true _ (at-passed .if1 .taken))
-    (admitted-with (a .with-log) (at-admit-with-sums .admit-with-sums .ensures .0) (at-by-log .by-log .ensures)) (c .before .before .run .ensures)
+    logged-by (called-without (a .with-log) (not-true _ (at-passed .if1 .taken))
+    (admitted-with (a .with-log) (at-admit-with-sums .admit-with-sums .ensures .0) (at-by-log .by-log .ensures)) (c .before .before .run .ensures))
 
 run-requires-2 : tie.Need-run-requires-2
 run-requires-2 c κs =
@@ -34,6 +37,7 @@ run-requires-2 c κs =
     (record { book = λ z. k .1 .1 .0 (asked .before z); log = λ z. asked .fits z (not-false _ (c .before .before .before .before .before .if1 .left)) }, (k .1 .0, ((p .kept .1 .1 .1 .1 .1 .0, p .kept .1 .1 .1 .1 .1 .1 .0), parties-with asked (k .1 .1 .1))))
 
 returns-2 : tie.Need-returns-2
+unfolding matterBy
 returns-2 c =
     let at-run2 = c .before .before .before .before in
     let at-passed = at-run2 .before .before .before .before .before .before in
@@ -41,8 +45,8 @@ returns-2 c =
     let at-admit-with-sums = at-by-log .before .before .before .before .before .before in
     let at-args = at-admit-with-sums .before .before .before .before .before .before .before .before in
     let a = at-args .args in
-    called-with (a .with-log) (not-false _ (at-passed .if1 .left))
-    (admitted-with (a .with-log) (at-admit-with-sums .admit-with-sums .ensures .0) (at-by-log .by-log .ensures)) (at-run2 .run2 .ensures)
+    logged-by (called-with (a .with-log) (not-false _ (at-passed .if1 .left))
+    (admitted-with (a .with-log) (at-admit-with-sums .admit-with-sums .ensures .0) (at-by-log .by-log .ensures)) (at-run2 .run2 .ensures))
 
 pub run-spec : {M : Type 1} → statement M
 run-spec =

@@ -3,7 +3,9 @@ use mathlib.Core.Bool.{true}
 use mathlib.Core.Path.{refl}
 use borrow.Author.Needs.{needs}
 use Rattle.call_admission.proofs.Log.{admitted-with, parties-with}
-use Rattle.rights.proofs.Logged.{logged-withdrawal-by}
+use Rattle.requests.proofs.Logged.{logged-withdrawal}
+use Rattle.rights.proofs.Logged.{logged-by}
+use Rattle.rights.specs.Party.{matterBy}
 use Rattle.store.specs.Store.{given}
 use Rattle.daybook.proofs.changes.withdrawal.Statement.{statement}
 use Rattle.daybook.proofs.changes.withdrawal.Tie as tie
@@ -18,12 +20,12 @@ withdrawal-requires c κs =
     (record { book = λ z. k .1 .1 .0 (asked .before z); log = λ z. asked .fits z refl }, parties-with asked (k .1 .1 .1))
 
 returns : tie.Need-returns
-unfolding given
+unfolding given matterBy
 returns c =
     let called = c .before .before .before .before in
     let logged = called .before .before .before .before .before .before in
     let admitted = logged .before .before .before .before .before in
-    logged-withdrawal-by (admitted-with true (admitted .admit-with-sums .ensures .0) (logged .by-log .ensures) .asked) (called .withdrawal .ensures)
+    logged-by (logged-withdrawal (admitted-with true (admitted .admit-with-sums .ensures .0) (logged .by-log .ensures) .asked) (called .withdrawal .ensures))
 
 pub withdrawal-spec : {M : Type 1} → statement M
 withdrawal-spec =
