@@ -1,8 +1,8 @@
--- `valid_trades`: the trades that are left have the whole answer, until one is not valid or none is left; a party is a user where its place is below n,
--- and of those passed the places of the parties are listed, and what stands is summed at each. Assumes nothing.
-use Prim.Native.Nat.{_-_}
+-- `valid_trades`: the trades that are left have the whole answer, until one is not valid or none is left; a party is a user where it was found,
+-- and of those passed the places of the parties are listed, what stands is summed at each, and the zero bytes were seen. Assumes nothing.
+use Prim.Native.Nat.{_-_, _+_, _≤_}
 use mathlib.Core.Bool.{Bool, true}
-use mathlib.Core.Path.{_≡_}
+use mathlib.Core.Path.{_≡_, sym, _∙_}
 use native.Mathlib.Omega.{arith}
 use denote.Ref.{now}
 use lib.ListN.{length, take, length-take, length-drop}
@@ -12,92 +12,137 @@ use Rattle.book_records.specs.Trade.{asTrade}
 use Rattle.book_sums.specs.Twelve.{Addable}
 use Rattle.book_questions.specs.Asked.{tradeAmong}
 use Rattle.book_questions.proofs.Asking.{TradesWalk, trades-walk-start, trades-walk-no, trades-walk-sold, trades-walk-bought, trades-walk-turn, trades-walk-end}
-use Rattle.book_questions.proofs.Known.{tradeAmong-places}
+use Rattle.book_questions.proofs.Known.{trade-found, trade-no-buyer, trade-no-seller}
 use Rattle.book_questions.proofs.valid_trades.Statement.{statement}
 use Rattle.book_questions.proofs.valid_trades.Tie as tie
 
 abbrev Inv-loop : tie.InvT-loop
-Inv-loop ids guesses n s at m sellers₀ buyers₀ sums₀ i₀ a₀ sellers buyers sums i a = TradesWalk (take n ids) s at m sellers buyers sums i a
+Inv-loop ids guesses n s at m sellers₀ buyers₀ sums₀ zeros₀ i₀ a₀ sellers buyers sums zeros i a = TradesWalk (take n ids) s at m sellers buyers sums zeros i a
 
 abbrev μ-loop : tie.MeasureT-loop
-μ-loop ids guesses n s at m sellers₀ buyers₀ sums₀ i₀ a₀ sellers buyers sums i a = m - i
+μ-loop ids guesses n s at m sellers₀ buyers₀ sums₀ zeros₀ i₀ a₀ sellers buyers sums zeros i a = m - i
+
+-- there are n ids
+ids-there : (c : tie.Start Inv-loop μ-loop) → c .args .n ≤ length (now (c .args .ids))
+ids-there c = omega (arith, c .pre .0 .0 .few, c .pre .0 .0 .full)
 
 -- the trade that was read is valid between the ids as the answer says
 asked : {answer : Bool} (c : tie.After-trade-valid Inv-loop μ-loop) → c .trade-valid .result ≡ answer
-    → tradeAmong (take (c .before .before .before .before .before .before .before .before .before .before .before .args .n) (now (c .before .before .before .before .before .before .before .before .before .before .before .args .ids))) (asTrade (c .before .before .before .read-trade .result)) ≡ answer
+    → let start = c .before .before .before .before .before .before .before .before .before .before .before .before .before .before .before in tradeAmong (take (start .args .n) (now (start .args .ids))) (asTrade (c .before .before .before .before .before .before .before .read-trade .result)) ≡ answer
 unfolding asTrade
 asked c e =
-    let places = c .before in
-    let start = c .before .before .before .before .before .before .before .before .before .before .before in
-    tradeAmong-places (now (start .args .ids)) (start .args .n) _ (places .before .find .result) (places .find2 .result) (search needs)
-    (places .before .find .ensures .0) (places .find2 .ensures .0) (c .trade-valid .ensures) e
+    let start = c .before .before .before .before .before .before .before .before .before .before .before .before .before .before .before in
+    trade-found (now (start .args .ids)) (start .args .n) _ (ids-there start) (c .before .before .before .before .before .before .find .ensures) (not-false _ (c .before .before .before .before .if1 .left))
+    (c .before .before .before .find2 .ensures) (not-false _ (c .before .if2 .left)) (c .trade-valid .ensures) e
 
 -- where it is, it can be counted for its seller
 addable : (c : tie.After-trade-valid Inv-loop μ-loop) → c .trade-valid .result ≡ true
-    → Addable 0 (c .before .before .find .result) (asTrade (c .before .before .before .read-trade .result)) (c .before .before .before .before .before .before .loop .sums)
+    → Addable 0 (c .before .before .before .before .before .before .find .result .place) (asTrade (c .before .before .before .before .before .before .before .read-trade .result)) (c .before .before .before .before .before .before .before .before .before .before .loop .sums)
 unfolding asTrade
 addable c e =
-    let places = c .before in
-    let read = places .before .before in
-    let start = c .before .before .before .before .before .before .before .before .before .before .before in
-    trades-walk-sold (c .before .before .before .before .before .before .loop .inv) (omega arith) (read .read-trade .ensures) (rw length-take (omega (arith, start .pre .0 .few))) (search needs) (asked c e) (places .before .find .ensures .0) (places .find2 .ensures .0)
+    let read = c .before .before .before .before .before .before .before in
+    let start = c .before .before .before .before .before .before .before .before .before .before .before .before .before .before .before in
+    trades-walk-sold (read .before .before .before .loop .inv) (omega (arith, read .before .before .loop-test)) (read .read-trade .ensures) (rw length-take (omega (arith, start .pre .0 .0 .few))) (start .pre .1 .0)
+    (asked c e) (c .before .before .before .before .before .before .find .ensures .stands) (c .before .before .before .find2 .ensures .stands)
+
+-- the bytes of the trade at hand
+lies : (c : tie.In-loop Inv-loop μ-loop) → c .before .loop .a + 20 ≤ length (now (c .before .before .before .before .before .before .args .s))
+lies c = omega (arith, c .loop-test, c .before .loop .inv .place, c .before .before .before .before .before .before .pre .1 .1)
 
 loop-holds : tie.Need-loop-holds Inv-loop μ-loop
 loop-holds c =
     let start = c .before .before .before .before in
-    trades-walk-start (search needs) (search needs) (start .pre .1 .4)
+    trades-walk-start (start .pre .1 .2) (start .pre .1 .3) (start .pre .1 .4)
 
 read-trade-requires : tie.Need-read-trade-requires Inv-loop μ-loop
 read-trade-requires c κs = simp (length-take, length-drop) (omega arith)
 
+find-requires : tie.Need-find-requires Inv-loop μ-loop
+find-requires c κs = c .before .before .before .before .before .before .before .before .pre .0
+
 returns : tie.Need-returns Inv-loop μ-loop
 unfolding asTrade
 returns c =
-    let read = c .before .before .before .before in
-    trades-walk-no (read .before .before .before .loop .inv) (omega arith) (read .read-trade .ensures) (asked (c .before) (not-true (c .before .trade-valid .result) (c .if1 .taken)))
+    let found = c .before .before in
+    let read = found .before in
+    let start = read .before .before .before .before .before .before .before .before in
+    trades-walk-no (read .before .before .before .loop .inv) (omega (arith, read .before .before .loop-test)) (read .read-trade .ensures)
+    (trade-no-seller (now (start .args .ids)) (start .args .n) _ (ids-there start) (found .find .ensures) (not-true _ (c .if1 .taken)))
+
+find-requires-2 : tie.Need-find-requires-2 Inv-loop μ-loop
+find-requires-2 c κs = c .before .before .before .before .before .before .before .before .before .before .before .pre .0
+
+returns-2 : tie.Need-returns-2 Inv-loop μ-loop
+unfolding asTrade
+returns-2 c =
+    let found = c .before .before .before .before .before in
+    let read = found .before in
+    let start = read .before .before .before .before .before .before .before .before in
+    trades-walk-no (read .before .before .before .loop .inv) (omega (arith, read .before .before .loop-test)) (read .read-trade .ensures)
+    (trade-no-buyer (now (start .args .ids)) (start .args .n) _ (ids-there start) (found .find .ensures) (not-false _ (c .before .before .before .if1 .left)) (c .before .before .find2 .ensures) (not-true _ (c .if2 .taken)))
+
+same-length-5 : tie.Need-same-length-5 Inv-loop μ-loop
+same-length-5 c = c .before .before .before .before .before .before .before .before .before .before .before .loop .inv .of-sellers .full ∙ sym (c .before .before .before .before .before .before .before .before .before .before .before .before .before .before .before .before .pre .1 .2)
+
+same-length-6 : tie.Need-same-length-6 Inv-loop μ-loop
+same-length-6 c = c .before .before .before .before .before .before .before .before .before .before .before .loop .inv .of-buyers .full ∙ sym (c .before .before .before .before .before .before .before .before .before .before .before .before .before .before .before .before .pre .1 .3)
+
+returns-3 : tie.Need-returns-3 Inv-loop μ-loop
+unfolding asTrade
+returns-3 c =
+    let read = c .before .before .before .before .before .before .before .before in
+    trades-walk-no (read .before .before .before .loop .inv) (omega (arith, read .before .before .loop-test)) (read .read-trade .ensures) (asked (c .before) (not-true (c .before .trade-valid .result) (c .if3 .taken)))
+
+cast-sellers : tie.Need-cast-sellers Inv-loop μ-loop
+cast-sellers c = record { fits = omega (arith, c .before .before .before .before .before .before .before .before .find .ensures .within, c .before .before .before .before .before .before .before .before .before .before .before .before .before .before .before .before .before .pre .0 .0 .few) }
+
+slice-write-sellers : tie.Need-slice-write-sellers Inv-loop μ-loop
+slice-write-sellers c = omega (arith, c .before .before .before .before .before .before .before .before .before .before .before .loop-test, c .before .before .before .before .before .before .before .before .before .before .before .before .loop .inv .of-sellers .full, c .before .before .before .before .before .before .before .before .before .before .before .before .before .before .before .before .before .pre .1 .0)
+
+cast-buyers : tie.Need-cast-buyers Inv-loop μ-loop
+cast-buyers c = record { fits = omega (arith, c .before .before .before .before .before .before .find2 .ensures .within, c .before .before .before .before .before .before .before .before .before .before .before .before .before .before .before .before .before .before .pre .0 .0 .few) }
+
+slice-write-buyers : tie.Need-slice-write-buyers Inv-loop μ-loop
+slice-write-buyers c = omega (arith, c .before .before .before .before .before .before .before .before .before .before .before .before .loop-test, c .before .before .before .before .before .before .before .before .before .before .before .before .before .loop .inv .of-buyers .full, c .before .before .before .before .before .before .before .before .before .before .before .before .before .before .before .before .before .before .pre .1 .0)
 
 add-trade-requires : tie.Need-add-trade-requires Inv-loop μ-loop
 add-trade-requires c κs =
-    let valid = c .before in
-    addable (valid .before) (not-false (valid .before .trade-valid .result) (valid .if1 .left))
+    let answer = c .before .before .before .before in
+    addable answer (not-false (answer .trade-valid .result) (c .before .before .before .if3 .left))
 
 add-trade-requires-2 : tie.Need-add-trade-requires-2 Inv-loop μ-loop
 unfolding asTrade
 add-trade-requires-2 c κs =
-    let sold = c .before in
-    let valid = sold .before .before in
-    let answer = valid .before in
-    let places = answer .before in
-    let read = places .before .before in
-    let start = answer .before .before .before .before .before .before .before .before .before .before .before in
-    trades-walk-bought (read .before .before .before .loop .inv) (omega (arith, read .before .before .loop-test)) (read .read-trade .ensures) (rw length-take (omega (arith, start .pre .0 .few))) (start .pre .1 .0)
-    (asked answer (not-false (answer .trade-valid .result) (valid .if1 .left))) (places .before .find .ensures .0) (places .find2 .ensures .0) (sold .add-trade .ensures)
+    let answer = c .before .before .before .before .before .before in
+    let read = answer .before .before .before .before .before .before .before in
+    let start = answer .before .before .before .before .before .before .before .before .before .before .before .before .before .before .before in
+    trades-walk-bought (read .before .before .before .loop .inv) (omega (arith, read .before .before .loop-test)) (read .read-trade .ensures) (rw length-take (omega (arith, start .pre .0 .0 .few))) (start .pre .1 .0)
+    (asked answer (not-false (answer .trade-valid .result) (c .before .before .before .before .before .if3 .left))) (answer .before .before .before .before .before .before .find .ensures .stands) (answer .before .before .before .find2 .ensures .stands) (c .before .add-trade .ensures)
+
+add-get-u8 : tie.Need-add-get-u8 Inv-loop μ-loop
+add-get-u8 c = let inside = c .before .before .before .before .before .before .before .before .before .before .before .before .before .before .before .before in omega (arith, lies inside, inside .before .before .before .before .before .before .fits)
+
+get-u8-requires : tie.Need-get-u8-requires Inv-loop μ-loop
+get-u8-requires c κs = omega (arith, lies (c .before .before .before .before .before .before .before .before .before .before .before .before .before .before .before .before))
 
 add-a : tie.Need-add-a Inv-loop μ-loop
-add-a c =
-    let inside = c .before .before .before .before .before .before .before .before .before .before in
-    let start = inside .before .before .before .before .before .before in
-    omega (arith, inside .loop-test, inside .before .loop .inv .place, start .pre .1 .1, start .fits)
+add-a c = let inside = c .before .before .before .before .before .before .before .before .before .before .before .before .before .before .before .before .before in omega (arith, lies inside, inside .before .before .before .before .before .before .fits)
 
 add-i : tie.Need-add-i Inv-loop μ-loop
-add-i c =
-    let inside = c .before .before .before .before .before .before .before .before .before .before in
-    omega (arith, inside .loop-test, inside .before .before .before .before .before .before .pre .1 .0)
+add-i c = let inside = c .before .before .before .before .before .before .before .before .before .before .before .before .before .before .before .before .before in omega (arith, inside .loop-test, inside .before .before .before .before .before .before .pre .1 .0)
 
 loop-again : tie.Need-loop-again Inv-loop μ-loop
 unfolding asTrade
 loop-again c =
-    let sold = c .before .before in
-    let valid = sold .before .before in
-    let answer = valid .before in
-    let places = answer .before in
-    let read = places .before .before in
-    let start = answer .before .before .before .before .before .before .before .before .before .before .before in
-    trades-walk-turn (read .before .before .before .loop .inv) (omega (arith, read .before .before .loop-test)) (read .read-trade .ensures) (rw length-take (omega (arith, start .pre .0 .few))) (start .pre .1 .0)
-    (asked answer (not-false (answer .trade-valid .result) (valid .if1 .left))) (places .before .find .ensures .0) (places .find2 .ensures .0) (sold .add-trade .ensures) (c .add-trade2 .ensures)
+    let answer = c .before .before .before .before .before .before .before .before in
+    let read = answer .before .before .before .before .before .before .before in
+    let start = answer .before .before .before .before .before .before .before .before .before .before .before .before .before .before .before in
+    trades-walk-turn (read .before .before .before .loop .inv) (omega (arith, read .before .before .loop-test)) (read .read-trade .ensures) (rw length-take (omega (arith, start .pre .0 .0 .few))) (start .pre .1 .0)
+    (asked answer (not-false (answer .trade-valid .result) (c .before .before .before .before .before .before .before .if3 .left))) (answer .before .before .before .before .before .before .find .ensures .stands) (answer .before .before .before .find2 .ensures .stands) (c .before .before .before .add-trade .ensures) (c .before .add-trade2 .ensures)
+    (c .get-u8 .ensures)
 
-returns-2 : tie.Need-returns-2 Inv-loop μ-loop
-returns-2 c = trades-walk-end (c .before .loop .inv) (omega arith) (search needs)
+returns-4 : tie.Need-returns-4 Inv-loop μ-loop
+returns-4 c = trades-walk-end (c .before .loop .inv) (omega arith) (c .before .before .before .before .before .before .pre .1 .0)
 
 pub valid-trades-spec : {M : Type 1} → statement M
 valid-trades-spec =
@@ -111,22 +156,30 @@ valid-trades-spec =
     (λ c. search needs)
     (λ c. search needs)
     read-trade-requires
-    (λ c κs. search needs)
-    (λ c κs. search needs)
-    (λ c κs. search needs)
+    find-requires
     (λ c. search needs)
     (λ c. search needs)
     returns
+    find-requires-2
     (λ c. search needs)
     (λ c. search needs)
-    (λ c. search needs)
-    (λ c. search needs)
+    returns-2
+    (λ c κs. search needs)
+    same-length-5
+    same-length-6
+    returns-3
+    cast-sellers
+    slice-write-sellers
+    cast-buyers
+    slice-write-buyers
     add-trade-requires
     add-trade-requires-2
+    add-get-u8
+    get-u8-requires
     add-a
     add-i
     (λ c. search needs)
     loop-again
     (λ c. search needs)
     (λ c. search needs)
-    returns-2)
+    returns-4)

@@ -33,7 +33,7 @@ even : (c : tie.In-loop Inv-loop μ-loop) → let l = c .before in let a = start
 even c = let p = start (c .before) .pre .1 in (p .of-areas, p .of-amounts, c .before .loop .inv .room)
 
 line-requires : tie.Need-line-requires Inv-loop μ-loop
-line-requires c κs = c .before .before .before .before .before .loop .inv .searched
+line-requires c κs = let l = c .before .before .before .before .before in (l .loop .inv .searched, start l .pre .2)
 
 loop-again : tie.Need-loop-again Inv-loop μ-loop
 loop-again c =
