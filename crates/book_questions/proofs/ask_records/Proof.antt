@@ -1,5 +1,5 @@
 -- `ask_records` asks the questions 5 to 7 in their order, and returns at the first that is answered by no. Assumes nothing.
-use mathlib.Core.Bool.{true}
+use mathlib.Core.Bool.{true, _&&_}
 use mathlib.Core.Path.{_≡_, ap, refl}
 use Prim.Native.Nat.{ℕ}
 use native.Mathlib.Omega.{arith}
@@ -10,7 +10,7 @@ use Rattle.base.proofs.Tests.{holds}
 use Rattle.rules.specs.Questions.{positionsValid}
 use Rattle.book_parties.specs.Ids.{usersFrom, tradesFrom}
 use Rattle.book_questions.specs.Zeros.{userZerosIn}
-use Rattle.book_questions.specs.Asked.{Summed, pastFive, pastSix}
+use Rattle.book_questions.specs.Asked.{allValid, Summed, UsersAsked, pastFive, pastSix}
 use Rattle.book_questions.proofs.Asked.{records-5, second-yes, records-6, records-sums, records-summed, summed-none, summed-6, records-7, records-0}
 use Rattle.book_questions.proofs.Managers.{fields-groups, users-no, users-yes}
 use borrow.Author.Needs.{needs}
@@ -28,7 +28,8 @@ returns c =
 
 fill-guesses-requires : tie.Need-fill-guesses-requires
 fill-guesses-requires c κs =
-    (c .before .before .before .before .fields-valid .ensures .padded (holds {c = c .before .before .before .before .fields-valid .result} (not-false _ (c .before .before .if1 .left))), c .before .before .before .before .before .before .before .before .before .pre .0 .0 .some, search needs)
+    let fields = c .before .before .before .before in
+    (fields .fields-valid .ensures .padded (holds {c = fields .fields-valid .result} (not-false _ (c .before .before .if1 .left))), fields .before .before .before .before .before .pre .0 .0 .some, search needs)
 
 groups-valid-requires : tie.Need-groups-valid-requires
 groups-valid-requires c κs =
@@ -38,18 +39,32 @@ groups-valid-requires c κs =
     fields-groups (a .version) (userZerosIn (a .size) 0 (a .n) (now (a .s))) (fields .fields-valid .ensures) (now (a .s)) (ap (λ (size : ℕ). usersFrom size 0 (a .n) (now (a .s))) (start .pre .0 .1))
     (omega (arith, rw (start .pre .0 .1) at (start .pre .0 .0 .users))) (not-false _ (c .before .before .before .before .before .if1 .left)) (c .before .before .fill-guesses .ensures)
 
+-- the answer to question 5, from its two parts
+users : (c : tie.After-groups-valid) → let fields = c .before .before .before .before .before .before .before .before in let a = fields .before .before .before .before .before .args in let us = usersFrom (a .size) 0 (a .n) (now (a .s)) in
+    UsersAsked us (userZerosIn (a .size) 0 (a .n) (now (a .s)) && allValid (a .version) us) (a .n) (c .groups-valid .result) (fields .fields-valid .last .1 .1 .1 .0)
+users c =
+    let fields = c .before .before .before .before .before .before .before .before in
+    let start = fields .before .before .before .before .before in
+    let a = start .args in
+    users-yes (a .version) (userZerosIn (a .size) 0 (a .n) (now (a .s))) (fields .fields-valid .ensures) (not-false _ (c .before .before .before .before .before .before .if1 .left))
+    {answer = c .groups-valid .result} (rw (start .pre .0 .1) (c .groups-valid .ensures))
+
 returns-2 : tie.Need-returns-2
 unfolding pastFive pastSix
 returns-2 c =
     let groups = c .before in
     let start = groups .before .before .before .before .before .before .before .before .before .before .before .before .before in
     let a = start .args in
-    (records-5 (a .version) (userZerosIn (a .size) 0 (a .n) (now (a .s))) (users-yes (a .version) (userZerosIn (a .size) 0 (a .n) (now (a .s))) (groups .before .before .before .before .before .before .before .before .fields-valid .ensures) (not-false _ (groups .before .before .before .before .before .before .if1 .left)) {answer = groups .groups-valid .result} (rw (start .pre .0 .1) (groups .groups-valid .ensures))) (not-true _ (c .if2 .taken)), summed-none 5 (λ p. p))
+    (records-5 (a .version) (userZerosIn (a .size) 0 (a .n) (now (a .s))) (users groups) (not-true _ (c .if2 .taken)), summed-none 5 (λ p. p))
 
 valid-trades-requires : tie.Need-valid-trades-requires
 valid-trades-requires c κs =
-    let p = c .before .before .before .before .before .before .before .before .before .before .before .before .before .before .before .before .before .before .before .pre in
-    ((c .before .before .before .before .before .before .before .before .before .before .before .before .before .before .fields-valid .ensures .padded (holds {c = c .before .before .before .before .before .before .before .before .before .before .before .before .before .before .fields-valid .result} (not-false _ (c .before .before .before .before .before .before .before .before .before .before .before .before .if1 .left))), c .before .before .before .before .before .before .before .before .before .fill-guesses .ensures), (p .0 .0 .many, p .0 .0 .trades, p .1 .0, p .1 .1, p .1 .2))
+    let guesses = c .before .before .before .before .before .before .before .before .before in
+    let fields = guesses .before .before .before .before .before in
+    let p = fields .before .before .before .before .before .pre in (
+      (fields .fields-valid .ensures .padded (holds {c = fields .fields-valid .result} (not-false _ (guesses .before .before .before .if1 .left))), guesses .fill-guesses .ensures),
+      (p .0 .0 .many, p .0 .0 .trades, p .1 .0, p .1 .1, p .1 .2),
+    )
 
 returns-3 : tie.Need-returns-3
 returns-3 c =
@@ -58,10 +73,9 @@ returns-3 c =
     let groups = passed .before in
     let start = groups .before .before .before .before .before .before .before .before .before .before .before .before .before in
     let a = start .args in
-    let ts = tradesFrom (a .trades-at) (a .m) (now (a .s)) in
-    let users = (users-yes (a .version) (userZerosIn (a .size) 0 (a .n) (now (a .s))) (groups .before .before .before .before .before .before .before .before .fields-valid .ensures) (not-false _ (groups .before .before .before .before .before .before .if1 .left)) {answer = groups .groups-valid .result} (rw (start .pre .0 .1) (groups .groups-valid .ensures))) in (
-      records-6 (a .version) (userZerosIn (a .size) 0 (a .n) (now (a .s))) {ts = ts} users (trades .valid-trades .ensures .0) (not-false _ (passed .if2 .left)) (λ e. trades .valid-trades .ensures .1 (eqb-true _ _ e)) (not-true _ (c .if3 .taken)),
-      summed-6 (a .version) (userZerosIn (a .size) 0 (a .n) (now (a .s))) {ts = ts} users (trades .valid-trades .ensures .0) (not-false _ (passed .if2 .left)),
+    let ts = tradesFrom (a .trades-at) (a .m) (now (a .s)) in (
+      records-6 (a .version) (userZerosIn (a .size) 0 (a .n) (now (a .s))) {ts = ts} (users groups) (trades .valid-trades .ensures .0) (not-false _ (passed .if2 .left)) (λ e. trades .valid-trades .ensures .1 (eqb-true _ _ e)) (not-true _ (c .if3 .taken)),
+      summed-6 (a .version) (userZerosIn (a .size) 0 (a .n) (now (a .s))) {ts = ts} (users groups) (trades .valid-trades .ensures .0) (not-false _ (passed .if2 .left)),
     )
 
 positions-valid-requires : tie.Need-positions-valid-requires
@@ -80,7 +94,7 @@ positions-answer c =
     let a = start .args in
     let ts = tradesFrom (a .trades-at) (a .m) (now (a .s)) in
     c .positions-valid .ensures .answer ts
-    (records-sums (a .version) (userZerosIn (a .size) 0 (a .n) (now (a .s))) {ts = ts} (users-yes (a .version) (userZerosIn (a .size) 0 (a .n) (now (a .s))) (groups .before .before .before .before .before .before .before .before .fields-valid .ensures) (not-false _ (groups .before .before .before .before .before .before .if1 .left)) {answer = groups .groups-valid .result} (rw (start .pre .0 .1) (groups .groups-valid .ensures))) (trades .valid-trades .ensures .0) (not-false _ (passed .if2 .left)) (second-yes (trades .valid-trades .result .zeros) _ (not-false _ (allowed .if3 .left))))
+    (records-sums (a .version) (userZerosIn (a .size) 0 (a .n) (now (a .s))) {ts = ts} (users groups) (trades .valid-trades .ensures .0) (not-false _ (passed .if2 .left)) (second-yes (trades .valid-trades .result .zeros) _ (not-false _ (allowed .if3 .left))))
 
 -- the sums are told past question 6
 summed : (number : ℕ) → pastFive number ≡ true → (c : tie.Else3)
@@ -93,7 +107,7 @@ summed number e c =
     let groups = passed .before in
     let start = groups .before .before .before .before .before .before .before .before .before .before .before .before .before in
     let a = start .args in
-    records-summed (a .version) (userZerosIn (a .size) 0 (a .n) (now (a .s))) {ts = tradesFrom (a .trades-at) (a .m) (now (a .s))} (users-yes (a .version) (userZerosIn (a .size) 0 (a .n) (now (a .s))) (groups .before .before .before .before .before .before .before .before .fields-valid .ensures) (not-false _ (groups .before .before .before .before .before .before .if1 .left)) {answer = groups .groups-valid .result} (rw (start .pre .0 .1) (groups .groups-valid .ensures))) (trades .valid-trades .ensures .0) (not-false _ (passed .if2 .left)) number
+    records-summed (a .version) (userZerosIn (a .size) 0 (a .n) (now (a .s))) {ts = tradesFrom (a .trades-at) (a .m) (now (a .s))} (users groups) (trades .valid-trades .ensures .0) (not-false _ (passed .if2 .left)) number
     (second-yes (trades .valid-trades .result .zeros) _ (not-false _ (c .if3 .left))) e (λ f. eqb-true (trades .valid-trades .result .read) (a .m) f)
 
 returns-4 : tie.Need-returns-4
@@ -105,7 +119,7 @@ returns-4 c =
     let groups = passed .before in
     let start = groups .before .before .before .before .before .before .before .before .before .before .before .before .before in
     let a = start .args in (
-      records-7 (a .version) (userZerosIn (a .size) 0 (a .n) (now (a .s))) {ts = tradesFrom (a .trades-at) (a .m) (now (a .s))} (users-yes (a .version) (userZerosIn (a .size) 0 (a .n) (now (a .s))) (groups .before .before .before .before .before .before .before .before .fields-valid .ensures) (not-false _ (groups .before .before .before .before .before .before .if1 .left)) {answer = groups .groups-valid .result} (rw (start .pre .0 .1) (groups .groups-valid .ensures))) (trades .valid-trades .ensures .0) (not-false _ (passed .if2 .left))
+      records-7 (a .version) (userZerosIn (a .size) 0 (a .n) (now (a .s))) {ts = tradesFrom (a .trades-at) (a .m) (now (a .s))} (users groups) (trades .valid-trades .ensures .0) (not-false _ (passed .if2 .left))
           (λ e. trades .valid-trades .ensures .1 (eqb-true _ _ e)) (not-false _ (allowed .if3 .left)) (positions-answer (c .before)) (not-true _ (c .if4 .taken)),
       summed 7 refl allowed,
     )
@@ -119,7 +133,7 @@ returns-5 c =
     let groups = passed .before in
     let start = groups .before .before .before .before .before .before .before .before .before .before .before .before .before in
     let a = start .args in (
-      records-0 (a .version) (userZerosIn (a .size) 0 (a .n) (now (a .s))) {ts = tradesFrom (a .trades-at) (a .m) (now (a .s))} (users-yes (a .version) (userZerosIn (a .size) 0 (a .n) (now (a .s))) (groups .before .before .before .before .before .before .before .before .fields-valid .ensures) (not-false _ (groups .before .before .before .before .before .before .if1 .left)) {answer = groups .groups-valid .result} (rw (start .pre .0 .1) (groups .groups-valid .ensures))) (trades .valid-trades .ensures .0) (not-false _ (passed .if2 .left))
+      records-0 (a .version) (userZerosIn (a .size) 0 (a .n) (now (a .s))) {ts = tradesFrom (a .trades-at) (a .m) (now (a .s))} (users groups) (trades .valid-trades .ensures .0) (not-false _ (passed .if2 .left))
           (λ e. trades .valid-trades .ensures .1 (eqb-true _ _ e)) (not-false _ (allowed .if3 .left)) (positions-answer (c .before)) (not-false _ (c .if4 .left)),
       summed 0 refl allowed,
     )

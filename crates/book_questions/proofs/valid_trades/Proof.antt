@@ -28,22 +28,27 @@ ids-there c = omega (arith, c .pre .0 .0 .few, c .pre .0 .0 .full)
 
 -- the trade that was read is valid between the ids as the answer says
 asked : {answer : Bool} (c : tie.After-trade-valid Inv-loop μ-loop) → c .trade-valid .result ≡ answer
-    → let start = c .before .before .before .before .before .before .before .before .before .before .before .before .before .before .before in tradeAmong (take (start .args .n) (now (start .args .ids))) (asTrade (c .before .before .before .before .before .before .before .read-trade .result)) ≡ answer
+    → let read = c .before .before .before .before .before .before .before in let start = read .before .before .before .before .before .before .before .before in
+    tradeAmong (take (start .args .n) (now (start .args .ids))) (asTrade (read .read-trade .result)) ≡ answer
 unfolding asTrade
 asked c e =
-    let start = c .before .before .before .before .before .before .before .before .before .before .before .before .before .before .before in
-    trade-found (now (start .args .ids)) (start .args .n) _ (ids-there start) (c .before .before .before .before .before .before .find .ensures) (not-false _ (c .before .before .before .before .if1 .left))
-    (c .before .before .before .find2 .ensures) (not-false _ (c .before .if2 .left)) (c .trade-valid .ensures) e
+    let buyer = c .before .before .before in
+    let seller = buyer .before .before .before in
+    let start = seller .before .before .before .before .before .before .before .before .before in
+    trade-found (now (start .args .ids)) (start .args .n) _ (ids-there start) (seller .find .ensures) (not-false _ (buyer .before .if1 .left))
+    (buyer .find2 .ensures) (not-false _ (c .before .if2 .left)) (c .trade-valid .ensures) e
 
 -- where it is, it can be counted for its seller
 addable : (c : tie.After-trade-valid Inv-loop μ-loop) → c .trade-valid .result ≡ true
     → Addable 0 (c .before .before .before .before .before .before .find .result .place) (asTrade (c .before .before .before .before .before .before .before .read-trade .result)) (c .before .before .before .before .before .before .before .before .before .before .loop .sums)
 unfolding asTrade
 addable c e =
-    let read = c .before .before .before .before .before .before .before in
-    let start = c .before .before .before .before .before .before .before .before .before .before .before .before .before .before .before in
+    let buyer = c .before .before .before in
+    let seller = buyer .before .before .before in
+    let read = seller .before in
+    let start = read .before .before .before .before .before .before .before .before in
     trades-walk-sold (read .before .before .before .loop .inv) (omega (arith, read .before .before .loop-test)) (read .read-trade .ensures) (rw length-take (omega (arith, start .pre .0 .0 .few))) (start .pre .1 .0)
-    (asked c e) (c .before .before .before .before .before .before .find .ensures .stands) (c .before .before .before .find2 .ensures .stands)
+    (asked c e) (seller .find .ensures .stands) (buyer .find2 .ensures .stands)
 
 -- the bytes of the trade at hand
 lies : (c : tie.In-loop Inv-loop μ-loop) → c .before .loop .a + 20 ≤ length (now (c .before .before .before .before .before .before .args .s))
@@ -82,10 +87,10 @@ returns-2 c =
     (trade-no-buyer (now (start .args .ids)) (start .args .n) _ (ids-there start) (found .find .ensures) (not-false _ (c .before .before .before .if1 .left)) (c .before .before .find2 .ensures) (not-true _ (c .if2 .taken)))
 
 same-length-5 : tie.Need-same-length-5 Inv-loop μ-loop
-same-length-5 c = c .before .before .before .before .before .before .before .before .before .before .before .loop .inv .of-sellers .full ∙ sym (c .before .before .before .before .before .before .before .before .before .before .before .before .before .before .before .before .pre .1 .2)
+same-length-5 c = let turn = c .before .before .before .before .before .before .before .before .before .before .before in turn .loop .inv .of-sellers .full ∙ sym (turn .before .before .before .before .before .pre .1 .2)
 
 same-length-6 : tie.Need-same-length-6 Inv-loop μ-loop
-same-length-6 c = c .before .before .before .before .before .before .before .before .before .before .before .loop .inv .of-buyers .full ∙ sym (c .before .before .before .before .before .before .before .before .before .before .before .before .before .before .before .before .pre .1 .3)
+same-length-6 c = let turn = c .before .before .before .before .before .before .before .before .before .before .before in turn .loop .inv .of-buyers .full ∙ sym (turn .before .before .before .before .before .pre .1 .3)
 
 returns-3 : tie.Need-returns-3 Inv-loop μ-loop
 unfolding asTrade
@@ -94,16 +99,16 @@ returns-3 c =
     trades-walk-no (read .before .before .before .loop .inv) (omega (arith, read .before .before .loop-test)) (read .read-trade .ensures) (asked (c .before) (not-true (c .before .trade-valid .result) (c .if3 .taken)))
 
 cast-sellers : tie.Need-cast-sellers Inv-loop μ-loop
-cast-sellers c = record { fits = omega (arith, c .before .before .before .before .before .before .before .before .find .ensures .within, c .before .before .before .before .before .before .before .before .before .before .before .before .before .before .before .before .before .pre .0 .0 .few) }
+cast-sellers c = let found = c .before .before .before .before .before .before .before .before in record { fits = omega (arith, found .find .ensures .within, found .before .before .before .before .before .before .before .before .before .pre .0 .0 .few) }
 
 slice-write-sellers : tie.Need-slice-write-sellers Inv-loop μ-loop
-slice-write-sellers c = omega (arith, c .before .before .before .before .before .before .before .before .before .before .before .loop-test, c .before .before .before .before .before .before .before .before .before .before .before .before .loop .inv .of-sellers .full, c .before .before .before .before .before .before .before .before .before .before .before .before .before .before .before .before .before .pre .1 .0)
+slice-write-sellers c = let inside = c .before .before .before .before .before .before .before .before .before .before .before in omega (arith, inside .loop-test, inside .before .loop .inv .of-sellers .full, inside .before .before .before .before .before .before .pre .1 .0)
 
 cast-buyers : tie.Need-cast-buyers Inv-loop μ-loop
-cast-buyers c = record { fits = omega (arith, c .before .before .before .before .before .before .find2 .ensures .within, c .before .before .before .before .before .before .before .before .before .before .before .before .before .before .before .before .before .before .pre .0 .0 .few) }
+cast-buyers c = let found = c .before .before .before .before .before .before in record { fits = omega (arith, found .find2 .ensures .within, found .before .before .before .before .before .before .before .before .before .before .before .before .pre .0 .0 .few) }
 
 slice-write-buyers : tie.Need-slice-write-buyers Inv-loop μ-loop
-slice-write-buyers c = omega (arith, c .before .before .before .before .before .before .before .before .before .before .before .before .loop-test, c .before .before .before .before .before .before .before .before .before .before .before .before .before .loop .inv .of-buyers .full, c .before .before .before .before .before .before .before .before .before .before .before .before .before .before .before .before .before .before .pre .1 .0)
+slice-write-buyers c = let inside = c .before .before .before .before .before .before .before .before .before .before .before .before in omega (arith, inside .loop-test, inside .before .loop .inv .of-buyers .full, inside .before .before .before .before .before .before .pre .1 .0)
 
 add-trade-requires : tie.Need-add-trade-requires Inv-loop μ-loop
 add-trade-requires c κs =
@@ -114,10 +119,12 @@ add-trade-requires-2 : tie.Need-add-trade-requires-2 Inv-loop μ-loop
 unfolding asTrade
 add-trade-requires-2 c κs =
     let answer = c .before .before .before .before .before .before in
-    let read = answer .before .before .before .before .before .before .before in
-    let start = answer .before .before .before .before .before .before .before .before .before .before .before .before .before .before .before in
+    let buyer = answer .before .before .before in
+    let seller = buyer .before .before .before in
+    let read = seller .before in
+    let start = read .before .before .before .before .before .before .before .before in
     trades-walk-bought (read .before .before .before .loop .inv) (omega (arith, read .before .before .loop-test)) (read .read-trade .ensures) (rw length-take (omega (arith, start .pre .0 .0 .few))) (start .pre .1 .0)
-    (asked answer (not-false (answer .trade-valid .result) (c .before .before .before .before .before .if3 .left))) (answer .before .before .before .before .before .before .find .ensures .stands) (answer .before .before .before .find2 .ensures .stands) (c .before .add-trade .ensures)
+    (asked answer (not-false (answer .trade-valid .result) (c .before .before .before .before .before .if3 .left))) (seller .find .ensures .stands) (buyer .find2 .ensures .stands) (c .before .add-trade .ensures)
 
 add-get-u8 : tie.Need-add-get-u8 Inv-loop μ-loop
 add-get-u8 c = let inside = c .before .before .before .before .before .before .before .before .before .before .before .before .before .before .before .before in omega (arith, lies inside, inside .before .before .before .before .before .before .fits)
@@ -135,10 +142,13 @@ loop-again : tie.Need-loop-again Inv-loop μ-loop
 unfolding asTrade
 loop-again c =
     let answer = c .before .before .before .before .before .before .before .before in
-    let read = answer .before .before .before .before .before .before .before in
-    let start = answer .before .before .before .before .before .before .before .before .before .before .before .before .before .before .before in
+    let buyer = answer .before .before .before in
+    let seller = buyer .before .before .before in
+    let read = seller .before in
+    let start = read .before .before .before .before .before .before .before .before in
     trades-walk-turn (read .before .before .before .loop .inv) (omega (arith, read .before .before .loop-test)) (read .read-trade .ensures) (rw length-take (omega (arith, start .pre .0 .0 .few))) (start .pre .1 .0)
-    (asked answer (not-false (answer .trade-valid .result) (c .before .before .before .before .before .before .before .if3 .left))) (answer .before .before .before .before .before .before .find .ensures .stands) (answer .before .before .before .find2 .ensures .stands) (c .before .before .before .add-trade .ensures) (c .before .add-trade2 .ensures)
+    (asked answer (not-false (answer .trade-valid .result) (c .before .before .before .before .before .before .before .if3 .left))) (seller .find .ensures .stands) (buyer .find2 .ensures .stands)
+    (c .before .before .before .add-trade .ensures) (c .before .add-trade2 .ensures)
     (c .get-u8 .ensures)
 
 returns-4 : tie.Need-returns-4 Inv-loop μ-loop

@@ -21,7 +21,7 @@ returns c =
 
 post-at-requires : tie.Need-post-at-requires
 post-at-requires c κs =
-    let e = c .before .before in
+    let e = c .before in
     let f = e .before .before in
     let s = f .before .before .before in
     (s .pre .0 .passes, omega (arith, found-below (f .find .ensures) (not-false _ (e .if1 .left)), s .pre .0 .count), s .pre .0 .begin, s .pre .0 .sized)
@@ -29,7 +29,7 @@ post-at-requires c κs =
 returns-2 : tie.Need-returns-2
 returns-2 c = λ limits.
     let p = c .before .before in
-    let f = p .before .before .before .before .before in
+    let f = p .before .before .before .before in
     let s = f .before .before .before in
     rw (toZ-ofZ w64 (s .args .amount) (s .fits .amount)) at (p .post-at .ensures .posts (s .args .id) (place-searched (s .args .id) (s .pre .0) (f .find .ensures .stands)) limits)
 

@@ -54,7 +54,7 @@ post-lines-requires c κs =
     let f = c .before .before .before .before .before .before .before .before in
     let e = f .before .before .before .before .before .before .before .before .before in
     let s = start e in
-    (f .fill-ids .ensures, s .pre .1 (e .if1 .left), c .before .before .before .before .before .fill-guesses .ensures)
+    (f .fill-ids .ensures, (s .pre .1 (e .if1 .left), c .before .before .before .before .fill-guesses .ensures))
 
 returns-2 : tie.Need-returns-2
 returns-2 c =
@@ -66,5 +66,5 @@ returns-2 c =
 pub list-spec : {M : Type 1} → statement M
 list-spec =
     tie.close
-    (tie.spec returns user-count-requires (λ c. search needs) users-offset-requires users-size-requires (λ c. search needs) fill-ids-requires fill-guesses-requires (λ c. search needs) post-lines-requires
+    (tie.spec returns user-count-requires (λ c. search needs) users-offset-requires users-size-requires (λ c. search needs) fill-ids-requires (λ c. search needs) fill-guesses-requires (λ c. search needs) post-lines-requires
     (λ c. search needs) (λ c. search needs) returns-2)
