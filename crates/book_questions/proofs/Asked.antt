@@ -12,7 +12,7 @@ use Rattle.rules.specs.Areas.{Prices}
 use Rattle.rules.specs.Book.{User, Trade}
 use Rattle.base.specs.Lists.{all}
 use Rattle.rules.specs.Questions.{groupsValid, headerValid, managersValid, numberOf, positionsValid, refusal, tradeValid, usersValid}
-use Rattle.base.proofs.Tests.{and-false, and-l, and-r, or-r}
+use Rattle.base.proofs.Tests.{and-l, and-r, or-r}
 use Rattle.fields.specs.Field.{field}
 use Rattle.fields.specs.Layout.{recordsOf}
 use Rattle.book_records.specs.Trade.{tradeOf, tradeZeros}
@@ -30,18 +30,6 @@ use Rattle.book_questions.proofs.Known.{all-tradeAmong, all-parties, tr
 use Rattle.book_questions.proofs.Loops.{leading-same}
 
 -- ---- 5 to 7
-
--- where two tests are answered by yes, the second is
-pub second-yes : (zeros valid : Bool) → (zeros && valid) ≡ true → T valid
-second-yes zeros valid h = and-r zeros valid (rw h tt)
-
--- a test beside one that is answered by yes
-beside-yes : {a b : Bool} (c : Bool) → (c ≡ true → a ≡ b) → (a && c) ≡ (b && c)
-beside-yes true f = ap (λ (x : Bool). x && true) (f refl)
-beside-yes {a} {b} false f = and-false a ∙ sym (and-false b)
-
-yes-is : (b : Bool) → T b → b ≡ true
-yes-is true t = refl
 
 -- a question before 6 that refuses: no trade is read, and nothing told of the sums
 pub summed-none : {us : List User} {ts : List Trade} {count : ℕ} {sums : List ℕ} (number : ℕ) → (T (pastFive number) → ⊥) → Summed us ts count number 0 sums
@@ -73,7 +61,7 @@ module _ (version : ℕ) (userZeros : Bool) {us : List User} {ts : List Trade} {
   unfolding recordsNumber refusal numberOf
   records-5 h = record { asked = rw (sym (users .answer) ∙ h); placed = λ e. absurd (omega arith) }
 
-  module _ {allowed : Bool} {read : ℕ} {sums : List ℕ} (trades : TradesAsked (take n ids) ts allowed read sellers buyers sums) (u : valid ≡ true) where
+  module _ {tradeZeros allowed : Bool} {read : ℕ} {sums : List ℕ} (trades : TradesAsked (take n ids) ts tradeZeros allowed read sellers buyers sums) (u : valid ≡ true) where
     -- the ids are those of users whose fields are valid
     listed : take n ids ≡ idsOf us
     listed = users .listed (rw u tt)
@@ -81,14 +69,14 @@ module _ (version : ℕ) (userZeros : Bool) {us : List User} {ts : List Trade} {
     users-are : T (usersValid us)
     users-are = and-l (usersValid us) (all (managersValid version us) us) (and-r userZeros (allValid version us) (rw (← users .answer, u) tt))
 
-    -- the answer to question 6, zero bytes apart, is that between the users
-    trades-answer : allowed ≡ all (tradeValid us) ts
-    trades-answer = trades .answer ∙ ap (λ (xs : List ℕ). all (tradeAmong xs) ts) listed ∙ all-tradeAmong us ts
+    -- the answer to question 6 is that between the users
+    trades-answer : allowed ≡ (tradeZeros && all (tradeValid us) ts)
+    trades-answer = trades .answer ∙ ap (λ (b : Bool). tradeZeros && b) (ap (λ (xs : List ℕ). all (tradeAmong xs) ts) listed ∙ all-tradeAmong us ts)
 
     -- the sums are what the users sold and bought: question 7 can be asked
     pub records-sums : T allowed → TwelveOf us ts sums
     records-sums t =
-        twelve-of us ts (valid-rising us users-are) (all-parties (idsOf us) ts (rw (← listed, ← trades .answer) t))
+        twelve-of us ts (valid-rising us users-are) (all-parties (idsOf us) ts (and-r tradeZeros (all (tradeAmong (idsOf us)) ts) (rw (← listed, ← trades .answer) t)))
         (subst (λ (xs : List ℕ). Twelve (placesOf xs (λ r. r .seller) ts) (placesOf xs (λ r. r .buyer) ts) ts 25600000 sums) listed (trades .twelve t))
 
     -- the number of trades that were read is that between the users
@@ -97,37 +85,37 @@ module _ (version : ℕ) (userZeros : Bool) {us : List User} {ts : List Trade} {
     records-read number e =
         trades .counted ∙ ap (λ (xs : List ℕ). leading (tradeAmong xs) ts) listed ∙ leading-same (tradeAmong (idsOf us)) (tradeValid us) (tradeAmong-valid us) ts ∙ rw e
 
-    -- question 6 is answered by no: nothing is told of the sums
+    -- question 6 is answered by no
+    pub records-6 : allowed ≡ false → RecordsAsked version userZeros tradeZeros us ts 6 sellers buyers
+    unfolding recordsNumber refusal numberOf
+    records-6 h = record { asked = rw (sym (users .answer) ∙ u, sym trades-answer ∙ h); placed = λ e. absurd (omega arith) }
+
+    -- nothing is then told of the sums
     pub summed-6 : {count : ℕ} → Summed us ts count 6 read sums
     unfolding pastSix pastFive
     summed-6 = record { counted = records-read 6 refl; twelve = λ p. absurd p; low = λ p. absurd p; all-read = λ p. absurd p }
 
-    -- and they are told, whatever it gives
-    pub records-summed : {count : ℕ} (number : ℕ) → T allowed → pastFive number ≡ true → (allowed ≡ true → read ≡ count) → Summed us ts count number read sums
-    records-summed {count} number t e whole =
-        record { counted = records-read number e; twelve = λ p. records-sums t; low = λ p. record { low = trades .twelve t .low }; all-read = λ p. whole (yes-is allowed t) }
+    module _ (t : allowed ≡ true) where
+      -- it is yes: they are told, whatever question 7 gives
+      pub records-summed : {count : ℕ} (number : ℕ) → pastFive number ≡ true → length ts ≡ count → Summed us ts count number read sums
+      records-summed {count} number e all =
+          record {
+            counted = records-read number e;
+            twelve = λ p. records-sums (rw t tt);
+            low = λ p. record { low = trades .twelve (rw t tt) .low };
+            all-read = λ p. trades .whole (rw t tt) ∙ all;
+          }
 
-    module _ {zeros tradeZeros : Bool} (seen : allowed ≡ true → zeros ≡ tradeZeros) where
-      -- the whole answer to question 6
-      answer-6 : {answer : Bool} → (zeros && allowed) ≡ answer → (tradeZeros && all (tradeValid us) ts) ≡ answer
-      answer-6 h = ap (λ (b : Bool). tradeZeros && b) (sym trades-answer) ∙ sym (beside-yes allowed seen) ∙ h
-
-      -- it is no
-      pub records-6 : (zeros && allowed) ≡ false → RecordsAsked version userZeros tradeZeros us ts 6 sellers buyers
-      unfolding recordsNumber refusal numberOf
-      records-6 h = record { asked = rw (sym (users .answer) ∙ u, answer-6 h); placed = λ e. absurd (omega arith) }
-
-      module _ {right : Bool} (t : (zeros && allowed) ≡ true) (e : right ≡ all (positionsValid ts) us) where
+      module _ {right : Bool} (e : right ≡ all (positionsValid ts) us) where
         -- question 7 is answered by no
         pub records-7 : right ≡ false → RecordsAsked version userZeros tradeZeros us ts 7 sellers buyers
         unfolding recordsNumber refusal numberOf
-        records-7 h = record { asked = rw (sym (users .answer) ∙ u, answer-6 t, sym e ∙ h); placed = λ f. absurd (omega arith) }
+        records-7 h = record { asked = rw (sym (users .answer) ∙ u, sym trades-answer ∙ t, sym e ∙ h); placed = λ f. absurd (omega arith) }
 
         -- none is
         pub records-0 : right ≡ true → RecordsAsked version userZeros tradeZeros us ts 0 sellers buyers
         unfolding recordsNumber refusal numberOf
-        records-0 h =
-            record { asked = rw (sym (users .answer) ∙ u, answer-6 t, sym e ∙ h); placed = λ f. trades .placed (second-yes zeros allowed t) us (sym listed) }
+        records-0 h = record { asked = rw (sym (users .answer) ∙ u, sym trades-answer ∙ t, sym e ∙ h); placed = λ f. trades .placed (rw t tt) us (sym listed) }
 
 -- ---- the bytes from the users on
 

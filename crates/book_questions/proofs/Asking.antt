@@ -8,6 +8,7 @@ use lib.Dec.{T, eqb, ltb, ltb→lt}
 use borrow.Author.Tests.{eq-eqb, ltb-false, ne-eqb}
 use lib.ListN.{length, take, drop, getD, set, replicate, length-replicate}
 use Rattle.rules.specs.Book.{User, Trade}
+use Rattle.base.specs.Lists.{all}
 use Rattle.rules.specs.Questions.{entriesValid, guaranteesValid, userValid, usersValid}
 use Rattle.rules.specs.Signed.{within}
 use Rattle.base.proofs.Tests.{and-false, and-l, and-r, by-case, holds}
@@ -162,8 +163,8 @@ module _ {s : List ℕ} {size at n : ℕ} where
 -- ---- trades
 
 -- where i of m trades were valid between users of these ids, of which the next stands at a: those left have the whole answer and the rest of the number, and of those
--- passed the places of the parties are listed, what stands is summed at each, and it was seen whether their zero bytes are 0
-pub record TradesWalk (ids s : List ℕ) (at m : ℕ) (sellers buyers sums : List ℕ) (zeros : Bool) (i a : ℕ) : Type 0 where
+-- passed the places of the parties are listed, what stands is summed at each, and their zero bytes are 0
+pub record TradesWalk (ids s : List ℕ) (at m : ℕ) (sellers buyers sums : List ℕ) (i a : ℕ) : Type 0 where
   pub place : a ≡ at + 20 * i
   pub within : i ≤ m
   pub left : Passed (tradeAmong ids) (tradesFrom at m s) i
@@ -171,7 +172,7 @@ pub record TradesWalk (ids s : List ℕ) (at m : ℕ) (sellers buyers sums : Lis
   pub of-sellers : Listed (λ t. placeIn ids (t .terms .seller)) (tradesFrom at m s) 256 sellers i
   pub of-buyers : Listed (λ t. placeIn ids (t .terms .buyer)) (tradesFrom at m s) 256 buyers i
   pub twelve : Twelve (take i (placesOf ids (λ r. r .seller) (tradesFrom at m s))) (take i (placesOf ids (λ r. r .buyer) (tradesFrom at m s))) (take i (tradesFrom at m s)) (i * 100000) sums
-  pub seen : ZerosLeft 1 11 20 s at m i zeros
+  pub zeros : ZerosLeft 1 11 20 s at m i true
 
 -- there are m trades
 trades-length : (s : List ℕ) (at m : ℕ) → length (tradesFrom at m s) ≡ m
@@ -180,7 +181,7 @@ trades-length s at m = length-recordsOf 20 tradeOf m (drop at s)
 module _ {ids s : List ℕ} {at m : ℕ} where
   -- before the first
   pub trades-walk-start : {sellers buyers sums : List ℕ} → length sellers ≡ 256 → length buyers ≡ 256 → sums ≡ replicate 768 0
-      → TradesWalk ids s at m sellers buyers sums true 0 at
+      → TradesWalk ids s at m sellers buyers sums 0 at
   trades-walk-start h k e =
       let ts = tradesFrom at m s in
       record {
@@ -191,10 +192,10 @@ module _ {ids s : List ℕ} {at m : ℕ} where
         of-sellers = listed-start h;
         of-buyers = listed-start k;
         twelve = rw e (twelve-none (placesOf ids (λ r. r .seller) ts) (placesOf ids (λ r. r .buyer) ts) ts);
-        seen = zeros-start;
+        zeros = zeros-start;
       }
 
-  module _ {sellers buyers sums : List ℕ} {zeros : Bool} {i a : ℕ} (walk : TradesWalk ids s at m sellers buyers sums zeros i a) (h : i < m) {t : Trade} (e : t ≡ tradeOf (take (a + 20 - a) (drop a s))) where
+  module _ {sellers buyers sums : List ℕ} {i a : ℕ} (walk : TradesWalk ids s at m sellers buyers sums i a) (h : i < m) {t : Trade} (e : t ≡ tradeOf (take (a + 20 - a) (drop a s))) where
     -- the next trade is the one that was read
     trade-inside : i < length (tradesFrom at m s)
     trade-inside = rw (trades-length s at m) h
@@ -202,19 +203,30 @@ module _ {ids s : List ℕ} {at m : ℕ} where
     trade-read : t ≡ getD (tradesFrom at m s) i (tradeOf [])
     trade-read = record-at 20 tradeOf s at m i (tradeOf []) (walk .place) h e
 
-    -- it is not valid: fewer than all were
-    trades-walk-stopped : tradeAmong ids t ≡ false → TradesAsked ids (tradesFrom at m s) (eqb i m) i sellers buyers sums
-    trades-walk-stopped k =
-        subst (λ (valid : Bool). TradesAsked ids (tradesFrom at m s) valid i sellers buyers sums) (sym (ne-eqb i m (λ f. omega arith)))
-        (record {
+    -- it is not valid
+    pub trades-walk-no : tradeAmong ids t ≡ false → TradesAsked ids (tradesFrom at m s) (tradeZerosIn at m s) false i sellers buyers sums
+    trades-walk-no k =
+        record {
           counted = led-no (tradeOf []) (walk .counted) trade-inside (ap (tradeAmong ids) (sym trade-read) ∙ k);
-          answer = passed-no (tradeOf []) (walk .left) trade-inside (ap (tradeAmong ids) (sym trade-read) ∙ k);
+          answer = no-second (tradeZerosIn at m s) (passed-no (tradeOf []) (walk .left) trade-inside (ap (tradeAmong ids) (sym trade-read) ∙ k));
           placed = λ t. absurd t;
           twelve = λ t. absurd t;
-        })
+          whole = λ t. absurd t;
+        }
 
-    pub trades-walk-no : tradeAmong ids t ≡ false → {told : Bool} → TradesAsked ids (tradesFrom at m s) (eqb i m) i sellers buyers sums × (i ≡ m → told ≡ tradeZerosIn at m s)
-    trades-walk-no k = (trades-walk-stopped k, λ f. absurd (omega arith))
+    -- its zero byte is not 0
+    pub trades-walk-zero : {zero read : ℕ} → zero ≡ field 1 (a + 11) s → (zero ≡ 0 → ⊥) → read ≡ leading (tradeAmong ids) (tradesFrom at m s)
+        → TradesAsked ids (tradesFrom at m s) (tradeZerosIn at m s) false read sellers buyers sums
+    trades-walk-zero {zero} z k c =
+        record {
+          counted = c;
+          answer =
+              no-first (all (tradeAmong ids) (tradesFrom at m s))
+              (sym (zeros-turn (walk .zeros) (walk .place) h (omega arith) (ap (λ (x : ℕ). eqb x 0) (sym z) ∙ ne-eqb zero 0 k) .answer));
+          placed = λ t. absurd t;
+          twelve = λ t. absurd t;
+          whole = λ t. absurd t;
+        }
 
     module _ {p q : ℕ} (few : length ids ≤ 64) (many : m ≤ 256) (k : tradeAmong ids t ≡ true) (f : p ≡ placeIn ids (t .terms .seller)) (g : q ≡ placeIn ids (t .terms .buyer)) where
       valid : T (tradeAmong ids t)
@@ -232,9 +244,9 @@ module _ {ids s : List ℕ} {at m : ℕ} where
           (addable-bought ids (tradesFrom at m s) few (tradeOf []) trade-inside trade-read (tradeAmong-parties ids t valid) (tradeAmong-day ids t valid) (tradeAmong-small ids t valid) f g (walk .twelve) (omega arith))
 
       -- the places of its parties are stored, and it is counted
-      pub trades-walk-turn : {xs ys : List ℕ} {zero : ℕ} → xs ≡ added 0 p t sums → ys ≡ added 1 q t xs → zero ≡ field 1 (a + 11) s
-          → TradesWalk ids s at m (set sellers i p) (set buyers i q) ys (zeros && eqb zero 0) (i + 1) (a + 20)
-      trades-walk-turn x y z =
+      pub trades-walk-turn : {xs ys : List ℕ} {zero : ℕ} → xs ≡ added 0 p t sums → ys ≡ added 1 q t xs → zero ≡ field 1 (a + 11) s → zero ≡ 0
+          → TradesWalk ids s at m (set sellers i p) (set buyers i q) ys (i + 1) (a + 20)
+      trades-walk-turn {zero = zero} x y z o =
           record {
             place = omega (arith, walk .place);
             within = omega arith;
@@ -245,29 +257,44 @@ module _ {ids s : List ℕ} {at m : ℕ} where
             twelve =
                 rw (y, x)
                 (twelve-next ids (tradesFrom at m s) few (tradeOf []) trade-inside trade-read (tradeAmong-parties ids t valid) (tradeAmong-day ids t valid) (tradeAmong-small ids t valid) f g (walk .twelve));
-            seen = zeros-turn (walk .seen) (walk .place) h (omega arith) (ap (λ (k : ℕ). eqb k 0) (sym z));
+            zeros = zeros-turn (walk .zeros) (walk .place) h (omega arith) (ap (λ (k : ℕ). eqb k 0) (sym z) ∙ eq-eqb zero 0 o);
           }
 
   -- none is left
-  trades-walk-whole : {sellers buyers sums : List ℕ} {zeros : Bool} {i a : ℕ} → TradesWalk ids s at m sellers buyers sums zeros i a → m ≤ i → m ≤ 256
-      → TradesAsked ids (tradesFrom at m s) (eqb i m) i sellers buyers sums
-  trades-walk-whole {sellers} {buyers} {sums} {i = i} walk h many =
+  pub trades-walk-end : {sellers buyers sums : List ℕ} {i a : ℕ} → TradesWalk ids s at m sellers buyers sums i a → m ≤ i → m ≤ 256
+      → TradesAsked ids (tradesFrom at m s) (tradeZerosIn at m s) true i sellers buyers sums
+  trades-walk-end {sellers} {buyers} {sums} {i = i} walk h many =
       let ts = tradesFrom at m s in
       let full = trades-length s at m in
       let last : i ≡ m = omega (arith, walk .within) in
       let past : length ts ≤ i = rw full h in
       let over : i ≡ length ts = rw full last in
-      subst (λ (valid : Bool). TradesAsked ids ts valid i sellers buyers sums) (sym (eq-eqb i m last))
-      (record {
+      record {
         counted = led-end (walk .counted) past;
-        answer = passed-end (walk .left) past;
+        answer = passed-end (walk .left) past ∙ ap (λ (x : Bool). x && all (tradeAmong ids) ts) (zeros-end (walk .zeros) h);
         placed = λ t us e. record {
           of-sellers = rw (← over, e) (listed-end (walk .of-sellers) past);
           of-buyers = rw (← over, e) (listed-end (walk .of-buyers) past);
         };
         twelve = λ t. twelve-all ids ts over (rw full many) (walk .twelve);
-      })
+        whole = λ t. over;
+      }
 
-  pub trades-walk-end : {sellers buyers sums : List ℕ} {zeros : Bool} {i a : ℕ} → TradesWalk ids s at m sellers buyers sums zeros i a → m ≤ i → m ≤ 256
-      → TradesAsked ids (tradesFrom at m s) (eqb i m) i sellers buyers sums × (i ≡ m → zeros ≡ tradeZerosIn at m s)
-  trades-walk-end walk h many = (trades-walk-whole walk h many, λ f. zeros-end (walk .seen) h)
+-- ---- trades that are only counted
+
+module _ (ids s : List ℕ) (at m : ℕ) {i a : ℕ} (place : a ≡ at + 20 * i) (led : Led (tradeAmong ids) (tradesFrom at m s) i) where
+  module _ (h : i < m) {t : Trade} (e : t ≡ tradeOf (take (a + 20 - a) (drop a s))) where
+    next-is : {answer : Bool} → tradeAmong ids t ≡ answer → tradeAmong ids (getD (tradesFrom at m s) i (tradeOf [])) ≡ answer
+    next-is k = ap (tradeAmong ids) (sym (record-at 20 tradeOf s at m i (tradeOf []) place h e)) ∙ k
+
+    -- the next one is not valid
+    pub count-no : tradeAmong ids t ≡ false → i ≡ leading (tradeAmong ids) (tradesFrom at m s)
+    count-no k = led-no (tradeOf []) led (rw (trades-length s at m) h) (next-is k)
+
+    -- it is
+    pub count-turn : tradeAmong ids t ≡ true → Led (tradeAmong ids) (tradesFrom at m s) (i + 1)
+    count-turn k = led-turn (tradeOf []) led (rw (trades-length s at m) h) (next-is k)
+
+  -- none is left
+  pub count-end : m ≤ i → i ≡ leading (tradeAmong ids) (tradesFrom at m s)
+  count-end h = led-end led (rw (trades-length s at m) h)

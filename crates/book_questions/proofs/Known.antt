@@ -38,6 +38,11 @@ module _ (xs : List ℕ) (n : ℕ) (t : Trade) {p : ℕ} {seller-known : Bool} (
     unfolding tradeAmong
     trade-found f g k = rw (found-among xs n h seller, e, found-among xs n h buyer, f) (sym g ∙ k)
 
+  -- its test, given whether both were
+  pub trade-given : {q : ℕ} {buyer-known a b : Bool} → FoundIn (take n xs) n (t .terms .buyer) q buyer-known → a ≡ tradeValidGiven seller-known buyer-known t → a ≡ b → tradeAmong (take n xs) t ≡ b
+  unfolding tradeAmong
+  trade-given buyer g k = rw (found-among xs n h seller, found-among xs n h buyer) (sym g ∙ k)
+
 pub tradeAmong-valid : (us : List User) (t : Trade) → tradeAmong (idsOf us) t ≡ tradeValid us t
 unfolding tradeAmong
 tradeAmong-valid us t = rw (among-known us (t .terms .seller), among-known us (t .terms .buyer)) (tradeValidGiven-known us t)

@@ -58,13 +58,14 @@ unfoldable pub leading : (Trade → Bool) → List Trade → ℕ
 leading valid [] = 0
 leading valid (t ∷ ts) = cond (valid t) (1 + leading valid ts) 0
 
--- trades that were asked question 6 between users of these ids: how many of them stand before the first that is not valid; the answer, and where it is yes, the places of
--- their parties and the sums of what is sold and bought at each place
-pub record TradesAsked (ids : List ℕ) (ts : List Trade) (valid : Bool) (read : ℕ) (sellers buyers sums : List ℕ) : Type 0 where
+-- trades that were asked question 6 between users of these ids, given whether their zero bytes are 0: how many of them stand before the first that is not valid; the answer,
+-- and where it is yes, the places of their parties and the sums of what is sold and bought at each place, and all were read
+pub record TradesAsked (ids : List ℕ) (ts : List Trade) (zeros valid : Bool) (read : ℕ) (sellers buyers sums : List ℕ) : Type 0 where
   pub counted : read ≡ leading (tradeAmong ids) ts
-  pub answer : valid ≡ all (tradeAmong ids) ts
+  pub answer : valid ≡ (zeros && all (tradeAmong ids) ts)
   pub placed : T valid → (us : List User) → idsOf us ≡ ids → Placed us ts sellers buyers
   pub twelve : T valid → Twelve (placesOf ids (λ r. r .seller) ts) (placesOf ids (λ r. r .buyer) ts) ts 25600000 sums
+  pub whole : T valid → read ≡ length ts
 
 -- no question before 7 refuses
 unfoldable pub pastSix : ℕ → Bool

@@ -4,7 +4,6 @@
 ghost use mathlib.Core.Path.{_≡_};
 ghost use mathlib.Core.Bool.{_&&_};
 ghost use Prim.Native.Nat.{_+_, _*_, _≤_, _<_};
-ghost use lib.Dec.{eqb};
 ghost use lib.ListN.{getD, length, take, replicate};
 ghost use Rattle.base.specs.Lists.{all};
 ghost use Rattle.rules.specs.Book.{nobody};
@@ -14,7 +13,7 @@ ghost use Rattle.book_format.specs.Questions.{Formed, bookNumber};
 ghost use Rattle.book_parties.specs.Ids.{usersFrom, tradesFrom, Padded, Guesses};
 ghost use Rattle.book_questions.specs.Asked.{managerGiven, managersGiven, GroupsIn, GroupsAsked, UsersAsked};
 ghost use Rattle.book_questions.specs.Zeros.{userZerosIn, tradeZerosIn};
-ghost use Rattle.book_questions.specs.Asked.{TradesAsked, RecordsIn, RecordsAsked, FieldsPlaced, AskedOf, Summed};
+ghost use Rattle.book_questions.specs.Asked.{leading, tradeAmong, TradesAsked, RecordsIn, RecordsAsked, FieldsPlaced, AskedOf, Summed};
 
 // What was asked: the number of the first question that is answered by no, 0 where there is none, and how many trades were read: none
 // where a question before 6 is answered by no, else those before the first that is not valid, all of them where each is.
@@ -122,16 +121,43 @@ fn groups_valid(s: &[u8], version: u16, n: usize, ids: &[u32], guesses: &[u8; 10
 
 // ---- 6
 
-// What a walk over trades finds: how many come before one that is not valid, and, where these are all of them, whether their zero bytes
-// are 0.
-struct Walk {
-    read: usize,
-    zeros: bool,
+// How many of the m trades from `at` on come before one that is not valid between users of the first n ids: m where all are valid.
+fn leading_trades(
+    ids: &[u32],
+    guesses: &[u8; 1024],
+    n: usize,
+    s: &[u8],
+    at: usize,
+    m: usize,
+) -> usize
+    requires { ⌜ Padded (now ids) n × Guesses (now guesses) n ⌝ }
+    requires { ⌜ (m ≤ 256) × (at + 20 * m ≤ length (now s)) ⌝ }
+    ensures { λ r. ⌜ r ≡ leading (tradeAmong (take n (now (ids .entry)))) (tradesFrom at m (now (s .entry))) ⌝ }
+{
+    let mut i = 0;
+    let mut a = at;
+    while i < m {
+        let t = book_records::read_trade(&s[a..a + 20]);
+        let seller = book_parties::find(ids, guesses, n, t.seller);
+        let buyer = book_parties::find(ids, guesses, n, t.buyer);
+        if !book_valid::trade_valid(seller.known, buyer.known, t) {
+            return i;
+        }
+        a += 20;
+        i += 1;
+    }
+    i
 }
 
-// How many of the m trades from `at` on come before one that is not valid between users of the first n ids: m where all are valid. Where it
-// is so, the places of their parties are listed, what stands is summed at each, and the zero bytes are asked for. Whether a party is known
-// is asked only where its guess was wrong.
+// What a walk over trades finds: whether each is valid and its zero byte 0, and how many come before one that is not valid.
+struct Walk {
+    valid: bool,
+    read: usize,
+}
+
+// Are the m trades from `at` on valid between users of the first n ids, and their zero bytes 0? Where it is so, the places of their parties
+// are listed, and what stands is summed at each. Whether a party is known is asked only where its guess was wrong; and the walk ends at a
+// zero byte that is not 0: how many trades come before one that is not valid is then counted apart.
 fn valid_trades(
     ids: &[u32],
     guesses: &[u8; 1024],
@@ -145,10 +171,8 @@ fn valid_trades(
 ) -> Walk
     requires { ⌜ Padded (now ids) n × Guesses (now guesses) n ⌝ }
     requires { ⌜ (m ≤ 256) × (at + 20 * m ≤ length (now s)) × (length (now sellers) ≡ 256) × (length (now buyers) ≡ 256) × (now sums ≡ replicate 768 0) ⌝ }
-    ensures { λ r. ⌜ TradesAsked (take n (now (ids .entry))) (tradesFrom at m (now (s .entry))) (eqb (r .read) m) (r .read) (now (sellers .exit)) (now (buyers .exit)) (now (sums .exit)) ⌝ }
-    ensures { λ r. ⌜ (r .read ≡ m → r .zeros ≡ tradeZerosIn at m (now (s .entry))) ⌝ }
+    ensures { λ r. ⌜ TradesAsked (take n (now (ids .entry))) (tradesFrom at m (now (s .entry))) (tradeZerosIn at m (now (s .entry))) (r .valid) (r .read) (now (sellers .exit)) (now (buyers .exit)) (now (sums .exit)) ⌝ }
 {
-    let mut zeros = true;
     let mut i = 0;
     let mut a = at;
     while i < m {
@@ -156,35 +180,41 @@ fn valid_trades(
         let seller = book_parties::find(ids, guesses, n, t.seller);
         if !seller.known {
             return Walk {
+                valid: false,
                 read: i,
-                zeros: false,
             };
         }
         let buyer = book_parties::find(ids, guesses, n, t.buyer);
         if !buyer.known {
             return Walk {
+                valid: false,
                 read: i,
-                zeros: false,
             };
         }
         if !book_valid::trade_valid(true, true, t) {
             return Walk {
+                valid: false,
                 read: i,
-                zeros: false,
+            };
+        }
+        let zero = fields::get_u8(s, a + 11);
+        if zero != 0 {
+            let read = leading_trades(ids, guesses, n, s, at, m);
+            return Walk {
+                valid: false,
+                read: read,
             };
         }
         sellers[i] = seller.place as u8;
         buyers[i] = buyer.place as u8;
         book_sums::add_trade(sums, seller.place, 0, t);
         book_sums::add_trade(sums, buyer.place, 1, t);
-        let zero = fields::get_u8(s, a + 11);
-        zeros = zeros & (zero == 0);
         a += 20;
         i += 1;
     }
     Walk {
+        valid: true,
         read: i,
-        zeros: zeros,
     }
 }
 
@@ -220,7 +250,7 @@ fn ask_records(
     }
     let walk = valid_trades(&ids, &guesses, n, s, trades_at, m, sellers, buyers, sums);
     let read = walk.read;
-    if !(walk.zeros & (read == m)) {
+    if !walk.valid {
         return Answer {
             number: 6,
             read: read,

@@ -4,14 +4,17 @@ use mathlib.Core.Path.{_≡_, ap, refl}
 use Prim.Native.Nat.{ℕ}
 use native.Mathlib.Omega.{arith}
 use denote.Ref.{now}
-use borrow.Author.Tests.{not-true, not-false, eqb-true}
+use lib.ListN.{drop}
+use borrow.Author.Tests.{not-true, not-false}
 use Rattle.base.specs.Lists.{all}
 use Rattle.base.proofs.Tests.{holds}
+use Rattle.fields.proofs.Records.{length-recordsOf}
+use Rattle.book_records.specs.Trade.{tradeOf}
 use Rattle.rules.specs.Questions.{positionsValid}
 use Rattle.book_parties.specs.Ids.{usersFrom, tradesFrom}
 use Rattle.book_questions.specs.Zeros.{userZerosIn}
 use Rattle.book_questions.specs.Asked.{allValid, Summed, UsersAsked, pastFive, pastSix}
-use Rattle.book_questions.proofs.Asked.{records-5, second-yes, records-6, records-sums, records-summed, summed-none, summed-6, records-7, records-0}
+use Rattle.book_questions.proofs.Asked.{records-5, records-6, records-sums, records-summed, summed-none, summed-6, records-7, records-0}
 use Rattle.book_questions.proofs.Managers.{fields-groups, users-no, users-yes}
 use borrow.Author.Needs.{needs}
 use Rattle.book_questions.proofs.ask_records.Statement.{statement}
@@ -74,8 +77,8 @@ returns-3 c =
     let start = groups .before .before .before .before .before .before .before .before .before .before .before .before .before in
     let a = start .args in
     let ts = tradesFrom (a .trades-at) (a .m) (now (a .s)) in (
-      records-6 (a .version) (userZerosIn (a .size) 0 (a .n) (now (a .s))) {ts = ts} (users groups) (trades .valid-trades .ensures .0) (not-false _ (passed .if2 .left)) (λ e. trades .valid-trades .ensures .1 (eqb-true _ _ e)) (not-true _ (c .if3 .taken)),
-      summed-6 (a .version) (userZerosIn (a .size) 0 (a .n) (now (a .s))) {ts = ts} (users groups) (trades .valid-trades .ensures .0) (not-false _ (passed .if2 .left)),
+      records-6 (a .version) (userZerosIn (a .size) 0 (a .n) (now (a .s))) {ts = ts} (users groups) (trades .valid-trades .ensures) (not-false _ (passed .if2 .left)) (not-true _ (c .if3 .taken)),
+      summed-6 (a .version) (userZerosIn (a .size) 0 (a .n) (now (a .s))) {ts = ts} (users groups) (trades .valid-trades .ensures) (not-false _ (passed .if2 .left)),
     )
 
 positions-valid-requires : tie.Need-positions-valid-requires
@@ -94,7 +97,7 @@ positions-answer c =
     let a = start .args in
     let ts = tradesFrom (a .trades-at) (a .m) (now (a .s)) in
     c .positions-valid .ensures .answer ts
-    (records-sums (a .version) (userZerosIn (a .size) 0 (a .n) (now (a .s))) {ts = ts} (users groups) (trades .valid-trades .ensures .0) (not-false _ (passed .if2 .left)) (second-yes (trades .valid-trades .result .zeros) _ (not-false _ (allowed .if3 .left))))
+    (records-sums (a .version) (userZerosIn (a .size) 0 (a .n) (now (a .s))) {ts = ts} (users groups) (trades .valid-trades .ensures) (not-false _ (passed .if2 .left)) (holds {c = trades .valid-trades .result .valid} (not-false _ (allowed .if3 .left))))
 
 -- the sums are told past question 6
 summed : (number : ℕ) → pastFive number ≡ true → (c : tie.Else3)
@@ -107,8 +110,8 @@ summed number e c =
     let groups = passed .before in
     let start = groups .before .before .before .before .before .before .before .before .before .before .before .before .before in
     let a = start .args in
-    records-summed (a .version) (userZerosIn (a .size) 0 (a .n) (now (a .s))) {ts = tradesFrom (a .trades-at) (a .m) (now (a .s))} (users groups) (trades .valid-trades .ensures .0) (not-false _ (passed .if2 .left)) number
-    (second-yes (trades .valid-trades .result .zeros) _ (not-false _ (c .if3 .left))) e (λ f. eqb-true (trades .valid-trades .result .read) (a .m) f)
+    records-summed (a .version) (userZerosIn (a .size) 0 (a .n) (now (a .s))) {ts = tradesFrom (a .trades-at) (a .m) (now (a .s))} (users groups) (trades .valid-trades .ensures) (not-false _ (passed .if2 .left))
+    (not-false _ (c .if3 .left)) number e (length-recordsOf 20 tradeOf (a .m) (drop (a .trades-at) (now (a .s))))
 
 returns-4 : tie.Need-returns-4
 unfolding pastFive pastSix
@@ -119,8 +122,8 @@ returns-4 c =
     let groups = passed .before in
     let start = groups .before .before .before .before .before .before .before .before .before .before .before .before .before in
     let a = start .args in (
-      records-7 (a .version) (userZerosIn (a .size) 0 (a .n) (now (a .s))) {ts = tradesFrom (a .trades-at) (a .m) (now (a .s))} (users groups) (trades .valid-trades .ensures .0) (not-false _ (passed .if2 .left))
-          (λ e. trades .valid-trades .ensures .1 (eqb-true _ _ e)) (not-false _ (allowed .if3 .left)) (positions-answer (c .before)) (not-true _ (c .if4 .taken)),
+      records-7 (a .version) (userZerosIn (a .size) 0 (a .n) (now (a .s))) {ts = tradesFrom (a .trades-at) (a .m) (now (a .s))} (users groups) (trades .valid-trades .ensures) (not-false _ (passed .if2 .left))
+          (not-false _ (allowed .if3 .left)) (positions-answer (c .before)) (not-true _ (c .if4 .taken)),
       summed 7 refl allowed,
     )
 
@@ -133,8 +136,8 @@ returns-5 c =
     let groups = passed .before in
     let start = groups .before .before .before .before .before .before .before .before .before .before .before .before .before in
     let a = start .args in (
-      records-0 (a .version) (userZerosIn (a .size) 0 (a .n) (now (a .s))) {ts = tradesFrom (a .trades-at) (a .m) (now (a .s))} (users groups) (trades .valid-trades .ensures .0) (not-false _ (passed .if2 .left))
-          (λ e. trades .valid-trades .ensures .1 (eqb-true _ _ e)) (not-false _ (allowed .if3 .left)) (positions-answer (c .before)) (not-false _ (c .if4 .left)),
+      records-0 (a .version) (userZerosIn (a .size) 0 (a .n) (now (a .s))) {ts = tradesFrom (a .trades-at) (a .m) (now (a .s))} (users groups) (trades .valid-trades .ensures) (not-false _ (passed .if2 .left))
+          (not-false _ (allowed .if3 .left)) (positions-answer (c .before)) (not-false _ (c .if4 .left)),
       summed 0 refl allowed,
     )
 

@@ -1,5 +1,5 @@
 -- `valid_trades`: the trades that are left have the whole answer, until one is not valid or none is left; a party is a user where it was found,
--- and of those passed the places of the parties are listed, what stands is summed at each, and the zero bytes were seen. Assumes nothing.
+-- of those passed the places of the parties are listed, what stands is summed at each, and the zero bytes are 0. Assumes nothing.
 use Prim.Native.Nat.{_-_, _+_, _≤_}
 use mathlib.Core.Bool.{Bool, true}
 use mathlib.Core.Path.{_≡_, sym, _∙_}
@@ -11,16 +11,16 @@ use borrow.Author.Tests.{not-true, not-false}
 use Rattle.book_records.specs.Trade.{asTrade}
 use Rattle.book_sums.specs.Twelve.{Addable}
 use Rattle.book_questions.specs.Asked.{tradeAmong}
-use Rattle.book_questions.proofs.Asking.{TradesWalk, trades-walk-start, trades-walk-no, trades-walk-sold, trades-walk-bought, trades-walk-turn, trades-walk-end}
+use Rattle.book_questions.proofs.Asking.{TradesWalk, trades-walk-start, trades-walk-no, trades-walk-sold, trades-walk-bought, trades-walk-turn, trades-walk-zero, trades-walk-end}
 use Rattle.book_questions.proofs.Known.{trade-found, trade-no-buyer, trade-no-seller}
 use Rattle.book_questions.proofs.valid_trades.Statement.{statement}
 use Rattle.book_questions.proofs.valid_trades.Tie as tie
 
 abbrev Inv-loop : tie.InvT-loop
-Inv-loop ids guesses n s at m sellers₀ buyers₀ sums₀ zeros₀ i₀ a₀ sellers buyers sums zeros i a = TradesWalk (take n ids) s at m sellers buyers sums zeros i a
+Inv-loop ids guesses n s at m sellers₀ buyers₀ sums₀ i₀ a₀ sellers buyers sums i a = TradesWalk (take n ids) s at m sellers buyers sums i a
 
 abbrev μ-loop : tie.MeasureT-loop
-μ-loop ids guesses n s at m sellers₀ buyers₀ sums₀ zeros₀ i₀ a₀ sellers buyers sums zeros i a = m - i
+μ-loop ids guesses n s at m sellers₀ buyers₀ sums₀ i₀ a₀ sellers buyers sums i a = m - i
 
 -- there are n ids
 ids-there : (c : tie.Start Inv-loop μ-loop) → c .args .n ≤ length (now (c .args .ids))
@@ -98,61 +98,76 @@ returns-3 c =
     let read = c .before .before .before .before .before .before .before .before in
     trades-walk-no (read .before .before .before .loop .inv) (omega (arith, read .before .before .loop-test)) (read .read-trade .ensures) (asked (c .before) (not-true (c .before .trade-valid .result) (c .if3 .taken)))
 
+add-get-u8 : tie.Need-add-get-u8 Inv-loop μ-loop
+add-get-u8 c = let inside = c .before .before .before .before .before .before .before .before .before .before in omega (arith, lies inside, inside .before .before .before .before .before .before .fits)
+
+get-u8-requires : tie.Need-get-u8-requires Inv-loop μ-loop
+get-u8-requires c κs = omega (arith, lies (c .before .before .before .before .before .before .before .before .before .before))
+
+leading-trades-requires : tie.Need-leading-trades-requires Inv-loop μ-loop
+leading-trades-requires c κs = let p = c .before .before .before .before .before .before .before .before .before .before .before .before .before .before .before .before .before .before .pre in (p .0, (p .1 .0, p .1 .1))
+
+same-length-7 : tie.Need-same-length-7 Inv-loop μ-loop
+same-length-7 c = let turn = c .before .before .before .before .before .before .before .before .before .before .before .before .before .before in turn .loop .inv .of-sellers .full ∙ sym (turn .before .before .before .before .before .pre .1 .2)
+
+same-length-8 : tie.Need-same-length-8 Inv-loop μ-loop
+same-length-8 c = let turn = c .before .before .before .before .before .before .before .before .before .before .before .before .before .before in turn .loop .inv .of-buyers .full ∙ sym (turn .before .before .before .before .before .pre .1 .3)
+
+returns-4 : tie.Need-returns-4 Inv-loop μ-loop
+unfolding asTrade
+returns-4 c =
+    let read = c .before .before .before .before .before .before .before .before .before .before .before in
+    trades-walk-zero (read .before .before .before .loop .inv) (omega (arith, read .before .before .loop-test)) (read .read-trade .ensures) (c .before .before .get-u8 .ensures) (c .before .if4 .taken) (c .leading-trades .ensures)
+
 cast-sellers : tie.Need-cast-sellers Inv-loop μ-loop
-cast-sellers c = let found = c .before .before .before .before .before .before .before .before in record { fits = omega (arith, found .find .ensures .within, found .before .before .before .before .before .before .before .before .before .pre .0 .0 .few) }
+cast-sellers c = let found = c .before .before .before .before .before .before .before .before .before .before in record { fits = omega (arith, found .find .ensures .within, found .before .before .before .before .before .before .before .before .before .pre .0 .0 .few) }
 
 slice-write-sellers : tie.Need-slice-write-sellers Inv-loop μ-loop
-slice-write-sellers c = let inside = c .before .before .before .before .before .before .before .before .before .before .before in omega (arith, inside .loop-test, inside .before .loop .inv .of-sellers .full, inside .before .before .before .before .before .before .pre .1 .0)
+slice-write-sellers c = let inside = c .before .before .before .before .before .before .before .before .before .before .before .before .before in omega (arith, inside .loop-test, inside .before .loop .inv .of-sellers .full, inside .before .before .before .before .before .before .pre .1 .0)
 
 cast-buyers : tie.Need-cast-buyers Inv-loop μ-loop
-cast-buyers c = let found = c .before .before .before .before .before .before in record { fits = omega (arith, found .find2 .ensures .within, found .before .before .before .before .before .before .before .before .before .before .before .before .pre .0 .0 .few) }
+cast-buyers c = let found = c .before .before .before .before .before .before .before .before in record { fits = omega (arith, found .find2 .ensures .within, found .before .before .before .before .before .before .before .before .before .before .before .before .pre .0 .0 .few) }
 
 slice-write-buyers : tie.Need-slice-write-buyers Inv-loop μ-loop
-slice-write-buyers c = let inside = c .before .before .before .before .before .before .before .before .before .before .before .before in omega (arith, inside .loop-test, inside .before .loop .inv .of-buyers .full, inside .before .before .before .before .before .before .pre .1 .0)
+slice-write-buyers c = let inside = c .before .before .before .before .before .before .before .before .before .before .before .before .before .before in omega (arith, inside .loop-test, inside .before .loop .inv .of-buyers .full, inside .before .before .before .before .before .before .pre .1 .0)
 
 add-trade-requires : tie.Need-add-trade-requires Inv-loop μ-loop
 add-trade-requires c κs =
-    let answer = c .before .before .before .before in
-    addable answer (not-false (answer .trade-valid .result) (c .before .before .before .if3 .left))
+    let answer = c .before .before .before .before .before .before in
+    addable answer (not-false (answer .trade-valid .result) (c .before .before .before .before .before .if3 .left))
 
 add-trade-requires-2 : tie.Need-add-trade-requires-2 Inv-loop μ-loop
 unfolding asTrade
 add-trade-requires-2 c κs =
-    let answer = c .before .before .before .before .before .before in
-    let buyer = answer .before .before .before in
-    let seller = buyer .before .before .before in
-    let read = seller .before in
-    let start = read .before .before .before .before .before .before .before .before in
-    trades-walk-bought (read .before .before .before .loop .inv) (omega (arith, read .before .before .loop-test)) (read .read-trade .ensures) (rw length-take (omega (arith, start .pre .0 .0 .few))) (start .pre .1 .0)
-    (asked answer (not-false (answer .trade-valid .result) (c .before .before .before .before .before .if3 .left))) (seller .find .ensures .stands) (buyer .find2 .ensures .stands) (c .before .add-trade .ensures)
-
-add-get-u8 : tie.Need-add-get-u8 Inv-loop μ-loop
-add-get-u8 c = let inside = c .before .before .before .before .before .before .before .before .before .before .before .before .before .before .before .before in omega (arith, lies inside, inside .before .before .before .before .before .before .fits)
-
-get-u8-requires : tie.Need-get-u8-requires Inv-loop μ-loop
-get-u8-requires c κs = omega (arith, lies (c .before .before .before .before .before .before .before .before .before .before .before .before .before .before .before .before))
-
-add-a : tie.Need-add-a Inv-loop μ-loop
-add-a c = let inside = c .before .before .before .before .before .before .before .before .before .before .before .before .before .before .before .before .before in omega (arith, lies inside, inside .before .before .before .before .before .before .fits)
-
-add-i : tie.Need-add-i Inv-loop μ-loop
-add-i c = let inside = c .before .before .before .before .before .before .before .before .before .before .before .before .before .before .before .before .before in omega (arith, inside .loop-test, inside .before .before .before .before .before .before .pre .1 .0)
-
-loop-again : tie.Need-loop-again Inv-loop μ-loop
-unfolding asTrade
-loop-again c =
     let answer = c .before .before .before .before .before .before .before .before in
     let buyer = answer .before .before .before in
     let seller = buyer .before .before .before in
     let read = seller .before in
     let start = read .before .before .before .before .before .before .before .before in
-    trades-walk-turn (read .before .before .before .loop .inv) (omega (arith, read .before .before .loop-test)) (read .read-trade .ensures) (rw length-take (omega (arith, start .pre .0 .0 .few))) (start .pre .1 .0)
-    (asked answer (not-false (answer .trade-valid .result) (c .before .before .before .before .before .before .before .if3 .left))) (seller .find .ensures .stands) (buyer .find2 .ensures .stands)
-    (c .before .before .before .add-trade .ensures) (c .before .add-trade2 .ensures)
-    (c .get-u8 .ensures)
+    trades-walk-bought (read .before .before .before .loop .inv) (omega (arith, read .before .before .loop-test)) (read .read-trade .ensures) (rw length-take (omega (arith, start .pre .0 .0 .few))) (start .pre .1 .0)
+    (asked answer (not-false (answer .trade-valid .result) (c .before .before .before .before .before .before .before .if3 .left))) (seller .find .ensures .stands) (buyer .find2 .ensures .stands) (c .before .add-trade .ensures)
 
-returns-4 : tie.Need-returns-4 Inv-loop μ-loop
-returns-4 c = trades-walk-end (c .before .loop .inv) (omega arith) (c .before .before .before .before .before .before .pre .1 .0)
+add-a : tie.Need-add-a Inv-loop μ-loop
+add-a c = let inside = c .before .before .before .before .before .before .before .before .before .before .before .before .before .before .before .before .before .before in omega (arith, lies inside, inside .before .before .before .before .before .before .fits)
+
+add-i : tie.Need-add-i Inv-loop μ-loop
+add-i c = let inside = c .before .before .before .before .before .before .before .before .before .before .before .before .before .before .before .before .before .before in omega (arith, inside .loop-test, inside .before .before .before .before .before .before .pre .1 .0)
+
+loop-again : tie.Need-loop-again Inv-loop μ-loop
+unfolding asTrade
+loop-again c =
+    let zero = c .before .before .before .before .before .before .before in
+    let answer = zero .before .before in
+    let buyer = answer .before .before .before in
+    let seller = buyer .before .before .before in
+    let read = seller .before in
+    let start = read .before .before .before .before .before .before .before .before in
+    trades-walk-turn (read .before .before .before .loop .inv) (omega (arith, read .before .before .loop-test)) (read .read-trade .ensures) (rw length-take (omega (arith, start .pre .0 .0 .few))) (start .pre .1 .0)
+    (asked answer (not-false (answer .trade-valid .result) (zero .before .if3 .left))) (seller .find .ensures .stands) (buyer .find2 .ensures .stands)
+    (c .before .before .add-trade .ensures) (c .add-trade2 .ensures) (zero .get-u8 .ensures) (c .before .before .before .before .before .before .if4 .left)
+
+returns-5 : tie.Need-returns-5 Inv-loop μ-loop
+returns-5 c = trades-walk-end (c .before .loop .inv) (omega arith) (c .before .before .before .before .before .before .pre .1 .0)
 
 pub valid-trades-spec : {M : Type 1} → statement M
 valid-trades-spec =
@@ -178,18 +193,22 @@ valid-trades-spec =
     same-length-5
     same-length-6
     returns-3
+    add-get-u8
+    get-u8-requires
+    leading-trades-requires
+    same-length-7
+    same-length-8
+    returns-4
     cast-sellers
     slice-write-sellers
     cast-buyers
     slice-write-buyers
     add-trade-requires
     add-trade-requires-2
-    add-get-u8
-    get-u8-requires
     add-a
     add-i
     (λ c. search needs)
     loop-again
     (λ c. search needs)
     (λ c. search needs)
-    returns-4)
+    returns-5)
