@@ -13,7 +13,8 @@ ghost use Rattle.book_format.specs.Questions.{Formed, bookNumber};
 ghost use Rattle.book_parties.specs.Ids.{usersFrom, tradesFrom, Padded, Guesses};
 ghost use Rattle.book_questions.specs.Asked.{managerGiven, managersGiven, GroupsIn, GroupsAsked, UsersAsked};
 ghost use Rattle.book_questions.specs.Zeros.{userZerosIn, tradeZerosIn};
-ghost use Rattle.book_questions.specs.Asked.{leading, tradeAmong, TradesAsked, RecordsIn, RecordsAsked, FieldsPlaced, AskedOf, Summed};
+ghost use Rattle.book_questions.specs.Asked.{leading, tradeAmong, TradesAsked, RecordsIn, RecordsAsked};
+ghost use Rattle.book_questions.specs.Asked.{FieldsPlaced, AskedOf, Summed};
 
 // What was asked: the number of the first question that is answered by no, 0 where there is none, and how many trades were read: none
 // where a question before 6 is answered by no, else those before the first that is not valid, all of them where each is.
@@ -138,9 +139,9 @@ fn leading_trades(
     let mut a = at;
     while i < m {
         let t = book_records::read_trade(&s[a..a + 20]);
-        let seller = book_parties::find(ids, guesses, n, t.seller);
-        let buyer = book_parties::find(ids, guesses, n, t.buyer);
-        if !book_valid::trade_valid(seller.known, buyer.known, t) {
+        let seller_found = book_parties::find(ids, guesses, n, t.seller);
+        let buyer_found = book_parties::find(ids, guesses, n, t.buyer);
+        if !book_valid::trade_valid(seller_found.known, buyer_found.known, t) {
             return i;
         }
         a += 20;
