@@ -1,14 +1,12 @@
 // The header of a book in bytes: the questions 1 to 3, which any bytes are asked, question 4 of its fields, its prices read and its fields
-// written; and the zero bytes of users and trades, for which the questions 5 and 6 ask.
+// written.
 ghost use mathlib.Core.Path.{_≡_};
-ghost use Prim.Native.Nat.{_+_, _*_, _≤_};
-ghost use lib.ListN.{length, drop};
+ghost use Prim.Native.Nat.{_+_, _≤_};
+ghost use lib.ListN.{length};
 ghost use lib.Seq.{sets};
 ghost use Rattle.rules.specs.Questions.{pricesValid, sellingMost, sellingValid, headerValid};
 ghost use Rattle.units.specs.Prices.{asPrices};
-ghost use Rattle.fields.specs.Field.{field};
 ghost use Rattle.book_format.specs.Questions.{marked, versioned, sized, formNumber};
-ghost use Rattle.book_header.specs.Zeros.{zerosIn};
 ghost use mathlib.Core.List.{_∷_, []};
 ghost use Rattle.fields.specs.Layout.{setFields};
 ghost use Rattle.book_format.specs.Book.{mark, headerSize, pricesOf, sellingAt, sellingBytes};
@@ -98,41 +96,6 @@ pub fn header_valid(version: u16, date: u32, f: Prices) -> bool
     let prices = prices_valid(f);
     let selling = selling_valid(version, f);
     day & (prices & selling)
-}
-
-// ---- zero bytes
-
-// Is the field of `width` bytes at an offset 0 in each of n records of a size that stand from `at` on?
-fn zeros_valid(s: &[u8], at: usize, n: usize, size: usize, offset: usize, width: usize) -> bool
-    requires { ⌜ (width ≤ 8) × (offset + width ≤ size) × (at + size * n ≤ length (now s)) ⌝ }
-    ensures { λ r. ⌜ r ≡ zerosIn (λ c. field width offset c) size n (drop at (now (s .entry))) ⌝ }
-{
-    let mut i = 0;
-    let mut a = at;
-    while i < n {
-        if fields::get(s, a + offset, width) != 0 {
-            return false;
-        }
-        a += size;
-        i += 1;
-    }
-    true
-}
-
-// Are the zero bytes of the n users, of a size, from byte `at` on 0?
-pub fn user_zeros_valid(s: &[u8], at: usize, n: usize, size: usize) -> bool
-    requires { ⌜ (8 ≤ size) × (at + size * n ≤ length (now s)) ⌝ }
-    ensures { λ r. ⌜ r ≡ zerosIn (λ c. field 3 5 c) size n (drop at (now (s .entry))) ⌝ }
-{
-    zeros_valid(s, at, n, size, 5, 3)
-}
-
-// Are the zero bytes of the m trades from byte `at` on 0?
-pub fn trade_zeros_valid(s: &[u8], at: usize, m: usize) -> bool
-    requires { ⌜ at + 20 * m ≤ length (now s) ⌝ }
-    ensures { λ r. ⌜ r ≡ zerosIn (λ c. field 1 11 c) 20 m (drop at (now (s .entry))) ⌝ }
-{
-    zeros_valid(s, at, m, 20, 11, 1)
 }
 
 // ---- the header

@@ -82,16 +82,19 @@ module _ (ids : List ℕ) (n id : ℕ) (padded : Padded ids n) where
           }
 
   -- the id stands there
+  pub stands-there : (low : ℕ) → low < n → getD ids low 0 ≡ id → low ≡ placeIn (take n ids) id
+  stands-there low inside same =
+      sym
+      (placeIn-at (take n ids) id low (omega (arith, ids-held)) (getD-take n ids low 0 inside ∙ same)
+      (λ j k f. omega (arith, ids-rise j low k inside, getD-take n ids j 0 (omega arith))))
+
+  -- where the search ended
   pub search-found : (low : ℕ) → (ltb low n && eqb (getD ids low 0) id) ≡ true → (low ≡ placeIn (take n ids) id) × (low ≤ n)
   search-found low h =
       let test : T (ltb low n && eqb (getD ids low 0) id) = rw h tt in
       let inside = ltb→lt low n (and-l (ltb low n) (eqb (getD ids low 0) id) test) in
-      let same = eqb→eq (getD ids low 0) id (and-r (ltb low n) (eqb (getD ids low 0) id) test) in (
-        sym
-            (placeIn-at (take n ids) id low (omega (arith, ids-held)) (getD-take n ids low 0 inside ∙ same)
-            (λ j k f. omega (arith, ids-rise j low k inside, getD-take n ids j 0 (omega arith)))),
-        omega (arith, inside),
-      )
+      let same = eqb→eq (getD ids low 0) id (and-r (ltb low n) (eqb (getD ids low 0) id) test) in
+      (stands-there low inside same, omega (arith, inside))
 
   -- it does not: it stands nowhere
   pub search-none : {low count : ℕ} → Left ids n id low count → count ≤ 1 → (ltb low n && eqb (getD ids low 0) id) ≡ false → n ≡ placeIn (take n ids) id

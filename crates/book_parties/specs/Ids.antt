@@ -3,7 +3,7 @@ use mathlib.Core.Bool.{Bool, cond}
 use mathlib.Core.List.{List, [], _∷_, map}
 use mathlib.Core.Path.{_≡_}
 use Prim.Native.Nat.{ℕ, suc, _-_, _<_, _≤_}
-use lib.Dec.{eqb}
+use lib.Dec.{eqb, ltb}
 use lib.ListN.{length, take, drop, getD, replicate}
 use Rattle.base.specs.Lists.{any}
 use Rattle.rules.specs.Book.{User, Terms, Trade, nobody}
@@ -48,6 +48,17 @@ pub record Padded (ids : List ℕ) (n : ℕ) : Type 0 where
   pub few : n ≤ 64
   pub rising : Rising (take n ids)
   pub rest : drop n ids ≡ replicate (64 - n) 4294967295
+
+-- each of 1,024 guesses is a place below n
+pub record Guesses (gs : List ℕ) (n : ℕ) : Type 0 where
+  pub full : length gs ≡ 1024
+  pub below : (k : ℕ) → k < 1024 → getD gs k 0 < n
+
+-- the place of an id among n others, n where there is none, and whether it has one
+pub record FoundIn (ids : List ℕ) (n id place : ℕ) (known : Bool) : Type 0 where
+  pub stands : place ≡ placeIn ids id
+  pub told : known ≡ ltb place n
+  pub within : place ≤ n
 
 -- the places among users of those that stand on one side of trades, a place for each trade
 abbrev pub PlacedOn : (Terms → ℕ) → List User → List Trade → List ℕ → Type 0

@@ -2,8 +2,8 @@
 ghost use mathlib.Core.Path.{_≡_};
 ghost use mathlib.Core.Bool.{cond};
 ghost use Prim.Native.Nat.{_+_, _≤_, _<_};
-ghost use lib.ListN.{take};
-ghost use Rattle.book_parties.specs.Ids.{placeIn, Padded};
+ghost use lib.ListN.{take, replicate};
+ghost use Rattle.book_parties.specs.Ids.{placeIn, Padded, Guesses, FoundIn};
 
 // Where a search goes on: past the half of what is left where the last id of that half is below the one looked for, and else where it was.
 // The product has no branch, which a processor would foresee only half of the times.
@@ -40,21 +40,10 @@ pub fn slot_of(id: u32) -> usize
     (id as u64 * 2654435769 / 4194304 % 1024) as usize
 }
 
-// The same place, tried first where a guess has it. Any guess will do; a right one spares the search.
-pub fn place_near(ids: &[u32], n: usize, id: u32, guess: u8) -> usize
-    requires { ⌜ Padded (now ids) n ⌝ }
-    ensures { λ r. ⌜ (r ≡ placeIn (take n (now (ids .entry))) id) × (r ≤ n) ⌝ }
-{
-    let at = guess as usize % 64;
-    if (at < n) & (ids[at] == id) {
-        return at;
-    }
-    place_of(ids, n, id)
-}
-
-// Fills in a guess for each of the first n ids. Nothing is said of them: a guess is tried, and may be wrong.
-pub fn fill_guesses(ids: &[u32; 64], n: usize, guesses: &mut [u8; 1024])
-    requires { ⌜ n ≤ 64 ⌝ }
+// Fills in a guess for each of the first n ids, of which there is one at least: whichever guess is read, it is the place of one of them.
+pub fn fill_guesses(ids: &[u32], n: usize, guesses: &mut [u8; 1024])
+    requires { ⌜ Padded (now ids) n × (1 ≤ n) × (now guesses ≡ replicate 1024 0) ⌝ }
+    ensures { λ _. ⌜ Guesses (now (guesses .exit)) n ⌝ }
 {
     let mut i = 0;
     while i < n {
@@ -63,11 +52,28 @@ pub fn fill_guesses(ids: &[u32; 64], n: usize, guesses: &mut [u8; 1024])
     }
 }
 
-// The place of an id, by its guess and else by search: one call, so that a walk over trades keeps its shape.
-pub fn find(ids: &[u32], guesses: &[u8; 1024], n: usize, id: u32) -> usize
-    requires { ⌜ Padded (now ids) n ⌝ }
-    ensures { λ r. ⌜ (r ≡ placeIn (take n (now (ids .entry))) id) × (r ≤ n) ⌝ }
+// The place of an id, and whether it has one.
+pub struct Found {
+    pub place: usize,
+    pub known: bool,
+}
+
+// The place of an id among the first n, n where there is none: tried first where its guess has it, and else searched. A right guess spares
+// the search, and that its place is below n need not be asked.
+pub fn find(ids: &[u32], guesses: &[u8; 1024], n: usize, id: u32) -> Found
+    requires { ⌜ Padded (now ids) n × Guesses (now guesses) n ⌝ }
+    ensures { λ r. ⌜ FoundIn (take n (now (ids .entry))) n id (r .place) (r .known) ⌝ }
 {
-    let guess = guesses[slot_of(id)];
-    place_near(ids, n, id, guess)
+    let at = guesses[slot_of(id)] as usize;
+    if ids[at] == id {
+        return Found {
+            place: at,
+            known: true,
+        };
+    }
+    let place = place_of(ids, n, id);
+    Found {
+        place: place,
+        known: place < n,
+    }
 }

@@ -21,26 +21,15 @@ use Rattle.book_format.proofs.Offsets.{trades-there, user-range, users-end, use
 use Rattle.book_format.specs.Book.{bookOf, headerSize, pricesOf, tradeCount, tradesAt, tradesOf, userCount, userSize, usersOf, versionOf}
 use Rattle.book_format.specs.Questions.{Formed, aboutFields, aboutForm, formNumber, marked, sized, tradeZerosValid, userZerosValid, versioned}
 use Rattle.book_parties.specs.Ids.{usersFrom, tradesFrom, idsOf}
-use Rattle.book_header.specs.Zeros.{zerosIn}
 use Rattle.book_sums.specs.Sums.{placesOf}
 use Rattle.book_sums.specs.Twelve.{Twelve, TwelveOf, Low}
 use Rattle.book_sums.proofs.Twelve.{twelve-of}
+use Rattle.book_questions.specs.Zeros.{tradeZerosIn, userZerosIn, zerosIn}
 use Rattle.book_questions.specs.Asked.{allValid, UsersAsked, TradesAsked, RecordsIn, RecordsAsked, FieldsPlaced, AskedOf, Summed, SumsFound, PartiesFound, pastFive, pastSix, tradesRead, leading, tradeAmong, recordsNumber, fieldsNumber}
 use Rattle.book_questions.proofs.Known.{all-tradeAmong, all-parties, tradeAmong-valid, valid-rising}
 use Rattle.book_questions.proofs.Loops.{leading-same}
 
 -- ---- 5 to 7
-
--- a second test that says the same
-and-same : (zeros : Bool) {valid test answer : Bool} → valid ≡ test → (zeros && valid) ≡ answer → (zeros && test) ≡ answer
-and-same zeros e h = ap (λ (b : Bool). zeros && b) (sym e) ∙ h
-
--- where two tests are answered by yes, the second is
-pub second-yes : (zeros valid : Bool) → (zeros && valid) ≡ true → T valid
-second-yes zeros valid h = and-r zeros valid (rw h tt)
-
-yes-is : (b : Bool) → T b → b ≡ true
-yes-is true t = refl
 
 -- a question before 6 that refuses: no trade is read, and nothing told of the sums
 pub summed-none : {us : List User} {ts : List Trade} {count : ℕ} {sums : List ℕ} (number : ℕ) → (T (pastFive number) → ⊥) → Summed us ts count number 0 sums
@@ -66,67 +55,67 @@ sums-told {number = number} summed e = let past : T (pastSix number) = past-none
     past-none : {k : ℕ} → k ≡ 0 → T (pastSix k)
     past-none h = rw h tt
 
-module _ (version : ℕ) {us : List User} {ts : List Trade} {n : ℕ} {valid : Bool} {ids sellers buyers : List ℕ} (users : UsersAsked us (allValid version us) n valid ids) where
+module _ (version : ℕ) (userZeros : Bool) {us : List User} {ts : List Trade} {n : ℕ} {valid : Bool} {ids sellers buyers : List ℕ} (users : UsersAsked us (userZeros && allValid version us) n valid ids) where
   -- question 5 is answered by no
-  pub records-5 : {userZeros tradeZeros : Bool} → (userZeros && valid) ≡ false → RecordsAsked version userZeros tradeZeros us ts 5 sellers buyers
+  pub records-5 : {tradeZeros : Bool} → valid ≡ false → RecordsAsked version userZeros tradeZeros us ts 5 sellers buyers
   unfolding recordsNumber refusal numberOf
-  records-5 {userZeros} h = record { asked = rw (and-same userZeros (users .answer) h); placed = λ e. absurd (omega arith) }
+  records-5 h = record { asked = rw (sym (users .answer) ∙ h); placed = λ e. absurd (omega arith) }
 
-  module _ {allowed : Bool} {read : ℕ} {sums : List ℕ} (trades : TradesAsked (take n ids) ts allowed read sellers buyers sums) where
+  module _ {tradeZeros allowed : Bool} {read : ℕ} {sums : List ℕ} (trades : TradesAsked (take n ids) ts tradeZeros allowed read sellers buyers sums) (u : valid ≡ true) where
+    -- the ids are those of users whose fields are valid
+    listed : take n ids ≡ idsOf us
+    listed = users .listed (rw u tt)
+
+    users-are : T (usersValid us)
+    users-are = and-l (usersValid us) (all (managersValid version us) us) (and-r userZeros (allValid version us) (rw (← users .answer, u) tt))
+
     -- the answer to question 6 is that between the users
-    trades-answer : T valid → allowed ≡ all (tradeValid us) ts
-    trades-answer u = trades .answer ∙ ap (λ (xs : List ℕ). all (tradeAmong xs) ts) (users .listed u) ∙ all-tradeAmong us ts
+    trades-answer : allowed ≡ (tradeZeros && all (tradeValid us) ts)
+    trades-answer = trades .answer ∙ ap (λ (b : Bool). tradeZeros && b) (ap (λ (xs : List ℕ). all (tradeAmong xs) ts) listed ∙ all-tradeAmong us ts)
 
     -- the sums are what the users sold and bought: question 7 can be asked
-    pub records-sums : T valid → T allowed → TwelveOf us ts sums
-    records-sums u t =
-        twelve-of us ts (valid-rising us (and-l (usersValid us) (all (managersValid version us) us) (rw (← users .answer) u))) (all-parties (idsOf us) ts (rw (← users .listed u, ← trades .answer) t))
-        (subst (λ (xs : List ℕ). Twelve (placesOf xs (λ r. r .seller) ts) (placesOf xs (λ r. r .buyer) ts) ts 25600000 sums) (users .listed u) (trades .twelve t))
+    pub records-sums : T allowed → TwelveOf us ts sums
+    records-sums t =
+        twelve-of us ts (valid-rising us users-are) (all-parties (idsOf us) ts (and-r tradeZeros (all (tradeAmong (idsOf us)) ts) (rw (← listed, ← trades .answer) t)))
+        (subst (λ (xs : List ℕ). Twelve (placesOf xs (λ r. r .seller) ts) (placesOf xs (λ r. r .buyer) ts) ts 25600000 sums) listed (trades .twelve t))
 
     -- the number of trades that were read is that between the users
-    pub records-read : (number : ℕ) → T valid → pastFive number ≡ true → read ≡ tradesRead us ts number
+    pub records-read : (number : ℕ) → pastFive number ≡ true → read ≡ tradesRead us ts number
     unfolding tradesRead
-    records-read number u e =
-        trades .counted ∙ ap (λ (xs : List ℕ). leading (tradeAmong xs) ts) (users .listed u) ∙ leading-same (tradeAmong (idsOf us)) (tradeValid us) (tradeAmong-valid us) ts ∙ rw e
+    records-read number e =
+        trades .counted ∙ ap (λ (xs : List ℕ). leading (tradeAmong xs) ts) listed ∙ leading-same (tradeAmong (idsOf us)) (tradeValid us) (tradeAmong-valid us) ts ∙ rw e
 
-    -- question 6 is answered by no: nothing is told of the sums
-    pub summed-6 : {count : ℕ} → T valid → Summed us ts count 6 read sums
+    -- question 6 is answered by no
+    pub records-6 : allowed ≡ false → RecordsAsked version userZeros tradeZeros us ts 6 sellers buyers
+    unfolding recordsNumber refusal numberOf
+    records-6 h = record { asked = rw (sym (users .answer) ∙ u, sym trades-answer ∙ h); placed = λ e. absurd (omega arith) }
+
+    -- nothing is then told of the sums
+    pub summed-6 : {count : ℕ} → Summed us ts count 6 read sums
     unfolding pastSix pastFive
-    summed-6 u = record { counted = records-read 6 u refl; twelve = λ p. absurd p; low = λ p. absurd p; all-read = λ p. absurd p }
+    summed-6 = record { counted = records-read 6 refl; twelve = λ p. absurd p; low = λ p. absurd p; all-read = λ p. absurd p }
 
-    -- and they are told, whatever it gives
-    pub records-summed : {count : ℕ} (number : ℕ) → T valid → T allowed → pastFive number ≡ true → (allowed ≡ true → read ≡ count) → Summed us ts count number read sums
-    records-summed {count} number u t e whole =
-        record { counted = records-read number u e; twelve = λ p. records-sums u t; low = λ p. record { low = trades .twelve t .low }; all-read = λ p. whole (yes-is allowed t) }
-
-    module _ {userZeros tradeZeros : Bool} (u : (userZeros && valid) ≡ true) where
-      -- question 6 is answered by no
-      pub records-6 : (tradeZeros && allowed) ≡ false → RecordsAsked version userZeros tradeZeros us ts 6 sellers buyers
-      unfolding recordsNumber refusal numberOf
-      records-6 h =
+    module _ (t : allowed ≡ true) where
+      -- it is yes: they are told, whatever question 7 gives
+      pub records-summed : {count : ℕ} (number : ℕ) → pastFive number ≡ true → length ts ≡ count → Summed us ts count number read sums
+      records-summed {count} number e all =
           record {
-            asked = rw (and-same userZeros (users .answer) u, and-same tradeZeros (trades-answer (second-yes userZeros valid u)) h);
-            placed = λ e. absurd (omega arith);
+            counted = records-read number e;
+            twelve = λ p. records-sums (rw t tt);
+            low = λ p. record { low = trades .twelve (rw t tt) .low };
+            all-read = λ p. trades .whole (rw t tt) ∙ all;
           }
 
-      module _ {right : Bool} (t : (tradeZeros && allowed) ≡ true) (e : right ≡ all (positionsValid ts) us) where
+      module _ {right : Bool} (e : right ≡ all (positionsValid ts) us) where
         -- question 7 is answered by no
         pub records-7 : right ≡ false → RecordsAsked version userZeros tradeZeros us ts 7 sellers buyers
         unfolding recordsNumber refusal numberOf
-        records-7 h =
-            record {
-              asked = rw (and-same userZeros (users .answer) u, and-same tradeZeros (trades-answer (second-yes userZeros valid u)) t, sym e ∙ h);
-              placed = λ f. absurd (omega arith);
-            }
+        records-7 h = record { asked = rw (sym (users .answer) ∙ u, sym trades-answer ∙ t, sym e ∙ h); placed = λ f. absurd (omega arith) }
 
         -- none is
         pub records-0 : right ≡ true → RecordsAsked version userZeros tradeZeros us ts 0 sellers buyers
         unfolding recordsNumber refusal numberOf
-        records-0 h =
-            record {
-              asked = rw (and-same userZeros (users .answer) u, and-same tradeZeros (trades-answer (second-yes userZeros valid u)) t, sym e ∙ h);
-              placed = λ f. trades .placed (second-yes tradeZeros allowed t) us (sym (users .listed (second-yes userZeros valid u)));
-            }
+        records-0 h = record { asked = rw (sym (users .answer) ∙ u, sym trades-answer ∙ t, sym e ∙ h); placed = λ f. trades .placed (rw t tt) us (sym listed) }
 
 -- ---- the bytes from the users on
 
@@ -140,15 +129,20 @@ module _ (s : List ℕ) (at : ℕ) where
   same-users size n = ap (recordsOf size userOf n) part-all
 
   module _ (to : ℕ) (behind : at ≤ to) where
-    -- and the trades in it
-    same-trades : (m : ℕ) → tradesFrom (to - at) m (take (length s - at) (drop at s)) ≡ tradesFrom to m s
-    same-trades m =
+    -- and what stands behind them in it
+    same-rest : drop (to - at) (take (length s - at) (drop at s)) ≡ drop to s
+    same-rest =
         let k : at + (to - at) ≡ to = omega arith in
-        ap (recordsOf 20 tradeOf m) (ap (drop (to - at)) part-all ∙ drop-drop (to - at) at s ∙ ap (λ (i : ℕ). drop i s) k)
+        ap (drop (to - at)) part-all ∙ drop-drop (to - at) at s ∙ ap (λ (i : ℕ). drop i s) k
+
+    -- the trades
+    same-trades : (m : ℕ) → tradesFrom (to - at) m (take (length s - at) (drop at s)) ≡ tradesFrom to m s
+    same-trades m = ap (recordsOf 20 tradeOf m) same-rest
 
     pub records-within : {size n m : ℕ} → RecordsIn size at n to m s → RecordsIn size 0 n (to - at) m (take (length s - at) (drop at s))
     records-within r =
         record {
+          some = r .some;
           few = r .few;
           many = r .many;
           wide = r .wide;
@@ -157,10 +151,15 @@ module _ (s : List ℕ) (at : ℕ) where
         }
 
     -- so what is asked of it is asked of them
-    pub records-from : (version size n m : ℕ) {u t : Bool} {r : ℕ} {sellers buyers : List ℕ}
-        → RecordsAsked version u t (usersFrom size 0 n (take (length s - at) (drop at s))) (tradesFrom (to - at) m (take (length s - at) (drop at s))) r sellers buyers
-        → RecordsAsked version u t (usersFrom size at n s) (tradesFrom to m s) r sellers buyers
-    records-from version size n m h = rw (← same-users size n, ← same-trades m) h
+    pub records-from : (version size n m : ℕ) {r : ℕ} {sellers buyers : List ℕ}
+        → let part = take (length s - at) (drop at s) in
+        RecordsAsked version (userZerosIn size 0 n part) (tradeZerosIn (to - at) m part) (usersFrom size 0 n part) (tradesFrom (to - at) m part) r sellers buyers
+        → RecordsAsked version (userZerosIn size at n s) (tradeZerosIn to m s) (usersFrom size at n s) (tradesFrom to m s) r sellers buyers
+    records-from version size n m {r} {sellers} {buyers} h =
+        subst (λ (xs : List ℕ). RecordsAsked version (zerosIn (λ c. field 3 5 c) size n (drop at s)) (zerosIn (λ c. field 1 11 c) 20 m xs) (recordsOf size userOf n (drop at s)) (recordsOf 20 tradeOf m xs) r sellers buyers) same-rest
+        (subst
+        (λ (xs : List ℕ). RecordsAsked version (zerosIn (λ c. field 3 5 c) size n xs) (tradeZerosIn (to - at) m (take (length s - at) (drop at s))) (recordsOf size userOf n xs)
+        (tradesFrom (to - at) m (take (length s - at) (drop at s))) r sellers buyers) part-all h)
 
     pub summed-from : (size n m : ℕ) {r read : ℕ} {sums : List ℕ}
         → Summed (usersFrom size 0 n (take (length s - at) (drop at s))) (tradesFrom (to - at) m (take (length s - at) (drop at s))) m r read sums
@@ -173,6 +172,7 @@ module _ (s : List ℕ) (at : ℕ) where
 pub formed-bytes : {s : List ℕ} {n m at to size : ℕ} → Formed s → n ≡ userCount s → m ≡ tradeCount s → at ≡ headerSize (versionOf s) → size ≡ userSize (versionOf s) → to ≡ tradesAt s → RecordsIn size at n to m s
 formed-bytes {s} form e f begin sized behind =
     record {
+      some = omega (arith, form .some);
       few = omega (arith, form .users);
       many = omega (arith, form .trades);
       wide = omega (arith, sized, user-range (versionOf s));
@@ -192,13 +192,12 @@ module _ (s : List ℕ) {version date : ℕ} {prices : Prices} {valid : Bool} (v
   fields-4 h = record { asked = rw (sym header-answer ∙ h); placed = λ f. absurd (omega arith) }
 
   -- it is yes: the number is that of the users and trades
-  pub fields-rest : {n m at to size r : ℕ} {userZeros tradeZeros : Bool} {sellers buyers : List ℕ} → valid ≡ true → n ≡ userCount s → m ≡ tradeCount s → at ≡ headerSize (versionOf s) → size ≡ userSize (versionOf s) → to ≡ tradesAt s
-      → userZeros ≡ zerosIn (λ c. field 3 5 c) size n (drop at s) → tradeZeros ≡ zerosIn (λ c. field 1 11 c) 20 m (drop to s)
-      → RecordsAsked version userZeros tradeZeros (usersFrom size at n s) (tradesFrom to m s) r sellers buyers → FieldsPlaced s r sellers buyers
+  pub fields-rest : {n m at to size r : ℕ} {sellers buyers : List ℕ} → valid ≡ true → n ≡ userCount s → m ≡ tradeCount s → at ≡ headerSize (versionOf s) → size ≡ userSize (versionOf s) → to ≡ tradesAt s
+      → RecordsAsked version (userZerosIn size at n s) (tradeZerosIn to m s) (usersFrom size at n s) (tradesFrom to m s) r sellers buyers → FieldsPlaced s r sellers buyers
   unfolding fieldsNumber aboutFields refusal numberOf recordsNumber zerosIn userZerosValid tradeZerosValid userZeros tradeZeros usersOf tradesOf bookOf groupsValid
-  fields-rest h f g begin sized behind uz tz asked =
+  fields-rest h f g begin sized behind asked =
       record {
-        asked = asked .asked ∙ rw (uz, tz, f, g, begin, sized, behind, v, sym header-answer ∙ h);
+        asked = asked .asked ∙ rw (f, g, begin, sized, behind, v, sym header-answer ∙ h);
         placed = λ k. rw (← f, ← g, ← begin, ← sized, ← behind) (asked .placed k);
       }
 

@@ -1,7 +1,7 @@
 -- Users and trades by their ids: those of valid users rise, and a trade is valid between the ids where it is between the users. Assumes nothing.
 use Prim.Native.Nat.{ℕ, _≤_, _<_}
 use mathlib.Core.Path.{_≡_, refl, sym, ap, ap₂, _∙_}
-use mathlib.Core.Bool.{Bool, not, _&&_, _||_}
+use mathlib.Core.Bool.{Bool, true, false, not, _&&_, _||_}
 use mathlib.Core.List.{List, [], _∷_}
 use lib.Dec.{T, eqb, ltb, leb, ltb→lt, leb→le}
 use native.Mathlib.Omega.{arith}
@@ -12,21 +12,36 @@ use Rattle.rules.specs.Questions.{amountsValid, codesValid, idsRise, tradeValid
 use Rattle.base.proofs.Tests.{all-by, and-i, and-l, and-r}
 use Rattle.book_valid.specs.Given.{tradeValidGiven}
 use Rattle.book_valid.proofs.Known.{tradeValidGiven-known}
-use Rattle.book_parties.specs.Ids.{idsOf, placeIn, among, Rising}
+use Rattle.book_parties.specs.Ids.{FoundIn, idsOf, among, Rising}
 use Rattle.book_parties.proofs.Known.{among-known, place-among}
 use Rattle.book_parties.proofs.Rising.{rising-ids}
 use Rattle.book_sums.specs.Sums.{partiesAmong}
 use Rattle.book_questions.specs.Asked.{tradeAmong}
 
--- a trade among the first n ids, by the places of its parties: its test is what the test says that is given whether these are below n
-pub tradeAmong-places : (xs : List ℕ) (n : ℕ) (t : Trade) (p q : ℕ) {a b : Bool}
-    → n ≤ length xs → p ≡ placeIn (take n xs) (t .terms .seller) → q ≡ placeIn (take n xs) (t .terms .buyer)
-    → a ≡ tradeValidGiven (ltb p n) (ltb q n) t → a ≡ b → tradeAmong (take n xs) t ≡ b
-unfolding tradeAmong
-tradeAmong-places xs n t p q h e f g k =
-    let seller = place-among xs n (t .terms .seller) h in
-    let buyer = place-among xs n (t .terms .buyer) h in
-    sym (ap₂ (λ (c d : Bool). tradeValidGiven c d t) (ap (λ (x : ℕ). ltb x n) e ∙ seller) (ap (λ (x : ℕ). ltb x n) f ∙ buyer)) ∙ sym g ∙ k
+-- an id is among the first n where it was found there
+found-among : (xs : List ℕ) (n : ℕ) {id place : ℕ} {known : Bool} → n ≤ length xs → FoundIn (take n xs) n id place known → among (take n xs) id ≡ known
+found-among xs n {id} h f = sym (place-among xs n id h) ∙ ap (λ (x : ℕ). ltb x n) (sym (f .stands)) ∙ sym (f .told)
+
+-- a trade among them, by whether its parties were found
+module _ (xs : List ℕ) (n : ℕ) (t : Trade) {p : ℕ} {seller-known : Bool} (h : n ≤ length xs) (seller : FoundIn (take n xs) n (t .terms .seller) p seller-known) where
+  pub trade-no-seller : seller-known ≡ false → tradeAmong (take n xs) t ≡ false
+  unfolding tradeAmong tradeValidGiven
+  trade-no-seller e = rw (found-among xs n h seller, e)
+
+  module _ (e : seller-known ≡ true) {q : ℕ} {buyer-known : Bool} (buyer : FoundIn (take n xs) n (t .terms .buyer) q buyer-known) where
+    pub trade-no-buyer : buyer-known ≡ false → tradeAmong (take n xs) t ≡ false
+    unfolding tradeAmong tradeValidGiven
+    trade-no-buyer f = rw (found-among xs n h seller, e, found-among xs n h buyer, f)
+
+    -- its test is then that of the other fields
+    pub trade-found : {a b : Bool} → buyer-known ≡ true → a ≡ tradeValidGiven true true t → a ≡ b → tradeAmong (take n xs) t ≡ b
+    unfolding tradeAmong
+    trade-found f g k = rw (found-among xs n h seller, e, found-among xs n h buyer, f) (sym g ∙ k)
+
+  -- its test, given whether both were
+  pub trade-given : {q : ℕ} {buyer-known a b : Bool} → FoundIn (take n xs) n (t .terms .buyer) q buyer-known → a ≡ tradeValidGiven seller-known buyer-known t → a ≡ b → tradeAmong (take n xs) t ≡ b
+  unfolding tradeAmong
+  trade-given buyer g k = rw (found-among xs n h seller, found-among xs n h buyer) (sym g ∙ k)
 
 pub tradeAmong-valid : (us : List User) (t : Trade) → tradeAmong (idsOf us) t ≡ tradeValid us t
 unfolding tradeAmong

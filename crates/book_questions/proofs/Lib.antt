@@ -4,3 +4,4 @@ pub mod Known
 pub mod Asked
 pub mod Asking
 pub mod Managers
+pub mod Zeros

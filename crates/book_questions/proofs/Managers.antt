@@ -6,7 +6,7 @@ use Prim.Native.Nat.{ℕ, zero, suc, _+_, _*_, _<_, _≤_}
 use native.Mathlib.Omega.{arith}
 use lib.Dec.{T, eqb, ltb}
 use lib.ListN.{length, take, drop, getD, length-map, length-take}
-use borrow.Author.Tests.{eq-eqb, le-ltb, lt-ltb, ne-eqb}
+use borrow.Author.Tests.{eq-eqb, ne-eqb}
 use Rattle.base.specs.Lists.{all}
 use Rattle.fields.proofs.Field.{field-part}
 use Rattle.fields.proofs.Records.{getD-recordsOf, length-recordsOf}
@@ -16,13 +16,14 @@ use Rattle.book_format.proofs.Offsets.{user-managed, user-plain}
 use Rattle.book_format.proofs.OneUser.{find-place}
 use Rattle.book_format.specs.Book.{userSize}
 use Rattle.book_parties.proofs.Known.{among-known, placeIn-among, placeIn-placeOf}
-use Rattle.book_parties.specs.Ids.{among, idsOf, placeIn, usersFrom}
+use Rattle.book_parties.specs.Ids.{FoundIn, Guesses, among, idsOf, placeIn, usersFrom}
 use Rattle.book_records.proofs.Users.{managers-past}
 use Rattle.book_records.specs.User.{managersAt, userOf}
 use Rattle.rules.specs.Areas.{managersIn}
 use Rattle.rules.specs.Book.{Managers, User, find, managerIn, nobody, unmanaged}
 use Rattle.rules.specs.Levels.{shipper}
 use Rattle.rules.specs.Questions.{known, managerValid, managersValid, manages, usersValid}
+use Rattle.book_questions.proofs.Zeros.{and-assoc}
 use Rattle.book_questions.specs.Asked.{allValid, GroupsAsked, GroupsIn, UsersAsked, managerGiven, managersGiven}
 
 -- ---- a field of the user at a place
@@ -57,7 +58,7 @@ module _ (s : List ℕ) (n place : ℕ) (h : place < n) where
 
 -- ---- what the ids say of a manager
 
-module _ {s ids : List ℕ} {n : ℕ} (g : GroupsIn s n ids) (place area : ℕ) {manager : ℕ} (is : manager ≡ managerIn (getD (usersFrom 68 0 n s) place nobody .party .managers) area) where
+module _ {s ids guesses : List ℕ} {n : ℕ} (g : GroupsIn s n ids guesses) (place area : ℕ) {manager : ℕ} (is : manager ≡ managerIn (getD (usersFrom 68 0 n s) place nobody .party .managers) area) where
   abbrev us : List User
   us = usersFrom 68 0 n s
 
@@ -65,41 +66,53 @@ module _ {s ids : List ℕ} {n : ℕ} (g : GroupsIn s n ids) (place area : ℕ) 
   u = getD us place nobody
 
   -- none
-  pub given-none : manager ≡ 0 → true ≡ managerGiven us u area
+  pub given-none : manager ≡ 0 → true ≡ managerGiven us area u
   unfolding managerGiven
   given-none e = rw (← is, eq-eqb manager 0 e)
 
-  module _ (some : manager ≡ 0 → ⊥) {p : ℕ} (found : p ≡ placeIn (take n ids) manager) where
+  module _ (some : manager ≡ 0 → ⊥) {p : ℕ} {is-known : Bool} (found : FoundIn (take n ids) n manager p is-known) where
     place-is : p ≡ placeIn (idsOf us) manager
-    place-is = found ∙ ap (λ (xs : List ℕ). placeIn xs manager) (g .listed)
+    place-is = found .stands ∙ ap (λ (xs : List ℕ). placeIn xs manager) (g .listed)
 
-    known-is : known us manager ≡ ltb p n
+    known-is : known us manager ≡ is-known
     unfolding idsOf
     known-is =
         sym (among-known us manager) ∙ sym (placeIn-among (idsOf us) manager)
-        ∙ ap₂ ltb (sym place-is) (length-map us (λ v. v .party .id) ∙ length-recordsOf 68 userOf n s)
+        ∙ ap₂ ltb (sym place-is) (length-map us (λ v. v .party .id) ∙ length-recordsOf 68 userOf n s) ∙ sym (found .told)
 
     find-is : find us manager ≡ getD us p nobody
     find-is = find-place us manager ∙ ap (λ (i : ℕ). getD us i nobody) (sym (place-is ∙ placeIn-placeOf us manager))
 
     -- an id that is not in the book
-    pub given-unknown : n ≤ p → false ≡ managerGiven us u area
+    pub given-unknown : is-known ≡ false → false ≡ managerGiven us area u
     unfolding managerGiven manages
-    given-unknown l = rw (← is, ne-eqb manager 0 some, known-is, le-ltb p n l)
+    given-unknown l = rw (← is, ne-eqb manager 0 some, known-is, l)
 
     -- one that is
-    pub given-known : p < n → {own role managerRole managed : ℕ} → own ≡ u .party .id → role ≡ u .party .role → managerRole ≡ getD us p nobody .party .role
+    pub given-known : is-known ≡ true → {own role managerRole managed : ℕ} → own ≡ u .party .id → role ≡ u .party .role → managerRole ≡ getD us p nobody .party .role
         → managed ≡ managerIn (getD us p nobody .party .managers) area
-        → (not (eqb manager own) && ((eqb role 0 && eqb managerRole 0) && eqb managed 0)) ≡ managerGiven us u area
+        → (not (eqb manager own) && ((eqb role 0 && eqb managerRole 0) && eqb managed 0)) ≡ managerGiven us area u
     unfolding managerGiven manages shipper
-    given-known l o r q m = rw (← is, ne-eqb manager 0 some, known-is, lt-ltb p n l, find-is, o, r, q, m)
+    given-known l o r q m = rw (← is, ne-eqb manager 0 some, known-is, l, find-is, o, r, q, m)
 
 -- ---- all users
 
--- by its three areas
-pub managers-three : (us : List User) (u : User) {p t a : Bool} → p ≡ managerGiven us u 0 → t ≡ managerGiven us u 1 → a ≡ managerGiven us u 2 → (p && (t && a)) ≡ managersGiven us u
+-- the three areas together: two tests of each are a test of each by both
+all-both : {A : Type 0} (p q : A → Bool) (xs : List A) → (all p xs && all q xs) ≡ all (λ x. p x && q x) xs
+unfolding all
+all-both p q [] = refl
+all-both p q (x ∷ xs) = exchanged (p x) (all p xs) (q x) (all q xs) ∙ ap (λ (b : Bool). (p x && q x) && b) (all-both p q xs)
+  where
+    exchanged : (a b c d : Bool) → ((a && b) && (c && d)) ≡ ((a && c) && (b && d))
+    exchanged true true c d = refl
+    exchanged true false true d = refl
+    exchanged true false false d = refl
+    exchanged false b c d = refl
+
+pub managers-three : (us : List User) {p t a : Bool} → p ≡ all (managerGiven us 0) us → t ≡ all (managerGiven us 1) us → a ≡ all (managerGiven us 2) us → (p && (t && a)) ≡ all (managersGiven us) us
 unfolding managersGiven
-managers-three us u p t a = rw (p, t, a)
+managers-three us p t a =
+    rw (p, t, a, all-both (managerGiven us 1) (managerGiven us 2) us) (all-both (managerGiven us 0) (λ u. managerGiven us 1 u && managerGiven us 2 u) us)
 
 managers-same : (version : ℕ) → managersIn version ≡ true → (us : List User) (v : User) → managersGiven us v ≡ managersValid version us v
 unfolding managersGiven managersValid managerGiven managerValid
@@ -133,24 +146,27 @@ module _ (version n : ℕ) (s : List ℕ) where
     pub groups-some : all (managersGiven (usersFrom 68 0 n s)) (usersFrom 68 0 n s) ≡ all (managersValid version (usersFrom (userSize version) 0 n s)) (usersFrom (userSize version) 0 n s)
     groups-some = rw (user-managed version e) (managers-asked version e (usersFrom 68 0 n s) (usersFrom 68 0 n s))
 
-    pub groups-in : {ids : List ℕ} → GroupsAsked s version n ids → GroupsIn s n ids
-    groups-in {ids} g =
-        record { padded = g .padded; users = rw (user-managed version e) at (g .users); listed = rw (user-managed version e) at (g .listed) }
+    pub groups-in : {ids guesses : List ℕ} → GroupsAsked s version n ids guesses → GroupsIn s n ids guesses
+    groups-in g =
+        record { padded = g .padded; guessed = g .guessed; users = rw (user-managed version e) at (g .users); listed = rw (user-managed version e) at (g .listed) }
 
 -- ---- question 5, from its two parts
 
-module _ (version : ℕ) {n : ℕ} {us : List User} {valid : Bool} {ids : List ℕ} (fields : UsersAsked us (usersValid us) n valid ids) where
-  pub users-no : valid ≡ false → UsersAsked us (allValid version us) n false ids
-  users-no e = record { answer = ap (λ (c : Bool). c && all (managersValid version us) us) (sym e ∙ fields .answer); padded = λ t. absurd t; listed = λ t. absurd t }
+module _ (version : ℕ) (zeros : Bool) {n : ℕ} {us : List User} {valid : Bool} {ids : List ℕ} (fields : UsersAsked us (zeros && usersValid us) n valid ids) where
+  pub users-no : valid ≡ false → UsersAsked us (zeros && allValid version us) n false ids
+  users-no e =
+      let managed = all (managersValid version us) us in
+      record { answer = ap (λ (c : Bool). c && managed) (sym e ∙ fields .answer) ∙ sym (and-assoc zeros (usersValid us) managed); padded = λ t. absurd t; listed = λ t. absurd t }
 
-  pub users-yes : valid ≡ true → {answer : Bool} → answer ≡ all (managersValid version us) us → UsersAsked us (allValid version us) n answer ids
+  pub users-yes : valid ≡ true → {answer : Bool} → answer ≡ all (managersValid version us) us → UsersAsked us (zeros && allValid version us) n answer ids
   users-yes e {answer} g =
+      let managed = all (managersValid version us) us in
       record {
-        answer = g ∙ ap (λ (c : Bool). c && all (managersValid version us) us) (sym e ∙ fields .answer);
+        answer = g ∙ ap (λ (c : Bool). c && managed) (sym e ∙ fields .answer) ∙ sym (and-assoc zeros (usersValid us) managed);
         padded = λ t. fields .padded (rw e tt);
         listed = λ t. fields .listed (rw e tt);
       }
 
   -- where the fields are valid, the managers can be asked
-  pub fields-groups : (s : List ℕ) → us ≡ usersFrom (userSize version) 0 n s → userSize version * n ≤ length s → valid ≡ true → GroupsAsked s version n ids
-  fields-groups s e l h = record { padded = fields .padded (rw h tt); users = l; listed = fields .listed (rw h tt) ∙ ap idsOf e }
+  pub fields-groups : (s : List ℕ) {guesses : List ℕ} → us ≡ usersFrom (userSize version) 0 n s → userSize version * n ≤ length s → valid ≡ true → Guesses guesses n → GroupsAsked s version n ids guesses
+  fields-groups s e l h g = record { padded = fields .padded (rw h tt); guessed = g; users = l; listed = fields .listed (rw h tt) ∙ ap idsOf e }

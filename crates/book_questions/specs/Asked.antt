@@ -11,7 +11,7 @@ use Rattle.rules.specs.Questions.{refusal, numberOf, managersValid, manages, us
 use Rattle.book_valid.specs.Given.{tradeValidGiven}
 use Rattle.book_format.specs.Book.{userSize, usersOf, tradesOf}
 use Rattle.book_format.specs.Questions.{aboutFields, bookNumber}
-use Rattle.book_parties.specs.Ids.{idsOf, among, usersFrom, Padded, Placed}
+use Rattle.book_parties.specs.Ids.{idsOf, among, usersFrom, Padded, Guesses, Placed}
 use Rattle.book_sums.specs.Sums.{placesOf}
 use Rattle.book_sums.specs.Twelve.{Twelve, TwelveOf, Low}
 
@@ -22,12 +22,12 @@ abbrev pub allValid : ℕ → List User → Bool
 allValid version us = usersValid us && all (managersValid version us) us
 
 -- the id of a manager in an area, in a version that has managers
-unfoldable pub managerGiven : List User → User → ℕ → Bool
-managerGiven us u area = let manager = managerIn (u .party .managers) area in eqb manager 0 || manages us manager u area
+unfoldable pub managerGiven : List User → ℕ → User → Bool
+managerGiven us area u = let manager = managerIn (u .party .managers) area in eqb manager 0 || manages us manager u area
 
 -- of each area
 unfoldable pub managersGiven : List User → User → Bool
-managersGiven us u = managerGiven us u 0 && (managerGiven us u 1 && managerGiven us u 2)
+managersGiven us u = managerGiven us 0 u && (managerGiven us 1 u && managerGiven us 2 u)
 
 -- users that were asked a question: the answer, and where it is yes, a list of their ids
 pub record UsersAsked (us : List User) (test : Bool) (n : ℕ) (valid : Bool) (ids : List ℕ) : Type 0 where
@@ -35,15 +35,17 @@ pub record UsersAsked (us : List User) (test : Bool) (n : ℕ) (valid : Bool) (i
   pub padded : T valid → Padded ids n
   pub listed : T valid → take n ids ≡ idsOf us
 
--- bytes begin with n users in records of 68 bytes, which have these ids
-pub record GroupsIn (s : List ℕ) (n : ℕ) (ids : List ℕ) : Type 0 where
+-- bytes begin with n users in records of 68 bytes, which have these ids; and there are guesses at their places
+pub record GroupsIn (s : List ℕ) (n : ℕ) (ids guesses : List ℕ) : Type 0 where
   pub padded : Padded ids n
+  pub guessed : Guesses guesses n
   pub users : 68 * n ≤ length s
   pub listed : take n ids ≡ idsOf (usersFrom 68 0 n s)
 
--- bytes begin with n users in the records of a version, which have these ids
-pub record GroupsAsked (s : List ℕ) (version n : ℕ) (ids : List ℕ) : Type 0 where
+-- the same in the records of a version
+pub record GroupsAsked (s : List ℕ) (version n : ℕ) (ids guesses : List ℕ) : Type 0 where
   pub padded : Padded ids n
+  pub guessed : Guesses guesses n
   pub users : userSize version * n ≤ length s
   pub listed : take n ids ≡ idsOf (usersFrom (userSize version) 0 n s)
 
@@ -56,13 +58,14 @@ unfoldable pub leading : (Trade → Bool) → List Trade → ℕ
 leading valid [] = 0
 leading valid (t ∷ ts) = cond (valid t) (1 + leading valid ts) 0
 
--- trades that were asked question 6 between users of these ids: how many of them stand before the first that is not valid; the answer, and where it is yes, the places of
--- their parties and the sums of what is sold and bought at each place
-pub record TradesAsked (ids : List ℕ) (ts : List Trade) (valid : Bool) (read : ℕ) (sellers buyers sums : List ℕ) : Type 0 where
+-- trades that were asked question 6 between users of these ids, given whether their zero bytes are 0: how many of them stand before the first that is not valid; the answer,
+-- and where it is yes, the places of their parties and the sums of what is sold and bought at each place, and all were read
+pub record TradesAsked (ids : List ℕ) (ts : List Trade) (zeros valid : Bool) (read : ℕ) (sellers buyers sums : List ℕ) : Type 0 where
   pub counted : read ≡ leading (tradeAmong ids) ts
-  pub answer : valid ≡ all (tradeAmong ids) ts
+  pub answer : valid ≡ (zeros && all (tradeAmong ids) ts)
   pub placed : T valid → (us : List User) → idsOf us ≡ ids → Placed us ts sellers buyers
   pub twelve : T valid → Twelve (placesOf ids (λ r. r .seller) ts) (placesOf ids (λ r. r .buyer) ts) ts 25600000 sums
+  pub whole : T valid → read ≡ length ts
 
 -- no question before 7 refuses
 unfoldable pub pastSix : ℕ → Bool
@@ -87,8 +90,9 @@ pub record Summed (us : List User) (ts : List Trade) (count number read : ℕ) (
 
 -- ---- 5 to 7
 
--- n users, in records of a size, and m trades, at most 64 and 256, stand in bytes from two offsets
+-- n users, in records of a size, and m trades, 1 to 64 and at most 256, stand in bytes from two offsets
 pub record RecordsIn (size users-at n trades-at m : ℕ) (s : List ℕ) : Type 0 where
+  pub some : 1 ≤ n
   pub few : n ≤ 64
   pub many : m ≤ 256
   pub wide : 56 ≤ size

@@ -1,2 +1,3 @@
 -- What the code asks, in the forms in which it asks it.
 pub mod Asked
+pub mod Zeros

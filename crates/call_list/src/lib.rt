@@ -7,6 +7,7 @@ ghost use Rattle.rules.specs.Calls.{only};
 ghost use Rattle.book_format.specs.Book.{userCount, userSize, headerSize, versionOf};
 ghost use Rattle.book_format.specs.Questions.{bookNumber};
 ghost use Rattle.book_format.specs.After.{CalledAfter};
+ghost use Rattle.book_parties.specs.Ids.{Guesses};
 ghost use Rattle.call_posting.specs.Posting.{postingOf};
 ghost use Rattle.requests.specs.Request.{linesFit, linesOf};
 ghost use Rattle.call_list.specs.Lines.{Even, Known, LinesPosted, ListedAfter};
@@ -49,13 +50,14 @@ fn line(
     amount: i64,
 ) -> u32
     requires { ⌜ Known (now known) n at size (now book) ⌝ }
+    requires { ⌜ Guesses (now guesses) n ⌝ }
     ensures { λ r. ⌜ ((limits : Limits) → CalledAfter 0 limits (now (book .entry)) (postingOf id area amount) (only r) (now (book .exit))) ⌝ }
 {
-    let place = book_parties::find(known, guesses, n, id);
-    if n <= place {
+    let user = book_parties::find(known, guesses, n, id);
+    if !user.known {
         return 8;
     }
-    call_posting::post_at(book, at, size, place, area, amount)
+    call_posting::post_at(book, at, size, user.place, area, amount)
 }
 
 // The lines one after another, each on the book that the last one left, and the number of each in its place.
@@ -73,6 +75,7 @@ fn post_lines(
 )
     requires { ⌜ Known (now known) n at size (now book) ⌝ }
     requires { ⌜ Even (now ids) (now areas) (now amounts) (now places) ⌝ }
+    requires { ⌜ Guesses (now guesses) n ⌝ }
     ensures { λ _. ⌜ LinesPosted (now (ids .entry)) (now (areas .entry)) (now (amounts .entry)) (now (book .entry)) (now (book .exit)) (now (places .exit)) ⌝ }
 {
     let mut i = 0;

@@ -35,12 +35,6 @@ placed c =
     let counts = c .before .before .before .before .before .before .before .before in
     formed-bytes (counts .before .before .before .before .before .pre .0) (counts .before .user-count .ensures) (counts .trade-count .ensures) (c .before .users-offset .ensures .0) (sized (c .before .before)) (c .trades-offset .ensures)
 
-user-zeros-valid-requires : tie.Need-user-zeros-valid-requires
-user-zeros-valid-requires c κs = (omega (arith, placed c .wide), placed c .users)
-
-trade-zeros-valid-requires : tie.Need-trade-zeros-valid-requires
-trade-zeros-valid-requires c κs = placed (c .before) .trades
-
 -- the users lie in the bytes, and the trades behind them
 behind : (c : tie.After-trades-offset) → c .before .users-offset .result ≤ c .trades-offset .result
 behind c =
@@ -48,7 +42,7 @@ behind c =
     omega (arith, users-end _ (c .before .users-offset .ensures .0) (sized (c .before .before)) (counts .before .user-count .ensures), c .trades-offset .ensures)
 
 sub-ask-records : tie.Need-sub-ask-records
-sub-ask-records c = omega (arith, placed (c .before .before) .users)
+sub-ask-records c = omega (arith, placed c .users)
 
 part-ask-records-start : tie.Need-part-ask-records-start
 part-ask-records-start c = let l = sub-ask-records c in search needs
@@ -57,19 +51,18 @@ part-ask-records-end : tie.Need-part-ask-records-end
 part-ask-records-end c = let l = sub-ask-records c in search needs
 
 sub-ask-records-2 : tie.Need-sub-ask-records-2
-sub-ask-records-2 c = behind (c .before .before .before)
+sub-ask-records-2 c = behind (c .before)
 
 ask-records-requires : tie.Need-ask-records-requires
 ask-records-requires c κs =
-    let offsets = c .before .before .before .before .before .before in
+    let offsets = c .before .before .before .before in
     let p = offsets .before .before .before .before .before .before .before .before .before .before .before .before .before .pre in
     ((records-within _ _ _ (behind offsets) (placed offsets), offsets .before .before .user-size .ensures .0), (p .1, p .2, p .3))
 
 returns-2 : tie.Need-returns-2
 returns-2 c =
     let records = c .before .before .before .before in
-    let zeros = records .before .before .before .before .before in
-    let offsets = zeros .before .before in
+    let offsets = records .before .before .before .before .before in
     let passed = offsets .before .before .before in
     let header = passed .before in
     let prices = header .before .before .before in
@@ -78,7 +71,7 @@ returns-2 c =
     let end = offsets .trades-offset .ensures in
     let start = counts .before .before .before .before .before in (
       fields-rest (now (start .args .s)) (header .before .before .version .ensures) (header .before .get-u32 .ensures) (prices .read-prices .ensures) (header .header-valid .ensures) (not-false _ (passed .if1 .left))
-          (counts .before .user-count .ensures) (counts .trade-count .ensures) begin (sized (offsets .before .before)) end (zeros .before .user-zeros-valid .ensures) (zeros .trade-zeros-valid .ensures) (records-from _ _ _ (behind offsets) _ _ _ _ (records .ask-records .ensures .0)),
+          (counts .before .user-count .ensures) (counts .trade-count .ensures) begin (sized (offsets .before .before)) end (records-from _ _ _ (behind offsets) _ _ _ _ (records .ask-records .ensures .0)),
       fields-summed (now (start .args .s)) (counts .before .user-count .ensures) (counts .trade-count .ensures) begin (sized (offsets .before .before)) end (summed-from _ _ _ (behind offsets) _ _ _ (records .ask-records .ensures .1)),
     )
 
@@ -98,8 +91,6 @@ ask-fields-spec =
     (λ c κs. search needs)
     (λ c κs. search needs)
     (λ c κs. search needs)
-    user-zeros-valid-requires
-    trade-zeros-valid-requires
     sub-ask-records
     part-ask-records-start
     part-ask-records-end

@@ -1,11 +1,14 @@
 -- `fields_valid`: the users that are left have the whole answer, until one fails a test or none is left; the ids of those passed are listed. Assumes nothing.
-use Prim.Native.Nat.{_+_, _-_, _≤_}
-use mathlib.Core.Path.{sym, _∙_}
+use Prim.Native.Nat.{ℕ, _+_, _-_, _≤_}
+use mathlib.Core.Bool.{Bool, _&&_}
+use mathlib.Core.Path.{_≡_, ap, sym, _∙_}
 use native.Mathlib.Omega.{arith}
-use lib.ListN.{length, length-take, length-drop}
+use lib.Dec.{ltb}
+use lib.ListN.{length, length-take, length-drop, length-replicate}
 use denote.Ref.{now}
 use borrow.Author.Needs.{needs}
 use borrow.Author.Tests.{not-true, not-false}
+use Rattle.rules.specs.Questions.{userValid}
 use Rattle.book_records.specs.User.{asUser}
 use Rattle.book_sums.proofs.Walk.{record-lies}
 use Rattle.book_questions.proofs.Asking.{UsersWalk, users-walk-start, users-walk-id-no, users-walk-no, users-walk-turn, users-walk-end}
@@ -42,22 +45,35 @@ returns c =
     let read = c .before .before in
     users-walk-id-no (read .before .before .before .before .before .before .pre .1) (read .before .before .before .loop .inv) (omega arith) (read .read-user .ensures) (c .if1 .taken)
 
+add-get-u32 : tie.Need-add-get-u32 Inv-loop μ-loop
+add-get-u32 c = omega (arith, lies (c .before .before .before .before) .0, c .before .before .before .before .before .before .before .before .fits)
+
+get-u32-requires : tie.Need-get-u32-requires Inv-loop μ-loop
+get-u32-requires c κs = omega (arith, lies (c .before .before .before .before) .0)
+
+-- the user that was read is valid as the answer says, beside any other test
+valid-as : (c : tie.After-user-valid Inv-loop μ-loop) (test : Bool) {answer : Bool} → (test && c .user-valid .result) ≡ answer → (test && userValid (asUser (c .before .before .before .before .read-user .result))) ≡ answer
+valid-as c test e = ap (λ (b : Bool). test && b) (sym (c .user-valid .ensures)) ∙ e
+
+same-length-2 : tie.Need-same-length-2 Inv-loop μ-loop
+same-length-2 c = c .before .before .before .before .before .before .before .before .loop .inv .listed .full ∙ sym (ap length (c .before .before .before .before .before .before .before .before .before .before .before .pre .3) ∙ length-replicate {A = ℕ} 64 4294967295)
+
 returns-2 : tie.Need-returns-2 Inv-loop μ-loop
 returns-2 c =
-    let asked = c .before .user-valid in
-    let read = c .before .before .before .before in
-    users-walk-no (read .before .before .before .before .before .before .pre .1) (read .before .before .before .loop .inv) (omega arith) (read .read-user .ensures) (sym (asked .ensures) ∙ not-true (asked .result) (c .if2 .taken))
+    let read = c .before .before .before .before .before in
+    users-walk-no (read .before .before .before .before .before .before .pre .1) (read .before .before .before .loop .inv) (omega (arith, read .before .before .loop-test)) (read .read-user .ensures)
+    (c .before .before .get-u32 .ensures) (valid-as (c .before) (ltb (c .before .before .get-u32 .result) 2) (not-true _ (c .if2 .taken)))
 
 add-a : tie.Need-add-a Inv-loop μ-loop
-add-a c = let inside = c .before .before .before .before .before .before in omega (arith, lies inside .1, inside .before .before .before .before .fits)
+add-a c = let inside = c .before .before .before .before .before .before .before in omega (arith, lies inside .1, inside .before .before .before .before .fits)
 
 loop-again : tie.Need-loop-again Inv-loop μ-loop
 unfolding asUser
 loop-again c =
-    let asked = c .before .user-valid in
-    let read = c .before .before .before .before in
-    users-walk-turn (read .before .before .before .before .before .before .pre .1) (read .before .before .before .loop .inv) (omega arith) (read .read-user .ensures) (search needs) (c .before .before .if1 .left)
-    (sym (asked .ensures) ∙ not-false (asked .result) (c .if2 .left))
+    let read = c .before .before .before .before .before in
+    let start = read .before .before .before .before .before .before in
+    users-walk-turn (start .pre .1) (read .before .before .before .loop .inv) (omega (arith, read .before .before .loop-test)) (read .read-user .ensures)
+    (c .before .before .get-u32 .ensures) (start .pre .0) (c .before .before .before .if1 .left) (valid-as (c .before) (ltb (c .before .before .get-u32 .result) 2) (not-false _ (c .if2 .left)))
 
 returns-3 : tie.Need-returns-3 Inv-loop μ-loop
 returns-3 c = users-walk-end (c .before .loop .inv) (omega arith) (search needs)
@@ -76,8 +92,10 @@ fields-valid-spec =
     read-user-requires
     (λ c. search needs)
     returns
+    add-get-u32
+    get-u32-requires
     (λ c κs. search needs)
-    (λ c. search needs)
+    same-length-2
     returns-2
     (λ c. search needs)
     (λ c. search needs)

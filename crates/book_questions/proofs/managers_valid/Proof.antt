@@ -1,45 +1,11 @@
--- `managers_valid`: the users that are left have the whole answer, until the managers of one are not valid or none is left. Assumes nothing.
-use Prim.Native.Nat.{_-_}
-use mathlib.Core.Path.{sym, _∙_}
-use native.Mathlib.Omega.{arith}
+-- `managers_valid`: the three areas together. Assumes nothing.
 use borrow.Author.Needs.{needs}
-use borrow.Author.Tests.{not-true, not-false}
-use Rattle.fields.proofs.Records.{length-recordsOf}
-use Rattle.rules.specs.Book.{nobody}
-use Rattle.book_parties.specs.Ids.{usersFrom}
-use Rattle.book_sums.proofs.Walk.{Passed, passed-start, passed-no, passed-turn, passed-end}
-use Rattle.book_questions.specs.Asked.{managersGiven}
 use Rattle.book_questions.proofs.Managers.{managers-three}
 use Rattle.book_questions.proofs.managers_valid.Statement.{statement}
 use Rattle.book_questions.proofs.managers_valid.Tie as tie
 
-abbrev Inv-loop : tie.InvT-loop
-Inv-loop s n ids i₀ i = Passed (managersGiven (usersFrom 68 0 n s)) (usersFrom 68 0 n s) i
-
-abbrev μ-loop : tie.MeasureT-loop
-μ-loop s n ids i₀ i = n - i
-
-loop-holds : tie.Need-loop-holds Inv-loop μ-loop
-loop-holds c = passed-start
-
-returns : tie.Need-returns Inv-loop μ-loop
-returns c =
-    let asked = c .before in
-    let inside = asked .before .before .before in
-    passed-no nobody (inside .before .loop .inv) (rw length-recordsOf (omega arith))
-    (sym (managers-three _ _ (asked .before .before .manager-valid .ensures) (asked .before .manager-valid2 .ensures) (asked .manager-valid3 .ensures)) ∙ not-true _ (c .if1 .taken))
-
-loop-again : tie.Need-loop-again Inv-loop μ-loop
-loop-again c =
-    let asked = c .before in
-    let inside = asked .before .before .before in
-    passed-turn nobody (inside .before .loop .inv) (rw length-recordsOf (omega arith))
-    (sym (managers-three _ _ (asked .before .before .manager-valid .ensures) (asked .before .manager-valid2 .ensures) (asked .manager-valid3 .ensures)) ∙ not-false _ (c .if1 .left))
-
-returns-2 : tie.Need-returns-2 Inv-loop μ-loop
-returns-2 c = passed-end (c .before .loop .inv) (rw length-recordsOf (omega arith))
+returns : tie.Need-returns
+returns c = managers-three _ (c .before .before .area-valid .ensures) (c .before .area-valid2 .ensures) (c .area-valid3 .ensures)
 
 pub managers-valid-spec : {M : Type 1} → statement M
-managers-valid-spec =
-    tie.close
-    (tie.spec Inv-loop μ-loop loop-holds (λ c κs. search needs) (λ c κs. search needs) (λ c κs. search needs) returns (λ c. search needs) (λ c. search needs) loop-again returns-2)
+managers-valid-spec = tie.close (tie.spec (λ c κs. search needs) (λ c κs. search needs) (λ c κs. search needs) returns)

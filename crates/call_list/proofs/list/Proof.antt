@@ -43,14 +43,18 @@ fill-ids-requires c κs =
     (s .pre .0 (e .if1 .left), g .user-count .ensures, u .users-offset .ensures .0, w .users-size .ensures .0, refl)
 
 fill-guesses-requires : tie.Need-fill-guesses-requires
-fill-guesses-requires c κs = c .before .before .before .fill-ids .ensures .padded .few
+fill-guesses-requires c κs =
+    let f = c .before .before .before in
+    let e = f .before .before .before .before .before .before .before .before .before in
+    let s = start e in
+    (f .fill-ids .ensures .padded, omega (arith, passed (now (s .args .book)) (s .pre .0 (e .if1 .left)) .form .some, f .fill-ids .ensures .count), refl)
 
 post-lines-requires : tie.Need-post-lines-requires
 post-lines-requires c κs =
     let f = c .before .before .before .before .before .before .before .before in
     let e = f .before .before .before .before .before .before .before .before .before in
     let s = start e in
-    (f .fill-ids .ensures, s .pre .1 (e .if1 .left))
+    (f .fill-ids .ensures, (s .pre .1 (e .if1 .left), c .before .before .before .before .fill-guesses .ensures))
 
 returns-2 : tie.Need-returns-2
 returns-2 c =
@@ -62,5 +66,5 @@ returns-2 c =
 pub list-spec : {M : Type 1} → statement M
 list-spec =
     tie.close
-    (tie.spec returns user-count-requires (λ c. search needs) users-offset-requires users-size-requires (λ c. search needs) fill-ids-requires fill-guesses-requires (λ c. search needs) post-lines-requires
+    (tie.spec returns user-count-requires (λ c. search needs) users-offset-requires users-size-requires (λ c. search needs) fill-ids-requires (λ c. search needs) fill-guesses-requires (λ c. search needs) post-lines-requires
     (λ c. search needs) (λ c. search needs) returns-2)

@@ -25,15 +25,15 @@ loop-holds : tie.Need-loop-holds Inv-loop μ-loop
 loop-holds c =
     let k = c .before .before .before .before in
     let s = k .before in
-    going-start (λ j. k .slice-known .given j .fits) (s .pre .0) (s .pre .1 .of-places)
+    going-start (λ j. k .slice-known .given j .fits) (s .pre .0) (s .pre .1 .0 .of-places)
 
 -- the columns are as long as the ids, and so are the places
 even : (c : tie.In-loop Inv-loop μ-loop) → let l = c .before in let a = start l .args in
     (length (now (a .areas)) ≡ length (now (a .ids))) × (length (now (a .amounts)) ≡ length (now (a .ids))) × (length (l .loop .places) ≡ length (now (a .ids)))
-even c = let p = start (c .before) .pre .1 in (p .of-areas, p .of-amounts, c .before .loop .inv .room)
+even c = let p = start (c .before) .pre .1 .0 in (p .of-areas, p .of-amounts, c .before .loop .inv .room)
 
 line-requires : tie.Need-line-requires Inv-loop μ-loop
-line-requires c κs = c .before .before .before .before .before .loop .inv .searched
+line-requires c κs = let l = c .before .before .before .before .before in (l .loop .inv .searched, start l .pre .1 .1)
 
 loop-again : tie.Need-loop-again Inv-loop μ-loop
 loop-again c =
@@ -43,7 +43,7 @@ loop-again c =
     let l = t .before in
     let s = start l in
     let z = getD (now (s .args .amounts)) (l .loop .i) (pos 0) in
-    going-more (w .line .result) (l .loop .inv) (t .loop-test .taken) (s .pre .1 .of-areas) (s .pre .1 .of-amounts)
+    going-more (w .line .result) (l .loop .inv) (t .loop-test .taken) (s .pre .1 .0 .of-areas) (s .pre .1 .0 .of-amounts)
     (λ limits. rw (toZ-ofZ w64 z (record { sfits = arg .line-arg2 .given })) at (w .line .ensures limits))
     (search needs)
 

@@ -1,2 +1,0 @@
--- Laws of the loop that asks for zero bytes.
-pub mod Loops

@@ -1,2 +1,0 @@
--- Zero bytes of records.
-pub mod Zeros
