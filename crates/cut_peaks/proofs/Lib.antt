@@ -1,0 +1,4 @@
+-- Laws of the highest sales of a tier.
+pub mod Worths
+pub mod Sweeping
+pub mod Cutting
