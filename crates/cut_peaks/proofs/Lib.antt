@@ -2,3 +2,4 @@
 pub mod Worths
 pub mod Sweeping
 pub mod Cutting
+pub mod Keeping
