@@ -1,11 +1,10 @@
 -- What is kept of a seller is that of its sales; the cuts of its highest sales are those of both tiers. Assumes nothing.
 use mathlib.Core.Bool.{Bool, true, false, not, _||_}
-use mathlib.Core.List.{List, [], _∷_}
+use mathlib.Core.List.{List}
 use mathlib.Core.Logic.{inl, inr}
 use mathlib.Core.Path.{_≡_, refl, sym, ap, subst, _∙_}
-use Prim.Native.Nat.{ℕ, zero, suc, _+_, _*_, _-_, _≤_, _<_}
+use Prim.Native.Nat.{ℕ, zero, suc, _*_, _-_, _≤_, _<_}
 use native.Mathlib.Omega.{arith}
-use borrow.Author.Tests.{eq-eqb}
 use lib.Dec.{T, eqb}
 use lib.ListN.{length, getD}
 use lib.Seq.{ext-getD, length-sets, sets}
@@ -164,22 +163,22 @@ module _ (f : Prices) (range : InRange f) (k : Kept) {short : List Bool} {asked 
 
 -- ---- chosen or not
 
-module _ {f : Prices} {short : List Bool} {asked : ℕ} {ns areas cs₀ cs : List ℕ} {from to : ℕ} {c : Choice} (p : KeptFor f (c .kept) ns areas from to) where
+module _ {f : Prices} {short : List Bool} {asked : ℕ} {ns areas cs₀ cs : List ℕ} {from to : ℕ} {c : Choice} where
   -- nothing is filled in
-  pub chosen-none : c .fits ≡ false → c .end ≡ c .kept .place → NoneCut cs → Chosen f short asked ns areas from to cs₀ cs c
-  chosen-none e g none =
+  pub chosen-none : from ≤ c .kept .place → c .kept .place ≤ to → c .fits ≡ false → c .end ≡ c .kept .place → NoneCut cs → Chosen f short asked ns areas from to cs₀ cs c
+  chosen-none h l e g none =
       record {
         room = none .room;
-        starts = p .peaked .starts;
+        starts = h;
         rises = omega arith;
-        ends = omega (arith, p .peaked .ends);
-        before = λ i h. none .none i;
-        behind = λ i h. none .none i;
+        ends = omega arith;
+        before = λ i m. none .none i;
+        behind = λ i m. none .none i;
         fitting = λ t. absurd (never (sym e ∙ t));
       }
 
   -- the highest sales have their cuts
-  pub chosen-cut : PeakCuts (tierRates f (c .kept)) ns areas asked (c .kept .mwh) (c .kept .place) to cs (c .end) (c .lost)
+  pub chosen-cut : KeptFor f (c .kept) ns areas from to → PeakCuts (tierRates f (c .kept)) ns areas asked (c .kept .mwh) (c .kept .place) to cs (c .end) (c .lost)
       → (c .fits ≡ true → Fits f short asked ns areas from to cs₀ cs (c .kept) (c .end) (c .lost)) → Chosen f short asked ns areas from to cs₀ cs c
-  chosen-cut q e =
+  chosen-cut p q e =
       record { room = q .room; starts = p .peaked .starts; rises = q .starts; ends = q .ends; before = q .before; behind = q .behind; fitting = e }

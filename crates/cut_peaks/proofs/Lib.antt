@@ -3,3 +3,4 @@ pub mod Worths
 pub mod Sweeping
 pub mod Cutting
 pub mod Keeping
+pub mod After

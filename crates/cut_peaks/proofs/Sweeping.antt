@@ -8,7 +8,7 @@ use native.Mathlib.Nat.{div-eq-of-lt, mod-eq-of-lt, mul-le-mul, mul-lt-mul-of-po
 use native.Mathlib.Omega.{arith}
 use borrow.Author.Tests.{ne-eqb}
 use lib.Dec.{eqb}
-use lib.ListN.{length, getD, set, length-map, length-set, List·getD-eq-default, List·getD-map}
+use lib.ListN.{length, getD, set, length-map, List·getD-eq-default, List·getD-map}
 use lib.Seq.{getD-set-other, getD-set-same}
 use Rattle.base.proofs.Linear.{by-order}
 use Rattle.base.proofs.Stores.{here-or-apart}
@@ -19,10 +19,10 @@ use Rattle.cut_shares.proofs.Turns.{Turning, largest-at-place, shares-of-lots, 
 use Rattle.cut_shares.specs.Turns.{Earliest, Sharing, sharesOf}
 use Rattle.cut_worth.proofs.Rates.{amount-at, amounts-length, areas-inside, areas-many, rate-here, rates-length, rates-most}
 use Rattle.cut_worth.specs.Rates.{Rates, Sales, amountsIn, lotsIn, rateIn, ratesIn}
-use Rattle.laws_sales.proofs.Parts.{part-at, part-here, part-length, part-most, part-set}
+use Rattle.laws_sales.proofs.Parts.{part-here, part-length, part-most, part-set}
 use Rattle.laws_sales.specs.Lots.{lotsOf}
 use Rattle.laws_sales.specs.Parts.{part}
-use Rattle.rules.specs.Shares.{Share, largestRemainder, oneMore, shareOf, tierCuts, tierWorth}
+use Rattle.rules.specs.Shares.{largestRemainder, oneMore, shareOf}
 
 -- remainders of shares without a whole part
 unfoldable pub products : ℕ → List ℕ → List ℕ
@@ -197,5 +197,6 @@ module _ {rates ns areas : List ℕ} {from to asked mwh place : ℕ} (s : Sales 
         where
           amount-le : (k : ℕ) → getD amounts k 0 ≤ mwh
           amount-le k = by-order k (to - from) (λ h. omega (arith, amount-here k (omega arith), p .most (from + k) (omega arith) (omega arith))) (λ h. omega (arith, List·getD-eq-default amounts 0 {n = k} (omega (arith, many))))
+
           asked-some : (v : ℕ) → 0 < v → (eqb asked 0 || eqb v 0) ≡ false
           asked-some v h = rw (ne-eqb asked 0 (λ z. absurd (omega arith)), ne-eqb v 0 (λ z. absurd (omega arith)))

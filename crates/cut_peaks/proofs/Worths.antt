@@ -2,14 +2,14 @@
 use mathlib.Core.Bool.{cond}
 use mathlib.Core.List.{List, [], _∷_}
 use mathlib.Core.Path.{_≡_, refl, sym, ap, _∙_}
-use Prim.Native.Nat.{ℕ, suc, _+_, _*_, _-_, _≤_, _<_}
+use Prim.Native.Nat.{ℕ, suc, _+_, _*_, _-_, _≤_}
 use native.Mathlib.Nat.{add-mul, zero-mul, mul-zero}
 use native.Mathlib.Omega.{arith}
 use lib.Dec.{ltb}
 use lib.ListN.{length, getD}
 use Rattle.base.proofs.Linear.{by-order}
 use Rattle.base.specs.Sums.{sum}
-use Rattle.cut_shares.proofs.Ones.{counts-in, counts-out}
+use Rattle.cut_shares.proofs.Ones.{counts-in}
 use Rattle.cut_shares.specs.Turns.{sharesOf}
 use Rattle.cut_worth.specs.Rates.{lotsIn, rateIn, ratesIn}
 use Rattle.laws_sales.specs.Lots.{lotsOf}

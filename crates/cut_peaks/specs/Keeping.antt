@@ -2,7 +2,7 @@
 use mathlib.Core.Bool.{Bool, true, false}
 use mathlib.Core.List.{List, [], _∷_}
 use mathlib.Core.Path.{_≡_}
-use Prim.Native.Nat.{ℕ, _+_, _≤_, _<_}
+use Prim.Native.Nat.{ℕ, _+_, _-_, _≤_, _<_}
 use lib.ListN.{length, getD}
 use lib.Seq.{sets}
 use Rattle.cut_tiers.specs.Tiers.{cutsOf, ratesFor, shortBy}
@@ -21,6 +21,11 @@ shortOf k = shortBy (k .pvb ∷ k .tvb ∷ k .avb ∷ [])
 -- the rates of the tier that its sales lose from
 unfoldable pub tierRates : Prices → Kept → List ℕ
 tierRates f k = ratesFor f (tierOf (k .second) (shortOf k))
+
+-- what is kept after cuts that are worth some amount, up to the next of the highest sales, of the seller at a place
+abbrev pub sweptTo : Kept → ℕ → ℕ → ℕ → Kept
+sweptTo k seller end lost =
+    record { seller = seller; pvb = k .pvb; tvb = k .tvb; avb = k .avb; second = k .second; worth = k .worth - lost; mwh = k .mwh; place = end }
 
 -- the same areas as an array says
 pub record SameShort (k : Kept) (short : List Bool) : Type 0 where

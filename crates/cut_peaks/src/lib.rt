@@ -1,12 +1,12 @@
-// Reductions of a few MWh among sales that stand high: where no whole part of a share reaches one MWh, the sales that stand highest in the
-// tier lose one MWh each, the earliest first. So a seller's next cuts are known from the place of the next highest sale, without asking every
-// sale again: a pass over the sales is made once for each MWh that the highest lose, not once for each reduction.
+// Reductions of a few MWh: where no share has a whole part, the sales that stand highest in the tier lose one MWh each, the earliest first.
+// So a seller's next cuts are known from the place of the next of them, without asking every sale again: a pass over all of them is made
+// once for each MWh that the highest lose, not once for each reduction.
 use units::Prices;
 ghost use mathlib.Core.Bool.{true, false};
 ghost use mathlib.Core.Path.{_≡_};
 ghost use Prim.Native.Nat.{_≤_, _<_, max};
 ghost use lib.ListN.{getD};
-ghost use Rattle.cut_peaks.specs.Keeping.{Chosen, KeptFor, SameShort, tierRates};
+ghost use Rattle.cut_peaks.specs.Keeping.{Chosen, KeptFor, SameShort, sweptTo, tierRates};
 ghost use Rattle.units.specs.Prices.{asPrices, InRange};
 ghost use Rattle.cut_worth.specs.Rates.{Sales, Rates};
 ghost use Rattle.cut_peaks.specs.Peaks.{amountAt, Highest, NextPeak, NoneCut, PeakCuts};
@@ -35,7 +35,13 @@ fn larger(one: u64, other: u64) -> u64
 }
 
 // What the highest of the sales from..to in the tier stands at, at least 1.
-fn highest(standing: &[u64; 256], areas: &[u8; 256], rates: &[u64; 3], from: usize, to: usize) -> u64
+fn highest(
+    standing: &[u64; 256],
+    areas: &[u8; 256],
+    rates: &[u64; 3],
+    from: usize,
+    to: usize,
+) -> u64
     requires { ⌜ Sales (now standing) (now areas) from to ⌝ }
     ensures { λ r. ⌜ Highest (now (rates .entry)) (now (standing .entry)) (now (areas .entry)) from to r ⌝ }
 {
@@ -78,8 +84,8 @@ pub struct Sweep {
     pub lost: u64,
 }
 
-// The sales of the tier that stand at `mwh`, from the one at a place on, lose one MWh each until the loss reaches what is asked, or there is
-// none left.
+// The sales of the tier that stand at `mwh`, from the one at a place on, lose one MWh each until the loss reaches what is asked, or none is
+// left.
 fn peak_cuts(
     standing: &[u64; 256],
     areas: &[u8; 256],
@@ -98,25 +104,19 @@ fn peak_cuts(
     let mut i = place;
     while lost < asked {
         if to <= i {
-            return Sweep {
-                end: i,
-                lost: lost,
-            };
+            return Sweep { end: i, lost: lost };
         }
         cuts[i] += 1;
         lost += cut_worth::rate_at(areas, rates, i);
         i = next_peak(standing, areas, rates, mwh, i + 1, to);
     }
-    Sweep {
-        end: i,
-        lost: lost,
-    }
+    Sweep { end: i, lost: lost }
 }
 
 // ---- what is kept of a seller
 
-// Of a seller, by its place among the users: in which areas its position is negative, the tier that its sales lose from, tier two where tier
-// one is worth nothing; what that tier is worth, what its highest sales stand at, and the place of the next of them.
+// Of a seller, by its place among the users: in which areas its position is negative; whether its sales lose from tier two, tier one being
+// worth nothing; what that tier is worth, what its highest sales stand at, and the place of the next of them.
 pub struct Kept {
     pub seller: usize,
     pub pvb: bool,
@@ -143,6 +143,17 @@ impl Kept {
             mwh: 0,
             place: 0,
         }
+    }
+
+    // After the highest sales up to the next one, at an end, have lost what they were cut by; of the seller at a place.
+    pub fn swept(mut self, seller: usize, end: usize, lost: u64) -> Kept
+        requires { ⌜ lost ≤ self .worth ⌝ }
+        ensures { λ r. ⌜ r ≡ sweptTo self seller end lost ⌝ }
+    {
+        self.seller = seller;
+        self.worth = self.worth - lost;
+        self.place = end;
+        self
     }
 }
 
@@ -265,8 +276,8 @@ pub struct Choice {
     pub lost: u64,
 }
 
-// Fills in the cuts of the sales from..to of a seller that is reduced for an amount, where only the highest lose, one MWh each. Where that is
-// not so, `cuts` may hold some between the two places, and must be cleared there.
+// Fills in the cuts of the sales from..to of a seller that is reduced for an amount, where only the highest lose, one MWh each. Where that
+// is not so, `cuts` may hold some between the two places, and must be cleared there.
 pub fn choose(
     standing: &[u64; 256],
     areas: &[u8; 256],

@@ -13,7 +13,7 @@ use Rattle.cut_peaks.proofs.choose.Statement.{statement}
 use Rattle.cut_peaks.proofs.choose.Tie as tie
 
 returns : tie.Need-returns
-returns c = chosen-none (c .before .current .ensures .0) refl refl (c .before .before .pre .0 .3)
+returns c = let q = c .before .current .ensures .0 .peaked in chosen-none (q .starts) (q .ends) refl refl (c .before .before .pre .0 .3)
 
 mul-if2 : tie.Need-mul-if2
 mul-if2 c =
@@ -25,7 +25,7 @@ mul-if2 c =
     omega (arith, mul-le-mul {n₁ = k .result .mwh} {m₁ = a} {n₂ = 100000} {m₂ = 2560000000000} h l)
 
 returns-2 : tie.Need-returns-2
-returns-2 c = chosen-none (c .before .before .current .ensures .0) refl refl (c .before .before .before .pre .0 .3)
+returns-2 c = let q = c .before .before .current .ensures .0 .peaked in chosen-none (q .starts) (q .ends) refl refl (c .before .before .before .pre .0 .3)
 
 peak-cuts-requires : tie.Need-peak-cuts-requires
 peak-cuts-requires c κs =

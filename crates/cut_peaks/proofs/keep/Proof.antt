@@ -30,7 +30,8 @@ returns c =
     let b = c .before .before .before .before .before .before .before .before .before .before .before .before in
     let a = b .args in
     let worth = c .before .before .before .before .before .before .worth-of in
-    let k : Kept = record { seller = a .seller; pvb = getD (a .short .now) 0 false; tvb = getD (a .short .now) 1 false; avb = getD (a .short .now) 2 false; second = false; worth = c .before .before .before .before .before .before .worth-of .result .0; mwh = c .before .before .highest .result; place = c .next-peak .result } in
+    let short = a .short .now in
+    let k : Kept = record { seller = a .seller; pvb = getD short 0 false; tvb = getD short 1 false; avb = getD short 2 false; second = false; worth = c .before .before .before .before .before .before .worth-of .result .0; mwh = c .before .before .highest .result; place = c .next-peak .result } in
     let one = c .before .before .before .before .before .before .before .before .rates-of .ensures (shortOf k) refl refl refl in (
       kept-tier (asPrices (a .prices)) k (one ∙ rates-first (asPrices (a .prices)) k refl) (worth .ensures .0) (omega (arith, worth .ensures .1, b .pre .1 .inside))
           (peaked-first (c .before .before .highest .ensures) (c .next-peak .ensures)) (λ e. absurd (never e)),
@@ -48,7 +49,8 @@ returns-2 c =
     let b = c .before .before .before .before .before .before .before .before .before .before .before .before .before .before .before in
     let a = b .args in
     let worth = c .before .before .before .before .worth-of2 in
-    let k : Kept = record { seller = a .seller; pvb = getD (a .short .now) 0 false; tvb = getD (a .short .now) 1 false; avb = getD (a .short .now) 2 false; second = true; worth = c .before .before .before .before .worth-of2 .result .0; mwh = c .before .before .highest2 .result; place = c .next-peak2 .result } in
+    let short = a .short .now in
+    let k : Kept = record { seller = a .seller; pvb = getD short 0 false; tvb = getD short 1 false; avb = getD short 2 false; second = true; worth = c .before .before .before .before .worth-of2 .result .0; mwh = c .before .before .highest2 .result; place = c .next-peak2 .result } in
     let one = c .before .before .before .before .before .before .before .before .before .before .before .rates-of .ensures (shortOf k) refl refl refl in
     let two = c .before .before .before .before .before .before .rates-of2 .ensures (λ area. not (shortOf k area)) refl refl refl in
     let first = c .before .before .before .before .before .before .before .before .before .worth-of .ensures .0 in (

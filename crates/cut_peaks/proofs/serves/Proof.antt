@@ -18,12 +18,11 @@ returns-4 : tie.Need-returns-4
 returns-4 c = λ e. absurd (never e)
 
 returns-5 : tie.Need-returns-5
-returns-5 c = λ e.
-    (
-      c .before .before .before .before .before .before .before .before .before .before .if1 .left,
-      same-short (c .before .before .before .before .before .before .differ .ensures (c .before .before .before .before .before .if3 .left)) (c .before .before .before .differ2 .ensures (c .before .before .if4 .left))
-          (c .differ3 .ensures (not-true _ e)),
-    )
+returns-5 c = λ e. (
+  c .before .before .before .before .before .before .before .before .before .before .if1 .left,
+  same-short (c .before .before .before .before .before .before .differ .ensures (c .before .before .before .before .before .if3 .left)) (c .before .before .before .differ2 .ensures (c .before .before .if4 .left))
+      (c .differ3 .ensures (not-true _ e)),
+)
 
 pub serves-spec : {M : Type 1} → statement M
 serves-spec =
