@@ -28,7 +28,7 @@ use Rattle.laws_sales.proofs.Ranges.{cond-le}
 use Rattle.laws_sales.specs.Lots.{lotsOf}
 
 -- cuts added to none
-together-first : (zs ds : List ℕ) → length ds ≡ length zs → ((k : ℕ) → getD zs k 0 ≡ 0) → together zs ds ≡ ds
+pub together-first : (zs ds : List ℕ) → length ds ≡ length zs → ((k : ℕ) → getD zs k 0 ≡ 0) → together zs ds ≡ ds
 unfolding together
 together-first [] [] e h = refl
 together-first [] (d ∷ ds) e h = absurd (omega arith)

@@ -34,7 +34,7 @@ fn rate_in(area: u8, belongs: bool, prices: Prices) -> u64
 }
 
 // The rate of each area in a tier, by whether the area belongs to it.
-fn rates_of(pvb: bool, tvb: bool, avb: bool, prices: Prices) -> [u64; 3]
+pub fn rates_of(pvb: bool, tvb: bool, avb: bool, prices: Prices) -> [u64; 3]
     requires { ⌜ InRange (asPrices prices) ⌝ }
     ensures { λ r. ⌜ ((belongs : ℕ → Bool) → pvb ≡ belongs 0 → tvb ≡ belongs 1 → avb ≡ belongs 2 → r ≡ ratesFor (asPrices prices) belongs) ⌝ }
 {

@@ -7,6 +7,7 @@ use Prim.Native.Nat.{ℕ, suc, _+_, _-_, _≤_, _<_}
 use native.Mathlib.Omega.{arith}
 use lib.ListN.{length, getD}
 use lib.Seq.{length-sets}
+use Rattle.cut_peaks.specs.Peaks.{NoneCut}
 use Rattle.cut_worth.specs.Tallies.{asTally}
 use Rattle.cut_worth.specs.Totals.{totals}
 use Rattle.cut_worth.specs.declared.Tally.{Tally}
@@ -41,7 +42,7 @@ use Rattle.run_reduction.proofs.Steps.{cut-within, part-few, part-rises, sales-
 use Rattle.run_reduction.specs.Reductions.{RunOf}
 use Rattle.run_turns.proofs.Turning.{reached-now}
 use Rattle.run_turns.proofs.Rounds.{RunTo, members, next, run-start, run-turn}
-use Rattle.run_turns.specs.Turns.{NoneCut, Turned}
+use Rattle.run_turns.specs.Turns.{Turned}
 use Rattle.log_format.specs.Noted.{entryOf, noted}
 use Rattle.log_entries.proofs.Reductions.{reduction-entered}
 use Rattle.log_entries.specs.Entries.{EntriesIn, Notable, NotedAt}

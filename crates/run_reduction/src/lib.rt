@@ -54,7 +54,7 @@ fn settle_sale(
 
 // Takes the cuts of the sales from..to of the user at a place off what stands, moves the positions of the user and of the buyers, and gives
 // the tally of the cuts.
-fn settle(
+pub fn settle(
     standing: &mut [u64; 256],
     areas: &[u8; 256],
     buyers: &[u8; 256],

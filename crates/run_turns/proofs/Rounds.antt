@@ -6,6 +6,7 @@ use Prim.Native.Nat.{ℕ, _+_, _≤_, _<_}
 use native.Mathlib.Omega.{arith}
 use lib.ListN.{length, getD, set, replicate, length-set, length-replicate, getD-replicate, List·getD-eq-default}
 use lib.Seq.{getD-set-other}
+use Rattle.cut_peaks.specs.Peaks.{NoneCut}
 use Rattle.cut_worth.specs.Tallies.{asTally}
 use Rattle.cut_worth.specs.Totals.{Within, totals}
 use Rattle.cut_worth.specs.declared.Tally.{Tally}
@@ -25,7 +26,7 @@ use Rattle.run_state.specs.Asked.{memberAt}
 use Rattle.laws_sales.specs.Borne.{borneBook}
 use Rattle.run_state.specs.Going.{Going, StandingIn}
 use Rattle.run_state.specs.Running.{NextFrom, wholeRun}
-use Rattle.run_turns.specs.Turns.{CutIn, NoneCut, Ongoing, Ran, Turned}
+use Rattle.run_turns.specs.Turns.{CutIn, Ongoing, Ran, Turned}
 use mathlib.Core.Option.{none, some}
 
 -- ---- cuts are cleared

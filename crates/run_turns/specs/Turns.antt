@@ -2,18 +2,24 @@
 use mathlib.Core.Bool.{Bool}
 use mathlib.Core.List.{List}
 use mathlib.Core.Path.{_≡_}
-use Prim.Native.Nat.{ℕ, _≤_, _<_}
+use Prim.Native.Nat.{ℕ, _+_, _≤_, _<_}
 use lib.ListN.{length, getD}
+use Rattle.cut_peaks.specs.Keeping.{Chosen, KeptFor}
+use Rattle.cut_peaks.specs.Peaks.{NoneCut}
+use Rattle.cut_peaks.specs.declared.Choice.{Choice}
+use Rattle.cut_peaks.specs.declared.Kept.{Kept}
 use Rattle.cut_worth.specs.Tallies.{asTally}
 use Rattle.cut_worth.specs.Totals.{totals}
 use Rattle.cut_worth.specs.declared.Tally.{Tally}
 use Rattle.cut_worth.specs.declared.Totals.{Totals}
 use Rattle.laws.specs.Sound.{Sound}
 use Rattle.laws.specs.Trades.{Lowered, Pairwise}
+use Rattle.rules.specs.Areas.{Prices}
 use Rattle.rules.specs.Book.{Book}
 use Rattle.rules.specs.Calls.{Result, ofCuts, reduced}
 use Rattle.rules.specs.Levels.{Limits}
 use Rattle.rules.specs.Reduction.{target, withTrades}
+use Rattle.run_positions.specs.Moving.{ShortIn}
 use Rattle.run_state.specs.Asked.{memberAt}
 use Rattle.run_state.specs.Going.{Going, StandingIn}
 use Rattle.laws_sales.specs.Borne.{borneBook, borneUser}
@@ -23,11 +29,6 @@ use Rattle.laws_sales.specs.Reduced.{ownCuts}
 pub record Ongoing (limits : Limits) (o : Book) (ns ps ts : List ℕ) (es : List Bool) : Type 0 where
   pub book : Book
   pub going : Going limits o book ns ps ts es
-
--- an array of cuts in which there is none
-pub record NoneCut (cs : List ℕ) : Type 0 where
-  pub room : length cs ≡ 256
-  pub none : (k : ℕ) → getD cs k 0 ≡ 0
 
 -- an array of cuts in which there is none outside a part
 pub record CutIn (from to : ℕ) (cs : List ℕ) : Type 0 where
@@ -42,6 +43,27 @@ pub record Turned (limits : Limits) (o b : Book) (place : ℕ) (ts₀ ns ps ts :
   pub cuts : cs ≡ ownCuts (borneBook b) (borneUser (b .users) (memberAt b place)) (target limits b (memberAt b place))
   pub least-most : least ≤ place
   pub before : (j : ℕ) → j < least → getD ts j 0 ≡ getD ts₀ j 0
+
+-- the same, whatever the cuts
+pub record TurnedSome (limits : Limits) (o b : Book) (place : ℕ) (ts₀ ns ps ts : List ℕ) (es : List Bool) (tally : Tally) (least : ℕ) : Type 0 where
+  pub cuts : List ℕ
+  pub turned : Turned limits o b place ts₀ ns ps ts es cuts tally least
+
+-- ---- long runs
+
+-- cuts are filled in between two places, for an amount, of the sales from..to of the user at a place; where they fit, they are all of its cuts
+pub record Sweepable (f : Prices) (asked : ℕ) (ns areas ps : List ℕ) (place from to : ℕ) (cs : List ℕ) (c : Choice) : Type 0 where
+  pub short : List Bool
+  pub short-in : ShortIn ps place short
+  pub none : List ℕ
+  pub none-cut : NoneCut none
+  pub chosen : Chosen f short asked ns areas from to none cs c
+
+-- what is kept of a user is that of its sales
+pub record Keeps (f : Prices) (ss ns areas : List ℕ) (k : Kept) : Type 0 where
+  pub each : (i : ℕ) → i < 64 → k .seller ≡ i → KeptFor f k ns areas (getD ss i 0) (getD ss (i + 1) 0)
+
+-- ---- all of them
 
 -- reductions of the book o, one after another, have given a result of the rules: its answer, and what stands of the own sales of its book as its risk is borne
 pub record Ran (end : Result) (o : Book) (ns : List ℕ) (r : Totals) : Type 0 where

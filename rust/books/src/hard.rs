@@ -84,7 +84,7 @@ pub fn chain(mwh: i128) -> Book {
 
 /// One seller with 256 sales of this many MWh, flagged, the level at the least
 /// and one cent above the assigned guarantee: 256 × `mwh` reductions, each of
-/// which looks at every sale that still stands.
+/// which cuts one of the sales that stand highest.
 pub fn widest(mwh: i128) -> Book {
     let buyers = MOST_USERS - 1;
     let mut users = vec![shipper(1, [-30_001, 0, 0], -MOST_CENTS, 9_999_999, 0)];

@@ -9,6 +9,7 @@ pub mod asks;
 pub mod calls;
 pub mod cancellations;
 pub mod conversions;
+pub mod crawls;
 pub mod credits;
 pub mod damage;
 pub mod forms;

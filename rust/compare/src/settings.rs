@@ -11,6 +11,14 @@ const CALLS: u64 = 200_000;
 /// The least number of pairs of twins that the tests compare.
 const PAIRS: u64 = 10_000;
 
+/// The least number of crawling books that the tests compare.
+const CRAWLS: u64 = 400;
+
+/// DAYBOOK_CRAWLS where that is more than 400, else 400.
+pub fn crawls() -> u64 {
+    number("DAYBOOK_CRAWLS", CRAWLS).max(CRAWLS)
+}
+
 /// DAYBOOK_PAIRS where that is more than 10,000, else 10,000.
 pub fn pairs() -> u64 {
     number("DAYBOOK_PAIRS", PAIRS).max(PAIRS)

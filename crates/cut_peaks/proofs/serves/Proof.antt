@@ -1,0 +1,30 @@
+-- `serves`: what is not refused is of the seller, and its areas are the same. Assumes nothing.
+use borrow.Author.Needs.{needs}
+use borrow.Author.Tests.{not-true}
+use Rattle.cut_peaks.proofs.Keeping.{never, same-short}
+use Rattle.cut_peaks.proofs.serves.Statement.{statement}
+use Rattle.cut_peaks.proofs.serves.Tie as tie
+
+returns : tie.Need-returns
+returns c = λ e. absurd (never e)
+
+returns-2 : tie.Need-returns-2
+returns-2 c = λ e. absurd (never e)
+
+returns-3 : tie.Need-returns-3
+returns-3 c = λ e. absurd (never e)
+
+returns-4 : tie.Need-returns-4
+returns-4 c = λ e. absurd (never e)
+
+returns-5 : tie.Need-returns-5
+returns-5 c = λ e. (
+  c .before .before .before .before .before .before .before .before .before .before .if1 .left,
+  same-short (c .before .before .before .before .before .before .differ .ensures (c .before .before .before .before .before .if3 .left)) (c .before .before .before .differ2 .ensures (c .before .before .if4 .left))
+      (c .differ3 .ensures (not-true _ e)),
+)
+
+pub serves-spec : {M : Type 1} → statement M
+serves-spec =
+    tie.close
+    (tie.spec returns returns-2 (λ c. search needs) (λ c κs. search needs) returns-3 (λ c. search needs) (λ c κs. search needs) returns-4 (λ c. search needs) (λ c κs. search needs) returns-5)

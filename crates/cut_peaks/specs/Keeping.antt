@@ -1,0 +1,57 @@
+-- What is kept of a seller between two reductions, and the cuts of a reduction that are told by it. Assumes nothing.
+use mathlib.Core.Bool.{Bool, true, false}
+use mathlib.Core.List.{List, [], _∷_}
+use mathlib.Core.Path.{_≡_}
+use Prim.Native.Nat.{ℕ, _+_, _-_, _≤_, _<_}
+use lib.ListN.{length, getD}
+use lib.Seq.{sets}
+use Rattle.cut_tiers.specs.Tiers.{cutsOf, ratesFor, shortBy}
+use Rattle.cut_worth.specs.Rates.{lotsIn}
+use Rattle.laws_sales.specs.Parts.{part}
+use Rattle.rules.specs.Areas.{Prices}
+use Rattle.rules.specs.Shares.{tierWorth}
+use Rattle.cut_peaks.specs.Peaks.{Peaked, amountAt, tierOf}
+use Rattle.cut_peaks.specs.declared.Choice.{Choice}
+use Rattle.cut_peaks.specs.declared.Kept.{Kept}
+
+-- the seller's position is negative in the area
+abbrev pub shortOf : Kept → ℕ → Bool
+shortOf k = shortBy (k .pvb ∷ k .tvb ∷ k .avb ∷ [])
+
+-- the rates of the tier that its sales lose from
+unfoldable pub tierRates : Prices → Kept → List ℕ
+tierRates f k = ratesFor f (tierOf (k .second) (shortOf k))
+
+-- what is kept after cuts that are worth some amount, up to the next of the highest sales, of the seller at a place
+abbrev pub sweptTo : Kept → ℕ → ℕ → ℕ → Kept
+sweptTo k seller end lost =
+    record { seller = seller; pvb = k .pvb; tvb = k .tvb; avb = k .avb; second = k .second; worth = k .worth - lost; mwh = k .mwh; place = end }
+
+-- the same areas as an array says
+pub record SameShort (k : Kept) (short : List Bool) : Type 0 where
+  pub each : (area : ℕ) → area < 3 → shortOf k area ≡ getD short area false
+
+-- what is kept is that of the sales from..to: the worth of the tier, and the next of its highest sales; it is tier two only where tier one is worth nothing
+pub record KeptFor (f : Prices) (k : Kept) (ns areas : List ℕ) (from to : ℕ) : Type 0 where
+  pub worth-is : k .worth ≡ tierWorth (lotsIn (tierRates f k) (part from to ns) (part from to areas))
+  pub worth-most : k .worth ≤ 2560000000000
+  pub peaked : Peaked (tierRates f k) ns areas from to (k .place) (k .mwh)
+  pub first-none : k .second ≡ true → tierWorth (lotsIn (ratesFor f (shortOf k)) (part from to ns) (part from to areas)) ≡ 0
+
+-- the cuts of the sales from..to for an amount, all of them between the kept place and an end; which of the highest sales they leave, and what they are worth
+pub record Fits (f : Prices) (short : List Bool) (asked : ℕ) (ns areas : List ℕ) (from to : ℕ) (cs₀ cs : List ℕ) (k : Kept) (end lost : ℕ) : Type 0 where
+  pub kept : KeptFor f k ns areas from to
+  pub filled : cs ≡ sets cs₀ from (cutsOf f (shortBy short) asked (part from to ns) (part from to areas))
+  pub worth : tierWorth (lotsIn (tierRates f k) (part from to cs) (part from to areas)) ≡ lost
+  pub gone : (i : ℕ) → k .place ≤ i → i < end → amountAt (tierRates f k) ns areas i < k .mwh + getD cs i 0
+  pub here : end < to → k .mwh ≤ amountAt (tierRates f k) ns areas end
+
+-- cuts are filled in between the kept place and an end, all of the reduction where they fit
+pub record Chosen (f : Prices) (short : List Bool) (asked : ℕ) (ns areas : List ℕ) (from to : ℕ) (cs₀ cs : List ℕ) (c : Choice) : Type 0 where
+  pub room : length cs ≡ 256
+  pub starts : from ≤ c .kept .place
+  pub rises : c .kept .place ≤ c .end
+  pub ends : c .end ≤ to
+  pub before : (i : ℕ) → i < c .kept .place → getD cs i 0 ≡ 0
+  pub behind : (i : ℕ) → c .end ≤ i → getD cs i 0 ≡ 0
+  pub fitting : c .fits ≡ true → Fits f short asked ns areas from to cs₀ cs (c .kept) (c .end) (c .lost)
