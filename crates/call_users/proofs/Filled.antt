@@ -3,7 +3,6 @@ use mathlib.Core.Bool.{Bool, false}
 use mathlib.Core.List.{List, [], _∷_, _++_, append-assoc, map}
 use mathlib.Core.Path.{_≡_, refl, sym, ap, _∙_}
 use Prim.Native.Nat.{ℕ, zero, suc, _+_, _-_, _<_, _≤_}
-use native.Mathlib.Nat.{sub-zero}
 use native.Mathlib.Numerals.{add-one}
 use native.Mathlib.Omega.{arith}
 use lib.ListN.{getD, length, length-map, replicate, set, take, List·getD-map}
@@ -15,7 +14,6 @@ use Rattle.cut_parties.specs.Flags.{CutFlags}
 use Rattle.risk_bearers.proofs.Borne.{id-in, length-usersIn}
 use Rattle.risk_bearers.specs.Bearers.{tradesIn, usersIn}
 use Rattle.risk_holdings.specs.Parties.{cutBefore}
-use Rattle.rules.specs.Book as model
 use Rattle.rules.specs.Book.{Book, nobody}
 use Rattle.rules.specs.Levels.{Limits}
 use Rattle.user_levels.specs.Levels as rows

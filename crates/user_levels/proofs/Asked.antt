@@ -13,7 +13,6 @@ use Rattle.rights.proofs.Entered.{after-refused, decided-after, opening-by-numb
 use Rattle.rights.proofs.Operator.{operator-number}
 use Rattle.rights.specs.Acting.{AdmittedBy, openingBy, openingNumberBy}
 use Rattle.rights.specs.Party.{Party, mayDo, operator, operators, shipperOf}
-use Rattle.store.specs.Store.{storeNumber}
 use Rattle.user_levels.specs.Claims.{LevelsBy}
 use Rattle.user_levels.specs.Levels.{AllLevels, allLevels, allLevelsBy, levelsAfter, levelsIn, noLevels}
 

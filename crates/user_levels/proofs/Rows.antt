@@ -1,5 +1,5 @@
 -- Each row of the levels of all users is what the calls for that user's id answer. Assumes nothing.
-use mathlib.Core.Bool.{Bool, true, false, cond, _||_}
+use mathlib.Core.Bool.{Bool, true, false, cond}
 use mathlib.Core.List.{List, [], _∷_, _++_, map}
 use mathlib.Core.Path.{_≡_, _∙_, ap, refl, subst, sym}
 use Prim.Native.Nat.{ℕ, suc, zero, _-_, _<_, _≤_}
@@ -7,14 +7,14 @@ use native.Mathlib.Nat.{le-of-suc-le-suc, not-suc-le-zero}
 use native.Mathlib.Omega.{arith}
 use borrow.Author.Tests.{eq-eqb, ne-eqb}
 use lib.Dec.{T, eqb, ltb}
-use lib.ListN.{getD, length, length-map, replicate}
+use lib.ListN.{getD, length, replicate}
 use Rattle.base.proofs.Tests.{and-r, eqb-of, or-l, or-r}
 use Rattle.base.specs.Lists.{any}
 use Rattle.rules.specs.Book.{Book, User, find, nobody}
 use Rattle.rules.specs.Calls.{idKnown, isShipper}
 use Rattle.rules.specs.Day.{printedLevel}
 use Rattle.rules.specs.Levels.{Limits, afternoonLevel, morningLevel, shipper}
-use Rattle.rules.specs.Queries.{Query, Reply, aLevel, aboutQuery, afternoonLevelOf, found, morningLevelOf, onlyNumber}
+use Rattle.rules.specs.Queries.{Query, aLevel, aboutQuery, afternoonLevelOf, found, morningLevelOf, onlyNumber}
 use Rattle.rules.specs.Questions.{decided, idsRise, known, refusal}
 use Rattle.book_format.proofs.Passed.{passed}
 use Rattle.book_format.specs.After.{after}
@@ -24,7 +24,7 @@ use Rattle.requests.proofs.Opened.{opening-number}
 use Rattle.requests.specs.Request.{Setting, limitsOn, openingNumber}
 use Rattle.rights.proofs.Entered.{after-passed}
 use Rattle.rights.proofs.Operator.{enquiry-by, operator-number}
-use Rattle.rights.specs.Acting.{enquiryBy, openingNumberBy}
+use Rattle.rights.specs.Acting.{enquiryBy}
 use Rattle.rights.specs.Party.{matterOf, operator}
 use Rattle.store.specs.Store.{storeNumber}
 use Rattle.views.proofs.Told.{known-above}
@@ -116,13 +116,13 @@ module _ (g : Setting) (s : List ℕ) (accepted : allLevels g s .number ≡ 0) w
     replied : (q : Query) (level : User → ℕ) → aboutQuery book q ≡ idKnown book (user .party .id) ∷ (isShipper (find (book .users) (user .party .id)) ∷ [])
         → found (limitsOn g book) book q ≡ aLevel (level (find (book .users) (user .party .id)))
         → enquiryBy operator g s q ≡ levelReply (shipper user) (cond (shipper user) (level user) 0)
-    unfolding idKnown isShipper refusal decided levelReply
+    unfolding idKnown isShipper refusal decided levelReply aLevel onlyNumber
     replied q level asks finds =
         enquiry-by operator g s q
         ∙ after-passed onlyNumber (decided (refusal (aboutQuery book q)) onlyNumber (found (limitsOn g book) book q)) (operator-number (matterOf q) g s ∙ opens)
         ∙ rw (asks, finds, user-known, user-found) (go (shipper user))
       where
-        go : (ships : Bool) → decided (refusal (record { number = 9; holds = ships } ∷ [])) onlyNumber (aLevel (level user)) ≡ cond ships (aLevel (cond ships (level user) 0)) (onlyNumber 9)
+        go : (ships : Bool) → decided (refusal (record { number = 9; holds = ships } ∷ [])) onlyNumber (aLevel (level user)) ≡ levelReply ships (cond ships (level user) 0)
         go true = refl
         go false = refl
 

@@ -1,16 +1,17 @@
 -- What is claimed of the levels of all users: each row is what the calls for that user's id tell; and who is told. Assumes nothing.
-use mathlib.Core.Bool.{Bool, cond}
+use mathlib.Core.Bool.{Bool, false, cond}
 use mathlib.Core.List.{List}
+use mathlib.Core.Option.{none}
 use mathlib.Core.Path.{_≡_}
 use Prim.Native.Nat.{ℕ, suc, _<_, _≤_}
 use lib.ListN.{getD, length}
 use Rattle.rules.specs.Book.{User, nobody}
 use Rattle.rules.specs.Day as day
 use Rattle.rules.specs.Levels.{shipper}
-use Rattle.rules.specs.Queries.{Reply, aLevel, afternoonLevelOf, morningLevelOf, onlyNumber}
+use Rattle.rules.specs.Queries.{Reply, afternoonLevelOf, morningLevelOf}
 use Rattle.book_format.specs.Book.{bookOf}
 use Rattle.book_format.specs.Questions.{bookNumber}
-use Rattle.requests.specs.Request.{Setting, enquiry, limitsOn}
+use Rattle.requests.specs.Request.{Setting, limitsOn}
 use Rattle.rights.specs.Acting.{enquiryBy}
 use Rattle.rights.specs.Party.{Party, operator, shipperOf}
 use Rattle.rights.specs.Seen.{Agree}
@@ -18,9 +19,9 @@ use Rattle.user_levels.specs.Levels.{UserLevels, allLevels, allLevelsBy,
 
 -- ---- each row
 
--- what a call for a level answers: the level, or of a clearing house 9
+-- what a call for a level answers: the level, and as its number 0, or of a clearing house 9
 unfoldable pub levelReply : Bool → ℕ → Reply
-levelReply ships level = cond ships (aLevel level) (onlyNumber 9)
+levelReply ships level = record { number = cond ships 0 9; level = level; warned = false; shown = none }
 
 -- a row is its user's: what the operator's calls for the user's id answer, and the state of the printed day
 pub record RowOf (g : Setting) (s : List ℕ) (u : User) (row : UserLevels) : Type 0 where

@@ -338,7 +338,12 @@ fn levels(answer: &reference::AllLevels) -> Answer {
     for user in &answer.users {
         let state = STATES.iter().position(|word| *word == user.state);
         let state = state.and_then(|place| i128::try_from(place).ok());
-        fields.extend([user.id.into(), state.unwrap_or(-1), user.morning, user.afternoon]);
+        fields.extend([
+            user.id.into(),
+            state.unwrap_or(-1),
+            user.morning,
+            user.afternoon,
+        ]);
     }
     fields.resize(4 * MOST_USERS, 0);
     Answer::of_fields(answer.number, &fields)

@@ -69,7 +69,5 @@ pub fn state(limits: &Limits, book: &Book, user: &User) -> &'static str {
 /// "Called in, level − blocked > 1,000,000, assigned ≥ level."
 fn to_be_called(limits: &Limits, book: &Book, user: &User) -> bool {
     let level = afternoon_level_of(limits, book, user);
-    called_in(limits, book, user)
-        && above_margin(limits, user, level)
-        && user.assigned >= level
+    called_in(limits, book, user) && above_margin(limits, user, level) && user.assigned >= level
 }

@@ -7,7 +7,7 @@ use Rattle.book_format.proofs.Held.{accepted-of}
 use Rattle.book_format.specs.Questions.{bookNumber}
 use Rattle.book_parties.specs.Ids.{BookIn}
 use Rattle.units.specs.Limits.{asLimits}
-use Rattle.call_users.specs.Rows.{UsersIn, levelsTold}
+use Rattle.call_users.specs.Rows.{levelsTold}
 use Rattle.call_users.proofs.User.{levels-found, levels-refused}
 use Rattle.call_users.proofs.levels.Statement.{statement}
 use Rattle.call_users.proofs.levels.Tie as tie

@@ -1,5 +1,4 @@
 -- `state_number`: each state has its number. Assumes nothing.
-use mathlib.Core.Path.{refl}
 use borrow.Author.Needs.{needs}
 use Rattle.exports_users.specs.Numbers.{stateNumber}
 use Rattle.exports_users.proofs.state_number.Statement.{statement}

@@ -2,8 +2,8 @@
 
 use super::{
     daybook_raw_afternoon_level, daybook_raw_cancellation, daybook_raw_convert, daybook_raw_flag,
-    daybook_raw_form, daybook_raw_levels, daybook_raw_morning_level, daybook_raw_read, daybook_raw_restore,
-    daybook_raw_show, daybook_raw_show_picked, daybook_raw_shrinkage_days,
+    daybook_raw_form, daybook_raw_levels, daybook_raw_morning_level, daybook_raw_read,
+    daybook_raw_restore, daybook_raw_show, daybook_raw_show_picked, daybook_raw_shrinkage_days,
     daybook_raw_shrinkage_return, daybook_raw_trade, daybook_raw_trade_count, daybook_raw_warning,
     daybook_raw_write, lent,
 };
