@@ -52,6 +52,7 @@
  *   list              1 to 7, 26, 15, 16, 17, 19
  *   morning_level     1 to 7, 26, 16, 17, 8, 9
  *   afternoon_level   1 to 7, 26, 16, 17, 8, 9
+ *   levels            1 to 7, 26, 16, 17
  *   morning_call      1 to 7, 26, 16, 17, 19, 8, 9, 11, 12
  *   afternoon_call    1 to 7, 26, 16, 17, 19, 8, 9, 11, 12
  *   warning           1 to 7, 26, 16, 17, 8, 9
@@ -125,6 +126,15 @@ typedef struct daybook_trade_record {
 typedef struct daybook_level {
     uint64_t level;
 } daybook_level;
+enum daybook_state { DAYBOOK_CLEAR = 0, DAYBOOK_SHORT = 1, DAYBOOK_CALL = 2, DAYBOOK_QUIET = 3 };
+typedef struct daybook_user_levels {
+    uint64_t id;    /* 0 past the last user */
+    uint64_t state; /* of enum daybook_state */
+    uint64_t morning, afternoon;
+} daybook_user_levels;
+typedef struct daybook_all_levels {
+    daybook_user_levels users[DAYBOOK_MAX_USERS];
+} daybook_all_levels;
 typedef struct daybook_guarantee {
     uint64_t level, added;
 } daybook_guarantee;
@@ -268,6 +278,15 @@ static inline uint32_t daybook_morning_level(const daybook_setting *setting, day
 static inline uint32_t daybook_afternoon_level(const daybook_setting *setting, daybook_bytes book, uint32_t id, daybook_level *answer)
 {
     return daybook_raw_afternoon_level(DAYBOOK_RAW_BYTES(book), setting->party, DAYBOOK_RAW_STORE(setting), id, DAYBOOK_RAW_ANSWER(answer));
+}
+
+/* The levels and the state of every user, in the order of the book, after one asking of its questions: each as the calls for its id tell (proved:
+   crates/user_levels/specs/Claims.antt). A clearing house has the state DAYBOOK_CLEAR and levels of 0, where the calls for its id are refused with 9. A shipper is
+   DAYBOOK_SHORT of cover; or DAYBOOK_CALL, called in with an assigned guarantee that suffices, so that an afternoon call is accepted; or else DAYBOOK_QUIET. Past the last user
+   all is 0. The place of a user among all tells of others, so it is the operator's. */
+static inline uint32_t daybook_levels(const daybook_setting *setting, daybook_bytes book, daybook_all_levels *answer)
+{
+    return daybook_raw_levels(DAYBOOK_RAW_BYTES(book), setting->party, DAYBOOK_RAW_STORE(setting), DAYBOOK_RAW_ANSWER(answer));
 }
 
 /* Raises a shipper's blocked guarantee to the morning level: the level, what was added. */

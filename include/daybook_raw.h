@@ -12,7 +12,7 @@
 #include <stdint.h>
 
 /* The interface that the headers describe; daybook_raw_interface() tells the archive's, which must be the same. */
-#define DAYBOOK_INTERFACE 6
+#define DAYBOOK_INTERFACE 7
 
 /* The number for a lent part of another length than the function asks for. */
 #define DAYBOOK_WRONG_LENGTH 255
@@ -66,8 +66,9 @@
 /* The marks of a cancellation: a byte for each place of a trade. */
 #define DAYBOOK_MARKS DAYBOOK_MAX_TRADES
 
-/* How many numbers an answer has. A return of shrinkage has H, odd kWh and rest, then the shares and the remainders of 64 users; a share has 30 days. */
+/* How many numbers an answer has. The levels of all users have four for each of 64 users. A return of shrinkage has H, odd kWh and rest, then the shares and the remainders of 64 users; a share has 30 days. */
 #define DAYBOOK_LEVEL_NUMBERS 1
+#define DAYBOOK_ALL_LEVELS_NUMBERS (4 * DAYBOOK_MAX_USERS)
 #define DAYBOOK_CALL_NUMBERS 2
 #define DAYBOOK_WARNING_NUMBERS 1
 #define DAYBOOK_FLAG_NUMBERS 1
@@ -125,6 +126,10 @@ uint32_t daybook_raw_morning_level(const uint8_t *book, size_t book_len, uint64_
 uint32_t daybook_raw_afternoon_level(const uint8_t *book, size_t book_len, uint64_t party, uint32_t with_store,
                                      const uint8_t *store, size_t store_len, uint32_t id, uint64_t *answer,
                                      size_t answer_len);
+
+/* answer: DAYBOOK_ALL_LEVELS_NUMBERS, for each user its id, its state, its morning and its afternoon level */
+uint32_t daybook_raw_levels(const uint8_t *book, size_t book_len, uint64_t party, uint32_t with_store, const uint8_t *store,
+                            size_t store_len, uint64_t *answer, size_t answer_len);
 
 /* answer: DAYBOOK_CALL_NUMBERS */
 uint32_t daybook_raw_morning_call(uint8_t *book, size_t book_len, uint64_t party, uint32_t with_store, const uint8_t *store,

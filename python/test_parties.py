@@ -23,6 +23,8 @@ class Parties(unittest.TestCase):
                 self.assertEqual(shipper.record_picked(b"", book, True), OPERATOR.record(book, id))
                 self.assertEqual(shipper.morning_level(book), OPERATOR.morning_level(book, id))
                 self.assertEqual(shipper.afternoon_level(book), OPERATOR.afternoon_level(book, id))
+                row = next(row for row in OPERATOR.levels(book) if row.id == id)
+                self.assertEqual(row[2:], (shipper.morning_level(book), shipper.afternoon_level(book)))
                 self.assertEqual(shipper.flag(book), OPERATOR.flag(book, id))
                 managed = {(user.id, area) for user in fields.users for area in range(3) if user.managers[area] == id}
                 seen = [

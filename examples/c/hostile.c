@@ -40,7 +40,13 @@ static uint32_t reduction(uint8_t *book, size_t size, uint32_t with_store, const
     return daybook_raw_reduction(book, size, DAYBOOK_OPERATOR, with_store, store, store_size, DAYBOOK_NO_LOG, id, answer, count);
 }
 
-/* A run is of no user. */
+/* The levels of all users, and a run, are of no user. */
+static uint32_t levels(uint8_t *book, size_t size, uint32_t with_store, const uint8_t *store, size_t store_size, uint32_t id, uint64_t *answer, size_t count)
+{
+    (void)id;
+    return daybook_raw_levels(book, size, DAYBOOK_OPERATOR, with_store, store, store_size, answer, count);
+}
+
 static uint32_t run(uint8_t *book, size_t size, uint32_t with_store, const uint8_t *store, size_t store_size, uint32_t id, uint64_t *answer, size_t count)
 {
     (void)id;
@@ -55,6 +61,7 @@ static const struct {
 } answers[] = {
     {"morning_level", morning_level, DAYBOOK_LEVEL_NUMBERS, 0},
     {"afternoon_level", afternoon_level, DAYBOOK_LEVEL_NUMBERS, 0},
+    {"levels", levels, DAYBOOK_ALL_LEVELS_NUMBERS, 0},
     {"warning", warning, DAYBOOK_WARNING_NUMBERS, 0},
     {"morning_call", morning_call, DAYBOOK_CALL_NUMBERS, 1},
     {"afternoon_call", afternoon_call, DAYBOOK_CALL_NUMBERS, 1},

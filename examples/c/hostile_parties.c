@@ -37,6 +37,7 @@ CALL(convert, book, size, party, id % 5, answer, answer_size)
 CALL(show, book, size, party, GIVEN, id, answer, answer_size)
 CALL(morning_level, book, size, party, GIVEN, id, NUMBERS(answer, answer_size))
 CALL(afternoon_level, book, size, party, GIVEN, id, NUMBERS(answer, answer_size))
+CALL(levels, book, size, party, GIVEN, NUMBERS(answer, answer_size))
 CALL(warning, book, size, party, GIVEN, id, NUMBERS(answer, answer_size))
 CALL(flag, book, size, party, GIVEN, id, NUMBERS(answer, answer_size))
 CALL(trade_count, book, size, party, GIVEN, id, NUMBERS(answer, answer_size))
@@ -100,6 +101,7 @@ static const function functions[] = {
     {"afternoon_level", 8 * DAYBOOK_LEVEL_NUMBERS, 1, 0, afternoon_level},
     {"warning", 8 * DAYBOOK_WARNING_NUMBERS, 0, 0, warning},
     {"flag", 8 * DAYBOOK_FLAG_NUMBERS, 1, 0, flag},
+    {"levels", 8 * DAYBOOK_ALL_LEVELS_NUMBERS, 0, 0, levels},
     {"trade_count", 8 * DAYBOOK_COUNT_NUMBERS, 1, 0, trade_count},
     {"trade", 8 * DAYBOOK_TRADE_NUMBERS + DAYBOOK_TRADE_SIZE, 1, 0, trade},
     {"posting", 0, 0, 1, posting},

@@ -75,6 +75,8 @@ static void whole_book(void)
     memcpy(answer, &image, sizeof image);
     same("read", number, daybook_raw_read(BOOK(by_hand), (uint8_t *)bytes, DAYBOOK_IMAGE_SIZE), sizeof image);
     same("write", daybook_write(&image, written), daybook_raw_write(image.bytes, sizeof image.bytes, (uint8_t *)bytes, by_hand.length), by_hand.length);
+    same("levels", daybook_levels(&by_layer.setting, book, (daybook_all_levels *)answer), daybook_raw_levels(BOOK(by_hand), STORE(by_hand), NUMBERS(DAYBOOK_ALL_LEVELS_NUMBERS)),
+         8 * DAYBOOK_ALL_LEVELS_NUMBERS);
     same("convert", daybook_convert(&by_layer.setting, book, 3, out), daybook_raw_convert(BOOK(by_hand), 3, (uint8_t *)bytes, DAYBOOK_IMAGE_SIZE), DAYBOOK_IMAGE_SIZE);
     same("form", daybook_form(&by_layer.setting, book, out), daybook_raw_form(BOOK(by_hand), (uint8_t *)bytes, DAYBOOK_IMAGE_SIZE), DAYBOOK_IMAGE_SIZE);
     if (daybook_form(&by_layer.setting, book, out) == 0) {

@@ -24,6 +24,8 @@ return of shrinkage.
 [(-25000, 0, 0), (15000, 0, 0)]
 >>> operator.level_table(day.book)
 [(101, 50000000, 50000000), (102, 10000000, 10000000)]
+>>> operator.levels(day.book)[0]
+UserLevels(id=101, state='call', morning=50000000, afternoon=50000000)
 >>> operator.posting(book, 103, daybook.PVB, -500)
 Traceback (most recent call last):
     ...
@@ -103,7 +105,7 @@ is inside the module where a wheel was installed; in the repository `python/buil
 it from the engine's archive. DAYBOOK_LIBRARY names another one.
 """
 
-from .answers import Cancellation, GuaranteeCall, Posting, PostingList, Reduction, Run, Withdrawal
+from .answers import Cancellation, GuaranteeCall, Posting, PostingList, Reduction, Run, UserLevels, Withdrawal
 from .books import start_log, write
 from .fields import (
     AVB, BILATERAL, CLEARING_HOUSE, COUNTERPARTY, PLATFORM, PVB, SHIPPER, TVB, Book, Prices, Trade, User,
@@ -116,6 +118,6 @@ from .shrinkage import Return, Share, over_days, shrinkage_return
 __all__ = [
     "AVB", "BILATERAL", "Book", "CLEARING_HOUSE", "COUNTERPARTY", "Cancellation", "Column", "Columns", "FIELDS",
     "Form", "GuaranteeCall", "Operator", "PLATFORM", "PVB", "Posting", "PostingList", "Prices", "QUESTIONS",
-    "Reduction", "Refused", "Return", "Run", "SHIPPER", "Share", "Shipper", "TVB", "Trade", "User", "Withdrawal",
-    "over_days", "read_column", "restore", "shrinkage_return", "start_log", "write",
+    "Reduction", "Refused", "Return", "Run", "SHIPPER", "Share", "Shipper", "TVB", "Trade", "User", "UserLevels",
+    "Withdrawal", "over_days", "read_column", "restore", "shrinkage_return", "start_log", "write",
 ]

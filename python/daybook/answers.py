@@ -30,6 +30,16 @@ class Cancellation(NamedTuple):
     complete: bool
 
 
+class UserLevels(NamedTuple):
+    """A user's id, its state, which is clear, short, call or quiet as on the printed day, and its two
+    levels in cents, which are 0 of a clearing house."""
+
+    id: int
+    state: str
+    morning: int
+    afternoon: int
+
+
 class GuaranteeCall(NamedTuple):
     """An accepted guarantee call: the level, what was added to blocked, book and log after it."""
 

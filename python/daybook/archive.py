@@ -10,7 +10,7 @@ from typing import Optional
 from .fields import Bytes
 from .refusals import Refused
 
-INTERFACE = 6
+INTERFACE = 7
 
 OPERATOR = 1 << 32
 """The operator as an acting party, a number that no id has; a shipper is its id."""
@@ -28,6 +28,7 @@ posting(book: &mut [u8], party: u64, with_store: u32, store: &[u8], with_log: u3
 list(book: &mut [u8], party: u64, with_store: u32, store: &[u8], with_log: u32, log: &mut [u8], ids: &[u32], areas: &[u32], amounts: &[i64], places: &mut [u32])
 morning_level(book: &[u8], party: u64, with_store: u32, store: &[u8], id: u32, answer: &mut [u64])
 afternoon_level(book: &[u8], party: u64, with_store: u32, store: &[u8], id: u32, answer: &mut [u64])
+levels(book: &[u8], party: u64, with_store: u32, store: &[u8], answer: &mut [u64])
 morning_call(book: &mut [u8], party: u64, with_store: u32, store: &[u8], with_log: u32, log: &mut [u8], id: u32, answer: &mut [u64])
 afternoon_call(book: &mut [u8], party: u64, with_store: u32, store: &[u8], with_log: u32, log: &mut [u8], id: u32, answer: &mut [u64])
 warning(book: &[u8], party: u64, with_store: u32, store: &[u8], id: u32, answer: &mut [u64])

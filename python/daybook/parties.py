@@ -5,15 +5,16 @@ from __future__ import annotations
 import ctypes
 from typing import Callable, Optional, Sequence, Tuple
 
-from .answers import Cancellation, GuaranteeCall, Posting, PostingList, Reduction, Run, Withdrawal
+from .answers import Cancellation, GuaranteeCall, Posting, PostingList, Reduction, Run, UserLevels, Withdrawal
 from .archive import OPERATOR, Log, Part, answered, id_argument, in_range, library, store_arguments
 from .fields import (
-    BILATERAL, HEADER, HEADER_SIZES, IMAGE, MOST_TRADES, SHIPPER, TRADE, TRADES_AT, USER, USER_SIZES, Book, Bytes,
+    BILATERAL, HEADER, HEADER_SIZES, IMAGE, MOST_TRADES, MOST_USERS, TRADE, TRADES_AT, USER, USER_SIZES, Book, Bytes,
     Prices, Trade, User,
 )
 from .forms import Form
 
 _LOG_FULL = 20
+_STATES = ("clear", "short", "call", "quiet")
 
 
 class _Party:
@@ -209,10 +210,16 @@ class Operator(_Party):
         """The afternoon level of a shipper, in cents; in versions 2 and 3 less the credit for long positions."""
         return self._number(library.daybook_raw_afternoon_level, book, id)
 
+    def levels(self, book: Bytes) -> list[UserLevels]:
+        """Id, state, morning and afternoon level of every user, in the order of the book, after one asking
+        of its questions: each as the calls for its id tell."""
+        numbers, _ = self._called(library.daybook_raw_levels, book, (), 4 * MOST_USERS)
+        rows = (numbers[place : place + 4] for place in range(0, 4 * MOST_USERS, 4))
+        return [UserLevels(id, _STATES[state], *levels) for id, state, *levels in rows if id]
+
     def level_table(self, book: Bytes) -> list[tuple[int, int, int]]:
         """Id, morning and afternoon level of every shipper of the book."""
-        shippers = [user.id for user in self.read(book).users if user.role == SHIPPER]
-        return [(id, self.morning_level(book, id), self.afternoon_level(book, id)) for id in shippers]
+        return [(id, morning, afternoon) for id, state, morning, afternoon in self.levels(book) if state != "clear"]
 
     def morning_call(self, book: Bytes, id: int, log: Optional[Bytes] = None) -> GuaranteeCall:
         """Raises a shipper's blocked guarantee to the morning level."""

@@ -14,6 +14,8 @@ ghost use Rattle.rights.specs.Read.{ReadBy};
 ghost use Rattle.rights.specs.Trades.{TradeHanded, countOf, flagOf, toldBy};
 ghost use Rattle.call_told.specs.Told.{countTold, flagTold};
 ghost use Rattle.call_level.specs.Times.{queryOf};
+ghost use Rattle.call_users.specs.Rows.{levelsTold};
+ghost use Rattle.user_levels.specs.Levels.{allLevelsBy};
 ghost use Rattle.call_answers.specs.Level.{replyOf};
 ghost use Rattle.call_answers.specs.Warning as warned;
 ghost use Rattle.call_warning.specs.Warned.{warningOf};
@@ -27,6 +29,7 @@ use call_answers::WarningAnswer;
 use call_cancellation::CancellationAnswer;
 use call_told::CountAnswer;
 use call_told::FlagAnswer;
+use call_users::LevelsAnswer;
 
 mod changes;
 
@@ -161,6 +164,28 @@ pub fn afternoon_level(
     ensures { λ r. ⌜ replyOf r ≡ enquiryBy (partyOf party) (settingOf (given «with_store» (now (store .entry)))) (now (book .entry)) (afternoonLevelOf id) ⌝ }
 {
     level(book, party, with_store, store, id, true)
+}
+
+// The levels and the state of every user, after one asking of the questions: in the order of the book what the calls for each id tell. The
+// operator's alone, since the place of a user among all tells a shipper of others.
+pub fn levels(book: &[u8], party: u64, with_store: bool, store: &[u8]) -> LevelsAnswer
+    ensures { λ r. ⌜ levelsTold r ≡ allLevelsBy (partyOf party) (settingOf (given «with_store» (now (store .entry)))) (now (book .entry)) ⌝ }
+{
+    let mut sellers = [0u8; 256];
+    let mut buyers = [0u8; 256];
+    let mut sums = [0u32; 768];
+    let admission = call_admission::admit_with_sums(
+        book,
+        party,
+        call_rights::OPERATOR,
+        with_store,
+        store,
+        &mut sellers,
+        &mut buyers,
+        &mut sums,
+    );
+    let limits = admission.limits;
+    call_users::levels(book, admission.number, limits, &sellers, &buyers, &sums)
 }
 
 // Whether a user is flagged.

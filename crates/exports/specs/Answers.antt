@@ -18,6 +18,7 @@ use Rattle.requests.specs.Request.{Request, Setting}
 use Rattle.rights.specs.Acting.{cancellationBy, enquiryBy, enteringNumber, requestBy}
 use Rattle.rights.specs.Party.{Party, operators}
 use Rattle.rights.specs.Trades.{Asking, Told, toldBy, tradeOf}
+use Rattle.user_levels.specs.Levels.{allLevelsBy}
 use Rattle.call_read.specs.Image.{imageBy}
 use Rattle.book_value.specs.Written.{aboutWriting}
 use Rattle.book_image.specs.Image.{imageSize, padded}
@@ -26,6 +27,7 @@ use Rattle.shrinkage.specs.Return.{returned}
 use Rattle.shrinkage.specs.Days.{overDays}
 use Rattle.exports_answers.specs.Numbers.{tradeNumbers}
 use Rattle.exports_shrinkage.specs.Numbers.{returnNumbers}
+use Rattle.exports_users.specs.Numbers.{usersNumbers}
 use Rattle.exports_cancellation.specs.Numbers.{cancellationNumbers, markNumbers}
 use Rattle.exports.specs.Lent.{byLength, Given, Stored, StoredBoth}
 
@@ -64,6 +66,12 @@ pub record Answered (n : ℕ) (numbers : Answer → List ℕ) (actor : Party) (r
   pub answer : Stored n lent (requestBy actor r s .answer .number) (numbers (requestBy actor r s .answer)) result after
   pub book : t ≡ byLength n lent (requestBy actor r s .bytes) s
   pub log : m ≡ byLength n lent (lentLog (requestBy actor r s .log) l) l
+
+-- the levels of all users, with 256 numbers
+abbrev pub LevelsInto : Party → Setting → List ℕ → List ℕ → ℕ → List ℕ → Type 0
+LevelsInto actor g s lent result after =
+    let r = allLevelsBy actor g s in
+    Stored 256 lent (r .number) (usersNumbers r) result after
 
 -- a whole cancellation, with a part for 256 marks and one for 3 numbers
 abbrev pub CancelledInto : Party → Setting → List ℕ → ℕ → ℕ → List ℕ → List ℕ → ℕ → List ℕ → List ℕ → Type 0

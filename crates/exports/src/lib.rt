@@ -16,7 +16,7 @@ ghost use Rattle.conversions.specs.Acting.{conversionBy};
 ghost use Rattle.rights.specs.Outputs.{storedBy};
 ghost use Rattle.exports_answers.specs.Numbers.{levelNumbers, warningNumbers};
 ghost use Rattle.exports.specs.Answers.{isYes, storeBy, Replied, Copied};
-ghost use Rattle.exports.specs.Answers.{ReadInto, WrittenFrom, ReturnedInto, SpreadInto, CancelledInto};
+ghost use Rattle.exports.specs.Answers.{ReadInto, WrittenFrom, ReturnedInto, SpreadInto, CancelledInto, LevelsInto};
 use shrinkage::Kwh;
 
 mod changes;
@@ -26,7 +26,7 @@ mod told;
 const WRONG_LENGTH: u32 = 255;
 
 // The number of this interface, raised with each change of a signature, of the image or of a shown record.
-const INTERFACE: u32 = 6;
+const INTERFACE: u32 = 7;
 
 // The bytes of an image, and of the part for a shown record.
 const IMAGE_SIZE: usize = 9512;
@@ -38,6 +38,8 @@ const MARKS: usize = 256;
 
 // How many numbers an answer has.
 const LEVEL_NUMBERS: usize = 1;
+
+const ALL_LEVELS_NUMBERS: usize = 256;
 
 const WARNING_NUMBERS: usize = 1;
 
@@ -52,7 +54,7 @@ const SHRINKAGE_DAYS: usize = 30;
 // The number of the interface, as the header has it in DAYBOOK_INTERFACE.
 #[no_mangle]
 pub extern "C" fn daybook_raw_interface() -> u32
-    ensures { λ r. ⌜ r ≡ 6 ⌝ }
+    ensures { λ r. ⌜ r ≡ 7 ⌝ }
 {
     INTERFACE
 }
@@ -179,6 +181,25 @@ pub extern "C" fn daybook_raw_afternoon_level(
     ensures { λ r. ⌜ Replied 1 levelNumbers (partyOf party) (settingOf (storeBy «with_store» (now (store .entry)))) (now (book .entry)) (afternoonLevelOf id) (now (answer .entry)) r (now (answer .exit)) ⌝ }
 {
     level(book, party, with_store, store, id, true, answer)
+}
+
+// The levels and the state of every user, the operator's alone: 256 numbers, for each of 64 users in the order of the book its id, its
+// state (0 clear, 1 short, 2 call, 3 quiet), its morning and its afternoon level; past the last user 0.
+#[no_mangle]
+pub extern "C" fn daybook_raw_levels(
+    book: &[u8],
+    party: u64,
+    with_store: u32,
+    store: &[u8],
+    answer: &mut [u64],
+) -> u32
+    ensures { λ r. ⌜ LevelsInto (partyOf party) (settingOf (storeBy «with_store» (now (store .entry)))) (now (book .entry)) (now (answer .entry)) r (now (answer .exit)) ⌝ }
+{
+    if answer.len() != ALL_LEVELS_NUMBERS {
+        return WRONG_LENGTH;
+    }
+    let levels = daybook::levels(book, party, with_store != 0, store);
+    exports_users::store_levels(answer, levels)
 }
 
 // Whether a user is warned at midday: 1 number, 1 for yes and 0 for no.

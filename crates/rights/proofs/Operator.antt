@@ -70,7 +70,7 @@ operator-claim =
 -- ---- a shipper
 
 -- 26 is the number where the book passes its own
-shipper-number : (party : ℕ) (s : List ℕ) → bookNumber s ≡ 0 → enteringNumber (shipperOf party) operators s ≡ 26
+pub shipper-number : (party : ℕ) (s : List ℕ) → bookNumber s ≡ 0 → enteringNumber (shipperOf party) operators s ≡ 26
 unfolding enteringNumber rightNumber mayDo
 shipper-number party s e = after-passed (λ n. n) 26 e
 
@@ -96,7 +96,7 @@ forbidden-claim party s e =
 -- ---- what returns 0
 
 -- no shipper passes the questions up to 26, so it has no number 0 from what refuses by their number
-shipper-stopped : {R : Type 0} (party : ℕ) (s : List ℕ) (by : ℕ → R) (number : R → ℕ) → ((n : ℕ) → number (by (suc n)) ≡ suc n)
+pub shipper-stopped : {R : Type 0} (party : ℕ) (s : List ℕ) (by : ℕ → R) (number : R → ℕ) → ((n : ℕ) → number (by (suc n)) ≡ suc n)
     → number (by (enteringNumber (shipperOf party) operators s)) ≡ 0 → ⊥
 unfolding enteringNumber rightNumber mayDo after
 shipper-stopped party s by number h e = go (bookNumber s) e

@@ -1,23 +1,27 @@
-//! The times of the queries of ask 9 beside that of a level, by the operator and by the
-//! shipper itself; by the engine alone.
+//! The times of the queries of ask 9, and of the levels of all users, beside that of a
+//! level, by the operator and by the shipper itself; by the engine alone.
 
 use std::hint::black_box;
 
 use daybook::archive::{self, OPERATOR};
-use daybook::TRADE_LENGTH;
+use daybook::{MOST_USERS, TRADE_LENGTH};
 
 use crate::calls::expect;
 use crate::measure::{sample_time, Time};
 use crate::options::Options;
 use crate::subjects::Subject;
 
-/// A query on a book by a party for a user, with an ordinal.
+/// A query on a book by a party for a user, with an ordinal; that of all users is the
+/// operator's, and asked by the operator in either line.
 type Query = fn(&[u8], u64, u32, u32) -> u32;
 
 /// The queries of the table, the level first.
-const QUERIES: [(&str, Query); 5] = [
+const QUERIES: [(&str, Query); 6] = [
     ("afternoon level", |book, party, id, _| {
         archive::afternoon_level(book, party, None, id, &mut [0])
+    }),
+    ("levels of all users", |book, _, _, _| {
+        archive::levels(book, OPERATOR, None, &mut [0; 4 * MOST_USERS])
     }),
     ("flag", |book, party, id, _| {
         archive::flag(book, party, None, id, &mut [0])

@@ -1,14 +1,14 @@
 //! Calls as values, and their answers by the reference.
 
+use reference::book::MOST_USERS;
 use reference::list::Columns;
 use reference::party::Given;
 use reference::transfer::Image;
 
-/// What each place beside a list holds before the call.
-pub const PLACE_BEFORE: u32 = 99;
+pub use crate::outcome::{Answer, OUTPUT_BEFORE, PLACE_BEFORE};
 
-/// What each byte of an output holds before the call.
-pub const OUTPUT_BEFORE: u8 = 0xAA;
+/// The states of users by their numbers.
+const STATES: [&str; 4] = ["clear", "short", "call", "quiet"];
 
 /// One call, with its arguments. Book, store and log are lent apart.
 #[derive(Clone, Debug, PartialEq, Eq)]
@@ -40,6 +40,7 @@ pub enum Call {
     AfternoonLevel {
         id: u32,
     },
+    Levels,
     MorningCall {
         id: u32,
     },
@@ -95,13 +96,14 @@ pub enum Call {
 }
 
 impl Call {
-    pub const NAMES: [&'static str; 23] = [
+    pub const NAMES: [&'static str; 24] = [
         "posting",
         "list",
         "show",
         "show picked",
         "morning level",
         "afternoon level",
+        "levels",
         "morning call",
         "afternoon call",
         "warning",
@@ -192,81 +194,26 @@ impl Call {
             Call::ShowPicked { .. } => 3,
             Call::MorningLevel { .. } => 4,
             Call::AfternoonLevel { .. } => 5,
-            Call::MorningCall { .. } => 6,
-            Call::AfternoonCall { .. } => 7,
-            Call::Warning { .. } => 8,
-            Call::Flag { .. } => 9,
-            Call::TradeCount { .. } => 10,
-            Call::Trade { .. } => 11,
-            Call::Reduction { .. } => 12,
-            Call::Cancellation { .. } => 13,
-            Call::Run => 14,
-            Call::Withdrawal => 15,
-            Call::Start => 16,
-            Call::Read => 17,
-            Call::Write { .. } => 18,
-            Call::Convert { .. } => 19,
-            Call::Form { .. } => 20,
-            Call::Restore { .. } => 21,
-            Call::Day => 22,
+            Call::Levels => 6,
+            Call::MorningCall { .. } => 7,
+            Call::AfternoonCall { .. } => 8,
+            Call::Warning { .. } => 9,
+            Call::Flag { .. } => 10,
+            Call::TradeCount { .. } => 11,
+            Call::Trade { .. } => 12,
+            Call::Reduction { .. } => 13,
+            Call::Cancellation { .. } => 14,
+            Call::Run => 15,
+            Call::Withdrawal => 16,
+            Call::Start => 17,
+            Call::Read => 18,
+            Call::Write { .. } => 19,
+            Call::Convert { .. } => 20,
+            Call::Form { .. } => 21,
+            Call::Restore { .. } => 22,
+            Call::Day => 23,
         };
         Call::NAMES[place]
-    }
-}
-
-/// The number, the other fields in the order of document 01, and the bytes
-/// handed back. The number of a printed day is that of its refusal.
-#[derive(Clone, Debug, Default, PartialEq, Eq)]
-pub struct Answer {
-    pub number: u32,
-    /// The places of a list; level; level, added; warned; flagged; the count of
-    /// trades; MWh, worth, T, short, over; excess, tries, complete; reductions, MWh, worth; MWh, worth; else
-    /// empty.
-    pub fields: Vec<i128>,
-    /// The shown record or trade, the 256 marks of a cancellation, the image read, the part or
-    /// output written into, or the printed day; else empty.
-    pub part: Vec<u8>,
-}
-
-impl Answer {
-    pub fn of_fields(number: u32, fields: &[i128]) -> Answer {
-        Answer {
-            number,
-            fields: fields.to_vec(),
-            part: Vec::new(),
-        }
-    }
-
-    /// The number of a list, and this many places as the call leaves them.
-    pub fn of_places(places: usize, list: impl FnOnce(&mut [u32]) -> u32) -> Answer {
-        let mut places = vec![PLACE_BEFORE; places];
-        let number = list(&mut places);
-        let fields = places.into_iter().map(i128::from);
-        Answer {
-            number,
-            fields: fields.collect(),
-            part: Vec::new(),
-        }
-    }
-
-    /// The number of a call that writes into an output of this length, and the output
-    /// as the call leaves it.
-    pub fn of_output(length: usize, call: impl FnOnce(&mut [u8]) -> u32) -> Answer {
-        let mut output = vec![OUTPUT_BEFORE; length];
-        let number = call(&mut output);
-        Answer {
-            number,
-            fields: Vec::new(),
-            part: output,
-        }
-    }
-
-    pub fn of_part(number: u32, part: &[u8]) -> Answer {
-        Answer {
-            number,
-            fields: Vec::new(),
-            part: part.to_vec(),
-        }
     }
 }
 
@@ -313,6 +260,7 @@ pub fn answer(book: &mut [u8], given: Given<'_>, log: Option<&mut [u8]>, call: &
         }
         Call::MorningLevel { id } => level(reference::morning_level(book, given, *id)),
         Call::AfternoonLevel { id } => level(reference::afternoon_level(book, given, *id)),
+        Call::Levels => levels(&reference::levels(book, given)),
         Call::MorningCall { id } => guarantee_call(reference::morning_call(book, given, log, *id)),
         Call::AfternoonCall { id } => {
             guarantee_call(reference::afternoon_call(book, given, log, *id))
@@ -382,6 +330,23 @@ pub fn answer(book: &mut [u8], given: Given<'_>, log: Option<&mut [u8]>, call: &
 
 fn level(answer: reference::LevelAnswer) -> Answer {
     Answer::of_fields(answer.number, &[answer.level])
+}
+
+/// Of each of 64 users id, state, morning and afternoon level; 0 past the last user.
+fn levels(answer: &reference::AllLevels) -> Answer {
+    let mut fields: Vec<i128> = Vec::new();
+    for user in &answer.users {
+        let state = STATES.iter().position(|word| *word == user.state);
+        let state = state.and_then(|place| i128::try_from(place).ok());
+        fields.extend([
+            user.id.into(),
+            state.unwrap_or(-1),
+            user.morning,
+            user.afternoon,
+        ]);
+    }
+    fields.resize(4 * MOST_USERS, 0);
+    Answer::of_fields(answer.number, &fields)
 }
 
 fn guarantee_call(answer: reference::CallAnswer) -> Answer {

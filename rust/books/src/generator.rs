@@ -321,6 +321,7 @@ impl Generator {
             2 => Call::MorningLevel { id },
             3 => Call::AfternoonLevel { id },
             4 => Call::Warning { id },
+            5 if pick => Call::Levels,
             5 => Call::Read,
             6 => self.write(),
             7 if is_short_run(book, None) => Call::Day,

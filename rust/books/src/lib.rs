@@ -18,6 +18,7 @@ pub mod groups;
 pub mod hard;
 pub mod lists;
 pub mod logs;
+pub mod outcome;
 pub mod parties;
 pub mod random;
 pub mod sha256;

@@ -113,7 +113,8 @@ pub fn answer(book: &mut [u8], store: Option<&[u8]>, call: &Call) -> Option<Answ
         Call::Restore { length } => {
             Answer::of_output(*length, |output| number(tuned::restore(book, output)))
         }
-        Call::Flag { .. }
+        Call::Levels
+        | Call::Flag { .. }
         | Call::TradeCount { .. }
         | Call::Trade { .. }
         | Call::Withdrawal
@@ -148,6 +149,7 @@ pub fn plain_answer(book: &mut [u8], call: &Call) -> Option<Answer> {
         Call::Reduction { id } => reduction(tuned::reduction(book, *id)),
         Call::Run => run(tuned::run(book)),
         Call::List { .. }
+        | Call::Levels
         | Call::Flag { .. }
         | Call::TradeCount { .. }
         | Call::Trade { .. }

@@ -50,7 +50,7 @@ fn numbers(name: &str) -> Vec<u32> {
         "morning call" | "afternoon call" => [(0..=9).collect(), vec![11, 12]].concat(),
         "reduction" => [(0..=9).collect(), vec![11, 13, 14]].concat(),
         "cancellation" => [(0..=9).collect(), vec![11, 13, 14, 24, 25]].concat(),
-        "run" | "read" | "day" => (0..=7).collect(),
+        "levels" | "run" | "read" | "day" => (0..=7).collect(),
         "write" => [vec![0], (2..=7).collect()].concat(),
         "form" => [(0..=7).collect(), vec![30]].concat(),
         // Drawn with logs, tests/logs.rs, and beside a book, tests/forms.rs and

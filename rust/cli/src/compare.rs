@@ -91,7 +91,7 @@ fn side(source: &Source, store: &Store, is_run: bool) -> Result<Side, Failure> {
     let run = operator.run(&mut after).map_err(refused)?;
     let bytes = if is_run { &after } else { &source.bytes };
     let book = Operator::new().read(bytes).map_err(refused)?;
-    let standings = standings(&operator, bytes, &book);
+    let standings = standings(&operator, bytes, &book).map_err(refused)?;
     let totals = Totals::new(&operator, &book, &standings, run);
     Ok(Side {
         book,

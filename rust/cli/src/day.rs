@@ -4,7 +4,7 @@
 
 use daybook::{Book, GuaranteeCall, Operator, Refusal, Run, User};
 
-use crate::state::{state, State};
+use crate::state::{states, State};
 
 /// A user in its day.
 #[derive(Clone, Copy, Debug, PartialEq, Eq)]
@@ -22,9 +22,8 @@ pub struct Standing {
 }
 
 /// The users of an accepted book in their day.
-pub fn standings(operator: &Operator, bytes: &[u8], book: &Book) -> Vec<Standing> {
-    let standing = |user: &User| {
-        let state = state(operator, bytes, user);
+pub fn standings(operator: &Operator, bytes: &[u8], book: &Book) -> Result<Vec<Standing>, Refusal> {
+    let standing = |(user, state): (&User, State)| {
         let level = state.level.unwrap_or(0);
         let is_short = state.word == "short";
         let (mut copy, mut operator) = (bytes.to_vec(), operator.without_log());
@@ -42,7 +41,8 @@ pub fn standings(operator: &Operator, bytes: &[u8], book: &Book) -> Vec<Standing
             target: reduced.flatten().map(|it| it.target),
         }
     };
-    book.users.iter().map(standing).collect()
+    let states = states(operator, bytes)?;
+    Ok(book.users.iter().zip(states).map(standing).collect())
 }
 
 /// Deposits that keep every trade from being cut.
@@ -140,6 +140,6 @@ impl Totals {
 /// The totals of an accepted book.
 pub fn totals(operator: &Operator, bytes: &[u8], book: &Book) -> Result<Totals, Refusal> {
     let run = operator.without_log().run(&mut bytes.to_vec())?;
-    let standings = standings(operator, bytes, book);
+    let standings = standings(operator, bytes, book)?;
     Ok(Totals::new(operator, book, &standings, run))
 }

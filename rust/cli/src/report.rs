@@ -78,11 +78,11 @@ pub fn report(arguments: &Arguments) -> Result<Outcome, Failure> {
     let trace = trace(operator.without_log(), &figures, &source.bytes, extent).map_err(failed)?;
     let mut after = source.bytes.clone();
     operator.run(&mut after).map_err(failed)?;
-    let before = standings(&operator, &source.bytes, &trace.opening);
+    let before = standings(&operator, &source.bytes, &trace.opening).map_err(failed)?;
     let day = Day {
         deposits: deposits(&operator, &trace.opening, &before),
         before,
-        after: standings(&operator, &after, &trace.closing),
+        after: standings(&operator, &after, &trace.closing).map_err(failed)?,
         source: &source,
         trace: &trace,
         figures,

@@ -9,7 +9,7 @@ use crate::form::{or_null, Form};
 use crate::json::{list, Object};
 use crate::outcome::{Failure, Outcome, Status};
 use crate::reasons::{book_word, full, Asked};
-use crate::state::{state, State};
+use crate::state::{states, State};
 use crate::text;
 use crate::words::{euros, grouped, AREAS};
 
@@ -63,9 +63,7 @@ fn tell_states(outcome: &mut Outcome, call: &Call, book: &[u8]) {
     let users = Operator::new()
         .read(book)
         .map_or_else(|_| Vec::new(), |book| book.users);
-    let states = users
-        .iter()
-        .map(|user| state(&call.store.operator(), book, user));
+    let states = states(&call.store.operator(), book).unwrap_or_default();
     let states: Vec<(User, State)> = users.iter().copied().zip(states).collect();
     match call.form {
         Form::Words => {

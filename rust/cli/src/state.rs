@@ -1,7 +1,6 @@
-//! The state of a user, as the printed day has it, told by the engine's calls on
-//! a copy of the book.
+//! The state of each user, as the printed day has it, told by the engine.
 
-use daybook::{Level, Operator, Refusal, User};
+use daybook::{Level, Operator, Refusal, State as Told};
 
 /// A user's state and afternoon level; a clearing house has no level.
 #[derive(Clone, Copy, Debug, PartialEq, Eq)]
@@ -11,21 +10,15 @@ pub struct State {
     pub level: Option<u64>,
 }
 
-/// The state of a user of an accepted book. A reduction asks for a shipper that
-/// is short of cover, then for a sale; an afternoon call for one that is called
-/// in and covered.
-pub fn state(operator: &Operator, book: &[u8], user: &User) -> State {
-    let level = operator.afternoon_level(book, user.id);
-    let level = level.ok().map(|Level(cents)| cents);
-    let mut copy = book.to_vec();
-    let mut operator = operator.without_log();
-    let word = match operator.reduction(&mut copy, user.id) {
-        Err(Refusal::Shipper) => "clear",
-        Ok(_) | Err(Refusal::EligibleTrade) => "short",
-        Err(_) => match operator.afternoon_call(&mut copy, user.id) {
-            Ok(_) => "call",
-            Err(_) => "quiet",
-        },
+/// The states of the users of a book, in its order, after one asking of its questions.
+pub fn states(operator: &Operator, book: &[u8]) -> Result<Vec<State>, Refusal> {
+    let users = operator.levels(book)?;
+    let state = |user: &daybook::UserLevels| {
+        let Level(level) = user.afternoon;
+        State {
+            word: user.state.word(),
+            level: (user.state != Told::Clear).then_some(level),
+        }
     };
-    State { word, level }
+    Ok(users.iter().map(state).collect())
 }

@@ -63,7 +63,7 @@ pub fn status(arguments: &Arguments) -> Result<Outcome, Failure> {
         }
         return Ok(outcome);
     }
-    let standings = standings(&operator, bytes, &book);
+    let standings = standings(&operator, bytes, &book).map_err(refused)?;
     let day = Day {
         source: &source,
         book: &book,

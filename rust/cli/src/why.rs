@@ -76,8 +76,11 @@ pub fn why(
         sum,
     };
     let found = why.state(figures);
-    let engine = crate::state::state(operator, bytes, &user).word;
-    Ok((found == engine).then_some(why))
+    let users = operator.levels(bytes)?;
+    let engine = users.iter().find(|it| it.id == id);
+    Ok(engine
+        .is_some_and(|it| it.state.word() == found)
+        .then_some(why))
 }
 
 impl Why {

@@ -56,7 +56,7 @@ fn deposits_stop_every_cut_and_nothing_less_does() {
     for bytes in books(71, 150) {
         let book = Operator::new().read(&bytes).expect("a book");
         let mut operator = Operator::new();
-        let day = standings(&operator, &bytes, &book);
+        let day = standings(&operator, &bytes, &book).expect("standings");
         let found = deposits(&operator, &book, &day);
         let run = operator.run(&mut bytes.clone()).expect("a run");
         assert_eq!(found.by_user.is_empty(), run.reductions == 0);

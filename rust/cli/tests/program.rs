@@ -364,8 +364,9 @@ fn states_are_those_of_the_printed_day() {
             let printed = reference::day(&book);
             daybook::Operator::new().run(&mut book).expect("a run");
             let users = daybook::Operator::new().read(&book).expect("a book").users;
-            for (line, user) in printed.lines().skip(1).zip(&users) {
-                let state = cli::state::state(&daybook::Operator::new(), &book, user);
+            let states = cli::state::states(&daybook::Operator::new(), &book).expect("states");
+            assert_eq!(states.len(), users.len());
+            for ((line, user), state) in printed.lines().skip(1).zip(&users).zip(states) {
                 let [a, b, c] = user.position;
                 let level = state.level.unwrap_or(0);
                 let told = format!("{} {} {level} {a} {b} {c}", user.id, state.word);

@@ -293,6 +293,7 @@ impl Comparison {
             Call::Show { id },
             Call::MorningLevel { id },
             Call::AfternoonLevel { id },
+            Call::Levels,
             Call::MorningCall { id },
             Call::AfternoonCall { id },
             Call::Warning { id },

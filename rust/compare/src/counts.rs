@@ -141,6 +141,7 @@ pub fn possible(version: Version, name: &str) -> Vec<usize> {
         "show" | "show picked" => (8, &[16, 17, 26]),
         "morning level" | "afternoon level" | "warning" => (9, &[16, 17, 26]),
         "flag" | "trade count" | "trade" => (9, &[16, 17, 26]),
+        "levels" => (7, &[16, 17, 26]),
         "morning call" | "afternoon call" => (9, &[11, 12, 16, 17, 19, 26]),
         "reduction" => (9, &[11, 13, 14, 16, 17, 19, 20, 26]),
         "cancellation" => (9, &[11, 13, 14, 16, 17, 24, 25, 26]),

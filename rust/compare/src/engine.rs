@@ -50,6 +50,7 @@ pub fn answer(book: &mut [u8], given: Given<'_>, log: Option<&mut [u8]>, call: &
         Call::AfternoonLevel { id } => {
             fields::<1>(|part| archive::afternoon_level(book, party, store, *id, part))
         }
+        Call::Levels => fields::<256>(|part| archive::levels(book, party, store, part)),
         Call::MorningCall { id } => {
             fields::<2>(|part| archive::morning_call(book, party, store, log, *id, part))
         }

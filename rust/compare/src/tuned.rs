@@ -18,6 +18,7 @@ pub fn has(book: &[u8], party: Party, call: &Call) -> bool {
         Call::Withdrawal
             | Call::Start
             | Call::Convert { .. }
+            | Call::Levels
             | Call::Flag { .. }
             | Call::TradeCount { .. }
             | Call::Trade { .. }

@@ -3,7 +3,7 @@
 use books::{Answer, Call};
 use daybook::{
     Book, Cancellation, GuaranteeCall, Image, Level, Line, Log, Operator, Refusal, Run, Shipper,
-    Trade, User, Version, IMAGE_LENGTH, LOG_LENGTH, MOST_TRADES,
+    Trade, User, UserLevels, Version, IMAGE_LENGTH, LOG_LENGTH, MOST_TRADES, MOST_USERS,
 };
 use reference::party::{Given, Party};
 
@@ -109,6 +109,7 @@ fn by_operator(mut operator: Operator<'_>, book: &mut [u8], call: &Call) -> Answ
         }
         Call::MorningLevel { id } => level(operator.morning_level(book, *id)),
         Call::AfternoonLevel { id } => level(operator.afternoon_level(book, *id)),
+        Call::Levels => levels(operator.levels(book)),
         Call::MorningCall { id } => guarantee_call(operator.morning_call(book, *id)),
         Call::AfternoonCall { id } => guarantee_call(operator.afternoon_call(book, *id)),
         Call::Warning { id } => fields(operator.warning(book, *id).map(|warned| [warned.into()])),
@@ -238,6 +239,17 @@ fn list(mut operator: Operator<'_>, book: &mut [u8], lines: &[Line]) -> Answer {
 
 fn level(answer: Result<Level, Refusal>) -> Answer {
     fields(answer.map(|level| [level.0.into()]))
+}
+
+/// Four fields of each of 64 users, 0 past the last.
+fn levels(answer: Result<Vec<UserLevels>, Refusal>) -> Answer {
+    let row = |user: &UserLevels| {
+        let state = user.state as u64;
+        [user.id.into(), state, user.morning.0, user.afternoon.0].map(i128::from)
+    };
+    let mut rows: Vec<i128> = answer.iter().flatten().flat_map(row).collect();
+    rows.resize(4 * MOST_USERS, 0);
+    Answer::of_fields(number(&answer), &rows)
 }
 
 fn guarantee_call(answer: Result<GuaranteeCall, Refusal>) -> Answer {

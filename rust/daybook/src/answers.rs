@@ -6,6 +6,55 @@ use crate::refusal::Refusal;
 #[derive(Clone, Copy, Debug, Default, PartialEq, Eq, PartialOrd, Ord)]
 pub struct Level(pub u64);
 
+/// What a user is, as the printed day says it.
+#[derive(Clone, Copy, Debug, Default, PartialEq, Eq, Hash)]
+pub enum State {
+    /// A clearing house: it has no level.
+    #[default]
+    Clear,
+    /// Short of cover.
+    Short,
+    /// Called in, with an assigned guarantee that suffices: an afternoon call is
+    /// accepted.
+    Call,
+    /// None of these.
+    Quiet,
+}
+
+impl State {
+    /// The word of the printed day.
+    pub fn word(self) -> &'static str {
+        match self {
+            State::Clear => "clear",
+            State::Short => "short",
+            State::Call => "call",
+            State::Quiet => "quiet",
+        }
+    }
+
+    /// The state of a number of the archive.
+    pub(crate) fn of(number: u64) -> State {
+        match number {
+            0 => State::Clear,
+            1 => State::Short,
+            2 => State::Call,
+            3 => State::Quiet,
+            _ => panic!("the archive answered {number}, which is the number of no state"),
+        }
+    }
+}
+
+/// The levels and the state of a user.
+#[derive(Clone, Copy, Debug, Default, PartialEq, Eq)]
+pub struct UserLevels {
+    pub id: u32,
+    pub state: State,
+    /// The morning level; 0 of a clearing house, which has none.
+    pub morning: Level,
+    /// The afternoon level; 0 of a clearing house, which has none.
+    pub afternoon: Level,
+}
+
 /// An accepted guarantee call.
 #[derive(Clone, Copy, Debug, Default, PartialEq, Eq)]
 pub struct GuaranteeCall {

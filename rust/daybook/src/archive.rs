@@ -20,7 +20,7 @@ pub use changes::{
     afternoon_call, list, morning_call, posting, reduction, run, start_log, withdrawal,
 };
 pub use queries::{
-    afternoon_level, cancellation, convert, flag, form, morning_level, read, restore, show,
+    afternoon_level, cancellation, convert, flag, form, levels, morning_level, read, restore, show,
     show_picked, shrinkage_days, shrinkage_return, trade, trade_count, warning, write,
 };
 
@@ -133,6 +133,16 @@ unsafe extern "C" {
         store: *const u8,
         store_len: usize,
         id: u32,
+        answer: *mut u64,
+        answer_len: usize,
+    ) -> u32;
+    fn daybook_raw_levels(
+        book: *const u8,
+        book_len: usize,
+        party: u64,
+        with_store: u32,
+        store: *const u8,
+        store_len: usize,
         answer: *mut u64,
         answer_len: usize,
     ) -> u32;
@@ -276,7 +286,7 @@ unsafe extern "C" {
 }
 
 /// The interface that this module is written for: the archive's must be the same.
-pub const INTERFACE: u32 = 6;
+pub const INTERFACE: u32 = 7;
 
 /// The archive's interface.
 pub fn interface() -> u32 {

@@ -59,7 +59,7 @@ mod shipper;
 pub mod shrinkage;
 mod version;
 
-pub use answers::{GuaranteeCall, Level, Reduction, Run};
+pub use answers::{GuaranteeCall, Level, Reduction, Run, State, UserLevels};
 pub use book::{
     header_length, user_length, write, Book, Image, Prices, Trade, User, IMAGE_LENGTH, MOST_TRADES,
     MOST_USERS, RECORD_LENGTH, TRADE_LENGTH,

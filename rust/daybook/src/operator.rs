@@ -1,8 +1,8 @@
 //! The calls of the operator, with what they are given beside the book.
 
-use crate::answers::{answered, GuaranteeCall, Level, Reduction, Run};
+use crate::answers::{answered, GuaranteeCall, Level, Reduction, Run, State, UserLevels};
 use crate::archive::{self, OPERATOR};
-use crate::book::{Book, Trade, User, IMAGE_LENGTH, MOST_TRADES};
+use crate::book::{Book, Trade, User, IMAGE_LENGTH, MOST_TRADES, MOST_USERS};
 use crate::cancellation::Cancellation;
 use crate::list::Line;
 use crate::log::{Log, Withdrawal};
@@ -173,6 +173,15 @@ impl<'a> Operator<'a> {
         self.queries().afternoon_level(book, id)
     }
 
+    /// The levels and the state of every user, in the order of the book, after one
+    /// asking of its questions: each as the calls for its id tell.
+    pub fn levels(&self, book: &[u8]) -> Result<Vec<UserLevels>, Refusal> {
+        let mut answer = [0; 4 * MOST_USERS];
+        answered(archive::levels(book, OPERATOR, self.store, &mut answer))?;
+        let users = answer.chunks_exact(4).take_while(|row| row[0] != 0);
+        Ok(users.map(user_levels).collect())
+    }
+
     /// Raises a shipper's blocked guarantee to the morning level.
     pub fn morning_call(&mut self, book: &mut [u8], id: u32) -> Result<GuaranteeCall, Refusal> {
         let mut answer = [0; 2];
@@ -331,5 +340,15 @@ fn guarantee_call([level, added]: [u64; 2]) -> GuaranteeCall {
     GuaranteeCall {
         level: Level(level),
         added,
+    }
+}
+
+/// The row of a user, which is of four numbers.
+fn user_levels(row: &[u64]) -> UserLevels {
+    UserLevels {
+        id: u32::try_from(row[0]).expect("an id has 32 bits"),
+        state: State::of(row[1]),
+        morning: Level(row[2]),
+        afternoon: Level(row[3]),
     }
 }

@@ -3,8 +3,8 @@
 #![forbid(unsafe_code)]
 
 use daybook::{
-    archive, Book, Cancellation, GuaranteeCall, Level, Line, Operator, Prices, Refusal, Trade,
-    User, MOST_LINES, MOST_TRIES,
+    archive, Book, Cancellation, GuaranteeCall, Level, Line, Operator, Prices, Refusal, State,
+    Trade, User, UserLevels, MOST_LINES, MOST_TRIES,
 };
 
 /// The book of document 01's printed day.
@@ -306,6 +306,37 @@ fn refused_cancellations() {
     let late = store(20_260_319, 1_000_000_000);
     let found = Operator::new().store(&late).cancellation(&book, 101, 0);
     assert_eq!(found, Err(Refusal::SetInForce));
+}
+
+/// The levels of all users are those of the calls for each id.
+#[test]
+fn levels_of_all_users() {
+    let mut book = book();
+    book.users.push(User {
+        id: 103,
+        role: 1,
+        ..User::default()
+    });
+    let bytes = bytes(&book);
+    let operator = Operator::new();
+    let row = |id: u32, state: State, cents: u64| UserLevels {
+        id,
+        state,
+        morning: operator.morning_level(&bytes, id).unwrap_or_default(),
+        afternoon: Level(cents),
+    };
+    let rows = [
+        row(101, State::Short, 80_000_000),
+        row(102, State::Quiet, 10_000_000),
+        row(103, State::Clear, 0),
+    ];
+    assert_eq!(operator.levels(&bytes), Ok(rows.to_vec()));
+    assert_eq!(operator.levels(&bytes[1..]), Err(Refusal::Mark));
+    assert_eq!(operator.store(&[]).levels(&bytes), Err(Refusal::StoreForm));
+    let mut answer = [9; 256];
+    assert_eq!(archive::levels(&bytes, 101, None, &mut answer), 26);
+    assert_eq!(answer, [0; 256]);
+    assert_eq!(archive::levels(&bytes, 101, None, &mut answer[1..]), 255);
 }
 
 #[test]

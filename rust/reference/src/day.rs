@@ -33,7 +33,7 @@ fn line(book: &Book, user: &User) -> String {
     let mut line = format!(
         "{} {} {}",
         user.id,
-        state(book, user),
+        state(&Limits::TODAY, book, user),
         printed_level(book, user).0
     );
     for position in user.position {
@@ -53,12 +53,13 @@ fn printed_level(book: &Book, user: &User) -> Cents {
     }
 }
 
-fn state(book: &Book, user: &User) -> &'static str {
+/// `clear`, `short`, `call` or `quiet`.
+pub fn state(limits: &Limits, book: &Book, user: &User) -> &'static str {
     if !user.is_shipper() {
         "clear"
-    } else if short_of_cover(&Limits::TODAY, book, user) {
+    } else if short_of_cover(limits, book, user) {
         "short"
-    } else if to_be_called(book, user) {
+    } else if to_be_called(limits, book, user) {
         "call"
     } else {
         "quiet"
@@ -66,9 +67,7 @@ fn state(book: &Book, user: &User) -> &'static str {
 }
 
 /// "Called in, level − blocked > 1,000,000, assigned ≥ level."
-fn to_be_called(book: &Book, user: &User) -> bool {
-    let level = afternoon_level_of(&Limits::TODAY, book, user);
-    called_in(&Limits::TODAY, book, user)
-        && above_margin(&Limits::TODAY, user, level)
-        && user.assigned >= level
+fn to_be_called(limits: &Limits, book: &Book, user: &User) -> bool {
+    let level = afternoon_level_of(limits, book, user);
+    called_in(limits, book, user) && above_margin(limits, user, level) && user.assigned >= level
 }

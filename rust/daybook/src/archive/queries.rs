@@ -2,8 +2,8 @@
 
 use super::{
     daybook_raw_afternoon_level, daybook_raw_cancellation, daybook_raw_convert, daybook_raw_flag,
-    daybook_raw_form, daybook_raw_morning_level, daybook_raw_read, daybook_raw_restore,
-    daybook_raw_show, daybook_raw_show_picked, daybook_raw_shrinkage_days,
+    daybook_raw_form, daybook_raw_levels, daybook_raw_morning_level, daybook_raw_read,
+    daybook_raw_restore, daybook_raw_show, daybook_raw_show_picked, daybook_raw_shrinkage_days,
     daybook_raw_shrinkage_return, daybook_raw_trade, daybook_raw_trade_count, daybook_raw_warning,
     daybook_raw_write, lent,
 };
@@ -169,6 +169,27 @@ pub fn afternoon_level(
             store,
             store_len,
             id,
+            answer.as_mut_ptr(),
+            answer.len(),
+        )
+    }
+}
+
+/// The levels and the state of every user; the answer is, for each of 64 users in the
+/// order of the book, its id, its state (0 clear, 1 short, 2 call, 3 quiet), its morning
+/// and its afternoon level, and past the last user 0.
+pub fn levels(book: &[u8], party: u64, store: Option<&[u8]>, answer: &mut [u64]) -> u32 {
+    let (with_store, store, store_len) = lent(store);
+    // SAFETY: each pointer comes with the length of its slice in elements, the slices live through
+    // the call, and the answer, lent by &mut, overlaps neither book nor store.
+    unsafe {
+        daybook_raw_levels(
+            book.as_ptr(),
+            book.len(),
+            party,
+            with_store,
+            store,
+            store_len,
             answer.as_mut_ptr(),
             answer.len(),
         )

@@ -1,0 +1,2 @@
+-- The answer of the levels of all users.
+pub mod Rows

@@ -1,0 +1,2 @@
+-- The rows of users stored one after the other.
+pub mod Rows

@@ -1,0 +1,2 @@
+-- The numbers that the levels of all users are in a lent part.
+pub mod Numbers

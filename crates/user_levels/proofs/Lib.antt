@@ -1,0 +1,3 @@
+-- What is claimed of the levels of all users.
+pub mod Asked
+pub mod Rows
