@@ -104,7 +104,8 @@ it from the engine's archive. DAYBOOK_LIBRARY names another one.
 """
 
 from .answers import Cancellation, GuaranteeCall, Posting, PostingList, Reduction, Run, Withdrawal
-from .books import start_log, write
+from .books import positions, start_log, with_positions, write
+from .faults import Fault
 from .fields import (
     AVB, BILATERAL, CLEARING_HOUSE, COUNTERPARTY, PLATFORM, PVB, SHIPPER, TVB, Book, Prices, Trade, User,
 )
@@ -115,7 +116,7 @@ from .shrinkage import Return, Share, over_days, shrinkage_return
 
 __all__ = [
     "AVB", "BILATERAL", "Book", "CLEARING_HOUSE", "COUNTERPARTY", "Cancellation", "Column", "Columns", "FIELDS",
-    "Form", "GuaranteeCall", "Operator", "PLATFORM", "PVB", "Posting", "PostingList", "Prices", "QUESTIONS",
+    "Fault", "Form", "GuaranteeCall", "Operator", "PLATFORM", "PVB", "Posting", "PostingList", "Prices", "QUESTIONS",
     "Reduction", "Refused", "Return", "Run", "SHIPPER", "Share", "Shipper", "TVB", "Trade", "User", "Withdrawal",
-    "over_days", "read_column", "restore", "shrinkage_return", "start_log", "write",
+    "over_days", "positions", "read_column", "restore", "shrinkage_return", "start_log", "with_positions", "write",
 ]
