@@ -50,7 +50,7 @@ def faults(book: bytes, number: int) -> Tuple[Fault, ...]:
     asked: Dict[int, Callable[[bytes], List[Fault]]] = {1: _mark, 2: _version, 3: _counts_and_length}
     if number in asked:
         return tuple(asked[number](book))
-    if number not in (4, 5, 6, 7) or len(book) < _SHORT_HEADER or book[3] not in HEADER_SIZES or _counts_and_length(book):
+    if number not in (4, 5, 6, 7) or _mark(book) or _version(book) or _counts_and_length(book):
         return ()
     found = list(_of_fields(_fields(book), number))
     if number in (5, 6):
