@@ -139,10 +139,11 @@ def _read_header(draft: Draft, row: Row, day_first: bool) -> None:
 def _read_user(draft: Draft, row: Row) -> None:
     id_, role = row.whole("id", U32), row.code("role", ROLES)
     charges, assigned, blocked = row.money("charges", I64), row.money("assigned", U64), row.money("blocked", U64)
-    physical = [row.whole(name, I32, or_0=True) for name in _PHYSICAL]
     written = {area for area, name in enumerate(_POSITION) if row.text(name) != ""}
-    position = [row.whole(name, I32) if area in written else 0 for area, name in enumerate(_POSITION)]
-    managers = [0, 0, 0]
+    physical, position, managers = [0, 0, 0], [0, 0, 0], [0, 0, 0]
+    for area in range(3):
+        physical[area] = row.whole(_PHYSICAL[area], I32, or_0=True)
+        position[area] = row.whole(_POSITION[area], I32) if area in written else 0
     for area, name in enumerate(_MANAGER):
         if row.text(name) != "":
             if draft.version in (1, 2):
@@ -157,7 +158,8 @@ def _read_user(draft: Draft, row: Row) -> None:
 
 
 def _read_trade(draft: Draft, row: Row) -> None:
-    seller, buyer, notified = row.whole("seller", U32), row.whole("buyer", U32), row.whole("notified", U32)
+    # Of fields that a row lacks the first that is asked for is told, as in the program.
+    notified, seller, buyer = row.whole("notified", U32), row.whole("seller", U32), row.whole("buyer", U32)
     codes = row.code("area", AREAS), row.code("kind", KINDS), row.code("day", DAYS)
     standing = row.whole("standing", U32) if row.text("standing") != "" else notified
     draft.trades.append(Trade(seller, buyer, *codes, notified, standing))

@@ -168,13 +168,15 @@ def faults(place: Place) -> list[str]:
 
 
 def same_files(place: Place) -> None:
-    """Texts and tables that the module writes are those of the program, for every sample that is a book."""
+    """Texts and tables that the module writes are those of the program, for every sample that is a book, and both read hostile ones alike."""
     for book in sorted(place.samples.glob("*.gdb")):
         script = f"import daybook, sys; book = daybook.Operator().read(open({str(book)!r}, 'rb').read())"
         place.hold(place.run("daybook", "text", str(book)), sys.executable, "-B", "-c", f"{script}; sys.stdout.write(daybook.write_text(book))")
         place.run("daybook", "csv", str(book), f"{book.stem}-by-program")
         place.run(sys.executable, "-B", "-c", f"{script}; daybook.write_csv(book, {book.stem + '-by-module'!r})")
         place.run("diff", "-r", f"{book.stem}-by-program", f"{book.stem}-by-module")
+    shutil.copy(Path(__file__).resolve().parents[2] / "python" / "hostile.py", place.folder)
+    place.run(sys.executable, "-B", "hostile.py", str(place.prefix / "bin" / "daybook"), str(place.samples))
 
 
 def tried(package: Path, folder: Path) -> None:
