@@ -12,14 +12,14 @@ import sys
 import tempfile
 import warnings
 from pathlib import Path
-from typing import Callable, Union
+from typing import Callable, List, Tuple, Union
 
 import daybook
 
 WORDS = ["user", "trade", "PVB", "tvb", "shipper", "physical", "manager", "none", "1.00", "-5", "99999999999", "d+1", "ä", "#", '"', '""', "standing", "S", "prices", "daybook", "date"]
 WORDS += ["0", "1,000", "position", "\t", "blocked", "100001", "4294967296", "", "x", "1.5", "1,5", '"1,234.50"', "1.234,50", "bilateral", "name", "30.000", "18.03.2026", "18/03/2026"]
 CODES = ["utf-8", "utf-8", "utf-8", "utf-16", "latin-1"]
-Told = "tuple[str, list[str]]"
+Told = Tuple[str, List[str]]
 
 
 def changed(text: str, separator: str, by: random.Random) -> str:

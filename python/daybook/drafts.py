@@ -4,7 +4,7 @@ book's fields on their way to be one."""
 from __future__ import annotations
 
 from dataclasses import replace
-from typing import Iterable, List, NamedTuple, Optional, Sequence, Set, Tuple, Union
+from typing import List, NamedTuple, Optional, Sequence, Set, Tuple, Union
 
 from .faults import COMMON_PRICES, PRICES, defined_positions
 from .fields import MOST_TRADES, MOST_USERS, Book, Prices, Trade, User
@@ -119,8 +119,8 @@ class Draft:
         """With the areas whose positions are written."""
         self.trades: List[Trade] = []
 
-    def book(self, users: Iterable[Tuple[User, Set[int]]]) -> Book:
-        users = list(users)
+    def book(self, users: Sequence[Tuple[User, Set[int]]]) -> Book:
+        """The fields of these users, in their order, and of all else that was read."""
         prices = prices_by_name(self.prices)
         book = Book(self.date, prices, tuple(user for user, _ in users), tuple(self.trades), self.version)
         if len(users) > MOST_USERS or len(self.trades) > MOST_TRADES:

@@ -75,9 +75,10 @@ class Refused(Exception):
     def faults(self) -> Tuple[Fault, ...]:
         """The fields that fail the question, in the order of the book; none of a question that is not one of
         the first seven. They are looked for when they are asked for."""
-        if self._given is None:
-            return ()
-        return (faults_of_fields if isinstance(self._given, Book) else faults)(self._given, self.number)  # type: ignore[operator]
+        given = self._given
+        if isinstance(given, Book):
+            return faults_of_fields(given, self.number)
+        return () if given is None else faults(given, self.number)
 
     def __str__(self) -> str:
         told = [str(fault) for fault in self.faults]

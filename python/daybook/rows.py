@@ -76,7 +76,8 @@ Cell = Tuple[str, int]
 
 def cells_of(file: str, number: int, line: str, separator: str) -> List[Cell]:
     """The fields of a line with their columns. A field in quotes may have the separator in it, and a quote twice."""
-    cells, cell, start, quoted, place = [], "", 1, False, 0
+    cells: List[Cell] = []
+    cell, start, quoted, place = "", 1, False, 0
     while place < len(line):
         it = line[place]
         if it == '"' and quoted and line[place + 1 : place + 2] == '"':

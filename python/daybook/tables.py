@@ -82,17 +82,19 @@ def read_csv(files: Union[Folder, Files], day_first: bool = False) -> Book:
     if not isinstance(files, Mapping):
         folder = Path(files)
         files = {name: (folder / name).read_bytes() for name in FILES}
-    draft, mistakes = Draft(), []
-    rows_of_header = []
+    draft = Draft()
+    mistakes: List[Mistake] = []
+    headers: List[Row] = []
 
     def header(row: Row) -> None:
-        if rows_of_header:
-            return row.mistake("version", "a second row; a book has one header")
-        rows_of_header.append(row)
-        _read_header(draft, row, day_first)
+        if headers:
+            row.mistake("version", "a second row; a book has one header")
+        else:
+            headers.append(row)
+            _read_header(draft, row, day_first)
 
     mistakes += read_file(FILES[0], files[FILES[0]], _HEADER, header, _OPTIONAL)
-    if not mistakes and not rows_of_header:
+    if not mistakes and not headers:
         mistakes.append(Mistake(FILES[0], 2, 1, "the row of the header is missing"))
     mistakes += read_file(FILES[1], files[FILES[1]], _USER, lambda row: _read_user(draft, row), _OPTIONAL)
     mistakes += read_file(FILES[2], files[FILES[2]], _TRADE, lambda row: _read_trade(draft, row), _OPTIONAL)

@@ -59,7 +59,8 @@ def read_text(text: Union[str, bytes]) -> Book:
     if long:
         raise Unreadable([long])
     lines = _decoded(text)
-    reader, mistakes = _Reader(), []
+    reader = _Reader()
+    mistakes: List[Mistake] = []
     for number, line in enumerate(lines_of(lines), start=1):
         words = _Words(line, number)
         if words.is_done():

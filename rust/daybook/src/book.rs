@@ -59,6 +59,7 @@ pub struct Book {
     pub version: u16,
     /// Year × 10,000 + month × 100 + day.
     pub date: u32,
+    /// Tariffs and tolls of the day.
     pub prices: Prices,
     /// 1 to 64 in an accepted book, ids strictly rising.
     pub users: Vec<User>,
@@ -112,6 +113,7 @@ pub struct Prices {
 /// ```
 #[derive(Clone, Copy, Debug, Default, PartialEq, Eq)]
 pub struct User {
+    /// Above 0 in an accepted book, and above those of the users before it.
     pub id: u32,
     /// 0 shipper, 1 clearing house: a byte of [`Role`](crate::Role).
     pub role: u8,
