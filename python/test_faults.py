@@ -2,6 +2,7 @@
 
 from __future__ import annotations
 
+import array
 import pickle
 import unittest
 from dataclasses import replace
@@ -187,6 +188,12 @@ class Records(unittest.TestCase):
         with self.assertRaises(AttributeError):
             book.users[0].id = 7  # type: ignore[misc]
         self.assertEqual(daybook.Book(20_260_318, daybook.Prices(1, 1)).users, ())
+
+    def test_bytes_of_any_kind(self) -> None:
+        data = SAMPLES[0].read_bytes()
+        for kind in (bytearray(data), memoryview(data), array.array("B", data)):
+            self.assertEqual(OPERATOR.afternoon_level(kind, 101), 80_000_000)  # type: ignore[arg-type]
+            self.assertEqual(OPERATOR.run(kind).mwh, 15_000)  # type: ignore[arg-type]
 
     def test_what_is_lent_is_left(self) -> None:
         """A book that can be changed is copied once; the call sees it as it was."""

@@ -89,17 +89,13 @@ NUMBERS = [ctypes.c_uint64 * max(count, 1) for count in range(6)]
 
 def lent(name: str, data: Bytes) -> tuple[bytes, int]:
     """Bytes that a call only reads, as two arguments of a C function: the bytes themselves, or a copy where
-    they can be changed meanwhile. The memory of `bytes` is never null."""
+    they can be changed meanwhile. The memory of `bytes` is never null. What has no bytes is told by its name."""
     if isinstance(data, bytes):
         return data, len(data)
-    return of_bytes(name, data)
-
-
-def of_bytes(name: str, data: Bytes) -> tuple[bytes, int]:
-    """A copy of bytes that are no `bytes`; of anything else a `TypeError` with its name."""
-    if not isinstance(data, (bytearray, memoryview)):
-        raise TypeError(f"{name} is {type(data).__name__}, not bytes")
-    copied = bytes(data)
+    try:
+        copied = bytes(memoryview(data))
+    except TypeError:
+        raise TypeError(f"{name} is {type(data).__name__}, not bytes") from None
     return copied, len(copied)
 
 

@@ -37,7 +37,6 @@ MOST_TRADES = 256
 TRADES_AT = HEADER.size + MOST_USERS * USER.size
 IMAGE = TRADES_AT + MOST_TRADES * TRADE.size
 
-
 _new: Callable[..., Any] = object.__new__
 
 
