@@ -51,7 +51,7 @@ def wrong(where: str, names: Sequence[str], values: Sequence[object], layout: st
             return TypeError(f"{where}{name} is {value!r}, not a whole number")
         if not least <= index(value) <= most:  # type: ignore[arg-type]
             return ValueError(f"{where}{name} {value} is not within {least} to {most}")
-    return ValueError(f"{where}its fields have {len(values)} numbers, not {len(kinds)}")
+    return TypeError(f"{where}a field is not of its type")
 
 
 def by_area(where: str, name: str, numbers: object) -> Tuple[Any, ...]:
@@ -111,18 +111,23 @@ class User:
 
     def _packed(self, place: int = 0) -> bytes:
         """Its record; what does not fit is told with its place, from 0, and its id."""
-        where = f"user {place + 1}, id {self.id}: "
+        try:
+            if len(self.physical) == len(self.position) == len(self.managers) == 3:
+                return USER.pack(
+                    self.id, self.role, *self.physical, *self.position, self.charges, self.assigned, self.blocked,
+                    *self.managers,
+                )
+        except (struct.error, TypeError):
+            pass
+        raise self._wrong(f"user {place + 1}, id {self.id}: ")
+
+    def _wrong(self, where: str) -> Exception:
         physical, position = by_area(where, "physical", self.physical), by_area(where, "position", self.position)
         managers = by_area(where, "managers", self.managers)
-        numbers = (
-            self.id, self.role, *physical, *position, self.charges, self.assigned, self.blocked, *managers,
-        )
-        try:
-            return USER.pack(*numbers)
-        except struct.error:
-            names = [f"{name} {area}" for name in ("physical", "position") for area in AREAS]
-            last = [f"manager {area}" for area in AREAS]
-            raise wrong(where, ["id", "role", *names, "charges", "assigned", "blocked", *last], numbers, USER) from None
+        numbers = (self.id, self.role, *physical, *position, self.charges, self.assigned, self.blocked, *managers)
+        names = [f"{name} {area}" for name in ("physical", "position") for area in AREAS]
+        last = [f"manager {area}" for area in AREAS]
+        return wrong(where, ["id", "role", *names, "charges", "assigned", "blocked", *last], numbers, USER)
 
 
 @dataclass(frozen=True)
