@@ -6,38 +6,7 @@
  * A part is a pointer and a length; one whose pointer is NULL has no bytes. A part that a call may change overlaps no other part of the same call, and each has as many bytes
  * as its length says: these two are the only things that the caller answers for. Amounts of money are cents, amounts of gas MWh; those of a return of shrinkage are kWh.
  *
- * Every call returns 0 where it did what is asked, or the number of the first question that is answered by no (docs/QUESTIONS.md says more of them):
- *
- *    1  at least 32 bytes, starting with the mark?
- *    2  version 1, 2 or 3?
- *    3  counts in range and length exactly 32 (versions 2 and 3: 40) + 56 (version 3: 68) × users + 20 × trades?
- *    4  date, prices, tolls and selling tariffs in range?
- *    5  every user field valid, managers too, positions apart?
- *    6  every trade valid?
- *    7  every position as defined?
- *    8  id in the book?
- *    9  a shipper?
- *   10  area 0 to 2, and the new physical entry within ±1,000,000?
- *   11  level − blocked > 1,000,000 (with a store, its figure), and, but for the morning call, user called in?
- *   12  assigned ≥ level?
- *   13  assigned < level?
- *   14  has the user an eligible trade?
- *   15  at most 512 lines, columns and places of one count?
- *   16  is the store well formed?
- *   17  has the store a set in force on the book's date?
- *   18  has the log an entry?
- *   19  is the log one for the book?
- *   20  has the log room for one more entry?
- *   21  is no information lost?
- *   22  is the output long enough?
- *   23  is the target version known?
- *   24  are all eligible trades together worth the target?
- *   25  1 to 65,535 tries?
- *   26  may the party make this call?
- *   27  every balance within ±500,000,000 kWh?
- *   28  at most 64 users?
- *   29  does the form yield an accepted book?
- *   30  is the output long enough?
+ * Every call returns 0 where it did what is asked, or the number of the first question that is answered by no: daybook_question tells it in words (daybook_questions.h).
  *
  * The calls, with the questions that they ask, in that order; 16 and 17 are asked where a store is given, 19 and 20 where a log is:
  *
@@ -74,6 +43,8 @@
 #define DAYBOOK_H
 
 #include "daybook_columns.h"
+#include "daybook_fields.h"
+#include "daybook_questions.h"
 #include "daybook_raw.h"
 
 /* ---- what a call is given */
@@ -251,7 +222,7 @@ static inline uint32_t daybook_show_picked(const daybook_setting *setting, daybo
                                    record->bytes, sizeof record->bytes);
 }
 
-/* Adds a signed amount of MWh to a user's physical entry and position in an area: 0 PVB, 1 TVB, 2 AVB. */
+/* Adds a signed amount of MWh to a user's physical entry and position in an area, one of daybook_area (daybook_fields.h). */
 static inline uint32_t daybook_posting(const daybook_setting *setting, daybook_part book, uint32_t id, uint32_t area, int64_t amount)
 {
     return daybook_raw_posting(DAYBOOK_RAW_CHANGED(book), setting->party, DAYBOOK_RAW_STORE(setting), DAYBOOK_RAW_LOG(setting), id, area, amount);

@@ -189,7 +189,7 @@ class Books(unittest.TestCase):
             with self.assertRaises(daybook.Refused) as caught:
                 daybook.write(wrong)
             self.assertEqual(caught.exception.number, number)
-        with self.assertRaises(struct.error):
+        with self.assertRaisesRegex(ValueError, "header: date 4294967296 is not within"):
             daybook.write(replace(fields, date=2**32))
 
     def test_books_of_version_2(self) -> None:

@@ -17,7 +17,7 @@ ROOT = Path(__file__).resolve().parent.parent
 
 def load_tests(loader: unittest.TestLoader, tests: unittest.TestSuite, pattern: object) -> unittest.TestSuite:
     """The examples of the module are tests, too."""
-    for module in (daybook, daybook.forms, daybook.parties, daybook.shrinkage):
+    for module in (daybook, daybook.books, daybook.forms, daybook.parties, daybook.refusals, daybook.shrinkage, daybook.tables, daybook.text, daybook.words):
         tests.addTests(doctest.DocTestSuite(module))
     return tests
 

@@ -3,23 +3,18 @@
 #include <stdio.h>
 #include <daybook.h>
 
-/* A field: where it stands in the image, how many bytes it has, and its value. A user stands at 40 + 68 × its place, a trade at 4392 + 20 × its place. */
-static const struct { size_t at; int bytes; int64_t value; } fields[] = {
-    {3, 2, 1}, {5, 1, 2}, {6, 2, 1}, {8, 4, 20260318}, {12, 4, 2000}, {16, 4, 2100}, {20, 4, 300}, {24, 4, 100}, {28, 4, 50}, /* version, counts, date, P, Q, L, X, I */
-    {40, 4, 101}, {48, 4, -10000}, {60, 4, -40000}, {80, 8, 50000000}, {88, 8, 10000000}, /* 101: physical entry and position in PVB, assigned, blocked */
-    {108, 4, 102}, {128, 4, 30000}, {148, 8, 10000000}, {156, 8, 10000000},               /* 102: position in PVB, assigned, blocked */
-    {4392, 4, 101}, {4396, 4, 102}, {4404, 4, 30000}, {4408, 4, 30000},                   /* 101 sells to 102: notified, standing */
-};
-
 int main(void)
 {
+    const daybook_header_fields header = {.version = 1, .users = 2, .trades = 1, .date = 20260318, .p = 2000, .q = 2100, .l = 300, .x = 100, .i = 50};
+    const daybook_user_fields users[] = {{.id = 101, .physical = {-10000}, .position = {-40000}, .assigned = 50000000, .blocked = 10000000},
+                                         {.id = 102, .position = {30000}, .assigned = 10000000, .blocked = 10000000}};
+    const daybook_trade_fields sale = {101, 102, DAYBOOK_PVB, DAYBOOK_BILATERAL, DAYBOOK_DAY_D, 30000, 30000};
     static daybook_image image;
     static uint8_t bytes[DAYBOOK_LENGTH_AS(1, 2, 1)];
     daybook_part book = {bytes, sizeof bytes};
     daybook_setting desk = {.party = DAYBOOK_OPERATOR};
     daybook_ran day = {0, 0, 0};
-    for (size_t i = 0; i < sizeof fields / sizeof *fields; i++)
-        for (int b = 0; b < fields[i].bytes; b++) image.bytes[fields[i].at + b] = (uint8_t)((uint64_t)fields[i].value >> 8 * b);
+    daybook_put_image(image.bytes, &header, users, &sale);
     uint32_t number = daybook_write(&image, book);
     if (number == 0) number = daybook_read(&desk, daybook_read_only(book), &image);
     if (number == 0) number = daybook_run(&desk, book, &day);

@@ -106,7 +106,9 @@ it from the engine's archive. DAYBOOK_LIBRARY names another one.
 """
 
 from .answers import Cancellation, GuaranteeCall, Posting, PostingList, Reduction, Run, UserLevels, Withdrawal
-from .books import start_log, write
+from .books import positions, start_log, with_positions, write
+from .drafts import Mistake, Unreadable
+from .faults import Fault
 from .fields import (
     AVB, BILATERAL, CLEARING_HOUSE, COUNTERPARTY, PLATFORM, PVB, SHIPPER, TVB, Book, Prices, Trade, User,
 )
@@ -114,10 +116,13 @@ from .forms import FIELDS, Column, Columns, Form, read_column, restore
 from .parties import Operator, Shipper
 from .refusals import QUESTIONS, Refused
 from .shrinkage import Return, Share, over_days, shrinkage_return
+from .tables import csv_files, read_corrections, read_csv, write_csv
+from .text import read_text, write_text
 
 __all__ = [
     "AVB", "BILATERAL", "Book", "CLEARING_HOUSE", "COUNTERPARTY", "Cancellation", "Column", "Columns", "FIELDS",
-    "Form", "GuaranteeCall", "Operator", "PLATFORM", "PVB", "Posting", "PostingList", "Prices", "QUESTIONS",
-    "Reduction", "Refused", "Return", "Run", "SHIPPER", "Share", "Shipper", "TVB", "Trade", "User", "UserLevels",
-    "Withdrawal", "over_days", "read_column", "restore", "shrinkage_return", "start_log", "write",
+    "Fault", "Form", "GuaranteeCall", "Mistake", "Operator", "PLATFORM", "PVB", "Posting", "PostingList", "Prices",
+    "QUESTIONS", "Reduction", "Refused", "Return", "Run", "SHIPPER", "Share", "Shipper", "TVB", "Trade", "Unreadable",
+    "User", "UserLevels", "Withdrawal", "csv_files", "over_days", "positions", "read_column", "read_corrections",
+    "read_csv", "read_text", "restore", "shrinkage_return", "start_log", "with_positions", "write", "write_csv", "write_text",
 ]

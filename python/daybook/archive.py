@@ -8,7 +8,7 @@ from pathlib import Path
 from typing import Optional
 
 from .fields import Bytes
-from .refusals import Refused
+from .refusals import Refusable, Refused
 
 INTERFACE = 7
 
@@ -80,13 +80,32 @@ def _opened() -> ctypes.CDLL:
 
 library = _opened()
 
+_NO_STORE = (False, b"", 0)
+_NO_LOG = (False, ctypes.create_string_buffer(1), 0)
+
+
+NUMBERS = [ctypes.c_uint64 * max(count, 1) for count in range(6)]
+"""The types of an answer with so many numbers."""
+
+
+def lent(name: str, data: Bytes) -> tuple[bytes, int]:
+    """Bytes that a call only reads, as two arguments of a C function: the bytes themselves, or a copy where
+    they can be changed meanwhile. The memory of `bytes` is never null. What has no bytes is told by its name."""
+    if isinstance(data, bytes):
+        return data, len(data)
+    try:
+        copied = bytes(memoryview(data))
+    except TypeError:
+        raise TypeError(f"{name} is {type(data).__name__}, not bytes") from None
+    return copied, len(copied)
+
 
 class Part:
-    """Bytes as the engine takes them: a copy of its own that is never null, with its length."""
+    """Bytes that a call may change: a copy of its own that is never null, with its length."""
 
-    def __init__(self, data: Bytes) -> None:
-        self.length = len(data)
-        self.memory = ctypes.create_string_buffer(bytes(data), max(self.length, 1))
+    def __init__(self, name: str, data: Bytes) -> None:
+        given, self.length = lent(name, data)
+        self.memory = ctypes.create_string_buffer(given, max(self.length, 1))
 
     @property
     def bytes(self) -> bytes:
@@ -99,18 +118,18 @@ class Part:
 
 def store_arguments(store: Optional[Bytes]) -> tuple[object, ...]:
     """A store, or none, as the three arguments of a C function."""
-    return (store is not None, *Part(b"" if store is None else store).arguments)
+    return _NO_STORE if store is None else (True, *lent("store", store))
 
 
 class Log:
     """A log, or none, as the three arguments of a C function, and as the call leaves it."""
 
     def __init__(self, log: Optional[Bytes]) -> None:
-        self.part = None if log is None else Part(log)
+        self.part = None if log is None else Part("log", log)
 
     @property
     def arguments(self) -> tuple[object, ...]:
-        return (self.part is not None, *(self.part or Part(b"")).arguments)
+        return _NO_LOG if self.part is None else (True, *self.part.arguments)
 
     @property
     def bytes(self) -> Optional[bytes]:
@@ -119,6 +138,8 @@ class Log:
 
 def in_range(name: str, number: int, least: int, most: int) -> int:
     """A number that its argument can hold; nothing is cut off."""
+    if not hasattr(number, "__index__"):
+        raise TypeError(f"{name} is {number!r}, not a whole number")
     if not least <= number <= most:
         raise ValueError(f"{name} {number} is not within {least} to {most}")
     return number
@@ -128,6 +149,7 @@ def id_argument(number: int) -> int:
     return in_range("id", number, 0, 2**32 - 1)
 
 
-def answered(number: int) -> None:
+def answered(number: int, given: Optional[Refusable] = None) -> None:
+    """Raises the refusal of a number other than 0, with the book that was given, or its fields."""
     if number != 0:
-        raise Refused(number)
+        raise Refused(number, given)

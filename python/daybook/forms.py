@@ -6,7 +6,7 @@ from collections.abc import Mapping
 from dataclasses import dataclass
 from typing import BinaryIO, Dict, Iterator, NamedTuple, Optional, Union
 
-from .archive import Part, answered, library
+from .archive import Part, answered, lent, library
 from .fields import HEADER_SIZES, Bytes
 
 _USER_FIELDS = {
@@ -131,8 +131,9 @@ class Form(Mapping):
 def restore(form: Union[Form, Bytes]) -> bytes:
     """The book of a form; bytes that no book yields raise `Refused` with 29."""
     given = form.bytes if isinstance(form, Form) else form
-    part = Part(bytes(len(given)))
-    answered(library.daybook_raw_restore(*Part(given).arguments, *part.arguments))
+    lent_form = lent("form", given)
+    part = Part("book", bytes(lent_form[1]))
+    answered(library.daybook_raw_restore(*lent_form, *part.arguments))
     return part.bytes
 
 

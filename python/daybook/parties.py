@@ -6,14 +6,15 @@ import ctypes
 from typing import Callable, Optional, Sequence, Tuple
 
 from .answers import Cancellation, GuaranteeCall, Posting, PostingList, Reduction, Run, UserLevels, Withdrawal
-from .archive import OPERATOR, Log, Part, answered, id_argument, in_range, library, store_arguments
+from .archive import NUMBERS, OPERATOR, Log, Part, answered, id_argument, in_range, lent, library, store_arguments
 from .fields import (
     BILATERAL, HEADER, HEADER_SIZES, IMAGE, MOST_TRADES, MOST_USERS, TRADE, TRADES_AT, USER, USER_SIZES, Book, Bytes,
-    Prices, Trade, User,
+    Trade, User,
 )
 from .forms import Form
 
 _LOG_FULL = 20
+_Image = ctypes.c_char * IMAGE
 _STATES = ("clear", "short", "call", "quiet")
 
 
@@ -26,39 +27,50 @@ class _Party:
     def _called(
         self, function: Callable[..., int], book: Bytes, arguments: Sequence[object], numbers: int
     ) -> tuple[list[int], bytes]:
-        """Makes a call on a copy of the book: the numbers of its answer, and the book after it."""
-        part = Part(book)
-        answer = (ctypes.c_uint64 * max(numbers, 1))()
-        lent = (answer, numbers) if numbers else ()
-        answered(function(*part.arguments, self._party, *store_arguments(self.store), *arguments, *lent))
+        """Makes a call that may change a book on a copy of it: the numbers of its answer, and the book after it."""
+        part = Part("book", book)
+        answer = NUMBERS[numbers]()
+        taken = (answer, numbers) if numbers else ()
+        number = function(*part.arguments, self._party, *store_arguments(self.store), *arguments, *taken)
+        if number != 0:
+            answered(number, bytes(book))
         return list(answer)[:numbers], part.bytes
+
+    def _asked(self, function: Callable[..., int], book: Bytes, arguments: Sequence[object], numbers: int) -> list[int]:
+        """Makes a call that leaves the book, on its own bytes: the numbers of its answer."""
+        given, length = lent("book", book)
+        answer = NUMBERS[numbers]()
+        taken = (answer, numbers) if numbers else ()
+        number = function(given, length, self._party, *store_arguments(self.store), *arguments, *taken)
+        if number != 0:
+            answered(number, given)
+        return list(answer)
 
     def _number(self, function: Callable[..., int], book: Bytes, id: int) -> int:
         """The answer of a query with one number."""
-        (number,), _ = self._called(function, book, (id_argument(id),), 1)
-        return number
+        return self._asked(function, book, (id_argument(id),), 1)[0]
 
     def _user(self, book: Bytes, id: int) -> User:
-        record = Part(bytes(USER.size))
-        self._called(library.daybook_raw_show, book, (id_argument(id), *record.arguments), 0)
-        return User._unpacked(record.bytes)
+        record = Part("record", bytes(USER.size))
+        self._asked(library.daybook_raw_show, book, (id_argument(id), *record.arguments), 0)
+        return User._unpacked(record.bytes)[0]
 
     def _user_picked(self, morning: Bytes, afternoon: Bytes, afternoon_picked: bool, id: int) -> User:
-        record = Part(bytes(USER.size))
-        answered(
-            library.daybook_raw_show_picked(
-                *Part(morning).arguments, *Part(afternoon).arguments, self._party, *store_arguments(self.store),
-                bool(afternoon_picked), id_argument(id), *record.arguments,
-            )
+        record = Part("record", bytes(USER.size))
+        books = lent("morning", morning), lent("afternoon", afternoon)
+        number = library.daybook_raw_show_picked(
+            *books[0], *books[1], self._party, *store_arguments(self.store), bool(afternoon_picked),
+            id_argument(id), *record.arguments,
         )
-        return User._unpacked(record.bytes)
+        answered(number, books[bool(afternoon_picked)][0])
+        return User._unpacked(record.bytes)[0]
 
     def _trade(self, book: Bytes, id: int, ordinal: int) -> Optional[Trade]:
         """None past the last."""
-        part = Part(bytes(TRADE.size))
+        part = Part("record", bytes(TRADE.size))
         arguments = (id_argument(id), in_range("ordinal", ordinal, 0, 2**32 - 1), *part.arguments)
-        (length,), _ = self._called(library.daybook_raw_trade, book, arguments, 1)
-        return Trade._unpacked(part.bytes) if length else None
+        (length,) = self._asked(library.daybook_raw_trade, book, arguments, 1)
+        return Trade._unpacked(part.bytes)[0] if length else None
 
     def _trades(self, book: Bytes, id: int) -> list[Trade]:
         count = self._number(library.daybook_raw_trade_count, book, id)
@@ -134,34 +146,29 @@ class Operator(_Party):
 
     def read(self, book: Bytes) -> Book:
         """The fields of a book. No store is looked at."""
-        image = Part(bytes(IMAGE))
-        answered(library.daybook_raw_read(*Part(book).arguments, self._party, *image.arguments))
-        data = image.bytes
-        _, version, users, trades, date, *prices = HEADER.unpack_from(data)
-        user_records = (data[HEADER.size + USER.size * place :][: USER.size] for place in range(users))
-        trade_records = (data[TRADES_AT + TRADE.size * place :][: TRADE.size] for place in range(trades))
-        return Book(
-            date,
-            Prices(*prices),
-            tuple(User._unpacked(record) for record in user_records),
-            tuple(Trade._unpacked(record) for record in trade_records),
-            version,
-        )
+        return Book._of_image(self._image(book))
+
+    def _image(self, book: Bytes) -> bytes:
+        """The fields of a book as the engine's image has them."""
+        (given, length), image = lent("book", book), _Image()
+        answered(library.daybook_raw_read(given, length, self._party, image, IMAGE), given)
+        return image.raw
 
     def convert(self, book: Bytes, version: int) -> bytes:
         """The book as a version, 1, 2 or 3, its own too. Fields that its version has not are 0; where one
         that is not 0 would be lost, a selling tariff or a manager, it is refused with 21. No store is looked
         at."""
-        number, part = in_range("version", version, 0, 2**32 - 1), Part(bytes(IMAGE))
-        answered(library.daybook_raw_convert(*Part(book).arguments, self._party, number, *part.arguments))
-        users, trades = book[5], int.from_bytes(book[6:8], "little")
-        return part.bytes[: HEADER_SIZES[version] + USER_SIZES[version] * users + TRADE.size * trades]
+        number, image, (given, length) = in_range("version", version, 0, 2**32 - 1), _Image(), lent("book", book)
+        answered(library.daybook_raw_convert(given, length, self._party, number, image, IMAGE), given)
+        users, trades = given[5], int.from_bytes(given[6:8], "little")
+        return image.raw[: HEADER_SIZES[version] + USER_SIZES[version] * users + TRADE.size * trades]
 
     def form(self, book: Bytes) -> Form:
         """The field-wise form of a book: its header with the mark GDF, all ids, all roles, and so on. No
         store is looked at."""
-        part = Part(bytes(len(book)))
-        answered(library.daybook_raw_form(*Part(book).arguments, self._party, *part.arguments))
+        given, length = lent("book", book)
+        part = Part("form", bytes(length))
+        answered(library.daybook_raw_form(given, length, self._party, *part.arguments), given)
         return Form(part.bytes)
 
     def record(self, book: Bytes, id: int) -> User:
@@ -174,15 +181,15 @@ class Operator(_Party):
 
     def posting(self, book: Bytes, id: int, area: int, amount: int, log: Optional[Bytes] = None) -> Posting:
         """Adds a signed amount of MWh to a user's physical entry and position in an area."""
-        lent = Log(log)
+        noted = Log(log)
         arguments = (
-            *lent.arguments,
+            *noted.arguments,
             id_argument(id),
             in_range("area", area, 0, 2**32 - 1),
             in_range("amount", amount, -(2**63), 2**63 - 1),
         )
         _, after = self._called(library.daybook_raw_posting, book, arguments, 0)
-        return Posting(after, lent.bytes)
+        return Posting(after, noted.bytes)
 
     def posting_list(
         self, book: Bytes, lines: Sequence[Tuple[int, int, int]], log: Optional[Bytes] = None
@@ -193,14 +200,14 @@ class Operator(_Party):
         amounts = [in_range("amount", line[2], -(2**63), 2**63 - 1) for line in lines]
         count, room = len(lines), max(len(lines), 1)
         places = (ctypes.c_uint32 * room)()
-        lent = Log(log)
+        noted = Log(log)
         arguments = (
-            *lent.arguments,
+            *noted.arguments,
             (ctypes.c_uint32 * room)(*ids), count, (ctypes.c_uint32 * room)(*areas), count,
             (ctypes.c_int64 * room)(*amounts), count, places, count,
         )
         _, after = self._called(library.daybook_raw_list, book, arguments, 0)
-        return PostingList(tuple(places[:count]), after, lent.bytes)
+        return PostingList(tuple(places[:count]), after, noted.bytes)
 
     def morning_level(self, book: Bytes, id: int) -> int:
         """The morning level of a shipper, in cents."""
@@ -232,9 +239,9 @@ class Operator(_Party):
     def _guarantee_call(
         self, function: Callable[..., int], book: Bytes, id: int, log: Optional[Bytes]
     ) -> GuaranteeCall:
-        lent = Log(log)
-        (level, added), after = self._called(function, book, (*lent.arguments, id_argument(id)), 2)
-        return GuaranteeCall(level, added, after, lent.bytes)
+        noted = Log(log)
+        (level, added), after = self._called(function, book, (*noted.arguments, id_argument(id)), 2)
+        return GuaranteeCall(level, added, after, noted.bytes)
 
     def warning(self, book: Bytes, id: int) -> bool:
         """Whether a shipper is warned at midday."""
@@ -258,37 +265,38 @@ class Operator(_Party):
 
     def reduction(self, book: Bytes, id: int, log: Optional[Bytes] = None) -> Reduction:
         """Cuts a shipper's bilateral sales of the day until the level is covered."""
-        lent = Log(log)
-        numbers, after = self._called(library.daybook_raw_reduction, book, (*lent.arguments, id_argument(id)), 5)
-        return Reduction(*numbers, after, lent.bytes)
+        noted = Log(log)
+        numbers, after = self._called(library.daybook_raw_reduction, book, (*noted.arguments, id_argument(id)), 5)
+        return Reduction(*numbers, after, noted.bytes)
 
     def cancellation(self, book: Bytes, id: int, tries: int = 65_535) -> Cancellation:
         """Whole trades of a shipper that cover what a reduction would be asked for."""
         marks = (ctypes.c_uint8 * MOST_TRADES)()
         arguments = (id_argument(id), in_range("tries", tries, 0, 2**32 - 1), marks, MOST_TRADES)
-        (excess, made, complete), _ = self._called(library.daybook_raw_cancellation, book, arguments, 3)
+        excess, made, complete = self._asked(library.daybook_raw_cancellation, book, arguments, 3)
         trades = tuple(place for place, mark in enumerate(marks) if mark)
         return Cancellation(trades, excess, made, complete != 0)
 
     def run(self, book: Bytes, log: Optional[Bytes] = None) -> Run:
         """Reduces the lowest id that is short of cover and has an eligible trade, while there is one, or
         until the log is full, which is `log_full` and no refusal."""
-        part, lent, answer = Part(book), Log(log), (ctypes.c_uint64 * 3)()
+        part, noted, answer = Part("book", book), Log(log), NUMBERS[3]()
         number = library.daybook_raw_run(
-            *part.arguments, self._party, *store_arguments(self.store), *lent.arguments, answer, 3
+            *part.arguments, self._party, *store_arguments(self.store), *noted.arguments, answer, 3
         )
-        if number != _LOG_FULL:
-            answered(number)
-        return Run(*answer, part.bytes, lent.bytes, number == _LOG_FULL)
+        if number not in (0, _LOG_FULL):
+            answered(number, bytes(book))
+        return Run(*answer, part.bytes, noted.bytes, number == _LOG_FULL)
 
     def withdrawal(self, book: Bytes, log: Bytes) -> Withdrawal:
         """Withdraws the last reduction that the log has noted."""
-        part = Part(log)
+        part = Part("log", log)
         (mwh, worth), after = self._called(library.daybook_raw_withdrawal, book, part.arguments, 2)
         return Withdrawal(mwh, worth, after, part.bytes)
 
     def most_reductions(self, book: Bytes) -> int:
         """The most reductions that a run of this book can report: the MWh standing in its bilateral
         trades for d."""
-        trades = self.read(book).trades
-        return sum(trade.standing for trade in trades if (trade.kind, trade.day) == (BILATERAL, 0))
+        image = self._image(book)
+        trades = image[TRADES_AT : TRADES_AT + TRADE.size * int.from_bytes(image[6:8], "little")]
+        return sum(standing for *_, kind, day, _, standing in TRADE.iter_unpack(trades) if kind == BILATERAL and day == 0)

@@ -2,6 +2,11 @@
 
 from __future__ import annotations
 
+from typing import Optional, Tuple, Union
+
+from .faults import Fault, faults, faults_of_fields
+from .fields import Book
+
 QUESTIONS = {
     1: "at least 32 bytes, starting with the mark?",
     2: "version 1, 2 or 3?",
@@ -37,13 +42,51 @@ QUESTIONS = {
 """The questions by their numbers."""
 
 
-class Refused(Exception):
-    """A refusal: the number of the first question that is answered by no."""
+Refusable = Union[bytes, Book]
+"""What was refused: a book, or the fields that were to be written."""
 
-    def __init__(self, number: int) -> None:
+
+class Refused(Exception):
+    """A refusal: the number of the first question that is answered by no, and the question in words. Of a
+    book, or of fields that are none, it has the faults too: which fields of which records fail the question.
+
+    >>> import daybook
+    >>> from dataclasses import replace
+    >>> with open("../samples/day.gdb", "rb") as file:
+    ...     book = daybook.Operator().read(file.read())
+    >>> first, *others = book.users
+    >>> try:
+    ...     daybook.write(replace(book, users=(replace(first, role=2), *others)))
+    ... except daybook.Refused as refused:
+    ...     number, fault = refused.number, refused.faults[0]
+    >>> number, fault.record, fault.place, fault.field
+    (5, 'user', 0, 'role')
+    >>> print(fault)
+    user 1, id 101: role 2 is neither 0 (shipper) nor 1 (clearing house)
+    """
+
+    def __init__(self, number: int, given: Optional[Refusable] = None) -> None:
         self.number = number
         self.question = QUESTIONS.get(number, "")
-        super().__init__(f"refused by question {number}: {self.question}")
+        self._given = given
+        super().__init__(number)
+
+    @property
+    def faults(self) -> Tuple[Fault, ...]:
+        """The fields that fail the question, in the order of the book; none of a question that is not one of
+        the first seven. They are looked for when they are asked for."""
+        given = self._given
+        if isinstance(given, Book):
+            return faults_of_fields(given, self.number)
+        return () if given is None else faults(given, self.number)
+
+    def __str__(self) -> str:
+        told = [str(fault) for fault in self.faults]
+        more = f" (and {len(told) - 1} more)" if len(told) > 1 else ""
+        return f"refused by question {self.number}: {self.question}" + "".join(f" {first}{more}" for first in told[:1])
+
+    def __reduce__(self) -> Tuple[object, ...]:
+        return Refused, (self.number, self._given)
 
 
 # Told by the name that a caller has for it.

@@ -37,6 +37,7 @@ class Place:
         self.settings["PATH"] = f"{self.prefix}/bin:{self.settings.get('PATH', '')}"
         self.settings["PKG_CONFIG_PATH"] = f"{self.prefix}/lib/pkgconfig"
         self.examples = self.prefix / "share" / "daybook" / "examples"
+        self.samples = self.prefix / "share" / "daybook" / "samples"
         self.run("tar", "-xzf", str(package))
         self.unpacked = self.folder / package.name.removesuffix(".tar.gz")
 
@@ -124,10 +125,19 @@ def rust(place: Place) -> None:
     package = place.folder / "in_rust"
     (package / "src").mkdir(parents=True)
     shutil.copy(place.examples / "book.rs", package / "src" / "main.rs")
-    manifest = f'[package]\nname = "in_rust"\nversion = "0.1.0"\nedition = "2021"\n\n[dependencies]\ndaybook = {{ path = "{place.prefix}/share/daybook/rust" }}\n'
+    (package / "src" / "bin").mkdir()
+    shutil.copy(place.examples / "text.rs", package / "src" / "bin" / "text.rs")
+    both = "".join(f'{name} = {{ path = "{place.prefix}/share/daybook/{folder}" }}\n' for name, folder in (("daybook", "rust"), ("daybook-text", "rust-text")))
+    manifest = f'[package]\nname = "in_rust"\nversion = "0.1.0"\nedition = "2021"\n\n[dependencies]\n{both}'
     (package / "Cargo.toml").write_text(manifest, encoding="utf-8")
     place.run("cargo", "build", "--quiet", "--offline", "--manifest-path", "in_rust/Cargo.toml")
     place.hold(DAY, "in_rust/target/debug/in_rust")
+    place.hold("reduction 1: user 101, 15000 MWh\n", "in_rust/target/debug/text", f"{place.samples}/reduction.txt")
+    place.hold("".join(f":{fault}\n" for fault in faults(place)), "in_rust/target/debug/text", f"{place.samples}/refused.txt")
+    # The documents of both can be made without the library.
+    place.settings["DAYBOOK_ARCHIVE_DIR"] = str(place.folder)
+    place.run("cargo", "doc", "--quiet", "--offline", "--no-deps", "--manifest-path", "in_rust/Cargo.toml", "-p", "daybook", "-p", "daybook-text")
+    del place.settings["DAYBOOK_ARCHIVE_DIR"]
 
 
 def python(place: Place) -> None:
@@ -140,8 +150,33 @@ def python(place: Place) -> None:
     place.run(sys.executable, *pip, *wheels)
     place.settings["PYTHONPATH"] = "in_python"
     place.hold(DAY, sys.executable, "-B", f"{place.examples}/book.py")
+    text = (sys.executable, "-B", f"{place.examples}/text.py")
+    place.hold("1 reductions, 15000 MWh\n", *text, f"{place.samples}/reduction.txt")
+    place.hold("".join(f"{fault.split(': ', 1)[1]}\n" for fault in faults(place)), *text, f"{place.samples}/refused.txt")
+    same_files(place)
     if not (place.folder / "in_python" / "daybook" / "py.typed").exists():
         raise Fault("the wheel has no py.typed")
+
+
+def faults(place: Place) -> list[str]:
+    """What the program says of the sample that is refused: a line for each fault, from its line and column on."""
+    told = place.ran("daybook", "check", f"{place.samples}/refused.txt").stdout.splitlines()
+    found = [line.split("refused.txt:", 1)[1] for line in told if ": user " in line or ": trade " in line or ": header" in line]
+    if not found:
+        raise Fault("daybook check tells no fault of refused.txt")
+    return found
+
+
+def same_files(place: Place) -> None:
+    """Texts and tables that the module writes are those of the program, for every sample that is a book, and both read hostile ones alike."""
+    for book in sorted(place.samples.glob("*.gdb")):
+        script = f"import daybook, sys; book = daybook.Operator().read(open({str(book)!r}, 'rb').read())"
+        place.hold(place.run("daybook", "text", str(book)), sys.executable, "-B", "-c", f"{script}; sys.stdout.write(daybook.write_text(book))")
+        place.run("daybook", "csv", str(book), f"{book.stem}-by-program")
+        place.run(sys.executable, "-B", "-c", f"{script}; daybook.write_csv(book, {book.stem + '-by-module'!r})")
+        place.run("diff", "-r", f"{book.stem}-by-program", f"{book.stem}-by-module")
+    shutil.copy(Path(__file__).resolve().parents[2] / "python" / "hostile.py", place.folder)
+    place.run(sys.executable, "-B", "hostile.py", str(place.prefix / "bin" / "daybook"), str(place.samples))
 
 
 def tried(package: Path, folder: Path) -> None:

@@ -2,11 +2,11 @@
 
 use daybook::{Level, Operator, Refusal, User};
 
-use crate::faults::Fault;
-use crate::fields::Field;
 use crate::reasons::{book_word, Asked};
 use crate::source::{Source, Store};
-use crate::words::{euros, grouped, AREAS};
+use daybook_text::faults::Fault;
+use daybook_text::fields::Field;
+use daybook_text::words::{euros, grouped, AREAS};
 
 /// What to do about the first of the fields at fault.
 pub fn of_faults<'a>(faults: impl IntoIterator<Item = &'a Fault>) -> Option<&'static str> {

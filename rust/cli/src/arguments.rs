@@ -145,7 +145,7 @@ fn is_option(word: &OsStr) -> bool {
 
 /// A number in plain decimal; commas may stand before every three digits.
 fn read<T: TryFrom<i128>>(word: &OsStr) -> Option<T> {
-    T::try_from(crate::words::read_whole(word.to_str()?)?).ok()
+    T::try_from(daybook_text::words::read_whole(word.to_str()?)?).ok()
 }
 
 /// A user's id.

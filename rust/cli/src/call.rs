@@ -8,14 +8,14 @@ use daybook::{Log, Operator, Refusal, User};
 use crate::arguments::{id, Arguments};
 use crate::files::{self, Held};
 use crate::form::Form;
-use crate::json::Object;
 use crate::log_file::{noted, LogFile};
 use crate::outcome::{Failure, Outcome};
 use crate::reasons::Asked;
 use crate::refusals;
 use crate::source::{accepted, open, Given, Source, Store};
-use crate::words::{grouped, wide};
 use crate::write::{self, New};
+use daybook_text::json::Object;
+use daybook_text::words::{grouped, wide};
 
 /// What every call is given.
 pub struct Call {

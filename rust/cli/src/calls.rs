@@ -5,14 +5,14 @@ use daybook::{GuaranteeCall, Level, Operator, Reduction, Refusal, User};
 
 use crate::arguments::{amount, Arguments};
 use crate::call::{answer, Call};
-use crate::credit::{by_area, credits, has_credit, lines};
-use crate::fields::has_managers;
-use crate::groups::{shares, Share};
-use crate::json::{list, Object, MANAGERS};
 use crate::outcome::{Failure, Outcome};
 use crate::reasons::Asked;
-use crate::text;
-use crate::words::{code, euros, grouped, word, AREAS, ROLES};
+use daybook_text::credit::{by_area, credits, has_credit, lines};
+use daybook_text::fields::has_managers;
+use daybook_text::groups::{shares, Share};
+use daybook_text::json::{list, Object, MANAGERS};
+use daybook_text::text;
+use daybook_text::words::{code, euros, grouped, word, AREAS, ROLES};
 
 pub fn show(arguments: &Arguments) -> Result<Outcome, Failure> {
     arguments.expect(

@@ -6,12 +6,12 @@ use daybook::{Book, Operator, Trade};
 use crate::arguments::Arguments;
 use crate::call::{answer, Call};
 use crate::form::Form;
-use crate::json::list;
 use crate::outcome::{Failure, Outcome};
 use crate::reasons::Asked;
-use crate::text::{aligned, trade_cells};
-use crate::trace::tariffs;
-use crate::words::{counted, euros, grouped};
+use daybook_text::json::list;
+use daybook_text::text::{aligned, trade_cells};
+use daybook_text::trace::tariffs;
+use daybook_text::words::{counted, euros, grouped};
 
 pub fn cancel(arguments: &Arguments) -> Result<Outcome, Failure> {
     arguments.expect(

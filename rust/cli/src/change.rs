@@ -6,14 +6,14 @@ use daybook::{Book, Operator, Refusal, Trade, User};
 use crate::arguments::Arguments;
 use crate::call::Call;
 use crate::compare::{Difference, DIFFERENCE};
-use crate::draft::{define_position, Mistake, Spot};
-use crate::faults::{faults_of, Fault};
-use crate::fields::{has_managers, prices, put_price, PRICES};
 use crate::form::{csv_row, Form};
 use crate::outcome::{Failure, Outcome};
 use crate::refusals;
-use crate::text::{mistake, no_manager, read_manager, short, Words, NONE};
-use crate::words::{code, date, euros, grouped, read_euros, read_whole, AREAS};
+use daybook_text::draft::{define_position, Mistake, Spot};
+use daybook_text::faults::{faults_of, Fault};
+use daybook_text::fields::{has_managers, prices, put_price, PRICES};
+use daybook_text::text::{mistake, no_manager, read_manager, short, Words, NONE};
+use daybook_text::words::{code, date, euros, grouped, read_euros, read_whole, AREAS};
 
 pub fn change(arguments: &Arguments) -> Result<Outcome, Failure> {
     let usage = "change BOOK CHANGE.. [-o FILE|--in-place] [--csv|--json]";
@@ -293,7 +293,7 @@ where
     let sum = was.into().checked_add(more);
     let sum = sum.and_then(|sum| T::try_from(sum).ok());
     sum.ok_or_else(|| {
-        let limits = crate::limits::limits(name);
+        let limits = daybook_text::limits::limits(name);
         let reason = format!("{name} with {} is not within {limits}", short(word));
         mistake(spot, reason)
     })

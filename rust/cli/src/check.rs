@@ -5,17 +5,17 @@ use std::path::Path;
 use daybook::{Book, Operator, Refusal};
 
 use crate::arguments::Arguments;
-use crate::draft::Spot;
-use crate::faults::Fault;
-use crate::fields::Place;
 use crate::files;
 use crate::form::{csv_row, Form};
-use crate::json::Object;
 use crate::outcome::{Failure, Outcome, Status};
 use crate::reasons::{reason, Asked};
 use crate::refusals;
 use crate::source::{accepted, given, verdict, Given, Source, Store, Verdict};
-use crate::words::{counted, date};
+use daybook_text::draft::Spot;
+use daybook_text::faults::Fault;
+use daybook_text::fields::Place;
+use daybook_text::json::Object;
+use daybook_text::words::{counted, date};
 
 /// The columns of a verdict; a refused book has a row for each field at fault, a text
 /// that cannot be read one for each mistake.

@@ -2,10 +2,10 @@
 
 use daybook::{Book, Trade, User};
 
-use crate::fields::{has_managers, Field};
-use crate::json::Object;
-use crate::text::{aligned, Cells, NONE};
-use crate::words::{euros, grouped, wide, word, AREAS, DAYS, KINDS, ROLES};
+use daybook_text::fields::{has_managers, Field};
+use daybook_text::json::Object;
+use daybook_text::text::{aligned, Cells, NONE};
+use daybook_text::words::{euros, grouped, wide, word, AREAS, DAYS, KINDS, ROLES};
 
 /// The fields of users that have a name of their own, in the order of the records.
 const OF_USERS: [Field; 14] = [

@@ -5,17 +5,17 @@ use daybook::{Book, Operator, Trade, User};
 
 use crate::arguments::Arguments;
 use crate::day::{standings, Standing, Totals};
-use crate::fields::{prices, PRICES};
 use crate::files;
 use crate::form::{csv_row, plain, Form};
-use crate::json::Object;
 use crate::outcome::{Failure, Outcome};
 use crate::reasons::Asked;
 use crate::refusals::of_call;
 use crate::run::run_line;
 use crate::source::{open, Source, Store};
-use crate::text::trade_cells;
-use crate::words::{date, euros, grouped, wide, word, AREAS, ROLES};
+use daybook_text::fields::{prices, PRICES};
+use daybook_text::json::Object;
+use daybook_text::text::trade_cells;
+use daybook_text::words::{date, euros, grouped, wide, word, AREAS, ROLES};
 
 /// A difference: what it is about, the field, and what each book has.
 #[derive(Clone, Debug, PartialEq, Eq)]

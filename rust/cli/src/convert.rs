@@ -3,14 +3,16 @@
 use daybook::{Book, Operator, Refusal, Version};
 
 use crate::arguments::Arguments;
-use crate::fields::{has_managers, has_selling_tariffs, prices, COMMON_PRICES, PRICES, VERSIONS};
 use crate::files;
 use crate::made::{hold, put, read};
 use crate::outcome::{Failure, Outcome};
 use crate::reasons::book_word;
 use crate::refusals;
 use crate::source::{accepted, Source};
-use crate::words::{euros, AREAS};
+use daybook_text::fields::{
+    has_managers, has_selling_tariffs, prices, COMMON_PRICES, PRICES, VERSIONS,
+};
+use daybook_text::words::{euros, AREAS};
 
 /// How many fields the change that drops them is told for.
 const MOST_TOLD: usize = 4;

@@ -2,14 +2,14 @@
 
 use daybook::{Book, User};
 
-use crate::credit::{by_area, credits, has_credit};
 use crate::day::Standing;
-use crate::groups::{area_of, bearer, has_groups, shares};
 use crate::page::{escaped, row, section, table, user_link, user_place};
 use crate::source::Source;
 use crate::state::State;
-use crate::trace::{tariffs, Trace};
-use crate::words::{euros, grouped, word, AREAS, ROLES};
+use daybook_text::credit::{by_area, credits, has_credit};
+use daybook_text::groups::{area_of, bearer, has_groups, shares};
+use daybook_text::trace::{tariffs, Trace};
+use daybook_text::words::{euros, grouped, word, AREAS, ROLES};
 
 /// The users, each with what it was before the run where that is something else.
 pub fn users(source: &Source, trace: &Trace, before: &[Standing], after: &[Standing]) -> String {

@@ -7,12 +7,12 @@ use daybook::{GuaranteeCall, Level, Operator, Refusal};
 use crate::arguments::Arguments;
 use crate::call::{answer, Call, Changed};
 use crate::form::{csv_row, Form};
-use crate::json::Object;
 use crate::outcome::{Failure, Outcome};
 use crate::reasons::Asked;
 use crate::source::Source;
-use crate::text::aligned;
-use crate::words::{counted, euros, plain_euros};
+use daybook_text::json::Object;
+use daybook_text::text::aligned;
+use daybook_text::words::{counted, euros, plain_euros};
 
 /// A call that was made, or one that the assigned guarantee does not cover.
 #[derive(Clone, Copy, Debug, PartialEq, Eq)]

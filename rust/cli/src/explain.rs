@@ -4,19 +4,19 @@ use daybook::{Book, Operator, Trade};
 
 use crate::arguments::Arguments;
 use crate::calls::reduction_object;
-use crate::credit::{by_area, lines, Credited};
 use crate::form::{csv_row, or_null, Form};
-use crate::groups::{self, area_of, bearer, with_groups};
-use crate::json::{list, Object};
 use crate::outcome::{Failure, Outcome};
 use crate::reasons::Asked;
 use crate::refusals::of_call;
 use crate::run::run_line;
 use crate::source::{open, Store};
-use crate::store::{figures, Figures};
-use crate::text::aligned;
-use crate::trace::{reference_prices, trace, Extent, Sale, Step, Tier, Trace};
-use crate::words::{counted, euros, grouped, plain_euros, wide, word, AREAS};
+use daybook_text::credit::{by_area, lines, Credited};
+use daybook_text::groups::{self, area_of, bearer, with_groups};
+use daybook_text::json::{list, Object};
+use daybook_text::store::{figures, Figures};
+use daybook_text::text::aligned;
+use daybook_text::trace::{reference_prices, trace, Extent, Sale, Step, Tier, Trace};
+use daybook_text::words::{counted, euros, grouped, plain_euros, wide, word, AREAS};
 
 /// How many reductions are shown of a long run.
 const FIRST: usize = 5;

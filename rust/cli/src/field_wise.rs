@@ -7,8 +7,6 @@ use daybook::{Operator, Refusal};
 
 use crate::arguments::Arguments;
 use crate::columns::{has, named, names, Column};
-use crate::faults::faults;
-use crate::fields::{Field, FORM_MARK};
 use crate::files;
 use crate::form::Form;
 use crate::form_bytes::in_records;
@@ -17,6 +15,8 @@ use crate::outcome::{Failure, Outcome};
 use crate::refusals;
 use crate::source::{accepted, given, Given};
 use crate::table;
+use daybook_text::faults::faults;
+use daybook_text::fields::{Field, FORM_MARK};
 
 const USAGE: &str = "fields BOOK|FORM -o FILE [--force], \
                      or fields --column NAME FORM|BOOK|DIR.. [--csv|--json]";

@@ -4,7 +4,7 @@ use std::fmt::Display;
 
 use crate::arguments::Arguments;
 use crate::outcome::Failure;
-use crate::words::{read_euros, read_whole};
+use daybook_text::words::{read_euros, read_whole};
 
 /// The form that is asked for.
 #[derive(Clone, Copy, Debug, PartialEq, Eq)]

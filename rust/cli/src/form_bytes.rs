@@ -4,7 +4,7 @@
 
 use daybook::{header_length, user_length, Columns, TRADE_LENGTH};
 
-use crate::fields::MARK;
+use daybook_text::fields::MARK;
 
 /// The bytes of a form in the order of a book, with its mark. Where the counts and
 /// the length do not go together the bytes stay as they are.

@@ -5,15 +5,15 @@ use daybook::{Line, Refusal};
 
 use crate::arguments::Arguments;
 use crate::call::Call;
-use crate::csv::read_corrections;
 use crate::files;
 use crate::form::Form;
-use crate::json::Object;
 use crate::outcome::{Failure, Outcome, Status};
 use crate::reasons::{reason, Asked};
 use crate::refusals;
-use crate::text::aligned;
-use crate::words::{grouped, word, AREAS};
+use daybook_text::csv::read_corrections;
+use daybook_text::json::Object;
+use daybook_text::text::aligned;
+use daybook_text::words::{grouped, word, AREAS};
 
 pub fn list(arguments: &Arguments) -> Result<Outcome, Failure> {
     let usage = "list BOOK FILE.csv [-o FILE|--in-place] [--log FILE] [--csv|--json] \

@@ -9,14 +9,14 @@ use crate::arguments::Arguments;
 use crate::check::described;
 use crate::files;
 use crate::form::{csv_row, Form};
-use crate::json::Object;
 use crate::log_file::{noted, together, LogFile, Noted, CUTS};
 use crate::made::{hold, put, read};
 use crate::outcome::{Failure, Outcome};
 use crate::refusals;
 use crate::source::{accepted, open, Given, Source};
-use crate::text;
-use crate::words::{date, grouped, wide};
+use daybook_text::json::Object;
+use daybook_text::text;
+use daybook_text::words::{date, grouped, wide};
 
 const USAGE: &str = "log BOOK -o LOG [--force], log LOG [BOOK] [--csv|--json], \
                      or log --held LOG -o BOOK [--force]";

@@ -7,10 +7,10 @@ use std::path::{Path, PathBuf};
 use daybook::{Log, Operator, Refusal, Trade, Withdrawal};
 
 use crate::files;
-use crate::json::Object;
 use crate::outcome::Failure;
-use crate::trace::tariffs;
-use crate::words::{counted, euros, grouped, word, AREAS};
+use daybook_text::json::Object;
+use daybook_text::trace::tariffs;
+use daybook_text::words::{counted, euros, grouped, word, AREAS};
 
 /// A log, and the file that it was read from.
 #[derive(Clone, Debug, PartialEq, Eq)]
@@ -164,7 +164,7 @@ impl Noted {
             .put("reduction", self.place)
             .put("mwh", self.mwh)
             .put("worth_cents", self.worth)
-            .put("cuts", crate::json::list(self.cuts.iter().map(cut)))
+            .put("cuts", daybook_text::json::list(self.cuts.iter().map(cut)))
     }
 
     /// A row for each trade that was cut, with the columns of `CUTS`.
@@ -177,7 +177,7 @@ impl Noted {
                 cut.trade.buyer.to_string(),
                 word(&AREAS, cut.trade.area),
                 cut.mwh.to_string(),
-                crate::words::plain_euros(cut.worth),
+                daybook_text::words::plain_euros(cut.worth),
             ]
         };
         self.cuts.iter().map(row).collect()

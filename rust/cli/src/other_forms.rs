@@ -4,14 +4,14 @@ use std::fs;
 use std::path::PathBuf;
 
 use crate::arguments::Arguments;
-use crate::csv::{self, Dates, Style};
-use crate::draft::Draft;
 use crate::files;
 use crate::outcome::{Failure, Outcome};
 use crate::refusals::{self, noted};
 use crate::source::{open, tables};
-use crate::text;
 use crate::write::{self, New};
+use daybook_text::csv::{self, Dates, Style};
+use daybook_text::draft::Draft;
+use daybook_text::text;
 
 pub fn text(arguments: &Arguments) -> Result<Outcome, Failure> {
     arguments.expect(1, 1, "text BOOK [--positions] [-o FILE [--force]]")?;

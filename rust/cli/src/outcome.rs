@@ -4,8 +4,8 @@
 use std::fmt::Display;
 
 use crate::form::{csv_row, Form};
-use crate::json::Object;
 use crate::source::Source;
+use daybook_text::json::Object;
 
 /// The exit status; of two the later one counts.
 #[derive(Clone, Copy, Debug, Default, PartialEq, Eq, PartialOrd, Ord)]

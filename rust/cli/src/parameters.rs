@@ -8,14 +8,14 @@
 use daybook::{Book, Operator, Prices, Refusal, User};
 
 use crate::arguments::Arguments;
-use crate::draft::{too_long, Mistake, MOST_MISTAKES};
 use crate::files;
 use crate::other_forms::output;
 use crate::outcome::{Failure, Outcome};
 use crate::refusals;
-use crate::store::{malformed, sets, to_bytes, Figures, Set};
-use crate::text::{aligned, mistake, starts_with_word, Words};
-use crate::words::{date, euros, grouped};
+use daybook_text::draft::{too_long, Mistake, MOST_MISTAKES};
+use daybook_text::store::{malformed, sets, to_bytes, Figures, Set};
+use daybook_text::text::{aligned, mistake, starts_with_word, Words};
+use daybook_text::words::{date, euros, grouped};
 
 /// The word that a store's text starts with.
 const FIRST: &str = "parameters";

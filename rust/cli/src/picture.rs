@@ -7,11 +7,11 @@
 
 use daybook::Book;
 
-use crate::chapter::{Chapter, Cut};
 use crate::page::{link, reduction_place, user_place};
 use crate::picture_groups::{bracket, groups, BRACKET};
-use crate::trace::Trace;
-use crate::words::{grouped, AREAS};
+use daybook_text::chapter::{Chapter, Cut};
+use daybook_text::trace::Trace;
+use daybook_text::words::{grouped, AREAS};
 
 /// Between two users, by how many there are.
 const NARROW: usize = 132;

@@ -2,8 +2,8 @@
 
 use daybook::{Book, User};
 
-use crate::groups::manager;
-use crate::words::AREAS;
+use daybook_text::groups::manager;
+use daybook_text::words::AREAS;
 
 /// The height of brackets, above the names.
 pub const BRACKET: usize = 20;

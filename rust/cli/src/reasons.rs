@@ -7,12 +7,12 @@ use daybook::{Book, Level, Operator, Refusal, User};
 
 use crate::cancel::worth;
 use crate::files::{is_standard, quoted, shown};
-use crate::groups::{is_eligible, shares};
-use crate::log_faults::{log_fault, LogFault};
 use crate::log_file::LogFile;
 use crate::source::{Source, Store};
-use crate::store;
-use crate::words::{counted, euros, grouped, wide, word, AREAS};
+use daybook_text::groups::{is_eligible, shares};
+use daybook_text::log_faults::{log_fault, LogFault};
+use daybook_text::store;
+use daybook_text::words::{counted, euros, grouped, wide, word, AREAS};
 
 /// What was asked for.
 #[derive(Clone, Copy, Debug, PartialEq, Eq)]

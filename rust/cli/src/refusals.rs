@@ -6,16 +6,16 @@ use daybook::{Operator, Refusal};
 
 use crate::advice;
 use crate::convert::Lost;
-use crate::draft::{Mistake, Spot};
-use crate::faults::Fault;
-use crate::fields::Place;
 use crate::form::or_null;
-use crate::json::{list, quoted, Object};
-use crate::log_faults::log_fault;
 use crate::log_file::LogFile;
 use crate::outcome::{Failure, Told};
 use crate::reasons::{self, reason, Asked};
 use crate::source::{Source, Store};
+use daybook_text::draft::{Mistake, Spot};
+use daybook_text::faults::Fault;
+use daybook_text::fields::Place;
+use daybook_text::json::{list, quoted, Object};
+use daybook_text::log_faults::log_fault;
 
 /// How many faults of a book are told in words.
 const MOST_FAULTS: usize = 20;

@@ -3,10 +3,10 @@
 use daybook::Refusal;
 
 use crate::advice::of_faults;
-use crate::draft::{Mistake, Spot};
-use crate::faults::Fault;
 use crate::page::{escaped, page, row, section, table};
 use crate::refusals::question;
+use daybook_text::draft::{Mistake, Spot};
+use daybook_text::faults::Fault;
 
 /// The page of a book that fails a question.
 pub fn of_book(

@@ -3,13 +3,10 @@
 use daybook::Operator;
 
 use crate::arguments::Arguments;
-use crate::credit::has_credit;
 use crate::day::{deposits, standings, Deposits, Standing};
 use crate::day_tables::{trade_place, trades, users};
 use crate::explain::MOST;
-use crate::fields::{prices, PRICES};
 use crate::files;
-use crate::groups::has_groups;
 use crate::other_forms::output;
 use crate::outcome::{Failure, Outcome};
 use crate::page::{
@@ -20,10 +17,13 @@ use crate::reasons::Asked;
 use crate::refusals::{self, of_call};
 use crate::refused_page;
 use crate::source::{given, verdict, Given, Source, Store, Verdict};
-use crate::store::{figures, Figures};
 use crate::to_do::Due;
-use crate::trace::{trace, Extent, Step, Trace};
-use crate::words::{counted, date, euros, grouped};
+use daybook_text::credit::has_credit;
+use daybook_text::fields::{prices, PRICES};
+use daybook_text::groups::has_groups;
+use daybook_text::store::{figures, Figures};
+use daybook_text::trace::{trace, Extent, Step, Trace};
+use daybook_text::words::{counted, date, euros, grouped};
 
 /// How many reductions are shown of a long run.
 const FIRST: usize = 30;

@@ -6,12 +6,12 @@ use crate::arguments::Arguments;
 use crate::call::Call;
 use crate::files::quoted;
 use crate::form::{or_null, Form};
-use crate::json::{list, Object};
 use crate::outcome::{Failure, Outcome, Status};
 use crate::reasons::{book_word, full, Asked};
 use crate::state::{states, State};
-use crate::text;
-use crate::words::{euros, grouped, AREAS};
+use daybook_text::json::{list, Object};
+use daybook_text::text;
+use daybook_text::words::{euros, grouped, AREAS};
 
 pub fn run(arguments: &Arguments) -> Result<Outcome, Failure> {
     let usage = "run BOOK [-o FILE|--in-place] [--log FILE] [--csv|--json] [--store FILE]";

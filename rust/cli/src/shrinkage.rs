@@ -4,14 +4,14 @@
 use daybook::shrinkage::{over_days, shrinkage_return, Kwh};
 
 use crate::arguments::Arguments;
-use crate::draft::{too_long, Mistake, Spot};
 use crate::files;
 use crate::form::Form;
-use crate::json::{list, Object};
 use crate::outcome::{Failure, Outcome, Told};
 use crate::refusals;
-use crate::text::{aligned, short};
-use crate::words::{grouped, read_whole};
+use daybook_text::draft::{too_long, Mistake, Spot};
+use daybook_text::json::{list, Object};
+use daybook_text::text::{aligned, short};
+use daybook_text::words::{grouped, read_whole};
 
 /// A line of the file: a name, or none, and a balance.
 pub struct Balance {

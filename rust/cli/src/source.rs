@@ -5,14 +5,14 @@ use std::path::Path;
 
 use daybook::{Operator, Refusal};
 
-use crate::csv;
-use crate::draft::{Draft, Mistake, Spot};
-use crate::faults::{faults, Fault};
 use crate::files;
 use crate::outcome::Failure;
 use crate::parameters::from_file;
 use crate::refusals;
-use crate::text;
+use daybook_text::csv;
+use daybook_text::draft::{Draft, Mistake, Spot};
+use daybook_text::faults::{faults, Fault};
+use daybook_text::text;
 
 /// An accepted book, and how it was given.
 #[derive(Clone, Debug, PartialEq, Eq)]

@@ -5,20 +5,20 @@ use daybook::{Book, Operator, Run};
 
 use crate::arguments::Arguments;
 use crate::day::{deposits, standings, Confirmed, Deposits, Standing};
-use crate::fields::has_managers;
 use crate::form::{csv_row, or_null, Form};
-use crate::groups::{has_groups, shares, with_groups};
-use crate::json::Object;
 use crate::outcome::{Failure, Outcome};
 use crate::reasons::Asked;
 use crate::refusals::of_call;
 use crate::run::run_line;
 use crate::source::{open, Source, Store};
-use crate::store::figures;
-use crate::text::aligned;
 use crate::why::why;
 use crate::why_words;
-use crate::words::{euros, plain_euros, word, ROLES};
+use daybook_text::fields::has_managers;
+use daybook_text::groups::{has_groups, shares, with_groups};
+use daybook_text::json::Object;
+use daybook_text::store::figures;
+use daybook_text::text::aligned;
+use daybook_text::words::{euros, plain_euros, word, ROLES};
 
 /// The columns of a user's row; in version 3 the managers follow.
 const COLUMNS: [&str; 9] = [

@@ -11,11 +11,11 @@ use crate::arguments::Arguments;
 use crate::day::{totals, Totals};
 use crate::files;
 use crate::form::{csv_row, or_null, Form};
-use crate::json::Object;
 use crate::outcome::{Failure, Outcome, Status};
 use crate::source::{given, is_tables, verdict, Store, Verdict};
-use crate::text::aligned;
-use crate::words::{counted, date, euros, grouped, plain_euros, wide};
+use daybook_text::json::Object;
+use daybook_text::text::aligned;
+use daybook_text::words::{counted, date, euros, grouped, plain_euros, wide};
 
 /// The columns of a row.
 const COLUMNS: [&str; 13] = [

@@ -3,7 +3,7 @@
 use crate::day::{Confirmed, Deposits, Standing};
 use crate::page::{escaped, row, section, table, tiles, user_link};
 use crate::source::Source;
-use crate::words::{counted, euros};
+use daybook_text::words::{counted, euros};
 
 /// The day before its run and after it.
 pub struct Due<'a> {

@@ -7,11 +7,11 @@ use daybook::{archive, Level, Refusal, Shipper, Trade, User};
 use crate::arguments::Arguments;
 use crate::call::{answer, Call};
 use crate::form::Form;
-use crate::json::Object;
 use crate::outcome::{Failure, Outcome};
 use crate::reasons::Asked;
-use crate::text::{aligned, trade_cells};
-use crate::words::{counted, word, AREAS, DAYS, KINDS};
+use daybook_text::json::Object;
+use daybook_text::text::{aligned, trade_cells};
+use daybook_text::words::{counted, word, AREAS, DAYS, KINDS};
 
 impl Call {
     /// The shipper that asks; none where the operator does. One that asks for another's

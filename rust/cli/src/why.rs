@@ -4,12 +4,12 @@
 
 use daybook::{Book, Level, Operator, Refusal, Trade, User};
 
-use crate::called_in::{called_in, CalledIn};
-use crate::credit::credits;
-use crate::groups::{bearers, position, shares, Share};
-use crate::store::Figures;
-use crate::trace::reference_prices;
-use crate::words::AREAS;
+use daybook_text::called_in::{called_in, CalledIn};
+use daybook_text::credit::credits;
+use daybook_text::groups::{bearers, position, shares, Share};
+use daybook_text::store::Figures;
+use daybook_text::trace::reference_prices;
+use daybook_text::words::AREAS;
 
 /// MWh at a price.
 #[derive(Clone, Copy, Debug, PartialEq, Eq)]

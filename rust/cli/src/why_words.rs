@@ -2,15 +2,15 @@
 
 use daybook::Book;
 
-use crate::faults::parties;
 use crate::form::{csv_row, Form};
-use crate::groups::{lines, member_of, with_groups};
-use crate::json::{list, Object};
-use crate::store::Figures;
-use crate::text::aligned;
-use crate::trace::reference_prices;
 use crate::why::{Part, Why};
-use crate::words::{euros, grouped, plain_euros, word, AREAS};
+use daybook_text::faults::parties;
+use daybook_text::groups::{lines, member_of, with_groups};
+use daybook_text::json::{list, Object};
+use daybook_text::store::Figures;
+use daybook_text::text::aligned;
+use daybook_text::trace::reference_prices;
+use daybook_text::words::{euros, grouped, plain_euros, word, AREAS};
 
 pub fn told(form: Form, name: &str, book: &Book, figures: &Figures, why: &Why) -> String {
     match form {

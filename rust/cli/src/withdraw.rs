@@ -9,7 +9,7 @@ use crate::form::{csv_row, Form};
 use crate::log_file::{noted, together, withdrawn, Noted, CUTS};
 use crate::outcome::{Failure, Outcome};
 use crate::reasons::Asked;
-use crate::words::counted;
+use daybook_text::words::counted;
 
 pub fn withdraw(arguments: &Arguments) -> Result<Outcome, Failure> {
     let usage = "withdraw BOOK --log FILE [--all] [-o FILE|--in-place] [--csv|--json] \

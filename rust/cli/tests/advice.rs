@@ -8,8 +8,8 @@ use std::fs;
 
 use books::{Damage, Generator};
 use cli::advice::of_faults;
-use cli::faults::faults;
 use daybook::Operator;
+use daybook_text::faults::faults;
 use shell::Folder;
 
 /// Every field at fault has its advice, and what helps is said once.

@@ -12,10 +12,10 @@ use cli::commands::perform;
 use cli::day::{deposits, standings, totals, Confirmed};
 use cli::outcome::{Outcome, Status};
 use cli::source::Store;
-use cli::store::figures;
 use cli::table::{rows, Found};
 use cli::why::{why, Part};
 use daybook::{Book, Operator, Refusal};
+use daybook_text::store::figures;
 
 const KINDS: [Kind; 4] = [Kind::Small, Kind::Chain, Kind::Midday, Kind::Usual];
 

@@ -8,9 +8,9 @@ use std::fs;
 
 use books::{Generator, Kind};
 use cli::columns::{names, Column};
-use cli::fields::Field;
 use cli::form_bytes::in_records;
 use daybook::{Book, Operator, Refusal};
+use daybook_text::fields::Field;
 use shell::Folder;
 
 /// A folder with a book of each version: `one.gdb`, `two.gdb` and `three.gdb`.

@@ -9,7 +9,7 @@ use std::path::Path;
 
 use cli::commands::perform;
 use cli::outcome::Outcome;
-use cli::text;
+use daybook_text::text;
 
 /// 101 manages 102 and 103 in PVB, 102 manages 103 in TVB. In PVB 102 has -20,000 +
 /// 10,000 - 1,000 = -11,000 MWh and 103 1,000 - 6,000 = -5,000, so that 101 bears

@@ -9,14 +9,14 @@ use std::path::Path;
 
 use books::{Generator, Kind};
 use cli::commands::perform;
-use cli::credit::{by_area, credited};
-use cli::groups::{bearer, has_groups};
 use cli::outcome::Outcome;
-use cli::store::{figures, TODAY};
-use cli::trace::{trace, Extent, Walk};
 use cli::why::{why, Part};
-use cli::{csv, text};
 use daybook::{Book, Level, Operator};
+use daybook_text::credit::{by_area, credited};
+use daybook_text::groups::{bearer, has_groups};
+use daybook_text::store::{figures, TODAY};
+use daybook_text::trace::{trace, Extent, Walk};
+use daybook_text::{csv, text};
 
 const KINDS: [Kind; 6] = [
     Kind::Small,

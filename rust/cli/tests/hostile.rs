@@ -9,11 +9,12 @@
 use std::env;
 
 use books::{Generator, Kind, Random};
-use cli::csv::Style;
-use cli::draft::{Mistake, Refused, Spot, MOST_MISTAKES};
+use cli::parameters;
 use cli::source::{verdict, Given, Verdict};
-use cli::{csv, parameters, text};
 use daybook::Book;
+use daybook_text::csv::Style;
+use daybook_text::draft::{Mistake, Refused, Spot, MOST_MISTAKES};
+use daybook_text::{csv, text};
 
 fn setting(name: &str, else_this: u64) -> u64 {
     env::var(name).map_or(else_this, |value| value.parse().expect("a number"))
@@ -331,7 +332,7 @@ fn stores_and_balances() {
             }
             Ok(made) => {
                 let refused = parameters::refusal(&made).is_some();
-                assert_eq!(refused, cli::store::malformed(&made).is_some());
+                assert_eq!(refused, daybook_text::store::malformed(&made).is_some());
                 if !refused {
                     let again = parameters::read(parameters::write(&made).as_bytes());
                     assert_eq!(again.as_deref(), Ok(made.as_slice()));

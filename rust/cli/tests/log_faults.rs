@@ -5,9 +5,9 @@
 use std::path::Path;
 
 use books::{Generator, Kind};
-use cli::log_faults::log_fault;
 use cli::log_file::LogFile;
 use daybook::{Log, Operator, LOG_LENGTH};
+use daybook_text::log_faults::log_fault;
 
 const KINDS: [Kind; 4] = [Kind::Small, Kind::Chain, Kind::Usual, Kind::Shares];
 

@@ -8,7 +8,8 @@ use std::path::{Path, PathBuf};
 
 use cli::commands::perform;
 use cli::outcome::{Outcome, Status};
-use cli::{csv, shrinkage, text};
+use cli::shrinkage;
+use daybook_text::{csv, text};
 
 fn file(name: &str, bytes: &[u8]) -> PathBuf {
     let folder = Path::new(env!("CARGO_TARGET_TMPDIR")).join("messages");

@@ -10,8 +10,8 @@ use books::{Generator, Kind};
 use cli::parameters;
 use cli::reasons::{reason, Asked};
 use cli::source::Store;
-use cli::store::{figures, malformed, not_in_force};
 use daybook::{Operator, Refusal};
+use daybook_text::store::{figures, malformed, not_in_force};
 use reference::party::{Act, Given};
 use reference::questions::opening_questions;
 

@@ -7,10 +7,10 @@ use std::fs;
 use std::path::Path;
 
 use books::{Generator, Kind};
-use cli::chapter::{Chapter, Cut};
 use cli::commands::perform;
-use cli::words::{euros, grouped};
 use daybook::Operator;
+use daybook_text::chapter::{Chapter, Cut};
+use daybook_text::words::{euros, grouped};
 
 /// The page of a book in bytes.
 fn page(name: &str, book: &[u8]) -> String {
@@ -197,7 +197,7 @@ fn long_marks() {
         .read(&Generator::new(72).sized(2, 2, 1).to_bytes())
         .expect("a book");
     let (one, two) = (book.users[0].id, book.users[1].id);
-    let trace = cli::trace::Trace {
+    let trace = daybook_text::trace::Trace {
         closing: book.clone(),
         reached: book.clone(),
         opening: book,

@@ -8,8 +8,8 @@ mod shell;
 use std::fs;
 
 use books::{Generator, Kind};
-use cli::csv::{self, Dates, Style};
 use daybook::Operator;
+use daybook_text::csv::{self, Dates, Style};
 use shell::Folder;
 
 const HEADER: &str = "version,date,P,Q,L,X,I\n1,2026-03-18,20,21,3,1,0.5\n";

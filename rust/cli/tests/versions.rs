@@ -9,13 +9,13 @@ use std::fs;
 
 use books::{Generator, Kind};
 use cli::commands::perform;
-use cli::credit::{by_area, credited};
-use cli::draft::{Draft, Mistake};
-use cli::faults::faults;
-use cli::store::{figures, TODAY};
-use cli::words::euros;
-use cli::{csv, text};
 use daybook::{Level, Operator, Refusal};
+use daybook_text::credit::{by_area, credited};
+use daybook_text::draft::{Draft, Mistake};
+use daybook_text::faults::faults;
+use daybook_text::store::{figures, TODAY};
+use daybook_text::words::euros;
+use daybook_text::{csv, text};
 
 const ONE: &str = "daybook 1\ndate 2026-03-18\nprices P 20.00 Q 21.00 L 3.00 X 1.00 I 0.50\n";
 const TWO: &str =

@@ -152,7 +152,7 @@ fn the_text_forms_shown() {
     for page in [
         "docs/TOOL.md",
         "rust/cli/help/text.txt",
-        "rust/cli/src/text/mod.rs",
+        "rust/daybook-text/src/text/mod.rs",
     ] {
         let page = fs::read_to_string(root().join(page)).expect("a page");
         let lines = page
@@ -168,7 +168,7 @@ fn the_text_forms_shown() {
             .iter()
             .map(|line| line.split("   ").next().unwrap_or(""));
         let text: Vec<&str> = words.collect();
-        let read = cli::text::read(text.join("\n").as_bytes());
+        let read = daybook_text::text::read(text.join("\n").as_bytes());
         assert!(
             read.is_ok_and(|draft| draft.into_bytes().is_ok()),
             "{text:?}"

@@ -58,6 +58,7 @@ pub struct UserLevels {
 /// An accepted guarantee call.
 #[derive(Clone, Copy, Debug, Default, PartialEq, Eq)]
 pub struct GuaranteeCall {
+    /// The level that blocked was raised to.
     pub level: Level,
     /// Cents added to the blocked guarantee.
     pub added: u64,

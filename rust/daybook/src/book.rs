@@ -2,6 +2,7 @@
 
 use crate::answers::answered;
 use crate::archive;
+use crate::codes::Kind;
 use crate::refusal::Refusal;
 
 /// Bytes of an image: the longest header, 64 users of the longest record and 256
@@ -58,6 +59,7 @@ pub struct Book {
     pub version: u16,
     /// Year × 10,000 + month × 100 + day.
     pub date: u32,
+    /// Tariffs and tolls of the day.
     pub prices: Prices,
     /// 1 to 64 in an accepted book, ids strictly rising.
     pub users: Vec<User>,
@@ -111,8 +113,9 @@ pub struct Prices {
 /// ```
 #[derive(Clone, Copy, Debug, Default, PartialEq, Eq)]
 pub struct User {
+    /// Above 0 in an accepted book, and above those of the users before it.
     pub id: u32,
-    /// 0 shipper, 1 clearing house.
+    /// 0 shipper, 1 clearing house: a byte of [`Role`](crate::Role).
     pub role: u8,
     /// Physical entries in MWh.
     pub physical: [i32; 3],
@@ -140,9 +143,9 @@ pub struct Trade {
     pub seller: u32,
     /// The buyer's id.
     pub buyer: u32,
-    /// 0 PVB, 1 TVB, 2 AVB.
+    /// 0 PVB, 1 TVB, 2 AVB: a byte of [`Area`](crate::Area).
     pub area: u8,
-    /// 0 bilateral, 1 platform, 2 central counterparty.
+    /// 0 bilateral, 1 platform, 2 central counterparty: a byte of [`Kind`].
     pub kind: u8,
     /// 0 for the gas day, 1 for the day after.
     pub day: u8,
@@ -272,7 +275,7 @@ impl User {
 impl Trade {
     /// Whether a reduction may cut it: bilateral, for the gas day.
     pub fn can_be_cut(&self) -> bool {
-        self.kind == 0 && self.day == 0
+        self.kind == Kind::Bilateral.byte() && self.day == 0
     }
 
     /// The fields of a record. The zero byte is not looked at.

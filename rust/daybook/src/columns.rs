@@ -8,29 +8,51 @@ use crate::book::header_length;
 /// trades. Each area's number is a field, and so is each run of zero bytes.
 #[derive(Clone, Copy, Debug, PartialEq, Eq, PartialOrd, Ord, Hash)]
 pub enum Field {
+    /// Of users: the id.
     Id,
+    /// The role.
     Role,
+    /// Three zero bytes, no number.
     UserZeros,
+    /// The physical entry in PVB, MWh with a sign.
     PhysicalPvb,
+    /// That in TVB.
     PhysicalTvb,
+    /// That in AVB.
     PhysicalAvb,
+    /// The position in PVB, MWh with a sign.
     PositionPvb,
+    /// That in TVB.
     PositionTvb,
+    /// That in AVB.
     PositionAvb,
+    /// Unpaid charges, cents with a sign.
     Charges,
+    /// The assigned guarantee in cents.
     Assigned,
+    /// The blocked guarantee in cents.
     Blocked,
-    /// Version 3 has it, and so the two that follow.
+    /// The id of the manager in PVB, 0 for none; version 3 has it, and so the two that follow.
     ManagerPvb,
+    /// That in TVB.
     ManagerTvb,
+    /// That in AVB.
     ManagerAvb,
+    /// Of trades: the seller's id.
     Seller,
+    /// The buyer's id.
     Buyer,
+    /// The area.
     Area,
+    /// The kind.
     Kind,
+    /// The day.
     Day,
+    /// A zero byte.
     TradeZero,
+    /// MWh notified.
     Notified,
+    /// MWh standing.
     Standing,
 }
 
@@ -130,8 +152,11 @@ impl Field {
 /// each, the lowest byte first, one after the other from `offset` on.
 #[derive(Clone, Copy, Debug, PartialEq, Eq)]
 pub struct Column {
+    /// Bytes before it in the form.
     pub offset: usize,
+    /// Bytes of each of its numbers.
     pub width: usize,
+    /// How many numbers it has.
     pub count: usize,
 }
 
@@ -168,8 +193,11 @@ impl Column {
 /// copied, and of the form nothing but these three numbers is looked at.
 #[derive(Clone, Copy, Debug, PartialEq, Eq)]
 pub struct Columns {
+    /// The version of the book.
     pub version: u16,
+    /// How many users it has.
     pub users: usize,
+    /// How many trades it has.
     pub trades: usize,
 }
 

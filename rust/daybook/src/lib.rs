@@ -9,7 +9,7 @@
 //! takes a store of parameter sets (ask 4) and a log of reductions (ask 6), or none,
 //! and with a [`Log`] withdraws the last reduction. A [`Shipper`] has what it may be
 //! told of itself. There is no call without a party, but for those that only
-//! write what they are given in another form: [`write`], [`Log::start`],
+//! write what they are given in another form: [`write()`], [`Log::start`],
 //! [`record_wise`].
 //!
 //! The engine is the archive `libexports.a`, made by `rt staticlib exports`
@@ -26,7 +26,7 @@
 //! [`record_wise`] gives the book back.
 //!
 //! ```
-//! use daybook::{Book, Level, Operator, Prices, Refusal, Shipper, User};
+//! use daybook::{Area, Book, Level, Operator, Prices, Refusal, Shipper, User};
 //!
 //! let prices = Prices { pvb_tariff: 2_000, tank_and_store_tariff: 2_100, ..Prices::default() };
 //! let user = User { id: 101, assigned: 20_000_000, ..User::default() };
@@ -34,7 +34,7 @@
 //! let mut bytes = vec![0; book.length()];
 //! daybook::write(&book, &mut bytes)?;
 //! let mut operator = Operator::new();
-//! operator.posting(&mut bytes, 101, 0, -8_000)?;
+//! operator.posting(&mut bytes, 101, Area::Pvb.into(), -8_000)?;
 //! assert_eq!(operator.morning_level(&bytes, 101), Ok(Level(16_000_000)));
 //! assert_eq!(operator.morning_level(&bytes, 102), Err(Refusal::Id));
 //! assert_eq!(Shipper::new(101).morning_level(&bytes), Ok(Level(16_000_000)));
@@ -43,11 +43,13 @@
 //! ```
 
 #![deny(unsafe_code)]
+#![warn(missing_docs)]
 
 mod answers;
 pub mod archive;
 mod book;
 mod cancellation;
+mod codes;
 mod columns;
 mod forms;
 mod list;
@@ -65,6 +67,7 @@ pub use book::{
     MOST_USERS, RECORD_LENGTH, TRADE_LENGTH,
 };
 pub use cancellation::{Cancellation, MOST_TRIES};
+pub use codes::{Area, Kind, Role};
 pub use columns::{Column, Columns, Field};
 pub use forms::{record_wise, record_wise_into};
 pub use list::{Line, MOST_LINES};

@@ -96,7 +96,7 @@ impl<'a> Operator<'a> {
     }
 
     /// Adds a signed amount of MWh to a user's physical entry and position in an
-    /// area.
+    /// area, a number of [`Area`](crate::Area); any other is refused by question 10.
     pub fn posting(
         &mut self,
         book: &mut [u8],

@@ -4,9 +4,9 @@
 #![forbid(unsafe_code)]
 
 use books::{Generator, Kind};
-use cli::store::{figures, Figures};
-use cli::trace::{tariffs, trace, Extent, Step, Tier, Trace, Walk};
 use daybook::Operator;
+use daybook_text::store::{figures, Figures};
+use daybook_text::trace::{tariffs, trace, Extent, Step, Tier, Trace, Walk};
 use reference::party::{Act, Given};
 use reference::questions::opening_questions;
 
@@ -194,7 +194,7 @@ fn long_runs_are_summarised() {
         .filter_map(|(run, book)| Some((run.ok()?, book)))
         .find(|(run, _)| run.reductions > 100)
         .expect("a long run");
-    let figures = cli::store::TODAY;
+    let figures = daybook_text::store::TODAY;
     let extent = |most: u64| Extent {
         first: 5,
         last: 3,

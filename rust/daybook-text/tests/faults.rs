@@ -4,9 +4,9 @@
 #![forbid(unsafe_code)]
 
 use books::{Damage, Generator, Kind};
-use cli::faults::faults;
-use cli::fields::{Field, Place};
 use daybook::{header_length, user_length, Operator};
+use daybook_text::faults::faults;
+use daybook_text::fields::{Field, Place};
 
 const MANAGERS: [Field; 3] = [Field::Manager(0), Field::Manager(1), Field::Manager(2)];
 

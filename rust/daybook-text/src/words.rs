@@ -1,14 +1,20 @@
 //! Amounts, dates and codes in words: how they are written, and how they are
 //! read back.
 
+use daybook::{Area, Kind, Role};
+
 /// The areas, by their codes.
-pub const AREAS: [&str; 3] = ["PVB", "TVB", "AVB"];
+pub const AREAS: [&str; 3] = [Area::Pvb.name(), Area::Tvb.name(), Area::Avb.name()];
 
 /// The roles, by their codes.
-pub const ROLES: [&str; 2] = ["shipper", "clearing-house"];
+pub const ROLES: [&str; 2] = [Role::Shipper.name(), Role::ClearingHouse.name()];
 
 /// The kinds of trade, by their codes.
-pub const KINDS: [&str; 3] = ["bilateral", "platform", "counterparty"];
+pub const KINDS: [&str; 3] = [
+    Kind::Bilateral.name(),
+    Kind::Platform.name(),
+    Kind::Counterparty.name(),
+];
 
 /// The days of a trade, by their codes.
 pub const DAYS: [&str; 2] = ["d", "d+1"];

@@ -3,10 +3,10 @@
 #![forbid(unsafe_code)]
 
 use books::{Generator, Kind};
-use cli::groups::bearers;
-use cli::store::TODAY;
-use cli::trace::{trace, Extent, Step};
 use daybook::Operator;
+use daybook_text::groups::bearers;
+use daybook_text::store::TODAY;
+use daybook_text::trace::{trace, Extent, Step};
 
 /// A user that is reduced by itself is one that the engine reduces in the opening book,
 /// and nothing that it bears was cut since its first reduction; any other reduction

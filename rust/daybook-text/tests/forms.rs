@@ -6,8 +6,8 @@
 use std::collections::BTreeSet;
 
 use books::{Generator, Kind};
-use cli::draft::Mistake;
-use cli::{csv, text};
+use daybook_text::draft::Mistake;
+use daybook_text::{csv, text};
 
 /// Accepted books of every kind.
 fn accepted(seed: u64, of_each: usize) -> Vec<Vec<u8>> {
@@ -313,9 +313,9 @@ fn long_texts_are_read_quickly() {
         "\n".repeat(10_000_000),
         "#\n".repeat(5_000_000),
     ] {
-        for text in [&text[..cli::draft::LONGEST], &text] {
+        for text in [&text[..daybook_text::draft::LONGEST], &text] {
             let start = processor();
-            drop(text::read(text.as_bytes()).map(cli::draft::Draft::into_bytes));
+            drop(text::read(text.as_bytes()).map(daybook_text::draft::Draft::into_bytes));
             let between = processor();
             assert!(csv::read([text.as_bytes(); 3]).is_err());
             let spent = (between - start, processor() - between);

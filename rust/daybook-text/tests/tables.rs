@@ -2,9 +2,9 @@
 
 #![forbid(unsafe_code)]
 
-use cli::csv;
-use cli::draft::Mistake;
-use cli::fields::Field;
+use daybook_text::csv;
+use daybook_text::draft::Mistake;
+use daybook_text::fields::Field;
 
 /// The mistakes of CSV files, of which one is given and the others are right.
 fn csv_mistakes(place: usize, file: &str) -> Vec<String> {
