@@ -3,9 +3,10 @@
 use reference::book::{
     Book, Trade, User, BILATERAL, CLEARING_HOUSE, MOST_TRADES, MOST_USERS, SHIPPER, TODAY,
 };
+use reference::group::bearer;
 use reference::levels::{afternoon_level_of, flag_limit, morning_level_of, short_positions};
-use reference::reduction::{reduce, sales, tier_worth, tiers};
-use reference::run::next_reduction;
+use reference::reduction::{has_eligible_trade, reduce, sales, tier_worth, tiers};
+use reference::run::short_of_cover;
 use reference::store::Limits;
 use reference::units::{Area, Cents, Mwh, Price, Prices};
 use reference::version::{has_managers, has_selling_tariffs};
@@ -85,16 +86,51 @@ pub fn sized(random: &mut Random, version: u16, users: usize, trades: usize) -> 
     drawn(random, version, users, 0)
 }
 
-/// Whether the run of an accepted book takes at most `most` reductions.
+/// Whether the run of an accepted book takes at most `most` reductions. Each cuts at
+/// least one MWh. Who is due is asked again of those alone who bear the risk of a trade
+/// that a reduction cut: for the others nothing changed. Who has no eligible trade is
+/// never due: cuts give none.
 pub fn ends_within(limits: &Limits, book: &Book, most: u64) -> bool {
+    let trades = book
+        .trades
+        .iter()
+        .filter(|trade| trade.is_bilateral_today());
+    let standing: Mwh = trades.map(|trade| trade.standing).sum();
+    if standing <= Mwh(most.into()) {
+        return true;
+    }
     let mut book = book.clone();
+    let sells = |user: &User| has_eligible_trade(&book, user);
+    let sellers: Vec<bool> = book.users.iter().map(sells).collect();
+    let is_due = |book: &Book, place: usize| {
+        let user = &book.users[place];
+        sellers[place] && short_of_cover(limits, book, user) && has_eligible_trade(book, user)
+    };
+    let places = 0..book.users.len();
+    let mut due: Vec<bool> = places.map(|place| is_due(&book, place)).collect();
     for _ in 0..=most {
-        match next_reduction(limits, &book) {
-            Some(place) => reduce(limits, &mut book, place),
-            None => return true,
+        let Some(place) = due.iter().position(|due| *due) else {
+            return true;
         };
+        let before: Vec<Mwh> = book.trades.iter().map(|trade| trade.standing).collect();
+        reduce(limits, &mut book, place);
+        for place in bearers_of_cuts(&book, &before) {
+            due[place] = is_due(&book, place);
+        }
     }
     false
+}
+
+/// The places of those who bear the risk of the trades that stood otherwise before.
+fn bearers_of_cuts(book: &Book, before: &[Mwh]) -> Vec<usize> {
+    let trades = book.trades.iter().zip(before);
+    let cut = trades.filter(|(trade, before)| trade.standing != **before);
+    let parties = cut.flat_map(|(trade, _)| [(trade, trade.seller), (trade, trade.buyer)]);
+    let bearers = parties.filter_map(|(trade, party)| book.place_of(bearer(book, party, trade)));
+    let mut places: Vec<usize> = bearers.collect();
+    places.sort_unstable();
+    places.dedup();
+    places
 }
 
 fn drawn(random: &mut Random, version: u16, users: usize, trades: usize) -> Book {
@@ -160,7 +196,7 @@ fn set_position_to_zero(user: &mut User, area: usize) {
 pub fn set_positions(book: &mut Book) {
     for place in 0..book.users.len() {
         let user = &book.users[place];
-        let position = Area::ALL.map(|area| book.defined_position(user, area));
+        let position = book.defined_positions(user);
         book.users[place].position = position;
     }
 }

@@ -82,7 +82,7 @@ impl Line {
             party: self.party,
             store: self.store.as_deref(),
         };
-        let found = implementation(&mut book, given, log.as_deref_mut(), call);
+        let found = implementation(&mut book, given, log.as_mut(), call);
         let mut text = keyed(call, &found);
         let told = match call {
             Call::ShowPicked {

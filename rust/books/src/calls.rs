@@ -273,12 +273,13 @@ impl Answer {
 /// What answers a call on a book by a party, with a store and a log, or none, and
 /// changes book and log. A withdrawal and a start without a log are given an empty
 /// part.
-pub type Implementation = fn(&mut [u8], Given<'_>, Option<&mut [u8]>, &Call) -> Answer;
+pub type Implementation = fn(&mut [u8], Given<'_>, Option<&mut Vec<u8>>, &Call) -> Answer;
 
 /// The answer of the reference to a call by this party with this store and log, or
 /// none; book and log are changed as the call says. A party, a store or a log that the
 /// call does not take is not looked at.
-pub fn answer(book: &mut [u8], given: Given<'_>, log: Option<&mut [u8]>, call: &Call) -> Answer {
+pub fn answer(book: &mut [u8], given: Given<'_>, log: Option<&mut Vec<u8>>, call: &Call) -> Answer {
+    let log = log.map(Vec::as_mut_slice);
     match call {
         Call::Posting { id, area, amount } => {
             let number = reference::posting(book, given, log, *id, *area, *amount);
