@@ -7,7 +7,8 @@ use reference::log::LOG_LENGTH;
 use reference::party::{Given, Party};
 use reference::start_log;
 
-use crate::calls::{Answer, Call, Implementation};
+use crate::answers::{Answer, Implementation};
+use crate::calls::Call;
 use crate::sha256::{hex, sha256};
 use crate::vectors::{bytes_of, folder};
 

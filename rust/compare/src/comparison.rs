@@ -316,7 +316,7 @@ impl Comparison {
                 id,
             });
         }
-        if books::generator::is_short_run(book, None) {
+        if books::runs::is_short_run(book, None) {
             calls.extend([Call::Run, Call::Day]);
         }
         calls.push(self.generator.form(book));
@@ -338,7 +338,7 @@ impl Comparison {
                 self.with_any_log(book, &call);
             }
             let store = self.generator.store(book);
-            let short = call != Call::Run || books::generator::is_short_run(book, store.as_deref());
+            let short = call != Call::Run || books::runs::is_short_run(book, store.as_deref());
             if call.takes_store() && short {
                 self.operator(&mut book.to_vec(), store.as_deref(), &call);
             }
