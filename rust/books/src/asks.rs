@@ -7,7 +7,8 @@ use reference::log::LOG_LENGTH;
 use reference::party::{Given, Party};
 use reference::start_log;
 
-use crate::calls::{Answer, Call, Implementation};
+use crate::answers::{Answer, Implementation};
+use crate::calls::Call;
 use crate::sha256::{hex, sha256};
 use crate::vectors::{bytes_of, folder};
 
@@ -82,7 +83,7 @@ impl Line {
             party: self.party,
             store: self.store.as_deref(),
         };
-        let found = implementation(&mut book, given, log.as_deref_mut(), call);
+        let found = implementation(&mut book, given, log.as_mut(), call);
         let mut text = keyed(call, &found);
         let told = match call {
             Call::ShowPicked {

@@ -9,10 +9,11 @@ use reference::levels::afternoon_level_of;
 use reference::store::Limits;
 use reference::units::{Cents, Mwh};
 
-use crate::accepted::{ends_within, header, ids, set_positions, small, MOST_REDUCTIONS};
+use crate::accepted::{header, ids, set_positions, small};
 use crate::calls::Call;
-use crate::generator::{reducible, Arguments, Generator};
+use crate::generator::{Arguments, Generator};
 use crate::random::Random;
+use crate::runs::{ends_within, reducible, MOST_REDUCTIONS};
 use crate::written::{MOST_CENTS, MOST_MWH};
 
 impl Generator {

@@ -7,11 +7,10 @@ use reference::levels::afternoon_level_of;
 use reference::store::Limits;
 use reference::units::{Area, Cents, Mwh};
 
-use crate::accepted::{
-    ends_within, header_of, ids, reprice, set_positions, small, trade, MOST_REDUCTIONS,
-};
+use crate::accepted::{header_of, ids, reprice, set_positions, small, trade};
 use crate::cancellations::call_in;
 use crate::random::Random;
+use crate::runs::{ends_within, MOST_REDUCTIONS};
 use crate::versions::sum_before_floor;
 use crate::written::{EXAMPLE_PRICES, MOST_CENTS};
 

@@ -1,91 +1,21 @@
 //! The generator: books of a kind, arguments and calls for a book.
 
-use reference::book::{length, user_length, Book, User, LONGEST, MOST_USERS, USER_LENGTH};
-use reference::party::{Act, Given};
-use reference::questions::{opening_questions, Opened};
-use reference::run::next_reduction;
-use reference::transfer::Image;
-use reference::version::{self, header_length, FIRST_HEADER_LENGTH, LONGEST_HEADER_LENGTH};
+use reference::book::{user_length, Book, User};
+use reference::version::{header_length, FIRST_HEADER_LENGTH};
 
 use crate::accepted::{
-    any_size, chain, ends_within, extreme, largest, long, midday, shares, sized, small, usual,
-    MOST_LONG_REDUCTIONS,
+    any_size, chain, extreme, largest, long, midday, shares, sized, small, usual,
 };
 use crate::calls::Call;
 use crate::cancellations::whole;
 use crate::credits::credited;
-use crate::damage::{counts, raw, version_of, Damage};
+use crate::damage::{counts, version_of, Damage};
 use crate::groups::{grouped, with_members};
+use crate::kinds::Kind;
 use crate::random::Random;
+use crate::raw::raw;
+use crate::runs::{is_short_run, reducible};
 use crate::stores::{any_store, date_of};
-use crate::versions::VERSIONS;
-
-#[derive(Clone, Copy, Debug, PartialEq, Eq)]
-pub enum Kind {
-    /// Up to 4 users and 7 trades.
-    Small,
-    /// Up to 21 users and 59 trades.
-    Usual,
-    /// Any number of users and of trades.
-    AnySize,
-    /// 64 users and 256 trades.
-    Largest,
-    /// 64 users and 256 trades of the largest amounts and prices.
-    Extreme,
-    /// Cuts that make the buyer short in turn.
-    Chain,
-    /// Many sales of few sizes by one user.
-    Shares,
-    /// A seller asked for what some of its sales are worth.
-    Whole,
-    /// Version 2 or 3 with a credit that decides.
-    Credit,
-    /// Version 3, mostly with groups.
-    Group,
-    /// Flags around their limit.
-    Midday,
-    /// A run of up to 3,000 reductions.
-    Long,
-    /// An accepted book with one field damaged, sometimes two.
-    Damaged,
-    /// Bytes that are no book.
-    Raw,
-}
-
-impl Kind {
-    pub const ALL: [Kind; 14] = [
-        Kind::Small,
-        Kind::Usual,
-        Kind::AnySize,
-        Kind::Largest,
-        Kind::Extreme,
-        Kind::Chain,
-        Kind::Shares,
-        Kind::Whole,
-        Kind::Credit,
-        Kind::Group,
-        Kind::Midday,
-        Kind::Long,
-        Kind::Damaged,
-        Kind::Raw,
-    ];
-
-    /// The kinds that pass questions 1 to 7.
-    pub const ACCEPTED: [Kind; 12] = [
-        Kind::Small,
-        Kind::Usual,
-        Kind::AnySize,
-        Kind::Largest,
-        Kind::Extreme,
-        Kind::Chain,
-        Kind::Shares,
-        Kind::Whole,
-        Kind::Credit,
-        Kind::Group,
-        Kind::Midday,
-        Kind::Long,
-    ];
-}
 
 /// Arguments of the calls: of the book, or hostile.
 #[derive(Clone, Copy, Debug, PartialEq, Eq)]
@@ -183,7 +113,7 @@ impl Generator {
     }
 
     /// An accepted book that is not large.
-    fn few(&mut self) -> Vec<u8> {
+    pub(crate) fn few(&mut self) -> Vec<u8> {
         let kind = self.random.pick(&[
             Kind::Small,
             Kind::Small,
@@ -362,98 +292,6 @@ impl Generator {
             .pick(&[Kind::Small, Kind::Small, Kind::Damaged, Kind::Raw]);
         self.book(kind)
     }
-
-    /// A write of fields that are accepted, or damaged, into a part of the
-    /// right length, or of another.
-    pub fn write(&mut self) -> Call {
-        let bytes = self.few();
-        let (users, trades) = counts(&bytes);
-        let mut image = self.image(bytes, users, trades);
-        if self.random.one_in(6) {
-            // The same fields as those of another version.
-            image[3] = self.random.pick(&VERSIONS).to_le_bytes()[0];
-        }
-        let right = length(version_of(&image), users, trades);
-        if self.random.one_in(3) {
-            self.damage_header(&mut image);
-        }
-        let (less, more) = (
-            [right - 1, right - 8, right - 12],
-            [right + 1, right + 8, right + 12],
-        );
-        let length = match self.random.below(8) {
-            0 => self.random.pick(&[0, 31, 32, 39, 40, LONGEST, LONGEST + 1]),
-            1 => self.random.pick(&[less, more].concat()),
-            _ => right,
-        };
-        Call::Write {
-            image: Box::new(image),
-            length,
-        }
-    }
-
-    /// The image of these records, one of them perhaps damaged. Records past
-    /// the counts are not always 0, and neither are S and U of version 1, the
-    /// managers of versions 1 and 2 and the zero bytes; the mark may be another one.
-    /// Writing looks at none of these.
-    fn image(&mut self, bytes: Vec<u8>, users: usize, trades: usize) -> Image {
-        let mut bytes = bytes;
-        if self.random.one_in(2) {
-            let damage = self.random.pick(&Damage::ALL);
-            if damage.number() > 3 || damage == Damage::Mark {
-                damage.apply(&mut self.random, &mut bytes, (users, trades));
-            }
-        }
-        let version = version_of(&bytes);
-        let (records, sales) = bytes.split_at(length(version, users, 0));
-        let (header, records) = records.split_at(header_length(version));
-        let mut image = [0; LONGEST];
-        if self.random.one_in(2) {
-            let tariffs = FIRST_HEADER_LENGTH..LONGEST_HEADER_LENGTH;
-            image[tariffs].copy_from_slice(&self.tariffs());
-        }
-        image[..header.len()].copy_from_slice(header);
-        let managers = self.random.one_in(2);
-        for (place, record) in records.chunks_exact(user_length(version)).enumerate() {
-            let at = length(version::LAST, place, 0);
-            if managers {
-                let any = self.random.word();
-                let first = reference::book::u32_at(records, 0);
-                let id: u32 = self.random.pick(&[0, first, any]);
-                image[at + USER_LENGTH..][..4].copy_from_slice(&id.to_le_bytes());
-            }
-            image[at..][..record.len()].copy_from_slice(record);
-        }
-        image[length(version::LAST, MOST_USERS, 0)..][..sales.len()].copy_from_slice(sales);
-        if users < MOST_USERS && self.random.one_in(3) {
-            image[length(version::LAST, users, 0)] = 7;
-            image[LONGEST - 1] = 7;
-        }
-        image
-    }
-
-    /// S and U in bytes, in range or not.
-    fn tariffs(&mut self) -> [u8; 8] {
-        let [s, u] = [(); 2].map(|()| {
-            let any = self.random.word();
-            let tariff: u32 = self
-                .random
-                .pick(&[0, 1, 1_900, 99_999, 100_000, 100_001, any]);
-            tariff.to_le_bytes()
-        });
-        let [a, b, c, d] = s;
-        let [e, f, g, h] = u;
-        [a, b, c, d, e, f, g, h]
-    }
-
-    fn damage_header(&mut self, image: &mut Image) {
-        match self.random.below(4) {
-            0 => image[3 + self.random.below(2)] = self.random.pick(&[0, 1, 2, 3, 4, 255]),
-            1 => image[5] = self.random.pick(&[0, 65, 255]),
-            2 => image[7] = self.random.pick(&[2, 255]),
-            _ => image[6] = self.random.byte(),
-        }
-    }
 }
 
 /// The users whose records stand in the bytes, up to the count, whether the
@@ -467,21 +305,4 @@ fn users_in_place(bytes: &[u8]) -> Vec<User> {
     let header = header_length(version).min(bytes.len());
     let records = bytes[header..].chunks_exact(user_length(version));
     records.take(count).map(User::from_bytes).collect()
-}
-
-/// The id of the user whom a run with this store would reduce next.
-pub(crate) fn reducible(bytes: &[u8], store: Option<&[u8]>) -> Option<u32> {
-    let Opened { book, limits } =
-        opening_questions(bytes, Given::by_operator(store), Act::Operators).ok()?;
-    let place = next_reduction(&limits, &book)?;
-    Some(book.users[place].id)
-}
-
-/// Whether the run of these bytes with this store is refused or takes at most
-/// 3,000 reductions.
-pub fn is_short_run(bytes: &[u8], store: Option<&[u8]>) -> bool {
-    match opening_questions(bytes, Given::by_operator(store), Act::Operators) {
-        Ok(Opened { book, limits }) => ends_within(&limits, &book, MOST_LONG_REDUCTIONS),
-        Err(_) => true,
-    }
 }

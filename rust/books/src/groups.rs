@@ -7,12 +7,12 @@ use reference::units::{Area, Mwh};
 use reference::version::{has_managers, LAST};
 
 use crate::accepted::{
-    any_size, chain, ends_within, largest, long, midday, set_positions, shares, sized, small,
-    usual, MOST_REDUCTIONS,
+    any_size, chain, largest, long, midday, set_positions, shares, sized, small, usual,
 };
 use crate::cancellations::whole;
 use crate::credits::credited;
 use crate::random::Random;
+use crate::runs::{ends_within, MOST_REDUCTIONS};
 use crate::versions::in_version_2;
 
 /// The most that a physical entry may be.

@@ -5,6 +5,7 @@
 #![forbid(unsafe_code)]
 
 pub mod accepted;
+pub mod answers;
 pub mod asks;
 pub mod calls;
 pub mod cancellations;
@@ -16,20 +17,25 @@ pub mod forms;
 pub mod generator;
 pub mod groups;
 pub mod hard;
+pub mod kinds;
 pub mod lists;
 pub mod logs;
-pub mod outcome;
 pub mod parties;
 pub mod random;
+pub mod raw;
+pub mod runs;
 pub mod sha256;
 pub mod shrinkage;
 pub mod stores;
 pub mod tuned;
 pub mod vectors;
 pub mod versions;
+pub mod writes;
 pub mod written;
 
-pub use calls::{answer, Answer, Call, Implementation};
+pub use answers::{answer, Answer, Implementation};
+pub use calls::Call;
 pub use damage::Damage;
-pub use generator::{Arguments, Generator, Kind};
+pub use generator::{Arguments, Generator};
+pub use kinds::Kind;
 pub use random::Random;

@@ -42,7 +42,7 @@ pub fn forged(random: &mut Random, bytes: &[u8]) -> Vec<u8> {
         _ => 1 + random.below(4),
     };
     let mut log = Log {
-        entries: vec![[Mwh::ZERO; MOST_TRADES]; count],
+        entries: vec![vec![Mwh::ZERO; book.trades.len()]; count],
     };
     for (place, room) in rooms(&book) {
         let mut room = room;
@@ -213,6 +213,25 @@ pub fn any_log(random: &mut Random, bytes: &[u8]) -> Option<Vec<u8>> {
     }
 }
 
+/// The log that a call of a sequence is given.
+#[derive(Clone, Debug, PartialEq, Eq)]
+pub enum DrawnLog {
+    /// The one that was kept.
+    Kept,
+    /// Another one, or none.
+    Other(Option<Vec<u8>>),
+}
+
+impl DrawnLog {
+    /// The log drawn, where this one was kept.
+    pub fn or_kept(self, kept: &[u8]) -> Option<Vec<u8>> {
+        match self {
+            DrawnLog::Kept => Some(kept.to_vec()),
+            DrawnLog::Other(log) => log,
+        }
+    }
+}
+
 impl Generator {
     /// A call of a sequence with logs: mostly one that takes a log.
     pub fn logged_call(&mut self, book: &[u8], store: Option<&[u8]>) -> Call {
@@ -224,12 +243,12 @@ impl Generator {
         }
     }
 
-    /// The log of a call on this book, in a sequence in which this log was kept:
-    /// mostly that one.
-    pub fn log(&mut self, book: &[u8], kept: &[u8]) -> Option<Vec<u8>> {
+    /// The log of a call on this book, in a sequence in which one was kept: mostly
+    /// that one.
+    pub fn log(&mut self, book: &[u8]) -> DrawnLog {
         match self.random().below(3) {
-            0 => any_log(self.random(), book),
-            _ => Some(kept.to_vec()),
+            0 => DrawnLog::Other(any_log(self.random(), book)),
+            _ => DrawnLog::Kept,
         }
     }
 

@@ -7,7 +7,8 @@ use reference::transfer::Image;
 use reference::version::{FIRST_HEADER_LENGTH, LAST};
 use tuned::requests;
 
-use crate::calls::{Answer, Call};
+use crate::answers::Answer;
+use crate::calls::Call;
 use crate::damage::version_of;
 
 /// The last version that the tuned implementation knows.

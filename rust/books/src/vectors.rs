@@ -12,7 +12,8 @@ use reference::party::Given;
 use reference::transfer::Image;
 use reference::version::{self, FIRST_HEADER_LENGTH, LONGEST_HEADER_LENGTH};
 
-use crate::calls::{Answer, Call, Implementation};
+use crate::answers::{Answer, Implementation};
+use crate::calls::Call;
 use crate::sha256::{hex, sha256};
 
 /// Lines of `calls.txt` that are calls.

@@ -5,7 +5,7 @@
 
 use std::collections::BTreeMap;
 
-use books::calls::PLACE_BEFORE;
+use books::answers::PLACE_BEFORE;
 use books::written::printed_example;
 use books::{answer, Answer, Call, Generator, Kind};
 use reference::book::User;

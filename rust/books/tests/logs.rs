@@ -100,12 +100,15 @@ fn sequence(generator: &mut Generator, counts: &mut Counts) {
             start(generator, &book, counts);
             continue;
         }
-        let lent = generator.log(&book, &log).filter(|_| call.takes_log());
+        let lent = generator
+            .log(&book)
+            .or_kept(&log)
+            .filter(|_| call.takes_log());
         let (before, mut after) = (book.clone(), lent.clone());
         let found = answer(
             &mut book,
             Given::by_operator(store.as_deref()),
-            after.as_deref_mut(),
+            after.as_mut(),
             &call,
         );
         let stopped = found.number == 20 && call == Call::Run;

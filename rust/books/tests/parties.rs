@@ -28,7 +28,7 @@ fn every_call_reaches_26() {
         let store = None;
         let mut log = (call == Call::Withdrawal).then(|| books::logs::started(&book));
         let given = Given { party, store };
-        let found = answer(&mut book, given, log.as_deref_mut(), &call);
+        let found = answer(&mut book, given, log.as_mut(), &call);
         let shipper = party != Party::Operator;
         *met.entry((call.name(), shipper, found.number)).or_default() += 1;
         if shipper && call.takes_party() {

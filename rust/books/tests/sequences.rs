@@ -3,7 +3,7 @@
 
 #![forbid(unsafe_code)]
 
-use books::calls::PLACE_BEFORE;
+use books::answers::PLACE_BEFORE;
 use books::{answer, Call, Generator, Kind};
 use reference::book::Book;
 use reference::party::Given;

@@ -69,7 +69,7 @@ fn sequence(generator: &mut Generator, opening: &[u8], store: Option<&[u8]>) -> 
             0 => Call::Withdrawal,
             _ => generator.changing_call(&bytes, store),
         };
-        let mut lent = generator.log(&bytes, &log);
+        let mut lent = generator.log(&bytes).or_kept(&log);
         step(&mut bytes, store, &mut lent, &call, &mut sums);
         log = lent.unwrap_or(log);
     }
@@ -108,7 +108,7 @@ fn step(
     sums: &mut Sums,
 ) {
     let (before, log_before) = (fields(bytes), log.clone());
-    let found = answer(bytes, Given::by_operator(store), log.as_deref_mut(), call);
+    let found = answer(bytes, Given::by_operator(store), log.as_mut(), call);
     let after = fields(bytes);
     let stopped = found.number == 20 && *call == Call::Run;
     if found.number != 0 && !stopped {

@@ -2,9 +2,10 @@
 //! byte.
 
 use std::fs;
+use std::panic::{catch_unwind, AssertUnwindSafe};
 use std::path::{Path, PathBuf};
 
-use books::logs::{any_log, started};
+use books::logs::{any_log, started, DrawnLog};
 use books::shrinkage::{balances, share};
 use books::{Call, Generator, Implementation, Kind, Random};
 use reference::party::{Given, Party};
@@ -45,6 +46,9 @@ pub struct Comparison {
     folder: PathBuf,
     /// What returns of shrinkage are drawn from.
     balances: Random,
+    /// What the call leaves by the reference, and by the side held against it.
+    expected: Left,
+    found: Left,
     /// The calls compared so far.
     pub counts: Counts,
     /// The returns of shrinkage among them, which are calls on no book.
@@ -69,6 +73,8 @@ impl Comparison {
             calls_left: 0,
             folder: folder.to_path_buf(),
             balances: Random::new(seed),
+            expected: Left::default(),
+            found: Left::default(),
             counts: Counts::default(),
             returns: 0,
             differences: 0,
@@ -129,13 +135,13 @@ impl Comparison {
     fn shrinkage(&mut self) {
         let balances = balances(&mut self.balances);
         let share = share(&mut self.balances);
-        let (found, expected) = (archived(&balances), shrinkage_return(&balances));
-        let same_days = archived_days(share) == over_days(share);
-        if found != expected || !same_days {
+        let expected = (shrinkage_return(&balances), over_days(share));
+        let found = catch_unwind(|| (archived(&balances), archived_days(share)));
+        if found.as_ref().ok() != Some(&expected) {
             self.differences += 1;
-            let seed = self.seed;
-            println!("seed {seed}, return of {balances:?}: {found:?}; reference: {expected:?}");
-            println!("days of {share}: the same as the reference's: {same_days}");
+            let (seed, place) = (self.seed, self.returns);
+            println!("seed {seed}, return {place} of {balances:?} and days of {share}:");
+            println!("archive: {found:?}; reference: {expected:?}");
         }
         self.returns += 1;
     }
@@ -149,14 +155,15 @@ impl Comparison {
             self.logged(&mut source, None, Some(&mut log), &call);
             return kept;
         }
-        let drawn = self.generator.log(book, &kept);
-        let mut lent = drawn.filter(|_| call.takes_log());
-        let number = self.by_any_party(book, store, lent.as_deref_mut(), &call);
-        match (number, lent) {
-            (19, _) => started(book),
-            (_, Some(left)) => left,
-            (_, None) => kept,
-        }
+        let drawn = self.generator.log(book);
+        let (mut lent, kept) = match drawn {
+            DrawnLog::Kept if call.takes_log() => (Some(kept), None),
+            DrawnLog::Other(log) if call.takes_log() => (log, Some(kept)),
+            _ => (None, Some(kept)),
+        };
+        let number = self.by_any_party(book, store, lent.as_mut(), &call);
+        let left = lent.or(kept).filter(|_| number != 19);
+        left.unwrap_or_else(|| started(book))
     }
 
     /// The call by a drawn party, mostly the operator.
@@ -164,7 +171,7 @@ impl Comparison {
         &mut self,
         book: &mut [u8],
         store: Option<&[u8]>,
-        log: Option<&mut [u8]>,
+        log: Option<&mut Vec<u8>>,
         call: &Call,
     ) -> u32 {
         let party = self.generator.party(book, call);
@@ -187,7 +194,7 @@ impl Comparison {
         &mut self,
         book: &mut [u8],
         store: Option<&[u8]>,
-        log: Option<&mut [u8]>,
+        log: Option<&mut Vec<u8>>,
         call: &Call,
     ) -> u32 {
         self.acted(book, Given::by_operator(store), log, call)
@@ -200,56 +207,51 @@ impl Comparison {
         &mut self,
         book: &mut [u8],
         given: Given<'_>,
-        log: Option<&mut [u8]>,
+        log: Option<&mut Vec<u8>>,
         call: &Call,
     ) -> u32 {
         let lent = Lent {
             book,
             given,
-            log: log.as_deref(),
+            log: log.as_deref().map(Vec::as_slice),
             call,
         };
-        let expected = lent.left_by(books::answer);
-        let number = expected.answer.number;
-        self.hold(lent, &expected, "archive", engine::answer);
+        self.expected.make(lent, books::answer);
+        let number = self.expected.answer.number;
+        self.hold(lent, "archive", engine::answer);
         if typed::has(call, given.party, lent.log) {
-            self.hold(lent, &expected, "daybook", typed::answer);
+            self.hold(lent, "daybook", typed::answer);
         }
         if tuned::has(book, given.party, call) && ![19, 20].contains(&number) {
             let without = Lent { log: None, ..lent };
-            self.hold(without, &expected, "tuned", tuned::answer);
+            self.hold(without, "tuned", tuned::answer);
         }
         self.counts.add(Version::of(book, call), call, number);
-        book.copy_from_slice(&expected.book);
-        if let (Some(log), Some(left)) = (log, &expected.log) {
-            log.copy_from_slice(left);
+        book.copy_from_slice(&self.expected.book);
+        if let Some(log) = log {
+            std::mem::swap(log, &mut self.expected.log);
         }
         number
     }
 
     /// Holds the engine, called in one way, or the tuned implementation against
-    /// the expected answer, and the expected book and log afterwards.
-    fn hold(
-        &mut self,
-        lent: Lent<'_>,
-        expected: &Left,
-        side: &str,
-        implementation: Implementation,
-    ) {
-        let found = lent.left_by(implementation);
-        let what = if found.answer != expected.answer {
+    /// the expected answer, and the expected book and log afterwards. A panic of the
+    /// side is a difference.
+    fn hold(&mut self, lent: Lent<'_>, side: &str, implementation: Implementation) {
+        let (found, expected) = (&mut self.found, &self.expected);
+        let made = catch_unwind(AssertUnwindSafe(|| found.make(lent, implementation)));
+        let what = if made.is_err() {
+            format!("{side}: a panic")
+        } else if found.answer != expected.answer {
             differing(side, &found.answer, &expected.answer)
         } else if found.book != expected.book {
             let bytes = first_byte(&found.book, &expected.book);
             format!("{side}: another book afterwards, {bytes}")
+        } else if lent.log.is_some() && found.log != expected.log {
+            let bytes = first_byte(&found.log, &expected.log);
+            format!("{side}: another log afterwards, {bytes}")
         } else {
-            match (&found.log, &expected.log) {
-                (Some(found), Some(expected)) if found != expected => {
-                    let bytes = first_byte(found, expected);
-                    format!("{side}: another log afterwards, {bytes}")
-                }
-                _ => return,
-            }
+            return;
         };
         self.keep(lent, what);
     }
@@ -315,7 +317,7 @@ impl Comparison {
                 id,
             });
         }
-        if books::generator::is_short_run(book, None) {
+        if books::runs::is_short_run(book, None) {
             calls.extend([Call::Run, Call::Day]);
         }
         calls.push(self.generator.form(book));
@@ -337,7 +339,7 @@ impl Comparison {
                 self.with_any_log(book, &call);
             }
             let store = self.generator.store(book);
-            let short = call != Call::Run || books::generator::is_short_run(book, store.as_deref());
+            let short = call != Call::Run || books::runs::is_short_run(book, store.as_deref());
             if call.takes_store() && short {
                 self.operator(&mut book.to_vec(), store.as_deref(), &call);
             }

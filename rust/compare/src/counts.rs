@@ -70,6 +70,7 @@ impl Display for Version {
 #[derive(Clone, Debug, Default, PartialEq, Eq)]
 pub struct Counts {
     counts: [[[u64; NUMBERS]; Call::NAMES.len()]; Version::ALL.len()],
+    all: u64,
 }
 
 impl Counts {
@@ -77,11 +78,12 @@ impl Counts {
     pub fn add(&mut self, version: Version, call: &Call, number: u32) {
         let number = usize::try_from(number).unwrap_or(NUMBERS);
         self.counts[version as usize][kind(call.name())][number.min(NUMBERS - 1)] += 1;
+        self.all += 1;
     }
 
     /// The calls of all kinds.
     pub fn all(&self) -> u64 {
-        self.counts.iter().flatten().flatten().sum()
+        self.all
     }
 
     /// The calls of a kind with a number, on books of every version.

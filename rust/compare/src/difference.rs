@@ -31,21 +31,29 @@ pub(crate) struct Lent<'a> {
     pub call: &'a Call,
 }
 
-/// What a call leaves.
+/// What a call leaves; the log is empty where none is lent. One serves call after
+/// call.
+#[derive(Default)]
 pub(crate) struct Left {
     pub answer: Answer,
     pub book: Vec<u8>,
-    pub log: Option<Vec<u8>>,
+    pub log: Vec<u8>,
 }
 
-impl Lent<'_> {
-    /// The call made on copies of what it is lent.
-    pub fn left_by(&self, implementation: Implementation) -> Left {
-        let mut book = self.book.to_vec();
-        let mut log = self.log.map(<[u8]>::to_vec);
-        let answer = implementation(&mut book, self.given, log.as_deref_mut(), self.call);
-        Left { answer, book, log }
+impl Left {
+    /// Makes the call on copies of what it is lent.
+    pub fn make(&mut self, lent: Lent<'_>, implementation: Implementation) {
+        refill(&mut self.book, lent.book);
+        refill(&mut self.log, lent.log.unwrap_or_default());
+        let log = lent.log.map(|_| &mut self.log);
+        self.answer = implementation(&mut self.book, lent.given, log, lent.call);
     }
+}
+
+/// Makes the part a copy of these bytes.
+fn refill(part: &mut Vec<u8>, bytes: &[u8]) {
+    part.clear();
+    part.extend_from_slice(bytes);
 }
 
 impl Display for Difference {

@@ -13,8 +13,9 @@ const BEFORE: u8 = 0xA5;
 
 /// The engine's answer to a call by this party with this store and log, or none; book
 /// and log are changed as the call says.
-pub fn answer(book: &mut [u8], given: Given<'_>, log: Option<&mut [u8]>, call: &Call) -> Answer {
+pub fn answer(book: &mut [u8], given: Given<'_>, log: Option<&mut Vec<u8>>, call: &Call) -> Answer {
     let (party, store) = (given.party.number(), given.store);
+    let log = log.map(Vec::as_mut_slice);
     match call {
         Call::Posting { id, area, amount } => {
             let number = archive::posting(book, party, store, log, *id, *area, *amount);

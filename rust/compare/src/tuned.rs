@@ -30,7 +30,7 @@ pub fn has(book: &[u8], party: Party, call: &Call) -> bool {
 /// The answer of the tuned implementation to a call by the operator with this store, or
 /// none, and without a log; the book is changed as the call says. Without a store its
 /// functions of document 01 have to give the same to the calls of that document.
-pub fn answer(book: &mut [u8], given: Given<'_>, log: Option<&mut [u8]>, call: &Call) -> Answer {
+pub fn answer(book: &mut [u8], given: Given<'_>, log: Option<&mut Vec<u8>>, call: &Call) -> Answer {
     let Given { party, store } = given;
     assert!(
         log.is_none() && has(book, party, call),

@@ -33,7 +33,7 @@ pub fn has(call: &Call, party: Party, log: Option<&[u8]>) -> bool {
 
 /// The answer to a call that `daybook` has by this party, with this store and log, or
 /// none; book and log are changed as the call says.
-pub fn answer(book: &mut [u8], given: Given<'_>, log: Option<&mut [u8]>, call: &Call) -> Answer {
+pub fn answer(book: &mut [u8], given: Given<'_>, log: Option<&mut Vec<u8>>, call: &Call) -> Answer {
     if let (Some(id), Party::Shipper(_)) = (call.own_id(), given.party) {
         let shipper = Shipper::new(id);
         let shipper = given.store.map_or(shipper, |store| shipper.store(store));
@@ -49,9 +49,9 @@ pub fn answer(book: &mut [u8], given: Given<'_>, log: Option<&mut [u8]>, call: &
     if *call == Call::Start {
         return start(book, log);
     }
-    let mut lent = Log::from_bytes(log.to_vec());
+    let mut lent = Log::from_bytes(std::mem::take(log));
     let answer = by_operator(operator.log(&mut lent), book, call);
-    log.copy_from_slice(lent.as_bytes());
+    *log = lent.into_bytes();
     answer
 }
 

@@ -3,7 +3,7 @@
 
 #![forbid(unsafe_code)]
 
-use books::calls::PLACE_BEFORE;
+use books::answers::PLACE_BEFORE;
 use books::{Call, Generator, Kind};
 use compare::settings::{comparison, seed};
 use daybook::{archive, Line, Operator, MOST_LINES};

@@ -77,7 +77,7 @@ fn every_damage() {
             let book = comparison
                 .generator()
                 .book_of(version, kinds[turn % kinds.len()]);
-            if books::generator::is_short_run(&book, None) {
+            if books::runs::is_short_run(&book, None) {
                 break book;
             }
         };

@@ -116,7 +116,7 @@ fn every_party_of(comparison: &mut Comparison, bytes: &[u8]) {
                 for store in [None, store.as_deref()] {
                     let given = Given { party, store };
                     let mut log = (call == Call::Withdrawal).then(|| started(bytes));
-                    comparison.acted(&mut bytes.to_vec(), given, log.as_deref_mut(), &call);
+                    comparison.acted(&mut bytes.to_vec(), given, log.as_mut(), &call);
                 }
             }
         }
@@ -157,7 +157,7 @@ fn forbidden_acts() {
             for store in [None, Some(&b"GPS"[..])] {
                 let given = Given { party, store };
                 let mut log = call.takes_log().then(|| log.clone());
-                comparison.acted(&mut bytes.clone(), given, log.as_deref_mut(), &call);
+                comparison.acted(&mut bytes.clone(), given, log.as_mut(), &call);
             }
         }
     }

@@ -22,7 +22,7 @@ fn every_call_of_the_archive() {
 #[test]
 fn every_call_of_daybook() {
     let answer: Implementation = |book, given, log, call| {
-        if typed::has(call, given.party, log.as_deref()) {
+        if typed::has(call, given.party, log.as_deref().map(Vec::as_slice)) {
             typed::answer(book, given, log, call)
         } else {
             engine::answer(book, given, log, call)

@@ -45,7 +45,7 @@ fn the_reductions_are_those_of_the_run() {
         for _ in 0..60 {
             let book = generator.book(kind);
             let store = generator.store(&book);
-            if !books::generator::is_short_run(&book, store.as_deref()) {
+            if !books::runs::is_short_run(&book, store.as_deref()) {
                 continue;
             }
             let Some((trace, _)) = taken_apart(&book, store.as_deref(), ALL) else {

@@ -253,35 +253,26 @@ impl Book {
         bytes
     }
 
-    /// The place of the user with this id.
+    /// The place of the user with this id, in a book whose ids rise (question 5).
     pub fn place_of(&self, id: u32) -> Option<usize> {
-        self.users.iter().position(|user| user.id == id)
+        self.users.binary_search_by_key(&id, |user| user.id).ok()
     }
 
-    /// "Position = physical + standing bought for d − standing sold for d,
-    /// all kinds."
-    pub fn defined_position(&self, user: &User, area: Area) -> Mwh {
-        user.physical[area.index()] + self.bought(user, area, TODAY) - self.sold(user, area, TODAY)
+    /// "Position = physical + standing bought for d − standing sold for d, all kinds",
+    /// in each area, of trades whose areas there are (question 6).
+    pub fn defined_positions(&self, user: &User) -> [Mwh; 3] {
+        let mut positions = user.physical;
+        for trade in self.trades.iter().filter(|trade| trade.day == TODAY) {
+            let position = &mut positions[usize::from(trade.area)];
+            if trade.buyer == user.id {
+                *position = *position + trade.standing;
+            }
+            if trade.seller == user.id {
+                *position = *position - trade.standing;
+            }
+        }
+        positions
     }
-
-    /// Standing sold by the user in an area for a day, all kinds.
-    pub fn sold(&self, user: &User, area: Area, day: u8) -> Mwh {
-        let sales = self.trades.iter().filter(|trade| trade.seller == user.id);
-        standing(sales, area, day)
-    }
-
-    /// Standing bought by the user in an area for a day, all kinds.
-    pub fn bought(&self, user: &User, area: Area, day: u8) -> Mwh {
-        let purchases = self.trades.iter().filter(|trade| trade.buyer == user.id);
-        standing(purchases, area, day)
-    }
-}
-
-fn standing<'a>(trades: impl Iterator<Item = &'a Trade>, area: Area, day: u8) -> Mwh {
-    trades
-        .filter(|trade| trade.is_in(area) && trade.day == day)
-        .map(|trade| trade.standing)
-        .sum()
 }
 
 fn count(records: usize) -> i128 {
@@ -299,8 +290,9 @@ pub fn u32_at(bytes: &[u8], at: usize) -> u32 {
 
 /// A little-endian field of `width` bytes without sign.
 pub fn unsigned(bytes: &[u8], at: usize, width: usize) -> i128 {
-    let field = bytes[at..at + width].iter().rev();
-    field.fold(0, |value, byte| value * 256 + i128::from(*byte))
+    let mut field = [0; 16];
+    field[..width].copy_from_slice(&bytes[at..at + width]);
+    i128::from_le_bytes(field)
 }
 
 /// A little-endian field of `width` bytes in two's complement.

@@ -45,6 +45,9 @@ pub fn is_of_group(member: &User, user: &User, area: Area) -> bool {
 
 /// The sum over the users that count for `user` in this area.
 fn sum(book: &Book, user: &User, area: Area, energy: impl Fn(&User) -> Mwh) -> Mwh {
+    if !has_managers(book.version) {
+        return energy(user);
+    }
     let users = book.users.iter();
     let group = users.filter(|member| is_of_group(member, user, area));
     group.map(energy).sum()
@@ -60,26 +63,32 @@ pub fn position(book: &Book, user: &User, area: Area) -> Mwh {
     sum(book, user, area, |member| member.position[area.index()])
 }
 
-/// What is sold for the day, as it enters the levels.
-pub fn sold(book: &Book, user: &User, area: Area, day: u8) -> Mwh {
-    sum(book, user, area, |member| book.sold(member, area, day))
-}
-
-/// What is bought for the day, as it enters the levels.
-pub fn bought(book: &Book, user: &User, area: Area, day: u8) -> Mwh {
-    sum(book, user, area, |member| book.bought(member, area, day))
+/// Sold − bought for the day in each area, all kinds, as it enters the levels: what
+/// stands of the trades whose party counts for `user`.
+pub fn net_sold(book: &Book, user: &User, day: u8) -> [Mwh; 3] {
+    let mut net = [Mwh::ZERO; 3];
+    for trade in book.trades.iter().filter(|trade| trade.day == day) {
+        let sum = &mut net[usize::from(trade.area)];
+        if counts_for(book, trade.seller, user, trade) {
+            *sum = *sum + trade.standing;
+        }
+        if counts_for(book, trade.buyer, user, trade) {
+            *sum = *sum - trade.standing;
+        }
+    }
+    net
 }
 
 /// Whether the party of this id counts for `user` in the area of the trade.
 pub fn counts_for(book: &Book, party: u32, user: &User, trade: &Trade) -> bool {
-    let Some(area) = Area::from_code(u32::from(trade.area)) else {
-        return false;
-    };
     if !has_managers(book.version) {
         return party == user.id;
     }
-    let mut users = book.users.iter();
-    users.any(|member| member.id == party && is_of_group(member, user, area))
+    let Some(area) = Area::from_code(u32::from(trade.area)) else {
+        return false;
+    };
+    let place = book.place_of(party);
+    place.is_some_and(|place| is_of_group(&book.users[place], user, area))
 }
 
 /// "The manager's eligible trades include its members' in that area, and not the
@@ -92,9 +101,8 @@ pub fn is_sale_of(book: &Book, trade: &Trade, user: &User) -> bool {
 /// manager there, or the party itself.
 pub fn bearer(book: &Book, party: u32, trade: &Trade) -> u32 {
     let bearers = Area::from_code(u32::from(trade.area)).and_then(|area| {
-        let mut users = book.users.iter();
-        let member = users.find(|user| user.id == party && is_managed(user, area));
-        member.map(|member| member.managers[area.index()])
+        let member = &book.users[book.place_of(party)?];
+        is_managed(member, area).then_some(member.managers[area.index()])
     });
     bearers.unwrap_or(party)
 }

@@ -44,37 +44,29 @@ fn answer(level: Result<Cents, u32>) -> LevelAnswer {
 /// "Level = charges + sum of max(0, need) × w", in the morning, and "either
 /// level is at least" the least one.
 pub fn morning_level_of(limits: &Limits, book: &Book, user: &User) -> Cents {
-    let needs = over_areas(book, |area| morning_need(book, user, area));
+    // "Need = −physical + sold − bought over d and d+1."
+    let [today, tomorrow] = [TODAY, TOMORROW].map(|day| group::net_sold(book, user, day));
+    let needs = over_areas(book, |area| {
+        let sold = today[area.index()] + tomorrow[area.index()];
+        sold - group::physical(book, user, area)
+    });
     limits.least_level.max(user.charges + needs)
-}
-
-/// "Need = −physical + sold − bought over d and d+1."
-fn morning_need(book: &Book, user: &User, area: Area) -> Mwh {
-    let today = group::sold(book, user, area, TODAY) - group::bought(book, user, area, TODAY);
-    -group::physical(book, user, area) + today + sold_tomorrow(book, user, area)
-}
-
-/// Sold − bought for d+1.
-fn sold_tomorrow(book: &Book, user: &User, area: Area) -> Mwh {
-    group::sold(book, user, area, TOMORROW) - group::bought(book, user, area, TOMORROW)
 }
 
 /// "Level = charges + sum of max(0, need) × w + sum of max(0, −position) × w",
 /// in the afternoon, less the credit that a version may give.
 pub fn afternoon_level_of(limits: &Limits, book: &Book, user: &User) -> Cents {
-    let needs = over_areas(book, |area| afternoon_need(book, user, area));
+    // "Need = sold − bought for d+1, minus max(0, position) in areas 1 and 2."
+    let tomorrow = group::net_sold(book, user, TOMORROW);
+    let needs = over_areas(book, |area| match area {
+        Area::Pvb => tomorrow[area.index()],
+        Area::Tvb | Area::Avb => {
+            tomorrow[area.index()] - group::position(book, user, area).or_zero()
+        }
+    });
     limits
         .least_level
         .max(user.charges + needs + short_positions(book, user) - credit(book, user))
-}
-
-/// "Need = sold − bought for d+1, minus max(0, position) in areas 1 and 2."
-fn afternoon_need(book: &Book, user: &User, area: Area) -> Mwh {
-    let tomorrow = sold_tomorrow(book, user, area);
-    match area {
-        Area::Pvb => tomorrow,
-        Area::Tvb | Area::Avb => tomorrow - group::position(book, user, area).or_zero(),
-    }
 }
 
 /// Sum of max(0, −position) × w.

@@ -27,8 +27,8 @@ pub const MOST_ENTRIES: usize = 256;
 /// 271,668 bytes.
 pub const LOG_LENGTH: usize = ENTRIES_AT + ENTRY_LENGTH * MOST_ENTRIES;
 
-/// What one reduction cut, by trade place.
-pub type Entry = [Mwh; MOST_TRADES];
+/// What one reduction cut of each trade of the book; past the trades no cut lies.
+pub type Entry = Vec<Mwh>;
 
 /// The entries of a log, oldest first.
 #[derive(Clone, Debug, Default, PartialEq, Eq)]
@@ -42,7 +42,7 @@ pub fn start(log: &mut [u8], book: &[u8]) -> u32 {
     if log.len() != LOG_LENGTH || book.len() > MOST_HELD {
         return 19;
     }
-    log.copy_from_slice(&Log::default().to_bytes(book));
+    Log::default().write(book, log);
     ACCEPTED
 }
 
@@ -56,16 +56,32 @@ impl Log {
         ask(19, count <= MOST_ENTRIES)?;
         let entries = log[ENTRIES_AT..].chunks_exact(ENTRY_LENGTH).take(count);
         let read = Log {
-            entries: entries.map(entry).collect(),
+            entries: entries.map(|bytes| entry(bytes, book)).collect(),
         };
-        ask(19, read.to_bytes(&book.to_bytes()) == log)?;
+        let used = read.used_bytes(&book.to_bytes());
+        ask(19, log.starts_with(&used) && is_zero(&log[used.len()..]))?;
         ask(19, read.cuts_lie_on(book))?;
         Ok(read)
     }
 
     /// The log in bytes, with the book that it holds.
     pub fn to_bytes(&self, held: &[u8]) -> Vec<u8> {
-        let mut bytes = vec![0; LOG_LENGTH];
+        let mut bytes = self.used_bytes(held);
+        bytes.resize(LOG_LENGTH, 0);
+        bytes
+    }
+
+    /// The same, written into a log of the right length.
+    pub fn write(&self, held: &[u8], log: &mut [u8]) {
+        let used = self.used_bytes(held);
+        let (start, unused) = log.split_at_mut(used.len());
+        start.copy_from_slice(&used);
+        unused.fill(0);
+    }
+
+    /// The bytes of the log up to its last entry; those behind are unused.
+    fn used_bytes(&self, held: &[u8]) -> Vec<u8> {
+        let mut bytes = vec![0; ENTRIES_AT + ENTRY_LENGTH * self.entries.len()];
         let mut put = |at: usize, part: &[u8]| bytes[at..][..part.len()].copy_from_slice(part);
         put(0, MARK);
         put(COUNT_AT, &self.entries.len().to_le_bytes()[..4]);
@@ -81,36 +97,21 @@ impl Log {
     }
 
     /// "Cuts lie on trades of kind 0 and day 0 whose standing plus all their cuts
-    /// is within notified"; past the trades no cut lies.
+    /// is within notified."
     fn cuts_lie_on(&self, book: &Book) -> bool {
-        let cuts = self.all_cuts();
-        cuts.iter().enumerate().all(|(place, cuts)| {
-            *cuts == Mwh::ZERO
-                || book.trades.get(place).is_some_and(|trade| {
-                    trade.is_bilateral_today() && trade.standing + *cuts <= trade.notified
-                })
+        let mut trades = book.trades.iter().enumerate();
+        trades.all(|(place, trade)| {
+            let cuts: Mwh = self.entries.iter().map(|entry| entry[place]).sum();
+            let within = trade.standing + cuts <= trade.notified;
+            cuts == Mwh::ZERO || trade.is_bilateral_today() && within
         })
-    }
-
-    /// The cuts of all entries together, by trade place.
-    fn all_cuts(&self) -> Entry {
-        let mut all = [Mwh::ZERO; MOST_TRADES];
-        for entry in &self.entries {
-            for (sum, cut) in all.iter_mut().zip(entry) {
-                *sum = *sum + *cut;
-            }
-        }
-        all
     }
 
     /// "A reduction adds an entry": what it cut of each trade.
     pub fn add(&mut self, before: &Book, after: &Book) {
-        let mut entry = [Mwh::ZERO; MOST_TRADES];
         let trades = before.trades.iter().zip(&after.trades);
-        for (cut, (old, new)) in entry.iter_mut().zip(trades) {
-            *cut = old.standing - new.standing;
-        }
-        self.entries.push(entry);
+        let cuts = trades.map(|(old, new)| old.standing - new.standing);
+        self.entries.push(cuts.collect());
     }
 
     /// Question 20 asks whether there is room for an entry.
@@ -119,7 +120,13 @@ impl Log {
     }
 }
 
-/// The cuts of an entry.
-fn entry(bytes: &[u8]) -> Entry {
-    std::array::from_fn(|place| Mwh(i128::from(u32_at(bytes, CUT_LENGTH * place))))
+/// The cuts of an entry on the trades of the book.
+fn entry(bytes: &[u8], book: &Book) -> Entry {
+    let cuts = bytes.chunks_exact(CUT_LENGTH).take(book.trades.len());
+    cuts.map(|cut| Mwh(i128::from(u32_at(cut, 0)))).collect()
+}
+
+/// Whether every byte is 0.
+fn is_zero(bytes: &[u8]) -> bool {
+    bytes.iter().fold(0, |any, byte| any | byte) == 0
 }

@@ -30,7 +30,7 @@ pub fn logged<T>(
     let after = opened.book.to_bytes();
     bytes.copy_from_slice(&after);
     if let (Some(log), Some(noted)) = (log, noted) {
-        log.copy_from_slice(&noted.to_bytes(&after));
+        noted.write(&after, log);
     }
     Ok(answer)
 }

@@ -166,11 +166,8 @@ fn trades_zero_bytes(header: &Header, bytes: &[u8]) -> bool {
 
 /// Question 7.
 fn positions_as_defined(book: &Book) -> bool {
-    book.users.iter().all(|user| {
-        Area::ALL
-            .iter()
-            .all(|area| user.position[area.index()] == book.defined_position(user, *area))
-    })
+    let mut users = book.users.iter();
+    users.all(|user| user.position == book.defined_positions(user))
 }
 
 /// An accepted book, and the figures of the call.

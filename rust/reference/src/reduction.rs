@@ -130,17 +130,19 @@ pub fn cuts(sales: &[Sale], asked: Cents) -> Vec<Mwh> {
 /// is below A, trades with a remainder above 0 lose one MWh more, largest
 /// remainder first, ties by earlier place".
 fn shares(sales: &[Sale], asked: Cents, worth: Cents) -> Vec<Mwh> {
-    let product = |sale: &Sale| sale.standing.0 * asked.0;
-    let mut cuts: Vec<Mwh> = sales
-        .iter()
-        .map(|sale| Mwh(product(sale) / worth.0))
-        .collect();
-    let mut remainders: Vec<i128> = sales.iter().map(|sale| product(sale) % worth.0).collect();
-    while loss(sales, &cuts) < asked {
+    let share = |sale: &Sale| {
+        let product = sale.standing.0 * asked.0;
+        let whole = product / worth.0;
+        (Mwh(whole), product - whole * worth.0)
+    };
+    let (mut cuts, mut remainders): (Vec<Mwh>, Vec<i128>) = sales.iter().map(share).unzip();
+    let mut lost = loss(sales, &cuts);
+    while lost < asked {
         let Some(place) = largest(&remainders) else {
             break;
         };
         cuts[place] = cuts[place] + Mwh(1);
+        lost = lost + Mwh(1) * sales[place].tariff;
         remainders[place] = 0;
     }
     cuts
@@ -220,12 +222,10 @@ pub fn settle(book: &mut Book, place: usize, cut: Mwh) {
     let trade = &mut book.trades[place];
     trade.standing = trade.standing - cut;
     let area = usize::from(trade.area);
-    for user in &mut book.users {
-        if user.id == trade.seller {
-            user.position[area] = user.position[area] + cut;
-        }
-        if user.id == trade.buyer {
-            user.position[area] = user.position[area] - cut;
+    for (party, change) in [(trade.seller, cut), (trade.buyer, -cut)] {
+        if let Some(place) = book.place_of(party) {
+            let position = &mut book.users[place].position[area];
+            *position = *position + change;
         }
     }
 }

@@ -55,15 +55,15 @@ pub fn run_book(opened: &mut Opened, mut log: Option<&mut Log>) -> RunAnswer {
 pub fn next_reduction(limits: &Limits, book: &Book) -> Option<usize> {
     book.users
         .iter()
-        .position(|user| has_eligible_trade(book, user) && short_of_cover(limits, book, user))
+        .position(|user| short_of_cover(limits, book, user) && has_eligible_trade(book, user))
 }
 
 /// "Short of cover: shipper, called in, afternoon level − blocked > 1,000,000,
 /// assigned < level."
 pub fn short_of_cover(limits: &Limits, book: &Book, user: &User) -> bool {
+    if !user.is_shipper() || !called_in(limits, book, user) {
+        return false;
+    }
     let level = afternoon_level_of(limits, book, user);
-    user.is_shipper()
-        && called_in(limits, book, user)
-        && above_margin(limits, user, level)
-        && user.assigned < level
+    above_margin(limits, user, level) && user.assigned < level
 }

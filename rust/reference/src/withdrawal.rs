@@ -39,7 +39,7 @@ pub fn withdrawal(bytes: &mut [u8], given: Given<'_>, log: &mut [u8]) -> Withdra
 /// rises again.
 fn restore(book: &mut Book, entry: &Entry) -> Tally {
     let mut tally = Tally::default();
-    for (place, cut) in entry.iter().enumerate().take(book.trades.len()) {
+    for (place, cut) in entry.iter().enumerate() {
         settle(book, place, -*cut);
         tally = tally.with(*cut, book.trades[place].tariff(&book.prices));
     }

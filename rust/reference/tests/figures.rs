@@ -7,7 +7,7 @@ use reference::levels::{afternoon_level_of, flagged, morning_level_of};
 use reference::party::Given;
 use reference::reduction::{cuts, tier_worth, Sale};
 use reference::store::Limits;
-use reference::units::{Area, Cents, Mwh, Price, Prices};
+use reference::units::{Cents, Mwh, Price, Prices};
 
 const PRICES: Prices = Prices {
     p: Price(2000),
@@ -34,7 +34,7 @@ fn book(first: User, trades: Vec<Trade>) -> Book {
     };
     for place in 0..2 {
         let user = &book.users[place];
-        book.users[place].position = Area::ALL.map(|area| book.defined_position(user, area));
+        book.users[place].position = book.defined_positions(user);
     }
     book
 }

@@ -12,7 +12,7 @@ use reference::party::{Given, Party};
 use reference::questions::questions_1_to_7;
 use reference::reduction::tiers;
 use reference::store::Limits;
-use reference::units::{Area, Cents, Mwh, Price};
+use reference::units::{Cents, Mwh, Price};
 use reference::{
     afternoon_level, cancellation, check, day, morning_level, read, show, warning, write,
 };
@@ -304,7 +304,7 @@ fn warned_buyers() {
         );
         let place = book.place_of(flagged).expect("the seller");
         book.users[place].physical[0] = Mwh(-40_000);
-        book.users[place].position[0] = book.defined_position(&book.users[place], Area::Pvb);
+        book.users[place].position[0] = book.defined_positions(&book.users[place])[0];
         [101, 102, 103].map(|id| warning(&book.to_bytes(), Given::OPERATOR, id).warned)
     };
     let sold = sale(103, 102, 0, 1);

@@ -5,7 +5,7 @@
 use reference::book::{Book, Trade, User};
 use reference::log::LOG_LENGTH;
 use reference::party::Given;
-use reference::units::{Area, Cents, Mwh, Price, Prices};
+use reference::units::{Cents, Mwh, Price, Prices};
 use reference::{
     afternoon_call, check, list, morning_call, posting, reduction, run, start_log, withdrawal,
     Columns,
@@ -34,7 +34,7 @@ fn book(users: [User; 2], trades: Vec<Trade>) -> Book {
     };
     for place in 0..book.users.len() {
         let user = &book.users[place];
-        book.users[place].position = Area::ALL.map(|area| book.defined_position(user, area));
+        book.users[place].position = book.defined_positions(user);
     }
     book
 }

@@ -10,7 +10,7 @@ use reference::party::{Given, Party};
 
 /// The tuned implementation, or the reference where a call is a shipper's, is given a
 /// log, takes no store, or questions a book of version 3.
-fn requested(book: &mut [u8], given: Given<'_>, log: Option<&mut [u8]>, call: &Call) -> Answer {
+fn requested(book: &mut [u8], given: Given<'_>, log: Option<&mut Vec<u8>>, call: &Call) -> Answer {
     if log.is_some() || !knows(book, call) || given.party != Party::Operator {
         return answer(book, given, log, call);
     }
@@ -18,7 +18,7 @@ fn requested(book: &mut [u8], given: Given<'_>, log: Option<&mut [u8]>, call: &C
 }
 
 /// The same by the functions without a store.
-fn plain(book: &mut [u8], _: Given<'_>, log: Option<&mut [u8]>, call: &Call) -> Answer {
+fn plain(book: &mut [u8], _: Given<'_>, log: Option<&mut Vec<u8>>, call: &Call) -> Answer {
     assert!(log.is_none(), "a call of document 01");
     if !knows(book, call) {
         return answer(book, Given::OPERATOR, None, call);

@@ -2,7 +2,7 @@
 //! example.
 
 use reference::book::{Book, Trade, User, CLEARING_HOUSE, TOMORROW};
-use reference::units::{Area, Cents, Mwh, Price, Prices};
+use reference::units::{Cents, Mwh, Price, Prices};
 
 /// A book of version 3 with positions as defined; S and U are 0.
 pub fn book(users: Vec<User>, trades: Vec<Trade>) -> Book {
@@ -22,7 +22,7 @@ pub fn book(users: Vec<User>, trades: Vec<Trade>) -> Book {
     };
     for place in 0..book.users.len() {
         let user = &book.users[place];
-        book.users[place].position = Area::ALL.map(|area| book.defined_position(user, area));
+        book.users[place].position = book.defined_positions(user);
     }
     book
 }

@@ -2,8 +2,8 @@
 
 use books::damage::version_of;
 use books::{Answer, Call};
-use reference::book::{Book, Trade, User, USER_LENGTH};
-use reference::group::{bearer, bought, is_managed, is_of_group, physical, position, sold};
+use reference::book::{Book, Trade, User, TOMORROW, USER_LENGTH};
+use reference::group::{bearer, is_managed, is_of_group, physical, position};
 use reference::levels::{called_in, flagged};
 use reference::reduction::tiers;
 use reference::run::short_of_cover;
@@ -157,11 +157,15 @@ fn count_area(counts: &mut Counts, book: &Book, user: &User, area: Area) {
         all == 0 && own != 0,
         "group: position 0, of positions that are not",
     );
-    let day = 1;
+    let by_member = |party: fn(&Trade) -> u32| {
+        let mut trades = book.trades.iter().filter(|trade| trade.day == TOMORROW);
+        let member = |id: u32| members(book, user, area).any(|member| member.id == id);
+        trades.any(|trade| trade.is_in(area) && member(party(trade)))
+    };
     let others = [
         physical(book, user, area) != user.physical[area.index()],
-        sold(book, user, area, day) != book.sold(user, area, day),
-        bought(book, user, area, day) != book.bought(user, area, day),
+        by_member(|trade| trade.seller),
+        by_member(|trade| trade.buyer),
     ];
     counts.add_if(
         others == [true; 3],
