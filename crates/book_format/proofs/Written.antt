@@ -6,7 +6,7 @@ use mathlib.Core.Path.{_≡_, refl, sym, _∙_, ap}
 use Prim.Native.Nat.{_*_, _+_, _<_, _^_, ℕ, _/_, _≤_}
 use native.Mathlib.Nat.{zero-add}
 use native.Mathlib.Omega.{arith}
-use lib.Dec.{T, eqb, leb→le, eqb-refl, eqb→eq, leb, le→leb}
+use lib.Dec.{T, eqb, leb→le, eqb-refl, leb, le→leb}
 use lib.ListN.{length, length-append, drop, getD}
 use lib.Seq.{sets, drop-at, take-at, drop-drop}
 use Rattle.fields.proofs.Field.{all-bytes-append, field-append, length-toBytes}

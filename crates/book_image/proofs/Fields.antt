@@ -1,5 +1,5 @@
 -- The book of an image's fields: its records, that they fit their bytes, and what it is written as. Assumes nothing.
-use mathlib.Core.Bool.{Bool, true, false, _&&_}
+use mathlib.Core.Bool.{true, false, _&&_}
 use mathlib.Core.List.{List, [], _∷_, _++_, append-nil}
 use mathlib.Core.Path.{_≡_, refl, sym, ap, _∙_}
 use Prim.Native.Nat.{ℕ, zero, suc, _+_, _*_, _<_, _≤_, _^_}
@@ -20,7 +20,7 @@ use Rattle.fields.proofs.Records.{length-recordsOf}
 use Rattle.fields.proofs.Sets.{part-sets, sets-left, take-of-drop}
 use Rattle.book_records.specs.User.{FitsRecord}
 use Rattle.book_records.specs.Trade.{tradeOf, tradeBytes, FitsTrade}
-use Rattle.book_format.specs.Book.{mark, headerWidths, headerValues, headerBytes, headerSize, lengthBy, sellingWidths, sellingBytes, sellingAt, versionOf, userCount, tradeCount, pricesOf, userRecord, userSize, bookOf, bytesOf}
+use Rattle.book_format.specs.Book.{mark, headerWidths, headerValues, headerBytes, headerSize, lengthBy, sellingAt, versionOf, userCount, tradeCount, pricesOf, userRecord, userSize, bookOf, bytesOf}
 use Rattle.book_format.specs.Questions.{Formed}
 use Rattle.book_format.proofs.Fits.{managersAt-fit, userOf-fits}
 use Rattle.book_format.proofs.Offsets.{header-plain, header-range, header-selling, selling-none, user-range}

@@ -6,7 +6,7 @@ use native.Mathlib.Nat.{add-zero, mul-zero, mul-suc, mul-le-mul-left, sub-zero}
 use native.Mathlib.Omega.{arith}
 use lib.Dec.{leb, leb→le}
 use lib.ListN.{length, take, drop, replicate, length-append, length-drop, length-replicate, length-take}
-use lib.Seq.{sets, drop-drop, length-sets, length-take-le, take-add, take-all, take-at, take-take}
+use lib.Seq.{sets, drop-drop, length-sets, length-take-le, take-add, take-all, take-take}
 use borrow.Author.Tests.{leb-false}
 use borrow.Rule.Slice.PartMut.{putMid}
 use Rattle.base.proofs.Tests.{by-case, holds}

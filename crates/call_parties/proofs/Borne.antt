@@ -4,7 +4,6 @@ use mathlib.Core.List.{List, map, map-map}
 use mathlib.Core.Path.{_≡_, sym, ap, subst, _∙_}
 use Prim.Native.Nat.{ℕ}
 use native.Mathlib.Omega.{arith}
-use lib.ListN.{length, take}
 use Rattle.book_format.proofs.Passed.{length-usersOf}
 use Rattle.book_format.specs.Book.{bookOf, tradesOf, usersOf, versionOf}
 use Rattle.book_format.specs.Held.{Accepted}

@@ -19,7 +19,7 @@ use Rattle.rules.specs.Book.{User, find, nobody}
 use Rattle.rules.specs.Levels.{shipper}
 use Rattle.rules.specs.Questions.{known}
 use Rattle.rights.specs.Acting.{enteringNumber}
-use Rattle.rights.specs.Party.{partyOf, isShipperIn, matterBy, mayDo, operator, own, rightNumber}
+use Rattle.rights.specs.Party.{partyOf, isShipperIn, matterBy, mayDo, rightNumber}
 
 -- ---- a shipper of the book
 

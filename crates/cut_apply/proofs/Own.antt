@@ -12,7 +12,7 @@ use Rattle.cut_lists.proofs.Own.{count-is, count-room, sales-stay}
 use Rattle.cut_lists.specs.Sales.{SalesOf, StandingOf}
 use Rattle.laws.specs.Trades.{Framed, Pairwise, ended, then}
 use Rattle.base.proofs.Fronts.{getD-inside}
-use Rattle.base.proofs.Tests.{and-i, and-l, and-r}
+use Rattle.base.proofs.Tests.{and-l}
 use Rattle.base.specs.Lists.{all}
 use Rattle.laws_sales.specs.Borne.{borneBook, borneTrade, borneValid, shut}
 use Rattle.rules.specs.Bearers.{asBorne}

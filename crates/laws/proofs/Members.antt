@@ -5,7 +5,7 @@ use mathlib.Core.Path.{_≡_, refl, sym, ap, _∙_}
 use Prim.Native.Nat.{ℕ, _+_, _*_, _≤_, _<_}
 use native.Mathlib.Omega.{arith}
 use lib.Dec.{T, eqb, leb, eqb→eq, leb→le}
-use lib.IntN.{ℤ, pos, _+ℤ_}
+use lib.IntN.{ℤ, pos}
 use lib.ListN.{length}
 use Rattle.base.proofs.Linear.{posPart-of, negPart-of, posPart-pos, negPart-pos}
 use Rattle.base.proofs.Sums.{parts-sum, sum-map, sum-swap, sum-ext, sum-zero}
@@ -17,7 +17,7 @@ use Rattle.laws.proofs.Bounds.{entry-le}
 use Rattle.laws.proofs.Positions.{once, seller-known, buyer-known, parts-defined-sum, position-is}
 use Rattle.laws.specs.Sound.{Sound}
 use Rattle.rules.specs.Bearers.{bearer, borneSum, asBorne, borne}
-use Rattle.rules.specs.Book.{at, Terms, User, Trade, Book, PerArea, find, dealt, sold, bought, definedPosition}
+use Rattle.rules.specs.Book.{at, Terms, User, Trade, Book, find, dealt, sold, bought, definedPosition}
 use Rattle.rules.specs.Questions.{countsValid, idsRise, known, positionsValid, tradeValid, userValid}
 
 -- a number for each user whose risk the user of an id bears in an area

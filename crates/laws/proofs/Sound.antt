@@ -9,7 +9,7 @@ use Rattle.laws.specs.Sound.{Sound}
 use Rattle.base.proofs.Tests.{and-l, and-r, and-i}
 use Rattle.rules.specs.Book.{Book}
 use Rattle.base.specs.Lists.{all}
-use Rattle.rules.specs.Questions.{refusal, aboutBook, isNone, accepted, countsValid, idsRise, userValid, tradeValid, positionsValid, headerValid, usersValid, groupsValid, versionValid}
+use Rattle.rules.specs.Questions.{refusal, aboutBook, isNone, accepted, idsRise, userValid, usersValid, groupsValid}
 
 pub sound-of : (b : Book) → refusal (aboutBook b) ≡ none → Sound b
 unfolding aboutBook usersValid

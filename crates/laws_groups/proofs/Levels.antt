@@ -11,8 +11,8 @@ use Rattle.laws.proofs.Sound.{sound}
 use Rattle.laws.specs.Statements.{ownHolding}
 use Rattle.laws_sales.proofs.Alone.{own-risk}
 use Rattle.rules.specs.Areas.{Prices, areas, referencePrice, sellingTariff}
-use Rattle.rules.specs.Book.{Book, User, nobody}
-use Rattle.rules.specs.Levels.{Holding, Limits, afternoonLevel, afternoonNeed, afternoonSum, credit, exposure, flagged, floored, holding, leastReferencePrice, morningLevel, morningNeed, morningSum}
+use Rattle.rules.specs.Book.{nobody}
+use Rattle.rules.specs.Levels.{Holding, afternoonLevel, afternoonNeed, afternoonSum, credit, exposure, flagged, floored, holding, leastReferencePrice, morningLevel, morningNeed, morningSum}
 use Rattle.laws_groups.specs.Statements.{LevelsAsBefore}
 
 -- the same is held in every area

@@ -21,7 +21,7 @@ use Rattle.laws.specs.Statements.{ownHolding}
 use Rattle.rules.specs.Areas.{managersIn}
 use Rattle.rules.specs.Bearers.{asBorne, bearer, borneSum}
 use Rattle.rules.specs.Book.{Book, PerArea, Trade, User, at, find, managerIn, nobody}
-use Rattle.rules.specs.Levels.{holding, partyTo, sellerOf, sells}
+use Rattle.rules.specs.Levels.{partyTo, sellerOf, sells}
 use Rattle.rules.specs.Questions.{groupsValid, idsRise, known, managerValid, managersValid, manages, partiesValid, tradeValid}
 use Rattle.laws_sales.proofs.Settled.{ids-above}
 use Rattle.laws_sales.proofs.Sums.{held-borne}

@@ -20,7 +20,6 @@ use Rattle.rules.specs.Bearers.{asBorne}
 use Rattle.rules.specs.Book.{Party, Terms, Book, User, Trade, bilateralForDay, dealt, sold, bought}
 use Rattle.rules.specs.Levels.{Limits, Holding, partyTo, floored, stock, afternoonNeed, afternoonSum, credit, exposure, leastReferencePrice, levelFrom, flaggedFrom, afternoonLevel, flagged, calledIn, exceedsMargin, shipper, shortOfCover}
 use Rattle.base.specs.Lists.{all, any}
-use Rattle.rules.specs.Questions.{tradeValid, amountsValid}
 use Rattle.rules.specs.Reduction.{hasEligible, target, cutBy, cutAll}
 use Rattle.laws_sales.proofs.Cuts.{cut-yes, cut-no}
 use Rattle.laws_sales.proofs.Kept.{kept-map, kept-yes, kept-no, any-kept}

@@ -1,6 +1,6 @@
 -- Figures at the boundaries of the questions that document 02 adds to calls, at the prices of document 01's figures: 15 of a list, 24 and 25 of a whole cancellation. Assumes nothing.
 use mathlib.Core.Bool.{true, false}
-use mathlib.Core.List.{List, [], _∷_}
+use mathlib.Core.List.{List, []}
 use mathlib.Core.Option.{Option, none, some}
 use mathlib.Core.Path.{_≡_, refl}
 use Prim.Native.Nat.{ℕ}

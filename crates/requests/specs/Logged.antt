@@ -14,7 +14,7 @@ use Rattle.book_format.specs.After.{after}
 use Rattle.book_format.specs.Book.{bookOf}
 use Rattle.book_format.specs.Questions.{aboutBytes, bookNumber}
 use Rattle.log_format.specs.Fits.{aboutLog}
-use Rattle.log_format.specs.Log.{entriesOf, logBytes}
+use Rattle.log_format.specs.Log.{entriesOf}
 use Rattle.requests.specs.Carried.{CarriedAfter}
 use Rattle.requests.specs.Request.{call, postings, Act, Lines, Outcome, Request, Setting, aboutLines, aboutSetting, actIn, actOf, callIn, limitsOn, linesOf, loggedAfter, openingLines, openingWith, refusedGiven, request, requestAfter, withdrawalAfter}
 

@@ -1,7 +1,7 @@
 -- The book that bytes hold, as its risk is borne: as many users and trades as the bytes have, and what is read of a trade in the bytes. Assumes nothing.
 use mathlib.Core.Bool.{Bool, true, false, not, cond, _&&_}
 use mathlib.Core.List.{List, map, map-map}
-use mathlib.Core.Path.{_≡_, refl, sym, ap, ap₂, _∙_}
+use mathlib.Core.Path.{_≡_, refl, sym, ap, _∙_}
 use Prim.Native.Nat.{ℕ, _<_}
 use native.Mathlib.Omega.{arith}
 use lib.Dec.{T, eqb}
@@ -16,7 +16,7 @@ use Rattle.book_parties.specs.Ids.{idAt}
 use Rattle.laws_sales.proofs.Valid.{borne-ids, borne-valid}
 use Rattle.laws_sales.specs.Borne.{borneBook, borneTrade, borneUser, borneValid, shut}
 use Rattle.rules.specs.Bearers.{asBorne}
-use Rattle.rules.specs.Book.{Terms, Trade, User, bilateralForDay, noTrade, nobody}
+use Rattle.rules.specs.Book.{Trade, User, bilateralForDay, noTrade, nobody}
 use Rattle.rules.specs.Questions.{idsRise, known}
 use Rattle.risk_bearers.specs.Bearers.{BorneIn, tradesIn, usersIn}
 use Rattle.risk_bearers.proofs.Places.{party-id, party-is, party-within}

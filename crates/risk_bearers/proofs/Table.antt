@@ -1,10 +1,10 @@
 -- Who bears whose risk, read of the records of a book: the ids, the manager in an area, the place of either. Assumes nothing.
-use mathlib.Core.Bool.{Bool, true, false, cond}
-use mathlib.Core.List.{List, map}
+use mathlib.Core.Bool.{Bool, true}
+use mathlib.Core.List.{List}
 use mathlib.Core.Path.{_≡_, refl, sym, ap, subst, _∙_}
 use Prim.Native.Nat.{ℕ, zero, suc, _+_, _*_, _-_, _≤_, _<_}
 use native.Mathlib.Omega.{arith}
-use lib.Dec.{T, eqb, eqb→eq}
+use lib.Dec.{T, eqb→eq}
 use lib.ListN.{length, take, drop, getD, set, replicate, length-set, length-replicate}
 use lib.Seq.{drop-drop, drop-set-lt, getD-set-other, getD-set-same}
 use borrow.Author.Tests.{eq-eqb, ne-eqb}

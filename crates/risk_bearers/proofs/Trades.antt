@@ -19,13 +19,13 @@ use Rattle.book_parties.specs.Ids.{BookIn, among, idsOf, placeIn}
 use Rattle.risk_bearers.proofs.Listed.{Listed, listed-end, listed-start, listed-turn}
 use Rattle.book_sums.proofs.Twelve.{addable-bought, addable-sold, twelve-all, twelve-next, twelve-none, twelve-of}
 use Rattle.book_sums.specs.Sums.{partiesAmong, placesOf}
-use Rattle.book_sums.specs.Twelve.{Addable, Low, Twelve, added, slot}
+use Rattle.book_sums.specs.Twelve.{Addable, Low, Twelve, added}
 use Rattle.risk_bearers.proofs.Places.{party-within, placed-at}
 use Rattle.laws.proofs.Positions.{buyer-known, seller-known}
 use Rattle.laws.proofs.Settle.{area-lt}
-use Rattle.rules.specs.Book.{Terms, Trade, User, noTrade}
+use Rattle.rules.specs.Book.{Trade, User, noTrade}
 use Rattle.rules.specs.Questions.{amountsValid, codesValid, known, tradeValid}
-use Rattle.risk_bearers.specs.Bearers.{AllBorne, BearersIn, Bearing, BorneAs, SummedAt, bearerIn}
+use Rattle.risk_bearers.specs.Bearers.{AllBorne, BearersIn, BorneAs, SummedAt, bearerIn}
 
 -- what holds at each place holds of all
 all-from : {A : Type 0} (p : A → Bool) (xs : List A) (d : A) → ((i : ℕ) → i < length xs → T (p (getD xs i d))) → T (all p xs)

@@ -5,15 +5,14 @@ use mathlib.Core.Option.{Option, none}
 use mathlib.Core.Path.{_≡_, ap, refl, sym, _∙_}
 use Prim.Native.Nat.{ℕ}
 use native.Mathlib.Omega.{arith}
-use lib.Dec.{eqb, eqb→eq, leb, le→leb}
+use lib.Dec.{eqb, leb, le→leb}
 use lib.ListN.{length, replicate}
 use Rattle.book_tables.specs.Book.{asBook}
 use Rattle.book_tables.specs.declared.Book.{Book}
-use Rattle.exports.specs.Answers.{WrittenFrom}
 use Rattle.exports.specs.Lent.{Stored, byLength}
 use Rattle.fields.specs.Field.{AllBytes}
 use Rattle.book_format.proofs.Formed.{book-passed}
-use Rattle.book_format.proofs.Passed.{Passed, passed}
+use Rattle.book_format.proofs.Passed.{passed}
 use Rattle.book_format.proofs.Round.{bytesOf-bookOf}
 use Rattle.book_format.specs.Book.{bookOf, bytesOf, lengthBy, tradeCount, tradesAt, userAt, userCount, versionOf}
 use Rattle.book_format.specs.Questions.{aboutBytes, aboutFields, aboutForm, bookNumber}

@@ -10,7 +10,7 @@ use Rattle.rules.specs.Areas.{managersIn, sellingIn}
 use Rattle.rules.specs.Book as model
 use Rattle.units.specs.Prices.{asPrices}
 use Rattle.book_records.specs.Trade.{FitsTrade, asTrade}
-use Rattle.book_records.specs.User.{FitsManagers, FitsRecord, FitsUser, asUser}
+use Rattle.book_records.specs.User.{FitsManagers, FitsRecord}
 use Rattle.book_tables.specs.Book.{asBook, keptManagers, keptPrices}
 use Rattle.book_tables.specs.Record.{asManagers, asRecord}
 use Rattle.book_tables.specs.declared.Book.{Book}
@@ -19,7 +19,7 @@ use Rattle.book_value.specs.Written.{InCounts}
 use Rattle.book_format.proofs.Offsets.{known-lt}
 use Rattle.book_format.proofs.Written.{FitsBook, FitsSelling}
 use Rattle.book_format.specs.Book.{headerValues, headerWidths, mark}
-use Rattle.round_trip.specs.RoundTrip.{Typed, TypedPrices, TypedRecord}
+use Rattle.round_trip.specs.RoundTrip.{Typed, TypedRecord}
 
 -- what holds of every record holds, as it is taken, of the first n
 every-taken : {R M : Type 0} (P : R → Type 0) (Q : M → Type 0) (f : R → M) → ((r : R) → P r → Q (f r)) → (n : ℕ) (rs : List R) → Every P rs → Every Q (map f (take n rs))

@@ -7,12 +7,11 @@ use Prim.Native.Nat.{ℕ, _≤_}
 use native.Mathlib.Omega.{arith}
 use lib.Dec.{T, eqb, eqb→eq, eqb-refl, leb, leb→le, le→leb}
 use lib.ListN.{length, drop, replicate, length-take}
-use Rattle.base.proofs.Tests.{and-i, and-l, and-r, eqb-of, fails, holds}
+use Rattle.base.proofs.Tests.{and-i, and-l, and-r, eqb-of, holds}
 use Rattle.base.specs.Lists.{all}
 use Rattle.rules.specs.Book as model
 use Rattle.rules.specs.Questions.{decided, numberOf, refusal, versionKnown}
 use Rattle.laws.proofs.Refusals.{first-yes, number-none, numbered, refusal-next, yes-first}
-use Rattle.fields.specs.Field.{AllBytes}
 use Rattle.fields.proofs.Records.{length-recordsOf}
 use Rattle.book_records.specs.Trade.{tradeOf}
 use Rattle.book_format.specs.Book.{bookOf, bytesOf, lengthBy, lengthOf, mark, markOf, tradeCount, tradesAt, userAt, userCount, versionOf}

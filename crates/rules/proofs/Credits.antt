@@ -5,7 +5,7 @@ use mathlib.Core.List.{[], _∷_}
 use Prim.Native.Nat.{ℕ}
 use lib.IntN.{ℤ, pos, negℤ}
 use Rattle.rules.specs.Areas.{Prices}
-use Rattle.rules.specs.Book.{PerArea, Trade, Book}
+use Rattle.rules.specs.Book.{Trade, Book}
 use Rattle.rules.specs.Questions.{accepted}
 use Rattle.rules.specs.Levels.{today, morningLevel, afternoonLevel, flagged}
 use Rattle.rules.specs.Calls.{afternoonCall, reduction, step}

@@ -13,12 +13,12 @@ use Rattle.book_format.specs.Held.{Accepted}
 use Rattle.laws.proofs.Bounds.{position-bound}
 use Rattle.laws_sales.proofs.Alone.{own-risk}
 use Rattle.laws_sales.proofs.Sums.{at-sums}
-use Rattle.laws_sales.specs.Borne.{borneBook, borneUser}
+use Rattle.laws_sales.specs.Borne.{borneUser}
 use Rattle.risk_bearers.proofs.Bearing.{bearers-in, borne-all}
 use Rattle.risk_bearers.specs.Bearers.{BearersIn, BearersOf, usersIn}
 use Rattle.risk_bearers.specs.Rows.{Bearable, Rows, borneTo}
 use Rattle.risk_user.proofs.Borne.{member-borne, members-borne}
-use Rattle.risk_user.specs.UserAt.{PositionsOf, positionIn}
+use Rattle.risk_user.specs.UserAt.{PositionsOf}
 use Rattle.rules.specs.Areas.{managersIn}
 use Rattle.rules.specs.Book.{Book, User, at, nobody}
 use Rattle.rules.specs.Questions.{positionsValid, userValid}

@@ -4,7 +4,7 @@ use Prim.Native.Nat.{ℕ, _+_, _*_}
 use native.Mathlib.Omega.{arith}
 use lib.ListN.{length}
 use denote.Ref.{now}
-use Rattle.book_format.specs.Book.{headerSize, lengthBy, userSize}
+use Rattle.book_format.specs.Book.{headerSize, userSize}
 use Rattle.book_format.proofs.Offsets.{length-by}
 use Rattle.book_image.proofs.Fields.{image-written}
 use borrow.Author.Needs.{needs}

@@ -1,5 +1,5 @@
 -- `call_at` ends as the questions 11 and 12 leave it. Assumes nothing.
-use mathlib.Core.Path.{_≡_, ap, _∙_}
+use mathlib.Core.Path.{ap, _∙_}
 use borrow.Author.Needs.{needs}
 use denote.Ref.{now}
 use Rattle.book_format.specs.Steps.{InBytes}

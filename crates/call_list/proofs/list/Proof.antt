@@ -4,7 +4,6 @@ use native.Mathlib.Omega.{arith}
 use borrow.Author.Needs.{needs}
 use denote.Ref.{now}
 use Rattle.book_format.proofs.Passed.{passed}
-use Rattle.book_format.specs.Book.{userCount}
 use Rattle.call_list.proofs.Turns.{listed-posted, listed-refused}
 use Rattle.call_list.proofs.list.Statement.{statement}
 use Rattle.call_list.proofs.list.Tie as tie

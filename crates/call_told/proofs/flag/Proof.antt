@@ -5,7 +5,7 @@ use mathlib.Core.Path.{_∙_, ap, sym}
 use Prim.Native.Nat.{ℕ}
 use denote.Ref.{now}
 use lib.ListN.{getD}
-use Rattle.rules.specs.Book.{User, nobody}
+use Rattle.rules.specs.Book.{nobody}
 use Rattle.rules.specs.Levels.{flagged}
 use Rattle.units.specs.Limits.{asLimits}
 use Rattle.book_format.proofs.OneUser.{find-place}

@@ -1,5 +1,4 @@
 -- `is_flagged_shipper`: the user at the place of the id is asked. Assumes nothing.
-use mathlib.Core.List.{List}
 use mathlib.Core.Path.{_≡_, sym, ap, _∙_}
 use native.Mathlib.Omega.{arith}
 use denote.Ref.{now}
@@ -12,7 +11,6 @@ use Rattle.call_entry.specs.Entered.{Found}
 use Rattle.call_entry.proofs.Calls.{found-at, found-user}
 use Rattle.risk_members.proofs.Members.{read-blocked, read-role}
 use Rattle.call_warning.proofs.Ways.{blocked-most, flag-at, known-inside, prices-range, shipper-no, shipper-yes}
-use borrow.Author.Needs.{needs}
 use Rattle.call_warning.proofs.is_flagged_shipper.Statement.{statement}
 use Rattle.call_warning.proofs.is_flagged_shipper.Tie as tie
 
