@@ -1,13 +1,7 @@
 -- The book of an image's fields: its records, that they fit their bytes, and what it is written as. Assumes nothing.
-use mathlib.Core.Bool.{true, false, _&&_}
-use mathlib.Core.List.{List, [], _∷_, _++_, append-nil}
-use mathlib.Core.Path.{_≡_, refl, sym, ap, _∙_}
-use Prim.Native.Nat.{ℕ, zero, suc, _+_, _*_, _<_, _≤_, _^_}
-use native.Mathlib.Omega.{arith}
-use native.Mathlib.Nat.{le-of-suc-le-suc, mul-suc, not-suc-le-zero}
-use lib.Dec.{T, leb, leb→le}
-use lib.ListN.{length, take, drop, length-drop}
-use lib.Seq.{sets, length-take-le, take-add}
+use Rattle.base.specs.Basics.{_≡_, refl, sym, ap, _∙_, true, false, _&&_, List, [], _∷_, _++_, append-nil, ℕ, zero, suc, _+_, _*_, _<_, _≤_, _^_}
+use Rattle.base.specs.Basics.{le-of-suc-le-suc, mul-suc, not-suc-le-zero, arith, T, leb, leb→le, length, take, drop, length-drop, sets}
+use Rattle.base.specs.Basics.{length-take-le, take-add}
 use Rattle.rules.specs.Areas.{managersIn, sellingIn}
 use Rattle.rules.specs.Questions.{versionKnown}
 use Rattle.base.proofs.Tests.{and-l, and-r, by-case}

@@ -1,12 +1,6 @@
 -- Managers that are asked one by one: where they are read, and what the ids say of them. Assumes nothing.
-use mathlib.Core.Bool.{Bool, true, false, not, _&&_, _||_}
-use mathlib.Core.List.{List, [], _∷_}
-use mathlib.Core.Path.{_≡_, refl, sym, ap, ap₂, _∙_}
-use Prim.Native.Nat.{ℕ, zero, suc, _+_, _*_, _<_, _≤_}
-use native.Mathlib.Omega.{arith}
-use lib.Dec.{T, eqb, ltb}
-use lib.ListN.{length, take, drop, getD, length-map, length-take}
-use borrow.Author.Tests.{eq-eqb, ne-eqb}
+use Rattle.base.specs.Basics.{_≡_, refl, sym, ap, ap₂, _∙_, Bool, true, false, not, _&&_, _||_, List, [], _∷_, ℕ, zero, suc, _+_, _*_, _<_, _≤_}
+use Rattle.base.specs.Basics.{arith, T, eqb, ltb, length, take, drop, getD, length-map, length-take, eq-eqb, ne-eqb}
 use Rattle.base.specs.Lists.{all}
 use Rattle.fields.proofs.Field.{field-part}
 use Rattle.fields.proofs.Records.{getD-recordsOf, length-recordsOf}

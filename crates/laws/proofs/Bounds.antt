@@ -1,12 +1,6 @@
 -- Numeric bounds of an accepted book: what was sold and bought, positions within ±26,600,000, so that they fit their 32 bits. Assumes nothing.
-use mathlib.Core.Bool.{Bool, true, false, cond, _&&_}
-use mathlib.Core.List.{List, [], _∷_}
-use mathlib.Core.Path.{_≡_, refl}
-use Prim.Native.Nat.{_*_, _+_, _≤_, ℕ, _<_, suc, zero}
-use native.Mathlib.Omega.{arith}
-use lib.Dec.{T, eqb, leb, leb→le, eqb→eq}
-use lib.IntN.{natAbs, ℤ}
-use lib.ListN.{length}
+use Rattle.base.specs.Basics.{_≡_, refl, Bool, true, false, cond, _&&_, List, [], _∷_, _*_, _+_, _≤_, ℕ, _<_, suc, zero, arith, T, eqb, leb, leb→le}
+use Rattle.base.specs.Basics.{eqb→eq, natAbs, ℤ, length}
 use Rattle.base.proofs.Linear.{abs-parts, negPart-of, posPart-of}
 use Rattle.base.specs.Parts.{negPart, posPart}
 use Rattle.base.specs.Sums.{sum}

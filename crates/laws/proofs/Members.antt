@@ -1,12 +1,6 @@
 -- What a user holds by those whose risk it bears: the sums over the trades as they are borne are the sums over these users, positions as they are borne are as defined, and so bounded. Assumes nothing.
-use mathlib.Core.Bool.{Bool, true, false, cond, _&&_}
-use mathlib.Core.List.{List, [], _∷_, map}
-use mathlib.Core.Path.{_≡_, refl, sym, ap, _∙_}
-use Prim.Native.Nat.{ℕ, _+_, _*_, _≤_, _<_}
-use native.Mathlib.Omega.{arith}
-use lib.Dec.{T, eqb, leb, eqb→eq, leb→le}
-use lib.IntN.{ℤ, pos}
-use lib.ListN.{length}
+use Rattle.base.specs.Basics.{_≡_, refl, sym, ap, _∙_, Bool, true, false, cond, _&&_, List, [], _∷_, map, ℕ, _+_, _*_, _≤_, _<_, arith, T, eqb, leb}
+use Rattle.base.specs.Basics.{eqb→eq, leb→le, ℤ, pos, length}
 use Rattle.base.proofs.Linear.{posPart-of, negPart-of, posPart-pos, negPart-pos}
 use Rattle.base.proofs.Sums.{parts-sum, sum-map, sum-swap, sum-ext, sum-zero}
 use Rattle.base.proofs.Tests.{and-l, and-r, by-test, sum-by, sumℤ-by}

@@ -1,10 +1,5 @@
 -- The laws of groups, as specs/Statements.antt has them. Assumes nothing.
-use mathlib.Core.Bool.{Bool, true, false, not, _&&_}
-use mathlib.Core.List.{List, [], _∷_}
-use mathlib.Core.Path.{_≡_, refl, ap, _∙_}
-use Prim.Native.Nat.{ℕ, zero, suc, _<_}
-use native.Mathlib.Omega.{arith}
-use lib.Dec.{T, eqb, eqb→eq, ltb}
+use Rattle.base.specs.Basics.{_≡_, refl, ap, _∙_, Bool, true, false, not, _&&_, List, [], _∷_, ℕ, zero, suc, _<_, arith, T, eqb, eqb→eq, ltb}
 use Rattle.base.proofs.Tests.{all-by, and-i, and-l, and-r, fails}
 use Rattle.base.specs.Lists.{all}
 use Rattle.laws.proofs.Members.{bought-members, membersSum, sold-members}

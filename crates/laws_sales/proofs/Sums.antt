@@ -1,9 +1,5 @@
 -- What a user holds in a book as its risk is borne, by its own record and its own trades, is what the rules say that it holds in the book. Assumes nothing.
-use mathlib.Core.Bool.{cond, _&&_}
-use mathlib.Core.List.{List}
-use mathlib.Core.Path.{_≡_, refl, sym, _∙_}
-use Prim.Native.Nat.{ℕ, zero, suc}
-use lib.Dec.{eqb}
+use Rattle.base.specs.Basics.{_≡_, refl, sym, _∙_, cond, _&&_, List, ℕ, zero, suc, eqb}
 use Rattle.base.proofs.Sums.{sum-map}
 use Rattle.laws.specs.Statements.{ownHolding}
 use Rattle.rules.specs.Bearers.{asBorne, bearer, borne, borneSum}

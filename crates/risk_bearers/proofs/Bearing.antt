@@ -1,15 +1,6 @@
 -- A table of who bears whose risk gives the book that bytes hold as its risk is borne: its trades, and the sums over its users. Assumes nothing.
-use mathlib.Core.Bool.{Bool, cond}
-use mathlib.Core.List.{List, [], _∷_}
-use mathlib.Core.Path.{_≡_, refl, sym, ap, ap₂, subst, _∙_}
-use Prim.Native.Nat.{ℕ, zero, suc, _+_, _≤_, _<_}
-use native.Mathlib.Nat.{not-suc-le-zero, le-of-suc-le-suc}
-use native.Mathlib.Omega.{arith}
-use lib.Dec.{T, eqb, eqb→eq}
-use lib.IntN.{ℤ, pos, _+ℤ_, +ℤ-assoc, +ℤ-idl, +ℤ-idr}
-use lib.ListN.{length, take, getD}
-use lib.Seq.{take-all}
-use borrow.Author.Tests.{eq-eqb}
+use Rattle.base.specs.Basics.{_≡_, refl, sym, ap, ap₂, subst, _∙_, Bool, cond, List, [], _∷_, ℕ, zero, suc, _+_, _≤_, _<_, not-suc-le-zero}
+use Rattle.base.specs.Basics.{le-of-suc-le-suc, arith, T, eqb, eqb→eq, ℤ, pos, _+ℤ_, +ℤ-assoc, +ℤ-idl, +ℤ-idr, length, take, getD, take-all, eq-eqb}
 use Rattle.base.proofs.Fronts.{all-at}
 use Rattle.base.proofs.Tests.{eqb-of, or-l, or-r}
 use Rattle.base.specs.Lists.{any}

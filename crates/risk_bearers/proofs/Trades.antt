@@ -1,12 +1,6 @@
 -- The trades of a book, one after the other: the places of those who bear the risk of their parties are listed, and what stands is counted at each. Assumes nothing.
-use mathlib.Core.Bool.{Bool, _&&_}
-use mathlib.Core.List.{List, [], _∷_}
-use mathlib.Core.Path.{_≡_, refl, sym, ap, subst, _∙_}
-use Prim.Native.Nat.{ℕ, suc, _+_, _*_, _≤_, _<_}
-use native.Mathlib.Omega.{arith}
-use lib.Dec.{T, leb→le, ltb, ltb→lt}
-use lib.ListN.{length, take, getD, set, replicate, length-map}
-use borrow.Author.Tests.{lt-ltb}
+use Rattle.base.specs.Basics.{_≡_, refl, sym, ap, subst, _∙_, Bool, _&&_, List, [], _∷_, ℕ, suc, _+_, _*_, _≤_, _<_, arith, T, leb→le, ltb, ltb→lt}
+use Rattle.base.specs.Basics.{length, take, getD, set, replicate, length-map, lt-ltb}
 use Rattle.base.specs.Lists.{all}
 use Rattle.base.proofs.Fronts.{all-at}
 use Rattle.base.proofs.Tests.{all-by, and-i, and-l, and-r}

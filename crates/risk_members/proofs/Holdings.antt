@@ -1,10 +1,5 @@
 -- What a user holds as its risk is borne: by its record and its own sums in a version without managers, else by the sums over those whose risk it bears. Assumes nothing.
-use mathlib.Core.Bool.{false}
-use mathlib.Core.List.{List, [], _∷_}
-use mathlib.Core.Path.{_≡_, sym, ap, subst, _∙_}
-use Prim.Native.Nat.{ℕ, zero, suc, _≤_, _<_, _^_}
-use native.Mathlib.Omega.{arith}
-use lib.ListN.{getD, length}
+use Rattle.base.specs.Basics.{_≡_, sym, ap, subst, _∙_, false, List, [], _∷_, ℕ, zero, suc, _≤_, _<_, _^_, arith, getD, length}
 use Rattle.book_format.proofs.Passed.{length-usersOf}
 use Rattle.book_format.specs.Book.{bookOf, tradesOf, userCount, usersOf, versionOf}
 use Rattle.book_format.specs.Held.{Accepted}

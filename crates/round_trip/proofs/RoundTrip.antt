@@ -1,12 +1,6 @@
 -- Reading and writing back gives the same bytes: what was read passes the questions of writing, and the bytes of the book that bytes hold are these bytes. Assumes nothing.
-use mathlib.Core.Bool.{Bool, _&&_, cond, true, false}
-use mathlib.Core.List.{List}
-use mathlib.Core.Option.{Option, none}
-use mathlib.Core.Path.{_≡_, ap, refl, sym, _∙_}
-use Prim.Native.Nat.{ℕ}
-use native.Mathlib.Omega.{arith}
-use lib.Dec.{eqb, leb, le→leb}
-use lib.ListN.{length, replicate}
+use Rattle.base.specs.Basics.{_≡_, ap, refl, sym, _∙_, Bool, _&&_, cond, true, false, Option, none, List, ℕ, arith, eqb, leb, le→leb, length}
+use Rattle.base.specs.Basics.{replicate}
 use Rattle.book_tables.specs.Book.{asBook}
 use Rattle.book_tables.specs.declared.Book.{Book}
 use Rattle.exports.specs.Lent.{Stored, byLength}

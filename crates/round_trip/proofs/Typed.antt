@@ -1,10 +1,6 @@
 -- The book that a struct is fits its bytes, since the struct's fields are of their types. Assumes nothing.
-use mathlib.Core.Bool.{Bool, cond, true, false}
-use mathlib.Core.List.{List, [], _∷_, map}
-use mathlib.Core.Path.{_≡_, refl}
-use Prim.Native.Nat.{ℕ, zero, suc, _<_, _≤_, _^_}
-use native.Mathlib.Omega.{arith}
-use lib.ListN.{length, take, length-map, length-take}
+use Rattle.base.specs.Basics.{_≡_, refl, Bool, cond, true, false, List, [], _∷_, map, ℕ, zero, suc, _<_, _≤_, _^_, arith, length, take, length-map}
+use Rattle.base.specs.Basics.{length-take}
 use Rattle.fields.specs.Layout.{Every}
 use Rattle.rules.specs.Areas.{managersIn, sellingIn}
 use Rattle.rules.specs.Book as model

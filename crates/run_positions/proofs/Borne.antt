@@ -1,10 +1,5 @@
 -- Positions as the risk is borne: without managers those of the records, else the sums over those whose risk each user bears. Assumes nothing.
-use mathlib.Core.Bool.{false}
-use mathlib.Core.List.{List}
-use mathlib.Core.Path.{_≡_, sym, ap, subst, _∙_}
-use Prim.Native.Nat.{ℕ, _+_, _*_, _/_, _%_, _≤_, _<_, _^_}
-use native.Mathlib.Omega.{arith}
-use lib.ListN.{length, getD}
+use Rattle.base.specs.Basics.{_≡_, sym, ap, subst, _∙_, false, List, ℕ, _+_, _*_, _/_, _%_, _≤_, _<_, _^_, arith, length, getD}
 use Rattle.base.proofs.Fronts.{all-at}
 use Rattle.base.specs.Parts.{negPart, posPart}
 use Rattle.book_format.proofs.Passed.{length-usersOf}

@@ -1,13 +1,6 @@
 -- One reduction on arrays, step by step: the user's own sales in them, what they lose, and the positions that this moves. Assumes nothing.
-use mathlib.Core.List.{List, map}
-use mathlib.Core.Logic.{inl, inr}
-use mathlib.Core.Path.{_≡_, sym, ap, ap₂, subst, _∙_}
-use Prim.Native.Nat.{ℕ, suc, _+_, _*_, _-_, _≤_, _<_, _^_}
-use native.Mathlib.Numerals.{add-one}
-use native.Mathlib.Omega.{arith}
-use lib.Dec.{ltb}
-use lib.ListN.{length, getD, length-map, List·getD-eq-default}
-use lib.Seq.{length-sets, sets}
+use Rattle.base.specs.Basics.{_≡_, sym, ap, ap₂, subst, _∙_, inl, inr, List, map, ℕ, suc, _+_, _*_, _-_, _≤_, _<_, _^_, add-one, arith, ltb, length}
+use Rattle.base.specs.Basics.{getD, length-map, List·getD-eq-default, length-sets, sets}
 use Rattle.base.proofs.Fronts.{all-at}
 use Rattle.cut_tiers.proofs.After.{cuts-of-sales}
 use Rattle.cut_tiers.specs.Tiers.{cutsOf}

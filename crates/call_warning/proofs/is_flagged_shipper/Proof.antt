@@ -1,8 +1,5 @@
 -- `is_flagged_shipper`: the user at the place of the id is asked. Assumes nothing.
-use mathlib.Core.Path.{_≡_, sym, ap, _∙_}
-use native.Mathlib.Omega.{arith}
-use denote.Ref.{now}
-use lib.ListN.{getD}
+use Rattle.base.specs.Basics.{_≡_, sym, ap, _∙_, arith, getD, now}
 use Rattle.rules.specs.Book.{User, find, nobody}
 use Rattle.rules.specs.Levels.{flagged}
 use Rattle.units.specs.Limits.{asLimits}
