@@ -59,7 +59,7 @@ def declared_in(path, text):
         return set(DECLARED.findall(text)) | fields | words
     if path.endswith(".antt"):
         types = set(re.findall(r"\b(?:record|data|module) ([^\s({:]+)", text))
-        taken = {n for names in re.findall(r"^use (?!Rattle)[^{\n]*\{([^}]*)\}", text, re.M) for n in re.split(r"[,\s]+", names)}
+        taken = {n for names in re.findall(r"^(?:pub )?use (?!Rattle)[^{\n]*\{([^}]*)\}", text, re.M) for n in re.split(r"[,\s]+", names)}
         return types | taken | {n for names in re.findall(r"^ *(?:unfoldable |abbrev )?(?:pub )?([^:=(){}]+?) :", text, re.M) for n in names.split()}
     return set(re.findall(r"\b\w*[A-Z_]\w*\b|[a-z]+(?=\()", text))
 

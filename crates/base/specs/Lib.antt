@@ -2,3 +2,4 @@
 pub mod Parts
 pub mod Sums
 pub mod Lists
+pub mod Basics

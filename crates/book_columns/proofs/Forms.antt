@@ -1,13 +1,6 @@
 -- The form of an accepted book is accepted and yields that book, and bytes that are accepted are the form of the book that they yield. Assumes nothing.
-use mathlib.Core.Bool.{Bool, true, false, _&&_}
-use mathlib.Core.List.{List, []}
-use mathlib.Core.Option.{none, some}
-use mathlib.Core.Path.{_≡_, refl, sym, ap, _∙_}
-use Prim.Native.Nat.{ℕ, _<_, _≤_}
-use native.Mathlib.Omega.{arith}
-use lib.Dec.{T, eqb, eqb→eq, leb, leb→le, le→leb}
-use lib.ListN.{length}
-use borrow.Author.Tests.{lt-leb}
+use Rattle.base.specs.Basics.{_≡_, refl, sym, ap, _∙_, Bool, true, false, _&&_, none, some, List, [], ℕ, _<_, _≤_, arith, T, eqb, eqb→eq, leb, leb→le}
+use Rattle.base.specs.Basics.{le→leb, length, lt-leb}
 use Rattle.base.proofs.Tests.{and-i, and-l, and-r, eqb-of, holds}
 use Rattle.rules.specs.Questions.{decided, refusal}
 use Rattle.laws.proofs.Refusals.{refusal-next, yes-first}

@@ -1,13 +1,6 @@
 -- Rearranged bytes have the length, the version and the counts of the bytes, and rearranged the other way they are the bytes again. Assumes nothing.
-use mathlib.Core.Bool.{Bool, not}
-use mathlib.Core.List.{List, _++_}
-use mathlib.Core.Logic.{inr}
-use mathlib.Core.Path.{_≡_, refl, sym, ap, _∙_}
-use Prim.Native.Nat.{ℕ, _+_, _*_, _^_, _<_, _≤_}
-use native.Mathlib.Nat.{zero-add}
-use native.Mathlib.Omega.{arith}
-use lib.ListN.{length, take, drop, length-append, length-drop, take-append-drop}
-use lib.Seq.{sets, sets-eq, drop-at, drop-drop, length-take-le, take-at}
+use Rattle.base.specs.Basics.{_≡_, refl, sym, ap, _∙_, inr, Bool, not, List, _++_, ℕ, _+_, _*_, _^_, _<_, _≤_, zero-add, arith, length, take, drop}
+use Rattle.base.specs.Basics.{length-append, length-drop, take-append-drop, sets, sets-eq, drop-at, drop-drop, length-take-le, take-at}
 use Rattle.base.proofs.Tests.{by-case}
 use Rattle.rules.specs.Areas.{managersIn}
 use Rattle.fields.specs.Field.{AllBytes, field, setField, toBytes}

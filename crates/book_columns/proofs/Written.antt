@@ -1,11 +1,6 @@
 -- The three parts of rearranged bytes written one after the other. Assumes nothing.
-use mathlib.Core.Bool.{Bool}
-use mathlib.Core.List.{List, _++_, append-nil}
-use mathlib.Core.Path.{_≡_, sym, _∙_}
-use Prim.Native.Nat.{ℕ, _+_, _*_, _≤_}
-use native.Mathlib.Omega.{arith}
-use lib.ListN.{length, take, drop}
-use lib.Seq.{sets, drop-length, take-all, take-length}
+use Rattle.base.specs.Basics.{_≡_, sym, _∙_, Bool, List, _++_, append-nil, ℕ, _+_, _*_, _≤_, arith, length, take, drop, sets, drop-length, take-all}
+use Rattle.base.specs.Basics.{take-length}
 use Rattle.fields.specs.Field.{setField}
 use Rattle.fields.proofs.Sets.{part-sets, sets-three}
 use Rattle.columns.specs.Columns.{arranged}

@@ -1,8 +1,5 @@
 -- Document 02, ask 13: a book stored field by field, and "The inverse gives the book back, and accepts only the form that its book yields." Assumes nothing.
-use mathlib.Core.List.{List, [], _∷_, _++_}
-use Prim.Native.Nat.{ℕ}
-use lib.Dec.{leb}
-use lib.ListN.{length}
+use Rattle.base.specs.Basics.{List, [], _∷_, _++_, ℕ, leb, length}
 use Rattle.rules.specs.Questions.{Question}
 use Rattle.book_format.specs.Questions.{aboutBytes}
 use Rattle.outputs.specs.Output.{Output, written, writtenAfter}

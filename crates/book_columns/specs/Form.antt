@@ -1,11 +1,6 @@
 -- Document 02, ask 13: "A book of any version is rearranged: its header with mark `GDF` in place of `GDB`, all ids, all roles, and so on through the user and then the
 -- trade fields (each area's number and each run of zero bytes is a field)." A version is its header's size and the widths of its fields. Assumes nothing.
-use mathlib.Core.Bool.{Bool, true, false, cond, _&&_}
-use mathlib.Core.List.{List, _++_}
-use mathlib.Core.Path.{_≡_}
-use Prim.Native.Nat.{ℕ, _+_, _*_, _≤_}
-use lib.Dec.{T, eqb, leb}
-use lib.ListN.{length, take, drop}
+use Rattle.base.specs.Basics.{_≡_, Bool, true, false, cond, _&&_, List, _++_, ℕ, _+_, _*_, _≤_, T, eqb, leb, length, take, drop}
 use Rattle.rules.specs.Areas.{managersIn}
 use Rattle.rules.specs.Questions.{versionKnown}
 use Rattle.fields.specs.Field.{setField}

@@ -1,9 +1,5 @@
 -- Document 02, ask 13: "The inverse gives the book back, and accepts only the form that its book yields." Assumes nothing.
-use mathlib.Core.Bool.{true, false}
-use mathlib.Core.List.{List}
-use mathlib.Core.Path.{_≡_}
-use Prim.Native.Nat.{ℕ, _<_, _≤_}
-use lib.ListN.{length}
+use Rattle.base.specs.Basics.{_≡_, true, false, List, ℕ, _<_, _≤_, length}
 use Rattle.fields.specs.Field.{AllBytes}
 use Rattle.book_format.specs.Questions.{bookNumber}
 use Rattle.outputs.specs.Output.{accepted, refused}

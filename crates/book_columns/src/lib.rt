@@ -33,11 +33,11 @@ fn arrange_users(s: &[u8], version: u16, at: usize, n: usize, back: bool, out: &
 {
     if book_format::has_managers(version) {
         let widths = [4u8, 1, 3, 4, 4, 4, 4, 4, 4, 8, 8, 8, 4, 4, 4];
-        columns::arrange(s, at, n, 68, &widths, back, out);
+        columns::arrange(s, at, n, book_records::MANAGED_SIZE, &widths, back, out);
         return;
     }
     let widths = [4u8, 1, 3, 4, 4, 4, 4, 4, 4, 8, 8, 8];
-    columns::arrange(s, at, n, 56, &widths, back, out);
+    columns::arrange(s, at, n, book_records::USER_SIZE, &widths, back, out);
 }
 
 // Arranges the m trades of a version that begin at `at`.
@@ -46,7 +46,7 @@ fn arrange_trades(s: &[u8], version: u16, at: usize, m: usize, back: bool, out: 
     ensures { λ _. ⌜ now (out .exit) ≡ sets (now (out .entry)) at (arranged back (tradeFields version) m (take (tradeSize version * m) (drop at (now (s .entry))))) ⌝ }
 {
     let widths = [4u8, 4, 1, 1, 1, 1, 4, 4];
-    columns::arrange(s, at, m, 20, &widths, back, out);
+    columns::arrange(s, at, m, book_records::TRADE_SIZE, &widths, back, out);
 }
 
 // Writes bytes as long as their version and counts ask for to a part of their length: with another mark, users and trades field by field,

@@ -1,10 +1,5 @@
 -- Questions asked in two parts, by the number of the first part; a call and a query on any bytes are those after the questions of the bytes. Assumes nothing.
-use mathlib.Core.List.{List, _++_}
-use mathlib.Core.Option.{Option, none, some}
-use mathlib.Core.Path.{_≡_, _∙_, ap, refl, sym}
-use Prim.Native.Nat.{ℕ, suc, zero}
-use native.Mathlib.Omega.{arith}
-use lib.Dec.{T, ltb, ltb→lt}
+use Rattle.base.specs.Basics.{_≡_, _∙_, ap, refl, sym, Option, none, some, List, _++_, ℕ, suc, zero, arith, T, ltb, ltb→lt}
 use Rattle.book_format.proofs.Formed.{bytes-numbered}
 use Rattle.book_format.specs.After.{CalledAfter, after, stepAfter, unchanged}
 use Rattle.book_format.specs.Book.{bookOf}

@@ -1,8 +1,5 @@
 -- Question 1 asks for 32 bytes in every version: a book of version 2 or 3 that ends before its header does is judged by 3. Assumes nothing.
-use mathlib.Core.List.{List, _∷_}
-use mathlib.Core.Path.{_≡_, refl}
-use Prim.Native.Nat.{ℕ}
-use lib.ListN.{replicate}
+use Rattle.base.specs.Basics.{_≡_, refl, List, _∷_, ℕ, replicate}
 use Rattle.fields.specs.Field.{field, fromBytes}
 use Rattle.rules.specs.Areas.{managersIn, sellingIn}
 use Rattle.book_records.specs.User.{recordSize}

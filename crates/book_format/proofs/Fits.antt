@@ -1,13 +1,6 @@
 -- A user that is read from bytes fits them, and so do the users and trades of an accepted book. Assumes nothing.
-use mathlib.Core.Bool.{Bool, true, false, cond}
-use mathlib.Core.Path.{_≡_, ap}
-use mathlib.Core.List.{List, [], _∷_}
-use Prim.Native.Nat.{ℕ, _*_, _<_, _^_}
-use native.Mathlib.Omega.{arith}
-use lib.Dec.{T, T-not, eqb, leb→le, ltb→lt}
-use lib.IntN.{ℤ}
-use lib.ListN.{length}
-use borrow.Author.Tests.{eqb-true}
+use Rattle.base.specs.Basics.{_≡_, ap, Bool, true, false, cond, List, [], _∷_, ℕ, _*_, _<_, _^_, arith, T, T-not, eqb, leb→le, ltb→lt, ℤ, length}
+use Rattle.base.specs.Basics.{eqb-true}
 use Rattle.base.proofs.Tests.{and-l, and-r, by-case, by-test, fails, or-second}
 use Rattle.base.specs.Lists.{all}
 use Rattle.fields.proofs.Field.{field-lt}

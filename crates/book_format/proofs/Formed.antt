@@ -1,10 +1,5 @@
 -- What the questions 1 to 3 tell of bytes: the mark, the version, the counts and the length. Assumes nothing.
-use mathlib.Core.List.{List}
-use mathlib.Core.Option.{none, some}
-use mathlib.Core.Path.{_≡_, ap, sym}
-use Prim.Native.Nat.{_≤_, ℕ}
-use lib.Dec.{T, eqb, eqb→eq, leb, leb→le}
-use lib.ListN.{length}
+use Rattle.base.specs.Basics.{_≡_, ap, sym, none, some, List, _≤_, ℕ, T, eqb, eqb→eq, leb, leb→le, length}
 use Rattle.book_format.specs.Book.{mark, lengthBy, lengthOf, markOf, tradeCount, tradesAt, userAt, userCount}
 use Rattle.book_format.specs.Questions.{aboutBytes, aboutFields, aboutForm, bookNumber, formNumber, marked, sized, versioned, Formed}
 use Rattle.laws.proofs.Refusals.{first-yes, number-none, number-some, numbered, refusal-first, refusal-next}

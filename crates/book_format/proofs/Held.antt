@@ -1,13 +1,6 @@
 -- A book held in bytes: accepted bytes hold theirs; its records are read where they stand; with one record set, or a part of it, the bytes hold the book with that record. Assumes nothing.
-use mathlib.Core.Bool.{cond}
-use mathlib.Core.List.{List, [], _++_, append-assoc, append-nil}
-use mathlib.Core.Path.{_≡_, refl, sym, ap, ap₂, subst, _∙_}
-use Prim.Native.Nat.{ℕ, _+_, _*_, _<_, _≤_}
-use native.Mathlib.Nat.{zero-add}
-use native.Mathlib.Omega.{arith}
-use lib.Dec.{T}
-use lib.ListN.{length, take, drop, getD, set, length-append, length-set}
-use lib.Seq.{sets}
+use Rattle.base.specs.Basics.{_≡_, refl, sym, ap, ap₂, subst, _∙_, cond, List, [], _++_, append-assoc, append-nil, ℕ, _+_, _*_, _<_, _≤_, zero-add}
+use Rattle.base.specs.Basics.{arith, T, length, take, drop, getD, set, length-append, length-set, sets}
 use Rattle.fields.proofs.Field.{all-bytes-part, field-part}
 use Rattle.fields.proofs.Records.{length-bytesOfRecords}
 use Rattle.fields.proofs.Sets.{drop-sets, drop-sets-add, length-part, sets-left, sets-whole, take-sets}

@@ -1,14 +1,6 @@
 -- Where the users and the trades of a book in bytes begin, and what is read from there. Assumes nothing.
-use mathlib.Core.Bool.{true, false, _||_}
-use mathlib.Core.List.{List, [], _∷_}
-use mathlib.Core.Path.{_≡_, refl, ap, _∙_}
-use Prim.Native.Nat.{ℕ, _+_, _*_, _^_, _<_, _≤_}
-use native.Mathlib.Nat.{mul-le-mul, mul-le-mul-left, mul-suc}
-use native.Mathlib.Numerals.{add-one}
-use native.Mathlib.Omega.{arith}
-use lib.Dec.{T, eqb, eqb→eq}
-use lib.ListN.{length, drop}
-use borrow.Author.Tests.{eqb-true}
+use Rattle.base.specs.Basics.{_≡_, refl, ap, _∙_, true, false, _||_, List, [], _∷_, ℕ, _+_, _*_, _^_, _<_, _≤_, add-one, mul-le-mul, mul-le-mul-left}
+use Rattle.base.specs.Basics.{mul-suc, arith, T, eqb, eqb→eq, length, drop, eqb-true}
 use Rattle.base.proofs.Tests.{by-case, fails, or-second}
 use Rattle.fields.specs.Layout.{pack, recordsOf}
 use Rattle.book_format.specs.Book.{headerSize, lengthBy, sellingBytes, sellingWidths, tradeCount, tradesAt, tradesOf, userAt, userCount, userRecord, userSize, usersOf, versionOf}

@@ -1,14 +1,6 @@
 -- A book with one user changed: the same bytes but for that user's record, which stands in its place. Assumes nothing.
-use mathlib.Core.Bool.{Bool, _||_, cond, false, true}
-use mathlib.Core.List.{List, [], _++_, _∷_}
-use mathlib.Core.Path.{_≡_, _∙_, ap, refl, sym}
-use Prim.Native.Nat.{_*_, _+_, _<_, _≤_, suc, ℕ}
-use native.Mathlib.Nat.{le-of-eq}
-use native.Mathlib.Omega.{arith}
-use lib.Dec.{T, eqb, eqb→eq, leb·suc-suc, ltb}
-use lib.ListN.{getD, length, length-set, set}
-use lib.Seq.{sets}
-use borrow.Author.Tests.{le-ltb, lt-ltb}
+use Rattle.base.specs.Basics.{_≡_, _∙_, ap, refl, sym, Bool, _||_, cond, false, true, List, [], _∷_, _*_, _+_, _<_, _≤_, suc, ℕ, le-of-eq, arith, T}
+use Rattle.base.specs.Basics.{eqb, eqb→eq, leb·suc-suc, ltb, getD, length, length-set, set, sets, le-ltb, lt-ltb}
 use Rattle.fields.proofs.Sets.{sets-whole}
 use Rattle.fields.specs.Field.{AllBytes}
 use Rattle.fields.specs.Layout.{bytesOfRecords}

@@ -1,11 +1,6 @@
 -- A part of a record is set: a field of its values, the record's bytes among others, and the records that are read again. Assumes nothing.
-use Prim.Native.Nat.{ℕ, zero, suc, _+_, _*_, _<_, _≤_}
-use mathlib.Core.Path.{_≡_, refl, sym, ap, _∙_}
-use mathlib.Core.List.{List, [], _∷_, _++_}
-use native.Mathlib.Omega.{arith}
-use native.Mathlib.Nat.{add-assoc, mul-zero, mul-le-mul-left, zero-add, not-suc-le-zero, le-of-suc-le-suc}
-use lib.ListN.{length, getD, take, drop, set, length-drop}
-use lib.Seq.{sets, drop-drop}
+use Rattle.base.specs.Basics.{_≡_, refl, sym, ap, _∙_, List, [], _∷_, _++_, ℕ, zero, suc, _+_, _*_, _<_, _≤_, add-assoc, mul-zero, mul-le-mul-left}
+use Rattle.base.specs.Basics.{zero-add, not-suc-le-zero, le-of-suc-le-suc, arith, length, getD, take, drop, set, length-drop, sets, drop-drop}
 use Rattle.fields.proofs.Field.{length-toBytes}
 use Rattle.fields.proofs.Records.{getD-recordsOf, length-bytesOfRecords, mul-suc-front, recordsOf-sets}
 use Rattle.fields.proofs.Sets.{sets-left, sets-right, sets-whole, take-sets, drop-sets-add}

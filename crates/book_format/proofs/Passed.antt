@@ -1,11 +1,5 @@
 -- What the questions 1 to 7 tell of bytes: their form, their zero bytes, and that the book they hold is accepted. Assumes nothing.
-use mathlib.Core.Bool.{_&&_}
-use mathlib.Core.List.{List}
-use mathlib.Core.Option.{none}
-use mathlib.Core.Path.{_≡_}
-use Prim.Native.Nat.{suc, zero, ℕ}
-use lib.Dec.{T, eqb, eqb→eq, leb, le→leb}
-use lib.ListN.{drop, length, take}
+use Rattle.base.specs.Basics.{_≡_, _&&_, none, List, suc, zero, ℕ, T, eqb, eqb→eq, leb, le→leb, drop, length, take}
 use Rattle.fields.proofs.Records.{length-recordsOf}
 use Rattle.fields.specs.Layout.{EveryPart, recordsOf}
 use Rattle.book_format.proofs.Formed.{book-passed, formed-of}

@@ -1,11 +1,6 @@
 -- A user and a trade at their places: their bytes lie in the book, and are read as them; a field of them, and others in their place. Assumes nothing.
-use mathlib.Core.List.{List, [], _∷_}
-use mathlib.Core.Path.{_≡_, refl, sym, ap, _∙_}
-use Prim.Native.Nat.{ℕ, zero, suc, _+_, _-_, _*_, _≤_, _<_}
-use native.Mathlib.Nat.{le-of-suc-le-suc, not-suc-le-zero}
-use native.Mathlib.Omega.{arith}
-use lib.ListN.{length, take, drop, getD, set}
-use lib.Seq.{drop-drop, sets}
+use Rattle.base.specs.Basics.{_≡_, refl, sym, ap, _∙_, List, [], _∷_, ℕ, zero, suc, _+_, _-_, _*_, _≤_, _<_, le-of-suc-le-suc, not-suc-le-zero, arith}
+use Rattle.base.specs.Basics.{length, take, drop, getD, set, drop-drop, sets}
 use borrow.Rule.Slice.PartMut.{putMid}
 use Rattle.fields.proofs.Field.{all-bytes-part, field-part}
 use Rattle.fields.proofs.Records.{every-part-at}

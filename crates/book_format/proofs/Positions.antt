@@ -1,8 +1,5 @@
 -- A user's position in an area is four bytes of the user's. Assumes nothing.
-use mathlib.Core.List.{List}
-use mathlib.Core.Path.{_≡_, refl}
-use Prim.Native.Nat.{ℕ, zero, suc, _+_, _*_, _<_}
-use native.Mathlib.Omega.{arith}
+use Rattle.base.specs.Basics.{_≡_, refl, List, ℕ, zero, suc, _+_, _*_, _<_, arith}
 use Rattle.fields.specs.Field.{field}
 use Rattle.book_records.specs.User.{amountsAt, userOf}
 use Rattle.rules.specs.Book.{at}

@@ -1,11 +1,6 @@
 -- A book that is read and written again: the same bytes. Assumes nothing.
-use mathlib.Core.Bool.{true}
-use mathlib.Core.List.{List, _++_, append-nil}
-use mathlib.Core.Path.{_≡_, refl, sym, ap, ap₂, _∙_}
-use Prim.Native.Nat.{_*_, _+_, _≤_, ℕ}
-use native.Mathlib.Omega.{arith}
-use lib.ListN.{drop, length, length-drop, take, take-append-drop}
-use lib.Seq.{drop-drop, take-add, take-all}
+use Rattle.base.specs.Basics.{_≡_, refl, sym, ap, ap₂, _∙_, true, List, _++_, append-nil, _*_, _+_, _≤_, ℕ, arith, drop, length, length-drop, take}
+use Rattle.base.specs.Basics.{take-append-drop, drop-drop, take-add, take-all}
 use Rattle.base.proofs.Tests.{by-case}
 use Rattle.fields.proofs.Field.{all-bytes-drop}
 use Rattle.fields.proofs.Pack.{pack-fieldsAt}

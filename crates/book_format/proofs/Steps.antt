@@ -1,7 +1,5 @@
 -- A call on a book in bytes, by what the questions of the book answer. Assumes nothing.
-use mathlib.Core.List.{List}
-use mathlib.Core.Path.{_≡_}
-use Prim.Native.Nat.{ℕ}
+use Rattle.base.specs.Basics.{_≡_, List, ℕ}
 use Rattle.book_format.proofs.Formed.{book-passed, book-refused}
 use Rattle.book_format.specs.Book.{bookOf}
 use Rattle.book_format.specs.Questions.{aboutBytes, bookNumber}

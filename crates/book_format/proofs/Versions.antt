@@ -1,8 +1,5 @@
 -- A book of version 1 in bytes is document 01's. Assumes nothing.
-use mathlib.Core.Bool.{false}
-use mathlib.Core.List.{append-nil}
-use mathlib.Core.Path.{_≡_, ap, refl, _∙_}
-use Prim.Native.Nat.{ℕ, _+_, _*_}
+use Rattle.base.specs.Basics.{_≡_, refl, false, append-nil, ℕ, _+_, _*_}
 use Rattle.rules.specs.Areas.{managersIn, sellingIn}
 use Rattle.book_records.specs.User.{recordBytes, recordSize, userBytes}
 use Rattle.book_format.specs.Book.{headerBytes, headerSize, lengthBy, pricesOf, sellingAt, userRecord, userSize}

@@ -1,14 +1,7 @@
 -- A book that is written and read again: what was written are bytes, they pass every question, and the book that they hold is the book. Assumes nothing.
-use mathlib.Core.Bool.{_&&_, true, false}
-use mathlib.Core.List.{List, [], _++_, _∷_, append-assoc, append-nil}
-use mathlib.Core.Option.{none, some}
-use mathlib.Core.Path.{_≡_, refl, sym, _∙_, ap}
-use Prim.Native.Nat.{_*_, _+_, _<_, _^_, ℕ, _/_, _≤_}
-use native.Mathlib.Nat.{zero-add}
-use native.Mathlib.Omega.{arith}
-use lib.Dec.{T, eqb, leb→le, eqb-refl, eqb→eq, leb, le→leb}
-use lib.ListN.{length, length-append, drop, getD}
-use lib.Seq.{sets, drop-at, take-at, drop-drop}
+use Rattle.base.specs.Basics.{_≡_, refl, sym, _∙_, ap, _&&_, true, false, none, some, List, [], _++_, _∷_, append-assoc, append-nil, _*_, _+_, _<_}
+use Rattle.base.specs.Basics.{_^_, ℕ, _/_, _≤_, zero-add, arith, T, eqb, leb→le, eqb-refl, leb, le→leb, length, length-append, drop, getD, sets}
+use Rattle.base.specs.Basics.{drop-at, take-at, drop-drop}
 use Rattle.fields.proofs.Field.{all-bytes-append, field-append, length-toBytes}
 use Rattle.fields.proofs.Pack.{all-bytes-pack, length-pack, fieldsAt-pack, setFields-sets}
 use Rattle.fields.proofs.Records.{all-bytes-records, length-bytesOfRecords, recordsOf-bytesOfRecords}

@@ -1,7 +1,5 @@
 -- A call and a query whose opening questions are answered already, by their number: what the contracts of the inner calls cite. Assumes nothing.
-use mathlib.Core.List.{List}
-use mathlib.Core.Path.{_≡_}
-use Prim.Native.Nat.{ℕ, zero, suc}
+use Rattle.base.specs.Basics.{_≡_, List, ℕ, zero, suc}
 use Rattle.rules.specs.Calls.{Answer, Call, about, effect, only}
 use Rattle.rules.specs.Levels.{Limits}
 use Rattle.rules.specs.Queries.{Query, Reply, aboutQuery, found, onlyNumber}

@@ -1,8 +1,5 @@
 -- Document 01, "The book in bytes", with versions 2 and 3 of document 02's asks 3 and 5: the book that bytes hold, and the bytes of a book. The sizes by version are said here, a record's fields in `book_records`. Assumes nothing.
-use mathlib.Core.Bool.{cond}
-use mathlib.Core.List.{List, [], _∷_, _++_}
-use Prim.Native.Nat.{ℕ, _+_, _*_}
-use lib.ListN.{length, drop}
+use Rattle.base.specs.Basics.{cond, List, [], _∷_, _++_, ℕ, _+_, _*_, length, drop}
 use Rattle.rules.specs.Areas.{Prices, managersIn, sellingIn}
 use Rattle.rules.specs.Book.{User, Trade, Book}
 use Rattle.fields.specs.Field.{field}

@@ -1,7 +1,5 @@
 -- A book held in bytes: the bytes are the book's, and read as it. Assumes nothing.
-use mathlib.Core.List.{List}
-use mathlib.Core.Path.{_≡_}
-use Prim.Native.Nat.{ℕ}
+use Rattle.base.specs.Basics.{_≡_, List, ℕ}
 use Rattle.book_format.specs.Book.{bookOf, bytesOf}
 use Rattle.book_format.specs.Questions.{Formed}
 use Rattle.laws.specs.Sound.{Sound}

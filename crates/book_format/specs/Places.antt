@@ -1,8 +1,5 @@
 -- Bytes with a header, and with a user, or a trade, at a place. Assumes nothing.
-use mathlib.Core.List.{List}
-use mathlib.Core.Path.{_≡_}
-use Prim.Native.Nat.{ℕ, _+_, _*_, _<_, _≤_}
-use lib.ListN.{length}
+use Rattle.base.specs.Basics.{_≡_, List, ℕ, _+_, _*_, _<_, _≤_, length}
 use Rattle.book_format.specs.Book.{headerSize, tradeCount, tradesAt, userAt, userCount, versionOf}
 use Rattle.book_format.specs.Questions.{Formed}
 

@@ -1,10 +1,5 @@
 -- Document 01, "The questions" that every call asks, of any bytes: those of the rules, and beside them the mark, the length and the zero bytes. Assumes nothing.
-use mathlib.Core.Bool.{Bool, _&&_}
-use mathlib.Core.List.{List, [], _∷_, _++_}
-use mathlib.Core.Path.{_≡_}
-use Prim.Native.Nat.{ℕ, _*_, _+_, _≤_}
-use lib.Dec.{T, leb, eqb}
-use lib.ListN.{length, drop}
+use Rattle.base.specs.Basics.{_≡_, Bool, _&&_, List, [], _∷_, _++_, ℕ, _*_, _+_, _≤_, T, leb, eqb, length, drop}
 use Rattle.fields.specs.Layout.{recordsOf}
 use Rattle.book_format.specs.Book.{headerSize, userSize, tradeSize, mark, markOf, versionOf, userCount, tradeCount, tradesAt, lengthOf, usersOf, tradesOf, bookOf}
 use Rattle.book_records.specs.Trade.{tradeZeros}

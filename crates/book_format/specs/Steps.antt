@@ -1,11 +1,6 @@
 -- A call and a query of document 01 on a book in bytes. The contracts of the public functions cite `request` and `enquiry` of `requests`, which are these where no store and no log
 -- is given (`requests`, Plain). Assumes nothing.
-use mathlib.Core.Path.{_≡_}
-use mathlib.Core.List.{List, [], _∷_, _++_}
-use Prim.Native.Nat.{ℕ, suc}
-use mathlib.Core.Bool.{cond}
-use lib.Dec.{eqb}
-use lib.ListN.{take, drop}
+use Rattle.base.specs.Basics.{_≡_, cond, List, [], _∷_, _++_, ℕ, suc, eqb, take, drop}
 use Rattle.rules.specs.Book.{User}
 use Rattle.rules.specs.Questions.{refusal, decided}
 use Rattle.rules.specs.Levels.{Limits}

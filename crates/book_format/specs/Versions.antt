@@ -1,8 +1,5 @@
 -- Document 02's ask 3, "version 1 keeps its reading", of bytes; and version 2 keeps its own. Assumes nothing.
-use mathlib.Core.Bool.{false}
-use mathlib.Core.List.{List}
-use mathlib.Core.Path.{_≡_}
-use Prim.Native.Nat.{ℕ, _+_, _*_}
+use Rattle.base.specs.Basics.{_≡_, false, List, ℕ, _+_, _*_}
 use Rattle.fields.specs.Layout.{pack}
 use Rattle.rules.specs.Areas.{managersIn}
 use Rattle.rules.specs.Book.{Book, User}

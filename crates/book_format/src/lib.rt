@@ -58,9 +58,9 @@ pub fn user_size(version: u16) -> usize
     ensures { λ r. ⌜ (56 ≤ r) × (r ≤ 68) ⌝ }
 {
     if has_managers(version) {
-        return 68;
+        return book_records::MANAGED_SIZE;
     }
-    56
+    book_records::USER_SIZE
 }
 
 // The length of a book of n users and m trades.
@@ -68,7 +68,7 @@ pub fn book_length(version: u16, n: usize, m: usize) -> usize
     requires { ⌜ (n ≤ 255) × (m ≤ 65535) ⌝ }
     ensures { λ r. ⌜ r ≡ lengthBy version n m ⌝ }
 {
-    header_size(version) + user_size(version) * n + 20 * m
+    header_size(version) + user_size(version) * n + book_records::TRADE_SIZE * m
 }
 
 // ---- the version and the counts of a header
@@ -78,7 +78,7 @@ pub fn version(s: &[u8]) -> u16
     requires { ⌜ 32 ≤ length (now s) ⌝ }
     ensures { λ r. ⌜ r ≡ versionOf (now (s .entry)) ⌝ }
 {
-    fields::get_u16(s, 3)
+    fields::get_u16(s, book_records::VERSION)
 }
 
 // The number of users.
@@ -86,7 +86,7 @@ pub fn user_count(s: &[u8]) -> u8
     requires { ⌜ 32 ≤ length (now s) ⌝ }
     ensures { λ r. ⌜ r ≡ userCount (now (s .entry)) ⌝ }
 {
-    fields::get_u8(s, 5)
+    fields::get_u8(s, book_records::USER_COUNT)
 }
 
 // The number of trades.
@@ -94,7 +94,7 @@ pub fn trade_count(s: &[u8]) -> u16
     requires { ⌜ 32 ≤ length (now s) ⌝ }
     ensures { λ r. ⌜ r ≡ tradeCount (now (s .entry)) ⌝ }
 {
-    fields::get_u16(s, 6)
+    fields::get_u16(s, book_records::TRADE_COUNT)
 }
 
 // ---- users
@@ -139,7 +139,7 @@ pub fn user_at(s: &[u8], place: usize) -> User
     ensures { λ r. ⌜ asUser r ≡ alone (getD (usersOf (now (s .entry))) place nobody) ⌝ }
 {
     let a = user_offset(s, place);
-    book_records::read_user(&s[a..a + 56])
+    book_records::read_user(&s[a..a + book_records::USER_SIZE])
 }
 
 // Writes a user over the one at a place, whose managers stay.
@@ -148,7 +148,7 @@ pub fn put_user(s: &mut [u8], place: usize, u: User)
     ensures { λ _. ⌜ now (s .exit) ≡ sets (now (s .entry)) (userAt (now (s .entry)) place) (userBytes (asUser u)) ⌝ }
 {
     let a = user_offset(s, place);
-    book_records::write_user(&mut s[a..a + 56], u);
+    book_records::write_user(&mut s[a..a + book_records::USER_SIZE], u);
 }
 
 // Where the position of the user at a place begins, of an area.
@@ -156,7 +156,7 @@ pub fn position_offset(s: &[u8], place: usize, area: usize) -> usize
     requires { ⌜ UserIn (now s) place × (area < 3) ⌝ }
     ensures { λ r. ⌜ (r ≡ positionAt (now (s .entry)) place area) × (r + 4 ≤ length (now (s .entry))) ⌝ }
 {
-    user_offset(s, place) + (20 + 4 * area)
+    user_offset(s, place) + (book_records::POSITION + 4 * area)
 }
 
 // ---- trades
@@ -174,7 +174,7 @@ fn trade_offset(s: &[u8], at: usize, place: usize) -> usize
     requires { ⌜ TradeIn (now s) at place ⌝ }
     ensures { λ r. ⌜ (r ≡ at + 20 * place) × (r + 20 ≤ length (now (s .entry))) ⌝ }
 {
-    at + 20 * place
+    at + book_records::TRADE_SIZE * place
 }
 
 // The trade at a place, of those that begin at `at`.
@@ -183,7 +183,7 @@ pub fn trade_at(s: &[u8], at: usize, place: usize) -> Trade
     ensures { λ r. ⌜ asTrade r ≡ getD (tradesOf (now (s .entry))) place noTrade ⌝ }
 {
     let a = trade_offset(s, at, place);
-    book_records::read_trade(&s[a..a + 20])
+    book_records::read_trade(&s[a..a + book_records::TRADE_SIZE])
 }
 
 // Writes a trade over the one at a place, of those that begin at `at`, in bytes that hold a book.
@@ -193,5 +193,5 @@ pub fn put_trade(s: &mut [u8], at: usize, place: usize, t: Trade)
     ensures { λ _. ⌜ HeldAs (tradesReplaced (bookOf (now (s .entry))) (set (tradesOf (now (s .entry))) place (asTrade t))) (now (s .exit)) ⌝ }
 {
     let a = trade_offset(s, at, place);
-    book_records::write_trade(&mut s[a..a + 20], t);
+    book_records::write_trade(&mut s[a..a + book_records::TRADE_SIZE], t);
 }

@@ -117,13 +117,13 @@ pub fn read_prices(s: &[u8]) -> Prices
     ensures { λ r. ⌜ asPrices r ≡ pricesOf (now (s .entry)) ⌝ }
 {
     Prices {
-        p: fields::get_u32(s, 12),
-        q: fields::get_u32(s, 16),
-        l: fields::get_u32(s, 20),
-        x: fields::get_u32(s, 24),
-        i: fields::get_u32(s, 28),
-        s: selling_at(s, 32),
-        u: selling_at(s, 36),
+        p: fields::get_u32(s, book_records::PRICE_P),
+        q: fields::get_u32(s, book_records::PRICE_Q),
+        l: fields::get_u32(s, book_records::PRICE_L),
+        x: fields::get_u32(s, book_records::PRICE_X),
+        i: fields::get_u32(s, book_records::PRICE_I),
+        s: selling_at(s, book_records::SELLING_S),
+        u: selling_at(s, book_records::SELLING_U),
     }
 }
 
@@ -133,10 +133,10 @@ pub fn write_start(out: &mut [u8], version: u16, users: u8, trades: u16, date: u
     ensures { λ _. ⌜ now (out .exit) ≡ setFields (3 ∷ 2 ∷ 1 ∷ 2 ∷ 4 ∷ []) 0 (mark ∷ version ∷ users ∷ trades ∷ date ∷ []) (now (out .entry)) ⌝ }
 {
     fields::put(out, 0, 3, 0x42_44_47);
-    fields::put_u16(out, 3, version);
-    fields::put_u8(out, 5, users);
-    fields::put_u16(out, 6, trades);
-    fields::put_u32(out, 8, date);
+    fields::put_u16(out, book_records::VERSION, version);
+    fields::put_u8(out, book_records::USER_COUNT, users);
+    fields::put_u16(out, book_records::TRADE_COUNT, trades);
+    fields::put_u32(out, book_records::DATE, date);
 }
 
 // Writes prices and tolls.
@@ -144,11 +144,11 @@ pub fn write_prices(out: &mut [u8], prices: Prices)
     requires { ⌜ 32 ≤ length (now out) ⌝ }
     ensures { λ _. ⌜ now (out .exit) ≡ setFields (4 ∷ 4 ∷ 4 ∷ 4 ∷ 4 ∷ []) 12 (prices .p ∷ prices .q ∷ prices .l ∷ prices .x ∷ prices .i ∷ []) (now (out .entry)) ⌝ }
 {
-    fields::put_u32(out, 12, prices.p);
-    fields::put_u32(out, 16, prices.q);
-    fields::put_u32(out, 20, prices.l);
-    fields::put_u32(out, 24, prices.x);
-    fields::put_u32(out, 28, prices.i);
+    fields::put_u32(out, book_records::PRICE_P, prices.p);
+    fields::put_u32(out, book_records::PRICE_Q, prices.q);
+    fields::put_u32(out, book_records::PRICE_L, prices.l);
+    fields::put_u32(out, book_records::PRICE_X, prices.x);
+    fields::put_u32(out, book_records::PRICE_I, prices.i);
 }
 
 // Writes the selling tariffs, in a version that has them.
@@ -157,7 +157,7 @@ pub fn write_selling(out: &mut [u8], version: u16, prices: Prices)
     ensures { λ _. ⌜ now (out .exit) ≡ sets (now (out .entry)) 32 (sellingBytes version (asPrices prices)) ⌝ }
 {
     if book_format::has_selling(version) {
-        fields::put_u32(out, 32, prices.s);
-        fields::put_u32(out, 36, prices.u);
+        fields::put_u32(out, book_records::SELLING_S, prices.s);
+        fields::put_u32(out, book_records::SELLING_U, prices.u);
     }
 }

@@ -1,10 +1,6 @@
 -- The parts of a book filled one after the other make its image. Assumes nothing.
-use mathlib.Core.Path.{_≡_, refl, sym, ap, _∙_}
-use mathlib.Core.List.{List, _++_}
-use Prim.Native.Nat.{ℕ, _+_, _-_, _*_, _≤_}
-use native.Mathlib.Omega.{arith}
-use lib.ListN.{length, take, drop, replicate, length-append, length-take, length-drop, length-replicate}
-use lib.Seq.{sets, length-sets, length-take-le, take-all}
+use Rattle.base.specs.Basics.{_≡_, sym, ap, _∙_, List, _++_, ℕ, _+_, _-_, _*_, _≤_, arith, length, take, drop, replicate, length-take, length-drop}
+use Rattle.base.specs.Basics.{length-replicate, sets, length-sets, take-all}
 use borrow.Rule.Slice.PartMut.{putMid}
 use Rattle.fields.proofs.Sets.{length-part, part-sets, sets-append, sets-three}
 use Rattle.book_format.specs.Book.{versionOf, userCount, headerSize, tradesAt, userSize}

@@ -1,13 +1,7 @@
 -- The book of an image's fields: its records, that they fit their bytes, and what it is written as. Assumes nothing.
-use mathlib.Core.Bool.{Bool, true, false, _&&_}
-use mathlib.Core.List.{List, [], _∷_, _++_, append-nil}
-use mathlib.Core.Path.{_≡_, refl, sym, ap, _∙_}
-use Prim.Native.Nat.{ℕ, zero, suc, _+_, _*_, _<_, _≤_, _^_}
-use native.Mathlib.Omega.{arith}
-use native.Mathlib.Nat.{le-of-suc-le-suc, mul-suc, not-suc-le-zero}
-use lib.Dec.{T, leb, leb→le}
-use lib.ListN.{length, take, drop, length-drop}
-use lib.Seq.{sets, length-take-le, take-add}
+use Rattle.base.specs.Basics.{_≡_, refl, sym, ap, _∙_, true, false, _&&_, List, [], _∷_, _++_, append-nil, ℕ, zero, suc, _+_, _*_, _<_, _≤_, _^_}
+use Rattle.base.specs.Basics.{le-of-suc-le-suc, mul-suc, not-suc-le-zero, arith, T, leb, leb→le, length, take, drop, length-drop, sets}
+use Rattle.base.specs.Basics.{length-take-le, take-add}
 use Rattle.rules.specs.Areas.{managersIn, sellingIn}
 use Rattle.rules.specs.Questions.{versionKnown}
 use Rattle.base.proofs.Tests.{and-l, and-r, by-case}
@@ -20,7 +14,7 @@ use Rattle.fields.proofs.Records.{length-recordsOf}
 use Rattle.fields.proofs.Sets.{part-sets, sets-left, take-of-drop}
 use Rattle.book_records.specs.User.{FitsRecord}
 use Rattle.book_records.specs.Trade.{tradeOf, tradeBytes, FitsTrade}
-use Rattle.book_format.specs.Book.{mark, headerWidths, headerValues, headerBytes, headerSize, lengthBy, sellingWidths, sellingBytes, sellingAt, versionOf, userCount, tradeCount, pricesOf, userRecord, userSize, bookOf, bytesOf}
+use Rattle.book_format.specs.Book.{mark, headerWidths, headerValues, headerBytes, headerSize, lengthBy, sellingAt, versionOf, userCount, tradeCount, pricesOf, userRecord, userSize, bookOf, bytesOf}
 use Rattle.book_format.specs.Questions.{Formed}
 use Rattle.book_format.proofs.Fits.{managersAt-fit, userOf-fits}
 use Rattle.book_format.proofs.Offsets.{header-plain, header-range, header-selling, selling-none, user-range}

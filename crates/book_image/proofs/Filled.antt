@@ -1,10 +1,6 @@
 -- A part filled: bytes at its front, and 0 behind them. Assumes nothing.
-use mathlib.Core.Path.{_≡_, refl, ap, _∙_}
-use mathlib.Core.List.{List, _++_, append-nil}
-use Prim.Native.Nat.{ℕ, _+_, _-_, _≤_}
-use native.Mathlib.Omega.{arith}
-use lib.ListN.{length, take, drop, replicate, length-append, length-take, length-drop, length-replicate, drop-of-length-le}
-use lib.Seq.{sets, take-all, take-length, take-at, drop-at}
+use Rattle.base.specs.Basics.{_≡_, refl, ap, _∙_, List, _++_, append-nil, ℕ, _+_, _-_, _≤_, arith, length, take, drop, replicate, length-append}
+use Rattle.base.specs.Basics.{length-take, length-drop, length-replicate, drop-of-length-le, sets, take-all, take-length, take-at, drop-at}
 use borrow.Rule.Slice.PartMut.{putMid}
 use Rattle.fields.proofs.Sets.{part-sets, length-part}
 use Rattle.book_image.specs.Image.{padded}

@@ -1,13 +1,8 @@
 -- Records of one size as records of another, one after the other. Assumes nothing.
-use mathlib.Core.List.{List, _++_, append-assoc, append-nil}
-use mathlib.Core.Path.{_≡_, refl, sym, ap, ap₂, _∙_}
-use Prim.Native.Nat.{ℕ, zero, suc, _+_, _-_, _*_, _<_, _≤_, min}
-use native.Mathlib.Nat.{add-zero, mul-zero, mul-suc, mul-le-mul-left, sub-zero}
-use native.Mathlib.Omega.{arith}
-use lib.Dec.{leb, leb→le}
-use lib.ListN.{length, take, drop, replicate, length-append, length-drop, length-replicate, length-take}
-use lib.Seq.{sets, drop-drop, length-sets, length-take-le, take-add, take-all, take-at, take-take}
-use borrow.Author.Tests.{leb-false}
+use Rattle.base.specs.Basics.{_≡_, refl, sym, ap, ap₂, _∙_, List, _++_, append-assoc, append-nil, ℕ, zero, suc, _+_, _-_, _*_, _<_, _≤_, min}
+use Rattle.base.specs.Basics.{add-zero, mul-zero, mul-suc, mul-le-mul-left, sub-zero, arith, leb, leb→le, length, take, drop, replicate}
+use Rattle.base.specs.Basics.{length-append, length-drop, length-replicate, length-take, sets, drop-drop, length-sets, length-take-le, take-add}
+use Rattle.base.specs.Basics.{take-all, take-take, leb-false}
 use borrow.Rule.Slice.PartMut.{putMid}
 use Rattle.base.proofs.Tests.{by-case, holds}
 use Rattle.fields.specs.Field.{AllBytes, field, setField, toBytes}

@@ -1,12 +1,6 @@
 -- The image of a book's bytes has that book's fields: what `read` writes to an image, `write` reads from it, and the other way round. Assumes nothing.
-use mathlib.Core.Path.{_≡_, refl, sym, ap, ap₂, _∙_}
-use mathlib.Core.List.{List, _∷_, _++_, append-assoc}
-use Prim.Native.Nat.{ℕ, zero, suc, _+_, _-_, _*_, _≤_}
-use native.Mathlib.Nat.{mul-suc, zero-add}
-use native.Mathlib.Omega.{arith}
-use lib.Dec.{T}
-use lib.ListN.{length, take, drop, replicate, length-append, length-drop}
-use lib.Seq.{length-take-le, take-at, drop-at}
+use Rattle.base.specs.Basics.{_≡_, refl, sym, ap, ap₂, _∙_, List, _∷_, _++_, append-assoc, ℕ, zero, suc, _+_, _-_, _*_, _≤_, mul-suc, zero-add, arith}
+use Rattle.base.specs.Basics.{T, length, take, drop, replicate, length-append, length-drop, length-take-le, take-at, drop-at}
 use Rattle.fields.specs.Field.{field, AllBytes}
 use Rattle.fields.specs.Layout.{bytesOfRecords, recordsOf}
 use Rattle.fields.proofs.Field.{field-part}

@@ -1,11 +1,7 @@
 -- Parts copied whole, and the loop that makes a field 0 in each record: its start, a turn and its end. Assumes nothing.
-use Prim.Native.Nat.{ℕ, zero, suc, _+_, _-_, _*_, _<_, _≤_}
-use mathlib.Core.Path.{_≡_, refl, sym, ap, ap₂, _∙_}
-use mathlib.Core.List.{List, _++_, append-assoc, append-nil}
-use native.Mathlib.Omega.{arith}
-use native.Mathlib.Nat.{mul-zero, mul-suc, sub-zero, zero-add}
-use lib.ListN.{length, take, drop, length-drop, take-append-drop}
-use lib.Seq.{sets, length-sets, drop-at, drop-drop, take-at, take-add, take-length, drop-length, length-take-le, take-append-le, drop-append-le}
+use Rattle.base.specs.Basics.{_≡_, refl, sym, ap, ap₂, _∙_, List, _++_, append-assoc, append-nil, ℕ, zero, suc, _+_, _-_, _*_, _<_, _≤_, mul-zero}
+use Rattle.base.specs.Basics.{mul-suc, sub-zero, zero-add, arith, length, take, drop, length-drop, take-append-drop, sets, length-sets, drop-at}
+use Rattle.base.specs.Basics.{drop-drop, take-at, take-add, take-length, drop-length, length-take-le, take-append-le, drop-append-le}
 use borrow.Rule.Slice.PartMut.{putMid}
 use Rattle.fields.specs.Field.{setField, toBytes, AllBytes}
 use Rattle.fields.specs.Layout.{recordsOf, bytesOfRecords}

@@ -1,11 +1,6 @@
 -- A record that is read and written again is its bytes with the zero bytes as 0. Assumes nothing.
-use mathlib.Core.List.{List, [], _∷_, _++_, append-assoc, append-nil}
-use mathlib.Core.Bool.{Bool, true, false}
-use mathlib.Core.Path.{_≡_, refl, sym, ap, ap₂, _∙_}
-use Prim.Native.Nat.{ℕ, _+_, _≤_}
-use native.Mathlib.Omega.{arith}
-use lib.ListN.{length, take, drop, length-drop, take-append-drop}
-use lib.Seq.{sets, drop-drop, length-take-le, take-all}
+use Rattle.base.specs.Basics.{_≡_, refl, sym, ap, ap₂, _∙_, Bool, true, false, List, [], _∷_, _++_, append-assoc, append-nil, ℕ, _+_, _≤_, arith}
+use Rattle.base.specs.Basics.{length, take, drop, length-drop, take-append-drop, sets, drop-drop, length-take-le, take-all}
 use Rattle.fields.specs.Field.{field, toBytes, setField, AllBytes}
 use Rattle.fields.specs.Layout.{fieldsAt, pack, size}
 use Rattle.fields.proofs.Field.{all-bytes-take, field-lt, length-toBytes}

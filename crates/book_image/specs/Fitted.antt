@@ -1,7 +1,5 @@
 -- Records of one size as records of another: what the other has no room for is cut off, what it has more is 0. Assumes nothing.
-use mathlib.Core.List.{List, _++_}
-use Prim.Native.Nat.{ℕ, _-_}
-use lib.ListN.{length, replicate, take}
+use Rattle.base.specs.Basics.{List, _++_, ℕ, _-_, length, replicate, take}
 use Rattle.fields.specs.Layout.{recordsOf, bytesOfRecords}
 
 -- bytes as so many

@@ -1,9 +1,6 @@
 -- An image is the fields of a book in 9,512 bytes, whatever its version and counts: a header of 40 bytes, then 64 users of 68 bytes and 256
 -- trades in the book's format. Where the parts of an image stand is said here alone. Assumes nothing.
-use mathlib.Core.Path.{_≡_}
-use mathlib.Core.List.{List, _++_}
-use Prim.Native.Nat.{ℕ, _+_, _-_, _*_}
-use lib.ListN.{length, take, drop, replicate}
+use Rattle.base.specs.Basics.{_≡_, List, _++_, ℕ, _+_, _-_, _*_, length, take, drop, replicate}
 use Rattle.rules.specs.Questions.{refusal, decided}
 use Rattle.book_format.specs.Book.{versionOf, userCount, headerSize, tradesAt, userSize}
 use Rattle.book_format.specs.Questions.{aboutBytes, bookNumber}

@@ -1,8 +1,5 @@
 -- The book of an image's fields: of its header and its users' records those that its version has, of its 64 users and 256 trades those up to the counts. Assumes nothing.
-use mathlib.Core.Path.{_≡_}
-use mathlib.Core.List.{List}
-use Prim.Native.Nat.{ℕ, _≤_}
-use lib.ListN.{length, take, drop}
+use Rattle.base.specs.Basics.{_≡_, List, ℕ, _≤_, length, take, drop}
 use Rattle.rules.specs.Book as model
 use Rattle.fields.specs.Layout.{recordsOf}
 use Rattle.book_records.specs.User.{userOf}

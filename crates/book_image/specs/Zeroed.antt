@@ -1,6 +1,5 @@
 -- Records with a field as 0. Assumes nothing.
-use mathlib.Core.List.{List}
-use Prim.Native.Nat.{ℕ}
+use Rattle.base.specs.Basics.{List, ℕ}
 use Rattle.fields.specs.Field.{setField}
 use Rattle.fields.specs.Layout.{recordsOf, bytesOfRecords}
 

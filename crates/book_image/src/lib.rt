@@ -24,7 +24,7 @@ ghost use Rattle.book_image.specs.ImageBook.{imageBook, imageUserOf, Cou
 // Where the room for 64 users begins, behind a header of 40 bytes.
 const USERS_AT: usize = 40;
 // The bytes of a user's record, the longest of any version.
-const USER_SIZE: usize = 68;
+const USER_SIZE: usize = book_records::MANAGED_SIZE;
 // Where the room for 256 trades begins, behind 64 users.
 const TRADES_AT: usize = 4392;
 // The length of an image, with 256 trades.
@@ -235,7 +235,13 @@ pub fn copy_users(s: &[u8], from: usize, n: usize, out: &mut [u8], at: usize, ve
 {
     let size = book_format::user_size(version);
     fit_records(s, from, n, USER_SIZE, out, at, size);
-    clear_fields(&mut out[at..at + size * n], n, size, 5, 3);
+    clear_fields(
+        &mut out[at..at + size * n],
+        n,
+        size,
+        book_records::USER_ZEROS,
+        3,
+    );
 }
 
 // Writes the m trades that stand from byte `from` on to another part, from its byte `at` on.
@@ -243,8 +249,15 @@ pub fn copy_trades(s: &[u8], from: usize, m: usize, out: &mut [u8], at: usize)
     requires { ⌜ (from + 20 * m ≤ length (now s)) × (at + 20 * m ≤ length (now out)) ⌝ }
     ensures { λ _. ⌜ now (out .exit) ≡ sets (now (out .entry)) at (bytesOfRecords tradeBytes (recordsOf 20 tradeOf m (drop from (now (s .entry))))) ⌝ }
 {
-    let size = 20 * m;
-    copy_records(&s[from..from + size], &mut out[at..at + size], m, 20, 11, 1);
+    let size = book_records::TRADE_SIZE * m;
+    copy_records(
+        &s[from..from + size],
+        &mut out[at..at + size],
+        m,
+        book_records::TRADE_SIZE,
+        book_records::TRADE_ZERO,
+        1,
+    );
 }
 
 // ---- a book written from an image

@@ -1,11 +1,6 @@
 -- Guesses: each is a place below n, before any is filled in and after one more is; and a right one is the place of its id. Assumes nothing.
-use Prim.Native.Nat.{ℕ, _<_, _≤_}
-use mathlib.Core.Bool.{Bool, true}
-use mathlib.Core.List.{List}
-use mathlib.Core.Path.{_≡_, sym, ap, _∙_}
-use native.Mathlib.Omega.{arith}
-use lib.ListN.{length, take, getD, set, replicate, length-replicate, length-set, getD-replicate}
-use borrow.Author.Tests.{lt-ltb, ltb-true}
+use Rattle.base.specs.Basics.{_≡_, sym, ap, _∙_, Bool, true, List, ℕ, _<_, _≤_, arith, length, take, getD, set, replicate, length-replicate}
+use Rattle.base.specs.Basics.{length-set, getD-replicate, lt-ltb, ltb-true}
 use Rattle.base.proofs.Stores.{set-each}
 use Rattle.book_parties.specs.Ids.{FoundIn, Guesses, Padded}
 use Rattle.book_parties.proofs.Search.{stands-there}

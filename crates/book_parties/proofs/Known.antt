@@ -1,13 +1,6 @@
 -- Ids beside users: an id is among the ids of users where it is known, at the place that its user has. Assumes nothing.
-use Prim.Native.Nat.{ℕ, suc, _≤_}
-use mathlib.Core.Path.{_≡_, refl, ap, _∙_}
-use mathlib.Core.Bool.{Bool, true, false, cond, _||_}
-use mathlib.Core.List.{List, [], _∷_}
-use native.Mathlib.Omega.{arith}
-use lib.Dec.{eqb, ltb, leb·suc-suc}
-use lib.ListN.{length, take}
-use lib.Seq.{length-take-le}
-use borrow.Author.Tests.{lt-ltb}
+use Rattle.base.specs.Basics.{_≡_, refl, ap, _∙_, Bool, true, false, cond, _||_, List, [], _∷_, ℕ, suc, _≤_, arith, eqb, ltb, leb·suc-suc, length}
+use Rattle.base.specs.Basics.{take, length-take-le, lt-ltb}
 use Rattle.base.specs.Lists.{any}
 use Rattle.rules.specs.Book.{User}
 use Rattle.rules.specs.Questions.{known}

@@ -1,12 +1,6 @@
 -- Ids that rise: those of users do where the rules' test says so; and the place of an id among them. Assumes nothing.
-use Prim.Native.Nat.{ℕ, zero, suc, _<_}
-use mathlib.Core.Path.{_≡_, refl, ap, _∙_}
-use mathlib.Core.Bool.{Bool, true, false, cond}
-use mathlib.Core.List.{List, [], _∷_}
-use native.Mathlib.Omega.{arith}
-use lib.Dec.{T, eqb, ltb, ltb→lt}
-use lib.ListN.{length, getD}
-use borrow.Author.Tests.{eq-eqb, ne-eqb, eqb-true}
+use Rattle.base.specs.Basics.{_≡_, refl, ap, _∙_, Bool, true, false, cond, List, [], _∷_, ℕ, zero, suc, _<_, arith, T, eqb, ltb, ltb→lt, length, getD}
+use Rattle.base.specs.Basics.{eq-eqb, ne-eqb, eqb-true}
 use Rattle.rules.specs.Book.{User}
 use Rattle.rules.specs.Questions.{idsRise}
 use Rattle.base.proofs.Tests.{and-l, and-r}

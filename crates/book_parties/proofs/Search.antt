@@ -1,13 +1,6 @@
 -- The search by halves of what is left, among ids that rise and are padded to 64 numbers: if the id stands at all, it is one of those left. Assumes nothing.
-use Prim.Native.Nat.{ℕ, _+_, _-_, _<_, _≤_}
-use mathlib.Core.Path.{_≡_, refl, sym, ap, _∙_}
-use mathlib.Core.Bool.{Bool, true, false, cond, _&&_}
-use mathlib.Core.List.{List}
-use native.Mathlib.Omega.{arith}
-use lib.Dec.{T, eqb, ltb, eqb→eq, ltb→lt}
-use lib.ListN.{length, take, getD, getD-replicate}
-use lib.Seq.{length-take-le, getD-take, getD-drop}
-use borrow.Author.Tests.{eqb-false, ltb-true, ltb-false}
+use Rattle.base.specs.Basics.{_≡_, refl, sym, ap, _∙_, Bool, true, false, cond, _&&_, List, ℕ, _+_, _-_, _<_, _≤_, arith, T, eqb, ltb, eqb→eq, ltb→lt}
+use Rattle.base.specs.Basics.{length, take, getD, getD-replicate, length-take-le, getD-take, getD-drop, eqb-false, ltb-true, ltb-false}
 use Rattle.base.proofs.Tests.{and-l, and-r}
 use Rattle.book_parties.specs.Ids.{placeIn, Padded}
 use Rattle.book_parties.proofs.Rising.{placeIn-at, placeIn-none}

@@ -1,10 +1,5 @@
 -- Records in bytes from an offset; the ids of users, and the place of an id among them. Assumes nothing.
-use mathlib.Core.Bool.{Bool, cond}
-use mathlib.Core.List.{List, [], _∷_, map}
-use mathlib.Core.Path.{_≡_}
-use Prim.Native.Nat.{ℕ, suc, _-_, _<_, _≤_}
-use lib.Dec.{eqb, ltb}
-use lib.ListN.{length, take, drop, getD, replicate}
+use Rattle.base.specs.Basics.{_≡_, Bool, cond, List, [], _∷_, map, ℕ, suc, _-_, _<_, _≤_, eqb, ltb, length, take, drop, getD, replicate}
 use Rattle.base.specs.Lists.{any}
 use Rattle.rules.specs.Book.{User, Terms, Trade, nobody}
 use Rattle.fields.specs.Layout.{recordsOf}

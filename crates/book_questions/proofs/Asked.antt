@@ -1,13 +1,6 @@
 -- The number that the answers to the questions 4 to 7 give, of users and trades and of bytes. Assumes nothing.
-use mathlib.Core.Bool.{Bool, false, true, cond, _&&_}
-use mathlib.Core.Option.{none, some}
-use mathlib.Core.List.{List}
-use mathlib.Core.Path.{_≡_, refl, sym, ap, subst, _∙_}
-use Prim.Native.Nat.{ℕ, _*_, _+_, _-_, _≤_}
-use native.Mathlib.Omega.{arith}
-use lib.Dec.{T, eqb}
-use lib.ListN.{drop, length, length-drop, take}
-use lib.Seq.{drop-drop, take-all}
+use Rattle.base.specs.Basics.{_≡_, refl, sym, ap, subst, _∙_, Bool, false, true, cond, _&&_, none, some, List, ℕ, _+_, _-_, _≤_, arith, T, eqb, drop}
+use Rattle.base.specs.Basics.{length, length-drop, take, drop-drop, take-all}
 use Rattle.rules.specs.Areas.{Prices}
 use Rattle.rules.specs.Book.{User, Trade}
 use Rattle.base.specs.Lists.{all}

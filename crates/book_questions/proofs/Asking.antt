@@ -1,12 +1,6 @@
 -- Users and trades in bytes that are asked one by one: where a walk over them stands, its start, a turn and its ends. Assumes nothing.
-use Prim.Native.Nat.{ℕ, _+_, _-_, _*_, _<_, _≤_, _^_}
-use mathlib.Core.Path.{_≡_, refl, sym, ap, subst, _∙_}
-use mathlib.Core.Bool.{Bool, true, false, _&&_}
-use mathlib.Core.List.{List, []}
-use native.Mathlib.Omega.{arith}
-use lib.Dec.{T, eqb, ltb, ltb→lt}
-use borrow.Author.Tests.{eq-eqb, ltb-false, ne-eqb}
-use lib.ListN.{length, take, drop, getD, set, replicate, length-replicate}
+use Rattle.base.specs.Basics.{_≡_, refl, sym, ap, subst, _∙_, Bool, true, false, _&&_, List, [], ℕ, _+_, _-_, _*_, _<_, _≤_, _^_, arith, T, eqb, ltb}
+use Rattle.base.specs.Basics.{ltb→lt, length, take, drop, getD, set, replicate, length-replicate, eq-eqb, ltb-false, ne-eqb}
 use Rattle.rules.specs.Book.{User, Trade}
 use Rattle.base.specs.Lists.{all}
 use Rattle.rules.specs.Questions.{entriesValid, guaranteesValid, userValid, usersValid}

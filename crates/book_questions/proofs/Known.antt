@@ -1,11 +1,6 @@
 -- Users and trades by their ids: those of valid users rise, and a trade is valid between the ids where it is between the users. Assumes nothing.
-use Prim.Native.Nat.{ℕ, _≤_, _<_}
-use mathlib.Core.Path.{_≡_, refl, sym, ap, ap₂, _∙_}
-use mathlib.Core.Bool.{Bool, true, false, not, _&&_, _||_}
-use mathlib.Core.List.{List, [], _∷_}
-use lib.Dec.{T, eqb, ltb, leb, ltb→lt, leb→le}
-use native.Mathlib.Omega.{arith}
-use lib.ListN.{length, take}
+use Rattle.base.specs.Basics.{_≡_, refl, sym, ap, ap₂, _∙_, Bool, true, false, not, _&&_, _||_, List, [], _∷_, ℕ, _≤_, _<_, arith, T, eqb, ltb, leb}
+use Rattle.base.specs.Basics.{ltb→lt, leb→le, length, take}
 use Rattle.base.specs.Lists.{all}
 use Rattle.rules.specs.Book.{User, Trade, bilateralForDay}
 use Rattle.rules.specs.Questions.{amountsValid, codesValid, idsRise, tradeValid, userValid, usersValid}

@@ -1,15 +1,8 @@
 -- Laws of the loops that ask users and trades one by one: those left have the whole answer, and a list has what each one passed gave. Assumes nothing.
 use Rattle.base.proofs.Tests.{and-false}
-use Prim.Native.Nat.{ℕ, _+_, _-_, _<_, _≤_}
-use mathlib.Core.Path.{_≡_, refl, sym, ap, ap₂, _∙_}
-use mathlib.Core.Bool.{Bool, true, false, cond, _&&_}
-use mathlib.Core.List.{List, [], _∷_, map, map-append}
-use native.Mathlib.Omega.{arith}
-use native.Mathlib.Numerals.{add-one}
-use lib.Dec.{ltb}
-use lib.ListN.{length, take, drop, getD, set, replicate, length-set, drop-of-length-le}
-use lib.Seq.{drop-cons, drop-drop, drop-set-lt, take-all, take-suc, take-suc-set}
-use borrow.Author.Tests.{le-ltb, lt-ltb}
+use Rattle.base.specs.Basics.{_≡_, refl, sym, ap, ap₂, _∙_, Bool, true, false, cond, _&&_, List, [], _∷_, map, map-append, ℕ, _+_, _-_, _<_, _≤_}
+use Rattle.base.specs.Basics.{add-one, arith, ltb, length, take, drop, getD, set, replicate, length-set, drop-of-length-le, drop-cons, drop-drop}
+use Rattle.base.specs.Basics.{drop-set-lt, take-all, take-suc, take-suc-set, le-ltb, lt-ltb}
 use Rattle.base.specs.Lists.{all}
 use Rattle.rules.specs.Book.{User, Trade}
 use Rattle.rules.specs.Questions.{idsRise, userValid, usersValid}

@@ -1,12 +1,6 @@
 -- Managers that are asked one by one: where they are read, and what the ids say of them. Assumes nothing.
-use mathlib.Core.Bool.{Bool, true, false, not, cond, _&&_, _||_}
-use mathlib.Core.List.{List, [], _∷_}
-use mathlib.Core.Path.{_≡_, refl, sym, ap, ap₂, _∙_}
-use Prim.Native.Nat.{ℕ, zero, suc, _+_, _*_, _<_, _≤_}
-use native.Mathlib.Omega.{arith}
-use lib.Dec.{T, eqb, ltb}
-use lib.ListN.{length, take, drop, getD, length-map, length-take}
-use borrow.Author.Tests.{eq-eqb, ne-eqb}
+use Rattle.base.specs.Basics.{_≡_, refl, sym, ap, ap₂, _∙_, Bool, true, false, not, _&&_, _||_, List, [], _∷_, ℕ, zero, suc, _+_, _*_, _<_, _≤_}
+use Rattle.base.specs.Basics.{arith, T, eqb, ltb, length, take, drop, getD, length-map, length-take, eq-eqb, ne-eqb}
 use Rattle.base.specs.Lists.{all}
 use Rattle.fields.proofs.Field.{field-part}
 use Rattle.fields.proofs.Records.{getD-recordsOf, length-recordsOf}
@@ -16,11 +10,11 @@ use Rattle.book_format.proofs.Offsets.{user-managed, user-plain}
 use Rattle.book_format.proofs.OneUser.{find-place}
 use Rattle.book_format.specs.Book.{userSize}
 use Rattle.book_parties.proofs.Known.{among-known, placeIn-among, placeIn-placeOf}
-use Rattle.book_parties.specs.Ids.{FoundIn, Guesses, among, idsOf, placeIn, usersFrom}
+use Rattle.book_parties.specs.Ids.{FoundIn, Guesses, idsOf, placeIn, usersFrom}
 use Rattle.book_records.proofs.Users.{managers-past}
 use Rattle.book_records.specs.User.{managersAt, userOf}
 use Rattle.rules.specs.Areas.{managersIn}
-use Rattle.rules.specs.Book.{Managers, User, find, managerIn, nobody, unmanaged}
+use Rattle.rules.specs.Book.{User, find, managerIn, nobody}
 use Rattle.rules.specs.Levels.{shipper}
 use Rattle.rules.specs.Questions.{known, managerValid, managersValid, manages, usersValid}
 use Rattle.book_questions.proofs.Zeros.{and-assoc}

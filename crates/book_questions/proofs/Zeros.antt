@@ -1,14 +1,6 @@
 -- Records in bytes that are asked for their zero bytes one by one: what was seen and what is left have the whole answer. Over any record. Assumes nothing.
-use Prim.Native.Nat.{ℕ, suc, _+_, _*_, _<_, _≤_}
-use mathlib.Core.Path.{_≡_, refl, sym, ap, _∙_}
-use mathlib.Core.Bool.{Bool, true, false, _&&_}
-use mathlib.Core.List.{List, [], _∷_}
-use native.Mathlib.Omega.{arith}
-use native.Mathlib.Numerals.{add-one}
-use lib.Dec.{eqb}
-use lib.ListN.{length, take, drop, drop-of-length-le}
-use lib.Seq.{drop-cons, drop-drop}
-use borrow.Author.Tests.{eq-eqb, ne-eqb}
+use Rattle.base.specs.Basics.{_≡_, refl, sym, ap, _∙_, Bool, true, false, _&&_, List, [], _∷_, ℕ, suc, _+_, _*_, _<_, _≤_, add-one, arith, eqb}
+use Rattle.base.specs.Basics.{length, take, drop, drop-of-length-le, drop-cons, drop-drop, eq-eqb, ne-eqb}
 use Rattle.base.specs.Lists.{all}
 use Rattle.base.proofs.Every.{all-next, all-none}
 use Rattle.fields.specs.Field.{field}

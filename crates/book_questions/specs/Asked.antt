@@ -1,10 +1,5 @@
 -- The questions 5 to 7 as the code asks them, of users and trades; and what bytes are that were asked all questions. Assumes nothing.
-use mathlib.Core.Path.{_≡_}
-use mathlib.Core.Bool.{Bool, cond, _&&_, _||_}
-use mathlib.Core.List.{List, [], _∷_}
-use Prim.Native.Nat.{ℕ, _+_, _*_, _≤_}
-use lib.Dec.{T, eqb}
-use lib.ListN.{length, take}
+use Rattle.base.specs.Basics.{_≡_, Bool, cond, _&&_, _||_, List, [], _∷_, ℕ, _+_, _*_, _≤_, T, eqb, length, take}
 use Rattle.rules.specs.Book.{User, Trade, managerIn}
 use Rattle.base.specs.Lists.{all}
 use Rattle.rules.specs.Questions.{refusal, numberOf, managersValid, manages, usersValid, tradeValid, positionsValid}

@@ -1,9 +1,5 @@
 -- Zero bytes of records that stand one after the other: those of users and of trades. Assumes nothing.
-use mathlib.Core.Bool.{Bool}
-use mathlib.Core.List.{List}
-use Prim.Native.Nat.{ℕ}
-use lib.Dec.{eqb}
-use lib.ListN.{drop}
+use Rattle.base.specs.Basics.{Bool, List, ℕ, eqb, drop}
 use Rattle.base.specs.Lists.{all}
 use Rattle.fields.specs.Field.{field}
 use Rattle.book_format.specs.Questions.{partsOf}

@@ -35,7 +35,7 @@ fn fields_valid(s: &[u8], size: usize, n: usize, ids: &mut [u32]) -> bool
     let mut i = 0;
     let mut a = 0;
     while i < n {
-        let u = book_records::read_user(&s[a..a + 56]);
+        let u = book_records::read_user(&s[a..a + book_records::USER_SIZE]);
         if u.id <= last {
             return false;
         }
@@ -64,8 +64,8 @@ fn manager_valid(
     requires { ⌜ GroupsIn (now s) n (now ids) (now guesses) × (place < n) × (area < 3) ⌝ }
     ensures { λ r. ⌜ r ≡ managerGiven (usersFrom 68 0 n (now (s .entry))) area (getD (usersFrom 68 0 n (now (s .entry))) place nobody) ⌝ }
 {
-    let at = 68 * place;
-    let field = 56 + 4 * area;
+    let at = book_records::MANAGED_SIZE * place;
+    let field = book_records::MANAGERS + 4 * area;
     let id = fields::get_u32(s, at + field);
     if id == 0 {
         return true;
@@ -74,10 +74,10 @@ fn manager_valid(
     if !manager.known {
         return false;
     }
-    let there = 68 * manager.place;
+    let there = book_records::MANAGED_SIZE * manager.place;
     let own = fields::get_u32(s, at);
-    let role = fields::get_u8(s, at + 4);
-    let manager_role = fields::get_u8(s, there + 4);
+    let role = fields::get_u8(s, at + book_records::ROLE);
+    let manager_role = fields::get_u8(s, there + book_records::ROLE);
     let managed = fields::get_u32(s, there + field);
     (id != own) & (((role == 0) & (manager_role == 0)) & (managed == 0))
 }
@@ -138,13 +138,13 @@ fn leading_trades(
     let mut i = 0;
     let mut a = at;
     while i < m {
-        let t = book_records::read_trade(&s[a..a + 20]);
+        let t = book_records::read_trade(&s[a..a + book_records::TRADE_SIZE]);
         let seller_found = book_parties::find(ids, guesses, n, t.seller);
         let buyer_found = book_parties::find(ids, guesses, n, t.buyer);
         if !book_valid::trade_valid(seller_found.known, buyer_found.known, t) {
             return i;
         }
-        a += 20;
+        a += book_records::TRADE_SIZE;
         i += 1;
     }
     i
@@ -177,7 +177,7 @@ fn valid_trades(
     let mut i = 0;
     let mut a = at;
     while i < m {
-        let t = book_records::read_trade(&s[a..a + 20]);
+        let t = book_records::read_trade(&s[a..a + book_records::TRADE_SIZE]);
         let seller = book_parties::find(ids, guesses, n, t.seller);
         if !seller.known {
             return Walk {
@@ -210,7 +210,7 @@ fn valid_trades(
         buyers[i] = buyer.place as u8;
         book_sums::add_trade(sums, seller.place, 0, t);
         book_sums::add_trade(sums, buyer.place, 1, t);
-        a += 20;
+        a += book_records::TRADE_SIZE;
         i += 1;
     }
     Walk {
@@ -281,7 +281,7 @@ pub fn ask_fields(s: &[u8], sellers: &mut [u8], buyers: &mut [u8], sums: &mut [u
     let m = book_format::trade_count(s) as usize;
     let prices = book_header::read_prices(s);
     let version = book_format::version(s);
-    if !book_header::header_valid(version, fields::get_u32(s, 8), prices) {
+    if !book_header::header_valid(version, fields::get_u32(s, book_records::DATE), prices) {
         return Answer { number: 4, read: 0 };
     }
     let size = book_format::user_size(version);

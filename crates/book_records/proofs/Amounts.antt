@@ -1,10 +1,5 @@
 -- Laws of a signed amount for each area: as an array, and in 12 bytes. Assumes nothing.
-use Prim.Native.Nat.{ℕ, zero, suc, _+_, _<_, _^_}
-use mathlib.Core.Path.{_≡_, refl}
-use mathlib.Core.List.{List}
-use native.Mathlib.Omega.{arith}
-use lib.IntN.{ℤ}
-use lib.ListN.{getD}
+use Rattle.base.specs.Basics.{_≡_, refl, List, ℕ, zero, suc, _+_, _<_, _^_, arith, ℤ, getD}
 use Rattle.rules.specs.Signed.{signedOf, bitsOf}
 use Rattle.rules.specs.Book.{at}
 use Rattle.fields.specs.Field.{field, AllBytes}

@@ -1,9 +1,5 @@
 -- Laws of a trade's 20 bytes: how many, bytes, read and written, written and read. Assumes nothing.
-use Prim.Native.Nat.{ℕ}
-use mathlib.Core.Path.{_≡_, refl, ap, _∙_}
-use mathlib.Core.List.{List}
-use native.Mathlib.Omega.{arith}
-use lib.ListN.{length, getD}
+use Rattle.base.specs.Basics.{_≡_, refl, ap, _∙_, List, ℕ, arith, length, getD}
 use Rattle.rules.specs.Book.{Trade}
 use Rattle.fields.specs.Field.{fromBytes, toBytes, field, AllBytes}
 use Rattle.fields.specs.Layout.{fieldsAt, pack, size, FitAll}

@@ -1,11 +1,6 @@
 -- Laws of a user's bytes, 56 and with its managers 68: how many, bytes, read and written, written and read. Assumes nothing.
-use Prim.Native.Nat.{ℕ, _+_, _<_, _≤_, _^_}
-use mathlib.Core.Bool.{Bool, true, false, cond}
-use mathlib.Core.Path.{_≡_, refl, sym, ap, ap₂, _∙_}
-use mathlib.Core.List.{List, [], _∷_, _++_, append-nil}
-use native.Mathlib.Omega.{arith}
-use lib.ListN.{length, getD, take, drop, length-append, take-append-drop, drop-of-length-le, length-drop, length-take}
-use lib.Seq.{take-all}
+use Rattle.base.specs.Basics.{_≡_, refl, sym, ap, ap₂, _∙_, Bool, true, false, cond, List, [], _++_, append-nil, ℕ, _+_, _≤_, arith, length, getD}
+use Rattle.base.specs.Basics.{take, drop, length-append, take-append-drop, drop-of-length-le, length-drop, length-take, take-all}
 use Rattle.rules.specs.Signed.{signedOf}
 use Rattle.rules.specs.Book.{User, Managers, unmanaged}
 use Rattle.fields.specs.Field.{fromBytes, toBytes, field, AllBytes}

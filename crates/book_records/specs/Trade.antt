@@ -1,6 +1,5 @@
 -- A trade in 20 bytes, in the rules, and as the code's struct. Assumes nothing.
-use mathlib.Core.List.{List, [], _∷_}
-use Prim.Native.Nat.{ℕ, _<_, _^_}
+use Rattle.base.specs.Basics.{List, [], _∷_, ℕ, _<_, _^_}
 use Rattle.rules.specs.Book as model
 use Rattle.fields.specs.Field.{field}
 use Rattle.fields.specs.Layout.{pack}

@@ -1,9 +1,5 @@
 -- A user in 56 bytes, with its managers in 68, in the rules, and as the code's struct. Assumes nothing.
-use mathlib.Core.Bool.{Bool, cond}
-use mathlib.Core.List.{List, [], _∷_, _++_}
-use Prim.Native.Nat.{ℕ, _+_, _*_, _<_, _≤_, _^_}
-use lib.IntN.{ℤ}
-use lib.ListN.{getD, replicate}
+use Rattle.base.specs.Basics.{Bool, cond, List, [], _∷_, _++_, ℕ, _+_, _*_, _<_, _≤_, _^_, ℤ, getD, replicate}
 use Rattle.base.specs.Parts.{posPart, negPart}
 use Rattle.rules.specs.Signed.{signedOf, bitsOf}
 use Rattle.rules.specs.Book.{PerArea, Managers, unmanaged}

@@ -11,6 +11,74 @@ use units::Cents;
 use units::Mwh;
 use units::Net;
 
+// Where the fields of a book stand, and how long a record is: those of the header from the book's first byte, of a user and of a trade from
+// the record's. No other crate types these numbers; in contracts the definitions say them.
+pub const VERSION: usize = 3;
+
+pub const USER_COUNT: usize = 5;
+
+pub const TRADE_COUNT: usize = 6;
+
+pub const DATE: usize = 8;
+
+pub const PRICE_P: usize = 12;
+
+pub const PRICE_Q: usize = 16;
+
+pub const PRICE_L: usize = 20;
+
+pub const PRICE_X: usize = 24;
+
+pub const PRICE_I: usize = 28;
+
+pub const SELLING_S: usize = 32;
+
+pub const SELLING_U: usize = 36;
+
+// Of a user: its id comes first. With managers a record is longer.
+pub const ROLE: usize = 4;
+
+pub const USER_ZEROS: usize = 5;
+
+pub const PHYSICAL: usize = 8;
+
+pub const POSITION: usize = 20;
+
+pub const ENTRY_TO_POSITION: usize = 12;
+
+pub const CHARGES: usize = 32;
+
+pub const ASSIGNED: usize = 40;
+
+pub const BLOCKED: usize = 48;
+
+pub const MANAGERS: usize = 56;
+
+pub const MANAGER_TVB: usize = 60;
+
+pub const MANAGER_AVB: usize = 64;
+
+pub const USER_SIZE: usize = 56;
+
+pub const MANAGED_SIZE: usize = 68;
+
+// Of a trade: its seller comes first.
+pub const BUYER: usize = 4;
+
+pub const AREA: usize = 8;
+
+pub const KIND: usize = 9;
+
+pub const DAY: usize = 10;
+
+pub const TRADE_ZERO: usize = 11;
+
+pub const NOTIFIED: usize = 12;
+
+pub const STANDING: usize = 16;
+
+pub const TRADE_SIZE: usize = 20;
+
 // A user. Role and amounts are as the bytes have them: whether they are valid is asked apart.
 pub struct User {
     pub id: u32,
@@ -63,17 +131,17 @@ pub fn read_user(c: &[u8]) -> User
     requires { ⌜ length (now c) ≡ 56 ⌝ }
     ensures { λ r. ⌜ asUser r ≡ userOf (now (c .entry)) ⌝ }
 {
-    let physical = get_amounts(c, 8);
-    let position = get_amounts(c, 20);
-    let charges = Balance::of_bits(fields::get_u64(c, 32));
+    let physical = get_amounts(c, PHYSICAL);
+    let position = get_amounts(c, POSITION);
+    let charges = Balance::of_bits(fields::get_u64(c, CHARGES));
     User {
         id: fields::get_u32(c, 0),
-        role: fields::get_u8(c, 4),
+        role: fields::get_u8(c, ROLE),
         physical: physical,
         position: position,
         charges: charges,
-        assigned: Cents(fields::get_u64(c, 40)),
-        blocked: Cents(fields::get_u64(c, 48)),
+        assigned: Cents(fields::get_u64(c, ASSIGNED)),
+        blocked: Cents(fields::get_u64(c, BLOCKED)),
     }
 }
 
@@ -86,13 +154,13 @@ pub fn write_user(c: &mut [u8], u: User)
     let position = u.position;
     let charges = u.charges;
     fields::put_u32(c, 0, u.id);
-    fields::put_u8(c, 4, u.role);
-    fields::put(c, 5, 3, 0);
-    put_amounts(c, 8, physical);
-    put_amounts(c, 20, position);
-    fields::put_u64(c, 32, charges.bits());
-    fields::put_u64(c, 40, u.assigned.0);
-    fields::put_u64(c, 48, u.blocked.0);
+    fields::put_u8(c, ROLE, u.role);
+    fields::put(c, USER_ZEROS, 3, 0);
+    put_amounts(c, PHYSICAL, physical);
+    put_amounts(c, POSITION, position);
+    fields::put_u64(c, CHARGES, charges.bits());
+    fields::put_u64(c, ASSIGNED, u.assigned.0);
+    fields::put_u64(c, BLOCKED, u.blocked.0);
 }
 
 // The user whose every field is 0.
@@ -118,12 +186,12 @@ pub fn read_trade(c: &[u8]) -> Trade
 {
     Trade {
         seller: fields::get_u32(c, 0),
-        buyer: fields::get_u32(c, 4),
-        area: fields::get_u8(c, 8),
-        kind: fields::get_u8(c, 9),
-        day: fields::get_u8(c, 10),
-        notified: Mwh(fields::get_u32(c, 12)),
-        standing: Mwh(fields::get_u32(c, 16)),
+        buyer: fields::get_u32(c, BUYER),
+        area: fields::get_u8(c, AREA),
+        kind: fields::get_u8(c, KIND),
+        day: fields::get_u8(c, DAY),
+        notified: Mwh(fields::get_u32(c, NOTIFIED)),
+        standing: Mwh(fields::get_u32(c, STANDING)),
     }
 }
 
@@ -133,13 +201,13 @@ pub fn write_trade(c: &mut [u8], t: Trade)
     ensures { λ _. ⌜ now (c .exit) ≡ tradeBytes (asTrade t) ⌝ }
 {
     fields::put_u32(c, 0, t.seller);
-    fields::put_u32(c, 4, t.buyer);
-    fields::put_u8(c, 8, t.area);
-    fields::put_u8(c, 9, t.kind);
-    fields::put_u8(c, 10, t.day);
-    fields::put_u8(c, 11, 0);
-    fields::put_u32(c, 12, t.notified.0);
-    fields::put_u32(c, 16, t.standing.0);
+    fields::put_u32(c, BUYER, t.buyer);
+    fields::put_u8(c, AREA, t.area);
+    fields::put_u8(c, KIND, t.kind);
+    fields::put_u8(c, DAY, t.day);
+    fields::put_u8(c, TRADE_ZERO, 0);
+    fields::put_u32(c, NOTIFIED, t.notified.0);
+    fields::put_u32(c, STANDING, t.standing.0);
 }
 
 // Is the trade bilateral and for day d? Only such trades can be cut.

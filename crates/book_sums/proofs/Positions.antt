@@ -1,9 +1,5 @@
 -- A position kept with an offset is as defined exactly where position + sold equals physical + bought. Assumes nothing.
-use mathlib.Core.Path.{_≡_, _∙_, ap, sym}
-use Prim.Native.Nat.{_+_, ℕ}
-use native.Mathlib.Omega.{arith}
-use lib.Dec.{eqb, eqb→eq}
-use lib.IntN.{_+ℤ_, _-ℤ_, pos, subℕ, ℤ}
+use Rattle.base.specs.Basics.{_≡_, _∙_, ap, sym, _+_, ℕ, arith, eqb, eqb→eq, _+ℤ_, _-ℤ_, pos, subℕ, ℤ}
 use Rattle.base.proofs.Linear.{eq-parts, negPart-diff, negPart-pos, parts-add, parts-sub, posPart-diff, posPart-pos}
 use Rattle.base.specs.Parts.{negPart, posPart}
 use Rattle.laws.proofs.Positions.{eqbℤ-refl, eqbℤ→eq}

@@ -1,13 +1,7 @@
 -- Sums trade by trade: a trade that is counted at the place of its party gives its part to that user's sum alone. Assumes nothing.
-use mathlib.Core.Bool.{Bool, true, false, cond, _&&_}
-use mathlib.Core.List.{List, [], _∷_, map}
-use mathlib.Core.Path.{_≡_, refl, sym, ap, ap₂, _∙_}
-use Prim.Native.Nat.{ℕ, zero, suc, _+_, _≤_, _<_}
-use native.Mathlib.Omega.{arith}
-use native.Mathlib.Nat.{not-suc-le-zero, le-of-suc-le-suc}
-use lib.Dec.{T, eqb, ltb, ltb→lt}
-use lib.ListN.{length, take, getD, length-map, List·getD-map}
-use borrow.Author.Tests.{eq-eqb, ne-eqb, ltb-true, ltb-false}
+use Rattle.base.specs.Basics.{_≡_, refl, sym, ap, ap₂, _∙_, Bool, true, false, cond, _&&_, List, [], _∷_, map, ℕ, zero, suc, _+_, _≤_, _<_}
+use Rattle.base.specs.Basics.{not-suc-le-zero, le-of-suc-le-suc, arith, T, eqb, ltb, ltb→lt, length, take, getD, length-map, List·getD-map, eq-eqb}
+use Rattle.base.specs.Basics.{ne-eqb, ltb-true, ltb-false}
 use Rattle.base.specs.Sums.{sum}
 use Rattle.base.specs.Lists.{all}
 use Rattle.rules.specs.Book.{Terms, Trade, User, dealt, sold, bought}

@@ -1,14 +1,7 @@
 -- Twelve sums for each user, trade by trade: a trade that is counted at the places of its parties gives what stands to one sum of each. Assumes nothing.
-use mathlib.Core.Bool.{Bool}
-use mathlib.Core.List.{List, map}
-use mathlib.Core.Path.{_≡_, refl, sym, ap, ap₂, _∙_}
-use Prim.Native.Nat.{ℕ, zero, suc, _+_, _*_, _≤_, _<_}
-use native.Mathlib.Omega.{arith}
-use native.Mathlib.Numerals.{add-one}
-use lib.Dec.{T, ltb→lt}
-use lib.IntN.{pos, _+ℤ_, _-ℤ_}
-use lib.ListN.{length, take, getD, set, replicate, length-map, length-set, length-replicate, List·getD-map}
-use lib.Seq.{getD-set-same, getD-set-other, take-all}
+use Rattle.base.specs.Basics.{_≡_, refl, sym, ap, ap₂, _∙_, Bool, List, map, ℕ, zero, suc, _+_, _*_, _≤_, _<_, add-one, arith, T, ltb→lt, pos, _+ℤ_}
+use Rattle.base.specs.Basics.{_-ℤ_, length, take, getD, set, replicate, length-map, length-set, length-replicate, List·getD-map, getD-set-same}
+use Rattle.base.specs.Basics.{getD-set-other, take-all}
 use Rattle.base.specs.Lists.{all}
 use Rattle.book_records.specs.User.{alone}
 use Rattle.rules.specs.Book.{Terms, Trade, User, nobody, at, definedPosition}

@@ -1,13 +1,6 @@
 -- A walk over records in bytes: the record at hand, and a test of each of which those that are left have the whole answer. Assumes nothing.
-use mathlib.Core.Bool.{Bool, true, false, _&&_}
-use mathlib.Core.List.{List}
-use mathlib.Core.Path.{_≡_, refl, sym, ap, _∙_}
-use Prim.Native.Nat.{ℕ, _+_, _-_, _*_, _≤_, _<_}
-use native.Mathlib.Nat.{mul-zero}
-use native.Mathlib.Omega.{arith}
-use native.Mathlib.Numerals.{add-one}
-use lib.ListN.{length, take, drop, getD, drop-of-length-le}
-use lib.Seq.{drop-cons, drop-drop}
+use Rattle.base.specs.Basics.{_≡_, refl, sym, ap, _∙_, Bool, true, false, _&&_, List, ℕ, _+_, _-_, _*_, _≤_, _<_, add-one, mul-zero, arith, length}
+use Rattle.base.specs.Basics.{take, drop, getD, drop-of-length-le, drop-cons, drop-drop}
 use Rattle.base.specs.Lists.{all}
 use Rattle.fields.specs.Layout.{recordsOf}
 use Rattle.fields.proofs.Records.{getD-recordsOf}

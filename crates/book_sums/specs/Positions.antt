@@ -1,10 +1,5 @@
 -- Positions by what was sold and bought. Assumes nothing.
-use mathlib.Core.Bool.{Bool, _&&_}
-use mathlib.Core.List.{List}
-use mathlib.Core.Path.{_≡_}
-use Prim.Native.Nat.{ℕ, _+_, _*_}
-use lib.IntN.{ℤ, pos, _+ℤ_, _-ℤ_}
-use lib.ListN.{getD}
+use Rattle.base.specs.Basics.{_≡_, Bool, _&&_, List, ℕ, _+_, _*_, ℤ, pos, _+ℤ_, _-ℤ_, getD}
 use Rattle.rules.specs.Book.{User, Trade, at}
 use Rattle.base.specs.Lists.{all}
 use Rattle.rules.specs.Questions.{eqbℤ, positionsValid}

@@ -1,8 +1,5 @@
 -- What trades give to the sum of a user in an area for a day, by the places of their parties. Assumes nothing.
-use mathlib.Core.Bool.{Bool, cond, _&&_}
-use mathlib.Core.List.{List, [], _∷_, map}
-use Prim.Native.Nat.{ℕ, _+_}
-use lib.Dec.{eqb, ltb}
+use Rattle.base.specs.Basics.{Bool, cond, _&&_, List, [], _∷_, map, ℕ, _+_, eqb, ltb}
 use Rattle.rules.specs.Book.{Terms, Trade}
 use Rattle.book_parties.specs.Ids.{among, placeIn}
 

@@ -1,9 +1,6 @@
 -- Twelve sums for each user, kept one after the other: 12·place + 6·side + 3·day + area, what was sold (side 0) and bought (side 1) for d and for d+1 in the
 -- three areas. Assumes nothing.
-use mathlib.Core.List.{List}
-use mathlib.Core.Path.{_≡_}
-use Prim.Native.Nat.{ℕ, _+_, _*_, _≤_, _<_}
-use lib.ListN.{length, getD, set}
+use Rattle.base.specs.Basics.{_≡_, List, ℕ, _+_, _*_, _≤_, _<_, length, getD, set}
 use Rattle.rules.specs.Book.{Trade, User, nobody, sold, bought}
 use Rattle.book_sums.specs.Sums.{givenBy}
 

@@ -59,7 +59,7 @@ pub fn positions_valid(s: &[u8], at: usize, size: usize, n: usize, sums: &[u32; 
     let mut i = 0;
     let mut a = at;
     while i < n {
-        let u = book_records::read_user(&s[a..a + 56]);
+        let u = book_records::read_user(&s[a..a + book_records::USER_SIZE]);
         if !user_positions_valid(u, sums, i) {
             return false;
         }

@@ -1,13 +1,7 @@
 -- Laws of a book whose parts are written one after the other. Assumes nothing.
-use Prim.Native.Nat.{ℕ, zero, suc, _+_, _*_, _≤_}
-use mathlib.Core.Path.{_≡_, refl, sym, ap, ap₂, _∙_}
-use mathlib.Core.List.{List, [], _∷_, _++_, map, map-map}
-use native.Mathlib.Omega.{arith}
-use lib.ListN.{length, take, drop, length-take}
-use lib.Dec.{eqb}
-use lib.Seq.{sets}
+use Rattle.base.specs.Basics.{_≡_, refl, sym, ap, ap₂, _∙_, true, false, List, [], _∷_, _++_, map, map-map, ℕ, zero, suc, _+_, _*_, _≤_, arith, eqb}
+use Rattle.base.specs.Basics.{length, take, drop, length-take, sets}
 use Rattle.base.proofs.Fronts.{front-length}
-use mathlib.Core.Bool.{true, false}
 use Rattle.fields.specs.Layout.{setFields, bytesOfRecords, pack, recordsOf}
 use Rattle.rules.specs.Book as model
 use Rattle.book_tables.specs.declared.Record.{Record}

@@ -1,11 +1,6 @@
 -- A record by its two parts: the user's 56 bytes, and its managers behind them. Assumes nothing.
-use mathlib.Core.Bool.{Bool, true, false}
-use mathlib.Core.List.{List, _++_}
-use mathlib.Core.Path.{_≡_, refl, ap, ap₂, _∙_}
-use Prim.Native.Nat.{ℕ, _+_, _≤_}
-use native.Mathlib.Omega.{arith}
-use lib.ListN.{length, take, drop, length-append, length-drop, drop-of-length-le}
-use lib.Seq.{sets}
+use Rattle.base.specs.Basics.{_≡_, refl, ap, ap₂, _∙_, Bool, true, false, List, _++_, ℕ, _+_, _≤_, arith, length, take, drop, length-append}
+use Rattle.base.specs.Basics.{length-drop, drop-of-length-le, sets}
 use Rattle.fields.proofs.Pack.{setFields-sets}
 use Rattle.fields.proofs.Sets.{sets-right, sets-whole}
 use Rattle.fields.specs.Layout.{setFields}

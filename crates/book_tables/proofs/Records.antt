@@ -1,9 +1,5 @@
 -- The records of a struct into which bytes were read: the one at a place is the one that the bytes hold there. Assumes nothing.
-use mathlib.Core.List.{List, map}
-use mathlib.Core.Path.{_≡_, _∙_, ap, sym}
-use Prim.Native.Nat.{_<_, _≤_, ℕ}
-use native.Mathlib.Omega.{arith}
-use lib.ListN.{getD, length, take}
+use Rattle.base.specs.Basics.{_≡_, _∙_, ap, sym, List, map, _<_, _≤_, ℕ, arith, getD, length, take}
 use Rattle.base.proofs.Fronts.{front-at, front-length, getD-inside}
 use Rattle.book_tables.specs.Book.{BookRead, asBook, keptManagers}
 use Rattle.book_tables.specs.declared.Book.{Book}

@@ -1,12 +1,7 @@
 -- Laws of the loop that reads records from bytes into an array, for any type of record: its start, a turn and its end. Assumes nothing.
-use Prim.Native.Nat.{ℕ, zero, suc, _+_, _-_, _*_, _<_, _≤_}
-use mathlib.Core.Path.{_≡_, sym, ap, _∙_}
-use mathlib.Core.List.{List, [], _∷_, _++_, map, map-append, append-assoc, append-nil}
-use native.Mathlib.Omega.{arith}
-use native.Mathlib.Nat.{mul-zero, mul-suc, not-suc-le-zero, sub-zero}
-use native.Mathlib.Numerals.{add-one}
-use lib.ListN.{length, take, drop, set, replicate, length-set, length-replicate}
-use lib.Seq.{take-suc-set, drop-set-lt, drop-drop}
+use Rattle.base.specs.Basics.{_≡_, sym, ap, _∙_, List, [], _∷_, _++_, map, map-append, append-assoc, append-nil, ℕ, zero, suc, _+_, _-_, _*_, _<_}
+use Rattle.base.specs.Basics.{_≤_, add-one, mul-zero, mul-suc, not-suc-le-zero, sub-zero, arith, length, take, drop, set, replicate, length-set}
+use Rattle.base.specs.Basics.{length-replicate, take-suc-set, drop-set-lt, drop-drop}
 use Rattle.fields.specs.Layout.{recordsOf}
 use Rattle.fields.proofs.Sets.{drop-replicate}
 use Rattle.book_tables.specs.Filled.{Filled}

@@ -1,12 +1,6 @@
 -- Laws of the loop that writes the records of an array to bytes, for any type of record: its start, a turn and its end. Assumes nothing.
-use Prim.Native.Nat.{ℕ, _+_, _-_, _*_, _<_, _≤_}
-use mathlib.Core.Path.{_≡_, refl}
-use mathlib.Core.List.{List}
-use native.Mathlib.Omega.{arith}
-use native.Mathlib.Nat.{mul-zero, mul-suc, sub-zero}
-use native.Mathlib.Numerals.{add-one}
-use lib.ListN.{length, getD, take, drop}
-use lib.Seq.{sets, length-sets}
+use Rattle.base.specs.Basics.{_≡_, refl, List, ℕ, _+_, _-_, _*_, _<_, _≤_, add-one, mul-zero, mul-suc, sub-zero, arith, length, getD, take, drop}
+use Rattle.base.specs.Basics.{sets, length-sets}
 use borrow.Rule.Slice.PartMut.{putMid}
 use Rattle.fields.specs.Layout.{bytesOfRecords}
 use Rattle.fields.proofs.Sets.{part-sets}

@@ -1,9 +1,5 @@
 -- The book of the rules that a struct is, and what a struct holds into which bytes were read. Assumes nothing.
-use mathlib.Core.Bool.{cond, false}
-use mathlib.Core.Path.{_≡_}
-use mathlib.Core.List.{List, map}
-use Prim.Native.Nat.{ℕ, _-_}
-use lib.ListN.{length, take, drop, replicate}
+use Rattle.base.specs.Basics.{_≡_, cond, false, List, map, ℕ, _-_, length, take, drop, replicate}
 use Rattle.rules.specs.Areas.{Prices, managersIn, sellingIn}
 use Rattle.rules.specs.Book as model
 use Rattle.units.specs.Prices.{asPrices}

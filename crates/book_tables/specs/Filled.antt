@@ -1,8 +1,5 @@
 -- Arrays into which records were read. Assumes nothing.
-use mathlib.Core.Path.{_≡_}
-use mathlib.Core.List.{List, map}
-use Prim.Native.Nat.{ℕ, _-_}
-use lib.ListN.{length, take, drop, replicate}
+use Rattle.base.specs.Basics.{_≡_, List, map, ℕ, _-_, length, take, drop, replicate}
 use Rattle.fields.specs.Layout.{recordsOf}
 
 -- an array into which n records were read: what they are is what the bytes hold, and the rest is blank

@@ -1,7 +1,5 @@
 -- A user's record as the code's struct: the user, and its managers. Assumes nothing.
-use mathlib.Core.Path.{_≡_}
-use Prim.Native.Nat.{ℕ}
-use lib.Dec.{eqb}
+use Rattle.base.specs.Basics.{_≡_, ℕ, eqb}
 use Rattle.book_records.specs.User.{asUser, blankUser, recordSize}
 use Rattle.rules.specs.Book as model
 use Rattle.book_tables.specs.declared.Managers.{Managers}

@@ -39,9 +39,9 @@ fn read_managers(c: &[u8], managed: bool) -> Managers
 {
     if managed {
         return Managers {
-            pvb: fields::get_u32(c, 56),
-            tvb: fields::get_u32(c, 60),
-            avb: fields::get_u32(c, 64),
+            pvb: fields::get_u32(c, book_records::MANAGERS),
+            tvb: fields::get_u32(c, book_records::MANAGER_TVB),
+            avb: fields::get_u32(c, book_records::MANAGER_AVB),
         };
     }
     Managers {
@@ -56,7 +56,7 @@ fn read_record(c: &[u8], managed: bool) -> Record
     requires { ⌜ length (now c) ≡ recordSize managed ⌝ }
     ensures { λ r. ⌜ asRecord r ≡ userOf (now (c .entry)) ⌝ }
 {
-    let user = book_records::read_user(&c[..56]);
+    let user = book_records::read_user(&c[..book_records::USER_SIZE]);
     let managers = read_managers(c, managed);
     Record {
         user: user,
@@ -71,11 +71,11 @@ fn write_record(c: &mut [u8], r: Record, managed: bool)
 {
     let user = r.user;
     let managers = r.managers;
-    book_records::write_user(&mut c[..56], user);
+    book_records::write_user(&mut c[..book_records::USER_SIZE], user);
     if managed {
-        fields::put_u32(c, 56, managers.pvb);
-        fields::put_u32(c, 60, managers.tvb);
-        fields::put_u32(c, 64, managers.avb);
+        fields::put_u32(c, book_records::MANAGERS, managers.pvb);
+        fields::put_u32(c, book_records::MANAGER_TVB, managers.tvb);
+        fields::put_u32(c, book_records::MANAGER_AVB, managers.avb);
     }
 }
 
@@ -102,7 +102,7 @@ pub fn read_users(s: &[u8], at: usize, size: usize, n: usize) -> [Record; 64]
 {
     let blank = no_record();
     let mut users = [blank; 64];
-    let managed = size == 68;
+    let managed = size == book_records::MANAGED_SIZE;
     let mut i = 0;
     let mut a = at;
     while i < n {
@@ -123,8 +123,8 @@ pub fn read_trades(s: &[u8], at: usize, n: usize) -> [Trade; 256]
     let mut i = 0;
     let mut a = at;
     while i < n {
-        trades[i] = book_records::read_trade(&s[a..a + 20]);
-        a += 20;
+        trades[i] = book_records::read_trade(&s[a..a + book_records::TRADE_SIZE]);
+        a += book_records::TRADE_SIZE;
         i += 1;
     }
     trades
@@ -135,7 +135,7 @@ pub fn write_users(out: &mut [u8], at: usize, size: usize, users: [Record; 64], 
     requires { ⌜ (n ≤ 64) × SizeOfRecord size × (at + size * n ≤ length (now out)) ⌝ }
     ensures { λ _. ⌜ (now (out .exit) ≡ sets (now (out .entry)) at (bytesOfRecords (λ u. recordBytes (eqb size 68) (asRecord u)) (take n users))) × (length users ≡ 64) ⌝ }
 {
-    let managed = size == 68;
+    let managed = size == book_records::MANAGED_SIZE;
     let mut i = 0;
     let mut a = at;
     while i < n {
@@ -155,8 +155,8 @@ pub fn write_trades(out: &mut [u8], at: usize, trades: [Trade; 256], n: usize)
     let mut a = at;
     while i < n {
         let t = trades[i];
-        book_records::write_trade(&mut out[a..a + 20], t);
-        a += 20;
+        book_records::write_trade(&mut out[a..a + book_records::TRADE_SIZE], t);
+        a += book_records::TRADE_SIZE;
         i += 1;
     }
 }
@@ -196,7 +196,7 @@ pub fn read_book(s: &[u8]) -> Book
         version: book_format::version(s),
         user_count: user_count,
         trade_count: trade_count,
-        date: fields::get_u32(s, 8),
+        date: fields::get_u32(s, book_records::DATE),
         prices: prices,
         users: users,
         trades: trades,

@@ -1,12 +1,5 @@
 -- The ways out of writing, by the questions; and the form of what a struct with counts in range is written as. Assumes nothing.
-use mathlib.Core.Bool.{_&&_, false, true}
-use mathlib.Core.List.{List, map}
-use mathlib.Core.Option.{some}
-use mathlib.Core.Path.{_≡_, _∙_}
-use Prim.Native.Nat.{ℕ}
-use native.Mathlib.Omega.{arith}
-use lib.Dec.{T, eqb, leb, leb→le}
-use lib.ListN.{length, length-map, length-take, take}
+use Rattle.base.specs.Basics.{_≡_, _∙_, _&&_, false, true, some, List, map, ℕ, arith, T, eqb, leb, leb→le, length, length-map, length-take, take}
 use Rattle.book_tables.specs.Book.{asBook, keptManagers}
 use Rattle.book_tables.specs.declared.Book.{Book}
 use Rattle.book_format.proofs.Written.{formed-bytesOf, length-bytesOf}

@@ -1,7 +1,5 @@
 -- What bytes are that were asked the questions, with the book that they hold as a struct. Assumes nothing.
-use mathlib.Core.Path.{_≡_}
-use mathlib.Core.List.{List}
-use Prim.Native.Nat.{ℕ}
+use Rattle.base.specs.Basics.{_≡_, List, ℕ}
 use Rattle.book_format.specs.Questions.{bookNumber}
 use Rattle.book_tables.specs.declared.Book.{Book}
 use Rattle.book_tables.specs.Book.{BookRead, blankBook}

@@ -1,11 +1,6 @@
 -- What writing a book gives: "Writing is refused with the first question that the bytes so written would fail, a part of another length failing question 3; the part is
 -- then unchanged." Assumes nothing.
-use mathlib.Core.Path.{_≡_}
-use mathlib.Core.Bool.{Bool, _&&_}
-use mathlib.Core.List.{List, _∷_}
-use Prim.Native.Nat.{ℕ, _≤_}
-use lib.Dec.{T, leb, eqb}
-use lib.ListN.{length}
+use Rattle.base.specs.Basics.{_≡_, Bool, _&&_, List, _∷_, ℕ, _≤_, T, leb, eqb, length}
 use Rattle.rules.specs.Book as model
 use Rattle.rules.specs.Questions.{Question, refusal, numberOf, decided, versionKnown}
 use Rattle.book_format.specs.Book.{bytesOf, lengthBy}

@@ -1,9 +1,5 @@
 -- The number of the opening questions is that of those before the store, or where it is 0 that of the store; the figures are those of the setting. Assumes nothing.
-use mathlib.Core.Bool.{Bool, cond, true, false}
-use mathlib.Core.List.{List}
-use mathlib.Core.Option.{Option}
-use mathlib.Core.Path.{_≡_, _∙_, refl, subst, sym}
-use Prim.Native.Nat.{ℕ, suc, zero}
+use Rattle.base.specs.Basics.{_≡_, _∙_, refl, subst, sym, Bool, cond, true, false, Option, List, ℕ, suc, zero}
 use Rattle.fields.specs.Field.{field}
 use Rattle.book_format.specs.After.{after}
 use Rattle.book_format.specs.Book.{bookOf}

@@ -1,10 +1,5 @@
 -- The opening questions with that of a lent log are those without it, and then 19. Assumes nothing.
-use mathlib.Core.Bool.{Bool, cond, true, false}
-use mathlib.Core.List.{List, [], _∷_}
-use mathlib.Core.Path.{_≡_, refl, sym, ap, _∙_}
-use Prim.Native.Nat.{ℕ, zero, suc}
-use native.Mathlib.Omega.{arith}
-use lib.Dec.{T}
+use Rattle.base.specs.Basics.{_≡_, refl, sym, ap, _∙_, Bool, cond, true, false, List, [], _∷_, ℕ, zero, suc, arith, T}
 use Rattle.book_format.specs.After.{after}
 use Rattle.book_format.specs.Questions.{bookNumber}
 use Rattle.book_questions.specs.Asked.{PartiesFound}

@@ -1,9 +1,5 @@
 -- Question 19, asked of a lent log where it is given, after the other opening questions. Assumes nothing.
-use mathlib.Core.Bool.{Bool, true}
-use mathlib.Core.List.{List}
-use mathlib.Core.Path.{_≡_}
-use Prim.Native.Nat.{ℕ}
-use lib.Dec.{T}
+use Rattle.base.specs.Basics.{_≡_, Bool, true, List, ℕ, T}
 use Rattle.book_format.specs.After.{after}
 use Rattle.log_format.specs.Fits.{logFits, logNumber}
 use Rattle.store.specs.Store.{given}

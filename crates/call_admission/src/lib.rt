@@ -35,7 +35,7 @@ fn by_store(book: &[u8], asked: u32, with_store: bool, store: &[u8]) -> Admissio
             number: asked,
         };
     }
-    let date = fields::get_u32(book, 8);
+    let date = fields::get_u32(book, book_records::DATE);
     let figures = store::figures_on(date, with_store, store);
     let limits = figures.limits;
     Admission {

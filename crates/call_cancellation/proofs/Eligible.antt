@@ -1,11 +1,6 @@
 -- The eligible trades of the user at a place: what is read of each trade, and the loops that gather their worths and mark them. Assumes nothing.
-use mathlib.Core.Bool.{Bool, false, cond, not, _&&_}
-use mathlib.Core.List.{List}
-use mathlib.Core.Path.{_≡_, sym, ap, ap₂, _∙_}
-use Prim.Native.Nat.{ℕ, _+_, _*_, _-_, _/_, _%_, _≤_, _<_}
-use native.Mathlib.Omega.{arith}
-use lib.Dec.{eqb, ltb}
-use lib.ListN.{length, getD, replicate, set}
+use Rattle.base.specs.Basics.{_≡_, sym, ap, ap₂, _∙_, Bool, false, cond, not, _&&_, List, ℕ, _+_, _*_, _-_, _/_, _%_, _≤_, _<_, arith, eqb, ltb}
+use Rattle.base.specs.Basics.{length, getD, replicate, set}
 use Rattle.base.proofs.Fronts.{all-at}
 use Rattle.risk_bearers.proofs.Borne as borne
 use Rattle.risk_bearers.proofs.Borne.{buyer-is, id-in, seller-is}

@@ -1,12 +1,6 @@
 -- The ways out of a whole cancellation: refused by the opening questions, by 25, by 8, by a question on the user's level, by 14 or by 24, or done. Assumes nothing.
-use mathlib.Core.Bool.{Bool, true, false, cond, _&&_, _||_}
-use mathlib.Core.List.{List, [], _∷_, _++_}
-use mathlib.Core.Path.{_≡_, refl, sym, ap, _∙_}
-use Prim.Native.Nat.{ℕ, zero, suc, _+_, _-_, _^_, _≤_, _<_}
-use native.Mathlib.Omega.{arith}
-use lib.Dec.{leb}
-use lib.ListN.{getD, take}
-use borrow.Author.Tests.{leb-true, le-leb, lt-leb}
+use Rattle.base.specs.Basics.{_≡_, refl, sym, ap, _∙_, Bool, true, false, cond, _&&_, _||_, List, [], _∷_, _++_, ℕ, zero, suc, _+_, _-_, _^_, _≤_}
+use Rattle.base.specs.Basics.{_<_, arith, leb, getD, take, leb-true, le-leb, lt-leb}
 use Rattle.call_questions.proofs.Asked.{level-passed, level-refused}
 use Rattle.call_questions.specs.Asked.{ShortfallOf, levelQuestions}
 use Rattle.cut_sets.proofs.Places.{place-search, worths-sum}

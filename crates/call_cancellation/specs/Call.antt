@@ -1,6 +1,5 @@
 -- The answer of the rules that the code's answer is, and what a cancellation gives past the user's id. Assumes nothing.
-use mathlib.Core.List.{[], _∷_, _++_}
-use Prim.Native.Nat.{ℕ}
+use Rattle.base.specs.Basics.{[], _∷_, _++_, ℕ}
 use Rattle.rules.specs.Book.{Book, User}
 use Rattle.rules.specs.Calls.{eligibleTrade}
 use Rattle.rules.specs.Levels.{Limits}

@@ -1,9 +1,5 @@
 -- A user of a book in bytes whose eligible trades are looked for, and their worths. Assumes nothing.
-use mathlib.Core.Bool.{Bool}
-use mathlib.Core.List.{List}
-use mathlib.Core.Path.{_≡_}
-use Prim.Native.Nat.{ℕ, _-_, _<_, _^_}
-use lib.ListN.{take}
+use Rattle.base.specs.Basics.{_≡_, Bool, List, ℕ, _-_, _<_, _^_, take}
 use Rattle.cut_sets.specs.Found.{Given}
 use Rattle.cut_sets.specs.Places.{countOf, worthsOf}
 use Rattle.book_format.specs.Book.{tradeCount, tradesAt, userCount}

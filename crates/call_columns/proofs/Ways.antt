@@ -1,13 +1,6 @@
 -- The ways out of the two calls. Assumes nothing.
-use mathlib.Core.Bool.{true, false}
-use mathlib.Core.List.{List, _++_}
-use mathlib.Core.Path.{_≡_, refl, ap, _∙_}
-use Prim.Native.Nat.{ℕ, _+_, _<_, _≤_}
-use native.Mathlib.Nat.{mul-le-mul-left}
-use native.Mathlib.Omega.{arith}
-use lib.Dec.{T, eqb}
-use lib.ListN.{length, take, drop, length-append, length-drop}
-use lib.Seq.{take-at, take-length}
+use Rattle.base.specs.Basics.{_≡_, refl, ap, _∙_, true, false, List, _++_, ℕ, _+_, _<_, _≤_, mul-le-mul-left, arith, T, eqb, length, take, drop}
+use Rattle.base.specs.Basics.{length-append, length-drop, take-at, take-length}
 use Rattle.base.proofs.Tests.{holds}
 use Rattle.rules.specs.Questions.{decided}
 use Rattle.book_format.specs.Book.{mark, tradesAt, userAt, userCount, versionOf}

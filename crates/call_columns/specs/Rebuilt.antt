@@ -1,10 +1,5 @@
 -- A book that is rebuilt from its form in a room for the longest book. Assumes nothing.
-use mathlib.Core.Bool.{Bool}
-use mathlib.Core.List.{List}
-use mathlib.Core.Path.{_≡_}
-use Prim.Native.Nat.{ℕ, _+_, _*_, _≤_}
-use lib.Dec.{T}
-use lib.ListN.{length, take}
+use Rattle.base.specs.Basics.{_≡_, Bool, List, ℕ, _+_, _*_, _≤_, T, length, take}
 use Rattle.book_columns.specs.Form.{bookFrom, yields}
 
 -- the bytes of the longest book: a header of 40 bytes, 64 users, 256 trades

@@ -1,11 +1,5 @@
 -- The ways out of a conversion. Assumes nothing.
-use mathlib.Core.Bool.{true, false}
-use mathlib.Core.List.{List, _++_}
-use mathlib.Core.Path.{_≡_, refl, sym, _∙_}
-use Prim.Native.Nat.{ℕ, _<_, _≤_}
-use native.Mathlib.Omega.{arith}
-use lib.ListN.{length, drop}
-use borrow.Author.Tests.{le-leb, lt-leb}
+use Rattle.base.specs.Basics.{_≡_, refl, sym, _∙_, true, false, List, _++_, ℕ, _<_, _≤_, arith, length, drop, le-leb, lt-leb}
 use Rattle.base.proofs.Tests.{by-case, holds}
 use Rattle.rules.specs.Questions.{refusal, versionKnown}
 use Rattle.book_format.specs.Book.{bookOf, lengthBy, tradeCount, userCount}

@@ -1,11 +1,6 @@
 -- The ways out of a guarantee call: refused by the entry, by a question of its own, or answered. Assumes nothing.
-use mathlib.Core.Bool.{Bool, true, false, false≢true, _&&_}
-use mathlib.Core.List.{List, _∷_}
-use mathlib.Core.Path.{_≡_, refl, sym, ap, _∙_}
-use Prim.Native.Nat.{ℕ, _+_, _-_, _*_, _≤_, _<_}
-use lib.ListN.{getD}
-use lib.Seq.{sets}
-use borrow.Author.Tests.{eq-eqb, ne-eqb, le-leb, lt-leb}
+use Rattle.base.specs.Basics.{_≡_, refl, sym, ap, _∙_, Bool, true, false, false≢true, _&&_, List, _∷_, ℕ, _-_, _≤_, _<_, getD, sets, eq-eqb, ne-eqb}
+use Rattle.base.specs.Basics.{le-leb, lt-leb}
 use Rattle.rules.specs.Book.{Book, User, find, nobody}
 use Rattle.rules.specs.Levels.{Limits, shipper, exceedsMargin}
 use Rattle.rules.specs.Questions.{Question, refusal, decided}

@@ -1,9 +1,5 @@
 -- How a guarantee call ends: its last questions, and what they leave. Assumes nothing.
-use mathlib.Core.Bool.{Bool}
-use mathlib.Core.List.{List, [], _∷_}
-use Prim.Native.Nat.{ℕ, _-_}
-use lib.ListN.{getD}
-use lib.Seq.{sets}
+use Rattle.base.specs.Basics.{Bool, List, [], _∷_, ℕ, _-_, getD, sets}
 use Rattle.rules.specs.Book.{User, nobody}
 use Rattle.rules.specs.Levels.{Limits}
 use Rattle.rules.specs.Questions.{Question, refusal, decided}

@@ -1,6 +1,5 @@
 -- The question 11 and the call of a time of the day: the afternoon's where it is yes, else the morning's. Assumes nothing.
-use mathlib.Core.Bool.{Bool, true, false, _&&_}
-use Prim.Native.Nat.{ℕ}
+use Rattle.base.specs.Basics.{Bool, true, false, _&&_, ℕ}
 use Rattle.rules.specs.Book.{Book, User}
 use Rattle.rules.specs.Levels.{Limits, calledIn, exceedsMargin}
 use Rattle.rules.specs.Calls.{Call, morningCall, afternoonCall}

@@ -1,10 +1,6 @@
 -- The ids of a book's users, listed to be searched: filled in one by one, found, and the same after every line. Assumes nothing.
-use mathlib.Core.List.{List, [], _∷_, map}
-use mathlib.Core.Path.{_≡_, _∙_, ap, refl, sym}
-use Prim.Native.Nat.{ℕ, suc, _+_, _*_, _-_, _<_, _≤_}
-use native.Mathlib.Nat.{mul-zero}
-use native.Mathlib.Omega.{arith}
-use lib.ListN.{length, take, drop, getD, set, replicate, length-replicate}
+use Rattle.base.specs.Basics.{_≡_, _∙_, ap, refl, sym, List, [], _∷_, map, ℕ, suc, _+_, _-_, _<_, _≤_, mul-zero, arith, length, take, drop, getD, set}
+use Rattle.base.specs.Basics.{replicate, length-replicate}
 use Rattle.fields.specs.Field.{field}
 use Rattle.book_format.proofs.Passed.{length-usersOf, passed}
 use Rattle.book_format.proofs.Offsets.{user-next, user-there}

@@ -1,12 +1,5 @@
 -- A list after its opening questions is the list that is asked for: by their number it may be posted, and what it leaves is the public contract. Assumes nothing.
-use mathlib.Core.Bool.{Bool, true, _&&_}
-use mathlib.Core.List.{List}
-use mathlib.Core.Option.{Option}
-use mathlib.Core.Path.{_≡_, _∙_, ap, sym, subst}
-use Prim.Native.Nat.{ℕ}
-use lib.Dec.{T, eqb, eqb→eq, leb}
-use lib.IntN.{ℤ}
-use lib.ListN.{length}
+use Rattle.base.specs.Basics.{_≡_, _∙_, ap, sym, subst, Bool, true, _&&_, Option, List, ℕ, T, eqb, eqb→eq, leb, ℤ, length}
 use Rattle.book_format.specs.Questions.{bookNumber}
 use Rattle.base.proofs.Tests.{and-l, and-r}
 use Rattle.requests.proofs.Emptied.{posted-list, with-opening}

@@ -1,12 +1,6 @@
 -- The lines one after another: what is left of the list, on the bytes of now, gives the whole. Assumes nothing.
-use mathlib.Core.List.{List, [], _∷_, _++_, append-assoc, append-nil}
-use mathlib.Core.Path.{_≡_, _∙_, ap, refl, subst⁻¹, sym}
-use Prim.Native.Nat.{ℕ, suc, zero, _+_, _<_, _≤_}
-use native.Mathlib.Numerals.{add-one}
-use native.Mathlib.Omega.{arith}
-use lib.IntN.{ℤ, pos}
-use lib.ListN.{length, take, drop, getD, set, length-set, drop-of-length-le}
-use lib.Seq.{drop-cons, take-all, take-suc-set}
+use Rattle.base.specs.Basics.{_≡_, _∙_, ap, refl, subst⁻¹, sym, List, [], _∷_, _++_, append-assoc, append-nil, ℕ, suc, zero, _+_, _<_, _≤_, add-one}
+use Rattle.base.specs.Basics.{arith, ℤ, pos, length, take, drop, getD, set, length-set, drop-of-length-le, drop-cons, take-all, take-suc-set}
 use Rattle.call_entry.proofs.Asked.{entry-unknown}
 use Rattle.fields.specs.Field.{AllBytes}
 use Rattle.book_format.specs.After.{CalledAfter, after, stepAfter}

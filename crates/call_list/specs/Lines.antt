@@ -1,9 +1,5 @@
 -- A list of postings after its opening questions: what is known before its lines, and what they leave. Assumes nothing.
-use mathlib.Core.List.{List}
-use mathlib.Core.Path.{_≡_}
-use Prim.Native.Nat.{ℕ}
-use lib.IntN.{ℤ}
-use lib.ListN.{length, take}
+use Rattle.base.specs.Basics.{_≡_, List, ℕ, ℤ, length, take}
 use Rattle.book_format.specs.After.{after}
 use Rattle.book_format.specs.Book.{headerSize, userCount, userSize, usersOf, versionOf}
 use Rattle.book_format.specs.Questions.{bookNumber}

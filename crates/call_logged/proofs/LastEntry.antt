@@ -1,13 +1,6 @@
 -- The withdrawal of the last entry: its cuts as a lent part has them, and what the call gives. Assumes nothing.
-use mathlib.Core.List.{List, [], _∷_}
-use mathlib.Core.Option.{some}
-use mathlib.Core.Path.{_≡_, refl, sym, ap, ap₂, subst, _∙_}
-use Prim.Native.Nat.{ℕ, zero, suc, _+_, _-_, _*_, _≤_, _<_}
-use native.Mathlib.Omega.{arith}
-use lib.Dec.{T}
-use lib.ListN.{length, take, drop}
-use lib.Seq.{take-take}
-use borrow.Author.Tests.{lt-ltb}
+use Rattle.base.specs.Basics.{_≡_, refl, sym, ap, ap₂, subst, _∙_, some, List, [], _∷_, ℕ, zero, suc, _+_, _-_, _*_, _≤_, _<_, arith, T, length, take}
+use Rattle.base.specs.Basics.{drop, take-take, lt-ltb}
 use Rattle.base.proofs.Linear.{by-order}
 use Rattle.book_format.specs.After.{after}
 use Rattle.book_format.specs.Book.{bookOf, tradeCount, tradesOf}

@@ -1,10 +1,5 @@
 -- The ways out of the calls with a log: refused by an opening question, or carried out and noted. Assumes nothing.
-use mathlib.Core.Bool.{Bool, true, false, cond}
-use mathlib.Core.List.{List}
-use mathlib.Core.Option.{Option, none, some}
-use mathlib.Core.Path.{_≡_, refl, sym, ap, subst, _∙_}
-use Prim.Native.Nat.{ℕ, zero, suc, _-_, _≤_}
-use lib.Dec.{T}
+use Rattle.base.specs.Basics.{_≡_, refl, sym, ap, subst, _∙_, Bool, true, false, cond, Option, none, some, List, ℕ, zero, suc, _-_, _≤_, T}
 use Rattle.fields.specs.Field.{AllBytes}
 use Rattle.book_format.specs.After.{after}
 use Rattle.book_format.specs.Book.{bookOf, tradeCount}

@@ -1,8 +1,5 @@
 -- A call with a log after its opening questions: what it is given, and its answer with another number. Assumes nothing.
-use mathlib.Core.List.{List}
-use mathlib.Core.Path.{_≡_}
-use Prim.Native.Nat.{ℕ}
-use lib.Dec.{T}
+use Rattle.base.specs.Basics.{_≡_, List, ℕ, T}
 use Rattle.rules.specs.Calls.{Answer}
 use Rattle.book_format.specs.Questions.{bookNumber}
 use Rattle.log_format.specs.Fits.{logFits}

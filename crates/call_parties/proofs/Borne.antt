@@ -1,10 +1,5 @@
 -- Without managers each user bears its own risk; with them the places and the sums are those that the table gives. Assumes nothing.
-use mathlib.Core.Bool.{false}
-use mathlib.Core.List.{List, map, map-map}
-use mathlib.Core.Path.{_≡_, sym, ap, subst, _∙_}
-use Prim.Native.Nat.{ℕ}
-use native.Mathlib.Omega.{arith}
-use lib.ListN.{length, take}
+use Rattle.base.specs.Basics.{_≡_, sym, ap, subst, _∙_, false, List, map, map-map, ℕ, arith}
 use Rattle.book_format.proofs.Passed.{length-usersOf}
 use Rattle.book_format.specs.Book.{bookOf, tradesOf, usersOf, versionOf}
 use Rattle.book_format.specs.Held.{Accepted}

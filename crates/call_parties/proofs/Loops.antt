@@ -1,10 +1,5 @@
 -- Lists that are copied place by place. Assumes nothing.
-use mathlib.Core.List.{List}
-use mathlib.Core.Path.{_≡_, sym, _∙_}
-use Prim.Native.Nat.{ℕ, _+_, _≤_, _<_}
-use native.Mathlib.Omega.{arith}
-use lib.ListN.{length, getD, set, length-set}
-use lib.Seq.{ext-getD}
+use Rattle.base.specs.Basics.{_≡_, sym, _∙_, List, ℕ, _+_, _≤_, _<_, arith, length, getD, set, length-set, ext-getD}
 use Rattle.base.proofs.Stores.{set-front}
 
 -- the first i numbers are those of a function of the place

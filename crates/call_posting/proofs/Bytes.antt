@@ -1,11 +1,6 @@
 -- A user's physical entry and position in an area are four bytes each of its record: the posting sets these. Assumes nothing.
-use mathlib.Core.List.{List, _++_}
-use mathlib.Core.Path.{_≡_, _∙_, ap, refl, sym}
-use Prim.Native.Nat.{ℕ, zero, suc, _+_, _*_, _<_, _≤_}
-use native.Mathlib.Omega.{arith}
-use lib.IntN.{ℤ, _+ℤ_}
-use lib.ListN.{length, getD, take, drop, set}
-use lib.Seq.{length-sets, sets}
+use Rattle.base.specs.Basics.{_≡_, _∙_, ap, refl, sym, List, _++_, ℕ, zero, suc, _+_, _*_, _<_, _≤_, arith, ℤ, _+ℤ_, length, getD, take, drop, set}
+use Rattle.base.specs.Basics.{length-sets, sets}
 use Rattle.fields.proofs.Field.{length-toBytes}
 use Rattle.fields.proofs.Sets.{length-part, part-sets, sets-left, sets-part, sets-right}
 use Rattle.fields.specs.Field.{AllBytes, field, setField, toBytes}

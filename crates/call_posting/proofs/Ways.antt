@@ -1,13 +1,6 @@
 -- The ways out of a posting, as laws of the call on bytes: one for each `return`, for the user of an id and for the user at a place, who may be posted to. Assumes nothing.
-use mathlib.Core.Bool.{Bool, true, false}
-use mathlib.Core.List.{List, [], _∷_}
-use mathlib.Core.Path.{_≡_, _∙_, ap, refl, subst⁻¹, sym}
-use Prim.Native.Nat.{ℕ, _+_, _*_, _<_, _≤_}
-use native.Mathlib.Omega.{arith}
-use borrow.Author.Tests.{le-leb, le-ltb, lt-ltb}
-use lib.IntN.{ℤ, pos, negsuc, natAbs, _+ℤ_}
-use lib.ListN.{getD}
-use lib.Seq.{sets}
+use Rattle.base.specs.Basics.{_≡_, _∙_, ap, refl, subst⁻¹, sym, Bool, true, false, List, [], _∷_, ℕ, _+_, _*_, _<_, _≤_, arith, ℤ, pos, negsuc}
+use Rattle.base.specs.Basics.{natAbs, _+ℤ_, getD, sets, le-leb, le-ltb, lt-ltb}
 use Rattle.base.proofs.Fronts.{all-at}
 use Rattle.call_entry.proofs.Calls.{call-found, call-refused, called}
 use Rattle.call_entry.specs.Entered.{Entered, Found}

@@ -1,9 +1,5 @@
 -- A posting on one user's physical entry and position, and the call that the public function is. Assumes nothing.
-use mathlib.Core.Path.{_≡_}
-use mathlib.Core.Bool.{Bool, true}
-use mathlib.Core.List.{List}
-use Prim.Native.Nat.{ℕ}
-use lib.IntN.{ℤ, _+ℤ_}
+use Rattle.base.specs.Basics.{_≡_, Bool, true, List, ℕ, ℤ, _+ℤ_}
 use Rattle.rules.specs.Signed.{bitsOf, signedOf, within}
 use Rattle.rules.specs.Calls.{Call, only, posting}
 use Rattle.rules.specs.Levels.{Limits}

@@ -52,13 +52,13 @@ pub fn post_at(book: &mut [u8], at: usize, size: usize, place: usize, area: u32,
     }
     let a = book_format::user_offset_from(book, at, size, place) + (8 + 4 * area as usize);
     let entry = fields::get_u32(book, a);
-    let position = fields::get_u32(book, a + 12);
+    let position = fields::get_u32(book, a + book_records::ENTRY_TO_POSITION);
     let change = post(entry, position, amount);
     if !change.accepted {
         return 10;
     }
     fields::put_u32(book, a, change.entry);
-    fields::put_u32(book, a + 12, change.position);
+    fields::put_u32(book, a + book_records::ENTRY_TO_POSITION, change.position);
     0
 }
 

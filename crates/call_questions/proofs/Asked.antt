@@ -1,14 +1,6 @@
 -- What is asked of the user at a place is what the rules ask: the level, whether it is called in, the number of the questions 9, 11 and 13, and the target. Assumes nothing.
-use mathlib.Core.Bool.{Bool, true, false, cond, _&&_, _||_}
-use mathlib.Core.List.{List, [], _∷_, _++_}
-use mathlib.Core.Logic.{_⊎_, inl, inr}
-use mathlib.Core.Option.{some}
-use mathlib.Core.Path.{_≡_, refl, sym, ap, subst, _∙_}
-use Prim.Native.Nat.{ℕ, _-_, _<_}
-use native.Mathlib.Omega.{arith}
-use lib.Dec.{T, leb, ltb}
-use lib.ListN.{length, getD}
-use borrow.Author.Tests.{lt-ltb, le-ltb, le-leb}
+use Rattle.base.specs.Basics.{_≡_, refl, sym, ap, subst, _∙_, _⊎_, inl, inr, Bool, true, false, cond, _&&_, _||_, some, List, [], _∷_, _++_, ℕ, _-_}
+use Rattle.base.specs.Basics.{_<_, arith, T, leb, ltb, length, getD, lt-ltb, le-ltb, le-leb}
 use Rattle.book_parties.specs.Ids.{idAt}
 use Rattle.laws_sales.specs.Parties.{cutBefore}
 use Rattle.book_format.proofs.Passed.{length-usersOf}

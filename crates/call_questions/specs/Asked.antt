@@ -1,7 +1,5 @@
 -- The questions 9, 11 and 13 of a reduction, the one that refuses a user in each state, and the target where none does. Assumes nothing.
-use mathlib.Core.List.{List, [], _∷_}
-use mathlib.Core.Path.{_≡_}
-use Prim.Native.Nat.{ℕ}
+use Rattle.base.specs.Basics.{_≡_, List, [], _∷_, ℕ}
 use Rattle.rules.specs.Book.{Book, User}
 use Rattle.rules.specs.Calls.{assignedFallsShort, calledInBeyondMargin, isShipper}
 use Rattle.rules.specs.Day.{State, clear, short, call, quiet}

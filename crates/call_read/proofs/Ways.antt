@@ -1,10 +1,5 @@
 -- The operator reads what the questions of the book admit; who is not the operator reads nothing. Assumes nothing.
-use mathlib.Core.List.{List, []}
-use mathlib.Core.Path.{_≡_, _∙_, ap, refl, sym}
-use Prim.Native.Nat.{ℕ, _-_, suc, zero}
-use native.Mathlib.Omega.{arith}
-use lib.ListN.{length, replicate}
-use borrow.Author.Tests.{eq-eqb, ne-eqb}
+use Rattle.base.specs.Basics.{_≡_, _∙_, ap, refl, sym, List, [], ℕ, _-_, suc, zero, arith, length, replicate, eq-eqb, ne-eqb}
 use Rattle.book_format.proofs.Formed.{bytes-numbered}
 use Rattle.book_format.specs.After.{after}
 use Rattle.book_format.specs.Questions.{aboutBytes, bookNumber}

@@ -1,8 +1,5 @@
 -- Document 02, ask 9: a book read into an image by an acting party. "All else is the operator's": a shipper may have its own record, not the book. Assumes nothing.
-use mathlib.Core.List.{List}
-use mathlib.Core.Path.{_≡_}
-use Prim.Native.Nat.{ℕ}
-use lib.ListN.{replicate}
+use Rattle.base.specs.Basics.{_≡_, List, ℕ, replicate}
 use Rattle.book_image.specs.Image.{imageOf, imageSize}
 use Rattle.book_format.specs.After.{after}
 use Rattle.rights.specs.Acting.{enteringNumber}

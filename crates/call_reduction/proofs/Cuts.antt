@@ -1,13 +1,6 @@
 -- The cuts of the user's own sales, taken off in the bytes, give the rules' book. Assumes nothing.
-use mathlib.Core.Bool.{Bool, true, false}
-use mathlib.Core.List.{List, map}
-use mathlib.Core.Option.{none, some}
-use mathlib.Core.Path.{_≡_, refl, sym, ap, ap₂, subst, _∙_}
-use Prim.Native.Nat.{ℕ, _+_, _-_, _<_}
-use native.Mathlib.Omega.{arith}
-use lib.Dec.{ltb}
-use lib.ListN.{length, getD}
-use lib.Seq.{sets}
+use Rattle.base.specs.Basics.{_≡_, refl, sym, ap, ap₂, subst, _∙_, Bool, true, false, none, some, List, map, ℕ, _+_, _-_, _<_, arith, ltb, length}
+use Rattle.base.specs.Basics.{getD, sets}
 use Rattle.cut_apply.proofs.Own.{cuttable-part, cuttable-real, own-lowered, real-lowered}
 use Rattle.cut_apply.specs.Cutting.{CuttablePart, loweredAt}
 use Rattle.cut_lists.proofs.Own.{own-inside, own-origins}

@@ -1,14 +1,6 @@
 -- The entry of a reduction in a lent log: the cuts of the user's own sales at the places of their trades are what each trade of the book loses; and the call with it. Assumes nothing.
-use mathlib.Core.Bool.{Bool, true, false}
-use mathlib.Core.List.{List, [], _∷_, _++_, append-nil}
-use mathlib.Core.Option.{Option, none, some}
-use mathlib.Core.Path.{_≡_, refl, sym, ap, subst, _∙_}
-use Prim.Native.Nat.{ℕ, zero, suc, _+_, _-_, _≤_}
-use native.Mathlib.Omega.{arith}
-use lib.Dec.{T, ltb, ltb→lt}
-use lib.ListN.{length, getD}
-use lib.Seq.{sets}
-use borrow.Author.Tests.{ltb-true}
+use Rattle.base.specs.Basics.{_≡_, refl, sym, ap, subst, _∙_, Bool, true, false, Option, none, some, List, [], _∷_, _++_, append-nil, ℕ, zero, suc}
+use Rattle.base.specs.Basics.{_+_, _-_, _≤_, arith, T, ltb, ltb→lt, length, getD, sets, ltb-true}
 use Rattle.base.proofs.Tests.{all-append}
 use Rattle.base.specs.Lists.{all}
 use Rattle.book_format.proofs.Passed.{length-tradesOf}

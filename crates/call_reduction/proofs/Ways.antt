@@ -1,11 +1,5 @@
 -- The ways out of a reduction: refused by the entry, by a question of its own, by a log that is full, or done. Assumes nothing.
-use mathlib.Core.Bool.{Bool, true, false}
-use mathlib.Core.List.{List, _∷_, _++_}
-use mathlib.Core.Option.{none, some}
-use mathlib.Core.Path.{_≡_, refl, sym, ap, subst, _∙_}
-use Prim.Native.Nat.{ℕ}
-use lib.Dec.{T}
-use lib.ListN.{getD}
+use Rattle.base.specs.Basics.{_≡_, refl, sym, ap, subst, _∙_, Bool, true, false, none, some, List, _∷_, _++_, ℕ, T, getD}
 use Rattle.rules.specs.Book.{User, find, nobody}
 use Rattle.rules.specs.Levels.{Limits}
 use Rattle.rules.specs.Questions.{Question, refusal, decided}

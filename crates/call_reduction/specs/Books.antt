@@ -1,8 +1,5 @@
 -- A user of a book in bytes that is reduced for an amount. Assumes nothing.
-use mathlib.Core.List.{List}
-use mathlib.Core.Path.{_≡_}
-use Prim.Native.Nat.{ℕ, _<_}
-use lib.ListN.{length}
+use Rattle.base.specs.Basics.{_≡_, List, ℕ, _<_, length}
 use Rattle.book_format.specs.Book.{userCount}
 use Rattle.book_parties.specs.Ids.{BookIn}
 use Rattle.risk_bearers.specs.Bearers.{usersIn}

@@ -1,8 +1,5 @@
 -- The call of the rules that the function `reduction` is, and its questions past the user's id with what they leave. Those of a log come last. Assumes nothing.
-use mathlib.Core.Bool.{Bool, cond}
-use mathlib.Core.List.{List, [], _∷_, _++_}
-use mathlib.Core.Path.{_≡_}
-use Prim.Native.Nat.{ℕ}
+use Rattle.base.specs.Basics.{_≡_, Bool, cond, List, [], _∷_, _++_, ℕ}
 use Rattle.rules.specs.Book.{User}
 use Rattle.rules.specs.Questions.{Question, decided, refusal}
 use Rattle.rules.specs.Levels.{Limits}

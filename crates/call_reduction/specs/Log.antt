@@ -1,8 +1,5 @@
 -- A reduction with a lent log, given or not. Assumes nothing.
-use mathlib.Core.Bool.{Bool, true, false, cond}
-use mathlib.Core.List.{List, _∷_}
-use mathlib.Core.Path.{_≡_}
-use Prim.Native.Nat.{ℕ}
+use Rattle.base.specs.Basics.{_≡_, Bool, true, false, cond, List, _∷_, ℕ}
 use Rattle.book_format.specs.After.{CalledAfter, after}
 use Rattle.log_format.specs.Log.{entriesOf, logBytes}
 use Rattle.requests.specs.Logged.{GivesLogged}

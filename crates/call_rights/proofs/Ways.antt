@@ -1,10 +1,5 @@
 -- Whether the user of an id is a shipper of the book, and the number of question 26 by what the code compares. Assumes nothing.
-use mathlib.Core.Bool.{Bool, true, false, cond}
-use mathlib.Core.List.{List}
-use mathlib.Core.Path.{_≡_, _∙_, ap, refl, sym}
-use Prim.Native.Nat.{ℕ, suc, zero, _≤_}
-use lib.Dec.{eqb}
-use borrow.Author.Tests.{eq-eqb, ne-eqb}
+use Rattle.base.specs.Basics.{_≡_, _∙_, ap, refl, sym, Bool, true, false, cond, List, ℕ, suc, zero, _≤_, eqb, getD, eq-eqb, ne-eqb}
 use Rattle.base.proofs.Tests.{by-case}
 use Rattle.book_format.proofs.OneUser.{find-place, known-place, unknown-place}
 use Rattle.book_format.specs.After.{after}
@@ -12,14 +7,13 @@ use Rattle.book_format.specs.Book.{bookOf, userCount, usersOf}
 use Rattle.book_format.specs.Questions.{bookNumber}
 use Rattle.book_format.specs.Steps.{placeOf}
 use Rattle.call_entry.specs.Entered.{Found}
-use lib.ListN.{getD}
 use Rattle.book_records.specs.User.{alone, asUser}
 use Rattle.book_records.specs.declared.User as code
 use Rattle.rules.specs.Book.{User, find, nobody}
 use Rattle.rules.specs.Levels.{shipper}
 use Rattle.rules.specs.Questions.{known}
 use Rattle.rights.specs.Acting.{enteringNumber}
-use Rattle.rights.specs.Party.{partyOf, isShipperIn, matterBy, mayDo, operator, own, rightNumber}
+use Rattle.rights.specs.Party.{partyOf, isShipperIn, matterBy, mayDo, rightNumber}
 
 -- ---- a shipper of the book
 

@@ -1,11 +1,5 @@
 -- Questions 8 and 9 after the opening questions, and what is told by their number. Assumes nothing.
-use mathlib.Core.List.{List, [], _∷_}
-use mathlib.Core.Option.{Option, none, some}
-use mathlib.Core.Path.{_≡_, _∙_, ap, refl, sym}
-use Prim.Native.Nat.{ℕ, suc, zero, _<_}
-use native.Mathlib.Omega.{arith}
-use lib.Dec.{ltb, ltb→lt}
-use borrow.Author.Tests.{eq-eqb, ne-eqb}
+use Rattle.base.specs.Basics.{_≡_, _∙_, ap, refl, sym, Option, none, some, List, [], _∷_, ℕ, suc, zero, _<_, arith, ltb, ltb→lt, eq-eqb, ne-eqb}
 use Rattle.base.specs.Lists.{all}
 use Rattle.laws.proofs.Refusals.{numbered, refusal-is}
 use Rattle.book_format.proofs.OneUser.{known-place}

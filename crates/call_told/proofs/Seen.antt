@@ -1,15 +1,7 @@
 -- The trades that a party may see, counted and looked for by ordinal, one trade after the other. Assumes nothing.
-use mathlib.Core.Bool.{Bool, true, false, cond, _&&_, _||_}
-use mathlib.Core.List.{List, [], _∷_, map}
-use mathlib.Core.Path.{_≡_, _∙_, ap, ap₂, refl, sym, subst}
-use Prim.Native.Nat.{ℕ, suc, zero, _+_, _*_, _-_, _<_, _≤_}
-use native.Mathlib.Nat.{not-suc-le-zero, le-of-suc-le-suc}
-use native.Mathlib.Numerals.{add-one}
-use native.Mathlib.Omega.{arith}
-use lib.Dec.{T, eqb, ltb, ltb→lt}
-use borrow.Author.Tests.{le-ltb, lt-ltb}
-use lib.ListN.{List·getD-eq-default, List·getD-map, drop, getD, length, length-map, take}
-use lib.Seq.{drop-drop, getD-take}
+use Rattle.base.specs.Basics.{_≡_, _∙_, ap, ap₂, refl, sym, subst, Bool, true, false, cond, _&&_, _||_, List, [], _∷_, map, ℕ, suc, zero, _+_, _*_}
+use Rattle.base.specs.Basics.{_-_, _<_, _≤_, add-one, not-suc-le-zero, le-of-suc-le-suc, arith, T, eqb, ltb, ltb→lt, List·getD-eq-default}
+use Rattle.base.specs.Basics.{List·getD-map, drop, getD, length, length-map, take, drop-drop, getD-take, le-ltb, lt-ltb}
 use Rattle.fields.proofs.Records.{getD-recordsOf, length-recordsOf}
 use Rattle.base.proofs.Fronts.{all-at, getD-inside}
 use Rattle.laws.proofs.Positions.{buyer-known, seller-known}

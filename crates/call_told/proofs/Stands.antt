@@ -1,12 +1,6 @@
 -- A user whose record is read: is it of an id, or its risk borne by who is? Assumes nothing.
-use mathlib.Core.Bool.{Bool, true, false, cond, _||_}
-use mathlib.Core.List.{List}
-use mathlib.Core.Path.{_≡_, _∙_, ap, refl, sym}
-use Prim.Native.Nat.{ℕ, zero, suc, _+_, _<_}
-use native.Mathlib.Omega.{arith}
-use lib.Dec.{eqb}
-use lib.ListN.{drop, getD, length-take, take}
-use borrow.Author.Tests.{eq-eqb, eqb-true, ne-eqb}
+use Rattle.base.specs.Basics.{_≡_, _∙_, ap, refl, sym, Bool, true, false, cond, _||_, List, ℕ, zero, suc, _+_, _<_, arith, eqb, drop, getD}
+use Rattle.base.specs.Basics.{length-take, take, eq-eqb, eqb-true, ne-eqb}
 use Rattle.fields.proofs.Field.{field-part}
 use Rattle.fields.specs.Field.{field}
 use Rattle.book_format.proofs.Offsets.{user-plain, user-range}

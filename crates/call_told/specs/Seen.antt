@@ -1,9 +1,5 @@
 -- A trade that a party may see, by the places of its seller and its buyer. Assumes nothing.
-use mathlib.Core.Bool.{Bool, _||_}
-use mathlib.Core.List.{List}
-use Prim.Native.Nat.{ℕ}
-use lib.Dec.{eqb}
-use lib.ListN.{getD}
+use Rattle.base.specs.Basics.{Bool, _||_, List, ℕ, eqb, getD}
 use Rattle.rules.specs.Book.{Trade, User, nobody}
 use Rattle.rules.specs.Bearers.{bearer}
 

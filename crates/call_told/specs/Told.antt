@@ -1,8 +1,5 @@
 -- The answers of the flag and of the count of trades, and a trade by ordinal, after the opening questions, by their number. Assumes nothing.
-use mathlib.Core.Bool.{false}
-use mathlib.Core.List.{List, []}
-use mathlib.Core.Path.{_≡_}
-use Prim.Native.Nat.{ℕ, _+_}
+use Rattle.base.specs.Basics.{_≡_, false, List, [], ℕ, _+_}
 use Rattle.book_format.specs.After.{after}
 use Rattle.book_format.specs.Book.{bookOf}
 use Rattle.call_entry.specs.Entered.{Found}

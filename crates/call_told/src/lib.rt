@@ -86,7 +86,7 @@ fn stands_for(book: &[u8], place: usize, area: u8, id: u32) -> bool
     if !book_format::has_managers(book_format::version(book)) {
         return false;
     }
-    fields::get_u32(book, a + (56 + 4 * (area as usize))) == id
+    fields::get_u32(book, a + (book_records::MANAGERS + 4 * (area as usize))) == id
 }
 
 // 1 where the user of an id may see the trade at a place, whose parties stand at two places, else 0.
@@ -148,7 +148,7 @@ fn trade_offset(book: &[u8], place: usize) -> usize
     ensures { λ r. ⌜ (r ≡ tradesAt (now (book .entry)) + 20 * place) × (r + 20 ≤ length (now (book .entry))) ⌝ }
 {
     let n = book_format::user_count(book) as usize;
-    book_format::trades_offset(book, n) + 20 * place
+    book_format::trades_offset(book, n) + book_records::TRADE_SIZE * place
 }
 
 // ---- after the opening questions, whose number is given
@@ -228,5 +228,5 @@ pub fn trade<'a>(
         return &book[..0];
     }
     let a = trade_offset(book, place);
-    &book[a..a + 20]
+    &book[a..a + book_records::TRADE_SIZE]
 }

@@ -1,12 +1,6 @@
 -- A loop that fills the rows of the users from the first on, where the other places have none. Assumes nothing.
-use mathlib.Core.Bool.{Bool, false}
-use mathlib.Core.List.{List, [], _∷_, _++_, append-assoc, map}
-use mathlib.Core.Path.{_≡_, refl, sym, ap, _∙_}
-use Prim.Native.Nat.{ℕ, zero, suc, _+_, _-_, _<_, _≤_}
-use native.Mathlib.Numerals.{add-one}
-use native.Mathlib.Omega.{arith}
-use lib.ListN.{getD, length, length-map, replicate, set, take, List·getD-map}
-use lib.Seq.{length-take-le, set-at, take-all, take-suc}
+use Rattle.base.specs.Basics.{_≡_, refl, sym, ap, _∙_, Bool, false, List, [], _∷_, _++_, append-assoc, map, ℕ, zero, suc, _+_, _-_, _<_, _≤_, add-one}
+use Rattle.base.specs.Basics.{arith, getD, length, length-map, replicate, set, take, List·getD-map, length-take-le, set-at, take-all, take-suc}
 use Rattle.book_format.proofs.Passed.{length-usersOf, passed}
 use Rattle.book_format.specs.Book.{bookOf, userCount, usersOf}
 use Rattle.book_format.specs.Questions.{bookNumber}

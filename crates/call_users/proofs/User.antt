@@ -1,8 +1,5 @@
 -- A user of an accepted book: what its row is, of a clearing house and of a shipper; the rows of all, after the opening questions. Assumes nothing.
-use mathlib.Core.List.{List}
-use mathlib.Core.Path.{_≡_, refl}
-use Prim.Native.Nat.{ℕ, suc, zero, _<_}
-use borrow.Author.Tests.{eq-eqb, ne-eqb}
+use Rattle.base.specs.Basics.{_≡_, refl, List, ℕ, suc, zero, _<_, eq-eqb, ne-eqb}
 use Rattle.book_format.specs.Book.{bookOf, userCount}
 use Rattle.book_format.specs.Places.{UserIn}
 use Rattle.rules.specs.Book.{Book, User}

@@ -1,7 +1,5 @@
 -- The answer of the definitions that the code's answer is, and a book whose users are told of. Assumes nothing.
-use mathlib.Core.List.{List, map}
-use mathlib.Core.Path.{_≡_}
-use Prim.Native.Nat.{ℕ}
+use Rattle.base.specs.Basics.{_≡_, List, map, ℕ}
 use Rattle.book_format.specs.Held.{Accepted}
 use Rattle.book_format.specs.Questions.{bookNumber}
 use Rattle.risk_user.specs.States.{stateOf}

@@ -1,13 +1,6 @@
 -- What is kept of the selling tariffs and managers of a book, from its bytes. Assumes nothing.
-use mathlib.Core.Bool.{Bool, true, false, _&&_}
-use mathlib.Core.List.{List}
-use mathlib.Core.Path.{_≡_, refl, sym, ap, _∙_}
-use Prim.Native.Nat.{ℕ, zero, suc, _+_, _-_, _*_, _<_, _≤_}
-use native.Mathlib.Nat.{sub-zero}
-use native.Mathlib.Omega.{arith}
-use lib.Dec.{eqb}
-use lib.ListN.{length, take, drop, length-take}
-use lib.Seq.{drop-drop}
+use Rattle.base.specs.Basics.{_≡_, refl, sym, ap, _∙_, Bool, true, false, _&&_, List, ℕ, zero, suc, _+_, _-_, _*_, _<_, _≤_, sub-zero, arith, eqb}
+use Rattle.base.specs.Basics.{length, take, drop, length-take, drop-drop}
 use Rattle.base.specs.Lists.{all}
 use Rattle.fields.specs.Field.{field}
 use Rattle.fields.specs.Layout.{recordsOf}

@@ -1,12 +1,6 @@
 -- Header, users and trades of an accepted book as another version, from its bytes. Assumes nothing.
-use mathlib.Core.Bool.{false, cond, _&&_}
-use mathlib.Core.List.{List, [], _∷_, _++_, append-assoc, append-nil}
-use mathlib.Core.Path.{_≡_, refl, sym, ap, ap₂, _∙_}
-use Prim.Native.Nat.{ℕ, _+_, _*_}
-use native.Mathlib.Omega.{arith}
-use lib.Dec.{T, eqb, eqb→eq}
-use lib.ListN.{length, take, drop, replicate, length-append}
-use lib.Seq.{sets, drop-at, drop-drop, take-at}
+use Rattle.base.specs.Basics.{_≡_, refl, sym, ap, ap₂, _∙_, false, cond, _&&_, List, [], _∷_, _++_, append-assoc, append-nil, ℕ, _+_, _*_, arith, T}
+use Rattle.base.specs.Basics.{eqb, eqb→eq, length, take, drop, replicate, length-append, sets, drop-at, drop-drop, take-at}
 use Rattle.base.proofs.Tests.{and-l, and-r, by-case, fails, or-second}
 use Rattle.fields.specs.Field.{AllBytes, setField, toBytes}
 use Rattle.fields.specs.Layout.{Every, bytesOfRecords, pack, recordsOf, size}

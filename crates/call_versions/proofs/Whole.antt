@@ -1,10 +1,6 @@
 -- Header, users and trades of a converted book, written one after the other, are the whole. Assumes nothing.
-use mathlib.Core.List.{List, _++_, append-nil}
-use mathlib.Core.Path.{_≡_, sym, ap, _∙_}
-use Prim.Native.Nat.{ℕ, _+_, _-_, _*_, _≤_}
-use native.Mathlib.Omega.{arith}
-use lib.ListN.{length, take, drop, length-drop, drop-of-length-le}
-use lib.Seq.{sets, sets-eq, take-all, take-length}
+use Rattle.base.specs.Basics.{_≡_, sym, ap, _∙_, List, _++_, append-nil, ℕ, _+_, _-_, _*_, _≤_, arith, length, take, drop, length-drop}
+use Rattle.base.specs.Basics.{drop-of-length-le, sets, sets-eq, take-all, take-length}
 use borrow.Rule.Slice.PartMut.{putMid}
 use Rattle.fields.specs.Field.{AllBytes, setField, toBytes}
 use Rattle.fields.specs.Layout.{bytesOfRecords, recordsOf}

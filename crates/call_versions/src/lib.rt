@@ -24,7 +24,8 @@ fn tariffs_kept(s: &[u8], version: u16) -> bool
     if !book_format::has_selling(book_format::version(s)) {
         return true;
     }
-    (fields::get_u32(s, 32) == 0) & (fields::get_u32(s, 36) == 0)
+    (fields::get_u32(s, book_records::SELLING_S) == 0)
+        & (fields::get_u32(s, book_records::SELLING_U) == 0)
 }
 
 // Is none of the n users managed, in records of 68 bytes that stand from `at` on?
@@ -35,13 +36,13 @@ fn unmanaged(s: &[u8], at: usize, n: usize) -> bool
     let mut i = 0;
     let mut a = at;
     while i < n {
-        let pvb = fields::get_u32(s, a + 56);
-        let tvb = fields::get_u32(s, a + 60);
-        let avb = fields::get_u32(s, a + 64);
+        let pvb = fields::get_u32(s, a + book_records::MANAGERS);
+        let tvb = fields::get_u32(s, a + book_records::MANAGER_TVB);
+        let avb = fields::get_u32(s, a + book_records::MANAGER_AVB);
         if !((pvb == 0) & ((tvb == 0) & (avb == 0))) {
             return false;
         }
-        a += 68;
+        a += book_records::MANAGED_SIZE;
         i += 1;
     }
     true
@@ -93,7 +94,7 @@ pub fn convert(s: &[u8], version: u16, out: &mut [u8])
     let to = book_format::header_size(version);
     let new_size = book_format::user_size(version);
     book_image::fit_records(s, 0, 1, from, out, 0, to);
-    fields::put_u16(out, 3, version);
+    fields::put_u16(out, book_records::VERSION, version);
     book_image::fit_records(s, from, n, size, out, to, new_size);
     copy_rest(s, from + size * n, out, to + new_size * n);
 }

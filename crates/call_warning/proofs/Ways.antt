@@ -1,12 +1,5 @@
 -- The ways out of a warning, of a trade that warns, and of a flagged shipper. Assumes nothing.
-use mathlib.Core.Bool.{Bool, true, false, _&&_}
-use mathlib.Core.List.{List, [], _∷_}
-use mathlib.Core.Path.{_≡_, refl, sym, ap, subst, _∙_}
-use Prim.Native.Nat.{ℕ, _≤_, _<_}
-use native.Mathlib.Omega.{arith}
-use lib.Dec.{T}
-use lib.ListN.{getD}
-use borrow.Author.Tests.{eq-eqb, le-ltb, lt-ltb, ne-eqb}
+use Rattle.base.specs.Basics.{_≡_, refl, sym, ap, subst, _∙_, true, false, List, [], _∷_, ℕ, _≤_, _<_, arith, T, getD, eq-eqb, le-ltb, lt-ltb, ne-eqb}
 use Rattle.base.proofs.Linear.{by-order}
 use Rattle.base.specs.Lists.{any}
 use Rattle.rules.specs.Areas.{managersIn}

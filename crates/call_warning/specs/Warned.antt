@@ -1,9 +1,5 @@
 -- Who is warned, by the user's id. Assumes nothing.
-use mathlib.Core.Bool.{Bool, _&&_}
-use mathlib.Core.List.{List}
-use mathlib.Core.Path.{_≡_}
-use Prim.Native.Nat.{ℕ}
-use lib.Dec.{eqb}
+use Rattle.base.specs.Basics.{_≡_, Bool, _&&_, List, ℕ, eqb}
 use Rattle.rules.specs.Book.{Book, User, Trade}
 use Rattle.rules.specs.Levels.{Limits, shipper, flagged}
 use Rattle.rules.specs.Queries.{Query, warning, warns}

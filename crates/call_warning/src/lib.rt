@@ -77,11 +77,11 @@ fn any_warns(book: &[u8], prices: Prices, id: u32, limits: Limits) -> bool
     let mut i = 0;
     let mut a = at;
     while i < m {
-        let t = book_records::read_trade(&book[a..a + 20]);
+        let t = book_records::read_trade(&book[a..a + book_records::TRADE_SIZE]);
         if warns_buyer(book, prices, t, id, limits) {
             return true;
         }
-        a += 20;
+        a += book_records::TRADE_SIZE;
         i += 1;
     }
     false

@@ -1,9 +1,5 @@
 -- The converter by a party, and a party's calls on a converted book: users and trades are the same in every version, and so are rights. Assumes nothing.
-use mathlib.Core.Bool.{Bool, cond}
-use mathlib.Core.List.{List}
-use mathlib.Core.Option.{Option, none}
-use mathlib.Core.Path.{_≡_, _∙_, ap, ap₂, refl, sym}
-use Prim.Native.Nat.{ℕ, suc, zero}
+use Rattle.base.specs.Basics.{_≡_, _∙_, ap, ap₂, refl, sym, Bool, cond, Option, none, List, ℕ, suc, zero}
 use Rattle.rules.specs.Book.{Book}
 use Rattle.rules.specs.Queries.{Query}
 use Rattle.book_format.proofs.Passed.{passed}

@@ -1,9 +1,5 @@
 -- What an act without a log gives on a book as a version: the same answer and numbers, and the book as that version. Assumes nothing.
-use mathlib.Core.List.{List, [], _∷_, _++_}
-use mathlib.Core.Option.{Option, none, some}
-use mathlib.Core.Path.{_≡_, refl, subst, ap, ap₂, _∙_}
-use Prim.Native.Nat.{ℕ}
-use lib.IntN.{ℤ}
+use Rattle.base.specs.Basics.{_≡_, refl, subst, ap, ap₂, _∙_, Option, none, some, List, [], _∷_, _++_, ℕ, ℤ}
 use Rattle.rules.specs.Book.{Book}
 use Rattle.rules.specs.Calls.{Call, Result, about, effect, only, posting}
 use Rattle.rules.specs.Levels.{Limits}

@@ -1,9 +1,5 @@
 -- A book as another version: no rule but the questions of the header looks at the version, so what a call gives differs in the version of the book alone. Assumes nothing.
-use mathlib.Core.Bool.{cond, _&&_}
-use mathlib.Core.List.{List, [], _∷_}
-use mathlib.Core.Option.{Option, none, some}
-use mathlib.Core.Path.{_≡_, refl, ap, _∙_}
-use Prim.Native.Nat.{ℕ, zero, suc, _+_}
+use Rattle.base.specs.Basics.{_≡_, refl, ap, _∙_, cond, _&&_, Option, none, some, List, [], _∷_, ℕ, zero, suc, _+_}
 use Rattle.rules.specs.Bearers.{borne}
 use Rattle.rules.specs.Book.{Book, User}
 use Rattle.rules.specs.Calls.{Call, Result, about, afternoonCall, effect, morningCall, posting, reduction, run}

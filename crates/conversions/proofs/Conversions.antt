@@ -1,12 +1,6 @@
 -- A book in bytes as another version: it is accepted, back again it is the first bytes, and no call answers otherwise on it. Assumes nothing.
-use mathlib.Core.Bool.{false, true}
-use mathlib.Core.List.{List, [], _∷_, _++_}
-use mathlib.Core.Option.{Option, none, some}
-use mathlib.Core.Path.{_≡_, refl, subst, sym, ap, ap₂, _∙_}
-use Prim.Native.Nat.{ℕ, _<_, _≤_}
-use lib.Dec.{T, leb, le→leb}
-use lib.ListN.{length}
-use borrow.Author.Tests.{lt-leb}
+use Rattle.base.specs.Basics.{_≡_, refl, subst, sym, ap, ap₂, _∙_, false, true, Option, none, some, List, [], _∷_, _++_, ℕ, _<_, _≤_, T, leb, le→leb}
+use Rattle.base.specs.Basics.{length, lt-leb}
 use Rattle.fields.specs.Field.{AllBytes}
 use Rattle.rules.specs.Bearers.{borne}
 use Rattle.rules.specs.Book.{Book, find}

@@ -1,11 +1,5 @@
 -- An accepted book is accepted as a version to which nothing is lost; to its own version nothing is lost. Assumes nothing.
-use mathlib.Core.Bool.{Bool, true, false, _&&_, _||_}
-use mathlib.Core.List.{List}
-use mathlib.Core.Path.{_≡_, refl, subst}
-use Prim.Native.Nat.{ℕ, _≤_}
-use native.Mathlib.Omega.{arith}
-use borrow.Author.Tests.{eqb-true}
-use lib.Dec.{T, eqb, eqb→eq, leb, le→leb}
+use Rattle.base.specs.Basics.{_≡_, refl, subst, Bool, true, false, _&&_, _||_, List, ℕ, _≤_, arith, T, eqb, eqb→eq, leb, le→leb, eqb-true}
 use Rattle.base.proofs.Tests.{all-by, and-i, and-l, and-r, by-case, eqb-of, fails, holds, or-l, or-r, or-second}
 use Rattle.rules.specs.Areas.{Prices, managersIn, sellingIn}
 use Rattle.rules.specs.Book.{Book, User, managerIn}

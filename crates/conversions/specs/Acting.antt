@@ -1,8 +1,5 @@
 -- Document 02, asks 7 and 9: the converter by an acting party, which is the operator's, and what is claimed of it; a party's calls on a converted book. Assumes nothing.
-use mathlib.Core.List.{List}
-use mathlib.Core.Option.{Option, none}
-use mathlib.Core.Path.{_≡_}
-use Prim.Native.Nat.{ℕ}
+use Rattle.base.specs.Basics.{_≡_, Option, none, List, ℕ}
 use Rattle.rules.specs.Queries.{Query}
 use Rattle.book_format.specs.Questions.{bookNumber}
 use Rattle.outputs.specs.Output.{Output, refused}

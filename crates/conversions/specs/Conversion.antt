@@ -1,9 +1,5 @@
 -- Document 02, ask 7: "A converter writes any version as any version." Assumes nothing.
-use mathlib.Core.Bool.{Bool, _&&_, _||_}
-use mathlib.Core.List.{List, [], _∷_, _++_}
-use Prim.Native.Nat.{ℕ}
-use lib.Dec.{eqb, leb}
-use lib.ListN.{length}
+use Rattle.base.specs.Basics.{Bool, _&&_, _||_, List, [], _∷_, _++_, ℕ, eqb, leb, length}
 use Rattle.rules.specs.Areas.{Prices, managersIn, sellingIn}
 use Rattle.rules.specs.Book.{Book, User, managerIn}
 use Rattle.base.specs.Lists.{all}

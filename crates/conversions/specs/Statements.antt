@@ -1,12 +1,6 @@
 -- Document 02, ask 7: "Converting up and back gives the first bytes. Going from 1 to 2 or 3 no level, call, warning, reduction or run without a log may answer otherwise."
 -- Both hold of every version and every target to which no information is lost. Assumes nothing.
-use mathlib.Core.Bool.{false, true}
-use mathlib.Core.List.{List}
-use mathlib.Core.Option.{Option, none, some}
-use mathlib.Core.Path.{_≡_}
-use Prim.Native.Nat.{ℕ, _<_, _≤_}
-use lib.Dec.{T}
-use lib.ListN.{length}
+use Rattle.base.specs.Basics.{_≡_, false, true, Option, none, some, List, ℕ, _<_, _≤_, T, length}
 use Rattle.rules.specs.Questions.{refusal, versionKnown}
 use Rattle.rules.specs.Queries.{Query}
 use Rattle.fields.specs.Field.{AllBytes}

@@ -1,13 +1,9 @@
 -- The loop over a part of the arrays, and what follows it: the noted trades are lowered as records. Assumes nothing.
-use mathlib.Core.List.{List}
-use mathlib.Core.Path.{_≡_, refl, sym, ap, ap₂, subst, _∙_}
-use Prim.Native.Nat.{ℕ, suc, _+_, _*_, _-_, _≤_, _<_}
-use native.Mathlib.Omega.{arith}
-use lib.ListN.{getD, length, length-replicate, replicate, take}
-use lib.Seq.{length-take-le}
+use Rattle.base.specs.Basics.{_≡_, refl, sym, ap, ap₂, subst, _∙_, List, ℕ, suc, _+_, _-_, _≤_, _<_, arith, getD, length, length-replicate, replicate}
+use Rattle.base.specs.Basics.{take, length-take-le}
 use Rattle.book_parties.specs.Ids.{BookIn}
 use Rattle.cut_records.specs.Places.{LoweredIn, PlacesIn}
-use Rattle.book_format.specs.Book.{bookOf, tradeCount, tradesAt, tradesOf}
+use Rattle.book_format.specs.Book.{bookOf, tradesAt, tradesOf}
 use Rattle.book_format.proofs.Held.{held-itself, held-tradeCount, held-trades, held-begin}
 use Rattle.book_format.specs.Held.{HeldAs, tradesReplaced}
 use Rattle.rules.specs.Book.{Book, Trade}

@@ -1,13 +1,6 @@
 -- How many cuts are not 0: of the first one and the rest, of a part of an array that is walked, and of none. Assumes nothing.
-use mathlib.Core.Bool.{cond}
-use mathlib.Core.List.{List, [], _∷_}
-use mathlib.Core.Path.{_≡_, ap}
-use Prim.Native.Nat.{ℕ, suc, _+_, _≤_, _<_, min}
-use native.Mathlib.Omega.{arith}
-use lib.Dec.{ltb}
-use lib.ListN.{drop, drop-of-length-le, getD, length}
-use lib.Seq.{drop-cons}
-use borrow.Author.Tests.{ltb-false, ltb-true}
+use Rattle.base.specs.Basics.{_≡_, ap, cond, List, [], _∷_, ℕ, suc, _+_, _≤_, _<_, min, arith, ltb, drop, drop-of-length-le, getD, length, drop-cons}
+use Rattle.base.specs.Basics.{ltb-false, ltb-true}
 use Rattle.base.proofs.Tests.{by-case}
 use Rattle.laws_sales.proofs.Parts.{part-first, part-none}
 use Rattle.laws_sales.specs.Parts.{part}

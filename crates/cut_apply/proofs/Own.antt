@@ -1,18 +1,12 @@
 -- The own sales that are listed can be cut where they stand: of one user they become those of a reduction, of all users those of a later book. Assumes nothing.
-use mathlib.Core.Bool.{Bool, true, false, cond, _&&_}
-use mathlib.Core.List.{List, [], _∷_, map, map-map}
-use mathlib.Core.Path.{_≡_, refl, sym, ap, ap₂, fun-ext, subst, _∙_}
-use Prim.Native.Nat.{ℕ, zero, suc, _+_, _-_, _≤_, _<_}
-use native.Mathlib.Nat.{sub-zero}
-use native.Mathlib.Omega.{arith}
-use lib.Dec.{T, eqb}
-use lib.ListN.{getD, length, length-map, set, take, List·getD-map}
-use lib.Seq.{ext-getD, getD-take, set-getD}
+use Rattle.base.specs.Basics.{_≡_, refl, sym, ap, ap₂, fun-ext, subst, _∙_, Bool, true, false, cond, _&&_, List, [], _∷_, map, map-map, ℕ, zero, suc}
+use Rattle.base.specs.Basics.{_+_, _-_, _≤_, _<_, sub-zero, arith, T, eqb, getD, length, length-map, set, take, List·getD-map, ext-getD, getD-take}
+use Rattle.base.specs.Basics.{set-getD}
 use Rattle.cut_lists.proofs.Own.{count-is, count-room, sales-stay}
 use Rattle.cut_lists.specs.Sales.{SalesOf, StandingOf}
 use Rattle.laws.specs.Trades.{Framed, Pairwise, ended, then}
 use Rattle.base.proofs.Fronts.{getD-inside}
-use Rattle.base.proofs.Tests.{and-i, and-l, and-r}
+use Rattle.base.proofs.Tests.{and-l}
 use Rattle.base.specs.Lists.{all}
 use Rattle.laws_sales.specs.Borne.{borneBook, borneTrade, borneValid, shut}
 use Rattle.rules.specs.Bearers.{asBorne}

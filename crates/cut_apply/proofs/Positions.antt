@@ -1,11 +1,6 @@
 -- A user's position in an area: four bytes of the book, and with these set the bytes hold the book with that user moved. Assumes nothing.
-use mathlib.Core.List.{List}
-use mathlib.Core.Path.{_≡_, refl, sym, ap, ap₂, subst⁻¹, _∙_}
-use Prim.Native.Nat.{ℕ, zero, suc, _+_, _*_, _≤_, _<_, _^_}
-use native.Mathlib.Omega.{arith}
-use lib.IntN.{ℤ, pos, negℤ, _+ℤ_}
-use lib.ListN.{length, getD}
-use lib.Seq.{sets}
+use Rattle.base.specs.Basics.{_≡_, refl, ap, ap₂, subst⁻¹, _∙_, List, ℕ, zero, suc, _+_, _*_, _≤_, _<_, _^_, arith, ℤ, pos, negℤ, _+ℤ_, length, getD}
+use Rattle.base.specs.Basics.{sets}
 use Rattle.fields.proofs.Field.{field-lt, length-toBytes}
 use Rattle.fields.specs.Field.{field, setField, toBytes}
 use Rattle.fields.specs.Layout.{size}

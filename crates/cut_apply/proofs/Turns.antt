@@ -1,14 +1,7 @@
 -- The loop that moves the positions of the parties of sales, one sale after the other: the positions are those of the book whose trades are lowered so far. Assumes nothing.
-use mathlib.Core.List.{List, [], _∷_, map}
-use mathlib.Core.Path.{_≡_, refl, sym, ap, ap₂, subst, _∙_}
-use Prim.Native.Nat.{ℕ, zero, suc, _+_, _*_, _≤_, _<_}
-use native.Mathlib.Nat.{le-of-suc-le-suc, not-suc-le-zero}
-use native.Mathlib.Numerals.{add-one}
-use native.Mathlib.Omega.{arith}
-use lib.Dec.{T, ltb}
-use lib.ListN.{drop, getD, length, length-set, set, take}
-use lib.Seq.{length-take-le, take-all, take-suc-set}
-use borrow.Author.Tests.{eq-eqb, eqb-true, ltb-false, ltb-true}
+use Rattle.base.specs.Basics.{_≡_, refl, sym, ap, ap₂, subst, _∙_, List, [], _∷_, map, ℕ, zero, suc, _+_, _≤_, _<_, add-one, le-of-suc-le-suc}
+use Rattle.base.specs.Basics.{not-suc-le-zero, arith, T, ltb, drop, getD, length, length-set, set, take, length-take-le, take-all, take-suc-set}
+use Rattle.base.specs.Basics.{eq-eqb, eqb-true, ltb-false, ltb-true}
 use Rattle.base.proofs.Tests.{all-by, by-case}
 use Rattle.risk_bearers.proofs.Places.{party-is, party-within}
 use Rattle.book_parties.specs.Ids.{BookIn, PlacedOn, idAt}

@@ -1,10 +1,5 @@
 -- Trades of a book that are cut at their places. Assumes nothing.
-use mathlib.Core.Bool.{cond}
-use mathlib.Core.List.{List, [], _∷_, map}
-use mathlib.Core.Path.{_≡_}
-use Prim.Native.Nat.{ℕ, _+_, _≤_, _<_, min}
-use lib.Dec.{T, ltb}
-use lib.ListN.{getD, length, set}
+use Rattle.base.specs.Basics.{_≡_, cond, List, [], _∷_, map, ℕ, _+_, _≤_, _<_, min, T, ltb, getD, length, set}
 use Rattle.book_format.specs.Book.{bookOf, tradesOf, usersOf}
 use Rattle.book_format.specs.Held.{HeldAs}
 use Rattle.book_format.specs.Places.{TradeIn}

@@ -1,9 +1,5 @@
 -- A flag for each user, by its place. Assumes nothing.
-use mathlib.Core.Bool.{Bool, false}
-use mathlib.Core.List.{List}
-use mathlib.Core.Path.{_≡_}
-use Prim.Native.Nat.{ℕ, _<_}
-use lib.ListN.{length, getD}
+use Rattle.base.specs.Basics.{_≡_, Bool, false, List, ℕ, _<_, length, getD}
 use Rattle.book_parties.specs.Ids.{idAt}
 use Rattle.laws_sales.specs.Parties.{cutBefore}
 use Rattle.rules.specs.Book.{Trade, User}

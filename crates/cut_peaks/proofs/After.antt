@@ -1,10 +1,5 @@
 -- What is kept of a seller is that of its sales after their cuts too. Assumes nothing.
-use mathlib.Core.Bool.{Bool, true, false, cond}
-use mathlib.Core.List.{List}
-use mathlib.Core.Path.{_≡_, sym, ap, _∙_}
-use Prim.Native.Nat.{ℕ, _+_, _-_, _≤_, _<_}
-use native.Mathlib.Omega.{arith}
-use lib.ListN.{length, getD, List·getD-eq-default}
+use Rattle.base.specs.Basics.{_≡_, sym, ap, _∙_, Bool, true, false, cond, List, ℕ, _+_, _-_, _≤_, _<_, arith, length, getD, List·getD-eq-default}
 use Rattle.base.proofs.Linear.{by-order}
 use Rattle.cut_peaks.proofs.Worths.{worth-less}
 use Rattle.cut_peaks.specs.Keeping.{Fits, KeptFor, shortOf, sweptTo, tierRates}

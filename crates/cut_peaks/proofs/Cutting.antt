@@ -1,10 +1,5 @@
 -- The highest sales from a place on are cut one by one: which are cut, and the place of the next. Assumes nothing.
-use mathlib.Core.List.{List}
-use mathlib.Core.Path.{_≡_, subst, _∙_}
-use Prim.Native.Nat.{ℕ, _+_, _≤_, _<_, max}
-use native.Mathlib.Omega.{arith}
-use lib.ListN.{length, getD, set, length-set}
-use lib.Seq.{getD-set-other, getD-set-same}
+use Rattle.base.specs.Basics.{_≡_, subst, _∙_, List, ℕ, _+_, _≤_, _<_, max, arith, length, getD, set, length-set, getD-set-other, getD-set-same}
 use Rattle.base.proofs.Linear.{by-order}
 use Rattle.cut_worth.specs.Rates.{Sales, rated}
 use Rattle.laws_sales.proofs.Ranges.{cond-le}

@@ -1,13 +1,6 @@
 -- What is kept of a seller is that of its sales; the cuts of its highest sales are those of both tiers. Assumes nothing.
-use mathlib.Core.Bool.{Bool, true, false, not, _||_}
-use mathlib.Core.List.{List}
-use mathlib.Core.Logic.{inl, inr}
-use mathlib.Core.Path.{_≡_, refl, sym, ap, subst, _∙_}
-use Prim.Native.Nat.{ℕ, zero, suc, _*_, _-_, _≤_, _<_}
-use native.Mathlib.Omega.{arith}
-use lib.Dec.{T, eqb}
-use lib.ListN.{length, getD}
-use lib.Seq.{ext-getD, length-sets, sets}
+use Rattle.base.specs.Basics.{_≡_, refl, sym, ap, subst, _∙_, inl, inr, Bool, true, false, not, _||_, List, ℕ, zero, suc, _*_, _-_, _≤_, _<_, arith}
+use Rattle.base.specs.Basics.{T, eqb, length, getD, ext-getD, length-sets, sets}
 use Rattle.base.proofs.Linear.{by-order}
 use Rattle.cut_shares.proofs.Cases.{tier-none}
 use Rattle.cut_shares.specs.Cuts.{added}

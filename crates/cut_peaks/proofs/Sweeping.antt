@@ -1,15 +1,7 @@
 -- One MWh of each of the highest sales, one after the other, as turns of a tier's shares: no share has a whole part, and the remainders stand in the order of the sales. Assumes nothing.
-use mathlib.Core.Bool.{false, _||_}
-use mathlib.Core.List.{List, [], _∷_, map}
-use mathlib.Core.Logic.{inl}
-use mathlib.Core.Path.{_≡_, refl, sym, ap, ap₂, _∙_}
-use Prim.Native.Nat.{ℕ, suc, _+_, _*_, _-_, _/_, _%_, _≤_, _<_}
-use native.Mathlib.Nat.{div-eq-of-lt, mod-eq-of-lt, mul-le-mul, mul-lt-mul-of-pos-right, zero-mul}
-use native.Mathlib.Omega.{arith}
-use borrow.Author.Tests.{ne-eqb}
-use lib.Dec.{eqb}
-use lib.ListN.{length, getD, set, length-map, List·getD-eq-default, List·getD-map}
-use lib.Seq.{getD-set-other, getD-set-same}
+use Rattle.base.specs.Basics.{_≡_, refl, sym, ap, ap₂, _∙_, inl, false, _||_, List, [], _∷_, map, ℕ, suc, _+_, _*_, _-_, _/_, _%_, _≤_, _<_}
+use Rattle.base.specs.Basics.{div-eq-of-lt, mod-eq-of-lt, mul-le-mul, mul-lt-mul-of-pos-right, zero-mul, arith, eqb, length, getD, set, length-map}
+use Rattle.base.specs.Basics.{List·getD-eq-default, List·getD-map, getD-set-other, getD-set-same, ne-eqb}
 use Rattle.base.proofs.Linear.{by-order}
 use Rattle.base.proofs.Stores.{here-or-apart}
 use Rattle.cut_peaks.proofs.Worths.{loss-worth, none-loss}

@@ -1,12 +1,6 @@
 -- The worth of cuts at the rates of a tier, and what a tier is worth after them. Assumes nothing.
-use mathlib.Core.Bool.{cond}
-use mathlib.Core.List.{List, [], _∷_}
-use mathlib.Core.Path.{_≡_, refl, sym, ap, _∙_}
-use Prim.Native.Nat.{ℕ, suc, _+_, _*_, _-_, _≤_}
-use native.Mathlib.Nat.{add-mul, zero-mul, mul-zero}
-use native.Mathlib.Omega.{arith}
-use lib.Dec.{ltb}
-use lib.ListN.{length, getD}
+use Rattle.base.specs.Basics.{_≡_, refl, sym, ap, _∙_, cond, List, [], _∷_, ℕ, suc, _+_, _*_, _-_, _≤_, add-mul, zero-mul, mul-zero, arith, ltb}
+use Rattle.base.specs.Basics.{length, getD}
 use Rattle.base.proofs.Linear.{by-order}
 use Rattle.base.specs.Sums.{sum}
 use Rattle.cut_shares.proofs.Ones.{counts-in}

@@ -1,10 +1,5 @@
 -- What is kept of a seller between two reductions, and the cuts of a reduction that are told by it. Assumes nothing.
-use mathlib.Core.Bool.{Bool, true, false}
-use mathlib.Core.List.{List, [], _∷_}
-use mathlib.Core.Path.{_≡_}
-use Prim.Native.Nat.{ℕ, _+_, _-_, _≤_, _<_}
-use lib.ListN.{length, getD}
-use lib.Seq.{sets}
+use Rattle.base.specs.Basics.{_≡_, Bool, true, false, List, [], _∷_, ℕ, _+_, _-_, _≤_, _<_, length, getD, sets}
 use Rattle.cut_tiers.specs.Tiers.{cutsOf, ratesFor, shortBy}
 use Rattle.cut_worth.specs.Rates.{lotsIn}
 use Rattle.laws_sales.specs.Parts.{part}

@@ -1,9 +1,5 @@
 -- The sales of a tier that stand highest, in a part of the sales: where they stand, and their cuts of one MWh each. Assumes nothing.
-use mathlib.Core.Bool.{Bool, cond, not}
-use mathlib.Core.List.{List}
-use mathlib.Core.Path.{_≡_}
-use Prim.Native.Nat.{ℕ, _+_, _*_, _≤_, _<_}
-use lib.ListN.{length, getD}
+use Rattle.base.specs.Basics.{_≡_, Bool, cond, not, List, ℕ, _+_, _*_, _≤_, _<_, length, getD}
 use Rattle.cut_worth.specs.Rates.{Sales, lotsIn, rated}
 use Rattle.laws_sales.specs.Parts.{part}
 use Rattle.rules.specs.Shares.{tierCuts, tierWorth}

@@ -1,13 +1,6 @@
 -- The search: what it gives is the first of the tried sets with the smallest excess; where it is complete, no other set has a smaller one; and more tries never give a larger one. Assumes nothing.
-use mathlib.Core.Bool.{Bool, true, false, not, cond, _&&_, _||_}
-use mathlib.Core.Logic.{_⊎_, inl, inr}
-use mathlib.Core.Path.{_≡_, refl, ap, sym, _∙_}
-use Prim.Native.Nat.{ℕ, zero, suc, _+_, _-_, _^_, _≤_, _<_}
-use native.Mathlib.Nat.{le-refl}
-use native.Mathlib.Omega.{arith}
-use lib.Dec.{T, eqb, eqb→eq, leb, ltb, leb→le, ltb→lt}
-use lib.ListN.{length}
-use borrow.Author.Tests.{eq-eqb, ne-eqb, eqb-true}
+use Rattle.base.specs.Basics.{_≡_, refl, ap, sym, _∙_, _⊎_, inl, inr, Bool, true, false, not, cond, _&&_, _||_, ℕ, zero, suc, _+_, _-_, _^_, _≤_, _<_}
+use Rattle.base.specs.Basics.{le-refl, arith, T, eqb, eqb→eq, leb, ltb, leb→le, ltb→lt, length, eq-eqb, ne-eqb, eqb-true}
 use Rattle.base.proofs.Linear.{by-order}
 use Rattle.base.proofs.Tests.{and-l, and-r, by-test}
 use Rattle.cut_sets.specs.Sets.{worthOf}

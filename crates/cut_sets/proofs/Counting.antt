@@ -1,13 +1,6 @@
 -- The count from below: counting down from all trades, the sets left out count up, and what is left of the search gives the whole. Assumes nothing.
-use mathlib.Core.Bool.{Bool, true, false, cond, _||_}
-use mathlib.Core.List.{List}
-use mathlib.Core.Logic.{_⊎_, inl, inr}
-use mathlib.Core.Path.{_≡_, refl, ap, sym, subst, _∙_}
-use Prim.Native.Nat.{ℕ, zero, suc, _+_, _*_, _-_, _^_, _/_, _%_, _≤_, _<_, min}
-use native.Mathlib.Omega.{arith}
-use lib.Dec.{eqb}
-use lib.ListN.{length, getD}
-use borrow.Author.Tests.{le-leb, lt-leb, le-ltb, lt-ltb, eq-eqb, ne-eqb}
+use Rattle.base.specs.Basics.{_≡_, refl, ap, sym, subst, _∙_, _⊎_, inl, inr, Bool, true, false, cond, _||_, List, ℕ, zero, suc, _+_, _*_, _-_, _^_}
+use Rattle.base.specs.Basics.{_/_, _%_, _≤_, _<_, min, arith, eqb, length, getD, le-leb, lt-leb, le-ltb, lt-ltb, eq-eqb, ne-eqb}
 use Rattle.base.specs.Sums.{sum}
 use Rattle.base.proofs.Linear.{by-order}
 use Rattle.cut_sets.specs.declared.Best.{Best}

@@ -1,8 +1,5 @@
 -- The definitions at small sets, computed. Assumes nothing.
-use mathlib.Core.Bool.{true, false}
-use mathlib.Core.List.{[], _∷_}
-use mathlib.Core.Path.{_≡_, refl}
-use lib.Dec.{ltb}
+use Rattle.base.specs.Basics.{_≡_, refl, true, false, [], _∷_, ltb}
 use Rattle.base.specs.Sums.{sum}
 use Rattle.cut_sets.specs.Sets.{marks, markedWorth, worthOf}
 use Rattle.cut_sets.specs.Search.{better, searched, wholeSearch}

@@ -1,12 +1,7 @@
 -- The worths of the eligible trades, gathered from the first trade on: each worth is stored where the next one goes, which moves on where the trade is eligible. Assumes nothing.
-use mathlib.Core.Bool.{Bool, true, false, cond}
-use mathlib.Core.List.{List, [], _∷_, _++_, append-nil}
-use mathlib.Core.Path.{_≡_, refl, sym, ap, subst, _∙_}
-use Prim.Native.Nat.{ℕ, zero, suc, _+_, _≤_, _<_}
-use native.Mathlib.Numerals.{add-one}
-use native.Mathlib.Omega.{arith}
-use lib.ListN.{length, take, getD, set, replicate, length-set, length-replicate}
-use lib.Seq.{getD-set-same, getD-set-other, take-all, take-set-le, take-suc, take-suc-set, length-take-le}
+use Rattle.base.specs.Basics.{_≡_, refl, sym, ap, subst, _∙_, Bool, true, false, cond, List, [], _∷_, _++_, append-nil, ℕ, zero, suc, _+_, _≤_, _<_}
+use Rattle.base.specs.Basics.{add-one, arith, length, take, getD, set, replicate, length-set, length-replicate, getD-set-same, getD-set-other}
+use Rattle.base.specs.Basics.{take-all, take-set-le, take-suc, take-suc-set, length-take-le}
 use Rattle.base.proofs.Linear.{by-order}
 use Rattle.cut_sets.specs.Found.{Given}
 use Rattle.cut_sets.specs.Places.{countOf, worthsOf}

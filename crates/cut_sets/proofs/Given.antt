@@ -1,10 +1,6 @@
 -- The worths given: their sums, and the worth of a set bit by bit. Assumes nothing.
-use mathlib.Core.List.{List, [], _∷_}
-use mathlib.Core.Path.{_≡_, ap, _∙_}
-use Prim.Native.Nat.{ℕ, zero, suc, _+_, _*_, _-_, _^_, _/_, _≤_, _<_}
-use native.Mathlib.Omega.{arith}
-use lib.ListN.{length, take, getD}
-use lib.Seq.{take-suc, length-take-le}
+use Rattle.base.specs.Basics.{_≡_, ap, _∙_, List, [], _∷_, ℕ, zero, suc, _+_, _*_, _-_, _^_, _/_, _≤_, _<_, arith, length, take, getD, take-suc}
+use Rattle.base.specs.Basics.{length-take-le}
 use Rattle.base.specs.Sums.{sum}
 use Rattle.base.proofs.Sums.{sum-take-suc}
 use Rattle.cut_sets.specs.Sets.{worthOf, lastWorth}

@@ -1,13 +1,7 @@
 -- The marks of a set by trade place, from the last trade on: a loop that marks all eligible trades but those left out. Assumes nothing.
-use mathlib.Core.Bool.{Bool, true, false, cond, _&&_}
-use mathlib.Core.List.{List, [], _∷_, _++_, append-assoc}
-use mathlib.Core.Path.{_≡_, sym, ap, ap₂, _∙_}
-use Prim.Native.Nat.{ℕ, zero, suc, _+_, _-_, _^_, _/_, _%_, _≤_, _<_}
-use native.Mathlib.Omega.{arith}
-use lib.Dec.{eqb, leb}
-use lib.ListN.{length, take, drop, getD, set, replicate, length-set, length-replicate}
-use lib.Seq.{drop-cons, drop-set-lt, getD-set-same, take-all, take-suc}
-use borrow.Author.Tests.{le-leb, lt-leb, eq-eqb, ne-eqb}
+use Rattle.base.specs.Basics.{_≡_, sym, ap, ap₂, _∙_, Bool, true, false, cond, _&&_, List, [], _∷_, _++_, append-assoc, ℕ, zero, suc, _+_, _-_, _^_}
+use Rattle.base.specs.Basics.{_/_, _%_, _≤_, _<_, arith, eqb, leb, length, take, drop, getD, set, replicate, length-set, length-replicate, drop-cons}
+use Rattle.base.specs.Basics.{drop-set-lt, getD-set-same, take-all, take-suc, le-leb, lt-leb, eq-eqb, ne-eqb}
 use Rattle.base.specs.Sums.{sum}
 use Rattle.base.proofs.Linear.{by-order}
 use Rattle.cut_sets.specs.Places.{countOf, marksAt}

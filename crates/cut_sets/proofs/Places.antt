@@ -1,12 +1,6 @@
 -- Sets of the eligible trades among all trades: their number, the worth of a set by trade place, and what is claimed of the search among them. Assumes nothing.
-use mathlib.Core.Bool.{Bool, true, false, cond}
-use mathlib.Core.List.{List, [], _∷_, map}
-use mathlib.Core.Path.{_≡_, refl, ap, sym, subst, fun-ext}
-use Prim.Native.Nat.{ℕ, _+_, _-_, _^_, _≤_, _<_}
-use native.Mathlib.Omega.{arith}
-use lib.Dec.{leb}
-use lib.ListN.{length}
-use borrow.Author.Tests.{le-leb, lt-leb}
+use Rattle.base.specs.Basics.{_≡_, refl, ap, sym, subst, fun-ext, Bool, true, false, cond, List, [], _∷_, map, ℕ, _+_, _-_, _^_, _≤_, _<_, arith, leb}
+use Rattle.base.specs.Basics.{length, le-leb, lt-leb}
 use Rattle.base.specs.Sums.{sum}
 use Rattle.base.proofs.Linear.{by-order}
 use Rattle.cut_sets.specs.Sets.{markedWorth, worthOf}

@@ -1,11 +1,6 @@
 -- Sets told by marks and the numbers that they are read as: each of the two gives the other, from the first trade on. Assumes nothing.
-use mathlib.Core.Bool.{Bool, true, false, not, cond, _||_}
-use mathlib.Core.List.{List, [], _∷_}
-use mathlib.Core.Path.{_≡_, refl, ap, _∙_}
-use Prim.Native.Nat.{ℕ, suc, _+_, _-_, _^_, _<_}
-use native.Mathlib.Omega.{arith}
-use lib.Dec.{T, leb}
-use borrow.Author.Tests.{le-leb, lt-leb}
+use Rattle.base.specs.Basics.{_≡_, refl, ap, _∙_, Bool, true, false, not, cond, _||_, List, [], _∷_, ℕ, suc, _+_, _-_, _^_, _<_, arith, T, leb}
+use Rattle.base.specs.Basics.{le-leb, lt-leb}
 use Rattle.base.specs.Sums.{sum}
 use Rattle.base.proofs.Linear.{by-order}
 use Rattle.base.proofs.Tests.{and-i, and-l, and-r, by-test}

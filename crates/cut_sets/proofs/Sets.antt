@@ -1,14 +1,7 @@
 -- Laws of sets as binary numbers: the worth of a set by its highest bit, of what it leaves out, by its high and its low eight bits, and by its lowest bit. Assumes nothing.
-use mathlib.Core.Bool.{cond}
-use mathlib.Core.List.{List, [], _∷_, _++_}
-use mathlib.Core.Path.{_≡_, refl, ap, _∙_}
-use Prim.Native.Nat.{ℕ, suc, _+_, _*_, _-_, _^_, _/_, _%_, _≤_, _<_}
-use native.Mathlib.Nat.{one-le-pow, two-pow-succ}
-use native.Mathlib.Omega.{arith}
-use lib.Dec.{eqb}
-use lib.ListN.{length, length-append}
+use Rattle.base.specs.Basics.{_≡_, refl, ap, _∙_, cond, List, [], _∷_, _++_, ℕ, suc, _+_, _*_, _-_, _^_, _/_, _%_, _≤_, _<_, one-le-pow, two-pow-succ}
+use Rattle.base.specs.Basics.{arith, eqb, length, length-append, le-leb, lt-leb, eq-eqb, ne-eqb}
 use lib.Pow.{pow-add, pow-mono}
-use borrow.Author.Tests.{le-leb, lt-leb, eq-eqb, ne-eqb}
 use Rattle.base.specs.Sums.{sum}
 use Rattle.base.proofs.Linear.{by-order}
 use Rattle.cut_sets.specs.Sets.{marks, markedWorth, worthOf, lastWorth}

@@ -1,11 +1,6 @@
 -- The loop that fills a table of the worths of sets. Assumes nothing.
-use mathlib.Core.List.{List}
-use mathlib.Core.Path.{_≡_, subst, _∙_}
-use Prim.Native.Nat.{ℕ, _+_, _*_, _^_, _≤_, _<_}
-use native.Mathlib.Nat.{add-mul, one-mul, mul-le-mul, mul-le-mul-right}
-use native.Mathlib.Omega.{arith}
-use lib.ListN.{length, getD, set, replicate, length-set, length-replicate}
-use lib.Seq.{getD-set-same, getD-set-other}
+use Rattle.base.specs.Basics.{_≡_, subst, _∙_, List, ℕ, _+_, _*_, _^_, _≤_, _<_, add-mul, one-mul, mul-le-mul, mul-le-mul-right, arith, length, getD}
+use Rattle.base.specs.Basics.{set, replicate, length-set, length-replicate, getD-set-same, getD-set-other}
 use Rattle.base.proofs.Linear.{by-order}
 use Rattle.cut_sets.specs.Found.{Table}
 

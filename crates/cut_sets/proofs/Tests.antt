@@ -1,11 +1,6 @@
 -- Laws of tests that the search goes by. Assumes nothing.
-use mathlib.Core.Bool.{Bool, true, false, not, cond, _&&_, _||_}
-use mathlib.Core.Logic.{_⊎_, inl, inr}
-use mathlib.Core.Path.{_≡_, refl, sym, _∙_}
-use Prim.Native.Nat.{ℕ, _-_, _≤_, _<_}
-use lib.Dec.{T, eqb, leb, ltb}
-use native.Mathlib.Omega.{arith}
-use borrow.Author.Tests.{eq-eqb, ne-eqb, le-leb, lt-ltb, leb-true}
+use Rattle.base.specs.Basics.{_≡_, refl, sym, _∙_, _⊎_, inl, inr, Bool, true, false, not, cond, _&&_, _||_, ℕ, _-_, _≤_, _<_, arith, T, eqb, leb, ltb}
+use Rattle.base.specs.Basics.{eq-eqb, ne-eqb, le-leb, lt-ltb, leb-true}
 use Rattle.base.proofs.Linear.{by-order}
 use Rattle.cut_sets.specs.Found.{smaller}
 

@@ -1,11 +1,5 @@
 -- Document 02, ask 8: what is claimed of a search. Assumes nothing.
-use mathlib.Core.Bool.{Bool, true, _||_}
-use mathlib.Core.List.{List}
-use mathlib.Core.Logic.{_⊎_}
-use mathlib.Core.Path.{_≡_}
-use Prim.Native.Nat.{ℕ, _+_, _-_, _^_, _≤_, _<_}
-use lib.Dec.{T, eqb}
-use lib.ListN.{length}
+use Rattle.base.specs.Basics.{_≡_, _⊎_, Bool, true, _||_, List, ℕ, _+_, _-_, _^_, _≤_, _<_, T, eqb, length}
 use Rattle.base.specs.Sums.{sum}
 use Rattle.cut_sets.specs.Sets.{worthOf}
 use Rattle.cut_sets.specs.Search.{Search, wholeSearch}

@@ -1,10 +1,5 @@
 -- The count from below: counting down from all trades, the sets left out count up, and what is left of the search gives the whole. Assumes nothing.
-use mathlib.Core.Bool.{true, false}
-use mathlib.Core.List.{List}
-use mathlib.Core.Logic.{_⊎_}
-use mathlib.Core.Path.{_≡_}
-use Prim.Native.Nat.{ℕ, _+_, _-_, _^_, _%_, _≤_, _<_}
-use lib.ListN.{length, getD}
+use Rattle.base.specs.Basics.{_≡_, _⊎_, true, false, List, ℕ, _+_, _-_, _^_, _%_, _≤_, _<_, length, getD}
 use Rattle.base.specs.Sums.{sum}
 use Rattle.cut_sets.specs.declared.Best.{Best}
 use Rattle.cut_sets.specs.Sets.{worthOf}

@@ -1,10 +1,5 @@
 -- The answer of the code, told in the words of the search. Assumes nothing.
-use mathlib.Core.Bool.{Bool, cond, _&&_, _||_}
-use mathlib.Core.List.{List}
-use mathlib.Core.Path.{_≡_}
-use Prim.Native.Nat.{ℕ, _+_, _*_, _-_, _^_, _≤_, _<_}
-use lib.Dec.{eqb, leb, ltb}
-use lib.ListN.{length, take, getD}
+use Rattle.base.specs.Basics.{_≡_, Bool, _&&_, _||_, List, ℕ, _+_, _*_, _-_, _^_, _≤_, _<_, eqb, leb, ltb, length, take, getD}
 use Rattle.base.specs.Sums.{sum}
 use Rattle.cut_sets.specs.declared.Found.{Found}
 use Rattle.cut_sets.specs.declared.Best.{Best}

@@ -1,8 +1,5 @@
 -- Document 02, ask 8: "a set of whole eligible trades" among all trades, by trade place, and the search among these sets. Assumes nothing.
-use mathlib.Core.Bool.{Bool, true, false, not, cond, _&&_, _||_}
-use mathlib.Core.List.{List, [], _∷_, map}
-use Prim.Native.Nat.{ℕ, _+_, _-_, _^_}
-use lib.Dec.{leb}
+use Rattle.base.specs.Basics.{Bool, true, false, not, cond, _&&_, _||_, List, [], _∷_, map, ℕ, _+_, _-_, _^_, leb}
 use Rattle.base.specs.Sums.{sum}
 use Rattle.cut_sets.specs.Sets.{markedWorth}
 use Rattle.cut_sets.specs.Search.{Search, searched}

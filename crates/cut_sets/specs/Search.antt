@@ -1,10 +1,6 @@
 -- Document 02, ask 8: "sets are tried counting down from all trades to the empty set, that one too, until the tries are spent,
 -- an excess of 0 is met or none is left." Assumes nothing.
-use mathlib.Core.Bool.{Bool, true, cond, _&&_}
-use mathlib.Core.List.{List}
-use Prim.Native.Nat.{ℕ, zero, suc, _-_, _^_}
-use lib.Dec.{eqb, leb, ltb}
-use lib.ListN.{length}
+use Rattle.base.specs.Basics.{Bool, true, cond, _&&_, List, ℕ, zero, suc, _-_, _^_, eqb, leb, ltb, length}
 use Rattle.cut_sets.specs.Sets.{worthOf}
 
 -- a set that reaches the target, and what it exceeds it by

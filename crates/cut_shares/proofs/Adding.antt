@@ -1,10 +1,5 @@
 -- Cuts of a tier added to those of a part of the sales, in a loop over the part: a sale of the tier has none yet. Assumes nothing.
-use mathlib.Core.List.{List}
-use mathlib.Core.Path.{_≡_, sym, ap, _∙_}
-use Prim.Native.Nat.{ℕ, _+_, _*_, _-_, _≤_, _<_}
-use native.Mathlib.Nat.{zero-mul, mul-zero}
-use native.Mathlib.Omega.{arith}
-use lib.ListN.{length, getD, set, List·getD-eq-default}
+use Rattle.base.specs.Basics.{_≡_, sym, ap, _∙_, List, ℕ, _+_, _*_, _-_, _≤_, _<_, zero-mul, mul-zero, arith, length, getD, set, List·getD-eq-default}
 use Rattle.cut_shares.proofs.Lifted.{together-length, together-at, Worthless}
 use Rattle.cut_shares.specs.Cuts.{Untouched, added}
 use Rattle.laws_sales.proofs.Parts.{part-length, part-at, part-here}

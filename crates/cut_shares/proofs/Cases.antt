@@ -1,12 +1,6 @@
 -- The cuts of a tier of a part of the sales by cases, each added to the cuts that were there before. Assumes nothing.
-use mathlib.Core.Bool.{true, false, _||_}
-use mathlib.Core.List.{List, [], _∷_, map}
-use mathlib.Core.Path.{_≡_, refl, sym, ap, subst, _∙_}
-use Prim.Native.Nat.{ℕ, _-_, _≤_, _<_}
-use native.Mathlib.Omega.{arith}
-use lib.Dec.{eqb}
-use lib.ListN.{length, length-map}
-use lib.Seq.{sets}
+use Rattle.base.specs.Basics.{_≡_, refl, sym, ap, subst, _∙_, true, false, _||_, List, [], _∷_, map, ℕ, _-_, _≤_, _<_, arith, eqb, length, length-map}
+use Rattle.base.specs.Basics.{sets}
 use Rattle.cut_shares.proofs.Adding.{cuts-length, cuts-worthless, sums-length}
 use Rattle.cut_shares.proofs.Lifted.{together-none, Worthless, lifted-cuts, lifted-turns}
 use Rattle.cut_shares.specs.Cuts.{Untouched, added, sharesIn, WholeParts}

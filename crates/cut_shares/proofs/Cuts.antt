@@ -1,12 +1,6 @@
 -- The cuts of a tier by cases, and what callers need of them: as many as trades, each at most what stands. Assumes nothing.
-use mathlib.Core.Path.{_≡_, refl, sym, ap, ap₂, _∙_}
-use mathlib.Core.Bool.{true, false, _||_}
-use mathlib.Core.List.{List, [], _∷_, map}
-use Prim.Native.Nat.{ℕ, _≤_, _<_}
-use native.Mathlib.Omega.{arith}
-use lib.Dec.{eqb}
-use lib.ListN.{length, getD}
-use borrow.Author.Tests.{le-leb, lt-leb}
+use Rattle.base.specs.Basics.{_≡_, refl, sym, ap, ap₂, _∙_, true, false, _||_, List, [], _∷_, map, ℕ, _≤_, _<_, arith, eqb, length, getD, le-leb}
+use Rattle.base.specs.Basics.{lt-leb}
 use Rattle.rules.specs.Shares.{tierWorth, Share, shareOf, byTurns, inProportion, tierCuts}
 use Rattle.laws.proofs.Shares.{within-at, tier-within, tier-length}
 use Rattle.laws_sales.specs.Lots.{lotsOf}

@@ -1,12 +1,5 @@
 -- The cuts of a tier of a part of the sales, added to an array in which the tier has none yet; the cut of one sale, and the shares between two turns. Assumes nothing.
-use mathlib.Core.Bool.{cond}
-use mathlib.Core.List.{List, [], _∷_, map}
-use mathlib.Core.Logic.{_⊎_}
-use mathlib.Core.Path.{_≡_}
-use Prim.Native.Nat.{ℕ, _+_, _*_, _-_, _/_, _%_, _≤_, _<_}
-use lib.Dec.{ltb}
-use lib.ListN.{length, getD, set}
-use lib.Seq.{sets}
+use Rattle.base.specs.Basics.{_≡_, _⊎_, cond, List, [], _∷_, map, ℕ, _+_, _*_, _-_, _/_, _%_, _≤_, _<_, ltb, length, getD, set, sets}
 use Rattle.cut_worth.specs.Rates.{rateIn, ratesIn, lotsIn}
 use Rattle.rules.specs.Reduction.{together}
 use Rattle.rules.specs.Shares.{Share, shareOf}

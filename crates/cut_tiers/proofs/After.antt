@@ -1,11 +1,6 @@
 -- What callers need of the cuts: those of own sales are the rules', and none is above what stands. Assumes nothing.
-use mathlib.Core.Bool.{Bool, true, false, not, cond}
-use mathlib.Core.List.{List, map, map-map}
-use mathlib.Core.Path.{_≡_, refl, sym, ap, _∙_}
-use Prim.Native.Nat.{ℕ, _+_, _-_, _≤_, _<_}
-use native.Mathlib.Omega.{arith}
-use lib.ListN.{length, getD, length-map}
-use lib.Seq.{sets, length-sets}
+use Rattle.base.specs.Basics.{_≡_, refl, sym, ap, _∙_, Bool, true, false, not, cond, List, map, map-map, ℕ, _+_, _-_, _≤_, _<_, arith, length, getD}
+use Rattle.base.specs.Basics.{length-map, sets, length-sets}
 use Rattle.cut_shares.proofs.Lifted.{together-length, together-at}
 use Rattle.cut_tiers.proofs.Weights.{standing-same}
 use Rattle.cut_tiers.specs.Tiers.{cutsOf, NoCuts, Takeable}

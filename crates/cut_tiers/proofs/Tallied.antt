@@ -1,11 +1,6 @@
 -- The loop over a seller's sales that takes the cuts off and runs the tally: its start, a turn and its end. Assumes nothing.
-use mathlib.Core.List.{List, map}
-use mathlib.Core.Path.{_≡_, sym, ap, _∙_}
-use Prim.Native.Nat.{ℕ, _+_, _*_, _-_, _≤_, _<_}
-use native.Mathlib.Numerals.{add-one}
-use native.Mathlib.Omega.{arith}
-use lib.ListN.{length, drop, getD, set, length-map, drop-of-length-le, List·getD-map}
-use lib.Seq.{drop-cons, sets}
+use Rattle.base.specs.Basics.{_≡_, sym, ap, _∙_, List, map, ℕ, _+_, _*_, _-_, _≤_, _<_, add-one, arith, length, drop, getD, set, length-map}
+use Rattle.base.specs.Basics.{drop-of-length-le, List·getD-map, drop-cons, sets}
 use Rattle.cut_tiers.specs.Tiers.{Takeable}
 use Rattle.laws_sales.proofs.Parts.{part-length, part-here}
 use Rattle.cut_worth.proofs.Rates.{areas-many, sales-many}

@@ -1,13 +1,7 @@
 -- Both tiers of a seller's sales one after the other: tier two finds no cut of its own sales, and the two tiers' cuts in one array are those of the rules.
 -- Assumes nothing.
-use mathlib.Core.Bool.{Bool, true, false, not, cond}
-use mathlib.Core.List.{List, [], _∷_, map}
-use mathlib.Core.Path.{_≡_, refl, sym, ap, ap₂, _∙_}
-use Prim.Native.Nat.{ℕ, suc, _+_, _-_, _≤_, _<_}
-use native.Mathlib.Omega.{arith}
-use lib.Dec.{ltb}
-use lib.ListN.{length, getD, List·getD-eq-default}
-use lib.Seq.{sets, length-sets}
+use Rattle.base.specs.Basics.{_≡_, refl, sym, ap, ap₂, _∙_, Bool, true, false, not, cond, List, [], _∷_, map, ℕ, suc, _+_, _-_, _≤_, _<_, arith, ltb}
+use Rattle.base.specs.Basics.{length, getD, List·getD-eq-default, sets, length-sets}
 use Rattle.cut_shares.proofs.Lifted.{together-length, together-none}
 use Rattle.cut_shares.proofs.Ones.{counts-out}
 use Rattle.cut_shares.specs.Cuts.{Untouched, added}

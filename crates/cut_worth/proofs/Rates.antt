@@ -1,12 +1,6 @@
 -- A tier of a part of the sales: its worth, first sale first; the amount and the rate of each sale. Assumes nothing.
-use mathlib.Core.Bool.{cond}
-use mathlib.Core.List.{List}
-use mathlib.Core.Path.{_≡_, refl, sym, ap, _∙_}
-use Prim.Native.Nat.{ℕ, _+_, _*_, _-_, _≤_, _<_}
-use native.Mathlib.Nat.{mul-zero}
-use native.Mathlib.Omega.{arith}
-use lib.Dec.{ltb, nltb→le}
-use lib.ListN.{length, getD, length-map, List·getD-eq-default}
+use Rattle.base.specs.Basics.{_≡_, refl, sym, ap, _∙_, cond, List, ℕ, _+_, _*_, _-_, _≤_, _<_, mul-zero, arith, ltb, nltb→le, length, getD}
+use Rattle.base.specs.Basics.{length-map, List·getD-eq-default}
 use Rattle.laws_sales.proofs.Parts.{part-length, part-here, part-none, part-first}
 use Rattle.cut_worth.specs.Rates.{rateIn, rated, amountsIn, ratesIn, lotsIn, Sales, Rates}
 use Rattle.base.proofs.Linear.{by-order}

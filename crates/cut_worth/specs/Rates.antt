@@ -1,10 +1,5 @@
 -- A tier of a part of the sales: what stands of each sale and its area, in two lists, and a rate for each area. Assumes nothing.
-use mathlib.Core.Bool.{Bool}
-use mathlib.Core.List.{List, map}
-use mathlib.Core.Path.{_≡_}
-use Prim.Native.Nat.{ℕ, _≤_, _<_}
-use lib.Dec.{ltb}
-use lib.ListN.{length, getD}
+use Rattle.base.specs.Basics.{_≡_, Bool, List, map, ℕ, _≤_, _<_, ltb, length, getD}
 use Rattle.rules.specs.Shares.{Lot}
 use Rattle.laws_sales.specs.Sales.{standingIn}
 use Rattle.laws_sales.specs.Lots.{lotsOf}

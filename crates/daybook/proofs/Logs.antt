@@ -1,11 +1,5 @@
 -- The public calls with a lent log, given or not, from the inner calls. Assumes nothing.
-use mathlib.Core.Bool.{Bool, true, false}
-use mathlib.Core.List.{List}
-use mathlib.Core.Path.{_≡_, refl, sym, ap, subst, _∙_}
-use Prim.Native.Nat.{ℕ, zero, suc}
-use native.Mathlib.Omega.{arith}
-use lib.Dec.{T}
-use lib.ListN.{length}
+use Rattle.base.specs.Basics.{_≡_, refl, sym, ap, subst, _∙_, Bool, true, false, List, ℕ, zero, suc, arith, T, length}
 use Rattle.book_format.proofs.Passed.{passed}
 use Rattle.book_format.specs.After.{CalledAfter, after, stepAfter, unchanged}
 use Rattle.book_format.specs.Questions.{bookNumber}

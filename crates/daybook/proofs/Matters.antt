@@ -1,10 +1,5 @@
 -- Whose the matter of a call is, by the number that the code passes on: an id has 32 bits, and the operator's number none of them. Assumes nothing.
-use mathlib.Core.Bool.{Bool, true, false}
-use mathlib.Core.List.{List}
-use mathlib.Core.Path.{_≡_, subst}
-use Prim.Native.Nat.{ℕ, _<_}
-use native.Mathlib.Omega.{arith}
-use borrow.Author.Tests.{ne-eqb}
+use Rattle.base.specs.Basics.{_≡_, subst, Bool, true, false, List, ℕ, _<_, arith, ne-eqb}
 use Rattle.rules.specs.Levels.{Limits}
 use Rattle.requests.specs.Carried.{Admitted}
 use Rattle.requests.specs.Request.{Setting}

@@ -1,10 +1,5 @@
 -- A record shown after the opening questions is the part that its request hands back: by the number of both, the record or the empty part. Assumes nothing.
-use mathlib.Core.List.{List, []}
-use mathlib.Core.Option.{Option, none, some}
-use mathlib.Core.Path.{_≡_, _∙_, ap, refl, sym}
-use Prim.Native.Nat.{ℕ, _+_, suc, zero}
-use native.Mathlib.Omega.{arith}
-use lib.Dec.{ltb, ltb→lt}
+use Rattle.base.specs.Basics.{_≡_, _∙_, ap, refl, sym, Option, none, some, List, [], ℕ, _+_, suc, zero, arith, ltb, ltb→lt}
 use Rattle.laws.proofs.Refusals.{numbered, refusal-is}
 use Rattle.rules.specs.Calls.{idKnown}
 use Rattle.rules.specs.Levels.{Limits}

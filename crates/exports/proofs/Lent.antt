@@ -1,10 +1,5 @@
 -- A lent part of the length that is asked for holds what is stored in it; one of another length gets the number 255 and is left as it is. Assumes nothing.
-use mathlib.Core.Path.{_≡_, sym, ap, _∙_}
-use mathlib.Core.Bool.{Bool, cond}
-use mathlib.Core.List.{List}
-use Prim.Native.Nat.{ℕ}
-use lib.ListN.{length}
-use borrow.Author.Tests.{eq-eqb, ne-eqb}
+use Rattle.base.specs.Basics.{_≡_, sym, ap, _∙_, Bool, cond, List, ℕ, length, eq-eqb, ne-eqb}
 use Rattle.rules.specs.Calls.{Answer}
 use Rattle.requests.specs.Logged.{lentLog}
 use Rattle.requests.specs.Request.{Request}

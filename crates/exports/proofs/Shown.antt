@@ -1,11 +1,6 @@
 -- A shown part has at most 68 bytes; copied to a part of 68, with 0 behind it, it is the record or 68 times 0. Assumes nothing.
-use mathlib.Core.Path.{_≡_, _∙_, ap, ap₂, refl}
-use mathlib.Core.Bool.{Bool, true, false, cond}
-use mathlib.Core.List.{List, [], _∷_}
-use mathlib.Core.Option.{Option, none, some}
-use Prim.Native.Nat.{ℕ, _≤_, suc, zero}
-use native.Mathlib.Omega.{arith}
-use lib.ListN.{length, take, drop, getD, length-take, set}
+use Rattle.base.specs.Basics.{_≡_, _∙_, ap, ap₂, refl, Bool, true, false, cond, Option, none, some, List, [], _∷_, ℕ, _≤_, suc, zero, arith, length}
+use Rattle.base.specs.Basics.{take, drop, getD, length-take, set}
 use Rattle.fields.specs.Layout.{recordsOf}
 use Rattle.laws_sales.specs.Kept.{kept}
 use Rattle.rules.specs.Questions.{decided, refusal}

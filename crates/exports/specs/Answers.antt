@@ -1,12 +1,5 @@
 -- What each kind of function leaves: its number, the lent part and the book. Assumes nothing.
-use mathlib.Core.Path.{_≡_}
-use mathlib.Core.Bool.{Bool, not}
-use mathlib.Core.List.{List}
-use mathlib.Core.Option.{Option}
-use Prim.Native.Nat.{ℕ}
-use lib.Dec.{eqb}
-use lib.IntN.{ℤ}
-use lib.ListN.{length}
+use Rattle.base.specs.Basics.{_≡_, Bool, not, Option, List, ℕ, eqb, ℤ, length}
 use Rattle.rules.specs.Calls.{Answer}
 use Rattle.rules.specs.Queries.{Query, Reply, shownRecord}
 use Rattle.rules.specs.Questions.{refusal, numberOf, decided}

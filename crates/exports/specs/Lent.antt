@@ -1,10 +1,5 @@
 -- A part lent by a caller in C has a length of the caller's: one of another length than the function asks for gets the number 255, and nothing is changed. Assumes nothing.
-use mathlib.Core.Path.{_≡_}
-use mathlib.Core.Bool.{cond}
-use mathlib.Core.List.{List}
-use Prim.Native.Nat.{ℕ}
-use lib.Dec.{eqb}
-use lib.ListN.{length}
+use Rattle.base.specs.Basics.{_≡_, cond, List, ℕ, eqb, length}
 
 -- the number for a lent part of another length than the function asks for
 abbrev pub wrongLength : ℕ

@@ -31,7 +31,7 @@ const INTERFACE: u32 = 7;
 // The bytes of an image, and of the part for a shown record.
 const IMAGE_SIZE: usize = 9512;
 
-const RECORD_SIZE: usize = 68;
+const RECORD_SIZE: usize = book_records::MANAGED_SIZE;
 
 // The marks of a cancellation, one for each place of a trade.
 const MARKS: usize = 256;

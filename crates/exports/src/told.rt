@@ -14,7 +14,7 @@ const COUNT_NUMBERS: usize = 1;
 
 const TRADE_NUMBERS: usize = 1;
 
-const TRADE_SIZE: usize = 20;
+const TRADE_SIZE: usize = book_records::TRADE_SIZE;
 
 // Whether a user is flagged: 1 number, 1 for yes and 0 for no.
 #[no_mangle]

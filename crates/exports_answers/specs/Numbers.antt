@@ -1,8 +1,5 @@
 -- The numbers that an answer is in a lent part, in their order. Assumes nothing.
-use mathlib.Core.Bool.{Bool, cond}
-use mathlib.Core.List.{List, [], _∷_}
-use Prim.Native.Nat.{ℕ}
-use lib.ListN.{length}
+use Rattle.base.specs.Basics.{Bool, cond, List, [], _∷_, ℕ, length}
 use Rattle.rules.specs.Calls.{Answer}
 use Rattle.rules.specs.Queries.{Reply}
 use Rattle.rights.specs.Trades.{Told}

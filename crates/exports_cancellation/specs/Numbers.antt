@@ -1,6 +1,5 @@
 -- The numbers that a whole cancellation is in two lent parts, in their order. Assumes nothing.
-use mathlib.Core.List.{List, [], _∷_, map}
-use Prim.Native.Nat.{ℕ}
+use Rattle.base.specs.Basics.{List, [], _∷_, map, ℕ}
 use Rattle.requests.specs.Cancellation.{Cancellation}
 use Rattle.exports_answers.specs.Numbers.{bit}
 

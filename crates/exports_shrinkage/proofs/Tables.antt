@@ -1,10 +1,7 @@
 -- The loop that fills the table of a return: a user's share and remainder at each turn, from the first user on, where the other places hold 0. Assumes nothing.
-use mathlib.Core.List.{List, [], _∷_, _++_, append-nil}
-use mathlib.Core.Path.{_≡_, refl, sym, ap, ap₂, _∙_}
-use Prim.Native.Nat.{ℕ, zero, suc, _+_, _-_, _<_, _≤_}
-use native.Mathlib.Omega.{arith}
-use lib.ListN.{length, take, getD, set, replicate, length-append, length-map, length-set, length-replicate, List·getD-map}
-use lib.Seq.{length-take-le, set-append-left}
+use Rattle.base.specs.Basics.{_≡_, refl, sym, ap, ap₂, _∙_, List, [], _∷_, _++_, append-nil, ℕ, zero, suc, _+_, _-_, _<_, _≤_, arith, length, take}
+use Rattle.base.specs.Basics.{getD, set, replicate, length-append, length-map, length-set, length-replicate, List·getD-map, length-take-le}
+use Rattle.base.specs.Basics.{set-append-left}
 use Rattle.shrinkage.proofs.Places.{placed, placed-start, placed-more, placed-end}
 use Rattle.shrinkage.specs.declared.Kwh.{Kwh}
 use Rattle.shrinkage.specs.Answer.{kwhOf}

@@ -1,6 +1,5 @@
 -- The numbers that a return is in a lent part, in their order. Assumes nothing.
-use mathlib.Core.List.{List, _∷_, _++_}
-use Prim.Native.Nat.{ℕ}
+use Rattle.base.specs.Basics.{List, _∷_, _++_, ℕ}
 use Rattle.shrinkage.specs.Return.{Returned}
 
 -- three amounts, then the shares and the remainders of 64 users

@@ -1,10 +1,6 @@
 -- The rows of users, stored one after the other: what is left to store gives the whole. Assumes nothing.
-use mathlib.Core.List.{List, [], _∷_, _++_, map}
-use mathlib.Core.Path.{_≡_, refl, sym, ap, _∙_}
-use Prim.Native.Nat.{ℕ, suc, _+_, _*_, _<_, _≤_}
-use native.Mathlib.Omega.{arith}
-use lib.ListN.{drop, getD, length, length-map, set}
-use lib.Seq.{drop-cons, drop-length, length-sets, sets}
+use Rattle.base.specs.Basics.{_≡_, refl, sym, ap, _∙_, List, [], _∷_, _++_, map, ℕ, suc, _+_, _*_, _<_, _≤_, arith, drop, getD, length, length-map}
+use Rattle.base.specs.Basics.{set, drop-cons, drop-length, length-sets, sets}
 use Rattle.fields.proofs.Sets.{sets-whole}
 use Rattle.user_levels.specs.Levels as rows
 use Rattle.call_users.specs.Rows.{asRow}

@@ -1,6 +1,5 @@
 -- The numbers that the levels of all users are in a lent part, in their order. Assumes nothing.
-use mathlib.Core.List.{List, [], _∷_, _++_}
-use Prim.Native.Nat.{ℕ}
+use Rattle.base.specs.Basics.{List, [], _∷_, _++_, ℕ}
 use Rattle.rules.specs.Day.{State, call, clear, quiet, short}
 use Rattle.user_levels.specs.Levels.{AllLevels, UserLevels}
 

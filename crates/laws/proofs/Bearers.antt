@@ -1,10 +1,5 @@
 -- Who manages whom, and so who bears whose risk, depends on the parties of the users alone: a change of users that keeps these leaves it. Assumes nothing.
-use mathlib.Core.Bool.{Bool, true, false, cond}
-use mathlib.Core.List.{List, [], _∷_, map, map-map}
-use mathlib.Core.Path.{_≡_, refl, sym, ap, ap₂, _∙_}
-use Prim.Native.Nat.{ℕ}
-use lib.Dec.{T, eqb}
-use lib.IntN.{pos}
+use Rattle.base.specs.Basics.{_≡_, refl, sym, ap, ap₂, _∙_, Bool, true, false, cond, List, [], _∷_, map, map-map, ℕ, T, eqb, pos}
 use Rattle.base.specs.Lists.{all}
 use Rattle.base.proofs.Tests.{all-by, all-map}
 use Rattle.laws.proofs.Users.{known-map}

@@ -1,23 +1,14 @@
 -- Numeric bounds of an accepted book: what was sold and bought, positions within ±26,600,000, so that they fit their 32 bits. Assumes nothing.
-use mathlib.Core.Bool.{Bool, true, false, cond, _&&_}
-use mathlib.Core.List.{List, [], _∷_}
-use mathlib.Core.Path.{_≡_, refl}
-use Prim.Native.Nat.{_*_, _+_, _≤_, ℕ, _<_, suc, zero}
-use native.Mathlib.Nat.{mul-le-mul}
-use native.Mathlib.Omega.{arith}
-use lib.Dec.{T, eqb, leb, leb→le, eqb→eq}
-use lib.IntN.{natAbs, ℤ, _-ℤ_, pos, _+ℤ_, negℤ}
-use lib.ListN.{length}
-use borrow.Author.Needs.{needs}
-use Rattle.base.proofs.Linear.{abs-parts, negPart-of, posPart-of, negPart-pos, parts-sub, posPart-pos, negPart-neg, parts-add, posPart-neg}
+use Rattle.base.specs.Basics.{_≡_, refl, Bool, true, false, cond, _&&_, List, [], _∷_, _*_, _+_, _≤_, ℕ, _<_, suc, zero, arith, T, eqb, leb, leb→le}
+use Rattle.base.specs.Basics.{eqb→eq, natAbs, ℤ, length}
+use Rattle.base.proofs.Linear.{abs-parts, negPart-of, posPart-of}
 use Rattle.base.specs.Parts.{negPart, posPart}
 use Rattle.base.specs.Sums.{sum}
 use Rattle.laws.proofs.Positions.{parts-defined, position-is}
 use Rattle.laws.specs.Sound.{Sound}
-use Rattle.base.proofs.Tests.{and-l, and-r, by-test}
-use Rattle.rules.specs.Areas.{referencePrice, areas, sellingIn}
+use Rattle.base.proofs.Tests.{and-l, and-r}
+use Rattle.rules.specs.Areas.{sellingIn}
 use Rattle.rules.specs.Book.{Book, Trade, User, Terms, dealt, at, bought, definedPosition, sold}
-use Rattle.rules.specs.Levels.{afternoonNeed, credit, exposure, holding, stock, Limits, afternoonLevel, afternoonSum, floored, morningLevel, morningNeed, morningSum}
 use Rattle.base.specs.Lists.{all}
 use Rattle.rules.specs.Questions.{amountsValid, countsValid, guaranteesValid, tradeValid, entriesValid, userValid, headerValid, positionsValid, pricesValid, sellingMost, sellingValid, tariffValid, tollValid}
 use Rattle.rules.specs.Signed.{within}

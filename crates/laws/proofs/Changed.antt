@@ -1,9 +1,5 @@
 -- A book after one user's record is changed: it is accepted where the new record keeps its party and is valid. Assumes nothing.
-use mathlib.Core.Bool.{cond}
-use mathlib.Core.Path.{_≡_, refl}
-use Prim.Native.Nat.{ℕ}
-use lib.Dec.{T, eqb}
-use lib.ListN.{length-map}
+use Rattle.base.specs.Basics.{_≡_, refl, cond, ℕ, T, eqb, length-map}
 use Rattle.laws.specs.Sound.{Sound}
 use Rattle.base.proofs.Tests.{by-test}
 use Rattle.laws.proofs.Bearers.{groups-map}

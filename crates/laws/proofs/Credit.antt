@@ -1,9 +1,5 @@
 -- In a version without selling tariffs no position has a credit, and the afternoon level is document 01's. Assumes nothing.
-use mathlib.Core.Bool.{Bool, false, cond}
-use mathlib.Core.Path.{_≡_, ap, _∙_}
-use Prim.Native.Nat.{ℕ}
-use native.Mathlib.Omega.{arith}
-use lib.IntN.{ℤ, pos, _-ℤ_, +ℤ-idr}
+use Rattle.base.specs.Basics.{_≡_, ap, _∙_, Bool, false, cond, ℕ, arith, ℤ, pos, _-ℤ_, +ℤ-idr}
 use Rattle.base.specs.Sums.{sum}
 use Rattle.laws.proofs.Bounds.{selling-le}
 use Rattle.laws.specs.Sound.{Sound}

@@ -1,13 +1,8 @@
 -- What holds of a reduction's cuts, for any book, user and amount asked: they are within the user's eligible trades, some MWh is cut where something is asked and a trade
 -- is eligible, and the tally's worth is between what is asked, or all there is, and what is asked and one MWh at the largest tariff. Both tiers' laws, added. Assumes nothing.
-use mathlib.Core.Bool.{Bool, true, false, not, cond, _&&_, _||_}
-use mathlib.Core.List.{List, [], _∷_, map, map-map}
-use mathlib.Core.Path.{_≡_, refl, sym, ap, ap₂, subst, fun-ext, _∙_}
-use Prim.Native.Nat.{ℕ, _+_, _*_, _-_, _≤_, _<_, min}
-use native.Mathlib.Nat.{add-mul, not-suc-le-zero, le-of-suc-le-suc, mul-pos}
-use native.Mathlib.Omega.{arith}
-use lib.Dec.{T, leb, ltb, eqb, le→leb, leb→le, ltb→lt}
-use lib.ListN.{length, length-map}
+use Rattle.base.specs.Basics.{_≡_, refl, sym, ap, ap₂, subst, fun-ext, _∙_, Bool, true, false, not, cond, _&&_, _||_, List, [], _∷_, map, map-map, ℕ}
+use Rattle.base.specs.Basics.{_+_, _*_, _-_, _≤_, _<_, min, add-mul, not-suc-le-zero, le-of-suc-le-suc, mul-pos, arith, T, leb, ltb, eqb, le→leb}
+use Rattle.base.specs.Basics.{leb→le, ltb→lt, length, length-map}
 use Rattle.base.proofs.Linear.{by-order}
 use Rattle.base.proofs.Sums.{sum-add, sum-ext, sum-map}
 use Rattle.base.specs.Sums.{sum}

@@ -1,11 +1,5 @@
 -- Numeric bounds of an accepted book as its risk is borne, where a manager bears that of up to 64 users: positions within ±89,600,000, levels below 2^46. Assumes nothing.
-use mathlib.Core.Bool.{Bool, true, false, cond, _&&_}
-use mathlib.Core.Path.{_≡_, refl, ap, _∙_}
-use Prim.Native.Nat.{_*_, _+_, _≤_, ℕ, _<_, zero, suc}
-use native.Mathlib.Nat.{mul-le-mul}
-use native.Mathlib.Omega.{arith}
-use lib.Dec.{T, eqb}
-use lib.IntN.{ℤ, _-ℤ_, pos, _+ℤ_, negℤ}
+use Rattle.base.specs.Basics.{_*_, _+_, _≤_, ℕ, _<_, zero, suc, mul-le-mul, arith, T, eqb, _-ℤ_, pos, _+ℤ_, negℤ}
 use Rattle.base.proofs.Linear.{posPart-of, negPart-pos, parts-sub, posPart-pos, negPart-neg, parts-add, posPart-neg}
 use Rattle.base.proofs.Sums.{sum-map}
 use Rattle.base.proofs.Tests.{by-test}

@@ -1,10 +1,5 @@
 -- The main laws, each as its statement in specs/Statements.antt says it. Assumes nothing.
-use mathlib.Core.Option.{Option, none, some}
-use mathlib.Core.Path.{_≡_, refl, ap}
-use Prim.Native.Nat.{max, ℕ}
-use native.Mathlib.Omega.{arith}
-use lib.Dec.{leb→le, le→leb, ltb, ltb→lt}
-use lib.IntN.{_+ℤ_, natAbs}
+use Rattle.base.specs.Basics.{_≡_, refl, ap, Option, none, some, max, ℕ, arith, leb→le, le→leb, ltb, ltb→lt, _+ℤ_, natAbs}
 use Rattle.base.proofs.Linear.{abs-parts, posPart-of}
 use Rattle.base.specs.Parts.{negPart, posPart}
 use Rattle.laws.proofs.Bounds.{position-bound, tariffs-pos}

@@ -1,11 +1,5 @@
 -- What question 5 says of managers, in an accepted book: who bears a user's risk is a user of the book and bears its own. Assumes nothing.
-use mathlib.Core.Bool.{Bool, true, false, cond, _&&_, _||_}
-use mathlib.Core.List.{List}
-use mathlib.Core.Path.{_≡_, ap}
-use Prim.Native.Nat.{ℕ, zero, suc, _<_}
-use native.Mathlib.Omega.{arith}
-use lib.Dec.{T, eqb, eqb→eq}
-use borrow.Author.Tests.{eq-eqb}
+use Rattle.base.specs.Basics.{_≡_, ap, Bool, true, false, cond, _&&_, _||_, List, ℕ, zero, suc, _<_, arith, T, eqb, eqb→eq, eq-eqb}
 use Rattle.base.proofs.Tests.{and-l, and-r}
 use Rattle.laws.proofs.Users.{all-find, known-id}
 use Rattle.laws.specs.Sound.{Sound}

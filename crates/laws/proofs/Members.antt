@@ -1,12 +1,6 @@
 -- What a user holds by those whose risk it bears: the sums over the trades as they are borne are the sums over these users, positions as they are borne are as defined, and so bounded. Assumes nothing.
-use mathlib.Core.Bool.{Bool, true, false, cond, _&&_}
-use mathlib.Core.List.{List, [], _∷_, map}
-use mathlib.Core.Path.{_≡_, refl, sym, ap, _∙_}
-use Prim.Native.Nat.{ℕ, _+_, _*_, _≤_, _<_}
-use native.Mathlib.Omega.{arith}
-use lib.Dec.{T, eqb, leb, eqb→eq, leb→le}
-use lib.IntN.{ℤ, pos, _+ℤ_}
-use lib.ListN.{length}
+use Rattle.base.specs.Basics.{_≡_, refl, sym, ap, _∙_, Bool, true, false, cond, _&&_, List, [], _∷_, map, ℕ, _+_, _*_, _≤_, _<_, arith, T, eqb, leb}
+use Rattle.base.specs.Basics.{eqb→eq, leb→le, ℤ, pos, length}
 use Rattle.base.proofs.Linear.{posPart-of, negPart-of, posPart-pos, negPart-pos}
 use Rattle.base.proofs.Sums.{parts-sum, sum-map, sum-swap, sum-ext, sum-zero}
 use Rattle.base.proofs.Tests.{and-l, and-r, by-test, sum-by, sumℤ-by}
@@ -17,7 +11,7 @@ use Rattle.laws.proofs.Bounds.{entry-le}
 use Rattle.laws.proofs.Positions.{once, seller-known, buyer-known, parts-defined-sum, position-is}
 use Rattle.laws.specs.Sound.{Sound}
 use Rattle.rules.specs.Bearers.{bearer, borneSum, asBorne, borne}
-use Rattle.rules.specs.Book.{at, Terms, User, Trade, Book, PerArea, find, dealt, sold, bought, definedPosition}
+use Rattle.rules.specs.Book.{at, Terms, User, Trade, Book, find, dealt, sold, bought, definedPosition}
 use Rattle.rules.specs.Questions.{countsValid, idsRise, known, positionsValid, tradeValid, userValid}
 
 -- a number for each user whose risk the user of an id bears in an area

@@ -1,13 +1,7 @@
 -- A book whose trades stand anew. Its positions are settled one trade after another: the seller's rises and the buyer's falls by what stood less what stands.
 -- That is the same as to compute each position anew from the new trades, whether a trade is lowered or raised. Assumes nothing.
-use mathlib.Core.Bool.{Bool, true, false, not, cond, _&&_}
-use mathlib.Core.List.{List, [], _∷_, map, map-map}
-use mathlib.Core.Path.{_≡_, refl, sym, ap, subst, _∙_}
-use Prim.Native.Nat.{ℕ, suc, _+_, _<_}
-use native.Mathlib.Omega.{arith}
-use lib.Dec.{T, eqb, ltb→lt}
-use lib.IntN.{ℤ, pos, negℤ, _+ℤ_, +ℤ-idr}
-use lib.ListN.{length, length-map}
+use Rattle.base.specs.Basics.{_≡_, refl, sym, ap, subst, _∙_, Bool, true, false, not, cond, _&&_, List, [], _∷_, map, map-map, ℕ, suc, _+_, _<_}
+use Rattle.base.specs.Basics.{arith, T, eqb, ltb→lt, ℤ, pos, negℤ, _+ℤ_, +ℤ-idr, length, length-map}
 use Rattle.base.proofs.Linear.{parts-add, eq-parts, posPart-neg, negPart-neg, posPart-pos, negPart-pos}
 use Rattle.base.specs.Parts.{posPart, negPart}
 use Rattle.base.specs.Sums.{sum, sumℤ}

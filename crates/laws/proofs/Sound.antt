@@ -1,15 +1,11 @@
 -- A book passes the questions 2 to 7 exactly when it is sound. Assumes nothing.
-use mathlib.Core.Bool.{_&&_}
-use mathlib.Core.Option.{Option, none, some}
-use mathlib.Core.Path.{_≡_, refl}
-use Prim.Native.Nat.{ℕ}
-use lib.Dec.{T}
+use Rattle.base.specs.Basics.{_≡_, refl, _&&_, Option, none, some, ℕ, T}
 use Rattle.laws.proofs.Refusals.{first-yes, yes-first}
 use Rattle.laws.specs.Sound.{Sound}
 use Rattle.base.proofs.Tests.{and-l, and-r, and-i}
 use Rattle.rules.specs.Book.{Book}
 use Rattle.base.specs.Lists.{all}
-use Rattle.rules.specs.Questions.{refusal, aboutBook, isNone, accepted, countsValid, idsRise, userValid, tradeValid, positionsValid, headerValid, usersValid, groupsValid, versionValid}
+use Rattle.rules.specs.Questions.{refusal, aboutBook, isNone, accepted, idsRise, userValid, usersValid, groupsValid}
 
 pub sound-of : (b : Book) → refusal (aboutBook b) ≡ none → Sound b
 unfolding aboutBook usersValid

@@ -1,12 +1,6 @@
 -- Users after one of them, or all of them, have changed. Assumes nothing.
-use mathlib.Core.Bool.{Bool, true, false, cond, _&&_, _||_}
-use mathlib.Core.List.{List, [], _∷_, map}
-use mathlib.Core.Path.{_≡_, refl, sym, ap, ap₂, _∙_}
-use Prim.Native.Nat.{ℕ, _≤_, _<_}
-use native.Mathlib.Nat.{le-of-eq}
-use native.Mathlib.Omega.{arith}
-use lib.Dec.{T, eqb, ltb, eqb→eq, ltb→lt}
-use lib.IntN.{ℤ, _+ℤ_, +ℤ-assoc, +ℤ-comm}
+use Rattle.base.specs.Basics.{_≡_, refl, sym, ap, ap₂, _∙_, Bool, true, false, cond, _&&_, _||_, List, [], _∷_, map, ℕ, _≤_, _<_, le-of-eq, arith, T}
+use Rattle.base.specs.Basics.{eqb, ltb, eqb→eq, ltb→lt, ℤ, _+ℤ_, +ℤ-assoc, +ℤ-comm}
 use Rattle.base.specs.Sums.{sumℤ}
 use Rattle.base.proofs.Tests.{and-l, and-r, and-i, by-test, all-by}
 use Rattle.rules.specs.Book.{User, Trade, find}

@@ -1,5 +1,5 @@
 -- What a book that passes the questions 2 to 7 is, as a record of facts: one for each question, three for question 5. Assumes nothing.
-use lib.Dec.{T}
+use Rattle.base.specs.Basics.{T}
 use Rattle.rules.specs.Book.{Book}
 use Rattle.base.specs.Lists.{all}
 use Rattle.rules.specs.Questions.{countsValid, groupsValid, headerValid, idsRise, positionsValid, tradeValid, userValid, versionValid}

@@ -1,10 +1,5 @@
 -- The main laws of the rules, as statements. Each holds for every book, user, amount and set of limits; the proofs stand in proofs/Main.antt.
-use mathlib.Core.Bool.{not}
-use mathlib.Core.List.{List·Memᴰ}
-use mathlib.Core.Path.{_≡_}
-use Prim.Native.Nat.{_*_, _+_, _<_, _^_, _≤_, max, min, ℕ}
-use lib.Dec.{T}
-use lib.IntN.{pos, _+ℤ_}
+use Rattle.base.specs.Basics.{_≡_, not, List·Memᴰ, _*_, _+_, _<_, _^_, _≤_, max, min, ℕ, T, pos, _+ℤ_}
 use Rattle.base.specs.Parts.{posPart}
 use Rattle.base.specs.Sums.{sum, sumℤ}
 use Rattle.laws.specs.Books.{anew}

@@ -1,16 +1,8 @@
 -- A deposit changes nothing that the rules read but the assigned guarantee: what is borne, held and eligible stays, and so do the level and the answers to all questions but 5.
 -- Assumes nothing.
-use mathlib.Core.Bool.{Bool, true, false, cond, _&&_, _||_}
-use mathlib.Core.List.{List, [], _∷_, map, List·Memᴰ, List·Memᴰ·cases-cons, List·Memᴰ·not-nil}
-use mathlib.Core.Logic.{_⊎_, inl, inr}
-use mathlib.Core.Option.{Option, none, some, Option·some-ne-none}
-use mathlib.Core.Path.{_≡_, refl, ap, ap₂, fun-ext, subst, _∙_}
-use Prim.Native.Nat.{ℕ, zero, suc, _+_, _-_, _<_}
-use native.Mathlib.Omega.{arith}
-use lib.Dec.{T, eqb, leb, ltb, lt→ltb, leb→le, le→leb}
-use lib.IntN.{pos}
-use lib.ListN.{length-map}
-use borrow.Author.Tests.{le-ltb}
+use Rattle.base.specs.Basics.{_≡_, refl, ap, ap₂, fun-ext, subst, _∙_, _⊎_, inl, inr, Bool, true, false, cond, _&&_, _||_, Option, none, some}
+use Rattle.base.specs.Basics.{Option·some-ne-none, List, [], _∷_, map, List·Memᴰ, List·Memᴰ·cases-cons, List·Memᴰ·not-nil, ℕ, zero, suc, _+_, _-_}
+use Rattle.base.specs.Basics.{_<_, arith, T, eqb, leb, ltb, lt→ltb, leb→le, le→leb, pos, length-map, le-ltb}
 use Rattle.base.specs.Lists.{all, any}
 use Rattle.base.specs.Sums.{sum}
 use Rattle.base.proofs.Tests.{all-map, and-false, and-i, and-l, and-r, same-test}

@@ -1,12 +1,7 @@
 -- What deposit stops the cuts, as statements. A deposit raises the assigned guarantee, which no call changes: so it is made before a run, to stop it. Each statement holds for every
 -- book, amounts and set of limits, of every version: of a group only the assigned guarantee of who bears its risk counts, since nobody else is short of cover for it. None but
 -- the last asks for an accepted book. The proofs stand in proofs/Deposits.antt.
-use mathlib.Core.Bool.{Bool, cond, _&&_}
-use mathlib.Core.List.{List·Memᴰ, map}
-use mathlib.Core.Option.{none}
-use mathlib.Core.Path.{_≡_}
-use Prim.Native.Nat.{ℕ, _+_, _<_}
-use lib.Dec.{T, leb}
+use Rattle.base.specs.Basics.{_≡_, Bool, cond, _&&_, none, List·Memᴰ, map, ℕ, _+_, _<_, T, leb}
 use Rattle.base.specs.Lists.{all}
 use Rattle.laws.specs.Statements.{AllCovered}
 use Rattle.rules.specs.Book.{Book, User}

@@ -1,9 +1,5 @@
 -- Levels and flag depend on what is held in each area, and on nothing else of users and trades: so in a book without managers they are document 01's. Assumes nothing.
-use mathlib.Core.Path.{_≡_, ap, _∙_}
-use Prim.Native.Nat.{ℕ, _+_, _*_}
-use lib.Dec.{ltb}
-use lib.IntN.{ℤ, pos, _+ℤ_, _-ℤ_}
-use lib.ListN.{getD}
+use Rattle.base.specs.Basics.{_≡_, ap, _∙_, ℕ, _+_, _*_, ltb, ℤ, pos, _+ℤ_, _-ℤ_, getD}
 use Rattle.base.proofs.Sums.{sum-ext}
 use Rattle.base.specs.Parts.{negPart, posPart}
 use Rattle.base.specs.Sums.{sum}
@@ -11,8 +7,8 @@ use Rattle.laws.proofs.Sound.{sound}
 use Rattle.laws.specs.Statements.{ownHolding}
 use Rattle.laws_sales.proofs.Alone.{own-risk}
 use Rattle.rules.specs.Areas.{Prices, areas, referencePrice, sellingTariff}
-use Rattle.rules.specs.Book.{Book, User, nobody}
-use Rattle.rules.specs.Levels.{Holding, Limits, afternoonLevel, afternoonNeed, afternoonSum, credit, exposure, flagged, floored, holding, leastReferencePrice, morningLevel, morningNeed, morningSum}
+use Rattle.rules.specs.Book.{nobody}
+use Rattle.rules.specs.Levels.{Holding, afternoonLevel, afternoonNeed, afternoonSum, credit, exposure, flagged, floored, holding, leastReferencePrice, morningLevel, morningNeed, morningSum}
 use Rattle.laws_groups.specs.Statements.{LevelsAsBefore}
 
 -- the same is held in every area

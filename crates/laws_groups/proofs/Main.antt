@@ -1,11 +1,6 @@
 -- The laws of groups, as specs/Statements.antt has them. Assumes nothing.
-use mathlib.Core.Bool.{Bool, true, false, not, cond, _&&_}
-use mathlib.Core.List.{List, [], _∷_}
-use mathlib.Core.Path.{_≡_, refl, sym, ap, _∙_}
-use Prim.Native.Nat.{ℕ, zero, suc, _<_}
-use native.Mathlib.Omega.{arith}
-use lib.Dec.{T, eqb, eqb→eq, ltb}
-use Rattle.base.proofs.Tests.{all-by, and-i, and-l, and-r, by-case, fails}
+use Rattle.base.specs.Basics.{_≡_, refl, ap, _∙_, Bool, true, false, not, _&&_, List, [], _∷_, ℕ, zero, suc, _<_, arith, T, eqb, eqb→eq, ltb}
+use Rattle.base.proofs.Tests.{all-by, and-i, and-l, and-r, fails}
 use Rattle.base.specs.Lists.{all}
 use Rattle.laws.proofs.Members.{bought-members, membersSum, sold-members}
 use Rattle.laws.proofs.Sound.{sound}
@@ -13,7 +8,7 @@ use Rattle.laws.proofs.Users.{known-id}
 use Rattle.laws.specs.Sound.{Sound}
 use Rattle.laws_sales.proofs.Alone.{own-risk}
 use Rattle.rules.specs.Bearers.{asBorne, bearer, borne, borneSum}
-use Rattle.rules.specs.Book.{Book, Trade, User, at, bought, find, managerIn, sold}
+use Rattle.rules.specs.Book.{Book, User, at, bought, find, managerIn, sold}
 use Rattle.rules.specs.Levels.{holding, sells}
 use Rattle.rules.specs.Questions.{groupsValid, managerValid, managersValid}
 use Rattle.laws_groups.proofs.Nothing.{bears-nobody, found-managers, sum-none, sumℤ-none}

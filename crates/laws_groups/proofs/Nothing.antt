@@ -1,19 +1,12 @@
 -- A managed user bears nobody's risk: who has its id is managed, and who is managed by it would be managed by a managed one. Assumes nothing.
-use mathlib.Core.Bool.{Bool, true, false, not, cond, _&&_, _||_}
-use mathlib.Core.List.{List, [], _∷_}
-use mathlib.Core.Path.{_≡_, refl, sym, ap, ap₂, subst, _∙_}
-use Prim.Native.Nat.{ℕ, _+_, _<_, _≤_}
-use native.Mathlib.Omega.{arith}
-use lib.Dec.{T, T-not, eqb, eqb→eq, ltb, ltb→lt}
-use lib.IntN.{ℤ, pos, _+ℤ_}
-use borrow.Author.Tests.{eq-eqb, lt-ltb, ne-eqb}
+use Rattle.base.specs.Basics.{_≡_, refl, sym, ap, ap₂, _∙_, Bool, true, false, not, cond, _&&_, List, [], _∷_, ℕ, _+_, _<_, arith, T, eqb, eqb→eq}
+use Rattle.base.specs.Basics.{ltb, ltb→lt, ℤ, pos, _+ℤ_, eq-eqb, lt-ltb, ne-eqb}
 use Rattle.base.proofs.Tests.{and-i, and-l, and-r, all-by, by-case, eqb-of, fails, holds, or-second}
 use Rattle.base.specs.Lists.{all}
 use Rattle.base.specs.Sums.{sum, sumℤ}
-use Rattle.rules.specs.Areas.{managersIn}
 use Rattle.rules.specs.Bearers.{bearer}
 use Rattle.rules.specs.Book.{User, find, managerIn}
-use Rattle.rules.specs.Questions.{idsRise, known, managerValid, manages}
+use Rattle.rules.specs.Questions.{idsRise, managerValid, manages}
 
 -- the user of a list that has an id is the one that is found
 pub found-managers : (area : ℕ) (us : List User) (low : ℕ) → T (idsRise low us)

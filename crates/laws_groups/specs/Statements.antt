@@ -1,10 +1,5 @@
 -- Document 02, ask 5: what the rules say of groups in an accepted book, in the words of the ask. Each holds for every book, user, area and trade; the proofs stand in proofs/Main.antt.
-use mathlib.Core.Bool.{false}
-use mathlib.Core.Path.{_≡_}
-use Prim.Native.Nat.{ℕ, _<_}
-use lib.Dec.{T}
-use lib.IntN.{pos}
-use lib.ListN.{getD, length}
+use Rattle.base.specs.Basics.{_≡_, false, ℕ, _<_, T, pos, getD, length}
 use Rattle.laws.proofs.Members.{membersSum}
 use Rattle.laws.specs.Statements.{ownHolding}
 use Rattle.laws_sales.specs.Borne.{OwnRisk}

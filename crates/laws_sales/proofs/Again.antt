@@ -1,7 +1,5 @@
 -- Trades that stand anew twice, one after the other: the book is the one of the last trades. Assumes nothing.
-use mathlib.Core.List.{List, map-map}
-use mathlib.Core.Path.{_≡_, sym, ap, _∙_}
-use lib.Dec.{T}
+use Rattle.base.specs.Basics.{_≡_, sym, ap, _∙_, List, map-map, T}
 use Rattle.laws.proofs.Settle.{retraded-anew, retraded-sound}
 use Rattle.laws.specs.Sound.{Sound}
 use Rattle.laws.proofs.Trades.{pairs-trans}

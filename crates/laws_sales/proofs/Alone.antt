@@ -1,15 +1,7 @@
 -- A book of a version without managers, 1 or 2: everybody bears its own risk, and what the rules read of users and trades is document 01's. Assumes nothing.
-use mathlib.Core.Bool.{Bool, true, false, not, cond, _&&_, _||_}
-use mathlib.Core.List.{List, [], _∷_, map}
-use mathlib.Core.Path.{_≡_, refl, sym, ap, ap₂, subst, _∙_}
-use Prim.Native.Nat.{ℕ, zero, suc, _≤_, _<_}
-use native.Mathlib.Nat.{le-of-eq, le-of-suc-le-suc, not-suc-le-zero}
-use native.Mathlib.Omega.{arith}
-use lib.Dec.{T, eqb, eqb→eq, ltb, ltb→lt}
-use lib.IntN.{ℤ, pos, _+ℤ_, +ℤ-idr, +ℤ-idl}
-use lib.ListN.{length, getD, length-map, List·getD-map}
-use lib.Seq.{ext-getD}
-use borrow.Author.Tests.{eq-eqb, ne-eqb}
+use Rattle.base.specs.Basics.{_≡_, refl, sym, ap, ap₂, subst, _∙_, Bool, true, false, not, cond, _&&_, _||_, List, [], _∷_, map, ℕ, zero, suc, _≤_}
+use Rattle.base.specs.Basics.{_<_, le-of-eq, le-of-suc-le-suc, not-suc-le-zero, arith, T, eqb, eqb→eq, ltb, ltb→lt, ℤ, pos, _+ℤ_, +ℤ-idr, +ℤ-idl}
+use Rattle.base.specs.Basics.{length, getD, length-map, List·getD-map, ext-getD, eq-eqb, ne-eqb}
 use Rattle.base.proofs.Fronts.{getD-inside}
 use Rattle.base.proofs.Tests.{and-l, and-r, eqb-comm, map-by, sumℤ-by}
 use Rattle.base.specs.Sums.{sumℤ}
@@ -21,7 +13,7 @@ use Rattle.laws.specs.Statements.{ownHolding}
 use Rattle.rules.specs.Areas.{managersIn}
 use Rattle.rules.specs.Bearers.{asBorne, bearer, borneSum}
 use Rattle.rules.specs.Book.{Book, PerArea, Trade, User, at, find, managerIn, nobody}
-use Rattle.rules.specs.Levels.{holding, partyTo, sellerOf, sells}
+use Rattle.rules.specs.Levels.{partyTo, sellerOf, sells}
 use Rattle.rules.specs.Questions.{groupsValid, idsRise, known, managerValid, managersValid, manages, partiesValid, tradeValid}
 use Rattle.laws_sales.proofs.Settled.{ids-above}
 use Rattle.laws_sales.proofs.Sums.{held-borne}

@@ -1,13 +1,6 @@
 -- The places of all own sales: each is that of a trade of kind 0 and day 0, and no two are the same. Assumes nothing.
-use mathlib.Core.Bool.{Bool, not}
-use mathlib.Core.List.{List, [], _∷_, _++_, map}
-use mathlib.Core.Path.{_≡_, sym, subst}
-use Prim.Native.Nat.{ℕ, zero, suc, _≤_, _<_}
-use native.Mathlib.Nat.{le-of-suc-le-suc, not-suc-le-zero}
-use native.Mathlib.Omega.{arith}
-use lib.Dec.{T, T-not, eqb, eqb·suc-suc, ltb, ltb→lt}
-use lib.ListN.{getD, length}
-use borrow.Author.Tests.{ne-eqb}
+use Rattle.base.specs.Basics.{_≡_, sym, subst, Bool, not, List, [], _∷_, _++_, map, ℕ, zero, suc, _≤_, _<_, le-of-suc-le-suc, not-suc-le-zero, arith}
+use Rattle.base.specs.Basics.{T, T-not, eqb, eqb·suc-suc, ltb, ltb→lt, getD, length, ne-eqb}
 use Rattle.base.proofs.Fronts.{all-at}
 use Rattle.base.proofs.Tests.{all-append, all-by, all-map, and-i, and-l, and-r, eqb-of, by-case, fails, holds}
 use Rattle.rules.specs.Book.{Trade, User, bilateralForDay}

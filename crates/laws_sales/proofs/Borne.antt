@@ -1,12 +1,6 @@
 -- Where trades change, and positions are settled with them, the book as its risk is borne changes alike: the sum of who bears a party's risk moves as the party's position does. Assumes nothing.
-use mathlib.Core.Bool.{Bool, true, false, cond, _||_}
-use mathlib.Core.List.{List, [], _∷_, map, map-map}
-use mathlib.Core.Path.{_≡_, refl, sym, ap, ap₂, fun-ext, _∙_}
-use Prim.Native.Nat.{ℕ, zero, suc, _<_}
-use native.Mathlib.Nat.{le-of-eq}
-use native.Mathlib.Omega.{arith}
-use lib.Dec.{T, eqb, ltb, eqb→eq}
-use lib.IntN.{ℤ, pos, negℤ, _+ℤ_, +ℤ-assoc, +ℤ-comm, +ℤ-idr}
+use Rattle.base.specs.Basics.{_≡_, refl, sym, ap, ap₂, fun-ext, _∙_, Bool, true, false, cond, _||_, List, [], _∷_, map, map-map, ℕ, _<_, le-of-eq}
+use Rattle.base.specs.Basics.{arith, T, eqb, ltb, eqb→eq, ℤ, pos, negℤ, _+ℤ_, +ℤ-assoc, +ℤ-comm, +ℤ-idr}
 use Rattle.base.specs.Lists.{all, any}
 use Rattle.base.specs.Sums.{sumℤ}
 use Rattle.base.proofs.Sums.{sumℤ-map, sumℤ-ext}

@@ -1,13 +1,7 @@
 -- After the cuts of a reduction: who is party to a trade standing below notified, who is short of cover and who has an eligible trade. Assumes nothing.
-use mathlib.Core.Bool.{Bool, true, false, not, cond, _&&_, _||_}
-use mathlib.Core.List.{List, [], _∷_, map, map-map}
-use mathlib.Core.Path.{_≡_, refl, sym, ap, ap₂, fun-ext, _∙_}
-use Prim.Native.Nat.{ℕ, _+_, _-_, _*_, _≤_}
-use native.Mathlib.Omega.{arith}
-use lib.Dec.{T, eqb, ltb, leb, leb→le, eqb→eq, ltb→lt}
-use lib.IntN.{ℤ, pos, _+ℤ_, _-ℤ_}
-use lib.ListN.{length}
-use borrow.Author.Tests.{lt-ltb, le-ltb, ltb-true, ltb-false, ne-eqb}
+use Rattle.base.specs.Basics.{_≡_, refl, sym, ap, ap₂, fun-ext, _∙_, Bool, true, false, not, cond, _&&_, _||_, List, [], _∷_, map, map-map, ℕ, _+_}
+use Rattle.base.specs.Basics.{_-_, _*_, _≤_, arith, T, eqb, ltb, leb, leb→le, eqb→eq, ltb→lt, ℤ, pos, _+ℤ_, _-ℤ_, length, lt-ltb, le-ltb, ltb-true}
+use Rattle.base.specs.Basics.{ltb-false, ne-eqb}
 use Rattle.laws_sales.specs.Parties.{isCut, cutBefore}
 use Rattle.base.specs.Parts.{posPart, negPart}
 use Rattle.base.specs.Sums.{sum}
@@ -20,7 +14,6 @@ use Rattle.rules.specs.Bearers.{asBorne}
 use Rattle.rules.specs.Book.{Party, Terms, Book, User, Trade, bilateralForDay, dealt, sold, bought}
 use Rattle.rules.specs.Levels.{Limits, Holding, partyTo, floored, stock, afternoonNeed, afternoonSum, credit, exposure, leastReferencePrice, levelFrom, flaggedFrom, afternoonLevel, flagged, calledIn, exceedsMargin, shipper, shortOfCover}
 use Rattle.base.specs.Lists.{all, any}
-use Rattle.rules.specs.Questions.{tradeValid, amountsValid}
 use Rattle.rules.specs.Reduction.{hasEligible, target, cutBy, cutAll}
 use Rattle.laws_sales.proofs.Cuts.{cut-yes, cut-no}
 use Rattle.laws_sales.proofs.Kept.{kept-map, kept-yes, kept-no, any-kept}

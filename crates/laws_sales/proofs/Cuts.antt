@@ -1,14 +1,6 @@
 -- The cuts of a reduction are those of the user's own sales, spread over the trades; what they do to the sales of each user and to the tally. Assumes nothing.
-use mathlib.Core.Bool.{Bool, true, false, not, cond, _&&_, _||_}
-use mathlib.Core.List.{List, [], _∷_, map, map-map}
-use mathlib.Core.Path.{_≡_, refl, sym, ap, ap₂, subst, fun-ext, _∙_}
-use Prim.Native.Nat.{ℕ, _+_, _-_}
-use native.Mathlib.Nat.{sub-zero, zero-mul}
-use native.Mathlib.Omega.{arith}
-use lib.Dec.{T, eqb, leb, ltb}
-use lib.IntN.{ℤ}
-use lib.ListN.{length, length-map}
-use borrow.Author.Tests.{ltb-false}
+use Rattle.base.specs.Basics.{_≡_, refl, sym, ap, ap₂, subst, fun-ext, _∙_, Bool, true, false, not, cond, _&&_, _||_, List, [], _∷_, map, map-map, ℕ}
+use Rattle.base.specs.Basics.{_+_, _-_, sub-zero, zero-mul, arith, T, eqb, leb, ltb, ℤ, length, length-map, ltb-false}
 use Rattle.laws.proofs.Cuts.{together-within, lot-standings}
 use Rattle.laws.proofs.Shares.{eachWithin, within-length, tier-length, tier-within}
 use Rattle.base.proofs.Tests.{and-i, and-l, and-r, map-by, by-case, holds}

@@ -1,13 +1,7 @@
 -- Positions while own sales are cut one after the other: after each, the users are those of an accepted book, so that their positions are within the range of one.
 -- Start, a turn and the end of a loop over the sales, by the places of the users. Assumes nothing.
-use mathlib.Core.Bool.{Bool, _||_}
-use mathlib.Core.List.{List, [], _∷_, map}
-use mathlib.Core.Path.{_≡_, sym, ap, subst, _∙_}
-use Prim.Native.Nat.{ℕ, suc, _≤_, _<_}
-use native.Mathlib.Omega.{arith}
-use lib.Dec.{T, eqb, leb, le→leb}
-use lib.ListN.{length, take, getD, length-map, length-take, List·getD-eq-default, List·getD-map}
-use lib.Seq.{take-all, getD-take}
+use Rattle.base.specs.Basics.{_≡_, sym, ap, subst, _∙_, Bool, _||_, List, [], _∷_, map, ℕ, suc, _≤_, _<_, arith, T, eqb, leb, le→leb, length, take}
+use Rattle.base.specs.Basics.{getD, length-map, length-take, List·getD-eq-default, List·getD-map, take-all, getD-take}
 use Rattle.base.proofs.Fronts.{getD-inside}
 use Rattle.base.proofs.Linear.{by-order}
 use Rattle.base.specs.Parts.{posPart, negPart}

@@ -1,12 +1,5 @@
 -- The elements that pass a test, and numbers spread over a list. Assumes nothing.
-use mathlib.Core.Bool.{Bool, true, false, not, _&&_, _||_}
-use mathlib.Core.List.{List, [], _∷_, map}
-use mathlib.Core.Path.{_≡_, refl, ap, ap₂}
-use Prim.Native.Nat.{ℕ, _+_, _≤_}
-use native.Mathlib.Nat.{le-refl}
-use native.Mathlib.Omega.{arith}
-use lib.Dec.{T}
-use lib.ListN.{length}
+use Rattle.base.specs.Basics.{_≡_, refl, ap, ap₂, Bool, true, false, not, _&&_, _||_, List, [], _∷_, map, ℕ, _+_, _≤_, le-refl, arith, T, length}
 use Rattle.base.proofs.Tests.{and-l, and-r, and-i, holds, fails, by-case}
 use Rattle.base.specs.Lists.{all, any}
 use Rattle.rules.specs.Reduction.{together}

@@ -1,11 +1,5 @@
 -- The trades of a tier and their worth: a list of lots from two lists of numbers, trade by trade. Assumes nothing.
-use mathlib.Core.Path.{_≡_, refl, ap}
-use mathlib.Core.Bool.{Bool}
-use mathlib.Core.List.{List, [], _∷_, map}
-use Prim.Native.Nat.{ℕ, suc, _*_, _≤_}
-use native.Mathlib.Nat.{mul-le-mul}
-use native.Mathlib.Omega.{arith}
-use lib.ListN.{length}
+use Rattle.base.specs.Basics.{_≡_, refl, ap, Bool, List, [], _∷_, map, ℕ, suc, _*_, _≤_, mul-le-mul, arith, length}
 use Rattle.laws.specs.Trades.{standingIf, tariffOf}
 use Rattle.rules.specs.Areas.{Prices}
 use Rattle.rules.specs.Book.{Trade}

@@ -1,12 +1,6 @@
 -- The user that is reduced next, by a test of the user at each place. Assumes nothing.
-use mathlib.Core.Bool.{Bool, true, false}
-use mathlib.Core.List.{List, [], _∷_}
-use mathlib.Core.Option.{none, some}
-use mathlib.Core.Path.{_≡_, refl, sym, _∙_}
-use Prim.Native.Nat.{ℕ, zero, suc, _<_}
-use native.Mathlib.Nat.{not-suc-le-zero, le-of-suc-le-suc}
-use native.Mathlib.Omega.{arith}
-use lib.ListN.{length, getD}
+use Rattle.base.specs.Basics.{_≡_, refl, sym, _∙_, Bool, true, false, none, some, List, [], _∷_, ℕ, zero, suc, _<_, not-suc-le-zero, le-of-suc-le-suc}
+use Rattle.base.specs.Basics.{arith, length, getD}
 use Rattle.rules.specs.Book.{Book, User, nobody}
 use Rattle.rules.specs.Calls.{nextReduced}
 use Rattle.rules.specs.Levels.{Limits}

@@ -1,11 +1,6 @@
 -- Own sales as lists of numbers: their tiers, their cuts, and what stands of them after the cuts. Assumes nothing.
-use mathlib.Core.Bool.{Bool, not, cond}
-use mathlib.Core.List.{List, [], _∷_, map}
-use mathlib.Core.Path.{_≡_, refl, sym, ap, ap₂, _∙_}
-use Prim.Native.Nat.{ℕ, zero, suc, _-_, _<_}
-use native.Mathlib.Nat.{not-suc-le-zero, le-of-suc-le-suc}
-use native.Mathlib.Omega.{arith}
-use lib.ListN.{length, getD, length-map, List·getD-eq-default, List·getD-map}
+use Rattle.base.specs.Basics.{_≡_, refl, sym, ap, ap₂, _∙_, Bool, not, cond, List, [], _∷_, map, ℕ, zero, suc, _-_, _<_, not-suc-le-zero}
+use Rattle.base.specs.Basics.{le-of-suc-le-suc, arith, length, getD, length-map, List·getD-eq-default, List·getD-map}
 use Rattle.base.proofs.Fronts.{getD-inside}
 use Rattle.laws.specs.Trades.{standingIf, tariffOf}
 use Rattle.rules.specs.Areas.{Prices}

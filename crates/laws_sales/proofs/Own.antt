@@ -1,10 +1,5 @@
 -- A sale is its seller's, of trades as they are borne: the test is one of the terms, no trade is a sale of two users, each is one of some user, and those that stand above 0 are eligible. Assumes nothing.
-use mathlib.Core.Bool.{Bool, true, false, not, cond, _&&_}
-use mathlib.Core.List.{List, [], _∷_}
-use mathlib.Core.Path.{_≡_, refl, sym, ap, _∙_}
-use Prim.Native.Nat.{ℕ}
-use lib.Dec.{T, eqb, eqb→eq, ltb}
-use borrow.Author.Tests.{ne-eqb}
+use Rattle.base.specs.Basics.{_≡_, refl, sym, ap, _∙_, Bool, true, false, not, cond, _&&_, List, [], _∷_, ℕ, T, eqb, eqb→eq, ltb, ne-eqb}
 use Rattle.base.proofs.Tests.{and-l, and-r, eqb-comm, or-l, by-case}
 use Rattle.rules.specs.Bearers.{asBorne}
 use Rattle.rules.specs.Book.{Book, Terms, Trade, User, bilateralForDay}

@@ -1,12 +1,8 @@
 -- A part of a list, by where it starts and where it ends: its length, its elements, its first element and the rest, stores in it, what lies around it, and the
 -- parts that a change of another leaves. Assumes nothing.
-use mathlib.Core.List.{List, [], _∷_, _++_}
-use mathlib.Core.Path.{_≡_, refl, sym, ap, ap₂, _∙_}
-use Prim.Native.Nat.{ℕ, suc, _+_, _-_, _≤_, _<_}
-use native.Mathlib.Numerals.{add-one}
-use native.Mathlib.Omega.{arith}
-use lib.ListN.{length, take, drop, getD, set, length-take, length-drop, length-set, List·getD-eq-default}
-use lib.Seq.{length-take-le, drop-cons, drop-drop, getD-take, getD-drop, take-take, take-set-le, take-set-lt, drop-set-lt, drop-set-add, sets, sets-eq, length-sets}
+use Rattle.base.specs.Basics.{_≡_, refl, sym, ap, ap₂, _∙_, List, [], _∷_, _++_, ℕ, suc, _+_, _-_, _≤_, _<_, add-one, arith, length, take, drop, getD}
+use Rattle.base.specs.Basics.{set, length-take, length-drop, length-set, List·getD-eq-default, length-take-le, drop-cons, drop-drop, getD-take}
+use Rattle.base.specs.Basics.{getD-drop, take-take, take-set-le, take-set-lt, drop-set-lt, drop-set-add, sets, sets-eq, length-sets}
 use Rattle.fields.proofs.Sets.{sets-part, part-of-sets, take-of-drop, take-sets, drop-sets}
 use Rattle.base.proofs.Linear.{by-order}
 use Rattle.laws_sales.specs.Parts.{part}

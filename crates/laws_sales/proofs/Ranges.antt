@@ -1,8 +1,5 @@
 -- What stands of valid trades that pass a test, with their tariffs, is in the range of a tier. Assumes nothing.
-use mathlib.Core.Bool.{Bool, true, false, cond}
-use Prim.Native.Nat.{ℕ, _≤_}
-use native.Mathlib.Omega.{arith}
-use lib.Dec.{eqb}
+use Rattle.base.specs.Basics.{Bool, true, false, cond, ℕ, _≤_, arith, eqb}
 use Rattle.base.proofs.Tests.{by-test}
 use Rattle.rules.specs.Areas.{Prices, tariff}
 

@@ -1,14 +1,7 @@
 -- A reduction in an accepted book, said of the user's own sales alone; and the users that it leaves as they were: neither the seller nor the buyer of a sale that lost
 -- something. Assumes nothing.
-use mathlib.Core.Bool.{Bool, true, false, _&&_, _||_}
-use mathlib.Core.List.{List, [], _∷_, map}
-use mathlib.Core.Path.{_≡_, refl, sym, ap, subst, _∙_}
-use Prim.Native.Nat.{ℕ, zero, suc}
-use native.Mathlib.Omega.{arith}
-use lib.Dec.{T, eqb, ltb}
-use lib.IntN.{negℤ}
-use lib.ListN.{getD}
-use borrow.Author.Tests.{ltb-false}
+use Rattle.base.specs.Basics.{_≡_, refl, sym, ap, subst, _∙_, Bool, true, false, _&&_, _||_, List, [], _∷_, map, ℕ, zero, suc, arith, T, eqb, ltb}
+use Rattle.base.specs.Basics.{negℤ, getD, ltb-false}
 use Rattle.laws_sales.specs.Parties.{cutBefore}
 use Rattle.laws.proofs.Reduction.{cuts-lowered}
 use Rattle.laws.specs.Sound.{Sound}

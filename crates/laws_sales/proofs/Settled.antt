@@ -1,15 +1,8 @@
 -- Positions after the cuts of a reduction: a trade that loses nothing moves nobody, so the own sales alone settle them; sale by sale, and by the places of the
 -- users. Assumes nothing.
-use mathlib.Core.Bool.{Bool, cond}
-use mathlib.Core.List.{List, [], _∷_, map}
-use mathlib.Core.Path.{_≡_, refl, sym, ap, ap₂, _∙_}
-use Prim.Native.Nat.{ℕ, zero, suc, _≤_, _<_}
-use native.Mathlib.Nat.{le-of-eq, not-suc-le-zero, le-of-suc-le-suc}
-use native.Mathlib.Omega.{arith}
-use lib.Dec.{T, eqb, ltb, ltb→lt, eqb·zero-suc, eqb·suc-zero, eqb·suc-suc}
-use lib.IntN.{ℤ, pos, negℤ, +ℤ-idr}
-use lib.ListN.{length, take, getD, set, length-map, List·getD-map}
-use borrow.Author.Tests.{eq-eqb, ne-eqb}
+use Rattle.base.specs.Basics.{_≡_, refl, sym, ap, ap₂, _∙_, Bool, cond, List, [], _∷_, map, ℕ, zero, suc, _≤_, _<_, le-of-eq, not-suc-le-zero}
+use Rattle.base.specs.Basics.{le-of-suc-le-suc, arith, T, eqb, ltb, ltb→lt, eqb·zero-suc, eqb·suc-zero, eqb·suc-suc, ℤ, pos, negℤ, +ℤ-idr, length}
+use Rattle.base.specs.Basics.{take, getD, set, length-map, List·getD-map, eq-eqb, ne-eqb}
 use Rattle.base.proofs.Linear.{eq-parts, posPart-pos, negPart-pos}
 use Rattle.base.proofs.Tests.{and-l, and-r, by-test, by-case}
 use Rattle.laws.proofs.Trades.{parts-lost}

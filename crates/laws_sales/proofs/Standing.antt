@@ -1,10 +1,5 @@
 -- What stands of trades: amounts written at places; and what stays of the own sales of users where trades differ in what stands of kind 0 and day 0 only. Assumes nothing.
-use mathlib.Core.Bool.{Bool}
-use mathlib.Core.List.{List, [], _∷_, _++_, map}
-use mathlib.Core.Path.{_≡_, refl, sym, ap, ap₂, _∙_}
-use Prim.Native.Nat.{ℕ, zero, suc}
-use native.Mathlib.Omega.{arith}
-use lib.ListN.{length, take, getD, set, length-map}
+use Rattle.base.specs.Basics.{_≡_, refl, sym, ap, ap₂, _∙_, Bool, List, [], _∷_, _++_, map, ℕ, zero, suc, arith, length, take, getD, set, length-map}
 use Rattle.base.proofs.Tests.{by-case}
 use Rattle.laws.specs.Trades.{Framed, Pairwise, ended, then}
 use Rattle.rules.specs.Book.{Book, Party, Terms, User, Trade}

@@ -1,15 +1,10 @@
 -- What a user holds in a book as its risk is borne, by its own record and its own trades, is what the rules say that it holds in the book. Assumes nothing.
-use mathlib.Core.Bool.{Bool, cond, _&&_}
-use mathlib.Core.List.{List, map}
-use mathlib.Core.Path.{_≡_, refl, sym, ap, _∙_}
-use Prim.Native.Nat.{ℕ, zero, suc}
-use lib.Dec.{eqb}
+use Rattle.base.specs.Basics.{_≡_, refl, sym, _∙_, cond, _&&_, List, ℕ, zero, suc, eqb}
 use Rattle.base.proofs.Sums.{sum-map}
-use Rattle.base.specs.Sums.{sum}
 use Rattle.laws.specs.Statements.{ownHolding}
 use Rattle.rules.specs.Bearers.{asBorne, bearer, borne, borneSum}
-use Rattle.rules.specs.Book.{Book, PerArea, Terms, Trade, User, at, bought, dealt, managerIn, sold}
-use Rattle.rules.specs.Levels.{Holding, holding}
+use Rattle.rules.specs.Book.{Book, PerArea, Trade, User, at, bought, dealt, managerIn, sold}
+use Rattle.rules.specs.Levels.{holding}
 use Rattle.laws_sales.specs.Borne.{borneBook, borneSums, borneTrade, borneUser, shut}
 
 -- the sum of an area

@@ -1,11 +1,6 @@
 -- What is known of each own sale of an accepted book as its risk is borne, and of its tiers. Assumes nothing.
-use mathlib.Core.Bool.{Bool, true, false, not, cond, _&&_}
-use mathlib.Core.List.{List}
-use mathlib.Core.Path.{_≡_, refl, sym, ap, _∙_}
-use Prim.Native.Nat.{ℕ, _≤_, _<_}
-use native.Mathlib.Omega.{arith}
-use lib.Dec.{T, eqb, eqb→eq, leb→le, ltb→lt, T-not}
-use lib.ListN.{length, getD}
+use Rattle.base.specs.Basics.{_≡_, refl, sym, _∙_, Bool, true, false, not, cond, _&&_, List, ℕ, _≤_, _<_, arith, T, eqb, eqb→eq, leb→le, ltb→lt}
+use Rattle.base.specs.Basics.{T-not, length, getD}
 use Rattle.base.proofs.Fronts.{all-at}
 use Rattle.laws.proofs.Managers.{bearer-known}
 use Rattle.laws.proofs.Positions.{buyer-known, seller-known}

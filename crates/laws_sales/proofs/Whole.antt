@@ -1,10 +1,5 @@
 -- What stands of all own sales, written at their places, is what stands of the trades. Assumes nothing.
-use mathlib.Core.Bool.{Bool, true, false, not, cond, _||_}
-use mathlib.Core.List.{List, [], _∷_, map}
-use mathlib.Core.Path.{_≡_, refl, sym, ap, ap₂, _∙_}
-use Prim.Native.Nat.{ℕ}
-use lib.Dec.{T, T-not}
-use lib.ListN.{length, length-map}
+use Rattle.base.specs.Basics.{_≡_, refl, sym, ap, ap₂, _∙_, Bool, true, false, not, cond, _||_, List, [], _∷_, map, ℕ, T, T-not, length, length-map}
 use Rattle.base.proofs.Tests.{and-l, and-r, by-case, fails}
 use Rattle.laws.proofs.Trades.{framed-refl}
 use Rattle.laws.specs.Trades.{Framed, Pairwise, ended, then}

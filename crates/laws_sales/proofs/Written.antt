@@ -1,10 +1,5 @@
 -- What stands of the trades that pass a test, less their cuts, written at their places: the trades with these cuts, and no cut of the others. Assumes nothing.
-use mathlib.Core.Bool.{Bool, true}
-use mathlib.Core.List.{List, [], _∷_, map}
-use mathlib.Core.Path.{_≡_, refl, sym, ap, ap₂, _∙_}
-use Prim.Native.Nat.{ℕ}
-use native.Mathlib.Omega.{arith}
-use lib.ListN.{length}
+use Rattle.base.specs.Basics.{_≡_, refl, sym, ap, ap₂, _∙_, Bool, true, List, [], _∷_, map, ℕ, arith, length}
 use Rattle.base.proofs.Tests.{by-case}
 use Rattle.rules.specs.Book.{Trade}
 use Rattle.rules.specs.Reduction.{cutBy, cutAll}

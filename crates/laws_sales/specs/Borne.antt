@@ -1,11 +1,6 @@
 -- A book as its risk is borne: each user with the sums over itself and its members, each trade between those who bear the risk of its parties. What the rules say of a book with
 -- managers they say of this one without. Assumes nothing.
-use mathlib.Core.Bool.{Bool, not, cond, _&&_, _||_}
-use mathlib.Core.List.{List, map}
-use mathlib.Core.Path.{_≡_}
-use Prim.Native.Nat.{ℕ, _<_}
-use lib.Dec.{T, eqb, leb, ltb}
-use lib.ListN.{length, getD}
+use Rattle.base.specs.Basics.{_≡_, Bool, not, cond, _&&_, _||_, List, map, ℕ, _<_, T, eqb, leb, ltb, length, getD}
 use Rattle.laws.specs.Statements.{ownHolding}
 use Rattle.rules.specs.Bearers.{asBorne, borneSum}
 use Rattle.rules.specs.Book.{Book, PerArea, Trade, User, bilateralForDay, find, nobody}

@@ -1,6 +1,5 @@
 -- A tier as the code has it: the standing amounts and the tariffs of its trades, in two lists. Assumes nothing.
-use mathlib.Core.List.{List, [], _∷_}
-use Prim.Native.Nat.{ℕ}
+use Rattle.base.specs.Basics.{List, [], _∷_, ℕ}
 use Rattle.rules.specs.Shares.{Lot}
 
 -- the trades of a tier, as many as the shorter list has

@@ -1,9 +1,5 @@
 -- Whose sale a trade is: for the user of an id a test of the trade's terms, and what laws ask of such tests. Assumes nothing.
-use mathlib.Core.Bool.{Bool, false, _&&_}
-use mathlib.Core.List.{List}
-use mathlib.Core.Path.{_≡_}
-use Prim.Native.Nat.{ℕ}
-use lib.Dec.{T, ltb}
+use Rattle.base.specs.Basics.{_≡_, Bool, false, _&&_, List, ℕ, T, ltb}
 use Rattle.rules.specs.Book.{Book, Trade, User, bilateralForDay}
 use Rattle.base.specs.Lists.{any}
 use Rattle.rules.specs.Reduction.{eligible}

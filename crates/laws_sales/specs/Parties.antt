@@ -1,8 +1,5 @@
 -- Tests of the trades of the user of an id. Assumes nothing.
-use mathlib.Core.Bool.{Bool, _&&_, _||_}
-use mathlib.Core.List.{List}
-use Prim.Native.Nat.{ℕ}
-use lib.Dec.{eqb, ltb}
+use Rattle.base.specs.Basics.{Bool, _&&_, _||_, List, ℕ, eqb, ltb}
 use Rattle.base.specs.Lists.{any}
 use Rattle.rules.specs.Book.{Trade}
 

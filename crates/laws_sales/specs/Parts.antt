@@ -1,7 +1,5 @@
 -- A part of a list, by where it starts and where it ends. Assumes nothing.
-use mathlib.Core.List.{List}
-use Prim.Native.Nat.{ℕ, _-_}
-use lib.ListN.{take, drop}
+use Rattle.base.specs.Basics.{List, ℕ, _-_, take, drop}
 
 -- the part of a list that starts at a place and ends before another
 abbrev pub part : {A : Type 0} → ℕ → ℕ → List A → List A

@@ -1,9 +1,5 @@
 -- What a reduction of a user for an amount does to a book, said of the user's own sales alone. Assumes nothing.
-use mathlib.Core.Bool.{Bool, _||_}
-use mathlib.Core.List.{List, map}
-use mathlib.Core.Path.{_≡_}
-use Prim.Native.Nat.{ℕ}
-use lib.ListN.{take}
+use Rattle.base.specs.Basics.{_≡_, Bool, _||_, List, map, ℕ, take}
 use Rattle.laws_sales.specs.Parties.{cutBefore}
 use Rattle.laws.specs.Trades.{Lowered, Pairwise}
 use Rattle.rules.specs.Book.{Book, User, Trade}

@@ -1,10 +1,5 @@
 -- A user's own sales, which alone a reduction of the user cuts, and the cuts of such a list of sales. Assumes nothing.
-use mathlib.Core.Bool.{Bool, false, not, cond, _&&_, _||_}
-use mathlib.Core.List.{List, [], _∷_, map}
-use Prim.Native.Nat.{ℕ, _-_}
-use lib.Dec.{eqb, ltb}
-use lib.IntN.{pos, negℤ}
-use lib.ListN.{getD, set}
+use Rattle.base.specs.Basics.{Bool, false, not, cond, _&&_, _||_, List, [], _∷_, map, ℕ, _-_, eqb, ltb, pos, negℤ, getD, set}
 use Rattle.base.specs.Parts.{negPart}
 use Rattle.rules.specs.Areas.{Prices}
 use Rattle.rules.specs.Book.{at, User, Trade, bilateralForDay, nobody}

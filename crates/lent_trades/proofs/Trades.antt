@@ -1,9 +1,6 @@
 -- What the walks share of a trade: the record with another standing amount, its machine values and its laws.
 -- Assumes nothing.
-use mathlib.Core.Path.{refl}
-use Prim.Native.Nat.{ℕ, _<_, _^_, _*_}
-use native.Mathlib.Omega.{arith}
-use mathlib.Core.List.{List}
+use Rattle.base.specs.Basics.{refl, List, ℕ, _<_, _^_, _*_, arith}
 use mir.Val.{Val}
 use denote.RattleType.{RattleType}
 use denote.Laws.{Is}

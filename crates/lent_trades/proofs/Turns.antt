@@ -1,10 +1,6 @@
 -- The list of trades in a loop that has cut the first i of them: what is left to cut gives the whole list. Its start, a turn and its end. Assumes nothing.
-use mathlib.Core.Path.{_≡_, refl, ap, _∙_}
-use Prim.Native.Nat.{ℕ, zero, suc, _-_, _<_, _≤_, min}
-use native.Mathlib.Nat.{sub-zero, not-suc-le-zero, le-of-suc-le-suc}
-use native.Mathlib.Omega.{arith}
-use mathlib.Core.List.{List, [], _∷_, map}
-use lib.ListN.{length, getD, set}
+use Rattle.base.specs.Basics.{_≡_, refl, ap, _∙_, List, [], _∷_, map, ℕ, zero, suc, _-_, _<_, _≤_, min, sub-zero, not-suc-le-zero, le-of-suc-le-suc}
+use Rattle.base.specs.Basics.{arith, length, getD, set}
 use Rattle.rules.specs.Book as model
 use Rattle.rules.specs.Reduction.{cutBy, cutAll}
 use Rattle.book_records.specs.declared.Trade.{Trade}

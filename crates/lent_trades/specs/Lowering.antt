@@ -1,7 +1,5 @@
 -- Trades that are lowered by their cuts. Assumes nothing.
-use mathlib.Core.List.{List, map}
-use mathlib.Core.Path.{_≡_}
-use Prim.Native.Nat.{ℕ}
+use Rattle.base.specs.Basics.{_≡_, List, map, ℕ}
 use Rattle.rules.specs.Reduction.{cutAll}
 use Rattle.book_records.specs.declared.Trade.{Trade}
 use Rattle.book_records.specs.Trade.{asTrade}

@@ -1,7 +1,6 @@
 -- What the walks share of a user and of an amount of money: the machine values, their laws, and what a call's result that is an amount shows.
 -- Assumes nothing.
-use mathlib.Core.Path.{_≡_, subst, ap}
-use mathlib.Core.List.{[], _∷_, List}
+use Rattle.base.specs.Basics.{_≡_, subst, ap, [], _∷_, List}
 use mir.Val.{Val}
 use denote.RattleType.{RattleType}
 use denote.Laws.{Is}

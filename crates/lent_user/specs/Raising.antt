@@ -1,6 +1,5 @@
 -- A blocked guarantee that is raised to a level, alone and in a user's record. Assumes nothing.
-use mathlib.Core.Path.{_≡_}
-use Prim.Native.Nat.{ℕ, _+_, _-_}
+use Rattle.base.specs.Basics.{_≡_, ℕ, _+_, _-_}
 use Rattle.rules.specs.Changes.{blockedTo}
 use Rattle.units.specs.declared.Cents.{Cents}
 use Rattle.book_records.specs.declared.User.{User}

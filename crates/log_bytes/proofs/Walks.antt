@@ -1,13 +1,6 @@
 -- A walk over bytes: the answer so far, with that of the places left, is the whole answer; and a list filled with one value place by place. Assumes nothing.
-use mathlib.Core.Bool.{Bool, true, false, _&&_}
-use mathlib.Core.List.{List}
-use mathlib.Core.Path.{_≡_, refl, sym, ap, _∙_}
-use Prim.Native.Nat.{ℕ, _+_, _≤_, _<_}
-use native.Mathlib.Numerals.{add-one}
-use native.Mathlib.Omega.{arith}
-use lib.Dec.{eqb}
-use lib.ListN.{length, drop, getD, set, replicate, length-set, length-replicate, getD-replicate, drop-of-length-le}
-use lib.Seq.{drop-cons, ext-getD}
+use Rattle.base.specs.Basics.{_≡_, refl, sym, ap, _∙_, Bool, true, false, _&&_, List, ℕ, _+_, _≤_, _<_, add-one, arith, eqb, length, drop, getD, set}
+use Rattle.base.specs.Basics.{replicate, length-set, length-replicate, getD-replicate, drop-of-length-le, drop-cons, ext-getD}
 use Rattle.base.proofs.Stores.{set-front}
 use Rattle.base.specs.Lists.{all}
 use Rattle.log_format.specs.Fits.{sameBytes, zeros}

@@ -1,11 +1,6 @@
 -- An entry, cut by cut: what is left to write, written, gives the whole. Assumes nothing.
-use mathlib.Core.List.{List, [], _++_}
-use mathlib.Core.Path.{_≡_, refl, sym, ap, ap₂, subst, _∙_}
-use Prim.Native.Nat.{ℕ, suc, _+_, _-_, _*_, _≤_, _<_}
-use native.Mathlib.Nat.{sub-self}
-use native.Mathlib.Omega.{arith}
-use lib.ListN.{length, getD, set, drop, replicate, length-set, drop-of-length-le}
-use lib.Seq.{drop-cons, length-sets}
+use Rattle.base.specs.Basics.{_≡_, refl, sym, ap, ap₂, subst, _∙_, List, [], _++_, ℕ, suc, _+_, _-_, _*_, _≤_, _<_, sub-self, arith, length, getD}
+use Rattle.base.specs.Basics.{set, drop, replicate, length-set, drop-of-length-le, drop-cons, length-sets}
 use Rattle.fields.proofs.Field.{length-setField, length-toBytes}
 use Rattle.fields.proofs.Records.{bytesOfRecords-set, length-bytesOfRecords}
 use Rattle.fields.proofs.Sets.{sets-left}

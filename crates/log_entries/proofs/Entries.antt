@@ -1,10 +1,6 @@
 -- The entries of a log after one more is noted, the last is dropped, all are dropped; and the log that holds a book with them. Assumes nothing.
-use mathlib.Core.List.{List, [], _∷_, _++_}
-use mathlib.Core.Path.{_≡_, refl, sym, ap, ap₂, _∙_}
-use Prim.Native.Nat.{ℕ, zero, suc, _+_, _-_, _*_, _≤_, _<_}
-use native.Mathlib.Omega.{arith}
-use lib.ListN.{length, getD, take, drop, replicate, length-replicate, replicate-append-replicate}
-use lib.Seq.{drop-drop, length-sets, sets}
+use Rattle.base.specs.Basics.{_≡_, refl, sym, ap, ap₂, _∙_, List, [], _∷_, _++_, ℕ, zero, suc, _+_, _-_, _*_, _≤_, _<_, arith, length, getD, take}
+use Rattle.base.specs.Basics.{drop, replicate, length-replicate, replicate-append-replicate, drop-drop, length-sets, sets}
 use borrow.Rule.Slice.PartMut.{putMid}
 use Rattle.fields.proofs.Sets.{drop-sets-add, length-part, part-sets}
 use Rattle.fields.specs.Field.{toBytes}

@@ -1,9 +1,5 @@
 -- A log that passes question 19 has the entries that are read from it. Assumes nothing.
-use mathlib.Core.List.{List}
-use mathlib.Core.Path.{_≡_, subst, sym}
-use Prim.Native.Nat.{ℕ, _≤_}
-use lib.Dec.{T}
-use lib.ListN.{length}
+use Rattle.base.specs.Basics.{_≡_, subst, sym, List, ℕ, _≤_, T, length}
 use Rattle.book_format.proofs.Passed.{length-tradesOf}
 use Rattle.book_format.specs.Book.{bookOf, tradeCount}
 use Rattle.fields.specs.Field.{AllBytes}

@@ -1,11 +1,7 @@
 -- Parts of a log that are lent to be written: the held book, all that stands before the entries, bytes made 0. Assumes nothing.
-use mathlib.Core.List.{List, [], _∷_, _++_, append-assoc, append-nil}
-use mathlib.Core.Path.{_≡_, refl, sym, ap, ap₂, _∙_}
-use Prim.Native.Nat.{ℕ, _+_, _-_, _*_, _≤_, _<_}
-use native.Mathlib.Omega.{arith}
-use lib.ListN.{length, take, drop, replicate, length-append, length-take, length-drop, length-replicate, drop-of-length-le}
-use lib.Seq.{sets, take-all, take-length, take-at, drop-at, drop-drop}
-use borrow.Author.Tests.{eq-eqb, le-leb, lt-leb, ne-eqb}
+use Rattle.base.specs.Basics.{_≡_, refl, sym, ap, ap₂, _∙_, List, [], _∷_, _++_, append-assoc, append-nil, ℕ, _+_, _-_, _*_, _≤_, _<_, arith, length}
+use Rattle.base.specs.Basics.{take, drop, replicate, length-append, length-take, length-drop, length-replicate, drop-of-length-le, sets, take-all}
+use Rattle.base.specs.Basics.{take-length, take-at, drop-at, drop-drop, eq-eqb, le-leb, lt-leb, ne-eqb}
 use borrow.Rule.Slice.PartMut.{putMid}
 use Rattle.fields.proofs.Pack.{setFields-whole}
 use Rattle.fields.proofs.Sets.{length-part, part-sets, sets-right, sets-whole}

@@ -1,10 +1,5 @@
 -- The entry of a reduction: the cuts of a user's sales as they are borne, noted at the places of their trades, are what each trade of the book loses. Assumes nothing.
-use mathlib.Core.List.{List, _∷_}
-use mathlib.Core.Path.{_≡_, sym, ap, ap₂, subst, _∙_}
-use Prim.Native.Nat.{ℕ, _≤_, _<_}
-use native.Mathlib.Omega.{arith}
-use lib.Dec.{ltb, ltb→lt}
-use lib.ListN.{length, getD, replicate}
+use Rattle.base.specs.Basics.{_≡_, sym, ap, ap₂, subst, _∙_, List, _∷_, ℕ, _≤_, _<_, arith, ltb, ltb→lt, length, getD, replicate}
 use Rattle.base.proofs.Fronts.{all-at}
 use Rattle.laws.proofs.Reduction.{cuts-lowered}
 use Rattle.laws.proofs.Settle.{pairs-length}

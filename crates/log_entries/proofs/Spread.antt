@@ -1,10 +1,5 @@
 -- The cuts of a user's own sales, entered at their places, are the cuts of all trades; so are those of the sales as they are borne. Assumes nothing.
-use mathlib.Core.Bool.{Bool, true}
-use mathlib.Core.List.{List, [], _∷_, map}
-use mathlib.Core.Path.{_≡_, refl, sym, ap, _∙_}
-use Prim.Native.Nat.{ℕ, suc}
-use native.Mathlib.Omega.{arith}
-use lib.ListN.{length, set, replicate, length-map}
+use Rattle.base.specs.Basics.{_≡_, refl, sym, ap, _∙_, Bool, true, List, [], _∷_, map, ℕ, suc, arith, length, set, replicate, length-map}
 use Rattle.base.proofs.Tests.{by-case}
 use Rattle.laws_sales.proofs.Cuts.{cuts-sales}
 use Rattle.laws_sales.proofs.FirstCuts.{own-cuts-length}

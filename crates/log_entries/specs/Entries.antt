@@ -1,9 +1,5 @@
 -- Entries of a log as they are written: cuts at the places of their trades. Assumes nothing.
-use mathlib.Core.List.{List, [], _∷_, _++_}
-use mathlib.Core.Path.{_≡_}
-use Prim.Native.Nat.{ℕ, _≤_, _<_}
-use lib.ListN.{length, getD, take, drop, set, replicate}
-use lib.Seq.{sets}
+use Rattle.base.specs.Basics.{_≡_, List, [], _∷_, _++_, ℕ, _≤_, _<_, length, getD, take, drop, set, replicate, sets}
 use Rattle.laws_sales.specs.Parts.{part}
 use Rattle.fields.specs.Layout.{Every}
 use Rattle.log_format.specs.Log.{entriesAt, entriesBytes, entriesRoom, entryAt, entryBytes, entrySize, heldRoom, logHead, logSize, padded}

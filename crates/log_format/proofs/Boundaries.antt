@@ -1,9 +1,5 @@
 -- What is at the boundaries of the questions of a log: 18, 20, and 19 at the start of one. Assumes nothing.
-use mathlib.Core.Bool.{true, false}
-use mathlib.Core.List.{List, [], _∷_}
-use mathlib.Core.Path.{_≡_, refl}
-use Prim.Native.Nat.{ℕ}
-use lib.ListN.{length}
+use Rattle.base.specs.Basics.{_≡_, refl, true, false, List, [], _∷_, ℕ, length}
 use Rattle.log_format.specs.Fits.{startFits, startNumber, started}
 use Rattle.log_format.specs.Log.{heldRoom, logBytes, logSize}
 use Rattle.log_format.specs.Noted.{hasEntry, hasRoom}

@@ -1,12 +1,5 @@
 -- The main laws of withdrawals and of runs with a log, as specs/Statements.antt states them. Assumes nothing.
-use mathlib.Core.List.{List, _∷_}
-use mathlib.Core.Option.{Option, none, some}
-use mathlib.Core.Path.{_≡_, refl, sym, ap, _∙_}
-use Prim.Native.Nat.{ℕ, zero, suc, _+_}
-use native.Mathlib.Nat.{le-refl}
-use native.Mathlib.Omega.{arith}
-use lib.IntN.{+ℤ-idr}
-use lib.ListN.{length}
+use Rattle.base.specs.Basics.{_≡_, refl, sym, ap, _∙_, Option, none, some, List, _∷_, ℕ, zero, suc, _+_, le-refl, arith, +ℤ-idr, length}
 use Rattle.laws.proofs.Fuel.{run-answer, run-stops}
 use Rattle.laws.proofs.Main.{conserved}
 use Rattle.laws.proofs.Run.{Done, run-count, run-done, run-none}

@@ -1,13 +1,6 @@
 -- What a log holds that was written by the calls: the cuts, newest first, that led from one book to another. Withdrawing them all gives the first book, and their sums pass question 19. Assumes nothing.
-use mathlib.Core.Bool.{true, _||_}
-use mathlib.Core.List.{List, [], _∷_}
-use mathlib.Core.Option.{Option, none, some}
-use mathlib.Core.Path.{_≡_, refl, sym, ap, subst}
-use Prim.Native.Nat.{ℕ, zero, suc, _≤_}
-use native.Mathlib.Omega.{arith}
-use lib.Dec.{T, eqb, leb, leb→le}
-use lib.IntN.{ℤ, pos}
-use lib.ListN.{length}
+use Rattle.base.specs.Basics.{_≡_, refl, sym, ap, subst, true, _||_, Option, none, some, List, [], _∷_, ℕ, zero, suc, _≤_, arith, T, eqb, leb, leb→le}
+use Rattle.base.specs.Basics.{ℤ, pos, length}
 use Rattle.base.proofs.Tests.{and-l, and-r}
 use Rattle.base.specs.Lists.{all}
 use Rattle.fields.specs.Layout.{Every}

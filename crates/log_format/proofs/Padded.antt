@@ -1,11 +1,7 @@
 -- Bytes with 0 behind them, and runs of zero bytes: stated over the room, so that no proof looks at its zeros one by one. Assumes nothing.
-use mathlib.Core.List.{List, [], _∷_, _++_, append-assoc}
-use mathlib.Core.Path.{_≡_, refl, sym, ap, ap₂, _∙_}
-use Prim.Native.Nat.{ℕ, zero, suc, _+_, _-_, _≤_}
-use native.Mathlib.Omega.{arith}
-use lib.Dec.{T, eqb, eqb→eq}
-use lib.ListN.{length, take, drop, replicate, length-append, length-drop, length-replicate, replicate-append-replicate, take-append-drop}
-use lib.Seq.{sets, drop-at, length-take-le, take-at}
+use Rattle.base.specs.Basics.{_≡_, refl, sym, ap, ap₂, _∙_, List, [], _∷_, _++_, append-assoc, ℕ, zero, suc, _+_, _-_, _≤_, arith, T, eqb, eqb→eq}
+use Rattle.base.specs.Basics.{length, take, drop, replicate, length-append, length-drop, length-replicate, replicate-append-replicate}
+use Rattle.base.specs.Basics.{take-append-drop, sets, drop-at, length-take-le, take-at}
 use Rattle.base.proofs.Tests.{and-l, and-r}
 use Rattle.base.specs.Lists.{all}
 use Rattle.fields.proofs.Sets.{sets-left, sets-replicate, sets-right, sets-whole}

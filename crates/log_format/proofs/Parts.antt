@@ -1,10 +1,6 @@
 -- A log part by part: its 12 first bytes, the held book with its zeros, the entries with theirs. The parts make the log, and the log has the parts. Assumes nothing.
-use mathlib.Core.List.{List, [], _∷_, _++_}
-use mathlib.Core.Path.{_≡_, refl, sym, ap, ap₂, subst, _∙_}
-use Prim.Native.Nat.{ℕ, zero, _+_, _-_, _*_, _≤_, _<_}
-use native.Mathlib.Omega.{arith}
-use lib.ListN.{length, getD, take, drop, length-append, take-append-drop}
-use lib.Seq.{drop-at, drop-drop, take-at, take-take}
+use Rattle.base.specs.Basics.{_≡_, refl, sym, ap, ap₂, subst, _∙_, List, [], _∷_, _++_, ℕ, zero, _+_, _-_, _*_, _≤_, _<_, arith, length, getD, take}
+use Rattle.base.specs.Basics.{drop, length-append, take-append-drop, drop-at, drop-drop, take-at, take-take}
 use Rattle.fields.proofs.Field.{length-toBytes}
 use Rattle.fields.proofs.Pack.{fieldsAt-pack, length-pack, pack-fieldsAt}
 use Rattle.fields.proofs.Records.{length-bytesOfRecords}

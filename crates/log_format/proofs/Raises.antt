@@ -1,11 +1,6 @@
 -- Question 19 by sums over the entries: the last entry fits by itself, and what an entry's cuts left can be raised by them again. Assumes nothing.
-use mathlib.Core.Bool.{Bool, true, false, _||_}
-use mathlib.Core.List.{List, [], _∷_}
-use mathlib.Core.Path.{_≡_, refl}
-use Prim.Native.Nat.{ℕ, _+_, _-_, _≤_}
-use native.Mathlib.Omega.{arith}
-use lib.Dec.{T, eqb, eqb→eq, leb, leb→le, le→leb}
-use lib.ListN.{length, replicate}
+use Rattle.base.specs.Basics.{_≡_, refl, Bool, true, false, _||_, List, [], _∷_, ℕ, _+_, _-_, _≤_, arith, T, eqb, eqb→eq, leb, leb→le, le→leb, length}
+use Rattle.base.specs.Basics.{replicate}
 use Rattle.base.proofs.Tests.{and-i, and-l, and-r, eqb-of, or-l, or-r}
 use Rattle.base.specs.Lists.{all}
 use Rattle.laws.proofs.Reduction.{cut-le}

@@ -1,11 +1,7 @@
 -- A log that passes question 19 is the log of its entries and its book, part by part: what the writers start from. And what its entries and cuts are, one by one. Assumes nothing.
-use mathlib.Core.List.{List, [], _∷_, _++_}
-use mathlib.Core.Path.{_≡_, refl, sym, ap, ap₂, subst, _∙_}
-use Prim.Native.Nat.{ℕ, zero, suc, _+_, _-_, _*_, _≤_, _<_}
-use native.Mathlib.Omega.{arith}
-use lib.Dec.{T, eqb, eqb→eq, leb, leb→le, ltb}
-use lib.ListN.{length, take, drop, length-drop, length-replicate}
-use lib.Seq.{drop-drop, length-take-le, take-add, take-all, take-take}
+use Rattle.base.specs.Basics.{_≡_, refl, sym, ap, ap₂, subst, _∙_, List, [], _∷_, _++_, ℕ, zero, suc, _+_, _-_, _*_, _≤_, _<_, arith, T, eqb, eqb→eq}
+use Rattle.base.specs.Basics.{leb, leb→le, ltb, length, take, drop, length-drop, length-replicate, drop-drop, length-take-le, take-add, take-all}
+use Rattle.base.specs.Basics.{take-take}
 use Rattle.base.proofs.Tests.{and-l, and-r}
 use Rattle.fields.proofs.Field.{all-bytes-drop, all-bytes-take, field-lt, toBytes-field}
 use Rattle.fields.proofs.Records.{bytesOfRecords-recordsOf, length-recordsOf, mul-suc-front}

@@ -1,11 +1,6 @@
 -- A withdrawal leaves an accepted book, takes its cuts off the totals, and gives back the book before the reduction. Assumes nothing.
-use mathlib.Core.Bool.{Bool, true, false, not, _&&_, _||_}
-use mathlib.Core.List.{List, [], _∷_, map, map-map}
-use mathlib.Core.Path.{_≡_, refl, sym, ap, ap₂, subst, _∙_}
-use Prim.Native.Nat.{ℕ, _+_, _-_}
-use native.Mathlib.Omega.{arith}
-use lib.Dec.{T, T-not, eqb, eqb→eq, leb}
-use lib.IntN.{ℤ, pos, negℤ, _+ℤ_}
+use Rattle.base.specs.Basics.{_≡_, refl, sym, ap, ap₂, subst, _∙_, Bool, true, false, not, _&&_, _||_, List, [], _∷_, map, map-map, ℕ, _+_, _-_}
+use Rattle.base.specs.Basics.{arith, T, T-not, eqb, eqb→eq, leb, ℤ, pos, negℤ, _+ℤ_}
 use Rattle.base.proofs.Linear.{eq-parts, negPart-neg, negPart-pos, parts-add, posPart-neg, posPart-pos}
 use Rattle.base.proofs.Tests.{and-i, and-l, and-r, map-by, or-second}
 use Rattle.base.specs.Lists.{all}

@@ -1,12 +1,6 @@
 -- A log that is written reads back: its entries are those that were written, it passes question 19 for the book that it holds, and so do the logs that calls leave. Assumes nothing.
-use mathlib.Core.Bool.{_&&_}
-use mathlib.Core.List.{List, [], _∷_, _++_, append-assoc}
-use mathlib.Core.Path.{_≡_, refl, sym, ap, ap₂, subst, _∙_}
-use Prim.Native.Nat.{ℕ, zero, _+_, _-_, _*_, _≤_, _<_}
-use native.Mathlib.Omega.{arith}
-use lib.Dec.{T, eqb, eqb-refl, leb, le→leb}
-use lib.ListN.{length, take, drop, replicate, length-replicate}
-use lib.Seq.{drop-at, drop-drop, take-all, take-at}
+use Rattle.base.specs.Basics.{_≡_, refl, sym, ap, ap₂, subst, _∙_, _&&_, List, [], _∷_, _++_, append-assoc, ℕ, zero, _+_, _-_, _*_, _≤_, _<_, arith}
+use Rattle.base.specs.Basics.{T, eqb, eqb-refl, leb, le→leb, length, take, drop, replicate, length-replicate, drop-at, drop-drop, take-all, take-at}
 use Rattle.base.proofs.Tests.{and-i, eqb-of}
 use Rattle.fields.proofs.Field.{fromBytes-toBytes, length-toBytes}
 use Rattle.fields.proofs.Records.{recordsOf-bytesOfRecords}

@@ -1,11 +1,6 @@
 -- Document 02, ask 6: question 19, when a log is one for the book that is given; and the start of a log. Assumes nothing.
-use mathlib.Core.Bool.{Bool, true, false, cond, _&&_, _||_}
-use mathlib.Core.List.{List, [], _∷_}
-use mathlib.Core.Option.{Option, none, some}
-use mathlib.Core.Path.{_≡_}
-use Prim.Native.Nat.{ℕ, zero, suc, _+_, _-_, _*_}
-use lib.Dec.{eqb, leb}
-use lib.ListN.{length, take, drop, replicate}
+use Rattle.base.specs.Basics.{_≡_, Bool, true, false, cond, _&&_, _||_, Option, none, some, List, [], _∷_, ℕ, zero, suc, _+_, _-_, _*_, eqb, leb}
+use Rattle.base.specs.Basics.{length, take, drop, replicate}
 use Rattle.base.specs.Lists.{all}
 use Rattle.rules.specs.Book.{Trade, bilateralForDay}
 use Rattle.rules.specs.Questions.{Question, numberOf, refusal}

@@ -1,7 +1,5 @@
 -- Document 02, ask 6: the log of reductions in bytes. What bytes of it hold, and the bytes of entries and a held book. Assumes nothing.
-use mathlib.Core.List.{List, [], _∷_, _++_}
-use Prim.Native.Nat.{ℕ, zero, suc, _+_, _-_, _*_}
-use lib.ListN.{length, take, drop, replicate}
+use Rattle.base.specs.Basics.{List, [], _∷_, _++_, ℕ, zero, suc, _+_, _-_, _*_, length, take, drop, replicate}
 use Rattle.fields.specs.Field.{field, toBytes}
 use Rattle.fields.specs.Layout.{pack, recordsOf, bytesOfRecords}
 use Rattle.book_format.specs.Book.{tradeCount}

@@ -1,11 +1,6 @@
 -- Document 02, ask 6: what the calls do on a book with the entries of a log: "A reduction adds an entry, a run one for each of its own, a withdrawal drops the last, an
 -- accepted posting, list or guarantee call empties it"; and a run that meets a full log. Entries stand newest first. Assumes nothing.
-use mathlib.Core.Bool.{Bool, cond}
-use mathlib.Core.List.{List, [], _∷_}
-use mathlib.Core.Option.{Option, none, some}
-use Prim.Native.Nat.{ℕ, zero, suc, _-_}
-use lib.Dec.{ltb}
-use lib.ListN.{length}
+use Rattle.base.specs.Basics.{Bool, cond, Option, none, some, List, [], _∷_, ℕ, zero, suc, _-_, ltb, length}
 use Rattle.rules.specs.Book.{Book, User, find}
 use Rattle.rules.specs.Calls.{posting, morningCall, afternoonCall, reduction, run, Answer, Call, Result, effect, nextReduced, reduced, runFor}
 use Rattle.rules.specs.Levels.{Limits}

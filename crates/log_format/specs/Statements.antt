@@ -1,11 +1,5 @@
 -- The main laws of withdrawals and of runs with a log, as statements. Each holds for every book, entry and set of limits; the proofs stand in proofs/Main.antt.
-use mathlib.Core.List.{List}
-use mathlib.Core.Option.{none}
-use mathlib.Core.Path.{_≡_}
-use Prim.Native.Nat.{ℕ, _+_, _<_, _≤_}
-use lib.Dec.{T}
-use lib.IntN.{pos, negℤ}
-use lib.ListN.{length}
+use Rattle.base.specs.Basics.{_≡_, none, List, ℕ, _+_, _<_, _≤_, T, pos, negℤ, length}
 use Rattle.base.specs.Sums.{sumℤ}
 use Rattle.laws.specs.Trades.{leftMwh, leftWorth}
 use Rattle.rules.specs.Book.{Book, User, at}

@@ -1,6 +1,5 @@
 -- Document 02, ask 6: "We want the last reduction withdrawn; the call returns its MWh and worth." A book with the cuts of an entry given back. Assumes nothing.
-use mathlib.Core.List.{List, [], _∷_}
-use Prim.Native.Nat.{ℕ, _+_}
+use Rattle.base.specs.Basics.{List, [], _∷_, ℕ, _+_}
 use Rattle.rules.specs.Book.{Book, Trade}
 use Rattle.rules.specs.Calls.{Answer, ofRun}
 use Rattle.rules.specs.Reduction.{Tally, nothing, tallyAll, withTrades}

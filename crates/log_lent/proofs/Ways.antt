@@ -1,11 +1,5 @@
 -- The number of question 19 by its answer, a log emptied, the room of a log, and a reduction noted. Assumes nothing.
-use mathlib.Core.Bool.{Bool, true, false}
-use mathlib.Core.List.{List, []}
-use mathlib.Core.Path.{_≡_, refl, sym, ap, subst, _∙_}
-use Prim.Native.Nat.{ℕ, zero, suc, _+_, _-_, _*_}
-use native.Mathlib.Omega.{arith}
-use lib.Dec.{T, ltb}
-use borrow.Author.Tests.{le-ltb, lt-ltb}
+use Rattle.base.specs.Basics.{_≡_, refl, sym, ap, subst, _∙_, Bool, true, false, List, [], ℕ, zero, suc, _+_, _-_, _*_, arith, T, ltb, le-ltb, lt-ltb}
 use Rattle.base.proofs.Linear.{by-order}
 use Rattle.book_format.specs.After.{after}
 use Rattle.fields.specs.Field.{AllBytes}

@@ -1,10 +1,5 @@
 -- A lent log, given or not: one that can be emptied, one that has room, and one that a reduction is noted in. Assumes nothing.
-use mathlib.Core.Bool.{Bool, true, false, cond}
-use mathlib.Core.List.{List}
-use mathlib.Core.Path.{_≡_}
-use Prim.Native.Nat.{ℕ, suc, _≤_, _<_}
-use lib.Dec.{T, ltb}
-use lib.ListN.{length}
+use Rattle.base.specs.Basics.{_≡_, Bool, true, false, cond, List, ℕ, suc, _≤_, _<_, T, ltb, length}
 use Rattle.book_format.specs.Book.{tradeCount}
 use Rattle.log_entries.specs.Entries.{Notable, NotedAt, sealed}
 use Rattle.log_format.specs.Fits.{logFits}

@@ -1,11 +1,7 @@
 -- The cuts of an entry added to the sums of those before it, place by place. Assumes nothing.
-use mathlib.Core.List.{List, [], _∷_}
-use mathlib.Core.Path.{_≡_, refl, sym, ap, ap₂, _∙_}
-use Prim.Native.Nat.{ℕ, zero, suc, _+_, _-_, _*_, _≤_, _<_}
-use native.Mathlib.Nat.{add-zero, le-of-suc-le-suc, not-suc-le-zero}
-use native.Mathlib.Omega.{arith}
-use lib.ListN.{length, take, drop, getD, set}
-use lib.Seq.{drop-drop, getD-take, length-take-le, getD-set-other, getD-set-same, sets}
+use Rattle.base.specs.Basics.{_≡_, refl, sym, ap, ap₂, _∙_, List, [], _∷_, ℕ, zero, suc, _+_, _-_, _*_, _≤_, _<_, add-zero, le-of-suc-le-suc}
+use Rattle.base.specs.Basics.{not-suc-le-zero, arith, length, take, drop, getD, set, drop-drop, getD-take, length-take-le, getD-set-other}
+use Rattle.base.specs.Basics.{getD-set-same, sets}
 use Rattle.base.proofs.Stores.{here-or-apart}
 use Rattle.base.proofs.Storing.{Storing, storing-start, storing-next, storing-end}
 use Rattle.fields.proofs.Field.{field-part}

@@ -1,12 +1,7 @@
 -- The cuts of all entries together, and each trade with what is cut of it. Assumes nothing.
-use mathlib.Core.Bool.{Bool, true, _&&_}
-use mathlib.Core.List.{List, _∷_}
-use mathlib.Core.Path.{_≡_, refl, sym, ap, ap₂, subst, _∙_}
-use Prim.Native.Nat.{ℕ, zero, suc, _+_, _-_, _*_, _≤_, _<_}
-use native.Mathlib.Numerals.{add-one}
-use native.Mathlib.Omega.{arith}
-use lib.ListN.{length, take, drop, getD, replicate, length-replicate, getD-replicate, drop-of-length-le, List·getD-eq-default}
-use lib.Seq.{drop-cons, sets}
+use Rattle.base.specs.Basics.{_≡_, refl, sym, ap, ap₂, subst, _∙_, Bool, true, _&&_, List, _∷_, ℕ, zero, suc, _+_, _-_, _*_, _≤_, _<_, add-one, arith}
+use Rattle.base.specs.Basics.{length, take, drop, getD, replicate, length-replicate, getD-replicate, drop-of-length-le, List·getD-eq-default}
+use Rattle.base.specs.Basics.{drop-cons, sets}
 use Rattle.base.proofs.Linear.{by-order}
 use Rattle.fields.proofs.Sets.{part-of-sets}
 use Rattle.rules.specs.Book.{Trade, noTrade}

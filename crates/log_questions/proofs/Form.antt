@@ -1,13 +1,6 @@
 -- What a log that has passed the first part of question 19 is like, and its parts as slices have them. Assumes nothing.
-use mathlib.Core.Bool.{Bool, true, _&&_}
-use mathlib.Core.List.{List}
-use mathlib.Core.Path.{_≡_, sym, ap, ap₂, _∙_}
-use Prim.Native.Nat.{ℕ, _+_, _-_, _*_}
-use native.Mathlib.Omega.{arith}
-use lib.Dec.{eqb, eqb→eq, leb, leb→le}
-use lib.ListN.{length, take, drop, length-drop}
-use lib.Seq.{take-all}
-use borrow.Author.Tests.{eq-eqb}
+use Rattle.base.specs.Basics.{_≡_, sym, ap, ap₂, _∙_, Bool, true, _&&_, List, ℕ, _+_, _-_, _*_, arith, eqb, eqb→eq, leb, leb→le, length, take, drop}
+use Rattle.base.specs.Basics.{length-drop, take-all, eq-eqb}
 use Rattle.base.proofs.Tests.{and-l, and-r, holds}
 use Rattle.log_format.specs.Log.{entryAt, entryCount, heldLength, heldOf, heldRoom, logMark, logMarkOf, logSize, logZero, mostEntries}
 use Rattle.log_format.specs.Fits.{cutsRest, entriesRest, heldRest, holdsBook, logFormed, sameBytes}

@@ -1,8 +1,5 @@
 -- Bytes that have the form of a log, and sums of cuts by trade place. Assumes nothing.
-use mathlib.Core.List.{List}
-use mathlib.Core.Path.{_≡_}
-use Prim.Native.Nat.{ℕ, _≤_}
-use lib.ListN.{length, getD, drop}
+use Rattle.base.specs.Basics.{_≡_, List, ℕ, _≤_, length, getD, drop}
 use Rattle.fields.specs.Field.{field}
 use Rattle.fields.specs.Layout.{recordsOf}
 use Rattle.log_format.specs.Log.{cutSize, entryCount, heldLength, heldRoom, logSize, mostEntries}

@@ -1,14 +1,8 @@
 -- Trades that rise one after the other: what is left to settle, settled, gives the whole. Assumes nothing.
-use mathlib.Core.List.{List, [], _∷_, _++_, map, append-nil}
-use mathlib.Core.Path.{_≡_, refl, sym, ap, ap₂, subst, _∙_}
-use Prim.Native.Nat.{ℕ, zero, suc, _+_, _*_, _≤_, _<_}
-use native.Mathlib.Nat.{le-of-suc-le-suc, not-suc-le-zero}
-use native.Mathlib.Numerals.{add-one}
-use native.Mathlib.Omega.{arith}
-use lib.Dec.{T, leb, leb→le}
-use lib.IntN.{pos, negℤ}
-use lib.ListN.{length, getD, take, drop, set, length-append, length-drop, length-set, drop-of-length-le, List·getD-eq-default}
-use lib.Seq.{drop-cons, length-take-le, set-at, take-suc, take-all, getD-at, append-snoc}
+use Rattle.base.specs.Basics.{_≡_, refl, sym, ap, ap₂, subst, _∙_, List, [], _∷_, _++_, map, append-nil, ℕ, zero, suc, _+_, _*_, _≤_, _<_, add-one}
+use Rattle.base.specs.Basics.{le-of-suc-le-suc, not-suc-le-zero, arith, T, leb, leb→le, pos, negℤ, length, getD, take, drop, set, length-append}
+use Rattle.base.specs.Basics.{length-drop, length-set, drop-of-length-le, List·getD-eq-default, drop-cons, length-take-le, set-at, take-suc, take-all}
+use Rattle.base.specs.Basics.{getD-at, append-snoc}
 use Rattle.base.proofs.Fronts.{all-at}
 use Rattle.base.specs.Lists.{all}
 use Rattle.base.proofs.Linear.{by-order}

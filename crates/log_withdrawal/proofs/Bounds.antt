@@ -1,11 +1,6 @@
 -- Positions that move stay within a bound; the two positions of a trade that rises. Assumes nothing.
-use mathlib.Core.List.{List}
-use mathlib.Core.Path.{_≡_, sym, ap, ap₂, subst, _∙_}
-use Prim.Native.Nat.{ℕ, zero, suc, _+_, _≤_, _<_, _^_}
-use native.Mathlib.Omega.{arith}
-use lib.Dec.{T}
-use lib.IntN.{ℤ, pos, negℤ}
-use lib.ListN.{length, getD, length-map, length-set}
+use Rattle.base.specs.Basics.{_≡_, sym, ap, ap₂, subst, _∙_, List, ℕ, zero, suc, _+_, _≤_, _<_, _^_, arith, T, ℤ, pos, negℤ, length, getD, length-map}
+use Rattle.base.specs.Basics.{length-set}
 use Rattle.base.proofs.Linear.{eq-parts, negPart-neg, negPart-pos, parts-sub, posPart-neg, posPart-pos}
 use Rattle.base.proofs.Stores.{set-each}
 use Rattle.base.specs.Parts.{negPart, posPart}

@@ -1,11 +1,5 @@
 -- The tally of an entry's cuts, trade by trade: what is left to tally, tallied, gives the whole. Assumes nothing.
-use mathlib.Core.List.{List}
-use mathlib.Core.Path.{_≡_, sym, ap, _∙_}
-use Prim.Native.Nat.{ℕ, suc, _+_, _*_, _≤_, _<_}
-use native.Mathlib.Numerals.{add-one}
-use native.Mathlib.Omega.{arith}
-use lib.ListN.{length, getD, drop, drop-of-length-le}
-use lib.Seq.{drop-cons}
+use Rattle.base.specs.Basics.{_≡_, sym, ap, _∙_, List, ℕ, suc, _+_, _*_, _≤_, _<_, add-one, arith, length, getD, drop, drop-of-length-le, drop-cons}
 use Rattle.cut_worth.specs.Tallies.{asTally}
 use Rattle.cut_worth.specs.declared.Tally.{Tally}
 use Rattle.rules.specs.Areas.{Prices}

@@ -1,8 +1,5 @@
 -- Cuts given back at the places of the parties, and positions that they can move. Assumes nothing.
-use mathlib.Core.List.{List}
-use Prim.Native.Nat.{ℕ, _≤_, _<_}
-use lib.IntN.{pos, negℤ}
-use lib.ListN.{getD, set}
+use Rattle.base.specs.Basics.{List, ℕ, _≤_, _<_, pos, negℤ, getD, set}
 use Rattle.book_format.specs.Book.{bookOf, tradesOf, userCount, usersOf}
 use Rattle.book_format.specs.Held.{HeldAs}
 use Rattle.book_format.specs.Places.{TradeIn}

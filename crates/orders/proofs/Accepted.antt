@@ -1,11 +1,6 @@
 -- An accepted posting on a book in bytes, as facts: what its questions tell, and the bytes that it leaves; and the way back. Assumes nothing.
-use mathlib.Core.Bool.{Bool, true, false, _&&_}
-use mathlib.Core.List.{List, [], _∷_, _++_}
-use mathlib.Core.Option.{Option, none, some}
-use mathlib.Core.Path.{_≡_, refl, sym, ap, _∙_}
-use Prim.Native.Nat.{ℕ, _<_}
-use lib.Dec.{T, ltb, ltb→lt, lt→ltb}
-use lib.IntN.{ℤ, _+ℤ_}
+use Rattle.base.specs.Basics.{_≡_, refl, sym, ap, _∙_, Bool, true, false, _&&_, Option, none, some, List, [], _∷_, _++_, ℕ, _<_, T, ltb, ltb→lt}
+use Rattle.base.specs.Basics.{lt→ltb, ℤ, _+ℤ_}
 use Rattle.book_format.proofs.Passed.{passed-of}
 use Rattle.book_format.proofs.Written.{bookOf-bytesOf}
 use Rattle.book_format.specs.Book.{bookOf, bytesOf}

@@ -1,10 +1,6 @@
 -- Ask 12 with parties, as specs/Acting.antt states it: an accepted posting or list is the operator's, and so one without a party. Assumes nothing.
-use mathlib.Core.List.{List, [], _∷_, map, cons≢nil, head-eq-of-cons-eq, tail-eq-of-cons-eq}
-use mathlib.Core.Option.{Option}
-use mathlib.Core.Path.{_≡_, _∙_, ap, refl, subst, sym}
-use Prim.Native.Nat.{ℕ}
-use lib.Dec.{T, eqb→eq}
-use lib.IntN.{ℤ}
+use Rattle.base.specs.Basics.{_≡_, _∙_, ap, refl, subst, sym, Option, List, [], _∷_, map, cons≢nil, head-eq-of-cons-eq, tail-eq-of-cons-eq, ℕ, T}
+use Rattle.base.specs.Basics.{eqb→eq, ℤ}
 use Rattle.base.proofs.Tests.{and-l, and-r}
 use Rattle.base.specs.Lists.{all}
 use Rattle.book_format.specs.After.{after}

@@ -1,10 +1,6 @@
 -- Postings one after the other, by the rules: two on one user and area are one of their sum, and any two change places. Assumes nothing.
-use mathlib.Core.Bool.{Bool, true, false, cond, _||_}
-use mathlib.Core.List.{List, [], _∷_}
-use mathlib.Core.Path.{_≡_, refl, sym, ap, ap₂, _∙_}
-use Prim.Native.Nat.{ℕ, zero, suc, _<_}
-use lib.Dec.{T, eqb, eqb-refl}
-use lib.IntN.{ℤ, pos, _+ℤ_, +ℤ-assoc, +ℤ-comm}
+use Rattle.base.specs.Basics.{_≡_, refl, sym, ap, ap₂, _∙_, Bool, true, false, cond, _||_, List, [], _∷_, ℕ, zero, suc, _<_, T, eqb, eqb-refl, ℤ, pos}
+use Rattle.base.specs.Basics.{_+ℤ_, +ℤ-assoc, +ℤ-comm}
 use Rattle.laws.proofs.Areas.{at-add}
 use Rattle.laws.proofs.Changed.{keeps-party}
 use Rattle.rules.specs.Book.{PerArea, Party, User, at, find}

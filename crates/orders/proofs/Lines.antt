@@ -1,10 +1,5 @@
 -- The lines of a list whose places all hold 0 are accepted postings one after the other, so that their order is free too. Assumes nothing.
-use mathlib.Core.List.{List, [], _∷_, map}
-use mathlib.Core.Option.{Option}
-use mathlib.Core.Path.{_∙_, ap, refl, subst, sym}
-use Prim.Native.Nat.{ℕ}
-use lib.Dec.{T, eqb}
-use lib.ListN.{length}
+use Rattle.base.specs.Basics.{_∙_, ap, refl, subst, sym, Option, List, [], _∷_, map, ℕ, T, eqb, length}
 use Rattle.book_format.specs.After.{after}
 use Rattle.book_format.specs.Questions.{bookNumber}
 use Rattle.base.proofs.Tests.{and-i, and-l, and-r}

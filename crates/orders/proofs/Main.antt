@@ -1,13 +1,7 @@
 -- Ask 12, as specs/Orders.antt states it: an accepted posting is a change of one user of the book, two such changes add up where user and area are the same, and any two can change places. Assumes nothing.
-use mathlib.Core.Bool.{true}
-use mathlib.Core.List.{List, [], _∷_, _++_, append-nil, map, nil≢cons, cons≢nil, head-eq-of-cons-eq, tail-eq-of-cons-eq, List·Permᴰ, List·Permᴰ·nil, List·Permᴰ·cons, List·Permᴰ·swap, List·Permᴰ·trans, Permᴰ·symm}
-use mathlib.Core.Option.{Option}
-use mathlib.Core.Path.{_≡_, refl, sym, ap, ap₂, subst, _∙_}
-use Prim.Native.Nat.{ℕ}
-use native.Mathlib.Omega.{arith}
-use borrow.Author.Tests.{le-leb}
-use lib.Dec.{T, eqb→eq, leb→le}
-use lib.IntN.{ℤ, natAbs, _+ℤ_, +ℤ-assoc}
+use Rattle.base.specs.Basics.{_≡_, refl, sym, ap, ap₂, subst, _∙_, true, Option, List, [], _∷_, _++_, append-nil, map, nil≢cons, cons≢nil}
+use Rattle.base.specs.Basics.{head-eq-of-cons-eq, tail-eq-of-cons-eq, List·Permᴰ, List·Permᴰ·nil, List·Permᴰ·cons, List·Permᴰ·swap, List·Permᴰ·trans}
+use Rattle.base.specs.Basics.{Permᴰ·symm, ℕ, arith, T, eqb→eq, leb→le, ℤ, natAbs, _+ℤ_, +ℤ-assoc, le-leb}
 use Rattle.book_format.proofs.Passed.{passed-of}
 use Rattle.book_format.specs.Book.{bookOf, bytesOf}
 use Rattle.book_format.specs.Questions.{bookNumber}

@@ -1,11 +1,5 @@
 -- Ask 12, "Corrections in another order", with the parties of ask 9: the same of postings and lists of any parties. Assumes nothing.
-use mathlib.Core.Bool.{true}
-use mathlib.Core.List.{List, [], _∷_, _++_, List·Permᴰ, map}
-use mathlib.Core.Option.{Option}
-use mathlib.Core.Path.{_≡_}
-use Prim.Native.Nat.{ℕ}
-use lib.Dec.{T, eqb}
-use lib.IntN.{ℤ, _+ℤ_}
+use Rattle.base.specs.Basics.{_≡_, true, Option, List, [], _∷_, _++_, List·Permᴰ, map, ℕ, T, eqb, ℤ, _+ℤ_}
 use Rattle.base.specs.Lists.{all}
 use Rattle.requests.specs.Request.{call, actOf}
 use Rattle.rights.specs.Acting.{CarriedBy}

@@ -1,12 +1,6 @@
 -- Ask 12, "Corrections in another order": of postings on a book in bytes, each given a store and a log of its own, or none, by the contract of the public function; of those of a
 -- sequence, which are all given one store; and of the lines of a list. Assumes nothing.
-use mathlib.Core.Bool.{true}
-use mathlib.Core.List.{List, [], _∷_, _++_, List·Permᴰ, map}
-use mathlib.Core.Option.{Option}
-use mathlib.Core.Path.{_≡_}
-use Prim.Native.Nat.{ℕ}
-use lib.Dec.{T, eqb}
-use lib.IntN.{ℤ, _+ℤ_}
+use Rattle.base.specs.Basics.{_≡_, true, Option, List, [], _∷_, _++_, List·Permᴰ, map, ℕ, T, eqb, ℤ, _+ℤ_}
 use Rattle.requests.specs.Carried.{Carried}
 use Rattle.requests.specs.Logged.{Posted}
 use Rattle.requests.specs.Request.{call, Act, actOf}

@@ -1,11 +1,5 @@
 -- What is accepted with a log: a list leaves the bytes and has the numbers of its lines one after another; a call that returns 0 answers and leaves the book as without the log. Assumes nothing.
-use mathlib.Core.List.{List, _++_}
-use mathlib.Core.Option.{Option, none, some}
-use mathlib.Core.Path.{_≡_, _∙_, ap, refl, sym}
-use Prim.Native.Nat.{ℕ, suc, zero}
-use native.Mathlib.Omega.{arith}
-use lib.Dec.{T, ltb, ltb→lt}
-use lib.IntN.{ℤ}
+use Rattle.base.specs.Basics.{_≡_, _∙_, ap, refl, sym, Option, none, some, List, _++_, ℕ, suc, zero, arith, T, ltb, ltb→lt, ℤ}
 use Rattle.base.proofs.Tests.{all-append}
 use Rattle.base.specs.Lists.{all}
 use Rattle.laws.proofs.Refusals.{append-yes, numbered, refusal-is}

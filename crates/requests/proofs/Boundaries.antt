@@ -1,11 +1,5 @@
 -- Figures at the boundaries of the questions that document 02 adds to calls, at the prices of document 01's figures: 15 of a list, 24 and 25 of a whole cancellation. Assumes nothing.
-use mathlib.Core.Bool.{true, false}
-use mathlib.Core.List.{List, [], _∷_}
-use mathlib.Core.Option.{Option, none, some}
-use mathlib.Core.Path.{_≡_, refl}
-use Prim.Native.Nat.{ℕ}
-use lib.IntN.{pos}
-use lib.ListN.{replicate}
+use Rattle.base.specs.Basics.{_≡_, refl, true, false, Option, none, some, List, [], ℕ, pos, replicate}
 use Rattle.rules.proofs.Figures.{amounts, bookOf, bookWith, cutBefore, first, positioned, prices, sale, selling, trade, two, user}
 use Rattle.rules.proofs.Opened.{opened}
 use Rattle.rules.specs.Levels.{today}

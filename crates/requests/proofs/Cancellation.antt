@@ -1,11 +1,6 @@
 -- A whole cancellation after its opening questions, and what is claimed of an accepted one. Assumes nothing.
-use mathlib.Core.Bool.{Bool}
-use mathlib.Core.List.{List}
-use mathlib.Core.Option.{Option, none, some}
-use mathlib.Core.Path.{_≡_, _∙_, ap, refl, subst, sym}
-use Prim.Native.Nat.{ℕ, suc, zero, _-_, _≤_}
-use native.Mathlib.Omega.{arith}
-use lib.Dec.{T, leb, leb→le, ltb, ltb→lt}
+use Rattle.base.specs.Basics.{_≡_, _∙_, ap, refl, subst, sym, Bool, Option, none, some, List, ℕ, suc, zero, _-_, _≤_, arith, T, leb, leb→le, ltb}
+use Rattle.base.specs.Basics.{ltb→lt}
 use Rattle.laws.proofs.Refusals.{append-yes, first-yes, numbered, refusal-is}
 use Rattle.base.proofs.Tests.{and-l}
 use Rattle.rules.specs.Book.{Book, User, find}

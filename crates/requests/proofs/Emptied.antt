@@ -1,13 +1,6 @@
 -- A posting, a guarantee call and a list of postings with a lent log, given or not: from the inner call, which knows of no log, and the log that is emptied where it is accepted. Assumes nothing.
-use mathlib.Core.Bool.{Bool, true, false}
-use mathlib.Core.List.{List, [], _++_, append-nil}
-use mathlib.Core.Option.{Option, none, some}
-use mathlib.Core.Path.{_≡_, _∙_, ap, refl, subst, sym}
-use Prim.Native.Nat.{ℕ, suc, zero}
-use native.Mathlib.Omega.{arith}
-use lib.Dec.{T, ltb, ltb→lt}
-use lib.IntN.{ℤ}
-use lib.ListN.{length}
+use Rattle.base.specs.Basics.{_≡_, _∙_, ap, refl, subst, sym, Bool, true, false, Option, none, some, List, [], _++_, append-nil, ℕ, suc, zero, arith}
+use Rattle.base.specs.Basics.{T, ltb, ltb→lt, ℤ, length}
 use Rattle.base.specs.Lists.{all}
 use Rattle.laws.proofs.Refusals.{numbered, refusal-is}
 use Rattle.rules.specs.Book.{Book}

@@ -1,11 +1,6 @@
 -- Acts with a lent log, given or not, after the questions of the book, and 26, whose number is n; a lent log that is not given changes nothing. What the public functions stand on.
 -- Assumes nothing.
-use mathlib.Core.List.{List, [], _∷_, _++_}
-use mathlib.Core.Option.{Option, none, some}
-use mathlib.Core.Path.{_≡_, _∙_, ap, refl, sym}
-use Prim.Native.Nat.{ℕ, suc, zero}
-use lib.Dec.{T}
-use lib.IntN.{ℤ}
+use Rattle.base.specs.Basics.{_≡_, _∙_, ap, refl, sym, Option, none, some, List, [], _∷_, _++_, ℕ, suc, zero, T, ℤ}
 use Rattle.base.specs.Lists.{all}
 use Rattle.laws.proofs.Refusals.{numbered}
 use Rattle.rules.specs.Calls.{Answer, Call, about}

@@ -1,10 +1,5 @@
 -- The opening questions by their numbers, one after the other; a call after them, by the figures that the setting gives. Assumes nothing.
-use mathlib.Core.List.{List}
-use mathlib.Core.Option.{Option, none, some}
-use mathlib.Core.Path.{_≡_, _∙_, ap, refl}
-use Prim.Native.Nat.{ℕ, suc, zero}
-use native.Mathlib.Omega.{arith}
-use lib.Dec.{T, ltb, ltb→lt}
+use Rattle.base.specs.Basics.{_≡_, _∙_, ap, refl, Option, none, some, List, ℕ, suc, zero, arith, T, ltb, ltb→lt}
 use Rattle.laws.proofs.Refusals.{numbered, refusal-is}
 use Rattle.rules.specs.Book.{Book}
 use Rattle.rules.specs.Calls.{Answer, Call}

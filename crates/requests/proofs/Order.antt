@@ -1,9 +1,5 @@
 -- The numbers of the opening questions, one after the other, are those of the first "no" among all of them in their order. Assumes nothing.
-use mathlib.Core.List.{List, [], _++_}
-use mathlib.Core.Option.{Option, some}
-use mathlib.Core.Path.{_≡_, _∙_, ap, sym}
-use Prim.Native.Nat.{ℕ}
-use lib.Dec.{T, ltb}
+use Rattle.base.specs.Basics.{_≡_, _∙_, ap, sym, Option, some, List, [], _++_, ℕ, T, ltb}
 use Rattle.base.proofs.Tests.{all-append}
 use Rattle.laws.proofs.Refusals.{numbered, refusal-first}
 use Rattle.rules.specs.Calls.{Call, about}

@@ -1,7 +1,5 @@
 -- Where the opening questions are passed a request is the call by the figures of its setting; where they are not, it is refused with their number. Assumes nothing.
-use mathlib.Core.List.{List}
-use mathlib.Core.Path.{_≡_, _∙_, ap, sym}
-use Prim.Native.Nat.{ℕ, suc}
+use Rattle.base.specs.Basics.{_≡_, _∙_, ap, sym, List, ℕ, suc}
 use Rattle.rules.specs.Calls.{Answer, Call, only}
 use Rattle.book_format.proofs.After.{step-opened}
 use Rattle.book_format.specs.After.{after, stepAfter, unchanged}

@@ -1,11 +1,5 @@
 -- A request without a store is the call of document 01: its opening questions are those of the book alone, and its figures are today's. Assumes nothing.
-use mathlib.Core.List.{List, [], _++_}
-use mathlib.Core.Option.{Option, none, some}
-use mathlib.Core.Path.{_≡_, _∙_, ap, refl, sym}
-use Prim.Native.Nat.{ℕ, suc, zero}
-use native.Mathlib.Omega.{arith}
-use lib.Dec.{T, ltb, ltb→lt}
-use lib.ListN.{drop, take}
+use Rattle.base.specs.Basics.{_≡_, _∙_, ap, refl, sym, Option, none, some, List, [], _++_, ℕ, suc, zero, arith, T, ltb, ltb→lt, drop, take}
 use Rattle.laws.proofs.Refusals.{numbered, refusal-is}
 use Rattle.base.proofs.Tests.{all-append}
 use Rattle.rules.specs.Calls.{Answer, Call, idKnown}

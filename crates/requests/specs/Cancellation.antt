@@ -1,10 +1,5 @@
 -- Document 02, ask 8: a whole cancellation in its setting. It asks and changes no book; what it gives on a book in bytes, and what is claimed of it. Assumes nothing.
-use mathlib.Core.Bool.{Bool, true, false, cond, _&&_}
-use mathlib.Core.List.{List, [], _∷_, _++_, map}
-use mathlib.Core.Path.{_≡_}
-use Prim.Native.Nat.{ℕ, _+_, _*_, _-_, _^_, _≤_}
-use lib.Dec.{T, leb}
-use lib.ListN.{length, replicate}
+use Rattle.base.specs.Basics.{_≡_, Bool, true, false, cond, _&&_, List, [], _∷_, _++_, map, ℕ, _+_, _*_, _-_, _^_, _≤_, T, leb, length, replicate}
 use Rattle.base.specs.Sums.{sum}
 use Rattle.rules.specs.Areas.{tariff}
 use Rattle.rules.specs.Book.{Book, Trade, User, find}

@@ -1,8 +1,5 @@
 -- What the contracts of the public calls and queries say of answer and bytes, and of what asks the opening questions for them; the log that is lent to calls is in Logged.antt. Assumes nothing.
-use mathlib.Core.List.{List, []}
-use mathlib.Core.Path.{_≡_}
-use Prim.Native.Nat.{ℕ}
-use lib.ListN.{take, drop}
+use Rattle.base.specs.Basics.{_≡_, List, [], ℕ, take, drop}
 use Rattle.rules.specs.Calls.{Answer}
 use Rattle.rules.specs.Levels.{Limits}
 use Rattle.book_format.specs.After.{after}

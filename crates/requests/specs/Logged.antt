@@ -1,12 +1,6 @@
 -- The contracts of the public calls that a log is lent to, given or not, and of what asks their opening questions; calls with a log and withdrawals after those questions, by their number.
 -- Assumes nothing.
-use mathlib.Core.Bool.{Bool, cond}
-use mathlib.Core.List.{List, [], _++_}
-use mathlib.Core.Option.{Option, none, some}
-use mathlib.Core.Path.{_≡_}
-use Prim.Native.Nat.{ℕ}
-use lib.IntN.{ℤ}
-use lib.ListN.{length}
+use Rattle.base.specs.Basics.{_≡_, Bool, cond, Option, none, some, List, [], _++_, ℕ, ℤ, length}
 use Rattle.rules.specs.Calls.{Answer, Call, about, only}
 use Rattle.rules.specs.Levels.{Limits}
 use Rattle.rules.specs.Questions.{numberOf, refusal}
@@ -14,7 +8,7 @@ use Rattle.book_format.specs.After.{after}
 use Rattle.book_format.specs.Book.{bookOf}
 use Rattle.book_format.specs.Questions.{aboutBytes, bookNumber}
 use Rattle.log_format.specs.Fits.{aboutLog}
-use Rattle.log_format.specs.Log.{entriesOf, logBytes}
+use Rattle.log_format.specs.Log.{entriesOf}
 use Rattle.requests.specs.Carried.{CarriedAfter}
 use Rattle.requests.specs.Request.{call, postings, Act, Lines, Outcome, Request, Setting, aboutLines, aboutSetting, actIn, actOf, callIn, limitsOn, linesOf, loggedAfter, openingLines, openingWith, refusedGiven, request, requestAfter, withdrawalAfter}
 

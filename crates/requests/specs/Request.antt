@@ -1,12 +1,6 @@
 -- Document 02, asks 1, 4 and 6: a request is a call, a list of postings or a withdrawal with the store and the log that it is given, or none. What it gives on a book and
 -- on a book in bytes. Assumes nothing.
-use mathlib.Core.Bool.{Bool, _&&_}
-use mathlib.Core.List.{List, [], _∷_, _++_}
-use mathlib.Core.Option.{Option, none, some}
-use Prim.Native.Nat.{ℕ}
-use lib.Dec.{eqb, leb}
-use lib.IntN.{ℤ}
-use lib.ListN.{length}
+use Rattle.base.specs.Basics.{Bool, _&&_, Option, none, some, List, [], _∷_, _++_, ℕ, eqb, leb, ℤ, length}
 use Rattle.rules.specs.Book.{Book}
 use Rattle.rules.specs.Calls.{Answer, Call, Result, about, effect, only, posting}
 use Rattle.rules.specs.Levels.{Limits}

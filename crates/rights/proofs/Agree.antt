@@ -1,11 +1,6 @@
 -- "Over two books that pass the opening questions and agree on the header and, in book order, on what a party may see, its answers to the same call agree." Assumes nothing.
-use mathlib.Core.Bool.{Bool, true, false, cond, _&&_}
-use mathlib.Core.List.{List, [], _∷_}
-use mathlib.Core.Path.{_≡_, _∙_, ap, ap₂, refl, subst, sym}
-use Prim.Native.Nat.{ℕ, suc, zero}
-use native.Mathlib.Omega.{arith}
-use lib.Dec.{T, eqb, eqb→eq}
-use lib.ListN.{drop, getD, length, take}
+use Rattle.base.specs.Basics.{_≡_, _∙_, ap, ap₂, refl, subst, sym, Bool, true, false, cond, _&&_, List, [], _∷_, ℕ, suc, zero, arith, T, eqb, eqb→eq}
+use Rattle.base.specs.Basics.{drop, getD, length, take}
 use Rattle.base.proofs.Tests.{and-l, and-r}
 use Rattle.rules.specs.Book.{Header, Trade, User, find}
 use Rattle.rules.specs.Calls.{idKnown, isShipper}

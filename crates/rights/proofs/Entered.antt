@@ -1,8 +1,5 @@
 -- Question 26 after those of the book and before those of the setting; what is asked after a refusal changes nothing. Assumes nothing.
-use mathlib.Core.List.{List}
-use mathlib.Core.Option.{Option, none, some}
-use mathlib.Core.Path.{_≡_, refl}
-use Prim.Native.Nat.{ℕ, suc}
+use Rattle.base.specs.Basics.{_≡_, refl, Option, none, some, List, ℕ, suc}
 use Rattle.book_format.specs.After.{after, replyAfter, stepAfter, unchanged}
 use Rattle.book_format.specs.Book.{bookOf}
 use Rattle.book_format.specs.Questions.{bookNumber}

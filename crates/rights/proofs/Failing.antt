@@ -1,7 +1,5 @@
 -- A book that fails one of the questions 1 to 7 gives its number, whoever asks and whatever for. Assumes nothing.
-use mathlib.Core.List.{List}
-use mathlib.Core.Path.{_≡_, _∙_, ap}
-use Prim.Native.Nat.{ℕ, suc}
+use Rattle.base.specs.Basics.{_≡_, _∙_, ap, List, ℕ, suc}
 use Rattle.book_format.specs.Book.{bookOf}
 use Rattle.book_format.specs.Questions.{bookNumber}
 use Rattle.outputs.specs.Output.{refused, written, writtenAfter}

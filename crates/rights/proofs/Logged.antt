@@ -1,10 +1,6 @@
 -- The public calls by a party with a lent log, given or not, are requests after the questions up to 26. A party that passes 26 has what the call gives without a party; one that
 -- does not has its number, and book and log stay. Assumes nothing.
-use mathlib.Core.List.{List}
-use mathlib.Core.Option.{Option}
-use mathlib.Core.Path.{_≡_, _∙_, ap, sym}
-use Prim.Native.Nat.{ℕ, suc}
-use lib.IntN.{ℤ}
+use Rattle.base.specs.Basics.{_≡_, _∙_, ap, sym, Option, List, ℕ, suc, ℤ}
 use Rattle.rules.specs.Calls.{Answer}
 use Rattle.requests.specs.Logged.{LoggedAfter, PostedAfter}
 use Rattle.requests.specs.Request.{Request, refusedGiven, request, requestAfter}

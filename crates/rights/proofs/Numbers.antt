@@ -1,12 +1,5 @@
 -- The number of a party: ids are above 0 and below 2^32, so that no other number names a user of a book. Assumes nothing.
-use mathlib.Core.Bool.{Bool, false, true, _&&_}
-use mathlib.Core.List.{List}
-use mathlib.Core.Logic.{_⊎_, inl, inr}
-use mathlib.Core.Path.{_≡_, _∙_, ap, refl}
-use Prim.Native.Nat.{ℕ, _<_, _^_}
-use native.Mathlib.Omega.{arith}
-use lib.Dec.{T, eqb, ltb→lt}
-use borrow.Author.Tests.{ne-eqb}
+use Rattle.base.specs.Basics.{_≡_, _∙_, ap, refl, _⊎_, inl, inr, Bool, false, true, _&&_, List, ℕ, _<_, _^_, arith, T, eqb, ltb→lt, ne-eqb}
 use Rattle.base.proofs.Tests.{and-l, and-r}
 use Rattle.laws.proofs.Users.{all-find, known-id}
 use Rattle.rules.specs.Book.{User, find}

@@ -1,9 +1,6 @@
 -- The operator's requests and queries are those without a party; every act of a shipper is refused with 26 and changes nothing; what returns 0 is the operator's.
 -- Assumes nothing.
-use mathlib.Core.List.{List, _++_}
-use mathlib.Core.Path.{_≡_, _∙_, ap, refl, sym}
-use Prim.Native.Nat.{ℕ, suc, zero}
-use native.Mathlib.Omega.{arith}
+use Rattle.base.specs.Basics.{_≡_, _∙_, ap, refl, sym, List, _++_, ℕ, suc, zero, arith}
 use Rattle.rules.specs.Calls.{only}
 use Rattle.rules.specs.Queries.{Query}
 use Rattle.rules.specs.Questions.{Question}

@@ -1,11 +1,5 @@
 -- What is its own a shipper is told as the operator is; what is not is refused with 26. Assumes nothing.
-use mathlib.Core.Bool.{Bool, true, false, cond, _&&_}
-use mathlib.Core.List.{List}
-use mathlib.Core.Logic.{inl, inr}
-use mathlib.Core.Path.{_≡_, _∙_, ap, refl, sym}
-use Prim.Native.Nat.{ℕ}
-use lib.Dec.{eqb}
-use borrow.Author.Tests.{eq-eqb, ne-eqb}
+use Rattle.base.specs.Basics.{_≡_, _∙_, ap, refl, sym, inl, inr, Bool, true, false, cond, _&&_, List, ℕ, eqb, eq-eqb, ne-eqb}
 use Rattle.rules.specs.Queries.{Query, onlyNumber, afternoonLevelOf, morningLevelOf, shownRecord, warning}
 use Rattle.book_format.specs.After.{after}
 use Rattle.book_format.specs.Book.{bookOf}

@@ -1,12 +1,6 @@
 -- The records that a party may see, from bytes to the book: books in bytes that agree on what a party may see hold books with one view, and show the party one record of its own. Assumes nothing.
-use mathlib.Core.Bool.{Bool, true, false, cond, _||_}
-use mathlib.Core.List.{List, [], _∷_, map}
-use mathlib.Core.Path.{_≡_, _∙_, ap, ap₂, refl, subst, sym}
-use Prim.Native.Nat.{ℕ, suc, zero, _+_, _*_, _≤_}
-use native.Mathlib.Omega.{arith}
-use lib.Dec.{T, eqb, eqb→eq}
-use lib.ListN.{drop, take}
-use lib.Seq.{drop-drop}
+use Rattle.base.specs.Basics.{_≡_, _∙_, ap, ap₂, refl, subst, sym, Bool, true, false, cond, _||_, List, [], _∷_, map, ℕ, suc, zero, _+_, _*_, _≤_}
+use Rattle.base.specs.Basics.{arith, T, eqb, eqb→eq, drop, take, drop-drop}
 use Rattle.base.specs.Lists.{any}
 use Rattle.base.proofs.Tests.{by-case}
 use Rattle.fields.proofs.Field.{field-part}

@@ -1,7 +1,5 @@
 -- What a party's query, its flag and its trades give, from what asked their opening questions and the contract of the inner function. Assumes nothing.
-use mathlib.Core.List.{List}
-use mathlib.Core.Path.{_≡_, _∙_, ap, refl}
-use Prim.Native.Nat.{ℕ, suc, zero}
+use Rattle.base.specs.Basics.{_≡_, _∙_, ap, refl, List, ℕ, suc, zero}
 use Rattle.rules.specs.Levels.{Limits}
 use Rattle.rules.specs.Queries.{Query, onlyNumber}
 use Rattle.book_format.specs.After.{after, replyAfter}

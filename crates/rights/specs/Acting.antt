@@ -1,7 +1,5 @@
 -- Document 02, ask 9: a request, a query and a whole cancellation by an acting party, on a book in bytes. Assumes nothing.
-use mathlib.Core.List.{List}
-use mathlib.Core.Path.{_≡_}
-use Prim.Native.Nat.{ℕ, _+_}
+use Rattle.base.specs.Basics.{_≡_, List, ℕ, _+_}
 use Rattle.rules.specs.Calls.{Answer}
 use Rattle.rules.specs.Queries.{Query, Reply, shownRecord}
 use Rattle.book_format.specs.Book.{bookOf}

@@ -1,10 +1,6 @@
 -- Document 02, ask 9: "Over two books that pass the opening questions and agree on the header and, in book order, on what a party may see, its answers to the same call agree."
 -- Assumes nothing.
-use mathlib.Core.Bool.{false, true}
-use mathlib.Core.List.{List, _++_}
-use mathlib.Core.Logic.{_⊎_}
-use mathlib.Core.Path.{_≡_}
-use Prim.Native.Nat.{ℕ, suc, _<_, _^_}
+use Rattle.base.specs.Basics.{_≡_, _⊎_, false, true, List, _++_, ℕ, suc, _<_, _^_}
 use Rattle.rules.specs.Queries.{Query, afternoonLevelOf, morningLevelOf, onlyNumber, shownRecord, warning}
 use Rattle.rules.specs.Questions.{Question}
 use Rattle.book_columns.specs.Calls.{stored}

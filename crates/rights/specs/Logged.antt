@@ -1,10 +1,5 @@
 -- Document 02, ask 9: the contracts of the public calls that a log is lent to, given or not, by an acting party. Every call that is given a log is the operator's. Assumes nothing.
-use mathlib.Core.List.{List}
-use mathlib.Core.Option.{Option}
-use mathlib.Core.Path.{_≡_}
-use Prim.Native.Nat.{ℕ}
-use lib.IntN.{ℤ}
-use lib.ListN.{length}
+use Rattle.base.specs.Basics.{_≡_, Option, List, ℕ, ℤ, length}
 use Rattle.rules.specs.Calls.{Answer, only}
 use Rattle.book_format.specs.After.{after}
 use Rattle.requests.specs.Logged.{lentLog, listWith}

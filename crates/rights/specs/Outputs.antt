@@ -1,6 +1,5 @@
 -- Document 02, ask 9: a call that writes a book another way to a lent output, by an acting party. "All else is the operator's." Assumes nothing.
-use mathlib.Core.List.{List}
-use Prim.Native.Nat.{ℕ}
+use Rattle.base.specs.Basics.{List, ℕ}
 use Rattle.rules.specs.Questions.{Question}
 use Rattle.outputs.specs.Output.{Output, writtenAfter}
 use Rattle.book_columns.specs.Calls.{aboutRoom}

@@ -1,7 +1,5 @@
 -- Document 02, ask 9: "Every call on a book gains an acting party: the operator, or a shipper with an id". Who may do what. Assumes nothing.
-use mathlib.Core.Bool.{Bool, true, false, cond, _&&_}
-use Prim.Native.Nat.{ℕ, _^_}
-use lib.Dec.{eqb}
+use Rattle.base.specs.Basics.{Bool, true, false, cond, _&&_, ℕ, _^_, eqb}
 use Rattle.rules.specs.Book.{Book, find}
 use Rattle.rules.specs.Levels.{shipper}
 use Rattle.rules.specs.Queries.{Query, afternoonLevelOf, morningLevelOf, shownRecord, warning}

@@ -1,7 +1,5 @@
 -- Document 02, ask 9: a book read into its fields. "All else is the operator's": a shipper may have its own record, not the book. Assumes nothing.
-use mathlib.Core.List.{List}
-use mathlib.Core.Path.{_≡_}
-use Prim.Native.Nat.{ℕ}
+use Rattle.base.specs.Basics.{_≡_, List, ℕ}
 use Rattle.book_tables.specs.declared.Book.{Book}
 use Rattle.book_tables.specs.Book.{BookRead, blankBook}
 use Rattle.rights.specs.Acting.{enteringNumber}

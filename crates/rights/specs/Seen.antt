@@ -1,8 +1,5 @@
 -- Document 02, ask 9: what a party may see of a book in bytes, record by record in book order. Assumes nothing.
-use mathlib.Core.List.{List}
-use mathlib.Core.Path.{_≡_}
-use Prim.Native.Nat.{ℕ}
-use lib.ListN.{drop, take}
+use Rattle.base.specs.Basics.{_≡_, List, ℕ, drop, take}
 use Rattle.book_format.specs.Book.{headerSize, tradeCount, tradeSize, tradesAt, userCount, userSize, usersOf, versionOf}
 use Rattle.book_format.specs.Questions.{partsOf}
 use Rattle.book_records.specs.Trade.{tradeOf}

@@ -1,11 +1,6 @@
 -- Document 02, ask 9: the flag of a user, "the count of the trades it may see and, by ordinal from 0 in book order, that trade's 20 bytes (an empty part past the last); flag
 -- and trades are new calls under questions 8 and 9". Asked by the operator of an id, they tell what that id may see. Assumes nothing.
-use mathlib.Core.Bool.{Bool, cond, false}
-use mathlib.Core.List.{List, [], _∷_}
-use mathlib.Core.Path.{_≡_}
-use Prim.Native.Nat.{ℕ, _+_, _*_}
-use lib.Dec.{ltb}
-use lib.ListN.{getD, length}
+use Rattle.base.specs.Basics.{_≡_, Bool, cond, false, List, [], _∷_, ℕ, _+_, _*_, ltb, getD, length}
 use Rattle.rules.specs.Book.{Book, find}
 use Rattle.rules.specs.Calls.{idKnown, isShipper}
 use Rattle.rules.specs.Levels.{Limits, flagged}

@@ -1,15 +1,6 @@
 -- A table of who bears whose risk gives the book that bytes hold as its risk is borne: its trades, and the sums over its users. Assumes nothing.
-use mathlib.Core.Bool.{Bool, cond}
-use mathlib.Core.List.{List, [], _∷_}
-use mathlib.Core.Path.{_≡_, refl, sym, ap, ap₂, subst, _∙_}
-use Prim.Native.Nat.{ℕ, zero, suc, _+_, _*_, _≤_, _<_}
-use native.Mathlib.Nat.{not-suc-le-zero, le-of-suc-le-suc}
-use native.Mathlib.Omega.{arith}
-use lib.Dec.{T, eqb, eqb→eq}
-use lib.IntN.{ℤ, pos, _+ℤ_, +ℤ-assoc, +ℤ-idl, +ℤ-idr}
-use lib.ListN.{length, take, getD}
-use lib.Seq.{take-all}
-use borrow.Author.Tests.{eq-eqb}
+use Rattle.base.specs.Basics.{_≡_, refl, sym, ap, ap₂, subst, _∙_, Bool, cond, List, [], _∷_, ℕ, zero, suc, _+_, _≤_, _<_, not-suc-le-zero}
+use Rattle.base.specs.Basics.{le-of-suc-le-suc, arith, T, eqb, eqb→eq, ℤ, pos, _+ℤ_, +ℤ-assoc, +ℤ-idl, +ℤ-idr, length, take, getD, take-all, eq-eqb}
 use Rattle.base.proofs.Fronts.{all-at}
 use Rattle.base.proofs.Tests.{eqb-of, or-l, or-r}
 use Rattle.base.specs.Lists.{any}
@@ -17,7 +8,7 @@ use Rattle.base.specs.Sums.{sumℤ}
 use Rattle.book_format.proofs.Held.{accepted-ids, accepted-trades}
 use Rattle.book_format.proofs.OneUser.{find-place}
 use Rattle.book_format.proofs.Passed.{length-tradesOf, length-usersOf}
-use Rattle.book_format.specs.Book.{bookOf, tradeCount, tradesOf, userCount, usersOf}
+use Rattle.book_format.specs.Book.{bookOf, tradesOf, userCount, usersOf}
 use Rattle.book_format.specs.Held.{Accepted}
 use Rattle.book_parties.proofs.Known.{placeIn-placeOf}
 use Rattle.book_parties.specs.Ids.{idAt, idsOf, placeIn}
@@ -28,9 +19,9 @@ use Rattle.laws_sales.specs.Borne.{borneTrade, shut}
 use Rattle.rules.specs.Bearers.{asBorne, bearer, borneSum}
 use Rattle.rules.specs.Book.{PerArea, Terms, Trade, User, at, find, noTrade, nobody}
 use Rattle.rules.specs.Questions.{known, tradeValid}
-use Rattle.risk_bearers.proofs.Borne.{length-tradesIn, length-usersIn, trade-in}
-use Rattle.risk_bearers.proofs.Places.{known-at, known-place, place-is}
-use Rattle.risk_bearers.specs.Bearers.{AllBorne, BearersIn, BearersOf, Bearing, BorneAs, bearerIn, tradesIn, usersIn}
+use Rattle.risk_bearers.proofs.Borne.{length-tradesIn, trade-in}
+use Rattle.risk_bearers.proofs.Places.{known-place, place-is}
+use Rattle.risk_bearers.specs.Bearers.{AllBorne, BearersIn, BearersOf, Bearing, BorneAs, bearerIn, tradesIn}
 use Rattle.risk_bearers.specs.Rows.{amountIn, borneTo}
 
 -- the id at a place is known

@@ -1,11 +1,6 @@
 -- The book that bytes hold, as its risk is borne: as many users and trades as the bytes have, and what is read of a trade in the bytes. Assumes nothing.
-use mathlib.Core.Bool.{Bool, true, false, not, cond, _&&_}
-use mathlib.Core.List.{List, map, map-map}
-use mathlib.Core.Path.{_≡_, refl, sym, ap, ap₂, _∙_}
-use Prim.Native.Nat.{ℕ, _<_}
-use native.Mathlib.Omega.{arith}
-use lib.Dec.{T, eqb}
-use lib.ListN.{length, getD, length-map, List·getD-map}
+use Rattle.base.specs.Basics.{_≡_, refl, sym, ap, _∙_, Bool, true, false, not, cond, _&&_, List, map, map-map, ℕ, _<_, arith, T, eqb, length, getD}
+use Rattle.base.specs.Basics.{length-map, List·getD-map}
 use Rattle.base.proofs.Fronts.{getD-inside}
 use Rattle.base.proofs.Tests.{all-by, and-false, and-l, and-r}
 use Rattle.base.specs.Lists.{all}
@@ -16,7 +11,7 @@ use Rattle.book_parties.specs.Ids.{idAt}
 use Rattle.laws_sales.proofs.Valid.{borne-ids, borne-valid}
 use Rattle.laws_sales.specs.Borne.{borneBook, borneTrade, borneUser, borneValid, shut}
 use Rattle.rules.specs.Bearers.{asBorne}
-use Rattle.rules.specs.Book.{Terms, Trade, User, bilateralForDay, noTrade, nobody}
+use Rattle.rules.specs.Book.{Trade, User, bilateralForDay, noTrade, nobody}
 use Rattle.rules.specs.Questions.{idsRise, known}
 use Rattle.risk_bearers.specs.Bearers.{BorneIn, tradesIn, usersIn}
 use Rattle.risk_bearers.proofs.Places.{party-id, party-is, party-within}

@@ -1,11 +1,6 @@
 -- A list that is filled in from the front, an element of another list after the other. Assumes nothing.
-use mathlib.Core.List.{List, [], _∷_, map, map-append}
-use mathlib.Core.Path.{_≡_, refl, ap, _∙_}
-use Prim.Native.Nat.{ℕ, _+_, _≤_, _<_}
-use native.Mathlib.Numerals.{add-one}
-use native.Mathlib.Omega.{arith}
-use lib.ListN.{length, take, getD, set, length-set}
-use lib.Seq.{take-all, take-suc, take-suc-set}
+use Rattle.base.specs.Basics.{_≡_, refl, ap, _∙_, List, [], _∷_, map, map-append, ℕ, _+_, _≤_, _<_, add-one, arith, length, take, getD, set}
+use Rattle.base.specs.Basics.{length-set, take-all, take-suc, take-suc-set}
 
 -- the first i places of a list hold what the first i elements of another give; there is room for more
 pub record Listed {A : Type 0} (f : A → ℕ) (xs : List A) (room : ℕ) (ns : List ℕ) (i : ℕ) : Type 0 where

@@ -1,11 +1,6 @@
 -- The parties of trades by their places among users. Assumes nothing.
-use mathlib.Core.List.{List, map}
-use mathlib.Core.Path.{_≡_, sym, ap, _∙_}
-use Prim.Native.Nat.{ℕ, _<_}
-use native.Mathlib.Omega.{arith}
-use lib.Dec.{T, eqb, ltb, eqb→eq, ltb→lt}
-use lib.ListN.{length, getD, length-map, List·getD-map}
-use lib.Seq.{getD-take}
+use Rattle.base.specs.Basics.{_≡_, sym, ap, _∙_, List, map, ℕ, _<_, arith, T, eqb, ltb, eqb→eq, ltb→lt, length, getD, length-map, List·getD-map}
+use Rattle.base.specs.Basics.{getD-take}
 use Rattle.base.proofs.Fronts.{all-at, getD-inside}
 use Rattle.base.proofs.Tests.{eqb-of, same-test}
 use Rattle.base.specs.Lists.{all}

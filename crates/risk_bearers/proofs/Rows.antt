@@ -1,15 +1,6 @@
 -- Amounts are added one after the other to those of who bears the risk. Assumes nothing.
-use mathlib.Core.Bool.{Bool, true, false, cond}
-use mathlib.Core.List.{List}
-use mathlib.Core.Path.{_≡_, refl, sym, ap, ap₂, subst, _∙_}
-use Prim.Native.Nat.{ℕ, suc, _+_, _*_, _-_, _≤_, _<_, _^_}
-use native.Mathlib.Omega.{arith}
-use native.Mathlib.Numerals.{add-one}
-use lib.Dec.{eqb, ltb}
-use lib.IntN.{ℤ, pos, _+ℤ_, +ℤ-idr}
-use lib.ListN.{length, getD, set, length-set}
-use lib.Seq.{getD-set-same, getD-set-other}
-use borrow.Author.Tests.{eq-eqb, le-ltb, lt-ltb, ne-eqb}
+use Rattle.base.specs.Basics.{_≡_, refl, sym, ap, ap₂, _∙_, Bool, false, cond, List, ℕ, suc, _+_, _*_, _-_, _≤_, _<_, _^_, add-one, arith, eqb, ltb}
+use Rattle.base.specs.Basics.{ℤ, pos, _+ℤ_, +ℤ-idr, length, getD, set, length-set, getD-set-same, getD-set-other, eq-eqb, le-ltb, lt-ltb, ne-eqb}
 use Rattle.base.proofs.Linear.{by-order, parts-add}
 use Rattle.base.proofs.Stores.{here-or-apart, set-front}
 use Rattle.units.proofs.Amounts.{net-eq, net-zero, parts-net}

@@ -1,13 +1,7 @@
 -- Who bears whose risk, read of the records of a book: the ids, the manager in an area, the place of either. Assumes nothing.
-use mathlib.Core.Bool.{Bool, true, false, cond}
-use mathlib.Core.List.{List, map}
-use mathlib.Core.Path.{_≡_, refl, sym, ap, subst, _∙_}
-use Prim.Native.Nat.{ℕ, zero, suc, _+_, _*_, _-_, _≤_, _<_}
-use native.Mathlib.Omega.{arith}
-use lib.Dec.{T, eqb, eqb→eq}
-use lib.ListN.{length, take, drop, getD, set, replicate, length-set, length-replicate}
-use lib.Seq.{drop-drop, drop-set-lt, getD-set-other, getD-set-same}
-use borrow.Author.Tests.{eq-eqb, ne-eqb}
+use Rattle.base.specs.Basics.{_≡_, refl, sym, ap, subst, _∙_, Bool, true, List, ℕ, zero, suc, _+_, _*_, _-_, _≤_, _<_, arith, T, eqb→eq, length, take}
+use Rattle.base.specs.Basics.{drop, getD, set, replicate, length-set, length-replicate, drop-drop, drop-set-lt, getD-set-other, getD-set-same, eq-eqb}
+use Rattle.base.specs.Basics.{ne-eqb}
 use Rattle.base.proofs.Linear.{by-order}
 use Rattle.book_format.proofs.Held.{accepted-ids}
 use Rattle.book_format.proofs.Passed.{length-usersOf}

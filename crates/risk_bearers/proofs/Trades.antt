@@ -1,12 +1,6 @@
 -- The trades of a book, one after the other: the places of those who bear the risk of their parties are listed, and what stands is counted at each. Assumes nothing.
-use mathlib.Core.Bool.{Bool, _&&_}
-use mathlib.Core.List.{List, [], _∷_}
-use mathlib.Core.Path.{_≡_, refl, sym, ap, subst, _∙_}
-use Prim.Native.Nat.{ℕ, suc, _+_, _*_, _≤_, _<_}
-use native.Mathlib.Omega.{arith}
-use lib.Dec.{T, leb→le, ltb, ltb→lt}
-use lib.ListN.{length, take, getD, set, replicate, length-map}
-use borrow.Author.Tests.{lt-ltb}
+use Rattle.base.specs.Basics.{_≡_, refl, sym, ap, subst, _∙_, Bool, _&&_, List, [], _∷_, ℕ, suc, _+_, _*_, _≤_, _<_, arith, T, leb→le, ltb, ltb→lt}
+use Rattle.base.specs.Basics.{length, take, getD, set, replicate, length-map, lt-ltb}
 use Rattle.base.specs.Lists.{all}
 use Rattle.base.proofs.Fronts.{all-at}
 use Rattle.base.proofs.Tests.{all-by, and-i, and-l, and-r}
@@ -19,13 +13,13 @@ use Rattle.book_parties.specs.Ids.{BookIn, among, idsOf, placeIn}
 use Rattle.risk_bearers.proofs.Listed.{Listed, listed-end, listed-start, listed-turn}
 use Rattle.book_sums.proofs.Twelve.{addable-bought, addable-sold, twelve-all, twelve-next, twelve-none, twelve-of}
 use Rattle.book_sums.specs.Sums.{partiesAmong, placesOf}
-use Rattle.book_sums.specs.Twelve.{Addable, Low, Twelve, added, slot}
+use Rattle.book_sums.specs.Twelve.{Addable, Low, Twelve, added}
 use Rattle.risk_bearers.proofs.Places.{party-within, placed-at}
 use Rattle.laws.proofs.Positions.{buyer-known, seller-known}
 use Rattle.laws.proofs.Settle.{area-lt}
-use Rattle.rules.specs.Book.{Terms, Trade, User, noTrade}
+use Rattle.rules.specs.Book.{Trade, User, noTrade}
 use Rattle.rules.specs.Questions.{amountsValid, codesValid, known, tradeValid}
-use Rattle.risk_bearers.specs.Bearers.{AllBorne, BearersIn, Bearing, BorneAs, SummedAt, bearerIn}
+use Rattle.risk_bearers.specs.Bearers.{AllBorne, BearersIn, BorneAs, SummedAt, bearerIn}
 
 -- what holds at each place holds of all
 all-from : {A : Type 0} (p : A → Bool) (xs : List A) (d : A) → ((i : ℕ) → i < length xs → T (p (getD xs i d))) → T (all p xs)

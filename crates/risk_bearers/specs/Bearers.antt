@@ -1,13 +1,9 @@
 -- Who bears whose risk, by places, in a table: 3·place + area, for each user and area the place of who bears its risk there. Trades and users as their risk is borne by such a table. Assumes nothing.
-use mathlib.Core.List.{List}
-use mathlib.Core.Path.{_≡_}
-use Prim.Native.Nat.{ℕ, _+_, _*_, _≤_, _<_}
-use lib.ListN.{length, take, getD}
+use Rattle.base.specs.Basics.{_≡_, List, ℕ, _+_, _*_, _<_, length, take, getD}
 use Rattle.book_format.specs.Book.{bookOf, tradesOf, userCount, usersOf}
 use Rattle.book_format.specs.Held.{Accepted}
 use Rattle.book_parties.specs.Ids.{Padded, Placed, idsOf, placeIn}
-use Rattle.book_sums.specs.Sums.{placesOf}
-use Rattle.book_sums.specs.Twelve.{Twelve, TwelveOf}
+use Rattle.book_sums.specs.Twelve.{TwelveOf}
 use Rattle.laws_sales.specs.Borne.{borneBook}
 use Rattle.rules.specs.Bearers.{bearer}
 use Rattle.rules.specs.Book.{Trade, User, noTrade, nobody}

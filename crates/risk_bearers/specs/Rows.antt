@@ -1,11 +1,5 @@
 -- Amounts of all users by place, three for each, each kept as the amount + 2^31; and their sums over those whose risk a user bears. Assumes nothing.
-use mathlib.Core.Bool.{cond}
-use mathlib.Core.List.{List}
-use mathlib.Core.Path.{_≡_}
-use Prim.Native.Nat.{ℕ, zero, suc, _+_, _*_, _≤_, _<_, _^_}
-use lib.Dec.{eqb, ltb}
-use lib.IntN.{ℤ, pos, _+ℤ_}
-use lib.ListN.{length, getD}
+use Rattle.base.specs.Basics.{_≡_, cond, List, ℕ, zero, suc, _+_, _*_, _≤_, _<_, _^_, eqb, ltb, ℤ, pos, _+ℤ_, length, getD}
 use Rattle.units.specs.Amounts.{net}
 use Rattle.risk_bearers.specs.Bearers.{BearersIn, bearerIn}
 

@@ -129,7 +129,10 @@ fn bearer_at(book: &[u8], ids: &[u32; 64], n: usize, i: usize, area: usize) -> u
     requires { ⌜ Accepted (now book) × (managersIn (versionOf (now book)) ≡ true) × IdsOf (usersOf (now book)) n (now ids) × (n ≡ userCount (now book)) × (i < n) × (area < 3) ⌝ }
     ensures { λ r. ⌜ r ≡ placeIn (idsOf (usersOf (now (book .entry)))) (bearer (getD (usersOf (now (book .entry))) i nobody) area) ⌝ }
 {
-    let id = fields::get_u32(book, book_format::user_offset(book, i) + (56 + 4 * area));
+    let id = fields::get_u32(
+        book,
+        book_format::user_offset(book, i) + (book_records::MANAGERS + 4 * area),
+    );
     if id == 0 {
         return i as u8;
     }

@@ -1,8 +1,5 @@
 -- Needs as differences of naturals, never below 0. Assumes nothing.
-use mathlib.Core.Path.{_≡_}
-use Prim.Native.Nat.{ℕ, _+_, _-_}
-use native.Mathlib.Omega.{arith}
-use lib.IntN.{pos, negℤ, _+ℤ_, _-ℤ_}
+use Rattle.base.specs.Basics.{_≡_, ℕ, _+_, _-_, arith, pos, negℤ, _+ℤ_, _-ℤ_}
 use Rattle.base.specs.Parts.{posPart, negPart}
 use Rattle.base.proofs.Linear.{posPart-of, posPart-pos, negPart-pos, posPart-neg, negPart-neg, parts-add, parts-sub}
 use Rattle.rules.specs.Levels.{Holding, morningNeed, stock, afternoonNeed}

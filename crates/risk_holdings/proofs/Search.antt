@@ -1,12 +1,6 @@
 -- A search through the first n elements of a list, from the front: what is left to look at has the whole answer. Assumes nothing.
-use mathlib.Core.Path.{_≡_, refl, ap, _∙_}
-use mathlib.Core.Bool.{Bool, true, false, _||_}
-use mathlib.Core.List.{List, map}
-use Prim.Native.Nat.{ℕ, _+_, _≤_, _<_}
-use native.Mathlib.Numerals.{add-one}
-use native.Mathlib.Omega.{arith}
-use lib.ListN.{length, take, drop, getD, length-take, drop-of-length-le}
-use lib.Seq.{drop-cons, getD-take}
+use Rattle.base.specs.Basics.{_≡_, refl, ap, _∙_, Bool, true, false, _||_, List, map, ℕ, _+_, _≤_, _<_, add-one, arith, length, take, drop, getD}
+use Rattle.base.specs.Basics.{length-take, drop-of-length-le, drop-cons, getD-take}
 use Rattle.base.specs.Lists.{any}
 
 -- the answer of what is left is the answer of all

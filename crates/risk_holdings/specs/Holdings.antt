@@ -1,7 +1,5 @@
 -- The holdings of the rules that the code's structs are. Assumes nothing.
-use Prim.Native.Nat.{ℕ, zero, suc, _≤_}
-use mathlib.Core.List.{List}
-use lib.IntN.{pos}
+use Rattle.base.specs.Basics.{List, ℕ, zero, suc, _≤_, pos}
 use Rattle.rules.specs.Book.{at}
 use Rattle.rules.specs.Levels as rules
 use Rattle.units.specs.Amounts.{net}

@@ -1,9 +1,5 @@
 -- A level as a difference of naturals, never below the floor, and the exposure and the credit in it. Assumes nothing.
-use mathlib.Core.List.{List, [], _∷_}
-use mathlib.Core.Path.{_≡_, refl}
-use Prim.Native.Nat.{ℕ, _+_, _-_, max}
-use native.Mathlib.Omega.{arith}
-use lib.IntN.{ℤ, pos, _+ℤ_, _-ℤ_, +ℤ-assoc}
+use Rattle.base.specs.Basics.{_≡_, refl, List, [], _∷_, ℕ, _+_, _-_, max, arith, ℤ, pos, _+ℤ_, _-ℤ_, +ℤ-assoc}
 use Rattle.base.specs.Parts.{posPart, negPart}
 use Rattle.base.proofs.Linear.{posPart-of, posPart-pos, negPart-pos, parts-add, parts-sub}
 use Rattle.base.specs.Sums.{sum}

@@ -1,11 +1,5 @@
 -- What a user holds as its risk is borne: by its record and its own sums in a version without managers, else by the sums over those whose risk it bears. Assumes nothing.
-use mathlib.Core.Bool.{true, false}
-use mathlib.Core.List.{List, [], _∷_}
-use mathlib.Core.Path.{_≡_, refl, sym, ap, subst, _∙_}
-use Prim.Native.Nat.{ℕ, zero, suc, _≤_, _<_, _^_}
-use native.Mathlib.Omega.{arith}
-use lib.Dec.{eqb}
-use lib.ListN.{getD, length}
+use Rattle.base.specs.Basics.{_≡_, sym, ap, subst, _∙_, false, List, [], _∷_, ℕ, zero, suc, _≤_, _<_, _^_, arith, getD, length}
 use Rattle.book_format.proofs.Passed.{length-usersOf}
 use Rattle.book_format.specs.Book.{bookOf, tradesOf, userCount, usersOf, versionOf}
 use Rattle.book_format.specs.Held.{Accepted}
@@ -23,8 +17,8 @@ use Rattle.risk_user.proofs.Borne.{member-borne}
 use Rattle.risk_user.proofs.Held.{held-row}
 use Rattle.risk_user.specs.UserAt.{HeldWith}
 use Rattle.rules.specs.Areas.{managersIn}
-use Rattle.rules.specs.Bearers.{bearer, borneSum}
-use Rattle.rules.specs.Book.{Book, PerArea, User, at, bought, nobody, sold}
+use Rattle.rules.specs.Bearers.{borneSum}
+use Rattle.rules.specs.Book.{Book, User, bought, nobody, sold}
 use Rattle.rules.specs.Levels.{holding}
 use Rattle.rules.specs.Levels as rules
 use Rattle.units.specs.Amounts.{net}
@@ -32,7 +26,7 @@ use Rattle.units.specs.declared.Net.{Net}
 use Rattle.risk_members.specs.Members.{HoldingsOf, SumsOf}
 use Rattle.risk_members.specs.Sums.{HeldTo, HoldingRoom, Passed}
 use Rattle.risk_members.proofs.Members.{read-physical, read-position}
-use Rattle.risk_members.proofs.Sums.{Near, count-end, count-start, count-with, sum-end, sum-room, sum-start, sum-with}
+use Rattle.risk_members.proofs.Sums.{count-end, count-start, sum-end, sum-room, sum-start}
 
 -- ---- user by user
 

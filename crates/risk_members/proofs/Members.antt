@@ -1,11 +1,5 @@
 -- Who bears a user's risk, and the amounts that are read of users. Assumes nothing.
-use mathlib.Core.List.{List}
-use mathlib.Core.Path.{_≡_, refl, sym, ap, _∙_}
-use Prim.Native.Nat.{ℕ, _+_, _≤_, _<_}
-use native.Mathlib.Omega.{arith}
-use lib.IntN.{ℤ}
-use lib.ListN.{length, getD}
-use borrow.Author.Tests.{eq-eqb, ne-eqb}
+use Rattle.base.specs.Basics.{_≡_, refl, sym, ap, _∙_, List, ℕ, _+_, _≤_, _<_, arith, ℤ, length, getD, eq-eqb, ne-eqb}
 use Rattle.base.proofs.Fronts.{all-at}
 use Rattle.base.specs.Parts.{negPart, posPart}
 use Rattle.book_format.proofs.Passed.{length-usersOf}

@@ -1,23 +1,12 @@
 -- Sums over those whose risk a user bears, user by user. Assumes nothing.
-use mathlib.Core.Bool.{Bool, true, false, cond}
-use mathlib.Core.List.{List, [], _∷_}
-use mathlib.Core.Path.{_≡_, refl, sym, ap, ap₂, _∙_}
-use Prim.Native.Nat.{ℕ, zero, suc, _+_, _*_, _-_, _≤_, _<_, _^_}
-use native.Mathlib.Nat.{not-suc-le-zero, le-of-suc-le-suc}
-use native.Mathlib.Numerals.{add-one}
-use native.Mathlib.Omega.{arith}
-use lib.Dec.{eqb}
-use lib.IntN.{ℤ, pos, _+ℤ_, +ℤ-assoc, +ℤ-idl, +ℤ-idr}
-use lib.ListN.{length, take, getD}
-use lib.Seq.{take-all}
+use Rattle.base.specs.Basics.{_≡_, refl, sym, ap, ap₂, _∙_, Bool, true, false, cond, List, [], _∷_, ℕ, zero, suc, _+_, _-_, _≤_, _<_, _^_, add-one}
+use Rattle.base.specs.Basics.{not-suc-le-zero, le-of-suc-le-suc, arith, eqb, ℤ, pos, _+ℤ_, +ℤ-assoc, +ℤ-idl, +ℤ-idr, length, take, getD, take-all}
 use Rattle.base.proofs.Linear.{parts-add}
-use Rattle.base.specs.Parts.{negPart, posPart}
 use Rattle.base.specs.Sums.{sum, sumℤ}
 use Rattle.rules.specs.Bearers.{bearer, borneSum}
 use Rattle.rules.specs.Book.{PerArea, User, at, nobody}
 use Rattle.units.proofs.Amounts.{net-eq, net-zero, parts-net}
 use Rattle.units.specs.Amounts.{net}
-use Rattle.units.specs.declared.Net.{Net}
 use Rattle.laws.proofs.Members.{membersSum}
 use Rattle.risk_members.specs.Sums.{AmountRoom, CountTo, Passed, SumTo}
 

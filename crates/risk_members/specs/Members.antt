@@ -1,8 +1,5 @@
 -- What the user at a place holds as its risk is borne, of a book with the sums of its users. Assumes nothing.
-use mathlib.Core.List.{List}
-use mathlib.Core.Path.{_≡_}
-use Prim.Native.Nat.{ℕ, _<_, _^_}
-use lib.ListN.{getD}
+use Rattle.base.specs.Basics.{_≡_, List, ℕ, _<_, _^_, getD}
 use Rattle.book_format.specs.Book.{bookOf, tradesOf, usersOf}
 use Rattle.book_sums.specs.Twelve.{Low, TwelveOf}
 use Rattle.risk_holdings.specs.Holdings.{HoldingsWithin, heldIn}

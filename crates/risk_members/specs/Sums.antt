@@ -1,11 +1,5 @@
 -- Sums over the first users of those whose risk a user bears in an area. Assumes nothing.
-use mathlib.Core.Bool.{true, cond}
-use mathlib.Core.List.{List}
-use mathlib.Core.Path.{_≡_}
-use Prim.Native.Nat.{ℕ, _+_, _*_, _≤_, _<_, _^_}
-use lib.Dec.{eqb}
-use lib.IntN.{pos}
-use lib.ListN.{getD, take}
+use Rattle.base.specs.Basics.{_≡_, true, cond, List, ℕ, _+_, _*_, _≤_, _<_, _^_, eqb, pos, getD, take}
 use Rattle.base.specs.Sums.{sum, sumℤ}
 use Rattle.book_format.specs.Book.{tradesOf, usersOf}
 use Rattle.risk_holdings.specs.declared.Holding.{Holding}

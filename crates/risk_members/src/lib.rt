@@ -31,7 +31,7 @@ pub fn bearer_of(book: &[u8], place: usize, area: usize) -> u32
     ensures { λ r. ⌜ r ≡ bearer (getD (usersOf (now (book .entry))) place nobody) area ⌝ }
 {
     let at = book_format::user_offset(book, place);
-    let id = fields::get_u32(book, at + (56 + 4 * area));
+    let id = fields::get_u32(book, at + (book_records::MANAGERS + 4 * area));
     if id == 0 {
         return fields::get_u32(book, at);
     }

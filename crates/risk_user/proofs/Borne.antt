@@ -1,9 +1,5 @@
 -- The users of a book as its risk is borne, by their places. Assumes nothing.
-use mathlib.Core.List.{List, map, map-map}
-use mathlib.Core.Path.{_≡_, sym, ap, _∙_}
-use Prim.Native.Nat.{ℕ, _<_}
-use native.Mathlib.Omega.{arith}
-use lib.ListN.{length, getD, length-map, List·getD-map}
+use Rattle.base.specs.Basics.{_≡_, sym, ap, _∙_, List, map, map-map, ℕ, _<_, arith, length, getD, length-map, List·getD-map}
 use Rattle.base.proofs.Fronts.{getD-inside}
 use Rattle.laws_sales.specs.Borne.{borneBook, borneUser}
 use Rattle.rules.specs.Book.{Book, Party, User, nobody}

@@ -1,12 +1,5 @@
 -- The holdings that are read of a user: those of arrays, and those of the rules. Assumes nothing.
-use mathlib.Core.Bool.{Bool, _||_}
-use mathlib.Core.List.{List, []}
-use mathlib.Core.Path.{_≡_, refl, sym, ap, ap₂, _∙_}
-use Prim.Native.Nat.{ℕ, zero, suc, _+_, _*_, _<_}
-use native.Mathlib.Omega.{arith}
-use lib.Dec.{ltb}
-use lib.IntN.{ℤ}
-use lib.ListN.{getD, length}
+use Rattle.base.specs.Basics.{_≡_, refl, sym, ap, ap₂, _∙_, Bool, _||_, List, [], ℕ, zero, suc, _+_, _*_, _<_, arith, ltb, ℤ, getD, length}
 use Rattle.base.specs.Sums.{sum}
 use Rattle.rules.specs.Areas.{Prices, areas}
 use Rattle.rules.specs.Book.{at, Book, PerArea, User, nobody}

@@ -1,9 +1,5 @@
 -- The money of the user at a place: fields of its record. Assumes nothing.
-use mathlib.Core.List.{List}
-use mathlib.Core.Path.{_≡_, refl, ap, _∙_}
-use Prim.Native.Nat.{ℕ, _+_}
-use native.Mathlib.Omega.{arith}
-use lib.ListN.{getD}
+use Rattle.base.specs.Basics.{_≡_, refl, ap, _∙_, List, ℕ, _+_, arith, getD}
 use Rattle.fields.specs.Field.{field}
 use Rattle.book_format.proofs.Places.{user-field}
 use Rattle.book_format.specs.Book.{userAt, usersOf}

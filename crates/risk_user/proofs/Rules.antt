@@ -1,11 +1,6 @@
 -- What is read of a user of a book is what the rules say of it: level, flag, called in and state. Assumes nothing.
-use mathlib.Core.Bool.{Bool, true, false, cond, _&&_, _||_}
-use mathlib.Core.List.{List}
-use mathlib.Core.Path.{_≡_, refl, sym, ap, ap₂, _∙_}
-use Prim.Native.Nat.{ℕ, _+_, _*_, _<_}
-use native.Mathlib.Omega.{arith}
-use lib.Dec.{leb, ltb}
-use lib.ListN.{length, getD}
+use Rattle.base.specs.Basics.{_≡_, refl, sym, ap, ap₂, _∙_, Bool, true, false, cond, _&&_, _||_, List, ℕ, _+_, _*_, _<_, arith, leb, ltb, length}
+use Rattle.base.specs.Basics.{getD}
 use Rattle.laws_sales.specs.Parties.{cutBefore}
 use Rattle.laws.specs.Statements.{ownHolding}
 use Rattle.laws_sales.proofs.Sums.{held-borne}

@@ -1,10 +1,6 @@
 -- The state of a user by its level and by whether it is called in, case by case. Assumes nothing.
-use mathlib.Core.Bool.{Bool, true, false, cond, _&&_}
-use mathlib.Core.Path.{_≡_, refl, sym, _∙_}
-use Prim.Native.Nat.{ℕ, _-_, _<_, _≤_}
-use native.Mathlib.Omega.{arith}
-use lib.Dec.{leb, ltb}
-use borrow.Author.Tests.{eq-eqb, ne-eqb, lt-ltb, le-ltb, le-leb}
+use Rattle.base.specs.Basics.{_≡_, refl, sym, _∙_, Bool, true, false, cond, _&&_, ℕ, _-_, _<_, _≤_, arith, leb, ltb, eq-eqb, ne-eqb, lt-ltb, le-ltb}
+use Rattle.base.specs.Basics.{le-leb}
 use Rattle.base.proofs.Linear.{by-order}
 use Rattle.rules.specs.Book.{User}
 use Rattle.rules.specs.Day.{clear, short, call, quiet}

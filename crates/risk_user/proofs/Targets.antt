@@ -1,12 +1,6 @@
 -- The target that is read from arrays, case by case. Assumes nothing.
-use mathlib.Core.Bool.{Bool, true, false, cond, _&&_, _||_}
-use mathlib.Core.List.{List}
-use mathlib.Core.Path.{_≡_, refl, sym, ap, subst, _∙_}
-use Prim.Native.Nat.{ℕ, _-_}
-use native.Mathlib.Omega.{arith}
-use lib.Dec.{T, eqb, ltb}
-use lib.ListN.{getD}
-use borrow.Author.Tests.{eq-eqb, ne-eqb, lt-ltb, le-ltb}
+use Rattle.base.specs.Basics.{_≡_, refl, sym, ap, subst, _∙_, Bool, true, false, cond, _&&_, _||_, List, ℕ, _-_, arith, T, eqb, ltb, getD, eq-eqb}
+use Rattle.base.specs.Basics.{ne-eqb, lt-ltb, le-ltb}
 use Rattle.base.proofs.Linear.{by-order}
 use Rattle.rules.specs.Areas.{Prices}
 use Rattle.rules.specs.Book.{User, nobody}

@@ -1,11 +1,6 @@
 -- Laws of a search through trades in bytes, in which what is left to look at has the whole answer. Assumes nothing.
-use mathlib.Core.Bool.{Bool, false, true}
-use mathlib.Core.List.{List, [], _∷_, map}
-use mathlib.Core.Path.{_≡_, _∙_, ap, refl, sym}
-use Prim.Native.Nat.{ℕ, suc, zero, _+_, _-_, _*_, _<_, _≤_}
-use native.Mathlib.Omega.{arith}
-use lib.ListN.{drop, getD, length, take}
-use lib.Seq.{drop-drop}
+use Rattle.base.specs.Basics.{_≡_, _∙_, ap, refl, sym, Bool, false, true, List, [], _∷_, map, ℕ, suc, zero, _+_, _-_, _*_, _<_, _≤_, arith, drop}
+use Rattle.base.specs.Basics.{getD, length, take, drop-drop}
 use Rattle.rules.specs.Book.{Trade}
 use Rattle.base.specs.Lists.{any}
 use Rattle.fields.proofs.Records.{getD-recordsOf, length-recordsOf}

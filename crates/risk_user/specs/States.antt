@@ -1,7 +1,5 @@
 -- The state of the rules that each state of the code is, and the state of a user by its level and by whether it is called in. Assumes nothing.
-use mathlib.Core.Bool.{Bool, cond, _&&_}
-use Prim.Native.Nat.{ℕ}
-use lib.Dec.{leb}
+use Rattle.base.specs.Basics.{Bool, cond, _&&_, ℕ, leb}
 use Rattle.rules.specs.Book.{User}
 use Rattle.rules.specs.Day as day
 use Rattle.rules.specs.Levels.{Limits, exceedsMargin, shipper, uncovered}

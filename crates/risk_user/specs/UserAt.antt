@@ -1,11 +1,6 @@
 -- What is read of the user at a place: the money of its record, what it sold and bought from twelve sums for each place, and the position from three for each place. The
 -- level, the flag and the target of these. Assumes nothing.
-use mathlib.Core.Bool.{Bool, true, cond}
-use mathlib.Core.List.{List, []}
-use mathlib.Core.Path.{_≡_}
-use Prim.Native.Nat.{ℕ, _+_, _*_, _-_, _≤_, _<_, _^_}
-use lib.IntN.{ℤ, pos}
-use lib.ListN.{length, getD}
+use Rattle.base.specs.Basics.{_≡_, Bool, true, cond, List, [], ℕ, _+_, _*_, _-_, _≤_, _<_, _^_, ℤ, pos, length, getD}
 use Rattle.book_format.specs.Book.{usersOf}
 use Rattle.rules.specs.Areas.{Prices}
 use Rattle.rules.specs.Book.{at, PerArea, User, nobody}

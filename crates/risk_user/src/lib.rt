@@ -33,7 +33,10 @@ pub fn role_at(book: &[u8], place: usize) -> u8
     requires { ⌜ UserIn (now book) place ⌝ }
     ensures { λ r. ⌜ r ≡ getD (usersOf (now (book .entry))) place nobody .party .role ⌝ }
 {
-    fields::get_u8(book, book_format::user_offset(book, place) + 4)
+    fields::get_u8(
+        book,
+        book_format::user_offset(book, place) + book_records::ROLE,
+    )
 }
 
 // The charges.
@@ -41,7 +44,10 @@ pub fn charges_at(book: &[u8], place: usize) -> Balance
     requires { ⌜ UserIn (now book) place ⌝ }
     ensures { λ r. ⌜ balance r ≡ getD (usersOf (now (book .entry))) place nobody .party .charges ⌝ }
 {
-    Balance::of_bits(fields::get_u64(book, book_format::user_offset(book, place) + 32))
+    Balance::of_bits(fields::get_u64(
+        book,
+        book_format::user_offset(book, place) + book_records::CHARGES,
+    ))
 }
 
 // The assigned guarantee.
@@ -49,7 +55,10 @@ pub fn assigned_at(book: &[u8], place: usize) -> Cents
     requires { ⌜ UserIn (now book) place ⌝ }
     ensures { λ r. ⌜ r .0 ≡ getD (usersOf (now (book .entry))) place nobody .party .assigned ⌝ }
 {
-    Cents(fields::get_u64(book, book_format::user_offset(book, place) + 40))
+    Cents(fields::get_u64(
+        book,
+        book_format::user_offset(book, place) + book_records::ASSIGNED,
+    ))
 }
 
 // The blocked guarantee.
@@ -57,7 +66,10 @@ pub fn blocked_at(book: &[u8], place: usize) -> Cents
     requires { ⌜ UserIn (now book) place ⌝ }
     ensures { λ r. ⌜ r .0 ≡ getD (usersOf (now (book .entry))) place nobody .blocked ⌝ }
 {
-    Cents(fields::get_u64(book, book_format::user_offset(book, place) + 48))
+    Cents(fields::get_u64(
+        book,
+        book_format::user_offset(book, place) + book_records::BLOCKED,
+    ))
 }
 
 // ---- what it holds

@@ -1,12 +1,5 @@
 -- As specs/Links.antt states it: a part of the length that is asked for makes the contract of the C interface that of the public call. Assumes nothing.
-use mathlib.Core.Bool.{Bool, cond, not}
-use mathlib.Core.List.{List}
-use mathlib.Core.Option.{Option, some}
-use mathlib.Core.Path.{_≡_, _∙_, ap, refl, subst, sym}
-use Prim.Native.Nat.{ℕ, _≤_, suc, zero}
-use lib.Dec.{T}
-use lib.ListN.{getD, length}
-use borrow.Author.Tests.{eq-eqb, ne-eqb}
+use Rattle.base.specs.Basics.{_≡_, _∙_, ap, refl, subst, sym, Bool, cond, not, Option, some, List, ℕ, _≤_, suc, zero, T, getD, length, eq-eqb, ne-eqb}
 use Rattle.book_format.specs.Book.{tradesOf}
 use Rattle.exports.specs.Answers.{Answered}
 use Rattle.exports.specs.Lent.{byLength}

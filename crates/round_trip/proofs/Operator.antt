@@ -1,8 +1,5 @@
 -- What the operator reads is what the questions of the book alone admit. Assumes nothing.
-use mathlib.Core.List.{List}
-use mathlib.Core.Path.{_≡_, _∙_, ap, sym}
-use Prim.Native.Nat.{ℕ}
-use lib.ListN.{replicate}
+use Rattle.base.specs.Basics.{_≡_, _∙_, ap, sym, List, ℕ, replicate}
 use Rattle.book_format.proofs.Formed.{bytes-numbered}
 use Rattle.book_format.specs.After.{after}
 use Rattle.book_format.specs.Questions.{aboutBytes, bookNumber}

@@ -1,19 +1,12 @@
 -- Reading and writing back gives the same bytes: what was read passes the questions of writing, and the bytes of the book that bytes hold are these bytes. Assumes nothing.
-use mathlib.Core.Bool.{Bool, _&&_, cond, true, false}
-use mathlib.Core.List.{List}
-use mathlib.Core.Option.{Option, none}
-use mathlib.Core.Path.{_≡_, ap, refl, sym, _∙_}
-use Prim.Native.Nat.{ℕ}
-use native.Mathlib.Omega.{arith}
-use lib.Dec.{eqb, eqb→eq, leb, le→leb}
-use lib.ListN.{length, replicate}
+use Rattle.base.specs.Basics.{_≡_, ap, refl, sym, _∙_, Bool, _&&_, cond, true, false, Option, none, List, ℕ, arith, eqb, leb, le→leb, length}
+use Rattle.base.specs.Basics.{replicate}
 use Rattle.book_tables.specs.Book.{asBook}
 use Rattle.book_tables.specs.declared.Book.{Book}
-use Rattle.exports.specs.Answers.{WrittenFrom}
 use Rattle.exports.specs.Lent.{Stored, byLength}
 use Rattle.fields.specs.Field.{AllBytes}
 use Rattle.book_format.proofs.Formed.{book-passed}
-use Rattle.book_format.proofs.Passed.{Passed, passed}
+use Rattle.book_format.proofs.Passed.{passed}
 use Rattle.book_format.proofs.Round.{bytesOf-bookOf}
 use Rattle.book_format.specs.Book.{bookOf, bytesOf, lengthBy, tradeCount, tradesAt, userAt, userCount, versionOf}
 use Rattle.book_format.specs.Questions.{aboutBytes, aboutFields, aboutForm, bookNumber}

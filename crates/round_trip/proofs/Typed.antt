@@ -1,16 +1,12 @@
 -- The book that a struct is fits its bytes, since the struct's fields are of their types. Assumes nothing.
-use mathlib.Core.Bool.{Bool, cond, true, false}
-use mathlib.Core.List.{List, [], _∷_, map}
-use mathlib.Core.Path.{_≡_, refl}
-use Prim.Native.Nat.{ℕ, zero, suc, _<_, _≤_, _^_}
-use native.Mathlib.Omega.{arith}
-use lib.ListN.{length, take, length-map, length-take}
+use Rattle.base.specs.Basics.{_≡_, refl, Bool, cond, true, false, List, [], _∷_, map, ℕ, zero, suc, _<_, _≤_, _^_, arith, length, take, length-map}
+use Rattle.base.specs.Basics.{length-take}
 use Rattle.fields.specs.Layout.{Every}
 use Rattle.rules.specs.Areas.{managersIn, sellingIn}
 use Rattle.rules.specs.Book as model
 use Rattle.units.specs.Prices.{asPrices}
 use Rattle.book_records.specs.Trade.{FitsTrade, asTrade}
-use Rattle.book_records.specs.User.{FitsManagers, FitsRecord, FitsUser, asUser}
+use Rattle.book_records.specs.User.{FitsManagers, FitsRecord}
 use Rattle.book_tables.specs.Book.{asBook, keptManagers, keptPrices}
 use Rattle.book_tables.specs.Record.{asManagers, asRecord}
 use Rattle.book_tables.specs.declared.Book.{Book}
@@ -19,7 +15,7 @@ use Rattle.book_value.specs.Written.{InCounts}
 use Rattle.book_format.proofs.Offsets.{known-lt}
 use Rattle.book_format.proofs.Written.{FitsBook, FitsSelling}
 use Rattle.book_format.specs.Book.{headerValues, headerWidths, mark}
-use Rattle.round_trip.specs.RoundTrip.{Typed, TypedPrices, TypedRecord}
+use Rattle.round_trip.specs.RoundTrip.{Typed, TypedRecord}
 
 -- what holds of every record holds, as it is taken, of the first n
 every-taken : {R M : Type 0} (P : R → Type 0) (Q : M → Type 0) (f : R → M) → ((r : R) → P r → Q (f r)) → (n : ℕ) (rs : List R) → Every P rs → Every Q (map f (take n rs))

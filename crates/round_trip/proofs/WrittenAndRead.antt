@@ -1,18 +1,11 @@
 -- Writing and reading back gives the same fields: what was written passes every question, and holds the book that the fields are. Assumes nothing.
-use mathlib.Core.Bool.{Bool, _&&_, cond, true, false}
-use mathlib.Core.List.{List, []}
-use mathlib.Core.Option.{Option, none}
-use mathlib.Core.Path.{_≡_, ap, refl, sym, _∙_}
-use Prim.Native.Nat.{ℕ, _≤_}
-use native.Mathlib.Omega.{arith}
-use lib.Dec.{T, eqb, eqb→eq, eqb-refl, leb, leb→le, le→leb}
-use lib.ListN.{length, drop, replicate, length-take}
-use Rattle.base.proofs.Tests.{and-i, and-l, and-r, eqb-of, fails, holds}
+use Rattle.base.specs.Basics.{_≡_, ap, refl, sym, _∙_, Bool, _&&_, cond, true, false, Option, none, List, [], ℕ, _≤_, arith, T, eqb, eqb→eq, eqb-refl}
+use Rattle.base.specs.Basics.{leb, leb→le, le→leb, length, drop, replicate, length-take}
+use Rattle.base.proofs.Tests.{and-i, and-l, and-r, eqb-of, holds}
 use Rattle.base.specs.Lists.{all}
 use Rattle.rules.specs.Book as model
 use Rattle.rules.specs.Questions.{decided, numberOf, refusal, versionKnown}
 use Rattle.laws.proofs.Refusals.{first-yes, number-none, numbered, refusal-next, yes-first}
-use Rattle.fields.specs.Field.{AllBytes}
 use Rattle.fields.proofs.Records.{length-recordsOf}
 use Rattle.book_records.specs.Trade.{tradeOf}
 use Rattle.book_format.specs.Book.{bookOf, bytesOf, lengthBy, lengthOf, mark, markOf, tradeCount, tradesAt, userAt, userCount, versionOf}

@@ -1,13 +1,6 @@
 -- Demand 3 for a caller in C: a call of the C interface that can change a book is a deed of a sequence, whoever makes it, and so has the sequence's claim; and ask 10, how long a run can
 -- be. By the contracts of `exports`, where the store and the log are `given` by a flag and a part. Assumes nothing.
-use mathlib.Core.Bool.{Bool, not}
-use mathlib.Core.List.{List, _∷_}
-use mathlib.Core.Option.{Option, some}
-use mathlib.Core.Path.{_≡_}
-use Prim.Native.Nat.{ℕ, _≤_}
-use lib.Dec.{T}
-use lib.IntN.{ℤ}
-use lib.ListN.{getD, length}
+use Rattle.base.specs.Basics.{_≡_, Bool, not, Option, some, List, _∷_, ℕ, _≤_, T, ℤ, getD, length}
 use Rattle.book_format.specs.Book.{tradesOf}
 use Rattle.exports.specs.Answers.{Answered}
 use Rattle.exports.specs.Lent.{wrongLength}

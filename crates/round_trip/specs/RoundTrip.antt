@@ -1,8 +1,5 @@
 -- Demand 2, "reading it and writing it back gives the same bytes", of the public contracts of `read` and `write`, and of those of the C interface; and the way back, from fields to bytes to fields. To read is the operator's. Assumes nothing.
-use mathlib.Core.Path.{_≡_}
-use mathlib.Core.List.{List}
-use Prim.Native.Nat.{ℕ, _<_, _^_}
-use lib.ListN.{length}
+use Rattle.base.specs.Basics.{_≡_, List, ℕ, _<_, _^_, length}
 use Rattle.fields.specs.Field.{AllBytes}
 use Rattle.fields.specs.Layout.{Every}
 use Rattle.rules.specs.Areas.{Prices}

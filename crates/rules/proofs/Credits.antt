@@ -1,11 +1,7 @@
 -- Figures of document 02's ask 3, "credit for long positions", in books of version 2 with the selling tariffs S 1500 and U 900. Assumes nothing.
-use mathlib.Core.Path.{_≡_, refl}
-use mathlib.Core.Bool.{true, false}
-use mathlib.Core.List.{[], _∷_}
-use Prim.Native.Nat.{ℕ}
-use lib.IntN.{ℤ, pos, negℤ}
+use Rattle.base.specs.Basics.{_≡_, refl, true, false, [], _∷_, ℕ, ℤ, pos, negℤ}
 use Rattle.rules.specs.Areas.{Prices}
-use Rattle.rules.specs.Book.{PerArea, Trade, Book}
+use Rattle.rules.specs.Book.{Trade, Book}
 use Rattle.rules.specs.Questions.{accepted}
 use Rattle.rules.specs.Levels.{today, morningLevel, afternoonLevel, flagged}
 use Rattle.rules.specs.Calls.{afternoonCall, reduction, step}

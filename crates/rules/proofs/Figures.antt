@@ -1,10 +1,6 @@
 -- The figures of document 01 that are to be proved, together as one fact about the rules, at the prices P 2000, Q 2100, L 300, X 100, I 50.
 -- The books pass every question; the user of the row is 101, the other party 102. Assumes nothing.
-use mathlib.Core.Path.{_≡_, refl}
-use mathlib.Core.Bool.{true, false}
-use mathlib.Core.List.{List, [], _∷_, map}
-use Prim.Native.Nat.{ℕ, _+_, _-_}
-use lib.IntN.{ℤ, pos, negℤ, _-ℤ_}
+use Rattle.base.specs.Basics.{_≡_, refl, true, false, List, [], _∷_, map, ℕ, _+_, _-_, ℤ, pos, negℤ, _-ℤ_}
 use Rattle.rules.specs.Areas.{Prices}
 use Rattle.rules.specs.Book.{PerArea, User, Trade, Book, definedPosition, find, unmanaged}
 use Rattle.rules.specs.Questions.{accepted}

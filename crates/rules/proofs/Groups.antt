@@ -1,9 +1,5 @@
 -- Figures of document 02's ask 5, "group portfolios", in books of version 3: 101 manages 102 in PVB, 103 is in no group. Assumes nothing.
-use mathlib.Core.Path.{_≡_, refl}
-use mathlib.Core.Bool.{true, false}
-use mathlib.Core.List.{List, [], _∷_, map}
-use Prim.Native.Nat.{ℕ, _+_}
-use lib.IntN.{ℤ, pos, negℤ}
+use Rattle.base.specs.Basics.{_≡_, refl, true, false, List, [], _∷_, map, ℕ, _+_, ℤ, pos, negℤ}
 use Rattle.rules.specs.Book.{PerArea, Managers, User, Trade, Book, find, unmanaged}
 use Rattle.rules.specs.Questions.{accepted}
 use Rattle.rules.specs.Levels.{today, morningLevel, afternoonLevel, flagged, calledIn}

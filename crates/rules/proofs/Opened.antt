@@ -1,5 +1,5 @@
 -- `unfolding opened` opens every rule at once, for a figure that is computed. Assumes nothing.
-use Prim.Native.Nat.{ℕ}
+use Rattle.base.specs.Basics.{ℕ}
 use Rattle.base.specs.Parts.{posPart, negPart}
 use Rattle.base.specs.Sums.{sum, sumℤ}
 use Rattle.rules.specs.Areas.{areas, tariff, referencePrice, sellingIn, managersIn, sellingTariff}

@@ -1,10 +1,6 @@
 -- Document 02, ask 5, "Group portfolios": "a group manager bears the group's risk in an area". Users and trades as they are borne. Where nobody has a manager, users and trades are
 -- borne as they are.
-use mathlib.Core.Bool.{cond}
-use mathlib.Core.List.{List, map}
-use Prim.Native.Nat.{ℕ}
-use lib.Dec.{eqb}
-use lib.IntN.{ℤ, pos}
+use Rattle.base.specs.Basics.{cond, List, map, ℕ, eqb, ℤ, pos}
 use Rattle.base.specs.Sums.{sumℤ}
 use Rattle.rules.specs.Book.{PerArea, at, managerIn, User, Trade, Book, find}
 

@@ -1,9 +1,5 @@
 -- Document 01, "The book in bytes": the fields of a book, and the position as it is defined. Amounts without a sign are naturals, those with a sign integers.
-use mathlib.Core.Bool.{Bool, cond, _&&_}
-use mathlib.Core.List.{List, [], _∷_}
-use Prim.Native.Nat.{ℕ, zero, suc}
-use lib.Dec.{eqb}
-use lib.IntN.{ℤ, pos, _+ℤ_, _-ℤ_}
+use Rattle.base.specs.Basics.{Bool, cond, _&&_, List, [], _∷_, ℕ, zero, suc, eqb, ℤ, pos, _+ℤ_, _-ℤ_}
 use Rattle.base.specs.Sums.{sum}
 use Rattle.rules.specs.Areas.{Prices}
 

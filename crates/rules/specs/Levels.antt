@@ -1,8 +1,5 @@
 -- Document 01, "Levels and calls": what enters a user's level, the two levels, and who is flagged, called in and short of cover.
-use mathlib.Core.Bool.{Bool, not, cond, _&&_, _||_}
-use Prim.Native.Nat.{ℕ, _+_, _*_, max, min}
-use lib.Dec.{ltb, leb, eqb}
-use lib.IntN.{ℤ, pos, negℤ, _+ℤ_, _-ℤ_}
+use Rattle.base.specs.Basics.{Bool, not, cond, _&&_, _||_, ℕ, _+_, _*_, max, min, ltb, leb, eqb, ℤ, pos, negℤ, _+ℤ_, _-ℤ_}
 use Rattle.base.specs.Parts.{posPart, negPart}
 use Rattle.base.specs.Sums.{sum}
 use Rattle.rules.specs.Areas.{Prices, areas, referencePrice, sellingTariff}

@@ -1,12 +1,7 @@
 -- Document 01, "The questions": a refusal is the number of the first question that is answered by no; the questions 2 to 7 of a book.
 -- (Question 1, the length in question 3 and the zero bytes in questions 5 and 6 are asked of a book in bytes.)
-use mathlib.Core.Bool.{Bool, true, false, not, cond, _&&_, _||_}
-use mathlib.Core.List.{List, [], _∷_}
-use mathlib.Core.Option.{Option, none, some}
-use Prim.Native.Nat.{ℕ, _^_}
-use lib.Dec.{leb, ltb, eqb}
-use lib.IntN.{ℤ, pos, negsuc}
-use lib.ListN.{length}
+use Rattle.base.specs.Basics.{Bool, true, false, not, cond, _&&_, _||_, Option, none, some, List, [], _∷_, ℕ, _^_, leb, ltb, eqb, ℤ, pos, negsuc}
+use Rattle.base.specs.Basics.{length}
 use Rattle.rules.specs.Areas.{Prices, sellingIn, managersIn}
 use Rattle.rules.specs.Signed.{within}
 use Rattle.rules.specs.Calendar.{realDay}

@@ -1,10 +1,5 @@
 -- The end of a run: what its sales have lost, taken off in the opening book, gives the rules' book. Assumes nothing.
-use mathlib.Core.List.{List}
-use mathlib.Core.Path.{_≡_, sym, ap, subst, _∙_}
-use Prim.Native.Nat.{ℕ, zero, suc, _≤_}
-use native.Mathlib.Nat.{le-refl}
-use native.Mathlib.Omega.{arith}
-use lib.ListN.{take, getD}
+use Rattle.base.specs.Basics.{_≡_, sym, ap, subst, _∙_, List, ℕ, zero, suc, _≤_, le-refl, arith, take, getD}
 use Rattle.cut_apply.proofs.Own.{all-lowered, cuttable-part, cuttable-real, real-lowered, standing-there}
 use Rattle.cut_apply.specs.Cutting.{CuttablePart, loweredAt}
 use Rattle.cut_lists.proofs.Own.{sales-stay}

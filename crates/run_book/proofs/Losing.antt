@@ -1,11 +1,6 @@
 -- What stands of sales, copied, and what they have lost put in its place, one by one. Assumes nothing.
-use mathlib.Core.List.{List, [], _∷_, _++_}
-use mathlib.Core.Path.{_≡_, refl, sym, ap, _∙_}
-use Prim.Native.Nat.{ℕ, _+_, _-_, _≤_, _<_}
-use native.Mathlib.Numerals.{add-one}
-use native.Mathlib.Omega.{arith}
-use lib.ListN.{length, take, getD, set, length-set}
-use lib.Seq.{getD-set-other, take-suc, take-suc-set}
+use Rattle.base.specs.Basics.{_≡_, refl, sym, ap, _∙_, List, [], _∷_, _++_, ℕ, _+_, _-_, _≤_, _<_, add-one, arith, length, take, getD, set}
+use Rattle.base.specs.Basics.{length-set, getD-set-other, take-suc, take-suc-set}
 use Rattle.base.proofs.Stores.{set-front}
 use Rattle.run_book.specs.Books.{LeftOf, LostOf}
 

@@ -1,10 +1,5 @@
 -- The arrays that a run starts from. Assumes nothing.
-use mathlib.Core.Bool.{Bool}
-use mathlib.Core.List.{List}
-use mathlib.Core.Path.{_≡_, refl}
-use Prim.Native.Nat.{ℕ}
-use native.Mathlib.Omega.{arith}
-use lib.ListN.{length, take}
+use Rattle.base.specs.Basics.{_≡_, refl, Bool, List, ℕ, arith, length, take}
 use Rattle.book_format.specs.Book.{bookOf, userCount}
 use Rattle.laws_sales.specs.Borne.{borneBook}
 use Rattle.risk_bearers.specs.Bearers.{tradesIn, usersIn}

@@ -1,8 +1,5 @@
 -- The run of a book in bytes: what its sales lose, and what it gives. Assumes nothing.
-use mathlib.Core.List.{List}
-use mathlib.Core.Path.{_≡_}
-use Prim.Native.Nat.{ℕ, _+_, _≤_, _<_}
-use lib.ListN.{length, getD}
+use Rattle.base.specs.Basics.{_≡_, List, ℕ, _+_, _≤_, _<_, length, getD}
 use Rattle.cut_worth.specs.Totals.{totals}
 use Rattle.cut_worth.specs.declared.Totals.{Totals}
 use Rattle.book_format.specs.Held.{HeldAs}

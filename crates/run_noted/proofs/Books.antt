@@ -1,7 +1,5 @@
 -- A run with a log in the bytes of a book: where its own sales stand, and its end. Assumes nothing.
-use mathlib.Core.Bool.{Bool}
-use mathlib.Core.List.{List}
-use Prim.Native.Nat.{ℕ, _-_}
+use Rattle.base.specs.Basics.{Bool, List, ℕ, _-_}
 use Rattle.cut_lists.proofs.Own.{own-origins}
 use Rattle.cut_worth.specs.declared.Totals.{Totals}
 use Rattle.rules.specs.Book.{Book}

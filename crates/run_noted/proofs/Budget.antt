@@ -1,9 +1,5 @@
 -- A run of at most so many reductions: one more reduction, and its end. What it notes. Assumes nothing.
-use mathlib.Core.List.{List, _∷_}
-use mathlib.Core.Option.{none, some}
-use mathlib.Core.Path.{_≡_, refl, ap, _∙_}
-use Prim.Native.Nat.{ℕ, zero, suc, _+_, _-_}
-use native.Mathlib.Omega.{arith}
+use Rattle.base.specs.Basics.{_≡_, refl, ap, _∙_, none, some, List, _∷_, ℕ, zero, suc, _+_, _-_, arith}
 use Rattle.laws.proofs.Fuel.{run-stops}
 use Rattle.rules.specs.Book.{Book, User}
 use Rattle.rules.specs.Calls.{Answer, Result, nextReduced, ofCuts, ofRun, only, onward, reduced, runFor}

@@ -1,12 +1,6 @@
 -- A run with a log, reduction after reduction: what is left of it, with the totals and the entries so far, is the run of as many reductions as the log has room for. Assumes nothing.
-use mathlib.Core.Bool.{Bool, true, false}
-use mathlib.Core.List.{List, _∷_}
-use mathlib.Core.Option.{none, some}
-use mathlib.Core.Path.{_≡_, refl, sym, ap, subst, _∙_}
-use Prim.Native.Nat.{ℕ, suc, _+_, _-_, _≤_, _<_}
-use native.Mathlib.Omega.{arith}
-use lib.ListN.{length, getD}
-use lib.Seq.{length-sets}
+use Rattle.base.specs.Basics.{_≡_, refl, sym, ap, subst, _∙_, Bool, true, false, none, some, List, _∷_, ℕ, suc, _+_, _-_, _≤_, _<_, arith, length}
+use Rattle.base.specs.Basics.{getD, length-sets}
 use Rattle.cut_peaks.specs.Peaks.{NoneCut}
 use Rattle.cut_worth.specs.Tallies.{asTally}
 use Rattle.cut_worth.specs.Totals.{totals}

@@ -1,10 +1,5 @@
 -- A run with a log on arrays: the places of the own sales, and what the run gives. Assumes nothing.
-use mathlib.Core.Bool.{Bool, true, false}
-use mathlib.Core.List.{List}
-use mathlib.Core.Option.{none, some}
-use mathlib.Core.Path.{_≡_}
-use Prim.Native.Nat.{ℕ, _+_, _-_, _<_, _≤_}
-use lib.ListN.{length, getD}
+use Rattle.base.specs.Basics.{_≡_, Bool, true, false, none, some, List, ℕ, _+_, _-_, _<_, _≤_, length, getD}
 use Rattle.cut_worth.specs.declared.Totals.{Totals}
 use Rattle.rules.specs.Book.{Book, User}
 use Rattle.rules.specs.Calls.{nextReduced, runFor}

@@ -1,10 +1,5 @@
 -- Positions as the risk is borne: without managers those of the records, else the sums over those whose risk each user bears. Assumes nothing.
-use mathlib.Core.Bool.{false}
-use mathlib.Core.List.{List}
-use mathlib.Core.Path.{_≡_, sym, ap, subst, _∙_}
-use Prim.Native.Nat.{ℕ, _+_, _*_, _/_, _%_, _≤_, _<_, _^_}
-use native.Mathlib.Omega.{arith}
-use lib.ListN.{length, getD}
+use Rattle.base.specs.Basics.{_≡_, sym, ap, subst, _∙_, false, List, ℕ, _+_, _*_, _/_, _%_, _≤_, _<_, _^_, arith, length, getD}
 use Rattle.base.proofs.Fronts.{all-at}
 use Rattle.base.specs.Parts.{negPart, posPart}
 use Rattle.book_format.proofs.Passed.{length-usersOf}
@@ -13,12 +8,12 @@ use Rattle.book_format.specs.Held.{Accepted}
 use Rattle.laws.proofs.Bounds.{position-bound}
 use Rattle.laws_sales.proofs.Alone.{own-risk}
 use Rattle.laws_sales.proofs.Sums.{at-sums}
-use Rattle.laws_sales.specs.Borne.{borneBook, borneUser}
+use Rattle.laws_sales.specs.Borne.{borneUser}
 use Rattle.risk_bearers.proofs.Bearing.{bearers-in, borne-all}
 use Rattle.risk_bearers.specs.Bearers.{BearersIn, BearersOf, usersIn}
 use Rattle.risk_bearers.specs.Rows.{Bearable, Rows, borneTo}
 use Rattle.risk_user.proofs.Borne.{member-borne, members-borne}
-use Rattle.risk_user.specs.UserAt.{PositionsOf, positionIn}
+use Rattle.risk_user.specs.UserAt.{PositionsOf}
 use Rattle.rules.specs.Areas.{managersIn}
 use Rattle.rules.specs.Book.{Book, User, at, nobody}
 use Rattle.rules.specs.Questions.{positionsValid, userValid}

@@ -1,13 +1,6 @@
 -- Positions filled in from the bytes of a book, user by user; and which of a user's are negative. Assumes nothing.
-use mathlib.Core.Bool.{Bool, false}
-use mathlib.Core.List.{List, [], _∷_}
-use mathlib.Core.Path.{_≡_, sym, ap, subst, _∙_}
-use Prim.Native.Nat.{ℕ, zero, suc, _+_, _*_, _≤_, _<_, _^_}
-use native.Mathlib.Omega.{arith}
-use lib.Dec.{ltb}
-use lib.ListN.{length, getD, set, length-set}
-use lib.Seq.{getD-set-same, getD-set-other}
-use borrow.Author.Tests.{lt-ltb, le-ltb}
+use Rattle.base.specs.Basics.{_≡_, sym, ap, subst, _∙_, Bool, false, List, [], _∷_, ℕ, zero, suc, _+_, _*_, _≤_, _<_, _^_, arith, ltb, length, getD}
+use Rattle.base.specs.Basics.{set, length-set, getD-set-same, getD-set-other, lt-ltb, le-ltb}
 use Rattle.book_format.proofs.Passed.{length-usersOf}
 use Rattle.book_format.specs.Book.{userCount, usersOf}
 use Rattle.base.proofs.Linear.{by-order}

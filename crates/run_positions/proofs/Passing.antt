@@ -1,10 +1,5 @@
 -- A seller's sales, passed one by one: positions moved by the cuts of those passed. Assumes nothing.
-use mathlib.Core.List.{List, _∷_}
-use mathlib.Core.Path.{_≡_, refl, sym, ap, ap₂, _∙_}
-use Prim.Native.Nat.{ℕ, _+_, _*_, _-_, _≤_, _<_, _^_}
-use native.Mathlib.Omega.{arith}
-use lib.ListN.{length, getD, set}
-use lib.Seq.{set-getD, set-out}
+use Rattle.base.specs.Basics.{_≡_, refl, sym, ap, ap₂, _∙_, List, _∷_, ℕ, _+_, _*_, _-_, _≤_, _<_, _^_, arith, length, getD, set, set-getD, set-out}
 use Rattle.base.proofs.Linear.{by-order}
 use Rattle.run_positions.specs.Moving.{Movable}
 use Rattle.run_state.proofs.Moves.{one-length}

@@ -1,10 +1,5 @@
 -- Cuts that were filled in can be taken off, and positions moved by them. Assumes nothing.
-use mathlib.Core.Bool.{Bool}
-use mathlib.Core.List.{List}
-use mathlib.Core.Path.{_≡_}
-use Prim.Native.Nat.{ℕ, _≤_}
-use native.Mathlib.Omega.{arith}
-use lib.ListN.{replicate, length-replicate, getD-replicate}
+use Rattle.base.specs.Basics.{_≡_, Bool, List, ℕ, _≤_, arith, replicate, length-replicate, getD-replicate}
 use Rattle.cut_tiers.specs.Tiers.{NoCuts, Takeable, cutsOf, shortBy}
 use Rattle.cut_tiers.proofs.After.{cuts-of-same}
 use Rattle.cut_worth.specs.Rates.{Sales}

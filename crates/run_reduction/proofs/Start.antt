@@ -1,8 +1,5 @@
 -- The lists of a book in bytes, and what stays through its reductions. Assumes nothing.
-use mathlib.Core.List.{List}
-use mathlib.Core.Path.{_≡_, _∙_}
-use Prim.Native.Nat.{ℕ}
-use lib.ListN.{length, take}
+use Rattle.base.specs.Basics.{_≡_, _∙_, List, ℕ, length, take}
 use Rattle.book_format.specs.Book.{bookOf}
 use Rattle.laws_sales.specs.Borne.{borneBook}
 use Rattle.risk_bearers.specs.Bearers.{tradesIn, usersIn}

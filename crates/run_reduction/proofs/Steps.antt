@@ -1,13 +1,6 @@
 -- One reduction on arrays, step by step: the user's own sales in them, what they lose, and the positions that this moves. Assumes nothing.
-use mathlib.Core.List.{List, map}
-use mathlib.Core.Logic.{inl, inr}
-use mathlib.Core.Path.{_≡_, sym, ap, ap₂, subst, _∙_}
-use Prim.Native.Nat.{ℕ, suc, _+_, _*_, _-_, _≤_, _<_, _^_}
-use native.Mathlib.Numerals.{add-one}
-use native.Mathlib.Omega.{arith}
-use lib.Dec.{T, leb→le, ltb}
-use lib.ListN.{length, getD, length-map, List·getD-eq-default}
-use lib.Seq.{length-sets, sets}
+use Rattle.base.specs.Basics.{_≡_, sym, ap, ap₂, subst, _∙_, inl, inr, List, map, ℕ, suc, _+_, _*_, _-_, _≤_, _<_, _^_, add-one, arith, ltb, length}
+use Rattle.base.specs.Basics.{getD, length-map, List·getD-eq-default, length-sets, sets}
 use Rattle.base.proofs.Fronts.{all-at}
 use Rattle.cut_tiers.proofs.After.{cuts-of-sales}
 use Rattle.cut_tiers.specs.Tiers.{cutsOf}
@@ -20,11 +13,10 @@ use Rattle.base.specs.Parts.{negPart, posPart}
 use Rattle.laws.proofs.Bounds.{blocked-le}
 use Rattle.laws.proofs.Trades.{framed}
 use Rattle.laws.specs.Sound.{Sound}
-use Rattle.base.proofs.Tests.{and-l, and-r}
 use Rattle.rules.specs.Areas.{Prices}
 use Rattle.rules.specs.Book.{at, Book, Header, Party, Trade, User, noTrade, nobody}
 use Rattle.rules.specs.Levels.{Limits}
-use Rattle.rules.specs.Questions.{guaranteesValid, userValid}
+use Rattle.rules.specs.Questions.{userValid}
 use Rattle.run_state.proofs.Own.{own-areas, own-buyers}
 use Rattle.run_state.proofs.Reduced.{place-inside}
 use Rattle.run_state.proofs.Stays.{Alike, Stays, alike-borne, stays, users-many}

@@ -1,7 +1,5 @@
 -- A book in bytes that can be run, or reduced for a user, and the lists of its own sales. Assumes nothing.
-use mathlib.Core.List.{List}
-use mathlib.Core.Path.{_≡_}
-use Prim.Native.Nat.{ℕ}
+use Rattle.base.specs.Basics.{_≡_, List, ℕ}
 use Rattle.cut_lists.specs.Sales.{SalesOf, SalesRoom, StandingOf}
 use Rattle.book_format.specs.Book.{bookOf}
 use Rattle.risk_bearers.specs.Bearers.{BorneIn, tradesIn, usersIn}

@@ -1,10 +1,5 @@
 -- A reduction on arrays: the room that it needs, what stays through it, and the book that it starts from. Assumes nothing.
-use mathlib.Core.Bool.{Bool}
-use mathlib.Core.List.{List}
-use mathlib.Core.Path.{_≡_}
-use Prim.Native.Nat.{ℕ, _+_, _*_, _≤_, _<_, _^_}
-use lib.Dec.{ltb}
-use lib.ListN.{length, getD}
+use Rattle.base.specs.Basics.{_≡_, Bool, List, ℕ, _+_, _*_, _≤_, _<_, _^_, ltb, length, getD}
 use Rattle.book_format.specs.Book.{bookOf}
 use Rattle.book_format.specs.Questions.{Formed}
 use Rattle.base.specs.Parts.{negPart}

@@ -1,10 +1,5 @@
 -- The own sales of all users in one list with room behind them: each user's part of it, and the list from the parts. Where a run starts. Assumes nothing.
-use mathlib.Core.Bool.{Bool}
-use mathlib.Core.List.{List, map}
-use mathlib.Core.Path.{_≡_, sym, ap, ap₂, _∙_}
-use Prim.Native.Nat.{ℕ, suc, _≤_, _<_}
-use native.Mathlib.Omega.{arith}
-use lib.ListN.{length, take, getD}
+use Rattle.base.specs.Basics.{_≡_, sym, ap, ap₂, _∙_, Bool, List, map, ℕ, suc, _≤_, _<_, arith, length, take, getD}
 use Rattle.book_format.specs.Steps.{placeOf}
 use Rattle.laws.specs.Sound.{Sound}
 use Rattle.laws.proofs.Trades.{lowered-refl}

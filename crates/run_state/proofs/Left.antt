@@ -1,13 +1,5 @@
 -- What is left of a run: added to the totals so far it is the whole run. What can still be cut bounds the totals. Nobody before a place is due. Assumes nothing.
-use mathlib.Core.Bool.{Bool, false, _&&_}
-use mathlib.Core.List.{List}
-use mathlib.Core.Option.{none, some}
-use mathlib.Core.Path.{_≡_, sym, ap, _∙_}
-use Prim.Native.Nat.{ℕ, _+_, _*_, _≤_, _<_}
-use native.Mathlib.Omega.{arith}
-use lib.Dec.{ltb}
-use lib.ListN.{length, getD}
-use borrow.Author.Tests.{lt-ltb, le-ltb}
+use Rattle.base.specs.Basics.{_≡_, sym, ap, _∙_, Bool, false, _&&_, none, some, List, ℕ, _+_, _*_, _≤_, _<_, arith, ltb, length, getD, lt-ltb, le-ltb}
 use Rattle.base.proofs.Linear.{by-order}
 use Rattle.laws.proofs.Fuel.{cuttable-most, reduced-less, reducedBy-mwh, reducedBy-worth, run-answer, run-goes-on, run-stops}
 use Rattle.laws.proofs.Run.{has-target}

@@ -1,15 +1,7 @@
 -- Positions in an array while own sales are cut one after the other: they are those of the settled users. Assumes nothing.
-use mathlib.Core.Bool.{cond}
-use mathlib.Core.List.{List, [], _∷_, map}
-use mathlib.Core.Path.{_≡_, refl, sym, ap, ap₂, subst, _∙_}
-use Prim.Native.Nat.{ℕ, zero, suc, _+_, _*_, _-_, _≤_, _<_}
-use native.Mathlib.Nat.{not-suc-le-zero, le-of-suc-le-suc}
-use native.Mathlib.Omega.{arith}
-use lib.Dec.{eqb}
-use lib.IntN.{ℤ, pos, negℤ, _+ℤ_, +ℤ-idr}
-use lib.ListN.{length, take, getD, set, length-map, length-set}
-use lib.Seq.{getD-set-same, getD-set-other, set-out, take-all}
-use borrow.Author.Tests.{eqb-true, eqb-false}
+use Rattle.base.specs.Basics.{_≡_, refl, sym, ap, ap₂, subst, _∙_, cond, List, [], _∷_, map, ℕ, zero, suc, _+_, _*_, _-_, _≤_, _<_, not-suc-le-zero}
+use Rattle.base.specs.Basics.{le-of-suc-le-suc, arith, eqb, ℤ, pos, negℤ, _+ℤ_, +ℤ-idr, length, take, getD, set, length-map, length-set}
+use Rattle.base.specs.Basics.{getD-set-same, getD-set-other, set-out, take-all, eqb-true, eqb-false}
 use Rattle.base.proofs.Tests.{by-case}
 use Rattle.book_format.specs.Steps.{placeOf}
 use Rattle.base.proofs.Linear.{by-order, negPart-neg, negPart-pos, parts-add, posPart-neg, posPart-pos}

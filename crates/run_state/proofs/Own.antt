@@ -1,10 +1,5 @@
 -- The own sales of the book that a run has come to, in the arrays of the opening book. Assumes nothing.
-use mathlib.Core.List.{List, [], _∷_, map, map-map}
-use mathlib.Core.Path.{_≡_, refl, sym, ap, fun-ext, _∙_}
-use Prim.Native.Nat.{ℕ, suc, _<_}
-use native.Mathlib.Omega.{arith}
-use lib.IntN.{pos}
-use lib.ListN.{length}
+use Rattle.base.specs.Basics.{_≡_, refl, sym, ap, fun-ext, _∙_, List, [], _∷_, map, map-map, ℕ, suc, _<_, arith, pos, length}
 use Rattle.book_format.specs.Steps.{placeOf}
 use Rattle.rules.specs.Book.{Book, Party, PerArea, Terms, Trade, User}
 use Rattle.run_state.proofs.Stays.{Alike, alike-many, party-stays}

@@ -1,13 +1,7 @@
 -- What a reduction of the user at a place leaves of who is due: it and the buyers of sales that lost something are party to a trade standing below notified; the others are due as before.
 -- Assumes nothing.
-use mathlib.Core.Bool.{Bool, true, false, cond, _&&_, _||_}
-use mathlib.Core.List.{List, [], _∷_, map}
-use mathlib.Core.Path.{_≡_, refl, sym, ap, ap₂, fun-ext, subst, _∙_}
-use Prim.Native.Nat.{ℕ, _-_, _<_}
-use native.Mathlib.Omega.{arith}
-use lib.Dec.{T, eqb, ltb, eqb→eq, ltb→lt}
-use lib.ListN.{length, getD}
-use borrow.Author.Tests.{eq-eqb, ltb-false}
+use Rattle.base.specs.Basics.{_≡_, refl, sym, ap, ap₂, fun-ext, subst, _∙_, Bool, true, false, cond, _&&_, _||_, List, [], _∷_, map, ℕ, _-_, _<_}
+use Rattle.base.specs.Basics.{arith, T, eqb, ltb, eqb→eq, ltb→lt, length, getD, eq-eqb, ltb-false}
 use Rattle.laws_sales.specs.Parties.{cutBefore}
 use Rattle.book_format.proofs.OneUser.{place-known}
 use Rattle.book_format.specs.Steps.{placeOf}

@@ -1,12 +1,7 @@
 -- A run's book and the opening book: the same users but for their positions, and the same trades but for what stands of kind 0 and day 0. What is read from the arrays is what the
 -- rules say of the run's book. Assumes nothing.
-use mathlib.Core.Bool.{Bool, true, cond}
-use mathlib.Core.List.{List, [], map, map-map}
-use mathlib.Core.Path.{_≡_, refl, sym, ap, ap₂, _∙_}
-use Prim.Native.Nat.{ℕ, _+_, _*_, _-_, _<_}
-use native.Mathlib.Omega.{arith}
-use lib.Dec.{ltb}
-use lib.ListN.{length, getD, length-map, List·getD-map}
+use Rattle.base.specs.Basics.{_≡_, refl, sym, ap, ap₂, _∙_, Bool, true, cond, List, [], map, map-map, ℕ, _+_, _*_, _-_, _<_, arith, ltb, length, getD}
+use Rattle.base.specs.Basics.{length-map, List·getD-map}
 use Rattle.laws.proofs.Settle.{retraded-anew}
 use Rattle.laws.specs.Sound.{Sound}
 use Rattle.laws.specs.Statements.{ownHolding}

@@ -1,12 +1,7 @@
 -- A reduction of a user that is due, in the arrays of a run: they are those of the rules' book after it, and no target before the least place that was asked anew has changed.
 -- Assumes nothing.
-use mathlib.Core.Bool.{Bool, true, false, cond, _&&_}
-use mathlib.Core.List.{List, map}
-use mathlib.Core.Path.{_≡_, refl, sym, ap, ap₂, subst, _∙_}
-use Prim.Native.Nat.{ℕ, suc, _≤_, _<_}
-use native.Mathlib.Omega.{arith}
-use lib.Dec.{T, ltb}
-use lib.ListN.{length, getD, set, length-set}
+use Rattle.base.specs.Basics.{_≡_, refl, sym, ap, ap₂, subst, _∙_, Bool, true, false, cond, _&&_, List, map, ℕ, suc, _≤_, _<_, arith, T, ltb, length}
+use Rattle.base.specs.Basics.{getD, set, length-set}
 use Rattle.book_format.specs.Steps.{placeOf}
 use Rattle.base.proofs.Linear.{by-order}
 use Rattle.laws.proofs.Run.{Ran, reducedBy-law}

@@ -1,10 +1,5 @@
 -- What a reduction of a run touches: who is asked anew, and the positions that it moves. Assumes nothing.
-use mathlib.Core.Bool.{Bool, false, cond, _&&_, _||_}
-use mathlib.Core.List.{List, [], _∷_}
-use mathlib.Core.Path.{_≡_}
-use Prim.Native.Nat.{ℕ, _+_, _*_, _-_, _<_}
-use lib.Dec.{eqb, ltb}
-use lib.ListN.{length, getD, set}
+use Rattle.base.specs.Basics.{_≡_, Bool, false, cond, _&&_, _||_, List, [], _∷_, ℕ, _+_, _*_, _-_, _<_, eqb, ltb, length, getD, set}
 use Rattle.rules.specs.Book.{User, Book, nobody}
 
 -- the user at a place of a book

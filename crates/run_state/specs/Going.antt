@@ -1,9 +1,5 @@
 -- A run that has come from the opening book to a book: what its arrays hold of the two, as their risk is borne. Assumes nothing.
-use mathlib.Core.Bool.{Bool, true, false, cond}
-use mathlib.Core.List.{List, map}
-use mathlib.Core.Path.{_≡_}
-use Prim.Native.Nat.{ℕ, suc, _≤_, _<_}
-use lib.ListN.{length, getD}
+use Rattle.base.specs.Basics.{_≡_, Bool, true, false, cond, List, map, ℕ, suc, _≤_, _<_, length, getD}
 use Rattle.book_format.specs.Steps.{placeOf}
 use Rattle.laws.specs.Sound.{Sound}
 use Rattle.laws.specs.Trades.{Lowered, Pairwise}

@@ -1,12 +1,6 @@
 -- Targets before the first reduction: called in or not, and the loop over the users. Assumes nothing.
-use mathlib.Core.Bool.{Bool, true, false, cond, not, _&&_, _||_}
-use mathlib.Core.List.{List}
-use mathlib.Core.Path.{_≡_, refl, sym, ap, ap₂, subst, _∙_}
-use Prim.Native.Nat.{ℕ, suc, _+_, _≤_, _<_}
-use native.Mathlib.Numerals.{add-one}
-use native.Mathlib.Omega.{arith}
-use lib.Dec.{T, ltb}
-use lib.ListN.{length, getD, set, length-set}
+use Rattle.base.specs.Basics.{_≡_, refl, sym, ap, ap₂, subst, _∙_, Bool, true, false, cond, not, _&&_, _||_, List, ℕ, suc, _+_, _≤_, _<_, add-one}
+use Rattle.base.specs.Basics.{arith, T, ltb, length, getD, set, length-set}
 use Rattle.laws_sales.specs.Parties.{cutBefore}
 use Rattle.book_format.specs.Book.{bookOf, usersOf}
 use Rattle.laws_sales.specs.Borne.{borneBook}

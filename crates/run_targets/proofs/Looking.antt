@@ -1,13 +1,6 @@
 -- A part of the sales, passed one by one: whether one of them stands above 0, and the buyers of those that lost something, asked anew. Assumes nothing.
-use mathlib.Core.Bool.{Bool, true, false, cond, _&&_, _||_}
-use mathlib.Core.List.{List}
-use mathlib.Core.Path.{_≡_, refl, sym, ap, ap₂, _∙_}
-use Prim.Native.Nat.{ℕ, _+_, _≤_, _<_, min}
-use native.Mathlib.Omega.{arith}
-use lib.Dec.{eqb, ltb}
-use lib.ListN.{length, getD, set, length-set}
-use lib.Seq.{getD-set-other}
-use borrow.Author.Tests.{eq-eqb, ne-eqb, lt-ltb, le-ltb}
+use Rattle.base.specs.Basics.{_≡_, refl, sym, ap, ap₂, _∙_, Bool, true, false, cond, _&&_, _||_, List, ℕ, _+_, _≤_, _<_, min, arith, eqb, ltb, length}
+use Rattle.base.specs.Basics.{getD, set, length-set, getD-set-other, eq-eqb, ne-eqb, lt-ltb, le-ltb}
 use Rattle.base.proofs.Tests.{by-case}
 use Rattle.base.specs.Lists.{any}
 use Rattle.base.proofs.Stores.{here-or-apart, set-each}

@@ -1,9 +1,5 @@
 -- What a run asks of its users before the first reduction and after each. Assumes nothing.
-use mathlib.Core.Bool.{Bool, cond, _||_}
-use mathlib.Core.List.{List}
-use mathlib.Core.Path.{_≡_}
-use Prim.Native.Nat.{ℕ, _≤_, _<_}
-use lib.ListN.{length, getD}
+use Rattle.base.specs.Basics.{_≡_, Bool, cond, _||_, List, ℕ, _≤_, _<_, length, getD}
 use Rattle.book_format.specs.Book.{bookOf, userCount}
 use Rattle.book_format.specs.Questions.{Formed}
 use Rattle.laws.specs.Sound.{Sound}

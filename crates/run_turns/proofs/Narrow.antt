@@ -1,14 +1,7 @@
 -- Cuts that lie in a narrower part: what the sales lose, the positions that move, the tally and the buyers that are asked anew are those of the whole part. Assumes nothing.
-use mathlib.Core.Bool.{Bool, false, cond, _&&_, _||_}
-use mathlib.Core.List.{List, [], _∷_, map}
-use mathlib.Core.Logic.{inl, inr}
-use mathlib.Core.Path.{_≡_, refl, sym, ap, ap₂, _∙_}
-use Prim.Native.Nat.{ℕ, zero, suc, _+_, _*_, _-_, _≤_, _<_}
-use native.Mathlib.Nat.{zero-mul}
-use native.Mathlib.Omega.{arith}
-use lib.Dec.{eqb, ltb}
-use lib.ListN.{length, drop, getD, length-map, set, take}
-use lib.Seq.{ext-getD, length-sets, set-getD, sets, take-all}
+use Rattle.base.specs.Basics.{_≡_, refl, sym, ap, ap₂, _∙_, inl, inr, Bool, false, cond, _&&_, _||_, List, [], _∷_, map, ℕ, zero, suc, _+_, _*_, _-_}
+use Rattle.base.specs.Basics.{_≤_, _<_, zero-mul, arith, eqb, ltb, length, drop, getD, length-map, set, take, ext-getD, length-sets, set-getD, sets}
+use Rattle.base.specs.Basics.{take-all}
 use Rattle.base.proofs.Fronts.{front-take}
 use Rattle.base.proofs.Linear.{by-order}
 use Rattle.base.proofs.Tests.{and-false}

@@ -1,11 +1,6 @@
 -- A run, reduction after reduction: the array of cuts is cleared, the next place is searched, and what is left of the run, added to the totals so far, is the whole run. Assumes nothing.
-use mathlib.Core.Bool.{Bool}
-use mathlib.Core.List.{List}
-use mathlib.Core.Path.{_≡_, refl, sym, ap, subst, _∙_}
-use Prim.Native.Nat.{ℕ, _+_, _≤_, _<_}
-use native.Mathlib.Omega.{arith}
-use lib.ListN.{length, getD, set, replicate, length-set, length-replicate, getD-replicate, List·getD-eq-default}
-use lib.Seq.{getD-set-other}
+use Rattle.base.specs.Basics.{_≡_, refl, sym, ap, subst, _∙_, Bool, none, some, List, ℕ, _+_, _≤_, _<_, arith, length, getD, set, replicate}
+use Rattle.base.specs.Basics.{length-set, length-replicate, getD-replicate, List·getD-eq-default, getD-set-other}
 use Rattle.cut_peaks.specs.Peaks.{NoneCut}
 use Rattle.cut_worth.specs.Tallies.{asTally}
 use Rattle.cut_worth.specs.Totals.{Within, totals}
@@ -27,7 +22,6 @@ use Rattle.laws_sales.specs.Borne.{borneBook}
 use Rattle.run_state.specs.Going.{Going, StandingIn}
 use Rattle.run_state.specs.Running.{NextFrom, wholeRun}
 use Rattle.run_turns.specs.Turns.{CutIn, Ongoing, Ran, Turned}
-use mathlib.Core.Option.{none, some}
 
 -- ---- cuts are cleared
 

@@ -1,13 +1,7 @@
 -- A reduction by cuts that lie between two places of the user's sales: each step can be taken, and together they are the rules' reduction; what is kept is that of the sales after it.
 -- Assumes nothing.
-use mathlib.Core.Bool.{Bool, true, false}
-use mathlib.Core.List.{List, [], _∷_, map}
-use mathlib.Core.Path.{_≡_, refl, sym, ap, subst, _∙_}
-use Prim.Native.Nat.{ℕ, zero, suc, _+_, _-_, _≤_, _<_}
-use native.Mathlib.Omega.{arith}
-use lib.Dec.{ltb}
-use lib.ListN.{length, getD, set}
-use lib.Seq.{sets}
+use Rattle.base.specs.Basics.{_≡_, refl, sym, ap, subst, _∙_, Bool, true, false, List, [], _∷_, map, ℕ, zero, suc, _+_, _-_, _≤_, _<_, arith, ltb}
+use Rattle.base.specs.Basics.{length, getD, set, sets}
 use Rattle.base.specs.Lists.{any}
 use Rattle.book_format.specs.Book.{bookOf, userCount, usersOf}
 use Rattle.cut_peaks.proofs.After.{kept-after, lost-le}

@@ -1,12 +1,6 @@
 -- One reduction of a run on arrays: together its steps are the rules' reduction. Assumes nothing.
-use mathlib.Core.Bool.{Bool, true, cond}
-use mathlib.Core.List.{List, map}
-use mathlib.Core.Path.{_≡_, sym, ap, ap₂, subst, _∙_}
-use Prim.Native.Nat.{ℕ, suc, _+_, _≤_, _<_}
-use native.Mathlib.Omega.{arith}
-use lib.Dec.{ltb}
-use lib.ListN.{length, getD, set}
-use lib.Seq.{getD-set-other, sets}
+use Rattle.base.specs.Basics.{_≡_, sym, ap, ap₂, subst, _∙_, Bool, true, cond, List, map, ℕ, suc, _+_, _≤_, _<_, arith, ltb, length, getD, set}
+use Rattle.base.specs.Basics.{getD-set-other, sets}
 use Rattle.cut_worth.specs.Tallies.{asTally}
 use Rattle.cut_worth.specs.declared.Tally.{Tally}
 use Rattle.book_format.proofs.Passed.{length-usersOf}

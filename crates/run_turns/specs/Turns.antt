@@ -1,9 +1,5 @@
 -- A run on arrays: what stays, what one reduction gives, and what all give. Assumes nothing.
-use mathlib.Core.Bool.{Bool}
-use mathlib.Core.List.{List}
-use mathlib.Core.Path.{_≡_}
-use Prim.Native.Nat.{ℕ, _+_, _≤_, _<_}
-use lib.ListN.{length, getD}
+use Rattle.base.specs.Basics.{_≡_, Bool, List, ℕ, _+_, _≤_, _<_, length, getD}
 use Rattle.cut_peaks.specs.Keeping.{Chosen, KeptFor}
 use Rattle.cut_peaks.specs.Peaks.{NoneCut}
 use Rattle.cut_peaks.specs.declared.Choice.{Choice}

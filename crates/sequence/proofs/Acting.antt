@@ -1,12 +1,5 @@
 -- Any finite sequence of requests, each by any party: those of shippers change nothing, the others are a sequence of the operator's. Assumes nothing.
-use mathlib.Core.Bool.{not, true}
-use mathlib.Core.List.{List, [], _∷_}
-use mathlib.Core.Option.{Option, none, some}
-use mathlib.Core.Path.{_≡_, _∙_, ap, refl, subst, sym}
-use Prim.Native.Nat.{ℕ, suc, zero, _≤_}
-use native.Mathlib.Omega.{arith}
-use lib.Dec.{T}
-use lib.ListN.{length}
+use Rattle.base.specs.Basics.{_≡_, _∙_, ap, refl, subst, sym, not, true, Option, none, some, List, [], _∷_, ℕ, suc, zero, _≤_, arith, T, length}
 use Rattle.fields.specs.Field.{AllBytes}
 use Rattle.book_format.proofs.Written.{all-bytes-bytesOf}
 use Rattle.book_format.specs.Book.{tradesOf}

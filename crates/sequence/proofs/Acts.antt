@@ -1,13 +1,6 @@
 -- One request by the rules without a log, accepted or refused: a call, a list by its lines one after another, a withdrawal; what it does to a sound book. Assumes nothing.
-use mathlib.Core.Bool.{Bool, cond, false, not, true}
-use mathlib.Core.List.{List, [], _∷_, _++_}
-use mathlib.Core.Option.{Option, none, some}
-use mathlib.Core.Path.{_≡_, ap, refl, subst}
-use Prim.Native.Nat.{_<_, ℕ}
-use native.Mathlib.Omega.{arith}
-use lib.Dec.{T, eqb, ltb, ltb→lt}
-use lib.IntN.{ℤ, pos, _+ℤ_}
-use borrow.Author.Tests.{ne-eqb}
+use Rattle.base.specs.Basics.{_≡_, ap, refl, subst, Bool, cond, false, not, true, Option, none, some, List, [], _∷_, _++_, _<_, ℕ, arith, T, eqb, ltb}
+use Rattle.base.specs.Basics.{ltb→lt, ℤ, pos, _+ℤ_, ne-eqb}
 use Rattle.laws.proofs.Moved.{Moved, moved-refl, moved-trans}
 use Rattle.laws.proofs.Refusals.{append-yes, numbered, refusal-is}
 use Rattle.base.proofs.Tests.{all-append}

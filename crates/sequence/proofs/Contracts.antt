@@ -1,12 +1,6 @@
 -- The contracts of the public functions give links, as specs/Contracts.antt states it: calls and withdrawals have no lines, the places beside a list hold its lines' numbers
 -- where it is accepted, a refused list has none; and a lent log afterwards is the one that the request leaves. Assumes nothing.
-use mathlib.Core.Bool.{Bool, false, true}
-use mathlib.Core.List.{List, [], _∷_, _++_}
-use mathlib.Core.Option.{Option, none, some}
-use mathlib.Core.Path.{_≡_, _∙_, ap, refl, sym}
-use Prim.Native.Nat.{ℕ, suc, zero}
-use native.Mathlib.Omega.{arith}
-use lib.ListN.{length}
+use Rattle.base.specs.Basics.{_≡_, _∙_, ap, refl, sym, Bool, false, true, Option, none, some, List, [], _∷_, _++_, ℕ, suc, zero, arith, length}
 use Rattle.book_format.specs.After.{after}
 use Rattle.book_format.specs.Book.{bookOf}
 use Rattle.book_format.specs.Questions.{bookNumber}

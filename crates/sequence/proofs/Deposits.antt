@@ -1,11 +1,6 @@
 -- What deposit stops the cuts, on a book in bytes: a refused run leaves the bytes and reports none; of one that passes its opening questions the laws of the rules tell both, with a log
 -- and without one. Assumes nothing.
-use mathlib.Core.List.{List, List·Memᴰ}
-use mathlib.Core.Option.{Option, none, some}
-use mathlib.Core.Path.{_≡_, _∙_, ap, refl, subst, sym}
-use Prim.Native.Nat.{ℕ, _<_, suc, zero}
-use native.Mathlib.Omega.{arith}
-use lib.Dec.{T}
+use Rattle.base.specs.Basics.{_≡_, _∙_, ap, refl, subst, sym, Option, none, some, List, List·Memᴰ, ℕ, _<_, suc, zero, arith, T}
 use Rattle.fields.specs.Field.{AllBytes}
 use Rattle.book_format.proofs.Formed.{book-passed}
 use Rattle.book_format.proofs.Passed.{passed-of}

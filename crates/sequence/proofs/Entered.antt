@@ -1,11 +1,5 @@
 -- One request by the rules with a log, accepted or refused: a call, a list, a withdrawal; what it does to a sound book, whatever log it is given. Assumes nothing.
-use mathlib.Core.Bool.{not}
-use mathlib.Core.List.{List, [], _∷_, _++_}
-use mathlib.Core.Option.{Option, none, some}
-use mathlib.Core.Path.{_≡_, ap, refl, subst}
-use Prim.Native.Nat.{ℕ}
-use lib.Dec.{T, eqb, ltb, ltb→lt}
-use lib.ListN.{length}
+use Rattle.base.specs.Basics.{_≡_, ap, refl, subst, not, Option, none, some, List, [], _∷_, _++_, ℕ, T, eqb, ltb, ltb→lt, length}
 use Rattle.base.proofs.Tests.{all-append}
 use Rattle.base.specs.Lists.{all}
 use Rattle.book_format.proofs.Written.{bookOf-bytesOf}

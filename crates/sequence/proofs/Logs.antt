@@ -1,12 +1,6 @@
 -- The log theorem, as specs/Logs.antt states it: a sequence that starts a log and writes it keeps what it notes, and each withdrawal is accepted and takes one step back. Assumes nothing.
-use mathlib.Core.Bool.{Bool, true, false, cond}
-use mathlib.Core.List.{List, [], _∷_}
-use mathlib.Core.Option.{Option, none, some}
-use mathlib.Core.Path.{_≡_, _∙_, ap, ap₂, refl, subst, sym}
-use Prim.Native.Nat.{ℕ, suc, _-_, _<_}
-use native.Mathlib.Omega.{arith}
-use lib.Dec.{T, lt→ltb, ltb}
-use lib.ListN.{length}
+use Rattle.base.specs.Basics.{_≡_, _∙_, ap, ap₂, refl, subst, sym, Bool, true, false, cond, Option, none, some, List, [], _∷_, ℕ, suc, _-_, _<_}
+use Rattle.base.specs.Basics.{arith, T, lt→ltb, ltb, length}
 use Rattle.base.proofs.Tests.{and-i, and-l, and-r, eqb-of}
 use Rattle.base.specs.Lists.{all}
 use Rattle.book_format.proofs.Passed.{passed}

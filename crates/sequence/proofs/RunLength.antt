@@ -1,12 +1,6 @@
 -- How long a run can be: a refused run reports none and leaves the bytes; every other, also one that a full log stops, has done some reductions of the rules' run, each of which
 -- cuts at least one MWh, and no reduction leaves the book, whose bytes are those that it was read from. Assumes nothing.
-use mathlib.Core.Bool.{true, not}
-use mathlib.Core.List.{List}
-use mathlib.Core.Option.{Option, none, some}
-use mathlib.Core.Path.{_≡_, refl, sym, ap, ap₂, subst, _∙_}
-use Prim.Native.Nat.{ℕ, zero, suc, _+_, _≤_}
-use native.Mathlib.Omega.{arith}
-use lib.Dec.{T}
+use Rattle.base.specs.Basics.{_≡_, refl, sym, ap, ap₂, subst, _∙_, true, not, Option, none, some, List, ℕ, zero, suc, _+_, _≤_, arith, T}
 use Rattle.fields.specs.Field.{AllBytes}
 use Rattle.book_format.proofs.Formed.{book-passed}
 use Rattle.book_format.proofs.Passed.{passed-of}

@@ -1,12 +1,6 @@
 -- Any finite sequence of requests with one store and whatever logs from any bytes that pass the questions 1 to 7. One request on bytes is the request of the rules on the book that they
 -- hold; what it does to the book composes over the sequence; positions come at the end from double counting. Assumes nothing.
-use mathlib.Core.Bool.{not}
-use mathlib.Core.List.{List, [], _∷_, _++_}
-use mathlib.Core.Option.{Option, none, some}
-use mathlib.Core.Path.{_≡_, _∙_, ap, ap₂, refl, subst, sym}
-use Prim.Native.Nat.{ℕ, suc, zero}
-use lib.Dec.{T}
-use lib.IntN.{ℤ}
+use Rattle.base.specs.Basics.{_≡_, _∙_, ap, ap₂, refl, subst, sym, not, Option, none, some, List, [], _∷_, _++_, ℕ, suc, zero, T, ℤ}
 use Rattle.fields.specs.Field.{AllBytes}
 use Rattle.book_format.proofs.After.{asked-after}
 use Rattle.book_format.proofs.Passed.{passed}

@@ -1,14 +1,6 @@
 -- One call by the rules, accepted or refused: what it does to a sound book. Assumes nothing.
-use mathlib.Core.Bool.{cond, false, not, true}
-use mathlib.Core.List.{List, _++_}
-use mathlib.Core.Option.{Option, none, some}
-use mathlib.Core.Path.{_≡_, _∙_, ap, refl, sym}
-use Prim.Native.Nat.{_<_, ℕ}
-use native.Mathlib.Nat.{le-refl}
-use native.Mathlib.Omega.{arith}
-use lib.Dec.{T, eqb, leb→le, ltb, ltb→lt}
-use lib.IntN.{pos, _+ℤ_}
-use borrow.Author.Tests.{eq-eqb, ne-eqb}
+use Rattle.base.specs.Basics.{_≡_, _∙_, ap, refl, sym, cond, false, not, true, Option, none, some, List, _++_, _<_, ℕ, le-refl, arith, T, eqb, leb→le}
+use Rattle.base.specs.Basics.{ltb, ltb→lt, pos, _+ℤ_, eq-eqb, ne-eqb}
 use Rattle.laws.proofs.Guarantee.{guarantee-moved, guarantee-sound}
 use Rattle.laws.proofs.Main.{run-ends}
 use Rattle.laws.proofs.Moved.{Moved, moved-refl}

@@ -1,13 +1,7 @@
 -- What a log notes that was started empty and written by requests: the cuts that led from the book that it held when it was last without an entry to the one that it holds. Every request keeps it
 -- so. Assumes nothing.
-use mathlib.Core.Bool.{cond}
-use mathlib.Core.List.{List, [], _∷_, _++_}
-use mathlib.Core.Option.{Option, none, some}
-use mathlib.Core.Path.{_≡_, _∙_, ap, refl, subst, sym}
-use Prim.Native.Nat.{ℕ, _+_, _-_, _≤_, _<_}
-use native.Mathlib.Omega.{arith}
-use lib.Dec.{T, eqb, eqb·suc-zero, leb, leb→le, ltb, ltb→lt}
-use lib.ListN.{length}
+use Rattle.base.specs.Basics.{_≡_, _∙_, ap, refl, subst, sym, cond, Option, none, some, List, [], _∷_, _++_, ℕ, _+_, _-_, _≤_, _<_, arith, T, eqb}
+use Rattle.base.specs.Basics.{eqb·suc-zero, leb, leb→le, ltb, ltb→lt, length}
 use Rattle.base.proofs.Tests.{and-l, and-r}
 use Rattle.book_format.proofs.Offsets.{header-range, length-by, size-most}
 use Rattle.book_format.proofs.Passed.{length-tradesOf, passed}

@@ -1,12 +1,7 @@
 -- The bytes of trades that differ in what stands only. Assumes nothing.
 use Rattle.laws.proofs.Settle.{pairs-length}
-use mathlib.Core.List.{List}
-use mathlib.Core.Path.{_≡_, _∙_, ap, refl, sym}
-use Prim.Native.Nat.{_*_, _+_, _<_, _≤_, suc, zero, ℕ}
-use native.Mathlib.Nat.{le-of-suc-le-suc, not-suc-le-zero}
-use native.Mathlib.Omega.{arith}
-use lib.ListN.{drop, getD, length, length-drop, take}
-use lib.Seq.{drop-drop}
+use Rattle.base.specs.Basics.{_≡_, _∙_, ap, refl, sym, List, _*_, _+_, _<_, _≤_, suc, zero, ℕ, le-of-suc-le-suc, not-suc-le-zero, arith, drop, getD}
+use Rattle.base.specs.Basics.{length, length-drop, take, drop-drop}
 use Rattle.fields.proofs.Field.{all-bytes-drop, all-bytes-part}
 use Rattle.fields.proofs.Records.{every-part-at, getD-recordsOf}
 use Rattle.fields.proofs.Sets.{length-part}

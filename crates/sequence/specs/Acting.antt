@@ -1,13 +1,6 @@
 -- Document 02, ask 9, in sequences: "Every call on a book gains an acting party". What is claimed of any finite sequence of requests, each by any party. Assumes nothing.
-use mathlib.Core.Bool.{Bool, not}
-use mathlib.Core.List.{List, [], _∷_, map}
-use mathlib.Core.Option.{Option, some}
-use mathlib.Core.Path.{_≡_}
-use Prim.Native.Nat.{ℕ, _≤_}
-use lib.Dec.{T}
-use lib.ListN.{length}
+use Rattle.base.specs.Basics.{_≡_, Bool, not, Option, some, List, [], _∷_, map, ℕ, _≤_, T, ℤ, length}
 use Rattle.base.specs.Lists.{all}
-use lib.IntN.{ℤ}
 use Rattle.fields.specs.Field.{AllBytes}
 use Rattle.book_format.specs.Book.{tradesOf}
 use Rattle.book_format.specs.Questions.{bookNumber}

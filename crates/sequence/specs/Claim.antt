@@ -1,13 +1,6 @@
 -- Demand 3 as one claim about a whole sequence of requests that are all given one store, or none, and whatever logs, from bytes s that pass the questions 1 to 7 to bytes t. Assumes
 -- nothing.
-use mathlib.Core.Bool.{not}
-use mathlib.Core.List.{List, [], _∷_}
-use mathlib.Core.Option.{Option}
-use mathlib.Core.Path.{_≡_}
-use Prim.Native.Nat.{ℕ, _+_, _*_, _<_}
-use lib.Dec.{T}
-use lib.IntN.{_+ℤ_}
-use lib.ListN.{length, take, drop}
+use Rattle.base.specs.Basics.{_≡_, not, Option, List, [], _∷_, ℕ, _+_, _*_, _<_, T, _+ℤ_, length, take, drop}
 use Rattle.book_format.specs.Book.{headerSize, tradeSize, versionOf, tradesAt, tradeCount, usersOf, tradesOf, bookOf, bytesOf}
 use Rattle.book_format.specs.Questions.{bookNumber}
 use Rattle.base.specs.Sums.{sumℤ}

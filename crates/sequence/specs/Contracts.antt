@@ -1,11 +1,6 @@
 -- The contracts of the public functions give the links of a sequence: who has them of calls, withdrawals and lists of postings that follow one another has the sequence, and
 -- with it its claim. Assumes nothing.
-use mathlib.Core.Bool.{Bool}
-use mathlib.Core.List.{List, [], _∷_}
-use mathlib.Core.Option.{Option, some}
-use Prim.Native.Nat.{ℕ}
-use lib.IntN.{ℤ}
-use lib.ListN.{length}
+use Rattle.base.specs.Basics.{Bool, Option, some, List, [], _∷_, ℕ, ℤ, length}
 use Rattle.book_format.specs.After.{after}
 use Rattle.requests.specs.Logged.{Logged, Posted, listWith}
 use Rattle.requests.specs.Request.{call, withdrawal, actOf}

@@ -1,10 +1,6 @@
 -- What deposit stops the cuts, of a run on a book in bytes with a store and a log, or none of them, by the contract of the public function, accepted, stopped by a full log or refused.
 -- The bytes hold some book after its deposits; the figures are those in force on that book's date. Assumes nothing.
-use mathlib.Core.List.{List, List·Memᴰ}
-use mathlib.Core.Option.{Option}
-use mathlib.Core.Path.{_≡_}
-use Prim.Native.Nat.{ℕ, _<_}
-use lib.Dec.{T}
+use Rattle.base.specs.Basics.{_≡_, Option, List, List·Memᴰ, ℕ, _<_, T}
 use Rattle.fields.specs.Field.{AllBytes}
 use Rattle.book_format.specs.Book.{bookOf}
 use Rattle.book_format.specs.Questions.{bookNumber}

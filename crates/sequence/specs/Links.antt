@@ -1,10 +1,5 @@
 -- A sequence of requests as it happened: each with the bytes that it was given and what it gave. Assumes nothing.
-use mathlib.Core.Path.{_≡_}
-use mathlib.Core.Bool.{Bool, _||_}
-use mathlib.Core.List.{List, [], _∷_, map}
-use mathlib.Core.Option.{Option}
-use Prim.Native.Nat.{ℕ}
-use lib.Dec.{eqb}
+use Rattle.base.specs.Basics.{_≡_, Bool, _||_, Option, List, [], _∷_, map, ℕ, eqb}
 use Rattle.requests.specs.Carried.{Carried}
 use Rattle.requests.specs.Request.{call, postings, withdrawal, Act, Outcome, Request, request}
 use Rattle.rules.specs.Calls.{posting, morningCall, afternoonCall, reduction, run}

@@ -1,12 +1,6 @@
 -- Document 02, ask 6: "For a log so started and written by these calls alone, after withdrawing every reduction noted the book is byte for byte the one before the first of them."
 -- Assumes nothing.
-use mathlib.Core.Bool.{Bool, true, false, cond}
-use mathlib.Core.List.{List, [], _∷_}
-use mathlib.Core.Option.{Option, none, some}
-use mathlib.Core.Path.{_≡_}
-use Prim.Native.Nat.{ℕ}
-use lib.Dec.{T, eqb}
-use lib.ListN.{length}
+use Rattle.base.specs.Basics.{_≡_, Bool, true, false, cond, Option, none, some, List, [], _∷_, ℕ, T, eqb, length}
 use Rattle.base.specs.Lists.{all}
 use Rattle.fields.specs.Field.{AllBytes}
 use Rattle.book_format.specs.Questions.{bookNumber}

@@ -1,11 +1,6 @@
 -- Ask 10, "How long a run can be": of a run on a book in bytes with a store and a log, or none of them, by the contract of the public function, accepted, stopped by a full log
 -- or refused. Assumes nothing.
-use mathlib.Core.Bool.{not}
-use mathlib.Core.List.{List}
-use mathlib.Core.Option.{Option, some}
-use mathlib.Core.Path.{_≡_}
-use Prim.Native.Nat.{ℕ, _≤_}
-use lib.Dec.{T}
+use Rattle.base.specs.Basics.{_≡_, not, Option, some, List, ℕ, _≤_, T}
 use Rattle.fields.specs.Field.{AllBytes}
 use Rattle.book_format.specs.Book.{tradesOf}
 use Rattle.requests.specs.Carried.{Carried}

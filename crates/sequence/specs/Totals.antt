@@ -1,10 +1,6 @@
 -- Document 01, "Sequences": the totals over a sequence; "a refused call adds to no sum". Document 02, ask 1: lists, "each line given 0 counting as an accepted posting"; ask 6:
 -- "reported totals are counted less the MWh and worth that withdrawals return". Assumes nothing.
-use mathlib.Core.Bool.{cond}
-use mathlib.Core.List.{List, [], _∷_}
-use Prim.Native.Nat.{ℕ}
-use lib.Dec.{eqb}
-use lib.IntN.{ℤ, pos, negℤ, _+ℤ_}
+use Rattle.base.specs.Basics.{cond, List, [], _∷_, ℕ, eqb, ℤ, pos, negℤ, _+ℤ_}
 use Rattle.requests.specs.Request.{Act, call, postings, withdrawal}
 use Rattle.rules.specs.Calls.{Call, posting, morningCall, afternoonCall, reduction, run}
 use Rattle.sequence.specs.Links.{Link, isAccepted}

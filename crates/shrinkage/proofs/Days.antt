@@ -1,14 +1,7 @@
 -- The days of a share: the loop that fills them, their sum, and how far they are apart. Assumes nothing.
-use mathlib.Core.Bool.{Bool, true, false, cond}
-use mathlib.Core.List.{List, [], _∷_, map, append-nil}
-use mathlib.Core.Path.{_≡_, refl, sym, ap, _∙_}
-use Prim.Native.Nat.{ℕ, zero, suc, _+_, _*_, _-_, _/_, _%_, _<_, _≤_, min}
-use native.Mathlib.Nat.{div-add-mod', le-of-suc-le-suc, mod-lt, not-suc-le-zero}
-use native.Mathlib.Omega.{arith}
-use borrow.Author.Tests.{lt-ltb, le-ltb}
-use lib.Dec.{ltb}
-use lib.ListN.{length, getD, set, replicate, length-append, length-map, length-set, List·getD-append, List·getD-map}
-use lib.Seq.{getD-at}
+use Rattle.base.specs.Basics.{_≡_, refl, sym, ap, _∙_, Bool, true, false, cond, List, [], _∷_, map, append-nil, ℕ, zero, suc, _+_, _*_, _-_, _/_, _%_}
+use Rattle.base.specs.Basics.{_<_, _≤_, min, div-add-mod', le-of-suc-le-suc, mod-lt, not-suc-le-zero, arith, ltb, length, getD, set, replicate}
+use Rattle.base.specs.Basics.{length-append, length-map, length-set, List·getD-append, List·getD-map, getD-at, lt-ltb, le-ltb}
 use Rattle.base.proofs.Linear.{by-order}
 use Rattle.base.proofs.Sums.{sum-append, sum-map}
 use Rattle.base.specs.Sums.{sum}

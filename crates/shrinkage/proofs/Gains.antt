@@ -1,15 +1,7 @@
 -- What the user at a place gets: its part of H, which is at most what its own balance is below 0. Assumes nothing.
-use mathlib.Core.Bool.{Bool, true, false, not, cond}
-use mathlib.Core.List.{List, [], _∷_, _++_, map}
-use mathlib.Core.Option.{Option, none, some}
-use mathlib.Core.Path.{_≡_, refl, sym, ap, _∙_}
-use Prim.Native.Nat.{ℕ, zero, suc, _*_, _-_, _/_, _%_, _<_, _≤_}
-use native.Mathlib.Nat.{div-mul-le-self, le-of-mul-le-mul-right, mul-comm, mul-le-mul-right, mul-zero, zero-mod}
-use native.Mathlib.Omega.{arith}
-use borrow.Author.Tests.{lt-ltb}
-use lib.Dec.{T, ltb}
-use lib.IntN.{ℤ, pos}
-use lib.ListN.{length, getD, replicate}
+use Rattle.base.specs.Basics.{_≡_, refl, sym, ap, _∙_, Bool, true, false, not, cond, Option, none, some, List, [], _∷_, _++_, map, ℕ, zero, suc, _*_}
+use Rattle.base.specs.Basics.{_-_, _/_, _%_, _<_, _≤_, div-mul-le-self, le-of-mul-le-mul-right, mul-comm, mul-le-mul-right, mul-zero, zero-mod, arith}
+use Rattle.base.specs.Basics.{T, ltb, ℤ, pos, length, getD, replicate, lt-ltb}
 use Rattle.base.specs.Parts.{negPart}
 use Rattle.rules.specs.Questions.{refusal, decided}
 use Rattle.shrinkage.proofs.Totals.{own-more, half-le}

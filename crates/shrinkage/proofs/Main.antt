@@ -1,14 +1,6 @@
 -- The laws of the return, each as its statement in specs/Statements.antt says it. Assumes nothing.
-use mathlib.Core.Bool.{Bool, true, false, not, cond}
-use mathlib.Core.List.{List}
-use mathlib.Core.Option.{Option, none, some}
-use mathlib.Core.Path.{_≡_, refl, sym, _∙_}
-use Prim.Native.Nat.{ℕ, zero, suc, _+_, _*_, _-_}
-use native.Mathlib.Nat.{div-add-mod', mod-lt}
-use native.Mathlib.Omega.{arith}
-use lib.Dec.{T}
-use lib.IntN.{ℤ, natAbs}
-use lib.ListN.{length, replicate}
+use Rattle.base.specs.Basics.{_≡_, refl, sym, _∙_, Bool, true, false, not, cond, Option, none, some, List, ℕ, zero, suc, _+_, _*_, _-_, div-add-mod'}
+use Rattle.base.specs.Basics.{mod-lt, arith, T, ℤ, natAbs, length, replicate}
 use Rattle.base.proofs.Sums.{sum-append}
 use Rattle.base.specs.Sums.{sum}
 use Rattle.laws.proofs.Refusals.{number-none, numbered}

@@ -1,12 +1,5 @@
 -- The total of balances by their sums above 0 and below 0, and what a negative total says of H and of the sum. Assumes nothing.
-use mathlib.Core.Bool.{true, false}
-use mathlib.Core.List.{List}
-use mathlib.Core.Path.{_≡_}
-use Prim.Native.Nat.{_-_, _<_, _≤_}
-use native.Mathlib.Omega.{arith}
-use borrow.Author.Tests.{le-ltb, lt-ltb}
-use lib.Dec.{T, ltb→lt}
-use lib.IntN.{ℤ, natAbs}
+use Rattle.base.specs.Basics.{_≡_, true, false, List, _-_, _<_, _≤_, arith, T, ltb→lt, ℤ, natAbs, le-ltb, lt-ltb}
 use Rattle.base.proofs.Linear.{abs-parts, posPart-of, negPart-of}
 use Rattle.base.proofs.Sums.{parts-sum}
 use Rattle.base.specs.Parts.{posPart, negPart}

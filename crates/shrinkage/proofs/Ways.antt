@@ -1,12 +1,6 @@
 -- The ways out of a return, as laws of its definition: one for each `return` of the code. Assumes nothing.
-use mathlib.Core.Bool.{true, false, cond}
-use mathlib.Core.List.{List, map}
-use mathlib.Core.Path.{_≡_, sym, ap, ap₂, _∙_}
-use Prim.Native.Nat.{ℕ, _-_, _/_, _%_, _<_, _≤_}
-use native.Mathlib.Omega.{arith}
-use borrow.Author.Tests.{le-leb, lt-leb}
-use lib.IntN.{ℤ, natAbs}
-use lib.ListN.{length}
+use Rattle.base.specs.Basics.{_≡_, sym, ap, ap₂, _∙_, true, false, cond, List, map, ℕ, _-_, _/_, _%_, _<_, _≤_, arith, ℤ, natAbs, length, le-leb}
+use Rattle.base.specs.Basics.{lt-leb}
 use Rattle.base.specs.Parts.{posPart}
 use Rattle.base.specs.Sums.{sum}
 use Rattle.base.specs.Lists.{all}

@@ -1,11 +1,5 @@
 -- Ask 11: what holds of every return and of every share over 30 days. The proofs stand in proofs/Main.antt. Assumes nothing.
-use mathlib.Core.Bool.{not}
-use mathlib.Core.List.{List}
-use mathlib.Core.Path.{_≡_}
-use Prim.Native.Nat.{ℕ, _+_, _*_, _<_, _≤_}
-use lib.Dec.{T}
-use lib.IntN.{ℤ, pos, natAbs}
-use lib.ListN.{length, getD}
+use Rattle.base.specs.Basics.{_≡_, not, List, ℕ, _+_, _*_, _<_, _≤_, T, ℤ, pos, natAbs, length, getD}
 use Rattle.base.specs.Sums.{sum}
 use Rattle.shrinkage.specs.Days.{overDays}
 use Rattle.shrinkage.specs.Return.{total, isNegative, own, ownSum, half, shareOf, remainderOf, nothing, returned}

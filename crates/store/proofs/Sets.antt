@@ -1,17 +1,9 @@
 -- Laws of the two loops over a store's sets: those that are left have the whole answer to whether they are valid, and none that is passed from the last one down
 -- is in force. Assumes nothing.
 use Rattle.base.proofs.Tests.{and-false}
-use Prim.Native.Nat.{ℕ, zero, suc, _+_, _-_, _*_, _<_, _≤_}
-use mathlib.Core.Path.{_≡_, refl, sym, ap, ap₂, _∙_}
-use mathlib.Core.Bool.{Bool, true, false, cond, _&&_}
-use mathlib.Core.List.{List, [], _∷_}
-use mathlib.Core.Option.{Option, none, some}
-use native.Mathlib.Omega.{arith}
-use native.Mathlib.Numerals.{add-one}
-use lib.Dec.{leb, ltb}
-use lib.ListN.{length, take, drop, drop-of-length-le}
-use lib.Seq.{drop-cons, drop-drop}
-use borrow.Author.Tests.{le-ltb, lt-ltb, le-leb, lt-leb}
+use Rattle.base.specs.Basics.{_≡_, refl, sym, ap, ap₂, _∙_, Bool, true, false, cond, _&&_, Option, none, some, List, [], _∷_, ℕ, zero, suc, _+_, _-_}
+use Rattle.base.specs.Basics.{_*_, _<_, _≤_, add-one, arith, leb, ltb, length, take, drop, drop-of-length-le, drop-cons, drop-drop, le-ltb, lt-ltb}
+use Rattle.base.specs.Basics.{le-leb, lt-leb}
 use Rattle.base.specs.Lists.{all}
 use Rattle.fields.proofs.Records.{length-recordsOf, getD-recordsOf}
 use Rattle.store.specs.Store.{ParameterSet, setOf, setsFrom, firstsRise, setValid, setsValid, orElse, begun, inForce}

@@ -1,12 +1,6 @@
 -- Laws of the figures that a store gives: they are in range whatever its bytes, and what each way out of the code gives. Assumes nothing.
-use Prim.Native.Nat.{ℕ, _+_, _*_}
-use mathlib.Core.Path.{_≡_, refl, sym, _∙_, subst}
-use mathlib.Core.Bool.{Bool, true, false, not, cond, _&&_}
-use mathlib.Core.List.{List, [], _∷_}
-use mathlib.Core.Option.{Option, none, some}
-use native.Mathlib.Omega.{arith}
-use lib.Dec.{T, leb, leb→le, eqb→eq}
-use lib.ListN.{length}
+use Rattle.base.specs.Basics.{_≡_, refl, sym, _∙_, subst, Bool, true, false, not, cond, _&&_, Option, none, some, List, [], _∷_, ℕ, _+_, _*_, arith}
+use Rattle.base.specs.Basics.{T, leb, leb→le, eqb→eq, length}
 use Rattle.rules.specs.Calendar.{realDay}
 use Rattle.rules.specs.Levels.{Limits, today}
 use Rattle.base.specs.Lists.{all}

@@ -1,9 +1,5 @@
 -- The set that the code's struct is, and what the code ensures of a store that it asks. Assumes nothing.
-use mathlib.Core.Bool.{cond}
-use mathlib.Core.List.{List}
-use mathlib.Core.Option.{Option}
-use mathlib.Core.Path.{_≡_}
-use Prim.Native.Nat.{ℕ}
+use Rattle.base.specs.Basics.{_≡_, cond, Option, List, ℕ}
 use Rattle.rules.specs.Levels.{Limits}
 use Rattle.rules.specs.Questions.{isNone}
 use Rattle.units.specs.Limits.{asLimits, LimitsInRange}

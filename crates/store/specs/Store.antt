@@ -1,10 +1,5 @@
 -- Document 02, ask 4: the store of parameter sets in bytes, and the figures that a call takes from it. Assumes nothing.
-use mathlib.Core.Bool.{Bool, true, false, not, cond, _&&_}
-use mathlib.Core.List.{List, [], _∷_}
-use mathlib.Core.Option.{Option, none, some}
-use Prim.Native.Nat.{ℕ, _+_, _*_}
-use lib.Dec.{eqb, leb, ltb}
-use lib.ListN.{length, drop}
+use Rattle.base.specs.Basics.{Bool, true, false, not, cond, _&&_, Option, none, some, List, [], _∷_, ℕ, _+_, _*_, eqb, leb, ltb, length, drop}
 use Rattle.fields.specs.Field.{field}
 use Rattle.fields.specs.Layout.{recordsOf}
 use Rattle.rules.specs.Calendar.{realDay}

@@ -1,11 +1,6 @@
 -- The parts of a signed amount that is kept with an offset, and the tests of a range, as linear facts for `omega`. Assumes nothing.
-use mathlib.Core.Path.{_≡_, refl, sym, _∙_, ap}
-use mathlib.Core.Bool.{Bool, true, false, cond, _&&_}
-use Prim.Native.Nat.{ℕ, _+_, _-_, _<_, _≤_, _^_}
-use native.Mathlib.Omega.{arith}
-use lib.Dec.{leb}
-use lib.IntN.{ℤ, pos, natAbs, _+ℤ_, _-ℤ_, subℕ}
-use borrow.Author.Tests.{le-leb, lt-leb, leb-true}
+use Rattle.base.specs.Basics.{_≡_, refl, sym, _∙_, ap, Bool, true, false, cond, _&&_, ℕ, _+_, _-_, _<_, _≤_, _^_, arith, leb, ℤ, pos, natAbs, _+ℤ_}
+use Rattle.base.specs.Basics.{_-ℤ_, subℕ, le-leb, lt-leb, leb-true}
 use Rattle.base.specs.Parts.{posPart, negPart}
 use Rattle.base.proofs.Linear.{by-order, posPart-diff, negPart-diff, eq-parts, parts-add, parts-sub, abs-parts}
 use Rattle.rules.specs.Signed.{within}

@@ -1,9 +1,5 @@
 -- Two's complement at any width w. Writing and reading undo each other, and both agree with a number kept + h, where h is half of 2^w. Assumes nothing.
-use mathlib.Core.Path.{_≡_, refl, sym, _∙_, ap}
-use Prim.Native.Nat.{ℕ, suc, _+_, _*_, _-_, _<_, _≤_, _^_}
-use native.Mathlib.Omega.{arith}
-use lib.IntN.{ℤ, pos, negsuc, subℕ}
-use borrow.Author.Tests.{lt-ltb, le-ltb}
+use Rattle.base.specs.Basics.{_≡_, refl, sym, _∙_, ap, ℕ, suc, _+_, _*_, _-_, _<_, _≤_, _^_, arith, ℤ, pos, negsuc, subℕ, lt-ltb, le-ltb}
 use Rattle.base.specs.Parts.{posPart, negPart}
 use Rattle.base.proofs.Linear.{by-order, posPart-pos, negPart-pos, posPart-diff, negPart-diff, diff-cong, eq-parts}
 use Rattle.rules.specs.Signed.{signedOf, bitsOf}

@@ -1,6 +1,5 @@
 -- The integers that the code's signed amounts stand for. Assumes nothing.
-use Prim.Native.Nat.{_^_}
-use lib.IntN.{ℤ, subℕ}
+use Rattle.base.specs.Basics.{_^_, ℤ, subℕ}
 use Rattle.units.specs.declared.Net.{Net}
 use Rattle.units.specs.declared.Balance.{Balance}
 

@@ -1,5 +1,5 @@
 -- The limits of the rules that the code's limits are, and their range. Assumes nothing.
-use Prim.Native.Nat.{_≤_}
+use Rattle.base.specs.Basics.{_≤_}
 use Rattle.rules.specs.Levels as rules
 use Rattle.units.specs.declared.Limits.{Limits}
 

@@ -1,5 +1,5 @@
 -- The prices of the rules that the code's prices are, and their range. Assumes nothing.
-use Prim.Native.Nat.{_≤_}
+use Rattle.base.specs.Basics.{_≤_}
 use Rattle.rules.specs.Areas as areas
 use Rattle.units.specs.declared.Prices.{Prices}
 

@@ -1,7 +1,5 @@
 -- The levels of all users by the number of their opening questions: who is told, and what the public call gives. Assumes nothing.
-use mathlib.Core.List.{List}
-use mathlib.Core.Path.{_≡_, _∙_, ap, refl, sym}
-use Prim.Native.Nat.{ℕ, suc, zero}
+use Rattle.base.specs.Basics.{_≡_, _∙_, ap, refl, sym, List, ℕ, suc, zero}
 use Rattle.rules.specs.Levels.{Limits}
 use Rattle.book_format.specs.After.{after}
 use Rattle.book_format.specs.Book.{bookOf}

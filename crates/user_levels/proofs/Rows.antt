@@ -1,13 +1,6 @@
 -- Each row of the levels of all users is what the calls for that user's id answer. Assumes nothing.
-use mathlib.Core.Bool.{Bool, true, false, cond}
-use mathlib.Core.List.{List, [], _∷_, _++_, map}
-use mathlib.Core.Path.{_≡_, _∙_, ap, refl, subst, sym}
-use Prim.Native.Nat.{ℕ, suc, zero, _-_, _<_, _≤_}
-use native.Mathlib.Nat.{le-of-suc-le-suc, not-suc-le-zero}
-use native.Mathlib.Omega.{arith}
-use borrow.Author.Tests.{eq-eqb, ne-eqb}
-use lib.Dec.{T, eqb, ltb}
-use lib.ListN.{getD, length, replicate}
+use Rattle.base.specs.Basics.{_≡_, _∙_, ap, refl, subst, sym, Bool, true, false, cond, List, [], _∷_, _++_, map, ℕ, suc, zero, _-_, _<_, _≤_}
+use Rattle.base.specs.Basics.{le-of-suc-le-suc, not-suc-le-zero, arith, T, eqb, ltb, getD, length, replicate, eq-eqb, ne-eqb}
 use Rattle.base.proofs.Tests.{and-r, eqb-of, or-l, or-r}
 use Rattle.base.specs.Lists.{any}
 use Rattle.rules.specs.Book.{Book, User, find, nobody}

@@ -1,10 +1,5 @@
 -- What is claimed of the levels of all users: each row is what the calls for that user's id tell; and who is told. Assumes nothing.
-use mathlib.Core.Bool.{Bool, false, cond}
-use mathlib.Core.List.{List}
-use mathlib.Core.Option.{none}
-use mathlib.Core.Path.{_≡_}
-use Prim.Native.Nat.{ℕ, suc, _<_, _≤_}
-use lib.ListN.{getD, length}
+use Rattle.base.specs.Basics.{_≡_, Bool, false, cond, none, List, ℕ, suc, _<_, _≤_, getD, length}
 use Rattle.rules.specs.Book.{User, nobody}
 use Rattle.rules.specs.Day as day
 use Rattle.rules.specs.Levels.{shipper}

@@ -1,9 +1,6 @@
 -- The levels and the state of every user of a book in one answer: documents 01 and 02 ask for them user by user. A book is asked its questions once for all of them.
 -- Assumes nothing.
-use mathlib.Core.Bool.{cond}
-use mathlib.Core.List.{List, _++_, map}
-use Prim.Native.Nat.{ℕ, _-_}
-use lib.ListN.{length, replicate}
+use Rattle.base.specs.Basics.{cond, List, _++_, map, ℕ, _-_, length, replicate}
 use Rattle.rules.specs.Book.{Book, User}
 use Rattle.rules.specs.Day.{State, clear, printedLevel, state}
 use Rattle.rules.specs.Levels.{Limits, morningLevel, shipper}

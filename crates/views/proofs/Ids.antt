@@ -1,11 +1,5 @@
 -- What a party may see, by the ids of users and managers: its own, and what it manages. Assumes nothing.
-use mathlib.Core.Bool.{Bool, true, false, cond, _||_}
-use mathlib.Core.List.{List}
-use mathlib.Core.Path.{_≡_, _∙_, ap, refl, sym}
-use Prim.Native.Nat.{ℕ, _<_}
-use native.Mathlib.Omega.{arith}
-use lib.Dec.{T, eqb, eqb→eq}
-use borrow.Author.Tests.{ne-eqb}
+use Rattle.base.specs.Basics.{_≡_, _∙_, ap, refl, sym, Bool, true, false, cond, _||_, List, ℕ, _<_, arith, T, eqb, eqb→eq, ne-eqb}
 use Rattle.base.specs.Lists.{any}
 use Rattle.laws.proofs.Users.{known-id}
 use Rattle.rules.specs.Areas.{areas}

@@ -1,13 +1,6 @@
 -- Sums over the elements of a list that pass a test, and users looked for among them. Assumes nothing.
-use mathlib.Core.Bool.{Bool, true, false, not, cond}
-use mathlib.Core.List.{List, [], _∷_, map}
-use mathlib.Core.Path.{_≡_, _∙_, ap, refl, sym}
-use Prim.Native.Nat.{ℕ, zero, suc, _+_, _<_, _≤_}
-use native.Mathlib.Nat.{le-of-eq}
-use native.Mathlib.Omega.{arith}
-use lib.Dec.{T, eqb, eqb→eq, ltb, ltb→lt}
-use lib.IntN.{ℤ, _+ℤ_, pos, +ℤ-idl}
-use lib.ListN.{getD}
+use Rattle.base.specs.Basics.{_≡_, _∙_, ap, refl, sym, Bool, true, false, not, cond, List, [], _∷_, map, ℕ, zero, suc, _+_, _<_, _≤_, le-of-eq, arith}
+use Rattle.base.specs.Basics.{T, eqb, eqb→eq, ltb, ltb→lt, ℤ, _+ℤ_, pos, +ℤ-idl, getD}
 use Rattle.base.specs.Sums.{sum, sumℤ}
 use Rattle.base.proofs.Tests.{and-l, and-r, by-case, by-test}
 use Rattle.rules.specs.Book.{User, find, nobody}

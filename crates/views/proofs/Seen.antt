@@ -1,10 +1,6 @@
 -- What a party holds, its record and whether it is a shipper of the book stand in what it may see. Assumes nothing.
-use mathlib.Core.Bool.{Bool, true, false, not, cond, _&&_, _||_}
-use mathlib.Core.List.{List, map}
-use mathlib.Core.Path.{_≡_, _∙_, ap, ap₂, refl, subst, sym}
-use Prim.Native.Nat.{ℕ, zero, suc}
-use lib.Dec.{T, T-not, eqb}
-use lib.IntN.{ℤ, pos}
+use Rattle.base.specs.Basics.{_≡_, _∙_, ap, ap₂, refl, subst, sym, Bool, true, false, not, cond, _&&_, _||_, List, map, ℕ, zero, suc, T, T-not, eqb}
+use Rattle.base.specs.Basics.{ℤ, pos}
 use Rattle.base.specs.Lists.{any}
 use Rattle.base.proofs.Sums.{sum-ext, sum-map}
 use Rattle.base.proofs.Tests.{by-test, or-l, or-r}

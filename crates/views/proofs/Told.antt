@@ -1,10 +1,6 @@
 -- Over two books in which ids rise and that agree on what a party may see: they agree on its record, on whether it is in the book, on its levels and its flag. Assumes nothing.
-use mathlib.Core.Bool.{Bool, true, false, not, cond, _||_}
-use mathlib.Core.List.{List, [], _∷_}
-use mathlib.Core.Path.{_≡_, _∙_, ap, ap₂, refl, subst, sym}
-use Prim.Native.Nat.{ℕ, _<_}
-use native.Mathlib.Omega.{arith}
-use lib.Dec.{T, eqb, eqb→eq, ltb, ltb→lt, not-T}
+use Rattle.base.specs.Basics.{_≡_, _∙_, ap, ap₂, refl, subst, sym, Bool, true, false, not, cond, _||_, List, [], _∷_, ℕ, _<_, arith, T, eqb, eqb→eq}
+use Rattle.base.specs.Basics.{ltb, ltb→lt, not-T}
 use Rattle.base.specs.Lists.{any}
 use Rattle.laws.proofs.Users.{known-id}
 use Rattle.base.proofs.Tests.{and-l, and-r, by-case, eqb-of, or-l}

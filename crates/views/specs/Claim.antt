@@ -1,10 +1,6 @@
 -- Document 02, ask 9: "It may see its own record and trades, and for an area where it manages others their records and their trades in that area." What a party may see, by
 -- the ids of users and managers alone. Assumes nothing.
-use mathlib.Core.Bool.{Bool, _||_}
-use mathlib.Core.List.{List}
-use mathlib.Core.Path.{_≡_}
-use Prim.Native.Nat.{ℕ, _<_}
-use lib.Dec.{T, eqb}
+use Rattle.base.specs.Basics.{_≡_, Bool, _||_, List, ℕ, _<_, T, eqb}
 use Rattle.base.specs.Lists.{any}
 use Rattle.rules.specs.Areas.{areas}
 use Rattle.rules.specs.Book.{Trade, User, find, managerIn}

@@ -1,8 +1,5 @@
 -- Document 02, ask 9, "Who may see and do what": what a party, a shipper with an id, may see of a book. Assumes nothing.
-use mathlib.Core.Bool.{Bool, _||_}
-use mathlib.Core.List.{List}
-use Prim.Native.Nat.{ℕ}
-use lib.Dec.{eqb}
+use Rattle.base.specs.Basics.{Bool, _||_, List, ℕ, eqb}
 use Rattle.base.specs.Lists.{any}
 use Rattle.laws_sales.specs.Kept.{kept}
 use Rattle.rules.specs.Areas.{areas}

@@ -1,9 +1,8 @@
 -- `arrange_trades`: the widths are those of the version's fields. Assumes nothing.
-use mathlib.Core.Path.{refl}
+use Rattle.base.specs.Basics.{refl, needs}
 use Rattle.fields.specs.Layout.{size}
 use Rattle.book_records.specs.Trade.{tradeWidths}
 use Rattle.book_columns.specs.Form.{tradeFields}
-use borrow.Author.Needs.{needs}
 use Rattle.book_columns.proofs.arrange_trades.Statement.{statement}
 use Rattle.book_columns.proofs.arrange_trades.Tie as tie
 

@@ -1,14 +1,11 @@
 -- `arrange_users`: the widths are those of the version's fields. Assumes nothing.
-use mathlib.Core.Bool.{true, false}
-use mathlib.Core.Path.{_≡_, refl, sym, ap, _∙_}
-use Prim.Native.Nat.{ℕ, _*_}
+use Rattle.base.specs.Basics.{_≡_, refl, sym, ap, _∙_, true, false, ℕ, _*_, needs}
 use Rattle.fields.specs.Layout.{size}
 use Rattle.rules.specs.Areas.{managersIn}
 use Rattle.book_records.specs.User.{amountWidths, managerWidths, recordSize, userWidths}
 use Rattle.book_format.specs.Book.{userSize}
 use Rattle.book_format.proofs.Offsets.{user-managed, user-plain}
 use Rattle.book_columns.specs.Form.{userFields}
-use borrow.Author.Needs.{needs}
 use Rattle.book_columns.proofs.arrange_users.Statement.{statement}
 use Rattle.book_columns.proofs.arrange_users.Tie as tie
 

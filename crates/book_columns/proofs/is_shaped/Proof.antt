@@ -1,9 +1,8 @@
 -- `is_shaped` looks at the header only where there are bytes for it, and tests in the order of the definition. Assumes nothing.
-use borrow.Author.Tests.{lt-leb, le-leb}
+use Rattle.base.specs.Basics.{needs, lt-leb, le-leb}
 use Rattle.book_format.specs.Book.{lengthOf, markOf}
 use Rattle.book_format.specs.Questions.{sized, versioned}
 use Rattle.book_columns.specs.Form.{formMark, shaped}
-use borrow.Author.Needs.{needs}
 use Rattle.book_columns.proofs.is_shaped.Statement.{statement}
 use Rattle.book_columns.proofs.is_shaped.Tie as tie
 

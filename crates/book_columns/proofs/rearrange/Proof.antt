@@ -1,12 +1,7 @@
 -- `rearrange` writes header, users and trades one after the other. Assumes nothing.
-use mathlib.Core.Path.{_≡_, ap, _∙_}
-use Prim.Native.Nat.{ℕ, _+_, _*_}
-use native.Mathlib.Omega.{arith}
-use denote.Ref.{now}
-use lib.ListN.{length}
+use Rattle.base.specs.Basics.{_≡_, ap, _∙_, ℕ, _+_, _*_, arith, length, now, needs}
 use Rattle.book_format.specs.Book.{tradeSize, userSize}
 use Rattle.book_columns.proofs.Written.{all-written, parts-long}
-use borrow.Author.Needs.{needs}
 use Rattle.book_columns.proofs.rearrange.Statement.{statement}
 use Rattle.book_columns.proofs.rearrange.Tie as tie
 

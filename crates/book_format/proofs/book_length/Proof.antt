@@ -1,8 +1,5 @@
 -- `book_length`: the header, all users and all trades. Assumes nothing.
-use Prim.Native.Nat.{_*_, _≤_}
-use native.Mathlib.Nat.{mul-le-mul}
-use native.Mathlib.Omega.{arith}
-use borrow.Author.Needs.{needs}
+use Rattle.base.specs.Basics.{_*_, _≤_, mul-le-mul, arith, needs}
 use Rattle.book_format.specs.Book.{lengthBy}
 use Rattle.book_format.proofs.book_length.Statement.{statement}
 use Rattle.book_format.proofs.book_length.Tie as tie

@@ -1,5 +1,5 @@
 -- `has_managers` tests what the definition does. Assumes nothing.
-use borrow.Author.Needs.{needs}
+use Rattle.base.specs.Basics.{needs}
 use Rattle.rules.specs.Areas.{managersIn}
 use Rattle.book_format.proofs.has_managers.Statement.{statement}
 use Rattle.book_format.proofs.has_managers.Tie as tie

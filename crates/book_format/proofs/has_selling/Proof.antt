@@ -1,5 +1,5 @@
 -- `has_selling` tests what the definition does. Assumes nothing.
-use borrow.Author.Needs.{needs}
+use Rattle.base.specs.Basics.{needs}
 use Rattle.rules.specs.Areas.{sellingIn}
 use Rattle.book_format.proofs.has_selling.Statement.{statement}
 use Rattle.book_format.proofs.has_selling.Tie as tie

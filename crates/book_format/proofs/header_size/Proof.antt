@@ -1,7 +1,5 @@
 -- `header_size`: 40 bytes with selling tariffs, else 32. Assumes nothing.
-use mathlib.Core.Path.{sym, _∙_}
-use native.Mathlib.Omega.{arith}
-use borrow.Author.Needs.{needs}
+use Rattle.base.specs.Basics.{sym, _∙_, arith, needs}
 use Rattle.book_format.proofs.Offsets.{header-plain, header-selling}
 use Rattle.book_format.proofs.header_size.Statement.{statement}
 use Rattle.book_format.proofs.header_size.Tie as tie

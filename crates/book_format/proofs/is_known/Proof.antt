@@ -1,5 +1,5 @@
 -- `is_known` tests what the definition does. Assumes nothing.
-use borrow.Author.Needs.{needs}
+use Rattle.base.specs.Basics.{needs}
 use Rattle.rules.specs.Questions.{versionKnown}
 use Rattle.book_format.proofs.is_known.Statement.{statement}
 use Rattle.book_format.proofs.is_known.Tie as tie

@@ -1,5 +1,5 @@
 -- `put_user`: the user's bytes in the place of the 56 that were there. Assumes nothing.
-use borrow.Author.Needs.{needs}
+use Rattle.base.specs.Basics.{needs}
 use Rattle.book_records.specs.User.{asUser}
 use Rattle.book_format.proofs.Places.{user-put}
 use Rattle.book_format.proofs.put_user.Statement.{statement}

@@ -1,5 +1,5 @@
 -- `trade_at`: the 20 bytes at the place are those of the trade. Assumes nothing.
-use borrow.Author.Needs.{needs}
+use Rattle.base.specs.Basics.{needs}
 use Rattle.book_format.proofs.Places.{trade-read}
 use Rattle.book_format.proofs.trade_at.Statement.{statement}
 use Rattle.book_format.proofs.trade_at.Tie as tie

@@ -1,5 +1,5 @@
 -- `trade_count`: its bytes of the header. Assumes nothing.
-use borrow.Author.Needs.{needs}
+use Rattle.base.specs.Basics.{needs}
 use Rattle.book_format.specs.Book.{tradeCount}
 use Rattle.book_format.proofs.trade_count.Statement.{statement}
 use Rattle.book_format.proofs.trade_count.Tie as tie

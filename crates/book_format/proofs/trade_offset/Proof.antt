@@ -1,7 +1,5 @@
 -- `trade_offset`: where the trades begin, and those before. Assumes nothing.
-use native.Mathlib.Omega.{arith}
-use borrow.Author.Needs.{needs}
-use mathlib.Core.Path.{refl}
+use Rattle.base.specs.Basics.{refl, arith, needs}
 use Rattle.book_format.proofs.Places.{trade-lies}
 use Rattle.book_format.proofs.trade_offset.Statement.{statement}
 use Rattle.book_format.proofs.trade_offset.Tie as tie

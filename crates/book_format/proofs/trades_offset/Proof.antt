@@ -1,7 +1,5 @@
 -- `trades_offset`: the header and all users. Assumes nothing.
-use Prim.Native.Nat.{_*_, _≤_}
-use native.Mathlib.Nat.{mul-le-mul}
-use native.Mathlib.Omega.{arith}
+use Rattle.base.specs.Basics.{_*_, _≤_, mul-le-mul, arith}
 use Rattle.book_format.proofs.Offsets.{users-end}
 use Rattle.book_format.proofs.trades_offset.Statement.{statement}
 use Rattle.book_format.proofs.trades_offset.Tie as tie

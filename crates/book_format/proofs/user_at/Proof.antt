@@ -1,5 +1,5 @@
 -- `user_at`: the 56 bytes at the place are those of the user. Assumes nothing.
-use borrow.Author.Needs.{needs}
+use Rattle.base.specs.Basics.{needs}
 use Rattle.book_format.proofs.Places.{user-read}
 use Rattle.book_format.proofs.user_at.Statement.{statement}
 use Rattle.book_format.proofs.user_at.Tie as tie

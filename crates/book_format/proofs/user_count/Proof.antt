@@ -1,5 +1,5 @@
 -- `user_count`: its bytes of the header. Assumes nothing.
-use borrow.Author.Needs.{needs}
+use Rattle.base.specs.Basics.{needs}
 use Rattle.book_format.specs.Book.{userCount}
 use Rattle.book_format.proofs.user_count.Statement.{statement}
 use Rattle.book_format.proofs.user_count.Tie as tie

@@ -1,8 +1,5 @@
 -- `user_offset_from`: where the users begin, and the records of those before. Assumes nothing.
-use Prim.Native.Nat.{_*_, _≤_}
-use native.Mathlib.Nat.{mul-le-mul}
-use native.Mathlib.Omega.{arith}
-use denote.Ref.{now}
+use Rattle.base.specs.Basics.{_*_, _≤_, mul-le-mul, arith, now}
 use Rattle.book_format.specs.Book.{versionOf}
 use Rattle.book_format.proofs.Offsets.{header-range, user-range, user-there}
 use Rattle.book_format.proofs.Places.{user-lies, user-low}

@@ -1,7 +1,5 @@
 -- `user_size`: 68 bytes with managers, else 56. Assumes nothing.
-use mathlib.Core.Path.{sym, _∙_}
-use native.Mathlib.Omega.{arith}
-use borrow.Author.Needs.{needs}
+use Rattle.base.specs.Basics.{sym, _∙_, arith, needs}
 use Rattle.book_format.proofs.Offsets.{user-managed, user-plain}
 use Rattle.book_format.proofs.user_size.Statement.{statement}
 use Rattle.book_format.proofs.user_size.Tie as tie

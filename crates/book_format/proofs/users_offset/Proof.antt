@@ -1,6 +1,5 @@
 -- `users_offset`: the header. Assumes nothing.
-use mathlib.Core.Path.{ap, _∙_}
-use borrow.Author.Needs.{needs}
+use Rattle.base.specs.Basics.{ap, _∙_, needs}
 use Rattle.book_format.specs.Book.{headerSize}
 use Rattle.book_format.proofs.users_offset.Statement.{statement}
 use Rattle.book_format.proofs.users_offset.Tie as tie

@@ -1,6 +1,5 @@
 -- `users_size`: by the version. Assumes nothing.
-use mathlib.Core.Path.{ap, _∙_}
-use borrow.Author.Needs.{needs}
+use Rattle.base.specs.Basics.{ap, _∙_, needs}
 use Rattle.book_format.specs.Book.{userSize}
 use Rattle.book_format.proofs.users_size.Statement.{statement}
 use Rattle.book_format.proofs.users_size.Tie as tie

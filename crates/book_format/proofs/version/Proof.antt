@@ -1,5 +1,5 @@
 -- `version`: its bytes of the header. Assumes nothing.
-use borrow.Author.Needs.{needs}
+use Rattle.base.specs.Basics.{needs}
 use Rattle.book_format.specs.Book.{versionOf}
 use Rattle.book_format.proofs.version.Statement.{statement}
 use Rattle.book_format.proofs.version.Tie as tie

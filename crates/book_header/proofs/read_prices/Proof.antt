@@ -1,6 +1,5 @@
 -- `read_prices` reads each price from its own offset. Assumes nothing.
 use borrow.Author.Needs.{needs}
-use native.Mathlib.Omega.{arith}
 use Rattle.book_format.specs.Book.{pricesOf}
 use Rattle.book_header.proofs.read_prices.Statement.{statement}
 use Rattle.book_header.proofs.read_prices.Tie as tie

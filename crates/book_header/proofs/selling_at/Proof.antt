@@ -1,5 +1,4 @@
 -- `selling_at` reads a field that only a header with selling tariffs has. Assumes nothing.
-use mathlib.Core.Bool.{true, false}
 use mathlib.Core.Path.{_≡_, sym, ap, _∙_}
 use native.Mathlib.Omega.{arith}
 use denote.Ref.{now}

@@ -1,15 +1,9 @@
 -- `ask_in` asks the part that it wrote, which is the bytes of the book. Assumes nothing.
-use mathlib.Core.List.{_++_}
-use mathlib.Core.Path.{_≡_, sym, ap, _∙_}
-use native.Mathlib.Omega.{arith}
-use lib.ListN.{length, take, drop, length-take}
-use lib.Seq.{take-at}
-use denote.Ref.{now}
+use Rattle.base.specs.Basics.{_≡_, sym, ap, _∙_, _++_, arith, length, take, drop, length-take, take-at, now, needs}
 use Rattle.book_format.specs.Book.{bytesOf}
 use Rattle.book_questions.specs.Asked.{fieldsNumber}
 use Rattle.book_image.specs.ImageBook.{imageBook}
 use Rattle.book_image.proofs.Fields.{image-formed, image-sized}
-use borrow.Author.Needs.{needs}
 use Rattle.book_image.proofs.ask_in.Statement.{statement}
 use Rattle.book_image.proofs.ask_in.Tie as tie
 

@@ -1,9 +1,7 @@
 -- `ask_written`: the longest book has as many bytes as an image. Assumes nothing.
-use native.Mathlib.Omega.{arith}
+use Rattle.base.specs.Basics.{arith, now, needs}
 use Rattle.book_format.specs.Book.{versionOf}
-use denote.Ref.{now}
 use Rattle.book_format.proofs.Offsets.{header-range, length-by, size-most}
-use borrow.Author.Needs.{needs}
 use Rattle.book_image.proofs.ask_written.Statement.{statement}
 use Rattle.book_image.proofs.ask_written.Tie as tie
 

@@ -1,8 +1,5 @@
 -- `clear` stores a 0 at each place from the first up: what is left to store gives the whole. Assumes nothing.
-use mathlib.Core.Path.{sym}
-use Prim.Native.Nat.{ℕ, _-_, _≤_}
-use native.Mathlib.Omega.{arith}
-use lib.ListN.{length, replicate, length-set, length-replicate, getD-replicate}
+use Rattle.base.specs.Basics.{sym, ℕ, _-_, _≤_, arith, length, replicate, length-set, length-replicate, getD-replicate}
 use Rattle.base.proofs.Storing.{Storing, storing-start, storing-next, storing-all}
 use Rattle.book_image.proofs.clear.Statement.{statement}
 use Rattle.book_image.proofs.clear.Tie as tie

@@ -1,7 +1,5 @@
 -- `clear_fields`: the records that are left, cleared behind those that are, give all of them. Assumes nothing.
-use Prim.Native.Nat.{_-_}
-use native.Mathlib.Omega.{arith}
-use borrow.Author.Needs.{needs}
+use Rattle.base.specs.Basics.{_-_, arith, needs}
 use Rattle.book_image.proofs.Turns.{Clearing, clearing-start, clearing-lies, clearing-turn, clearing-end}
 use Rattle.book_image.proofs.clear_fields.Statement.{statement}
 use Rattle.book_image.proofs.clear_fields.Tie as tie

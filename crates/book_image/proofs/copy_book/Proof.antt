@@ -1,14 +1,8 @@
 -- `copy_book` fills header, users and trades one after the other. Assumes nothing.
-use mathlib.Core.Path.{_≡_, sym, _∙_}
-use Prim.Native.Nat.{_+_, _*_, _≤_}
-use native.Mathlib.Omega.{arith}
-use denote.Ref.{now}
-use lib.ListN.{length-take, length}
-use lib.Seq.{length-take-le}
+use Rattle.base.specs.Basics.{_≡_, sym, _∙_, _+_, _*_, _≤_, arith, length-take, length, length-take-le, now, needs}
 use Rattle.book_format.specs.Book.{tradesAt}
 use Rattle.book_format.proofs.Offsets.{users-end}
 use Rattle.book_image.proofs.Copied.{all-filled}
-use borrow.Author.Needs.{needs}
 use Rattle.book_image.proofs.copy_book.Statement.{statement}
 use Rattle.book_image.proofs.copy_book.Tie as tie
 

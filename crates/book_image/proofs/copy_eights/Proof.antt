@@ -1,9 +1,5 @@
 -- `copy_eights`: the numbers passed are copied. Assumes nothing.
-use Prim.Native.Nat.{_+_, _-_, _*_, _≤_}
-use native.Mathlib.Omega.{arith}
-use borrow.Author.Needs.{needs}
-use denote.Ref.{now}
-use lib.ListN.{length}
+use Rattle.base.specs.Basics.{_+_, _-_, _*_, _≤_, arith, length, now, needs}
 use Rattle.book_image.proofs.Fitted.{Copying, copying-end, copying-start, copying-turn}
 use Rattle.book_image.proofs.copy_eights.Statement.{statement}
 use Rattle.book_image.proofs.copy_eights.Tie as tie

@@ -1,14 +1,9 @@
 -- `copy_header` copies the header's bytes with the mark over the front of the part. Assumes nothing.
-use mathlib.Core.Path.{sym, _∙_}
-use native.Mathlib.Omega.{arith}
-use denote.Ref.{now}
-use lib.ListN.{take}
-use lib.Seq.{length-take-le}
+use Rattle.base.specs.Basics.{sym, _∙_, arith, take, length-take-le, now, needs}
 use Rattle.fields.specs.Field.{setField}
 use Rattle.fields.proofs.Field.{length-setField}
 use Rattle.book_format.specs.Book.{mark}
 use Rattle.book_image.proofs.Turns.{front-set}
-use borrow.Author.Needs.{needs}
 use Rattle.book_image.proofs.copy_header.Statement.{statement}
 use Rattle.book_image.proofs.copy_header.Tie as tie
 

@@ -1,7 +1,5 @@
 -- `copy_marked` copies the header over the whole part, and sets the mark there. Assumes nothing.
-use mathlib.Core.Path.{ap, _∙_}
-use denote.Ref.{now}
-use borrow.Author.Needs.{needs}
+use Rattle.base.specs.Basics.{ap, _∙_, now, needs}
 use Rattle.fields.specs.Field.{setField}
 use Rattle.book_format.specs.Book.{mark}
 use Rattle.book_image.proofs.Turns.{all-copied}

@@ -1,7 +1,5 @@
 -- `copy_records` copies the records over the whole part, and makes the field 0 in each of them there. Assumes nothing.
-use mathlib.Core.Path.{ap, sym, _∙_}
-use denote.Ref.{now}
-use borrow.Author.Needs.{needs}
+use Rattle.base.specs.Basics.{ap, sym, _∙_, now, needs}
 use Rattle.book_image.specs.Zeroed.{zeroedRecords}
 use Rattle.book_image.proofs.Turns.{all-copied}
 use Rattle.book_image.proofs.copy_records.Statement.{statement}

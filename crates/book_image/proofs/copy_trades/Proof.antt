@@ -1,10 +1,9 @@
 -- `copy_trades` lends where the trades stand and where they go; trades that are read and written again are their bytes with the zero byte as 0. Assumes nothing.
-use denote.Ref.{now}
+use Rattle.base.specs.Basics.{now, needs}
 use Rattle.book_records.specs.Trade.{tradeOf, tradeBytes}
 use Rattle.book_records.proofs.Trades.{length-tradeBytes}
 use Rattle.book_image.proofs.Zeroed.{trade-zeroed}
 use Rattle.book_image.proofs.Turns.{records-copied}
-use borrow.Author.Needs.{needs}
 use Rattle.book_image.proofs.copy_trades.Statement.{statement}
 use Rattle.book_image.proofs.copy_trades.Tie as tie
 

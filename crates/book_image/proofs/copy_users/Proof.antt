@@ -1,14 +1,10 @@
 -- `copy_users` writes the records in the size of the version, and makes their zero bytes 0 there: so they are users that are read and written again. Assumes nothing.
-use mathlib.Core.Path.{sym, _∙_}
-use Prim.Native.Nat.{_+_, _*_, _≤_}
-use denote.Ref.{now}
-use lib.ListN.{length}
+use Rattle.base.specs.Basics.{sym, _∙_, _+_, _*_, _≤_, length, now, needs}
 use Rattle.book_format.specs.Book.{userRecord}
 use Rattle.book_format.proofs.Offsets.{length-userRecord}
 use Rattle.book_image.specs.ImageBook.{imageUserOf}
 use Rattle.book_image.proofs.Zeroed.{image-zeroed}
 use Rattle.book_image.proofs.Turns.{records-refitted}
-use borrow.Author.Needs.{needs}
 use Rattle.book_image.proofs.copy_users.Statement.{statement}
 use Rattle.book_image.proofs.copy_users.Tie as tie
 

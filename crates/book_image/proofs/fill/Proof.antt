@@ -1,11 +1,6 @@
 -- `fill` copies the bytes to the front of the part and clears what is behind them. Assumes nothing.
-use mathlib.Core.Path.{sym}
-use native.Mathlib.Omega.{arith}
-use denote.Ref.{now}
-use lib.ListN.{length-take}
-use lib.Seq.{length-take-le}
+use Rattle.base.specs.Basics.{sym, arith, length-take, length-take-le, now, needs}
 use Rattle.book_image.proofs.Filled.{front-filled}
-use borrow.Author.Needs.{needs}
 use Rattle.book_image.proofs.fill.Statement.{statement}
 use Rattle.book_image.proofs.fill.Tie as tie
 

@@ -1,9 +1,6 @@
 -- `fill_part` lends the part to `fill`. Assumes nothing.
-use denote.Ref.{now}
-use Prim.Native.Nat.{_-_}
-use native.Mathlib.Omega.{arith}
+use Rattle.base.specs.Basics.{_-_, arith, now, needs}
 use Rattle.book_image.proofs.Filled.{part-filled}
-use borrow.Author.Needs.{needs}
 use Rattle.book_image.proofs.fill_part.Statement.{statement}
 use Rattle.book_image.proofs.fill_part.Tie as tie
 

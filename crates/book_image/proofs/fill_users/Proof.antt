@@ -1,10 +1,8 @@
 -- `fill_users` writes the records, and clears the room behind them. Assumes nothing.
-use denote.Ref.{now}
-use lib.ListN.{drop}
+use Rattle.base.specs.Basics.{drop, now, needs}
 use Rattle.book_image.specs.Fitted.{refitted}
 use Rattle.book_image.proofs.Copied.{users-filled}
 use Rattle.book_image.proofs.Fitted.{length-refitted}
-use borrow.Author.Needs.{needs}
 use Rattle.book_image.proofs.fill_users.Statement.{statement}
 use Rattle.book_image.proofs.fill_users.Tie as tie
 

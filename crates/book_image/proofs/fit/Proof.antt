@@ -1,7 +1,6 @@
 -- `fit` lends the part to `fill`. Assumes nothing.
-use denote.Ref.{now}
+use Rattle.base.specs.Basics.{now, needs}
 use Rattle.book_image.proofs.Fitted.{part-fitted}
-use borrow.Author.Needs.{needs}
 use Rattle.book_image.proofs.fit.Statement.{statement}
 use Rattle.book_image.proofs.fit.Tie as tie
 

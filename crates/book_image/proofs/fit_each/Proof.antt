@@ -1,10 +1,5 @@
 -- `fit_each`: the records that are left give all. Assumes nothing.
-use Prim.Native.Nat.{_+_, _-_, _*_, _≤_}
-use native.Mathlib.Nat.{mul-suc, mul-le-mul-left}
-use native.Mathlib.Omega.{arith}
-use denote.Ref.{now}
-use lib.ListN.{length}
-use borrow.Author.Needs.{needs}
+use Rattle.base.specs.Basics.{_+_, _-_, _*_, _≤_, mul-suc, mul-le-mul-left, arith, length, now, needs}
 use Rattle.book_image.proofs.Fitted.{Fitting, fitting-start, fitting-turn, fitting-end}
 use Rattle.book_image.proofs.fit_each.Statement.{statement}
 use Rattle.book_image.proofs.fit_each.Tie as tie

@@ -1,11 +1,5 @@
 -- `fit_record`: the first bytes eight at a time, then the others. Assumes nothing.
-use mathlib.Core.Path.{_≡_, ap, _∙_}
-use Prim.Native.Nat.{_*_, _/_, _≤_}
-use native.Mathlib.Omega.{arith}
-use borrow.Author.Needs.{needs}
-use denote.Ref.{now}
-use lib.ListN.{length, drop, take}
-use lib.Seq.{length-sets}
+use Rattle.base.specs.Basics.{ap, _∙_, _*_, _/_, _≤_, arith, length, drop, take, length-sets, now, needs}
 use Rattle.book_image.proofs.Fitted.{fitted-twice}
 use Rattle.book_image.proofs.fit_record.Statement.{statement}
 use Rattle.book_image.proofs.fit_record.Tie as tie

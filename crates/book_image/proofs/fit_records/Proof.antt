@@ -1,13 +1,7 @@
 -- `fit_records`: records of the size are those that stand there. Assumes nothing.
-use mathlib.Core.Path.{_≡_, sym, ap, _∙_}
-use Prim.Native.Nat.{ℕ, _*_, _≤_}
-use native.Mathlib.Omega.{arith}
-use denote.Ref.{now}
-use lib.ListN.{length, drop, take, length-drop}
-use lib.Seq.{sets, length-take-le}
+use Rattle.base.specs.Basics.{sym, ap, _∙_, ℕ, _*_, _≤_, arith, length, drop, take, length-drop, sets, length-take-le, now, needs}
 use Rattle.book_image.specs.Fitted.{refitted}
 use Rattle.book_image.proofs.Fitted.{padded-all, refitted-same}
-use borrow.Author.Needs.{needs}
 use Rattle.book_image.proofs.fit_records.Statement.{statement}
 use Rattle.book_image.proofs.fit_records.Tie as tie
 

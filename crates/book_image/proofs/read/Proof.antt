@@ -1,14 +1,11 @@
 -- `read` leaves an image of 0 where a question refuses the bytes, and else the image of bytes of the right form. Assumes nothing.
-use mathlib.Core.Path.{_≡_, sym, _∙_}
-use native.Mathlib.Omega.{arith}
-use denote.Ref.{now}
+use Rattle.base.specs.Basics.{_≡_, sym, _∙_, arith, now, needs}
 use Rattle.rules.specs.Questions.{refusal, decided}
 use Rattle.laws.proofs.Refusals.{number-some}
 use Rattle.book_format.specs.Questions.{Formed, aboutBytes, bookNumber}
 use Rattle.book_format.proofs.Formed.{book-passed}
 use Rattle.book_format.proofs.Passed.{passed}
 use Rattle.book_image.specs.Image.{readImage}
-use borrow.Author.Needs.{needs}
 use Rattle.book_image.proofs.read.Statement.{statement}
 use Rattle.book_image.proofs.read.Tie as tie
 

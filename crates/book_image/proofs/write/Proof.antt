@@ -1,11 +1,5 @@
 -- `write` asks the version, the counts and the part's length, then the fields of the image, and writes only where all are answered by yes. Assumes nothing.
-use mathlib.Core.Bool.{Bool, true, false, _&&_}
-use mathlib.Core.Path.{_≡_, sym, ap, ap₂, _∙_}
-use Prim.Native.Nat.{ℕ}
-use lib.Dec.{eqb}
-use lib.ListN.{length}
-use borrow.Author.Tests.{eq-eqb, ne-eqb, not-true, not-false}
-use denote.Ref.{now}
+use Rattle.base.specs.Basics.{_≡_, sym, ap, ap₂, _∙_, Bool, true, false, _&&_, ℕ, eqb, length, now, needs, eq-eqb, ne-eqb, not-true, not-false}
 use Rattle.base.proofs.Tests.{holds}
 use Rattle.rules.specs.Questions.{versionKnown}
 use Rattle.book_format.specs.Book.{userCount, tradeCount, bookOf, lengthBy}
@@ -13,7 +7,6 @@ use Rattle.book_value.specs.Written.{countsInRange}
 use Rattle.book_value.proofs.PartWritten.{written-2, written-3, written-refused, written-0}
 use Rattle.book_image.specs.ImageBook.{imageBook, CountsOf}
 use Rattle.book_image.proofs.Fields.{counts-of}
-use borrow.Author.Needs.{needs}
 use Rattle.book_image.proofs.write.Statement.{statement}
 use Rattle.book_image.proofs.write.Tie as tie
 

@@ -1,13 +1,8 @@
 -- `write_fields` copies header, users and trades one after the other, which over bytes of the book's length gives the book's bytes. Assumes nothing.
-use mathlib.Core.Path.{_≡_, ap, _∙_}
-use Prim.Native.Nat.{ℕ, _+_, _*_}
-use native.Mathlib.Omega.{arith}
-use lib.ListN.{length}
-use denote.Ref.{now}
-use Rattle.book_format.specs.Book.{headerSize, lengthBy, userSize}
+use Rattle.base.specs.Basics.{_≡_, ap, _∙_, ℕ, _+_, _*_, arith, length, now, needs}
+use Rattle.book_format.specs.Book.{headerSize, userSize}
 use Rattle.book_format.proofs.Offsets.{length-by}
 use Rattle.book_image.proofs.Fields.{image-written}
-use borrow.Author.Needs.{needs}
 use Rattle.book_image.proofs.write_fields.Statement.{statement}
 use Rattle.book_image.proofs.write_fields.Tie as tie
 

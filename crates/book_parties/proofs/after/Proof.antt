@@ -1,10 +1,6 @@
 -- `after`: the cast makes 1 of yes and 0 of no, so that the product is the half or 0. Assumes nothing.
-use Prim.Native.Nat.{ℕ, _+_, _*_, _≤_}
-use mathlib.Core.Path.{_≡_}
-use mathlib.Core.Bool.{Bool, true, false, cond}
-use native.Mathlib.Omega.{arith}
+use Rattle.base.specs.Basics.{_≡_, Bool, true, false, cond, ℕ, _+_, _*_, _≤_, arith, needs}
 use mir.Val.{boolByte}
-use borrow.Author.Needs.{needs}
 use Rattle.book_parties.proofs.after.Statement.{statement}
 use Rattle.book_parties.proofs.after.Tie as tie
 

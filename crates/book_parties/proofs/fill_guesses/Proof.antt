@@ -1,7 +1,5 @@
 -- `fill_guesses`: each guess is a place below n, before the first and after each that is filled in. Assumes nothing.
-use Prim.Native.Nat.{_-_, _≤_}
-use native.Mathlib.Omega.{arith}
-use borrow.Author.Needs.{needs}
+use Rattle.base.specs.Basics.{_-_, _≤_, arith, needs}
 use Rattle.book_parties.specs.Ids.{Guesses}
 use Rattle.book_parties.proofs.Guesses.{guesses-more, guesses-none}
 use Rattle.book_parties.proofs.fill_guesses.Statement.{statement}

@@ -1,10 +1,5 @@
 -- `find`: where its guess, which is below n, has the id, it is its place; else the search tells it. Assumes nothing.
-use Prim.Native.Nat.{_<_}
-use mathlib.Core.Path.{refl}
-use native.Mathlib.Omega.{arith}
-use lib.ListN.{getD}
-use borrow.Author.Needs.{needs}
-use denote.Ref.{now}
+use Rattle.base.specs.Basics.{refl, _<_, arith, getD, now, needs}
 use Rattle.book_parties.proofs.Guesses.{guess-found}
 use Rattle.book_parties.proofs.find.Statement.{statement}
 use Rattle.book_parties.proofs.find.Tie as tie

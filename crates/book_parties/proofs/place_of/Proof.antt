@@ -1,8 +1,5 @@
 -- `place_of`: if the id stands at all, it is one of those left, until one is left; there it is, or it is nowhere. Assumes nothing.
-use Prim.Native.Nat.{_-_}
-use native.Mathlib.Omega.{arith}
-use borrow.Author.Needs.{needs}
-use denote.Ref.{now}
+use Rattle.base.specs.Basics.{_-_, arith, now, needs}
 use Rattle.book_parties.proofs.Search.{Left, search-start, search-turn, search-found, search-none}
 use Rattle.book_parties.proofs.place_of.Statement.{statement}
 use Rattle.book_parties.proofs.place_of.Tie as tie

@@ -1,9 +1,5 @@
 -- `area_valid`: the users that are left have the whole answer, until the manager of one is not valid or none is left. Assumes nothing.
-use Prim.Native.Nat.{_-_}
-use mathlib.Core.Path.{sym, _∙_}
-use native.Mathlib.Omega.{arith}
-use borrow.Author.Needs.{needs}
-use borrow.Author.Tests.{not-true, not-false}
+use Rattle.base.specs.Basics.{sym, _∙_, _-_, arith, needs, not-true, not-false}
 use Rattle.fields.proofs.Records.{length-recordsOf}
 use Rattle.rules.specs.Book.{nobody}
 use Rattle.book_parties.specs.Ids.{usersFrom}

@@ -1,15 +1,10 @@
 -- `ask_fields` asks question 4, and then those of the users and trades. Assumes nothing.
-use mathlib.Core.Path.{_≡_, ap, _∙_}
-use Prim.Native.Nat.{_≤_}
-use native.Mathlib.Omega.{arith}
-use denote.Ref.{now}
+use Rattle.base.specs.Basics.{_≡_, ap, _∙_, _≤_, arith, now, needs, not-true, not-false}
 use Rattle.book_format.proofs.Offsets.{users-end}
-use borrow.Author.Tests.{not-true, not-false}
 use Rattle.book_format.proofs.Places.{header-lies}
 use Rattle.book_format.specs.Book.{userSize, versionOf}
 use Rattle.book_questions.specs.Asked.{pastFive, pastSix, RecordsIn}
 use Rattle.book_questions.proofs.Asked.{formed-bytes, fields-4, fields-rest, fields-summed, records-from, records-within, summed-from, summed-none}
-use borrow.Author.Needs.{needs}
 use Rattle.book_questions.proofs.ask_fields.Statement.{statement}
 use Rattle.book_questions.proofs.ask_fields.Tie as tie
 

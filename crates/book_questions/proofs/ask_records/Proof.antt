@@ -1,11 +1,5 @@
 -- `ask_records` asks the questions 5 to 7 in their order, and returns at the first that is answered by no. Assumes nothing.
-use mathlib.Core.Bool.{true, _&&_}
-use mathlib.Core.Path.{_≡_, ap, refl}
-use Prim.Native.Nat.{ℕ}
-use native.Mathlib.Omega.{arith}
-use denote.Ref.{now}
-use lib.ListN.{drop}
-use borrow.Author.Tests.{not-true, not-false}
+use Rattle.base.specs.Basics.{_≡_, ap, refl, true, _&&_, ℕ, arith, drop, now, needs, not-true, not-false}
 use Rattle.base.specs.Lists.{all}
 use Rattle.base.proofs.Tests.{holds}
 use Rattle.fields.proofs.Records.{length-recordsOf}
@@ -16,7 +10,6 @@ use Rattle.book_questions.specs.Zeros.{userZerosIn}
 use Rattle.book_questions.specs.Asked.{allValid, Summed, UsersAsked, pastFive, pastSix}
 use Rattle.book_questions.proofs.Asked.{records-5, records-6, records-sums, records-summed, summed-none, summed-6, records-7, records-0}
 use Rattle.book_questions.proofs.Managers.{fields-groups, users-no, users-yes}
-use borrow.Author.Needs.{needs}
 use Rattle.book_questions.proofs.ask_records.Statement.{statement}
 use Rattle.book_questions.proofs.ask_records.Tie as tie
 

@@ -1,13 +1,6 @@
 -- `fields_valid`: the users that are left have the whole answer, until one fails a test or none is left; the ids of those passed are listed. Assumes nothing.
-use Prim.Native.Nat.{ℕ, _+_, _-_, _≤_}
-use mathlib.Core.Bool.{Bool, _&&_}
-use mathlib.Core.Path.{_≡_, ap, sym, _∙_}
-use native.Mathlib.Omega.{arith}
-use lib.Dec.{ltb}
-use lib.ListN.{length, length-take, length-drop, length-replicate}
-use denote.Ref.{now}
-use borrow.Author.Needs.{needs}
-use borrow.Author.Tests.{not-true, not-false}
+use Rattle.base.specs.Basics.{_≡_, ap, sym, _∙_, Bool, _&&_, ℕ, _+_, _-_, _≤_, arith, ltb, length, length-take, length-drop, length-replicate, now}
+use Rattle.base.specs.Basics.{needs, not-true, not-false}
 use Rattle.rules.specs.Questions.{userValid}
 use Rattle.book_records.specs.User.{asUser}
 use Rattle.book_sums.proofs.Walk.{record-lies}

@@ -1,7 +1,5 @@
 -- `groups_valid`: without managers there are none that are not valid. Assumes nothing.
-use mathlib.Core.Path.{sym, _∙_}
-use borrow.Author.Needs.{needs}
-use borrow.Author.Tests.{not-true, not-false}
+use Rattle.base.specs.Basics.{sym, _∙_, needs, not-true, not-false}
 use Rattle.book_questions.proofs.Managers.{groups-in, groups-none, groups-some}
 use Rattle.book_questions.proofs.groups_valid.Statement.{statement}
 use Rattle.book_questions.proofs.groups_valid.Tie as tie

@@ -1,12 +1,5 @@
 -- `leading_trades`: those passed are counted, until one is not valid or none is left. Assumes nothing.
-use Prim.Native.Nat.{_-_, _+_, _*_, _≤_}
-use mathlib.Core.Bool.{Bool}
-use mathlib.Core.Path.{_≡_}
-use native.Mathlib.Omega.{arith}
-use denote.Ref.{now}
-use lib.ListN.{length, take, length-take, length-drop}
-use borrow.Author.Needs.{needs}
-use borrow.Author.Tests.{not-true, not-false}
+use Rattle.base.specs.Basics.{_≡_, Bool, _-_, _+_, _*_, _≤_, arith, length, take, length-take, length-drop, now, needs, not-true, not-false}
 use Rattle.book_records.specs.Trade.{asTrade}
 use Rattle.book_parties.specs.Ids.{tradesFrom}
 use Rattle.book_questions.specs.Asked.{tradeAmong}

@@ -1,10 +1,5 @@
 -- `manager_valid`: by the fields of the user and of the one whose id its manager has. Assumes nothing.
-use Prim.Native.Nat.{_<_}
-use mathlib.Core.Path.{_∙_}
-use native.Mathlib.Omega.{arith}
-use denote.Ref.{now}
-use borrow.Author.Needs.{needs}
-use borrow.Author.Tests.{not-true, not-false}
+use Rattle.base.specs.Basics.{_∙_, _<_, arith, now, needs, not-true, not-false}
 use Rattle.book_parties.proofs.Guesses.{found-below}
 use Rattle.book_questions.proofs.Managers.{given-known, given-none, given-unknown, id-read, manager-read, role-read}
 use Rattle.book_questions.proofs.manager_valid.Statement.{statement}

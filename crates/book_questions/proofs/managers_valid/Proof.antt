@@ -1,5 +1,5 @@
 -- `managers_valid`: the three areas together. Assumes nothing.
-use borrow.Author.Needs.{needs}
+use Rattle.base.specs.Basics.{needs}
 use Rattle.book_questions.proofs.Managers.{managers-three}
 use Rattle.book_questions.proofs.managers_valid.Statement.{statement}
 use Rattle.book_questions.proofs.managers_valid.Tie as tie

@@ -1,13 +1,7 @@
 -- `valid_trades`: the trades that are left have the whole answer, until one is not valid or none is left; a party is a user where it was found,
 -- of those passed the places of the parties are listed, what stands is summed at each, and the zero bytes are 0. Assumes nothing.
-use Prim.Native.Nat.{_-_, _+_, _≤_}
-use mathlib.Core.Bool.{Bool, true}
-use mathlib.Core.Path.{_≡_, sym, _∙_}
-use native.Mathlib.Omega.{arith}
-use denote.Ref.{now}
-use lib.ListN.{length, take, length-take, length-drop}
-use borrow.Author.Needs.{needs}
-use borrow.Author.Tests.{not-true, not-false}
+use Rattle.base.specs.Basics.{_≡_, sym, _∙_, Bool, true, _-_, _+_, _≤_, arith, length, take, length-take, length-drop, now, needs, not-true}
+use Rattle.base.specs.Basics.{not-false}
 use Rattle.book_records.specs.Trade.{asTrade}
 use Rattle.book_sums.specs.Twelve.{Addable}
 use Rattle.book_questions.specs.Asked.{tradeAmong}

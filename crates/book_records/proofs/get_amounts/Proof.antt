@@ -1,6 +1,6 @@
 -- `get_amounts` reads three fields of 4 bytes in two's complement, one for each area. Assumes nothing.
 use Rattle.book_records.specs.User.{amountsAt, asAmounts}
-use borrow.Author.Needs.{needs}
+use Rattle.base.specs.Basics.{needs}
 use Rattle.book_records.proofs.get_amounts.Statement.{statement}
 use Rattle.book_records.proofs.get_amounts.Tie as tie
 

@@ -1,5 +1,5 @@
 -- `is_bilateral_for_day` tests kind and day as the rules do. Assumes nothing.
-use mathlib.Core.Path.{refl}
+use Rattle.base.specs.Basics.{refl}
 use Rattle.rules.specs.Book.{bilateralForDay}
 use Rattle.book_records.specs.Trade.{asTrade}
 use Rattle.book_records.proofs.is_bilateral_for_day.Statement.{statement}

@@ -1,5 +1,5 @@
 -- `no_trade` gives every field the number 0. Assumes nothing.
-use mathlib.Core.Path.{refl}
+use Rattle.base.specs.Basics.{refl}
 use Rattle.book_records.specs.Trade.{blankTrade}
 use Rattle.book_records.proofs.no_trade.Statement.{statement}
 use Rattle.book_records.proofs.no_trade.Tie as tie

@@ -1,5 +1,5 @@
 -- `no_user` gives every field the number 0, a signed amount as its offset. Assumes nothing.
-use mathlib.Core.Path.{refl}
+use Rattle.base.specs.Basics.{refl}
 use Rattle.book_records.specs.User.{blankUser}
 use Rattle.book_records.proofs.no_user.Statement.{statement}
 use Rattle.book_records.proofs.no_user.Tie as tie

@@ -1,7 +1,7 @@
 -- `put_amounts` sets three fields of 4 bytes, one after the other, each in two's complement. Assumes nothing.
 use Rattle.fields.specs.Layout.{setFields}
 use Rattle.book_records.specs.User.{amountWidths, amountValues, asAmounts}
-use borrow.Author.Needs.{needs}
+use Rattle.base.specs.Basics.{needs}
 use Rattle.book_records.proofs.put_amounts.Statement.{statement}
 use Rattle.book_records.proofs.put_amounts.Tie as tie
 

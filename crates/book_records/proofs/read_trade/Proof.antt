@@ -1,6 +1,6 @@
 -- `read_trade` reads each field from its own offset. Assumes nothing.
 use Rattle.book_records.specs.Trade.{tradeOf, asTrade}
-use borrow.Author.Needs.{needs}
+use Rattle.base.specs.Basics.{needs}
 use Rattle.book_records.proofs.read_trade.Statement.{statement}
 use Rattle.book_records.proofs.read_trade.Tie as tie
 

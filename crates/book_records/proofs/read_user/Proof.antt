@@ -1,9 +1,7 @@
 -- `read_user` reads each field from its own offset; 56 bytes end before the managers. Assumes nothing.
-use native.Mathlib.Omega.{arith}
-use denote.Ref.{now}
+use Rattle.base.specs.Basics.{arith, now, needs}
 use Rattle.book_records.proofs.Users.{managers-past}
 use Rattle.book_records.specs.User.{userOf, asUser}
-use borrow.Author.Needs.{needs}
 use Rattle.book_records.proofs.read_user.Statement.{statement}
 use Rattle.book_records.proofs.read_user.Tie as tie
 

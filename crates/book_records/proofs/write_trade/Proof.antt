@@ -1,10 +1,8 @@
 -- `write_trade` sets the fields of a trade one after the other, which over all of its 20 bytes gives the trade's bytes. Assumes nothing.
-use mathlib.Core.Path.{_≡_, refl, _∙_}
-use denote.Ref.{now}
+use Rattle.base.specs.Basics.{_≡_, refl, _∙_, now, needs}
 use Rattle.fields.specs.Layout.{setFields, size}
 use Rattle.fields.proofs.Pack.{setFields-whole}
 use Rattle.book_records.specs.Trade.{tradeWidths, tradeValues, tradeBytes, asTrade}
-use borrow.Author.Needs.{needs}
 use Rattle.book_records.proofs.write_trade.Statement.{statement}
 use Rattle.book_records.proofs.write_trade.Tie as tie
 

@@ -1,10 +1,8 @@
 -- `write_user` sets the fields of a user one after the other, which over all of its 56 bytes gives the user's bytes. Assumes nothing.
-use mathlib.Core.Path.{_≡_, refl, _∙_}
-use denote.Ref.{now}
+use Rattle.base.specs.Basics.{_≡_, refl, _∙_, now, needs}
 use Rattle.fields.specs.Layout.{setFields, size}
 use Rattle.fields.proofs.Pack.{setFields-whole}
 use Rattle.book_records.specs.User.{amountWidths, amountValues, userWidths, userValues, userBytes, asUser}
-use borrow.Author.Needs.{needs}
 use Rattle.book_records.proofs.write_user.Statement.{statement}
 use Rattle.book_records.proofs.write_user.Tie as tie
 

@@ -1,10 +1,7 @@
 -- `add_trade`: what stands is added to the one sum of the party, the side, the day and the area. Assumes nothing.
-use Prim.Native.Nat.{_<_}
-use mathlib.Core.Path.{refl}
-use native.Mathlib.Omega.{arith}
+use Rattle.base.specs.Basics.{refl, _<_, arith, needs}
 use Rattle.book_records.specs.Trade.{asTrade}
 use Rattle.book_sums.specs.Twelve.{slot, added}
-use borrow.Author.Needs.{needs}
 use Rattle.book_sums.proofs.add_trade.Statement.{statement}
 use Rattle.book_sums.proofs.add_trade.Tie as tie
 

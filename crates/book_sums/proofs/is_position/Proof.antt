@@ -2,7 +2,7 @@
 use Rattle.units.specs.Amounts.{net}
 use Rattle.book_sums.specs.Positions.{positionAs}
 use Rattle.book_sums.proofs.Positions.{eqb-position}
-use borrow.Author.Needs.{needs}
+use Rattle.base.specs.Basics.{needs}
 use Rattle.book_sums.proofs.is_position.Statement.{statement}
 use Rattle.book_sums.proofs.is_position.Tie as tie
 

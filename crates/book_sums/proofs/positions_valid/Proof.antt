@@ -1,13 +1,6 @@
 -- `positions_valid`: the users that are left have the whole answer, until a position is not as the sums have it or none is left. Assumes nothing.
-use Prim.Native.Nat.{_+_, _-_, _*_, _≤_, _<_}
-use mathlib.Core.Path.{_≡_}
-use mathlib.Core.Bool.{Bool}
-use mathlib.Core.List.{List}
-use native.Mathlib.Omega.{arith}
-use borrow.Author.Needs.{needs}
-use borrow.Author.Tests.{not-true, not-false}
-use denote.Ref.{now}
-use lib.ListN.{length, getD, length-take, length-drop}
+use Rattle.base.specs.Basics.{_≡_, Bool, List, _+_, _-_, _*_, _≤_, _<_, arith, length, getD, length-take, length-drop, now, needs, not-true}
+use Rattle.base.specs.Basics.{not-false}
 use Rattle.rules.specs.Book.{Trade, nobody}
 use Rattle.rules.specs.Questions.{positionsValid}
 use Rattle.fields.proofs.Records.{length-recordsOf}

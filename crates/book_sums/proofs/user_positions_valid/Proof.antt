@@ -1,11 +1,8 @@
 -- `user_positions_valid` asks of each area what the sums at its place say. Assumes nothing.
-use mathlib.Core.Path.{_≡_}
-use Prim.Native.Nat.{_+_, _*_}
-use native.Mathlib.Omega.{arith}
+use Rattle.base.specs.Basics.{_≡_, _+_, _*_, arith, needs}
 use Rattle.rules.specs.Book.{at}
 use Rattle.book_records.specs.User.{asAmounts, asUser}
 use Rattle.book_sums.specs.Positions.{positionFrom, positionsFrom}
-use borrow.Author.Needs.{needs}
 use Rattle.book_sums.proofs.user_positions_valid.Statement.{statement}
 use Rattle.book_sums.proofs.user_positions_valid.Tie as tie
 

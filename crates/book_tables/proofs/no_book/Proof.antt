@@ -1,5 +1,5 @@
 -- `no_book` fills both arrays with what `no_record` and `no_trade` give, and every other field with 0. Assumes nothing.
-use borrow.Author.Needs.{needs}
+use Rattle.base.specs.Basics.{needs}
 use Rattle.book_tables.proofs.no_book.Statement.{statement}
 use Rattle.book_tables.proofs.no_book.Tie as tie
 

@@ -1,6 +1,5 @@
 -- `no_record`: the blank user, and managers of 0. Assumes nothing.
-use mathlib.Core.Path.{ap}
-use borrow.Author.Needs.{needs}
+use Rattle.base.specs.Basics.{ap, needs}
 use Rattle.book_records.specs.declared.User.{User}
 use Rattle.book_tables.specs.Record.{blankRecord}
 use Rattle.book_tables.proofs.no_record.Statement.{statement}

@@ -1,7 +1,5 @@
 -- `read_book` reads the counts, then the records where they say these stand, and each other field of the header from its own offset. Assumes nothing.
-use native.Mathlib.Omega.{arith}
-use borrow.Author.Needs.{needs}
-use denote.Ref.{now}
+use Rattle.base.specs.Basics.{arith, now, needs}
 use Rattle.book_format.proofs.Offsets.{trades-there, users-end}
 use Rattle.book_format.proofs.Places.{header-lies}
 use Rattle.book_format.specs.Book.{bookOf}

@@ -1,8 +1,5 @@
 -- `read_managers`: three fields behind the 56 bytes, where the record has them. Assumes nothing.
-use mathlib.Core.Path.{_∙_, sym}
-use native.Mathlib.Omega.{arith}
-use denote.Ref.{now}
-use borrow.Author.Needs.{needs}
+use Rattle.base.specs.Basics.{sym, arith, now}
 use Rattle.book_records.proofs.Users.{managers-past}
 use Rattle.book_records.specs.User.{managersAt}
 use Rattle.book_tables.proofs.Managed.{managed-size, plain-size}

@@ -1,11 +1,5 @@
 -- `read_record`: the user of the first 56 bytes, and the managers. Assumes nothing.
-use mathlib.Core.Path.{sym}
-use Prim.Native.Nat.{_≤_}
-use native.Mathlib.Omega.{arith}
-use denote.Ref.{now}
-use lib.ListN.{length}
-use lib.Seq.{length-take-le}
-use borrow.Author.Needs.{needs}
+use Rattle.base.specs.Basics.{sym, _≤_, arith, length, length-take-le, now, needs}
 use Rattle.book_tables.proofs.Managed.{record-read, size-least}
 use Rattle.book_tables.proofs.read_record.Statement.{statement}
 use Rattle.book_tables.proofs.read_record.Tie as tie

@@ -1,8 +1,5 @@
 -- `read_trades` reads one record more at each turn, from where the last one ended, into an array that is blank past it. Assumes nothing.
-use Prim.Native.Nat.{_-_}
-use native.Mathlib.Omega.{arith}
-use lib.ListN.{length-take, length-drop}
-use borrow.Author.Needs.{needs}
+use Rattle.base.specs.Basics.{_-_, arith, length-take, length-drop, needs}
 use Rattle.book_records.specs.Trade.{tradeOf, asTrade, blankTrade}
 use Rattle.book_tables.proofs.RecordsRead.{Reading, reading-start, reading-turn, reading-end}
 use Rattle.book_tables.proofs.read_trades.Statement.{statement}

@@ -1,10 +1,5 @@
 -- `read_users` reads one record more at each turn, from where the last one ended, into an array that is blank past it. Assumes nothing.
-use Prim.Native.Nat.{_+_, _-_, _≤_}
-use mathlib.Core.Path.{_≡_, _∙_}
-use native.Mathlib.Omega.{arith}
-use lib.ListN.{length}
-use borrow.Author.Needs.{needs}
-use denote.Ref.{now}
+use Rattle.base.specs.Basics.{_≡_, _∙_, _+_, _-_, _≤_, arith, length, now, needs}
 use Rattle.fields.proofs.Sets.{length-part}
 use Rattle.book_format.proofs.Offsets.{size-lies}
 use Rattle.book_records.specs.User.{userOf}

@@ -1,13 +1,6 @@
 -- `write_book` writes header, users and trades one after the other, which over bytes of the book's length gives the book's bytes. Assumes nothing.
-use mathlib.Core.Path.{_≡_, refl, _∙_}
-use Prim.Native.Nat.{_+_, _*_, _≤_}
-use native.Mathlib.Nat.{mul-le-mul}
-use native.Mathlib.Omega.{arith}
-use lib.ListN.{length}
-use lib.Seq.{length-sets}
+use Rattle.base.specs.Basics.{_≡_, refl, _∙_, _+_, _*_, _≤_, mul-le-mul, arith, length, length-sets, now, needs}
 use Rattle.fields.proofs.Pack.{setFields-sets}
-use denote.Ref.{now}
-use borrow.Author.Needs.{needs}
 use Rattle.book_format.proofs.Offsets.{length-by}
 use Rattle.book_tables.proofs.BookWritten.{book-written, managed-is, size-of}
 use Rattle.book_tables.proofs.write_book.Statement.{statement}

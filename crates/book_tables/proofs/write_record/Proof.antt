@@ -1,11 +1,5 @@
 -- `write_record`: the user's 56 bytes, and behind them the managers where there is room for them. Assumes nothing.
-use mathlib.Core.Path.{sym, _∙_}
-use Prim.Native.Nat.{_≤_}
-use lib.ListN.{length}
-use lib.Seq.{length-take-le}
-use native.Mathlib.Omega.{arith}
-use denote.Ref.{now}
-use borrow.Author.Needs.{needs}
+use Rattle.base.specs.Basics.{sym, _∙_, _≤_, arith, length, length-take-le, now, needs}
 use Rattle.fields.proofs.Field.{length-setField}
 use Rattle.fields.specs.Layout.{setFields}
 use Rattle.book_records.specs.User.{managerValues, managerWidths}

@@ -1,8 +1,5 @@
 -- `write_trades` writes one record more at each turn, to where the last one ended. Assumes nothing.
-use Prim.Native.Nat.{_-_}
-use native.Mathlib.Omega.{arith}
-use lib.ListN.{length-take, length-drop}
-use borrow.Author.Needs.{needs}
+use Rattle.base.specs.Basics.{_-_, arith, length-take, length-drop, needs}
 use Rattle.book_records.specs.Trade.{tradeBytes, asTrade}
 use Rattle.book_records.proofs.Trades.{length-tradeBytes}
 use Rattle.book_tables.proofs.RecordsWritten.{Writing, writing-start, writing-turn, writing-end}

@@ -1,10 +1,5 @@
 -- `write_users` writes one record more at each turn, to where the last one ended. Assumes nothing.
-use mathlib.Core.Path.{_≡_, sym, _∙_}
-use Prim.Native.Nat.{_+_, _-_, _≤_}
-use native.Mathlib.Omega.{arith}
-use lib.ListN.{length}
-use borrow.Author.Needs.{needs}
-use lib.Dec.{eqb}
+use Rattle.base.specs.Basics.{_≡_, sym, _∙_, _+_, _-_, _≤_, arith, eqb, length, needs}
 use Rattle.fields.proofs.Sets.{length-part}
 use Rattle.book_format.proofs.Offsets.{size-lies}
 use Rattle.book_records.proofs.Users.{length-recordBytes}

@@ -1,6 +1,5 @@
 -- `ask_fields` hands on the number; the book is read where it is 0, and else blank. Assumes nothing.
-use mathlib.Core.Path.{refl, sym, _∙_}
-use borrow.Author.Needs.{needs}
+use Rattle.base.specs.Basics.{refl, sym, _∙_, needs}
 use Rattle.book_value.proofs.ask_fields.Statement.{statement}
 use Rattle.book_value.proofs.ask_fields.Tie as tie
 

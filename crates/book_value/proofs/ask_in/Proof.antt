@@ -1,11 +1,5 @@
 -- `ask_in` asks the part that it wrote, which is the bytes of the book. Assumes nothing.
-use mathlib.Core.List.{_++_}
-use mathlib.Core.Path.{_≡_, sym, ap, _∙_}
-use native.Mathlib.Omega.{arith}
-use lib.ListN.{length, take, drop, length-take}
-use lib.Seq.{take-at}
-use borrow.Author.Needs.{needs}
-use denote.Ref.{now}
+use Rattle.base.specs.Basics.{_≡_, sym, ap, _∙_, _++_, arith, length, take, drop, length-take, take-at, now, needs}
 use Rattle.book_tables.specs.Book.{asBook}
 use Rattle.book_format.specs.Book.{bytesOf}
 use Rattle.book_questions.specs.Asked.{fieldsNumber}

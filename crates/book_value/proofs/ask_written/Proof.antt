@@ -1,6 +1,5 @@
 -- `ask_written`: the longest book, of 64 users and 256 trades of 68 and 20 bytes behind a header of 40, has 9,512 bytes. Assumes nothing.
-use native.Mathlib.Omega.{arith}
-use borrow.Author.Needs.{needs}
+use Rattle.base.specs.Basics.{arith, needs}
 use Rattle.book_format.proofs.Offsets.{header-range, length-by, size-most}
 use Rattle.book_value.proofs.ask_written.Statement.{statement}
 use Rattle.book_value.proofs.ask_written.Tie as tie

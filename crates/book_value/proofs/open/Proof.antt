@@ -1,9 +1,7 @@
 -- `open` returns the number of the form, or asks the fields of bytes of the right form. Assumes nothing.
-use mathlib.Core.Path.{sym, _∙_}
-use denote.Ref.{now}
+use Rattle.base.specs.Basics.{sym, _∙_, now, needs}
 use Rattle.book_format.proofs.Formed.{formed, form-refused, form-passed}
 use Rattle.book_questions.specs.Asked.{fieldsNumber}
-use borrow.Author.Needs.{needs}
 use Rattle.book_value.proofs.open.Statement.{statement}
 use Rattle.book_value.proofs.open.Tie as tie
 

@@ -1,11 +1,5 @@
 -- `write` asks the version, the counts and the part's length, then the bytes that it would write, and writes only where all are answered by yes. Assumes nothing.
-use mathlib.Core.Bool.{Bool, true, false, _&&_}
-use mathlib.Core.Path.{_≡_, sym, ap, ap₂, _∙_}
-use lib.Dec.{eqb}
-use lib.ListN.{length}
-use borrow.Author.Needs.{needs}
-use borrow.Author.Tests.{eq-eqb, ne-eqb, not-true, not-false}
-use denote.Ref.{now}
+use Rattle.base.specs.Basics.{_≡_, sym, ap, ap₂, _∙_, Bool, true, false, _&&_, eqb, length, now, needs, eq-eqb, ne-eqb, not-true, not-false}
 use Rattle.rules.specs.Questions.{versionKnown}
 use Rattle.book_format.specs.Book.{lengthBy}
 use Rattle.book_tables.specs.Book.{asBook}

@@ -1,6 +1,5 @@
 -- `admit` asks the book, then 26, then the store. Assumes nothing.
-use mathlib.Core.Path.{_∙_, sym}
-use borrow.Author.Needs.{needs}
+use Rattle.base.specs.Basics.{_∙_, sym, needs}
 use Rattle.call_admission.proofs.Asked.{admitted-book, admitted-by}
 use Rattle.call_admission.proofs.admit.Statement.{statement}
 use Rattle.call_admission.proofs.admit.Tie as tie

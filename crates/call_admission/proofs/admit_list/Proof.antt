@@ -1,7 +1,5 @@
 -- `admit_list` asks the book, then 26, then whether the list fits, then the store: each hands on the number before it. Assumes nothing.
-use mathlib.Core.Path.{_∙_, sym}
-use native.Mathlib.Omega.{arith}
-use borrow.Author.Needs.{needs}
+use Rattle.base.specs.Basics.{_∙_, sym, arith, needs}
 use Rattle.requests.proofs.Opened.{first-zero}
 use Rattle.rights.specs.Party.{matterBy}
 use Rattle.call_admission.proofs.admit_list.Statement.{statement}

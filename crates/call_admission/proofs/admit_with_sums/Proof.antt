@@ -1,6 +1,5 @@
 -- `admit_with_sums` asks the book, then 26, then the store: where nothing refuses the book refused nothing, so that places and sums are told. Assumes nothing.
-use mathlib.Core.Path.{_∙_, sym}
-use borrow.Author.Needs.{needs}
+use Rattle.base.specs.Basics.{_∙_, sym, needs}
 use Rattle.book_questions.proofs.Asked.{parties-found}
 use Rattle.call_admission.proofs.Asked.{admitted-book, admitted-by}
 use Rattle.call_admission.proofs.admit_with_sums.Statement.{statement}

@@ -1,5 +1,5 @@
 -- `by_lines` hands on the number of the questions before, or answers 15 where the list does not fit. Assumes nothing.
-use borrow.Author.Tests.{not-false, not-true}
+use Rattle.base.specs.Basics.{not-false, not-true}
 use Rattle.call_admission.proofs.Asked.{fit, stays, unfit}
 use Rattle.call_admission.proofs.by_lines.Statement.{statement}
 use Rattle.call_admission.proofs.by_lines.Tie as tie

@@ -1,5 +1,5 @@
 -- `by_log` asks 19 where no question before it refuses. Assumes nothing.
-use denote.Ref.{now}
+use Rattle.base.specs.Basics.{now}
 use Rattle.book_format.proofs.Passed.{passed}
 use Rattle.call_admission.proofs.Log.{log-asked, log-unasked}
 use Rattle.call_admission.proofs.by_log.Statement.{statement}

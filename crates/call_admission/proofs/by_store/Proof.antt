@@ -1,7 +1,5 @@
 -- `by_store` hands on the number of the questions before; where it is 0 the number and the figures are those of the store on the book's date. Assumes nothing.
-use native.Mathlib.Omega.{arith}
-use denote.Ref.{now}
-use borrow.Author.Needs.{needs}
+use Rattle.base.specs.Basics.{arith, now, needs}
 use Rattle.book_format.proofs.Passed.{passed}
 use Rattle.store.specs.Store.{given}
 use Rattle.call_admission.proofs.Asked.{admitted-by-store, admitted-refused}

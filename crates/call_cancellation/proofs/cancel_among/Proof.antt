@@ -1,7 +1,5 @@
 -- `cancel_among`: 14 where nothing was gathered, 24 where all of it is worth less than the amount, else the set that the search found. Assumes nothing.
-use mathlib.Core.Path.{_∙_, subst, sym}
-use Prim.Native.Nat.{ℕ, _^_, _<_}
-use borrow.Author.Needs.{needs}
+use Rattle.base.specs.Basics.{_∙_, subst, sym, ℕ, _^_, _<_, needs}
 use Rattle.call_cancellation.proofs.Ways.{sales-found, sales-none, sales-short}
 use Rattle.call_cancellation.proofs.cancel_among.Statement.{statement}
 use Rattle.call_cancellation.proofs.cancel_among.Tie as tie

@@ -1,7 +1,5 @@
 -- `cancel_sales`: the counts are those of the book. Assumes nothing.
-use mathlib.Core.Path.{_≡_, refl}
-use borrow.Author.Needs.{needs}
-use denote.Ref.{now}
+use Rattle.base.specs.Basics.{_≡_, refl, now, needs}
 use Rattle.book_format.specs.Book.{tradeCount, userCount}
 use Rattle.call_cancellation.proofs.cancel_sales.Statement.{statement}
 use Rattle.call_cancellation.proofs.cancel_sales.Tie as tie

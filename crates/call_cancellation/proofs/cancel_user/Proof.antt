@@ -1,8 +1,5 @@
 -- `cancel_user` is refused by a question on the user's level, or goes on to the questions 14 and 24 with the user's target. Assumes nothing.
-use mathlib.Core.Path.{_∙_, refl, sym}
-use borrow.Author.Needs.{needs}
-use denote.Ref.{now}
-use lib.ListN.{getD}
+use Rattle.base.specs.Basics.{_∙_, refl, sym, getD, now, needs}
 use Rattle.book_format.specs.Book.{bookOf, usersOf}
 use Rattle.units.specs.Limits.{asLimits}
 use Rattle.rules.specs.Book.{nobody}

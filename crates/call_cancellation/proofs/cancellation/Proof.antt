@@ -1,7 +1,5 @@
 -- `cancellation` is refused by the opening questions, by 25 or by 8, or goes on with the user that the entry found. Assumes nothing.
-use mathlib.Core.Path.{_≡_, refl, _∙_, sym}
-use borrow.Author.Needs.{needs}
-use denote.Ref.{now}
+use Rattle.base.specs.Basics.{_≡_, refl, _∙_, sym, now, needs}
 use Rattle.call_entry.specs.Entered.{Found}
 use Rattle.book_format.proofs.Held.{accepted-of}
 use Rattle.book_format.proofs.Passed.{passed}

@@ -1,9 +1,5 @@
 -- `eligible_at`: the trade is read where its seller is at the place and its buyer is not. Assumes nothing.
-use mathlib.Core.Bool.{Bool, _&&_}
-use mathlib.Core.Path.{_∙_, ap, sym}
-use borrow.Author.Needs.{needs}
-use borrow.Author.Tests.{eq-eqb, ne-eqb}
-use lib.Dec.{ltb}
+use Rattle.base.specs.Basics.{_∙_, ap, sym, Bool, _&&_, ltb, needs, eq-eqb, ne-eqb}
 use Rattle.book_records.specs.Trade.{asTrade}
 use Rattle.rules.specs.Book.{Trade, bilateralForDay}
 use Rattle.call_cancellation.proofs.eligible_at.Statement.{statement}

@@ -1,9 +1,5 @@
 -- `fill_worths`: the worths of the eligible trades among the trades passed are gathered. Assumes nothing.
-use Prim.Native.Nat.{_-_, _≤_}
-use mathlib.Core.Path.{refl}
-use native.Mathlib.Omega.{arith}
-use borrow.Author.Needs.{needs}
-use lib.ListN.{getD}
+use Rattle.base.specs.Basics.{refl, _-_, _≤_, arith, getD, needs}
 use Rattle.cut_sets.proofs.Gathering.{Gathering}
 use Rattle.book_format.specs.Book.{bookOf, usersOf}
 use Rattle.requests.specs.Cancellation.{wholeWorth}

@@ -1,8 +1,5 @@
 -- `marks_of`: from place i on the marks stand; what is left marks the trades before. Assumes nothing.
-use mathlib.Core.Path.{refl}
-use native.Mathlib.Omega.{arith}
-use borrow.Author.Needs.{needs}
-use lib.ListN.{getD}
+use Rattle.base.specs.Basics.{refl, arith, getD, needs}
 use Rattle.cut_sets.proofs.Marking.{Marking}
 use Rattle.book_format.specs.Book.{bookOf, usersOf}
 use Rattle.rules.specs.Book.{nobody}

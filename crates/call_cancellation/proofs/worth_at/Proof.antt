@@ -1,11 +1,5 @@
 -- `worth_at`: what stands of the trade, at the tariff of its area. Assumes nothing.
-use mathlib.Core.Path.{_≡_, _∙_, ap, ap₂}
-use Prim.Native.Nat.{ℕ, _*_, _≤_}
-use native.Mathlib.Nat.{mul-le-mul}
-use native.Mathlib.Omega.{arith}
-use borrow.Author.Needs.{needs}
-use denote.Ref.{now}
-use lib.ListN.{getD}
+use Rattle.base.specs.Basics.{_≡_, _∙_, ap, ap₂, ℕ, _*_, _≤_, mul-le-mul, arith, getD, now, needs}
 use Rattle.book_format.specs.Book.{tradesOf}
 use Rattle.book_records.specs.Trade.{asTrade}
 use Rattle.rules.specs.Areas.{tariff}

@@ -1,13 +1,10 @@
 -- `form` asks for room after the opening questions, and writes the form over the front of the output. Assumes nothing.
-use mathlib.Core.Path.{_≡_, sym}
-use lib.Seq.{length-take-le}
-use denote.Ref.{now}
+use Rattle.base.specs.Basics.{_≡_, sym, length-take-le, now, needs}
 use Rattle.book_format.specs.Questions.{bookNumber}
 use Rattle.outputs.proofs.Ways.{wrote-before}
 use Rattle.book_columns.specs.Form.{formOf}
 use Rattle.book_columns.specs.Calls.{aboutRoom, storedAfter}
 use Rattle.call_columns.proofs.Ways.{book-laid, form-short, form-written}
-use borrow.Author.Needs.{needs}
 use Rattle.call_columns.proofs.form.Statement.{statement}
 use Rattle.call_columns.proofs.form.Tie as tie
 

@@ -1,17 +1,9 @@
 -- `rebuild` rearranges only bytes of the shape of a form, and asks the book that they yield. Assumes nothing.
-use mathlib.Core.Bool.{true}
-use mathlib.Core.Path.{_≡_, sym, _∙_}
-use Prim.Native.Nat.{_≤_}
-use native.Mathlib.Omega.{arith}
-use lib.ListN.{length}
-use lib.Seq.{length-take-le}
-use borrow.Author.Tests.{not-true, not-false}
-use denote.Ref.{now}
+use Rattle.base.specs.Basics.{_≡_, sym, _∙_, true, _≤_, arith, length, length-take-le, now, needs, not-true, not-false}
 use Rattle.base.proofs.Tests.{holds}
 use Rattle.book_columns.specs.Form.{shaped}
 use Rattle.book_columns.proofs.Forms.{shaped-laid}
 use Rattle.call_columns.proofs.Ways.{rebuilt, rebuilt-fits, rebuilt-not, shaped-fits}
-use borrow.Author.Needs.{needs}
 use Rattle.call_columns.proofs.rebuild.Statement.{statement}
 use Rattle.call_columns.proofs.rebuild.Tie as tie
 

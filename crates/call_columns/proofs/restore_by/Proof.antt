@@ -1,15 +1,8 @@
 -- `restore_by` answers 29 where no book is rebuilt, 30 where the output is too short, and else copies the book over the front of the output. Assumes nothing.
-use mathlib.Core.Bool.{true}
-use mathlib.Core.Path.{_≡_, sym, _∙_}
-use native.Mathlib.Omega.{arith}
-use lib.ListN.{length-take}
-use lib.Seq.{length-take-le}
-use borrow.Author.Tests.{not-true, not-false}
-use denote.Ref.{now}
+use Rattle.base.specs.Basics.{_≡_, sym, _∙_, true, arith, length-take, length-take-le, now, needs, not-true, not-false}
 use Rattle.base.proofs.Tests.{holds}
 use Rattle.book_columns.specs.Form.{yields}
 use Rattle.call_columns.proofs.Ways.{restored-not, restored-short, restored-written}
-use borrow.Author.Needs.{needs}
 use Rattle.call_columns.proofs.restore_by.Statement.{statement}
 use Rattle.call_columns.proofs.restore_by.Tie as tie
 

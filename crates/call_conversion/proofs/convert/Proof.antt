@@ -1,10 +1,5 @@
 -- `convert` asks 23, 21 and 22 after the opening questions, and writes the book over the front of the output. Assumes nothing.
-use mathlib.Core.Bool.{true}
-use mathlib.Core.Path.{_≡_, sym, _∙_}
-use native.Mathlib.Omega.{arith}
-use lib.Seq.{length-take-le}
-use borrow.Author.Tests.{not-true, not-false}
-use denote.Ref.{now}
+use Rattle.base.specs.Basics.{_≡_, sym, _∙_, true, arith, length-take-le, now, needs, not-true, not-false}
 use Rattle.base.proofs.Tests.{holds}
 use Rattle.rules.specs.Questions.{versionKnown}
 use Rattle.book_format.specs.Book.{bookOf}
@@ -14,7 +9,6 @@ use Rattle.book_format.proofs.Passed.{passed}
 use Rattle.outputs.proofs.Ways.{wrote-before}
 use Rattle.conversions.specs.Conversion.{aboutConversion, conversionAfter, converted, kept}
 use Rattle.call_conversion.proofs.Ways.{all-written, lost, no-room, unknown}
-use borrow.Author.Needs.{needs}
 use Rattle.call_conversion.proofs.convert.Statement.{statement}
 use Rattle.call_conversion.proofs.convert.Tie as tie
 

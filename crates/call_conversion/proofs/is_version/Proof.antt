@@ -1,6 +1,6 @@
 -- `is_version`: a number of more than two bytes is no version. Assumes nothing.
 use Rattle.call_conversion.proofs.Ways.{unknown-above}
-use borrow.Author.Needs.{needs}
+use Rattle.base.specs.Basics.{needs}
 use Rattle.call_conversion.proofs.is_version.Statement.{statement}
 use Rattle.call_conversion.proofs.is_version.Tie as tie
 

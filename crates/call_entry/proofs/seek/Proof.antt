@@ -5,7 +5,6 @@ use Prim.Native.Nat.{ℕ, zero, suc}
 use native.Mathlib.Omega.{arith}
 use denote.Ref.{now}
 use Rattle.book_format.specs.After.{after}
-use Rattle.book_format.specs.Book.{userCount}
 use Rattle.book_format.specs.Questions.{bookNumber}
 use Rattle.book_format.proofs.Passed.{passed}
 use Rattle.call_entry.proofs.Asked.{entry-known, entry-unknown}

@@ -1,9 +1,5 @@
 -- `call` is refused by the entry, refused for a clearing house, or ends as the questions 11 and 12 leave it. Assumes nothing.
-use mathlib.Core.Path.{_≡_, refl, sym, ap, _∙_}
-use mathlib.Core.List.{List}
-use Prim.Native.Nat.{ℕ}
-use native.Mathlib.Omega.{arith}
-use denote.Ref.{now}
+use Rattle.base.specs.Basics.{_≡_, refl, sym, ap, _∙_, List, ℕ, arith, getD, now, needs}
 use Rattle.rules.specs.Levels.{Limits}
 use Rattle.units.specs.Limits.{asLimits, LimitsInRange}
 use Rattle.book_format.specs.Steps.{InBytes}
@@ -19,9 +15,7 @@ use Rattle.risk_members.proofs.Members.{read-role}
 use Rattle.rules.specs.Areas.{managersIn}
 use Rattle.rules.specs.Book.{User, find, nobody}
 use Rattle.call_guarantee.specs.Raised.{calledAt}
-use lib.ListN.{getD}
 use Rattle.call_guarantee.proofs.Ways.{both-right, call-ends, call-of-house, call-unentered, one-without}
-use borrow.Author.Needs.{needs}
 use Rattle.call_guarantee.proofs.call.Statement.{statement}
 use Rattle.call_guarantee.proofs.call.Tie as tie
 

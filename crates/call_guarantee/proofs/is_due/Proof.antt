@@ -1,11 +1,6 @@
 -- `is_due`: below the margin the answer is no; above it, it is yes in the morning, and in the afternoon that of called in. Assumes nothing.
-use mathlib.Core.Path.{_≡_, sym, ap, subst, _∙_}
-use Prim.Native.Nat.{ℕ, _≤_}
-use native.Mathlib.Omega.{arith}
-use denote.Ref.{now}
-use borrow.Author.Tests.{not-true, not-false}
+use Rattle.base.specs.Basics.{_≡_, sym, ap, subst, _∙_, ℕ, _≤_, arith, getD, now, needs, not-true, not-false}
 use Rattle.rules.specs.Book.{User, nobody}
-use lib.ListN.{getD}
 use Rattle.rules.specs.Levels.{exceedsMargin}
 use Rattle.units.specs.Limits.{asLimits}
 use Rattle.units.specs.Prices.{InRange, asPrices}
@@ -21,7 +16,6 @@ use Rattle.risk_user.proofs.Accepted.{blocked-within, prices-within}
 use Rattle.risk_user.proofs.Held.{called-row}
 use Rattle.call_guarantee.specs.Times.{dueOf}
 use Rattle.call_guarantee.proofs.Ways.{due-within}
-use borrow.Author.Needs.{needs}
 use Rattle.call_guarantee.proofs.is_due.Statement.{statement}
 use Rattle.call_guarantee.proofs.is_due.Tie as tie
 

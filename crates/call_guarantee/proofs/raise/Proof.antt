@@ -1,15 +1,11 @@
 -- `raise` goes out where the questions 11 and 12 refuse; else the record that comes back is stored in its place. Assumes nothing.
-use mathlib.Core.Path.{sym, ap, _∙_}
-use borrow.Author.Tests.{not-true, not-false}
-use denote.Ref.{now}
-use lib.Seq.{sets}
+use Rattle.base.specs.Basics.{sym, ap, _∙_, sets, now, needs, not-true, not-false}
 use Rattle.rules.specs.Calls.{ofLevel}
 use Rattle.book_records.specs.User.{asUser, userBytes}
 use Rattle.book_format.specs.Book.{userAt}
 use Rattle.book_format.specs.Steps.{InBytes}
 use Rattle.rules.specs.Book.{User}
 use Rattle.call_guarantee.proofs.Ways.{raised-undue, raised-short, raised-full}
-use borrow.Author.Needs.{needs}
 use Rattle.call_guarantee.proofs.raise.Statement.{statement}
 use Rattle.call_guarantee.proofs.raise.Tie as tie
 

@@ -1,10 +1,5 @@
 -- `fill_ids`: the ids of the users passed are listed, until none is left. Assumes nothing.
-use mathlib.Core.Path.{_≡_}
-use Prim.Native.Nat.{_+_, _-_, _<_, _≤_}
-use native.Mathlib.Omega.{arith}
-use borrow.Author.Needs.{needs}
-use denote.Ref.{now}
-use lib.ListN.{length}
+use Rattle.base.specs.Basics.{_≡_, _+_, _-_, _<_, _≤_, arith, length, now, needs}
 use Rattle.book_format.proofs.Passed.{passed}
 use Rattle.book_format.proofs.Places.{record-lies, user-lies}
 use Rattle.book_format.specs.Places.{UserIn}

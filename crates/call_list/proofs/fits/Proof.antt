@@ -1,5 +1,5 @@
 -- `fits` is question 15. Assumes nothing.
-use borrow.Author.Needs.{needs}
+use Rattle.base.specs.Basics.{needs}
 use Rattle.call_list.proofs.fits.Statement.{statement}
 use Rattle.call_list.proofs.fits.Tie as tie
 use Rattle.requests.specs.Request.{linesFit}

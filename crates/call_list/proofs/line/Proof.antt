@@ -1,8 +1,5 @@
 -- `line`: no such user is 8, else the posting for the user at the place that was searched. Assumes nothing.
-use mathlib.Core.Path.{sym, _∙_}
-use native.Mathlib.Omega.{arith}
-use borrow.Author.Needs.{needs}
-use borrow.Author.Tests.{ltb-false, not-false, not-true}
+use Rattle.base.specs.Basics.{sym, _∙_, arith, needs, ltb-false, not-false, not-true}
 use Rattle.book_parties.proofs.Guesses.{found-below}
 use mir.Syntax.{w64}
 use mir.ValLaws.{toZ-ofZ}

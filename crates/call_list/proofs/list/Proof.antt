@@ -1,10 +1,6 @@
 -- `list` hands on a number other than 0; else it lists the ids of the book's users and posts the lines. Assumes nothing.
-use mathlib.Core.Path.{refl}
-use native.Mathlib.Omega.{arith}
-use borrow.Author.Needs.{needs}
-use denote.Ref.{now}
+use Rattle.base.specs.Basics.{refl, arith, now, needs}
 use Rattle.book_format.proofs.Passed.{passed}
-use Rattle.book_format.specs.Book.{userCount}
 use Rattle.call_list.proofs.Turns.{listed-posted, listed-refused}
 use Rattle.call_list.proofs.list.Statement.{statement}
 use Rattle.call_list.proofs.list.Tie as tie

@@ -1,11 +1,5 @@
 -- `post_lines`: what is left of the list gives the whole, line by line. Assumes nothing.
-use mathlib.Core.Path.{_≡_}
-use Prim.Native.Nat.{_-_}
-use native.Mathlib.Omega.{arith}
-use borrow.Author.Needs.{needs}
-use denote.Ref.{now}
-use lib.IntN.{pos}
-use lib.ListN.{getD, length}
+use Rattle.base.specs.Basics.{_≡_, _-_, arith, pos, getD, length, now, needs}
 use mir.Syntax.{w64}
 use mir.ValLaws.{toZ-ofZ}
 use Rattle.call_list.proofs.Turns.{Going, going-end, going-more, going-start}

@@ -1,10 +1,5 @@
 -- `run` is refused by an opening question, or runs the book in its bytes, and the log holds the book that it leaves. Assumes nothing.
-use mathlib.Core.Path.{_≡_, refl, _∙_}
-use Prim.Native.Nat.{_≤_}
-use native.Mathlib.Omega.{arith}
-use lib.Dec.{T}
-use borrow.Author.Needs.{needs}
-use denote.Ref.{now}
+use Rattle.base.specs.Basics.{_≡_, refl, _∙_, _≤_, arith, T, now, needs}
 use Rattle.book_format.proofs.Held.{accepted-of}
 use Rattle.book_format.proofs.Places.{header-lies}
 use Rattle.book_format.proofs.Passed.{passed}

@@ -1,10 +1,5 @@
 -- `withdraw_last`: the cuts of the last entry are tallied and given back, the entry is dropped, and the log holds the book. Assumes nothing.
-use mathlib.Core.Path.{_≡_, subst, sym}
-use Prim.Native.Nat.{_≤_}
-use native.Mathlib.Omega.{arith}
-use lib.ListN.{length-take, length-drop}
-use borrow.Author.Needs.{needs}
-use denote.Ref.{now}
+use Rattle.base.specs.Basics.{_≡_, subst, sym, _≤_, arith, length-take, length-drop, now, needs}
 use Rattle.book_format.proofs.Places.{header-lies}
 use Rattle.book_format.specs.Book.{bookOf, tradeCount, tradesAt, userCount}
 use Rattle.fields.specs.Field.{AllBytes}

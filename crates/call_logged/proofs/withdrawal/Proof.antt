@@ -1,10 +1,5 @@
 -- `withdrawal` is refused by an opening question, has no entry to withdraw, or withdraws the last. Assumes nothing.
-use mathlib.Core.Path.{_≡_, sym, _∙_}
-use native.Mathlib.Omega.{arith}
-use Prim.Native.Nat.{_-_}
-use lib.Dec.{T}
-use borrow.Author.Needs.{needs}
-use denote.Ref.{now}
+use Rattle.base.specs.Basics.{_≡_, sym, _∙_, _-_, arith, T, now, needs}
 use Rattle.book_format.proofs.Held.{accepted-of}
 use Rattle.book_format.specs.Questions.{bookNumber}
 use Rattle.log_format.proofs.Read.{FitLog, fits-facts}

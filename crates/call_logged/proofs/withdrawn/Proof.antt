@@ -1,5 +1,5 @@
 -- `withdrawn` has the fields of its answer, and 0 in the others. Assumes nothing.
-use mathlib.Core.Path.{refl}
+use Rattle.base.specs.Basics.{refl}
 use Rattle.rules.specs.Calls.{ofRun}
 use Rattle.call_logged.proofs.withdrawn.Statement.{statement}
 use Rattle.call_logged.proofs.withdrawn.Tie as tie

@@ -1,10 +1,5 @@
 -- `bear`: by the version. Assumes nothing.
-use mathlib.Core.List.{List}
-use mathlib.Core.Path.{_≡_, sym, ap, ap₂, subst, _∙_}
-use Prim.Native.Nat.{ℕ}
-use native.Mathlib.Omega.{arith}
-use borrow.Author.Needs.{needs}
-use denote.Ref.{now}
+use Rattle.base.specs.Basics.{sym, ap, _∙_, arith, now, needs}
 use Rattle.rules.specs.Areas.{managersIn}
 use Rattle.call_parties.proofs.Borne.{plain-copied, plain-sums}
 use Rattle.call_parties.proofs.bear.Statement.{statement}

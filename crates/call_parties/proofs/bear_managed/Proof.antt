@@ -1,8 +1,5 @@
 -- `bear_managed`: the trades, counted for those who bear the risk of their parties. Assumes nothing.
-use mathlib.Core.Path.{refl}
-use native.Mathlib.Omega.{arith}
-use borrow.Author.Needs.{needs}
-use denote.Ref.{now}
+use Rattle.base.specs.Basics.{refl, arith, now, needs}
 use Rattle.risk_bearers.proofs.Bearing.{all-borne, bearing}
 use Rattle.risk_bearers.specs.Bearers.{tradesIn}
 use Rattle.call_parties.proofs.Borne.{managed-in, managed-sums}

@@ -1,10 +1,5 @@
 -- `copy_places`: the places passed are copied. Assumes nothing.
-use mathlib.Core.Path.{refl}
-use Prim.Native.Nat.{_-_}
-use native.Mathlib.Omega.{arith}
-use denote.Ref.{now}
-use lib.ListN.{getD}
-use borrow.Author.Needs.{needs}
+use Rattle.base.specs.Basics.{refl, _-_, arith, getD, now, needs}
 use Rattle.call_parties.proofs.Loops.{FilledTo, copied-all, filled-more}
 use Rattle.call_parties.proofs.copy_places.Statement.{statement}
 use Rattle.call_parties.proofs.copy_places.Tie as tie

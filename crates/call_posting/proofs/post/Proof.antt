@@ -1,11 +1,5 @@
 -- `post` asks the range of the new entry; where it is accepted, entry and position move by the same amount. Assumes nothing.
-use mathlib.Core.Bool.{true, false}
-use mathlib.Core.Path.{_≡_, _∙_, ap, sym}
-use Prim.Native.Nat.{ℕ}
-use native.Mathlib.Omega.{arith}
-use borrow.Author.Needs.{needs}
-use borrow.Author.Tests.{not-false, not-true}
-use lib.IntN.{ℤ, _+ℤ_}
+use Rattle.base.specs.Basics.{_≡_, _∙_, ap, sym, true, false, ℕ, arith, ℤ, _+ℤ_, needs, not-false, not-true}
 use mir.Syntax.{w64}
 use mir.Val.{ofZ, toZ}
 use mir.ValLaws.{toZ-ofZ}

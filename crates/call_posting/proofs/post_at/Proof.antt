@@ -1,11 +1,5 @@
 -- `post_at` leaves by one of three ways: no such area, out of range, or the two fields of the record set. Assumes nothing.
-use mathlib.Core.Path.{_≡_, _∙_, ap, subst⁻¹}
-use Prim.Native.Nat.{ℕ, _*_, _+_, _<_, _≤_}
-use native.Mathlib.Omega.{arith}
-use borrow.Author.Needs.{needs}
-use borrow.Author.Tests.{not-false, not-true}
-use denote.Ref.{now}
-use lib.ListN.{length}
+use Rattle.base.specs.Basics.{_≡_, _∙_, ap, subst⁻¹, ℕ, _*_, _+_, _<_, _≤_, arith, length, now, needs, not-false, not-true}
 use mir.Syntax.{w64}
 use mir.ValLaws.{toZ-ofZ}
 use Rattle.fields.proofs.Field.{length-setField}

@@ -1,8 +1,5 @@
 -- `posting` hands on the number of its entry, or posts to the user at the place that was found. Assumes nothing.
-use mathlib.Core.Path.{subst⁻¹}
-use Prim.Native.Nat.{ℕ}
-use borrow.Author.Needs.{needs}
-use denote.Ref.{now}
+use Rattle.base.specs.Basics.{subst⁻¹, ℕ, now, needs}
 use mir.Syntax.{w64}
 use mir.ValLaws.{toZ-ofZ}
 use Rattle.book_format.proofs.Passed.{passed}

@@ -1,9 +1,5 @@
 -- `shortfall_at`: the state of the user says which question refuses, and its level what is owed where none does. Assumes nothing.
-use mathlib.Core.Path.{_≡_}
-use native.Mathlib.Omega.{arith}
-use borrow.Author.Needs.{needs}
-use denote.Ref.{now}
-use lib.ListN.{getD}
+use Rattle.base.specs.Basics.{_≡_, arith, getD, now, needs}
 use Rattle.book_format.specs.Book.{bookOf, tradeCount, userCount, usersOf}
 use Rattle.book_format.specs.Places.{UserIn}
 use Rattle.units.specs.Limits.{asLimits}

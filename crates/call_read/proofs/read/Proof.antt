@@ -1,6 +1,5 @@
 -- `read` asks and gives a blank book, or for the operator opens the book. Assumes nothing.
-use native.Mathlib.Omega.{arith}
-use borrow.Author.Needs.{needs}
+use Rattle.base.specs.Basics.{arith, needs}
 use Rattle.call_read.proofs.Ways.{read-operator, read-other}
 use Rattle.call_read.proofs.read.Statement.{statement}
 use Rattle.call_read.proofs.read.Tie as tie

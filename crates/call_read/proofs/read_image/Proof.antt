@@ -1,7 +1,5 @@
 -- `read_image` asks and gives an image of 0, or for the operator reads the book. Assumes nothing.
-use native.Mathlib.Omega.{arith}
-use denote.Ref.{now}
-use borrow.Author.Needs.{needs}
+use Rattle.base.specs.Basics.{arith, now, needs}
 use Rattle.call_read.proofs.Ways.{image-operator, image-other}
 use Rattle.call_read.proofs.read_image.Statement.{statement}
 use Rattle.call_read.proofs.read_image.Tie as tie

@@ -1,11 +1,5 @@
 -- `reduce_listed`: the user's part of the lists is cut as in a run, what it loses is taken off in the bytes, and noted in a log that is given. Assumes nothing.
-use mathlib.Core.Bool.{true}
-use mathlib.Core.Path.{_≡_, refl, sym, ap, _∙_}
-use native.Mathlib.Omega.{arith}
-use borrow.Author.Needs.{needs}
-use borrow.Author.Tests.{not-false, not-true}
-use denote.Ref.{now}
-use lib.ListN.{getD}
+use Rattle.base.specs.Basics.{_≡_, refl, sym, ap, _∙_, true, arith, getD, now, needs, not-false, not-true}
 use Rattle.book_format.specs.Book.{bookOf, userCount, usersOf}
 use Rattle.log_format.proofs.Read.{fits-facts}
 use Rattle.log_lent.specs.Lent.{roomIn}

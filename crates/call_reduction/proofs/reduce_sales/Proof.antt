@@ -1,7 +1,5 @@
 -- `reduce_sales`: the lists are those of the book. Assumes nothing.
-use mathlib.Core.Path.{_≡_, refl}
-use borrow.Author.Needs.{needs}
-use denote.Ref.{now}
+use Rattle.base.specs.Basics.{_≡_, refl, now, needs}
 use Rattle.book_format.specs.Book.{tradeCount, userCount}
 use Rattle.call_reduction.proofs.Cuts.{all-listed}
 use Rattle.call_reduction.proofs.reduce_sales.Statement.{statement}

@@ -1,8 +1,5 @@
 -- `reduce_user` is refused by a question on the user's level, or goes on to question 14 with the user's target. Assumes nothing.
-use mathlib.Core.Path.{refl}
-use borrow.Author.Needs.{needs}
-use denote.Ref.{now}
-use lib.ListN.{getD}
+use Rattle.base.specs.Basics.{refl, getD, now, needs}
 use Rattle.book_format.specs.Book.{bookOf, usersOf}
 use Rattle.log_format.specs.Noted.{entryOf}
 use Rattle.units.specs.Limits.{asLimits}

@@ -1,7 +1,5 @@
 -- `reduction` is refused by the entry, or goes on with the user that it found. Assumes nothing.
-use mathlib.Core.Path.{_≡_, refl}
-use borrow.Author.Needs.{needs}
-use denote.Ref.{now}
+use Rattle.base.specs.Basics.{_≡_, refl, now, needs}
 use Rattle.call_entry.specs.Entered.{Found}
 use Rattle.book_format.proofs.Passed.{passed}
 use Rattle.book_format.proofs.Places.{header-lies}

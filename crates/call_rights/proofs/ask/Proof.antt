@@ -1,8 +1,6 @@
 -- `ask`: the book's number, or by the party 0 or 26. Assumes nothing.
-use mathlib.Core.Path.{_∙_, sym}
-use denote.Ref.{now}
+use Rattle.base.specs.Basics.{_∙_, sym, now, needs}
 use Rattle.call_rights.proofs.Ways.{asked-refused, for-another, for-no-shipper, for-operator, for-shipper}
-use borrow.Author.Needs.{needs}
 use Rattle.call_rights.proofs.ask.Statement.{statement}
 use Rattle.call_rights.proofs.ask.Tie as tie
 

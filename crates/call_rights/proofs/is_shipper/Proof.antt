@@ -1,13 +1,9 @@
 -- `is_shipper`: who stands in no place is none; else the user at the place is asked. Assumes nothing.
-use mathlib.Core.List.{List}
-use Prim.Native.Nat.{ℕ}
-use native.Mathlib.Omega.{arith}
-use denote.Ref.{now}
+use Rattle.base.specs.Basics.{List, ℕ, arith, now, needs}
 use Rattle.book_format.proofs.Passed.{passed}
 use Rattle.call_entry.specs.Entered.{Found}
 use Rattle.call_entry.proofs.Calls.{found-user}
 use Rattle.call_rights.proofs.Ways.{at-a-place, in-no-place}
-use borrow.Author.Needs.{needs}
 use Rattle.call_rights.proofs.is_shipper.Statement.{statement}
 use Rattle.call_rights.proofs.is_shipper.Tie as tie
 

@@ -1,14 +1,9 @@
 -- `count` is refused by the entry, or counts the trades. Assumes nothing.
-use mathlib.Core.Bool.{false}
-use mathlib.Core.List.{[]}
-use mathlib.Core.Path.{_∙_, ap}
-use Prim.Native.Nat.{ℕ}
-use denote.Ref.{now}
+use Rattle.base.specs.Basics.{_∙_, ap, false, [], ℕ, now, needs}
 use Rattle.book_format.proofs.Held.{accepted-of}
 use Rattle.rights.specs.Trades.{countOf, idOf, tells, toldNumber}
 use Rattle.call_told.specs.Told.{countTold}
 use Rattle.call_told.proofs.Asked.{found-above, told-found, told-refused}
-use borrow.Author.Needs.{needs}
 use Rattle.call_told.proofs.count.Statement.{statement}
 use Rattle.call_told.proofs.count.Tie as tie
 

@@ -1,5 +1,5 @@
 -- `count_one`: the seller's user, then the buyer's. Assumes nothing.
-use mathlib.Core.Path.{_∙_, sym}
+use Rattle.base.specs.Basics.{_∙_, sym}
 use Rattle.book_records.specs.Trade.{asTrade}
 use Rattle.call_told.specs.Seen.{seesAt}
 use Rattle.call_told.proofs.Stands.{first-stands, none-stands, second-stands}

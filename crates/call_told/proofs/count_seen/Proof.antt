@@ -1,15 +1,11 @@
 -- `count_seen`: what is counted and what is left to look at have the whole count. Assumes nothing.
-use mathlib.Core.Path.{refl}
-use Prim.Native.Nat.{_-_, _<_, _≤_}
-use native.Mathlib.Omega.{arith}
-use denote.Ref.{now}
+use Rattle.base.specs.Basics.{refl, _-_, _<_, _≤_, arith, now, needs}
 use Rattle.laws.proofs.Positions.{buyer-known, seller-known}
 use Rattle.book_format.proofs.Passed.{length-tradesOf}
 use Rattle.book_format.specs.Book.{bookOf, tradeCount, tradesOf, usersOf}
 use Rattle.rules.specs.Book.{noTrade}
 use Rattle.views.specs.Views.{seesTrade, tradesSeen}
 use Rattle.call_told.proofs.Seen.{Counted, area-in, at-most-one, counted-next, none-left, party-in}
-use borrow.Author.Needs.{needs}
 use Rattle.call_told.proofs.count_seen.Statement.{statement}
 use Rattle.call_told.proofs.count_seen.Tie as tie
 

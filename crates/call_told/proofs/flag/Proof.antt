@@ -1,11 +1,6 @@
 -- `flag` is refused by the entry, or tells whether the user at its place is flagged. Assumes nothing.
-use mathlib.Core.Bool.{Bool}
-use mathlib.Core.List.{List, []}
-use mathlib.Core.Path.{_∙_, ap, sym}
-use Prim.Native.Nat.{ℕ}
-use denote.Ref.{now}
-use lib.ListN.{getD}
-use Rattle.rules.specs.Book.{User, nobody}
+use Rattle.base.specs.Basics.{_∙_, ap, sym, Bool, List, [], ℕ, getD, now, needs}
+use Rattle.rules.specs.Book.{nobody}
 use Rattle.rules.specs.Levels.{flagged}
 use Rattle.units.specs.Limits.{asLimits}
 use Rattle.book_format.proofs.OneUser.{find-place}
@@ -14,7 +9,6 @@ use Rattle.call_entry.specs.Entered.{Found}
 use Rattle.rights.specs.Trades.{flagOf, idOf, tells, toldNumber}
 use Rattle.call_told.specs.Told.{flagTold}
 use Rattle.call_told.proofs.Asked.{told-found, told-refused}
-use borrow.Author.Needs.{needs}
 use Rattle.call_told.proofs.flag.Statement.{statement}
 use Rattle.call_told.proofs.flag.Tie as tie
 

@@ -1,10 +1,5 @@
 -- `is_flagged`: the user at the place is asked, by its positions with those of its members. Assumes nothing.
-use mathlib.Core.List.{List}
-use mathlib.Core.Path.{_≡_, _∙_, subst, sym}
-use Prim.Native.Nat.{ℕ}
-use native.Mathlib.Omega.{arith}
-use denote.Ref.{now}
-use lib.ListN.{getD}
+use Rattle.base.specs.Basics.{_∙_, subst, sym, arith, getD, now}
 use Rattle.rules.specs.Book.{nobody}
 use Rattle.units.specs.Limits.{asLimits}
 use Rattle.units.specs.Prices.{InRange}

@@ -1,15 +1,11 @@
 -- `place_seen`: what is left to look at has the place looked for. Assumes nothing.
-use mathlib.Core.Path.{refl}
-use Prim.Native.Nat.{_-_, _<_}
-use native.Mathlib.Omega.{arith}
-use denote.Ref.{now}
+use Rattle.base.specs.Basics.{refl, _-_, _<_, arith, now, needs}
 use Rattle.laws.proofs.Positions.{buyer-known, seller-known}
 use Rattle.book_format.proofs.Passed.{length-tradesOf}
 use Rattle.book_format.specs.Book.{tradeCount, tradesOf, usersOf}
 use Rattle.rules.specs.Book.{noTrade}
 use Rattle.views.specs.Views.{seesTrade}
 use Rattle.call_told.proofs.Seen.{Looked, area-in, looked-found, looked-next, none-left, party-in}
-use borrow.Author.Needs.{needs}
 use Rattle.call_told.proofs.place_seen.Statement.{statement}
 use Rattle.call_told.proofs.place_seen.Tie as tie
 

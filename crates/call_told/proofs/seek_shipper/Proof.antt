@@ -1,9 +1,5 @@
 -- `seek_shipper` is refused by the entry, refused for a clearing house, or has found a shipper. Assumes nothing.
-use mathlib.Core.List.{List}
-use mathlib.Core.Path.{_≡_, _∙_, ap, sym}
-use Prim.Native.Nat.{ℕ}
-use denote.Ref.{now}
-use lib.ListN.{getD}
+use Rattle.base.specs.Basics.{_≡_, _∙_, ap, sym, List, ℕ, getD, now}
 use Rattle.rules.specs.Book.{User, find, nobody}
 use Rattle.book_format.specs.Book.{bookOf, usersOf}
 use Rattle.risk_members.proofs.Members.{read-role}

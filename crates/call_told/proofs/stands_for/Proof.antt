@@ -1,11 +1,5 @@
 -- `stands_for`: by the user's own id, else by its manager in the area, in a version that has managers. Assumes nothing.
-use mathlib.Core.Path.{_≡_, _∙_, ap, sym}
-use Prim.Native.Nat.{_+_, _≤_}
-use native.Mathlib.Omega.{arith}
-use borrow.Author.Needs.{needs}
-use borrow.Author.Tests.{not-false, not-true}
-use denote.Ref.{now}
-use lib.ListN.{length}
+use Rattle.base.specs.Basics.{_≡_, _∙_, ap, sym, _+_, _≤_, arith, length, now, needs, not-false, not-true}
 use Rattle.book_format.proofs.Offsets.{user-managed}
 use Rattle.book_format.proofs.Places.{record-lies}
 use Rattle.book_format.specs.Book.{versionOf}

@@ -1,16 +1,11 @@
 -- `trade` gives the empty part and the number of the entry, or the 20 bytes where the trade of the ordinal stands, or the empty part past the last. Assumes nothing.
-use mathlib.Core.List.{List}
-use mathlib.Core.Path.{_≡_, _∙_, refl}
-use Prim.Native.Nat.{ℕ, _+_, _-_, _≤_, _<_}
-use native.Mathlib.Omega.{arith}
-use denote.Ref.{now}
+use Rattle.base.specs.Basics.{_≡_, _∙_, refl, List, ℕ, _+_, _-_, _≤_, _<_, arith, now, needs}
 use Rattle.book_format.proofs.Held.{accepted-of}
 use Rattle.book_format.proofs.Passed.{passed}
 use Rattle.book_format.specs.Book.{tradeCount}
 use Rattle.book_format.specs.Questions.{Formed}
 use Rattle.call_told.proofs.Asked.{found-above}
 use Rattle.call_told.proofs.Seen.{found-number, found-part, found-start, part-refused, shown-none, shown-trade, starts-at, starts-none}
-use borrow.Author.Needs.{needs}
 use Rattle.call_told.proofs.trade.Statement.{statement}
 use Rattle.call_told.proofs.trade.Tie as tie
 

@@ -1,9 +1,5 @@
 -- `trade_offset`: the trades stand one after the other, to the end of the book. Assumes nothing.
-use Prim.Native.Nat.{_+_, _*_, _≤_, _<_}
-use native.Mathlib.Omega.{arith}
-use lib.ListN.{length}
-use denote.Ref.{now}
-use borrow.Author.Needs.{needs}
+use Rattle.base.specs.Basics.{_+_, _*_, _≤_, _<_, arith, length, now, needs}
 use Rattle.call_told.proofs.trade_offset.Statement.{statement}
 use Rattle.call_told.proofs.trade_offset.Tie as tie
 

@@ -1,7 +1,5 @@
 -- `fill_cut`: with managers the flags are those of the trades' bearers; without them each user bears its own risk. Assumes nothing.
-use mathlib.Core.Path.{_≡_, refl, sym, ap, _∙_}
-use borrow.Author.Needs.{needs}
-use denote.Ref.{now}
+use Rattle.base.specs.Basics.{_≡_, refl, sym, ap, _∙_, now, needs}
 use Rattle.book_format.specs.Book.{versionOf}
 use Rattle.call_parties.proofs.Borne.{plain-in}
 use Rattle.rules.specs.Areas.{managersIn}

@@ -1,8 +1,5 @@
 -- `levels` is refused by the opening questions, or gives the rows of all users. Assumes nothing.
-use mathlib.Core.Path.{_≡_, refl}
-use native.Mathlib.Omega.{arith}
-use borrow.Author.Needs.{needs}
-use denote.Ref.{now}
+use Rattle.base.specs.Basics.{_≡_, refl, arith, now, needs}
 use Rattle.book_format.proofs.Held.{accepted-of}
 use Rattle.book_format.specs.Questions.{bookNumber}
 use Rattle.book_parties.specs.Ids.{BookIn}

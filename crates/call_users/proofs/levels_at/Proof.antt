@@ -1,9 +1,5 @@
 -- `levels_at`: a clearing house has no level; a shipper has both, and its state. Assumes nothing.
-use mathlib.Core.List.{List}
-use mathlib.Core.Path.{_≡_, sym, _∙_}
-use Prim.Native.Nat.{ℕ}
-use denote.Ref.{now}
-use lib.ListN.{getD}
+use Rattle.base.specs.Basics.{_≡_, sym, _∙_, List, ℕ, getD, now}
 use Rattle.book_format.specs.Book.{bookOf, usersOf}
 use Rattle.call_level.specs.Times.{levelOf}
 use Rattle.risk_members.proofs.Members.{read-id, read-role}

@@ -1,5 +1,5 @@
 -- `no_users` has 0 in every field. Assumes nothing.
-use mathlib.Core.Path.{refl}
+use Rattle.base.specs.Basics.{refl}
 use Rattle.user_levels.specs.Levels.{noLevels, noUser}
 use Rattle.call_users.specs.Rows.{asRow}
 use Rattle.call_users.proofs.no_users.Statement.{statement}

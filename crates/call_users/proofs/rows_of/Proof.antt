@@ -1,8 +1,5 @@
 -- `rows_of` fills in the row of one user more at each turn. Assumes nothing.
-use Prim.Native.Nat.{_-_, _<_}
-use native.Mathlib.Omega.{arith}
-use borrow.Author.Needs.{needs}
-use denote.Ref.{now}
+use Rattle.base.specs.Basics.{_-_, _<_, arith, now, needs}
 use Rattle.book_format.specs.Book.{bookOf, userCount}
 use Rattle.units.specs.Limits.{asLimits}
 use Rattle.call_users.proofs.Filled.{Filled, cut-at, filled-end, filled-more, filled-start, users-few, users-many}

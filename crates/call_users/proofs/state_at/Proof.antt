@@ -1,11 +1,5 @@
 -- `state_at`: the user is called in by its positions as its risk is borne, and its state follows from its level. Assumes nothing.
-use mathlib.Core.List.{List}
-use mathlib.Core.Path.{_≡_, sym, ap, subst, _∙_}
-use Prim.Native.Nat.{ℕ}
-use native.Mathlib.Omega.{arith}
-use borrow.Author.Needs.{needs}
-use denote.Ref.{now}
-use lib.ListN.{getD}
+use Rattle.base.specs.Basics.{_≡_, sym, ap, subst, _∙_, List, ℕ, arith, getD, now, needs}
 use Rattle.book_format.proofs.Passed.{length-usersOf, passed}
 use Rattle.book_format.proofs.Places.{header-lies}
 use Rattle.book_format.specs.Book.{bookOf, usersOf}

@@ -1,14 +1,9 @@
 -- `convert` writes header, users and trades one after the other. Assumes nothing.
-use mathlib.Core.Path.{_≡_, _∙_}
-use Prim.Native.Nat.{_+_, _*_}
-use native.Mathlib.Omega.{arith}
-use denote.Ref.{now}
-use lib.ListN.{length}
+use Rattle.base.specs.Basics.{_≡_, _∙_, _+_, _*_, arith, length, now, needs}
 use Rattle.book_format.specs.Book.{tradeCount, userCount}
 use Rattle.book_format.proofs.Offsets.{length-by}
 use Rattle.book_format.proofs.Passed.{passed}
 use Rattle.call_versions.proofs.Whole.{all-converted, book-long}
-use borrow.Author.Needs.{needs}
 use Rattle.call_versions.proofs.convert.Statement.{statement}
 use Rattle.call_versions.proofs.convert.Tie as tie
 

@@ -1,7 +1,6 @@
 -- `copy_rest` lends what stands behind two places. Assumes nothing.
-use denote.Ref.{now}
+use Rattle.base.specs.Basics.{now, needs}
 use Rattle.call_versions.proofs.Whole.{rest-copied}
-use borrow.Author.Needs.{needs}
 use Rattle.call_versions.proofs.copy_rest.Statement.{statement}
 use Rattle.call_versions.proofs.copy_rest.Tie as tie
 

@@ -1,8 +1,6 @@
 -- `keeps` asks for both. Assumes nothing.
-use mathlib.Core.Bool.{Bool, _&&_}
-use mathlib.Core.Path.{ap₂}
+use Rattle.base.specs.Basics.{ap₂, Bool, _&&_, needs}
 use Rattle.conversions.specs.Conversion.{kept}
-use borrow.Author.Needs.{needs}
 use Rattle.call_versions.proofs.keeps.Statement.{statement}
 use Rattle.call_versions.proofs.keeps.Tie as tie
 

@@ -1,5 +1,5 @@
 -- `length_as` takes the counts of the book. Assumes nothing.
-use borrow.Author.Needs.{needs}
+use Rattle.base.specs.Basics.{needs}
 use Rattle.call_versions.proofs.length_as.Statement.{statement}
 use Rattle.call_versions.proofs.length_as.Tie as tie
 

@@ -1,13 +1,9 @@
 -- `managers_kept` looks at the managers only where the book has them and the version has none. Assumes nothing.
-use mathlib.Core.Bool.{true, false}
-use mathlib.Core.Path.{_≡_, sym, ap, _∙_}
-use borrow.Author.Tests.{not-true, not-false}
-use denote.Ref.{now}
+use Rattle.base.specs.Basics.{_≡_, sym, ap, _∙_, true, false, now, needs, not-true, not-false}
 use Rattle.rules.specs.Areas.{managersIn}
 use Rattle.book_format.specs.Book.{versionOf}
 use Rattle.conversions.specs.Conversion.{managersKept}
 use Rattle.call_versions.proofs.Kept.{managers-lie, managers-plain, managers-some}
-use borrow.Author.Needs.{needs}
 use Rattle.call_versions.proofs.managers_kept.Statement.{statement}
 use Rattle.call_versions.proofs.managers_kept.Tie as tie
 

@@ -1,14 +1,9 @@
 -- `tariffs_kept` looks at the selling tariffs only where the book has them and the version has none. Assumes nothing.
-use mathlib.Core.Bool.{true, false}
-use mathlib.Core.Path.{_≡_, sym, ap, _∙_}
-use native.Mathlib.Omega.{arith}
-use borrow.Author.Tests.{not-true, not-false}
-use denote.Ref.{now}
+use Rattle.base.specs.Basics.{_≡_, sym, ap, _∙_, true, false, arith, now, needs, not-true, not-false}
 use Rattle.rules.specs.Areas.{sellingIn}
 use Rattle.book_format.specs.Book.{versionOf}
 use Rattle.conversions.specs.Conversion.{tariffsKept}
 use Rattle.call_versions.proofs.Kept.{selling-lies, tariffs-plain, tariffs-some}
-use borrow.Author.Needs.{needs}
 use Rattle.call_versions.proofs.tariffs_kept.Statement.{statement}
 use Rattle.call_versions.proofs.tariffs_kept.Tie as tie
 

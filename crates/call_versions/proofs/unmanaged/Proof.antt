@@ -1,11 +1,6 @@
 -- `unmanaged`: the users that are left give the answer. Assumes nothing.
-use Prim.Native.Nat.{_+_, _-_, _≤_}
-use native.Mathlib.Omega.{arith}
-use lib.ListN.{length}
-use denote.Ref.{now}
-use borrow.Author.Tests.{not-true, not-false}
+use Rattle.base.specs.Basics.{_+_, _-_, _≤_, arith, length, now, needs, not-true, not-false}
 use Rattle.call_versions.proofs.Kept.{Walk, walk-start, walk-turn, walk-stop, walk-end}
-use borrow.Author.Needs.{needs}
 use Rattle.call_versions.proofs.unmanaged.Statement.{statement}
 use Rattle.call_versions.proofs.unmanaged.Tie as tie
 

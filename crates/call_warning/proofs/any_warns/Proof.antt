@@ -1,11 +1,6 @@
 -- `any_warns`: what is left to look at has the whole answer, until a trade warns or none is left. Assumes nothing.
-use mathlib.Core.Bool.{Bool}
-use mathlib.Core.Path.{_≡_, sym, ap, subst, _∙_}
-use Prim.Native.Nat.{_+_, _-_, _*_, _≤_, _<_}
-use lib.Dec.{T}
-use native.Mathlib.Omega.{arith}
-use denote.Ref.{now}
-use lib.ListN.{drop, length, length-drop, length-take, take}
+use Rattle.base.specs.Basics.{_≡_, sym, ap, subst, _∙_, Bool, _+_, _-_, _*_, _≤_, _<_, arith, T, drop, length, length-drop, length-take, take, now}
+use Rattle.base.specs.Basics.{needs}
 use Rattle.rules.specs.Book.{Trade, noTrade}
 use Rattle.rules.specs.Questions.{tradeValid}
 use Rattle.base.proofs.Fronts.{all-at}
@@ -22,7 +17,6 @@ use Rattle.book_format.proofs.Passed.{length-tradesOf, passed}
 use Rattle.risk_user.proofs.Accepted.{trades-there}
 use Rattle.risk_user.proofs.Walks.{Searching, searching-start, searching-found, searching-turn, searching-end}
 use Rattle.call_warning.specs.Warned.{warnsBuyer}
-use borrow.Author.Needs.{needs}
 use Rattle.call_warning.proofs.any_warns.Statement.{statement}
 use Rattle.call_warning.proofs.any_warns.Tie as tie
 

@@ -1,9 +1,5 @@
 -- `bearer_of`: by the version. Assumes nothing.
-use mathlib.Core.Path.{_≡_, sym, ap, _∙_}
-use native.Mathlib.Omega.{arith}
-use borrow.Author.Needs.{needs}
-use borrow.Author.Tests.{not-true, not-false}
-use denote.Ref.{now}
+use Rattle.base.specs.Basics.{sym, ap, _∙_, arith, now, needs, not-true, not-false}
 use Rattle.book_format.specs.Places.{UserIn}
 use Rattle.book_records.specs.Trade.{asTrade}
 use Rattle.laws.proofs.Settle.{area-lt}

@@ -1,9 +1,5 @@
 -- `is_flagged_shipper`: the user at the place of the id is asked. Assumes nothing.
-use mathlib.Core.List.{List}
-use mathlib.Core.Path.{_≡_, sym, ap, _∙_}
-use native.Mathlib.Omega.{arith}
-use denote.Ref.{now}
-use lib.ListN.{getD}
+use Rattle.base.specs.Basics.{_≡_, sym, ap, _∙_, arith, getD, now}
 use Rattle.rules.specs.Book.{User, find, nobody}
 use Rattle.rules.specs.Levels.{flagged}
 use Rattle.units.specs.Limits.{asLimits}
@@ -12,7 +8,6 @@ use Rattle.call_entry.specs.Entered.{Found}
 use Rattle.call_entry.proofs.Calls.{found-at, found-user}
 use Rattle.risk_members.proofs.Members.{read-blocked, read-role}
 use Rattle.call_warning.proofs.Ways.{blocked-most, flag-at, known-inside, prices-range, shipper-no, shipper-yes}
-use borrow.Author.Needs.{needs}
 use Rattle.call_warning.proofs.is_flagged_shipper.Statement.{statement}
 use Rattle.call_warning.proofs.is_flagged_shipper.Tie as tie
 

@@ -1,9 +1,5 @@
 -- `warning` is refused by the entry, refused for a clearing house, or answered by the flag and then by the trades. Assumes nothing.
-use mathlib.Core.Path.{_≡_, sym, ap, _∙_}
-use mathlib.Core.List.{List}
-use Prim.Native.Nat.{ℕ}
-use denote.Ref.{now}
-use lib.ListN.{getD}
+use Rattle.base.specs.Basics.{_≡_, sym, ap, _∙_, List, ℕ, getD, now}
 use Rattle.base.specs.Lists.{any}
 use Rattle.rules.specs.Book.{User, find, nobody}
 use Rattle.rules.specs.Levels.{Limits, flagged}

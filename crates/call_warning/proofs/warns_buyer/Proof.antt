@@ -1,13 +1,10 @@
 -- `warns_buyer` goes out at the first part of the definition that fails, and else by the seller. Assumes nothing.
-use mathlib.Core.Path.{sym, ap, _∙_}
-use denote.Ref.{now}
-use borrow.Author.Tests.{not-true, not-false}
+use Rattle.base.specs.Basics.{sym, ap, _∙_, now, needs, not-true, not-false}
 use Rattle.book_records.specs.Trade.{asTrade}
 use Rattle.book_format.specs.Book.{bookOf}
 use Rattle.units.specs.Limits.{asLimits}
 use Rattle.call_warning.specs.Warned.{flaggedShipper}
 use Rattle.call_warning.proofs.Ways.{other-buyer, other-kind, nothing-stands, by-seller}
-use borrow.Author.Needs.{needs}
 use Rattle.call_warning.proofs.warns_buyer.Statement.{statement}
 use Rattle.call_warning.proofs.warns_buyer.Tie as tie
 

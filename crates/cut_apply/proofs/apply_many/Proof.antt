@@ -1,7 +1,5 @@
 -- `apply_many`: the fronts of two arrays are as long as there are sales that lose something. Assumes nothing.
-use mathlib.Core.Path.{sym}
-use lib.Seq.{length-take-le}
-use borrow.Author.Needs.{needs}
+use Rattle.base.specs.Basics.{sym, length-take-le, needs}
 use Rattle.cut_apply.proofs.Loop.{lent-room}
 use Rattle.cut_apply.proofs.apply_many.Statement.{statement}
 use Rattle.cut_apply.proofs.apply_many.Tie as tie

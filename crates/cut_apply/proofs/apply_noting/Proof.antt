@@ -1,5 +1,5 @@
 -- `apply_noting`: the parties move, and the noted trades are lowered. Assumes nothing.
-use borrow.Author.Needs.{needs}
+use Rattle.base.specs.Basics.{needs}
 use Rattle.cut_apply.proofs.Loop.{all-cut, noted-places}
 use Rattle.cut_apply.proofs.apply_noting.Statement.{statement}
 use Rattle.cut_apply.proofs.apply_noting.Tie as tie

@@ -1,7 +1,5 @@
 -- `count_losing`: those passed and those left are all. Assumes nothing.
-use Prim.Native.Nat.{_-_}
-use native.Mathlib.Omega.{arith}
-use borrow.Author.Needs.{needs}
+use Rattle.base.specs.Basics.{_-_, arith, needs}
 use Rattle.cut_apply.proofs.Losing.{CountedTo, counted-end, counted-more, counted-start}
 use Rattle.cut_apply.proofs.count_losing.Statement.{statement}
 use Rattle.cut_apply.proofs.count_losing.Tie as tie

@@ -1,10 +1,5 @@
 -- `cut_at`: what is left to look at has the whole answer, until a trade passes the test or none is left. Assumes nothing.
-use mathlib.Core.Path.{_≡_, refl}
-use Prim.Native.Nat.{_-_, _<_, _≤_}
-use borrow.Author.Needs.{needs}
-use lib.ListN.{drop}
-use denote.Ref.{now}
-use native.Mathlib.Omega.{arith}
+use Rattle.base.specs.Basics.{_≡_, refl, _-_, _<_, _≤_, arith, drop, now, needs}
 use Rattle.book_format.specs.Book.{tradeCount, userCount}
 use Rattle.risk_bearers.specs.Bearers.{tradesIn, usersIn}
 use Rattle.book_parties.specs.Ids.{idAt}

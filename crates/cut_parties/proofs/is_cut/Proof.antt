@@ -1,9 +1,5 @@
 -- `is_cut`: the trade is read where one of its parties is at the place. Assumes nothing.
-use mathlib.Core.Path.{ap}
-use lib.Dec.{ltb}
-use borrow.Author.Needs.{needs}
-use denote.Ref.{now}
-use lib.ListN.{getD}
+use Rattle.base.specs.Basics.{ap, ltb, getD, now, needs}
 use Rattle.book_format.specs.Book.{tradesOf}
 use Rattle.book_records.specs.Trade.{asTrade}
 use Rattle.rules.specs.Book.{Trade, noTrade}

@@ -1,9 +1,5 @@
 -- `amount_at`: a sale whose area has no rate is not of the tier. Assumes nothing.
-use mathlib.Core.Path.{sym, _∙_}
-use native.Mathlib.Omega.{arith}
-use borrow.Author.Needs.{needs}
-use denote.Ref.{now}
-use lib.ListN.{getD}
+use Rattle.base.specs.Basics.{sym, _∙_, arith, getD, now, needs}
 use Rattle.cut_worth.specs.Rates.{rateIn}
 use Rattle.cut_shares.proofs.Ones.{counts-in, counts-out}
 use Rattle.cut_peaks.proofs.amount_at.Statement.{statement}

@@ -1,10 +1,5 @@
 -- `choose`: the cuts fit where no share is a whole MWh and the highest sales reach what is asked. Assumes nothing.
-use mathlib.Core.Path.{refl, sym, subst}
-use Prim.Native.Nat.{_≤_}
-use native.Mathlib.Nat.{mul-le-mul}
-use native.Mathlib.Omega.{arith}
-use borrow.Author.Needs.{needs}
-use borrow.Author.Tests.{leb-true}
+use Rattle.base.specs.Basics.{refl, sym, subst, _≤_, mul-le-mul, arith, needs, leb-true}
 use Rattle.cut_worth.specs.Rates.{Rates}
 use Rattle.units.specs.Prices.{asPrices}
 use Rattle.cut_peaks.proofs.Cutting.{sales-behind}

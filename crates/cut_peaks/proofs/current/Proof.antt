@@ -1,5 +1,5 @@
 -- `current`: what serves is of this seller. Assumes nothing.
-use borrow.Author.Needs.{needs}
+use Rattle.base.specs.Basics.{needs}
 use Rattle.cut_peaks.proofs.current.Statement.{statement}
 use Rattle.cut_peaks.proofs.current.Tie as tie
 

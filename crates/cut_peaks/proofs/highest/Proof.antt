@@ -1,7 +1,5 @@
 -- `highest`: no sale passed stands above it. Assumes nothing.
-use Prim.Native.Nat.{_-_, _≤_}
-use native.Mathlib.Omega.{arith}
-use borrow.Author.Needs.{needs}
+use Rattle.base.specs.Basics.{_-_, _≤_, arith, needs}
 use Rattle.cut_peaks.proofs.Cutting.{highest-end, highest-more, highest-start}
 use Rattle.cut_peaks.specs.Peaks.{Highest}
 use Rattle.cut_peaks.proofs.highest.Statement.{statement}

@@ -1,10 +1,5 @@
 -- `keep`: the worth of the tier and the first of its highest sales, tier two where tier one is worth nothing. Assumes nothing.
-use mathlib.Core.Bool.{true, false, not}
-use mathlib.Core.List.{List}
-use mathlib.Core.Path.{refl, sym, ap, subst, _∙_}
-use Prim.Native.Nat.{ℕ}
-use native.Mathlib.Omega.{arith}
-use borrow.Author.Needs.{needs}
+use Rattle.base.specs.Basics.{refl, sym, ap, subst, _∙_, true, false, not, List, ℕ, arith, getD, now, needs}
 use Rattle.cut_tiers.proofs.Weights.{rates-range}
 use Rattle.cut_tiers.specs.Tiers.{shortBy}
 use Rattle.cut_worth.specs.Rates.{Rates, lotsIn}
@@ -12,8 +7,6 @@ use Rattle.laws_sales.specs.Parts.{part}
 use Rattle.rules.specs.Shares.{tierWorth}
 use Rattle.cut_peaks.specs.Keeping.{shortOf}
 use Rattle.cut_peaks.specs.declared.Kept.{Kept}
-use denote.Ref.{now}
-use lib.ListN.{getD}
 use Rattle.units.specs.Prices.{asPrices}
 use Rattle.cut_peaks.proofs.Keeping.{kept-tier, never, peaked-first, rates-first, rates-second, same-short}
 use Rattle.cut_peaks.proofs.keep.Statement.{statement}

@@ -1,7 +1,5 @@
 -- `next_peak`: none of the sales passed stands at the amount. Assumes nothing.
-use Prim.Native.Nat.{_-_}
-use native.Mathlib.Omega.{arith}
-use borrow.Author.Needs.{needs}
+use Rattle.base.specs.Basics.{_-_, arith, needs}
 use Rattle.cut_peaks.proofs.Cutting.{NotYet, next-found, next-more, next-none, next-start}
 use Rattle.cut_peaks.proofs.next_peak.Statement.{statement}
 use Rattle.cut_peaks.proofs.next_peak.Tie as tie

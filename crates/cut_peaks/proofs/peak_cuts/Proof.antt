@@ -1,8 +1,5 @@
 -- `peak_cuts`: each cut is a turn of the tier's shares. Assumes nothing.
-use Prim.Native.Nat.{ℕ, _-_}
-use native.Mathlib.Omega.{arith}
-use denote.Ref.{now}
-use lib.ListN.{getD}
+use Rattle.base.specs.Basics.{ℕ, _-_, arith, getD, now}
 use Rattle.cut_worth.specs.Rates.{Sales}
 use Rattle.cut_peaks.proofs.Cutting.{Cutting, cutting-end, cutting-more, cutting-start, sales-behind}
 use Rattle.cut_peaks.proofs.Sweeping.{Sweeping, sweep-end, sweep-more, sweep-start}

@@ -1,7 +1,5 @@
 -- `rates_kept`: by the tier. Assumes nothing.
-use mathlib.Core.Bool.{not}
-use mathlib.Core.Path.{refl, _∙_}
-use borrow.Author.Needs.{needs}
+use Rattle.base.specs.Basics.{refl, _∙_, not, needs}
 use Rattle.units.specs.Prices.{asPrices}
 use Rattle.cut_peaks.specs.Keeping.{shortOf}
 use Rattle.cut_peaks.proofs.Keeping.{rates-first, rates-second}

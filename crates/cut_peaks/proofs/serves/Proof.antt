@@ -1,6 +1,5 @@
 -- `serves`: what is not refused is of the seller, and its areas are the same. Assumes nothing.
-use borrow.Author.Needs.{needs}
-use borrow.Author.Tests.{not-true}
+use Rattle.base.specs.Basics.{needs, not-true}
 use Rattle.cut_peaks.proofs.Keeping.{never, same-short}
 use Rattle.cut_peaks.proofs.serves.Statement.{statement}
 use Rattle.cut_peaks.proofs.serves.Tie as tie

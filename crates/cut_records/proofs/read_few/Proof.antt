@@ -1,9 +1,5 @@
 -- `read_few`: one trade more is read at each turn. Assumes nothing.
-use mathlib.Core.Path.{refl}
-use Prim.Native.Nat.{_-_}
-use native.Mathlib.Omega.{arith}
-use borrow.Author.Needs.{needs}
-use lib.ListN.{length}
+use Rattle.base.specs.Basics.{refl, _-_, arith, length, needs}
 use Rattle.base.proofs.Rewriting.{Rewritten, rewritten-start}
 use Rattle.book_format.specs.Book.{tradesOf}
 use Rattle.book_records.specs.Trade.{asTrade}

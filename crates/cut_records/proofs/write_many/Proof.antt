@@ -1,8 +1,5 @@
 -- `write_many`: what is left to write gives all. Assumes nothing.
-use Prim.Native.Nat.{_-_}
-use native.Mathlib.Omega.{arith}
-use borrow.Author.Needs.{needs}
-use lib.ListN.{length}
+use Rattle.base.specs.Basics.{_-_, arith, length, needs}
 use Rattle.book_format.proofs.Places.{trade-low}
 use Rattle.cut_records.proofs.Places.{place-of}
 use Rattle.cut_records.proofs.Placed.{PlacedSo, placed-start, placed-next, placed-turn, placed-long, placed-end}

@@ -1,7 +1,5 @@
 -- `first_better`: none of the sets passed is better. Assumes nothing.
-use Prim.Native.Nat.{_-_}
-use native.Mathlib.Omega.{arith}
-use borrow.Author.Needs.{needs}
+use Rattle.base.specs.Basics.{_-_, arith, needs}
 use Rattle.cut_sets.proofs.Counting.{NoneBetter, first-found, first-none, none-first, none-more}
 use Rattle.cut_sets.proofs.first_better.Statement.{statement}
 use Rattle.cut_sets.proofs.first_better.Tie as tie

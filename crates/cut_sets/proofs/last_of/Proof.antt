@@ -1,5 +1,5 @@
 -- `last_of`: by the lowest bit. Assumes nothing.
-use borrow.Author.Tests.{eq-eqb, ne-eqb}
+use Rattle.base.specs.Basics.{eq-eqb, ne-eqb}
 use Rattle.cut_sets.specs.Sets.{lastWorth}
 use Rattle.cut_sets.proofs.last_of.Statement.{statement}
 use Rattle.cut_sets.proofs.last_of.Tie as tie

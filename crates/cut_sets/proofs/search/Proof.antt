@@ -1,10 +1,5 @@
 -- `search`: what is left of the search gives the whole. Assumes nothing.
-use mathlib.Core.Logic.{_⊎_, inl, inr}
-use mathlib.Core.Path.{_≡_, sym, ap, subst, _∙_}
-use Prim.Native.Nat.{ℕ, _+_, _-_, _^_, _/_, _%_, _≤_, _<_}
-use native.Mathlib.Omega.{arith}
-use borrow.Author.Needs.{needs}
-use lib.ListN.{getD, take}
+use Rattle.base.specs.Basics.{_≡_, sym, ap, subst, _∙_, _⊎_, inl, inr, ℕ, _+_, _-_, _^_, _/_, _%_, _≤_, _<_, arith, getD, take, needs}
 use Rattle.cut_sets.specs.Sets.{worthOf}
 use Rattle.cut_sets.specs.Found.{Table}
 use Rattle.cut_sets.specs.Counting.{Counting}

@@ -1,8 +1,5 @@
 -- `sets_of`: 2^16 is 65,536. Assumes nothing.
-use mathlib.Core.Path.{_≡_}
-use Prim.Native.Nat.{ℕ, _*_, _^_, _%_, _≤_, _<_, min}
-use native.Mathlib.Omega.{arith}
-use borrow.Author.Needs.{needs}
+use Rattle.base.specs.Basics.{_≡_, ℕ, _*_, _^_, _%_, _≤_, _<_, min, arith, needs}
 use lib.Pow.{pow-mono}
 use Rattle.cut_sets.proofs.sets_of.Statement.{statement}
 use Rattle.cut_sets.proofs.sets_of.Tie as tie

@@ -1,8 +1,5 @@
 -- `table`: the first j places are filled. Assumes nothing.
-use Prim.Native.Nat.{_-_}
-use native.Mathlib.Omega.{arith}
-use borrow.Author.Needs.{needs}
-use lib.ListN.{take}
+use Rattle.base.specs.Basics.{_-_, arith, take, needs}
 use Rattle.cut_sets.specs.Sets.{worthOf}
 use Rattle.cut_sets.proofs.Tables.{Filling, filling-first, filling-more, filling-end, set-inside, set-low}
 use Rattle.cut_sets.proofs.table.Statement.{statement}

@@ -1,9 +1,5 @@
 -- `through`: from one better set to the next, in whatever search they are. Assumes nothing.
-use mathlib.Core.Logic.{inl, inr}
-use mathlib.Core.Path.{refl}
-use Prim.Native.Nat.{_-_}
-use native.Mathlib.Omega.{arith}
-use borrow.Author.Needs.{needs}
+use Rattle.base.specs.Basics.{refl, inl, inr, _-_, arith, needs}
 use Rattle.cut_sets.proofs.Counting.{Going, going-end, going-first, going-skip, going-take}
 use Rattle.cut_sets.proofs.through.Statement.{statement}
 use Rattle.cut_sets.proofs.through.Tie as tie

@@ -1,8 +1,5 @@
 -- `total`: the sum of the worths passed. Assumes nothing.
-use mathlib.Core.Path.{_≡_, sym, ap, _∙_}
-use Prim.Native.Nat.{ℕ, _+_, _-_, _≤_}
-use native.Mathlib.Omega.{arith}
-use lib.ListN.{take}
+use Rattle.base.specs.Basics.{_≡_, sym, ap, _∙_, ℕ, _+_, _-_, _≤_, arith, take}
 use Rattle.base.specs.Sums.{sum}
 use Rattle.base.proofs.Sums.{sum-take-zero}
 use Rattle.cut_sets.proofs.Given.{sum-next, sum-most}

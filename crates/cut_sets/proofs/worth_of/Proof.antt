@@ -1,9 +1,5 @@
 -- `worth_of`: the sum so far and the worth of what is left of the set give the whole. Assumes nothing.
-use mathlib.Core.Path.{_≡_, ap}
-use Prim.Native.Nat.{_+_, _-_, _^_, _≤_, _<_}
-use native.Mathlib.Omega.{arith}
-use borrow.Author.Needs.{needs}
-use lib.ListN.{take}
+use Rattle.base.specs.Basics.{_≡_, ap, _+_, _-_, _^_, _≤_, _<_, arith, take, needs}
 use Rattle.cut_sets.specs.Sets.{worthOf}
 use Rattle.cut_sets.proofs.Sets.{worth-empty}
 use Rattle.cut_sets.proofs.Given.{bit-step, set-most}

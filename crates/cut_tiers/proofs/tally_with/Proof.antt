@@ -1,7 +1,5 @@
 -- `tally_with`: no cut changes no tally. Assumes nothing.
-use mathlib.Core.Path.{sym, ap, _∙_}
-use native.Mathlib.Omega.{arith}
-use borrow.Author.Needs.{needs}
+use Rattle.base.specs.Basics.{sym, ap, _∙_, arith, needs}
 use Rattle.cut_worth.specs.Tallies.{asTally}
 use Rattle.rules.specs.Areas.{tariff}
 use Rattle.units.specs.Prices.{asPrices}

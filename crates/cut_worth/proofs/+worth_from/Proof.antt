@@ -1,7 +1,5 @@
 -- `worth_from`: the sales that remain are one fewer in each call, and the worth of the rest is added to the first one's. Assumes nothing.
-use native.Mathlib.Omega.{arith}
-use mathlib.Core.Path.{sym}
-use Prim.Native.Nat.{ℕ, _-_, _<_}
+use Rattle.base.specs.Basics.{sym, ℕ, _-_, _<_, arith}
 use borrow.Fn.Kinds.{In}
 use borrow.Fn.PlainCycle.{Measures, is, falls, and}
 use Rattle.cut_worth.proofs.Rates.{worth-none, worth-first, first-worth-le, sales-rest}

@@ -1,6 +1,5 @@
 -- `daybook::cancellation` searches after the opening questions, with the figures of its setting. Assumes nothing.
-use mathlib.Core.Path.{_∙_}
-use borrow.Author.Needs.{needs}
+use Rattle.base.specs.Basics.{_∙_, needs}
 use Rattle.requests.proofs.Cancellation.{cancellation-opened}
 use Rattle.rights.specs.Party.{matterBy}
 use Rattle.daybook.proofs.cancellation.Statement.{statement}

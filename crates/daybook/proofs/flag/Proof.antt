@@ -1,7 +1,5 @@
 -- `daybook::flag` tells the flag after the opening questions, with the figures of its setting. Assumes nothing.
-use mathlib.Core.Path.{_∙_}
-use native.Mathlib.Omega.{arith}
-use borrow.Author.Needs.{needs}
+use Rattle.base.specs.Basics.{_∙_, arith, needs}
 use Rattle.rights.proofs.Replied.{told-by}
 use Rattle.rights.specs.Trades.{flagOf, idOf}
 use Rattle.daybook.proofs.Matters.{of-id}

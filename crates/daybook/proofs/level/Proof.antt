@@ -1,7 +1,5 @@
 -- `daybook::level` gives the level of a time of the day after the opening questions, with the figures of its setting. Assumes nothing.
-use mathlib.Core.Path.{_∙_}
-use native.Mathlib.Omega.{arith}
-use borrow.Author.Needs.{needs}
+use Rattle.base.specs.Basics.{_∙_, arith, needs}
 use Rattle.rights.proofs.Replied.{replied-by}
 use Rattle.daybook.proofs.Matters.{of-level}
 use Rattle.daybook.proofs.level.Statement.{statement}

@@ -1,6 +1,5 @@
 -- `daybook::levels` gives the levels of all users after the opening questions, with the figures of its setting. Assumes nothing.
-use mathlib.Core.Path.{_∙_}
-use borrow.Author.Needs.{needs}
+use Rattle.base.specs.Basics.{_∙_, needs}
 use Rattle.rights.specs.Party.{matterBy}
 use Rattle.user_levels.proofs.Asked.{levels-told}
 use Rattle.daybook.proofs.levels.Statement.{statement}

@@ -1,6 +1,5 @@
 -- `daybook::show` shows the record after the opening questions. Assumes nothing.
-use native.Mathlib.Omega.{arith}
-use borrow.Author.Needs.{needs}
+use Rattle.base.specs.Basics.{arith, needs}
 use Rattle.daybook.proofs.Part.{handed}
 use Rattle.daybook.proofs.Matters.{of-id}
 use Rattle.daybook.proofs.show.Statement.{statement}

@@ -1,5 +1,5 @@
 -- `daybook::show_picked` shows the record of the picked book. Assumes nothing.
-use borrow.Author.Needs.{needs}
+use Rattle.base.specs.Basics.{needs}
 use Rattle.daybook.proofs.show_picked.Statement.{statement}
 use Rattle.daybook.proofs.show_picked.Tie as tie
 

@@ -1,6 +1,5 @@
 -- `daybook::trade` hands back the trade of an ordinal after the opening questions. Assumes nothing.
-use native.Mathlib.Omega.{arith}
-use borrow.Author.Needs.{needs}
+use Rattle.base.specs.Basics.{arith, needs}
 use Rattle.daybook.proofs.Part.{trade-handed}
 use Rattle.daybook.proofs.Matters.{of-id}
 use Rattle.daybook.proofs.trade.Statement.{statement}

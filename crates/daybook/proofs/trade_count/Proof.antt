@@ -1,7 +1,5 @@
 -- `daybook::trade_count` counts the trades that a user may see after the opening questions. Assumes nothing.
-use mathlib.Core.Path.{_∙_}
-use native.Mathlib.Omega.{arith}
-use borrow.Author.Needs.{needs}
+use Rattle.base.specs.Basics.{_∙_, arith, needs}
 use Rattle.rights.proofs.Replied.{told-by}
 use Rattle.rights.specs.Trades.{countOf, idOf}
 use Rattle.units.specs.Limits.{asLimits}

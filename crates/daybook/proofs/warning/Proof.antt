@@ -1,6 +1,5 @@
 -- `daybook::warning` gives the warning after the opening questions, with the figures of its setting. Assumes nothing.
-use mathlib.Core.Path.{_∙_}
-use borrow.Author.Needs.{needs}
+use Rattle.base.specs.Basics.{_∙_, needs}
 use Rattle.rights.proofs.Replied.{replied-by}
 use Rattle.rights.specs.Party.{matterBy, matterOf}
 use Rattle.daybook.proofs.warning.Statement.{statement}

@@ -1,11 +1,9 @@
 -- `daybook_raw_cancellation` stores the marks and the numbers where both lent parts are of their length, and leaves them as they are where one is not. Assumes nothing.
-use mathlib.Core.Path.{ap, _∙_}
-use denote.Ref.{now}
+use Rattle.base.specs.Basics.{ap, _∙_, now, needs}
 use Rattle.requests.specs.Cancellation.{Cancellation}
 use Rattle.exports_cancellation.specs.Numbers.{cancellationNumbers, markNumbers}
 use Rattle.exports.specs.Answers.{isYes}
 use Rattle.exports.proofs.Lent.{first-refused, second-refused, stored-both}
-use borrow.Author.Needs.{needs}
 use Rattle.exports.proofs.daybook_raw_cancellation.Statement.{statement}
 use Rattle.exports.proofs.daybook_raw_cancellation.Tie as tie
 

@@ -1,11 +1,10 @@
 -- `daybook_raw_levels` stores the levels of all users in a part of 256 places, and leaves another part as it is. Assumes nothing.
-use denote.Ref.{now}
+use Rattle.base.specs.Basics.{now, needs}
 use Rattle.call_users.specs.Rows.{levelsTold}
 use Rattle.user_levels.specs.Levels.{AllLevels}
 use Rattle.exports_users.specs.Numbers.{usersNumbers}
 use Rattle.exports.specs.Answers.{isYes}
 use Rattle.exports.proofs.Lent.{refused, replied}
-use borrow.Author.Needs.{needs}
 use Rattle.exports.proofs.daybook_raw_levels.Statement.{statement}
 use Rattle.exports.proofs.daybook_raw_levels.Tie as tie
 

@@ -1,7 +1,6 @@
 -- `daybook_raw_read` leaves an image of another length, and passes one of 9,512 bytes on. Assumes nothing.
-use denote.Ref.{now}
+use Rattle.base.specs.Basics.{now, needs}
 use Rattle.exports.proofs.Lent.{refused, stored}
-use borrow.Author.Needs.{needs}
 use Rattle.exports.proofs.daybook_raw_read.Statement.{statement}
 use Rattle.exports.proofs.daybook_raw_read.Tie as tie
 

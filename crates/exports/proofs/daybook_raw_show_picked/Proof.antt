@@ -1,9 +1,8 @@
 -- `daybook_raw_show_picked` copies the shown part of the picked book to the front of 68 zeros, and leaves a part of another length as it is. Assumes nothing.
-use denote.Ref.{now}
+use Rattle.base.specs.Basics.{now, needs}
 use Rattle.exports.specs.Answers.{isYes}
 use Rattle.exports.proofs.Lent.{refused}
 use Rattle.exports.proofs.Shown.{shown-length, copied}
-use borrow.Author.Needs.{needs}
 use Rattle.exports.proofs.daybook_raw_show_picked.Statement.{statement}
 use Rattle.exports.proofs.daybook_raw_show_picked.Tie as tie
 

@@ -1,8 +1,6 @@
 -- `daybook_raw_shrinkage_days` stores the days of a share in a part of 30 places, and leaves another part as it is. Assumes nothing.
-use mathlib.Core.Path.{refl, _∙_}
-use denote.Ref.{now}
+use Rattle.base.specs.Basics.{refl, _∙_, now, needs}
 use Rattle.exports.proofs.Lent.{refused, stored}
-use borrow.Author.Needs.{needs}
 use Rattle.exports.proofs.daybook_raw_shrinkage_days.Statement.{statement}
 use Rattle.exports.proofs.daybook_raw_shrinkage_days.Tie as tie
 

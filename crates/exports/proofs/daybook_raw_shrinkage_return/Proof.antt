@@ -1,10 +1,8 @@
 -- `daybook_raw_shrinkage_return` stores a return in a part of 131 places, and leaves another part as it is. Assumes nothing.
-use mathlib.Core.Path.{ap, _∙_}
-use denote.Ref.{now}
+use Rattle.base.specs.Basics.{ap, _∙_, now, needs}
 use Rattle.shrinkage.specs.Return.{Returned}
 use Rattle.exports_shrinkage.specs.Numbers.{returnNumbers}
 use Rattle.exports.proofs.Lent.{refused, stored}
-use borrow.Author.Needs.{needs}
 use Rattle.exports.proofs.daybook_raw_shrinkage_return.Statement.{statement}
 use Rattle.exports.proofs.daybook_raw_shrinkage_return.Tie as tie
 

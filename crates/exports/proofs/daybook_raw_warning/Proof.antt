@@ -1,10 +1,9 @@
 -- `daybook_raw_warning` stores whether the user is warned in a part of one place, and leaves another part as it is. Assumes nothing.
-use denote.Ref.{now}
+use Rattle.base.specs.Basics.{now, needs}
 use Rattle.rules.specs.Queries.{Reply}
 use Rattle.exports_answers.specs.Numbers.{warningNumbers}
 use Rattle.exports.specs.Answers.{isYes}
 use Rattle.exports.proofs.Lent.{refused, replied}
-use borrow.Author.Needs.{needs}
 use Rattle.exports.proofs.daybook_raw_warning.Statement.{statement}
 use Rattle.exports.proofs.daybook_raw_warning.Tie as tie
 

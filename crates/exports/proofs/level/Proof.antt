@@ -1,10 +1,9 @@
 -- `level` stores the level of a time of the day in a part of one place, and leaves another part as it is. Assumes nothing.
-use denote.Ref.{now}
+use Rattle.base.specs.Basics.{now, needs}
 use Rattle.rules.specs.Queries.{Reply}
 use Rattle.exports_answers.specs.Numbers.{levelNumbers}
 use Rattle.exports.specs.Answers.{isYes}
 use Rattle.exports.proofs.Lent.{refused, replied}
-use borrow.Author.Needs.{needs}
 use Rattle.exports.proofs.level.Statement.{statement}
 use Rattle.exports.proofs.level.Tie as tie
 

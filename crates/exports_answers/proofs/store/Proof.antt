@@ -1,8 +1,5 @@
 -- `store` stores the numbers from the first up: what is left to store gives the whole. Assumes nothing.
-use mathlib.Core.Path.{refl}
-use Prim.Native.Nat.{_-_}
-use native.Mathlib.Omega.{arith}
-use lib.ListN.{length, getD, length-set}
+use Rattle.base.specs.Basics.{refl, _-_, arith, length, getD, length-set}
 use Rattle.base.proofs.Storing.{Storing, storing-start, storing-next, storing-all}
 use Rattle.exports_answers.proofs.store.Statement.{statement}
 use Rattle.exports_answers.proofs.store.Tie as tie

@@ -1,7 +1,6 @@
 -- `store_call` stores an array of the two numbers. Assumes nothing.
-use mathlib.Core.Path.{refl}
+use Rattle.base.specs.Basics.{refl, needs}
 use Rattle.exports_answers.specs.Numbers.{callNumbers}
-use borrow.Author.Needs.{needs}
 use Rattle.exports_answers.proofs.store_call.Statement.{statement}
 use Rattle.exports_answers.proofs.store_call.Tie as tie
 

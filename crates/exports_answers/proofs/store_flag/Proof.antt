@@ -1,11 +1,8 @@
 -- `store_flag` stores an array of the one number, which the cast makes 1 of yes and 0 of no. Assumes nothing.
-use mathlib.Core.Path.{refl, ap, _∙_}
-use mathlib.Core.List.{[], _∷_}
-use Prim.Native.Nat.{ℕ}
+use Rattle.base.specs.Basics.{refl, ap, _∙_, [], _∷_, ℕ, needs}
 use Rattle.exports_answers.specs.Numbers.{flagNumbers}
 use Rattle.exports_answers.proofs.Bits.{cast-bit}
 use Rattle.call_told.specs.Told.{flagTold}
-use borrow.Author.Needs.{needs}
 use Rattle.exports_answers.proofs.store_flag.Statement.{statement}
 use Rattle.exports_answers.proofs.store_flag.Tie as tie
 

@@ -1,7 +1,6 @@
 -- `store_level` stores an array of the one number. Assumes nothing.
-use mathlib.Core.Path.{refl}
+use Rattle.base.specs.Basics.{refl, needs}
 use Rattle.exports_answers.specs.Numbers.{levelNumbers}
-use borrow.Author.Needs.{needs}
 use Rattle.exports_answers.proofs.store_level.Statement.{statement}
 use Rattle.exports_answers.proofs.store_level.Tie as tie
 

@@ -1,7 +1,6 @@
 -- `store_reduction` stores an array of the five numbers. Assumes nothing.
-use mathlib.Core.Path.{refl}
+use Rattle.base.specs.Basics.{refl, needs}
 use Rattle.exports_answers.specs.Numbers.{reductionNumbers}
-use borrow.Author.Needs.{needs}
 use Rattle.exports_answers.proofs.store_reduction.Statement.{statement}
 use Rattle.exports_answers.proofs.store_reduction.Tie as tie
 

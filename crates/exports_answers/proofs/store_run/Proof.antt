@@ -1,7 +1,6 @@
 -- `store_run` stores an array of the three numbers. Assumes nothing.
-use mathlib.Core.Path.{refl}
+use Rattle.base.specs.Basics.{refl, needs}
 use Rattle.exports_answers.specs.Numbers.{runNumbers}
-use borrow.Author.Needs.{needs}
 use Rattle.exports_answers.proofs.store_run.Statement.{statement}
 use Rattle.exports_answers.proofs.store_run.Tie as tie
 

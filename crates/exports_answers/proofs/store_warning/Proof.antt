@@ -1,10 +1,7 @@
 -- `store_warning` stores an array of the one number, which the cast makes 1 of yes and 0 of no. Assumes nothing.
-use mathlib.Core.Path.{refl, ap, _∙_}
-use mathlib.Core.List.{[], _∷_}
-use Prim.Native.Nat.{ℕ}
+use Rattle.base.specs.Basics.{refl, ap, _∙_, [], _∷_, ℕ, needs}
 use Rattle.exports_answers.specs.Numbers.{warningNumbers}
 use Rattle.exports_answers.proofs.Bits.{cast-bit}
-use borrow.Author.Needs.{needs}
 use Rattle.exports_answers.proofs.store_warning.Statement.{statement}
 use Rattle.exports_answers.proofs.store_warning.Tie as tie
 

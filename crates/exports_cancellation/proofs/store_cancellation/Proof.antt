@@ -1,8 +1,5 @@
 -- `store_cancellation` stores the marks, then an array of the three numbers. Assumes nothing.
-use mathlib.Core.List.{[], _∷_}
-use mathlib.Core.Path.{refl, ap, _∙_}
-use Prim.Native.Nat.{ℕ}
-use borrow.Author.Needs.{needs}
+use Rattle.base.specs.Basics.{refl, ap, _∙_, [], _∷_, ℕ, needs}
 use Rattle.exports_cancellation.specs.Numbers.{cancellationNumbers, markNumbers}
 use Rattle.exports_cancellation.proofs.Bits.{byte-bit}
 use Rattle.exports_cancellation.proofs.store_cancellation.Statement.{statement}

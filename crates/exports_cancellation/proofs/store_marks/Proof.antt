@@ -1,11 +1,5 @@
 -- `store_marks` stores the marks from the first up: what is left to store gives the whole. Assumes nothing.
-use mathlib.Core.Bool.{false}
-use mathlib.Core.List.{map}
-use mathlib.Core.Path.{sym, _∙_}
-use Prim.Native.Nat.{_-_}
-use native.Mathlib.Omega.{arith}
-use borrow.Author.Needs.{needs}
-use lib.ListN.{getD, length-map, List·getD-map}
+use Rattle.base.specs.Basics.{sym, _∙_, false, map, _-_, arith, getD, length-map, List·getD-map, needs}
 use Rattle.base.proofs.Storing.{Storing, storing-start, storing-next, storing-all}
 use Rattle.exports_answers.specs.Numbers.{bit}
 use Rattle.exports_cancellation.proofs.Bits.{byte-bit}

@@ -1,8 +1,5 @@
 -- `store_days` stores the days from the first up: what is left to store gives the whole. Assumes nothing.
-use Prim.Native.Nat.{_-_}
-use native.Mathlib.Omega.{arith}
-use mathlib.Core.Path.{sym}
-use lib.ListN.{length-map, List·getD-map}
+use Rattle.base.specs.Basics.{sym, _-_, arith, length-map, List·getD-map}
 use Rattle.shrinkage.specs.Answer.{kwhOf}
 use Rattle.base.proofs.Storing.{Storing, storing-start, storing-next, storing-all}
 use Rattle.exports_shrinkage.proofs.store_days.Statement.{statement}

@@ -1,6 +1,5 @@
 -- `store_return` stores the table of the return. Assumes nothing.
-use mathlib.Core.Path.{refl, _∙_}
-use borrow.Author.Needs.{needs}
+use Rattle.base.specs.Basics.{refl, _∙_, needs}
 use Rattle.exports_shrinkage.specs.Numbers.{returnNumbers}
 use Rattle.exports_shrinkage.proofs.store_return.Statement.{statement}
 use Rattle.exports_shrinkage.proofs.store_return.Tie as tie

@@ -1,7 +1,5 @@
 -- `table` fills in one user more at each turn, after the three amounts. Assumes nothing.
-use Prim.Native.Nat.{_-_}
-use native.Mathlib.Omega.{arith}
-use lib.ListN.{getD}
+use Rattle.base.specs.Basics.{_-_, arith, getD}
 use Rattle.exports_shrinkage.proofs.Tables.{Filling, filling-start, filling-more, filling-end}
 use Rattle.exports_shrinkage.proofs.table.Statement.{statement}
 use Rattle.exports_shrinkage.proofs.table.Tie as tie

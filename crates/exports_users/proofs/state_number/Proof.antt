@@ -1,5 +1,5 @@
 -- `state_number`: each state has its number. Assumes nothing.
-use borrow.Author.Needs.{needs}
+use Rattle.base.specs.Basics.{needs}
 use Rattle.exports_users.specs.Numbers.{stateNumber}
 use Rattle.exports_users.proofs.state_number.Statement.{statement}
 use Rattle.exports_users.proofs.state_number.Tie as tie

@@ -1,6 +1,5 @@
 -- `store_levels` stores the rows of all users. Assumes nothing.
-use mathlib.Core.Path.{refl}
-use borrow.Author.Needs.{needs}
+use Rattle.base.specs.Basics.{refl, needs}
 use Rattle.call_users.specs.Rows.{levelsTold}
 use Rattle.exports_users.specs.Numbers.{usersNumbers}
 use Rattle.exports_users.proofs.store_levels.Statement.{statement}

@@ -1,9 +1,5 @@
 -- `store_row` stores four numbers, one after the other. Assumes nothing.
-use mathlib.Core.Path.{_≡_, _∙_}
-use Prim.Native.Nat.{_+_}
-use native.Mathlib.Omega.{arith}
-use borrow.Author.Needs.{needs}
-use lib.ListN.{length, length-set, set}
+use Rattle.base.specs.Basics.{_≡_, _∙_, _+_, arith, length, length-set, set, needs}
 use Rattle.call_users.specs.Rows.{asRow}
 use Rattle.exports_users.specs.Numbers.{rowNumbers}
 use Rattle.exports_users.proofs.Rows.{four-stored}

@@ -1,7 +1,5 @@
 -- `store_rows` stores the numbers of one user more at each turn. Assumes nothing.
-use Prim.Native.Nat.{_-_}
-use native.Mathlib.Omega.{arith}
-use borrow.Author.Needs.{needs}
+use Rattle.base.specs.Basics.{_-_, arith, needs}
 use Rattle.exports_users.proofs.Rows.{RowsStored, stored-all, stored-next, stored-start}
 use Rattle.exports_users.proofs.store_rows.Statement.{statement}
 use Rattle.exports_users.proofs.store_rows.Tie as tie

@@ -1,7 +1,5 @@
 -- `left_of`: past the cuts the cut that is read is 0. Assumes nothing.
-use native.Mathlib.Omega.{arith}
-use lib.ListN.{List·getD-eq-default}
-use borrow.Author.Needs.{needs}
+use Rattle.base.specs.Basics.{arith, List·getD-eq-default, needs}
 use Rattle.lent_trades.proofs.left_of.Statement.{statement}
 use Rattle.lent_trades.proofs.left_of.Tie as tie
 

@@ -1,9 +1,5 @@
 -- `clear`: the bytes passed are 0. Assumes nothing.
-use mathlib.Core.Path.{refl}
-use Prim.Native.Nat.{_-_}
-use native.Mathlib.Omega.{arith}
-use lib.ListN.{length, length-set}
-use borrow.Author.Needs.{needs}
+use Rattle.base.specs.Basics.{refl, _-_, arith, length, length-set, needs}
 use Rattle.log_bytes.proofs.Walks.{FilledTo, filled-start, filled-next, filled-end}
 use Rattle.log_bytes.proofs.clear.Statement.{statement}
 use Rattle.log_bytes.proofs.clear.Tie as tie

@@ -1,7 +1,5 @@
 -- `is_zero`: the answer so far, with that of the bytes left, is the whole one. Assumes nothing.
-use Prim.Native.Nat.{_-_}
-use lib.ListN.{length, drop}
-use borrow.Author.Needs.{needs}
+use Rattle.base.specs.Basics.{_-_, length, drop, needs}
 use Rattle.log_bytes.proofs.Walks.{Answering, answering-start, answering-next, answering-end, zeros-next, zeros-end}
 use Rattle.log_format.specs.Fits.{zeros}
 use Rattle.log_bytes.proofs.is_zero.Statement.{statement}

@@ -1,8 +1,5 @@
 -- `same`: the answer so far, with that of the bytes left, is the whole one. Assumes nothing.
-use native.Mathlib.Omega.{arith}
-use Prim.Native.Nat.{_-_}
-use lib.ListN.{length, drop}
-use borrow.Author.Needs.{needs}
+use Rattle.base.specs.Basics.{_-_, arith, length, drop, needs}
 use Rattle.log_bytes.proofs.Walks.{Answering, answering-start, answering-next, answering-end, same-next, same-end}
 use Rattle.log_format.specs.Fits.{sameBytes}
 use Rattle.log_bytes.proofs.same.Statement.{statement}

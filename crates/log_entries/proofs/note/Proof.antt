@@ -1,7 +1,5 @@
 -- `note` lends the entry at the place. Assumes nothing.
-use native.Mathlib.Omega.{arith}
-use denote.Ref.{now}
-use borrow.Author.Needs.{needs}
+use Rattle.base.specs.Basics.{arith, now, needs}
 use Rattle.log_entries.proofs.Entries.{noted-at}
 use Rattle.log_entries.proofs.note.Statement.{statement}
 use Rattle.log_entries.proofs.note.Tie as tie

@@ -1,7 +1,5 @@
 -- `put_cuts`: the cuts that are left, written, give the whole entry. Assumes nothing.
-use native.Mathlib.Omega.{arith}
-use Prim.Native.Nat.{_-_}
-use borrow.Author.Needs.{needs}
+use Rattle.base.specs.Basics.{_-_, arith, needs}
 use Rattle.log_entries.proofs.Cuts.{PutTo, put-start, put-next, put-end}
 use Rattle.log_entries.proofs.put_cuts.Statement.{statement}
 use Rattle.log_entries.proofs.put_cuts.Tie as tie

@@ -1,8 +1,6 @@
 -- `put_head` sets the four fields one after the other. Assumes nothing.
-use mathlib.Core.Path.{ap, _∙_}
-use denote.Ref.{now}
+use Rattle.base.specs.Basics.{ap, _∙_, now, needs}
 use Rattle.fields.specs.Field.{setField}
-use borrow.Author.Needs.{needs}
 use Rattle.log_entries.proofs.Parts.{head-put}
 use Rattle.log_entries.proofs.put_head.Statement.{statement}
 use Rattle.log_entries.proofs.put_head.Tie as tie

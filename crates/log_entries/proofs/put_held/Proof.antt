@@ -1,10 +1,5 @@
 -- `put_held` copies the book to the front of the part and clears what is behind it. Assumes nothing.
-use mathlib.Core.Path.{sym}
-use native.Mathlib.Omega.{arith}
-use denote.Ref.{now}
-use lib.ListN.{length-take}
-use lib.Seq.{length-take-le}
-use borrow.Author.Needs.{needs}
+use Rattle.base.specs.Basics.{sym, arith, length-take, length-take-le, now, needs}
 use Rattle.log_entries.proofs.Parts.{front-filled}
 use Rattle.log_entries.proofs.put_held.Statement.{statement}
 use Rattle.log_entries.proofs.put_held.Tie as tie

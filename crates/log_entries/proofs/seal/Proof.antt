@@ -1,9 +1,5 @@
 -- `seal` writes the first bytes, and then the book behind them. Assumes nothing.
-use mathlib.Core.Path.{sym}
-use native.Mathlib.Omega.{arith}
-use denote.Ref.{now}
-use lib.Seq.{length-take-le}
-use borrow.Author.Needs.{needs}
+use Rattle.base.specs.Basics.{sym, arith, length-take-le, now, needs}
 use Rattle.log_entries.proofs.Parts.{sealed-parts}
 use Rattle.log_entries.proofs.seal.Statement.{statement}
 use Rattle.log_entries.proofs.seal.Tie as tie

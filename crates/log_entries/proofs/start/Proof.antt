@@ -1,8 +1,5 @@
 -- `start` writes a log that holds the book, and makes all entries 0. Assumes nothing.
-use mathlib.Core.Path.{ap, _∙_}
-use Prim.Native.Nat.{_*_}
-use denote.Ref.{now}
-use borrow.Author.Needs.{needs}
+use Rattle.base.specs.Basics.{ap, _∙_, _*_, now, needs}
 use Rattle.log_entries.proofs.Parts.{start-long, start-full, start-done}
 use Rattle.log_entries.specs.Entries.{cleared}
 use Rattle.log_entries.proofs.start.Statement.{statement}

@@ -1,9 +1,5 @@
 -- `empty` leaves a log that is not given, or whose call was refused; else its entries are made 0, and it holds the book. Assumes nothing.
-use mathlib.Core.Path.{_≡_}
-use native.Mathlib.Omega.{arith}
-use borrow.Author.Needs.{needs}
-use borrow.Author.Tests.{not-false, not-true}
-use denote.Ref.{now}
+use Rattle.base.specs.Basics.{_≡_, arith, now, needs, not-false, not-true}
 use Rattle.log_format.proofs.Read.{FitLog, fits-facts}
 use Rattle.log_format.specs.Log.{entryCount}
 use Rattle.log_lent.proofs.Ways.{emptied, stays-not-lent, stays-refused}

@@ -1,8 +1,5 @@
 -- `has_room` compares the count of a log that is given. Assumes nothing.
-use mathlib.Core.Path.{_≡_}
-use native.Mathlib.Omega.{arith}
-use borrow.Author.Tests.{not-false, not-true}
-use denote.Ref.{now}
+use Rattle.base.specs.Basics.{_≡_, arith, now, not-false, not-true}
 use Rattle.log_format.specs.Log.{entryCount}
 use Rattle.log_lent.proofs.Ways.{room-lent, room-not-lent}
 use Rattle.log_lent.proofs.has_room.Statement.{statement}

@@ -1,8 +1,5 @@
 -- `number` asks question 19 only of a log that is given. Assumes nothing.
-use mathlib.Core.Path.{sym, _∙_}
-use borrow.Author.Needs.{needs}
-use borrow.Author.Tests.{not-false, not-true}
-use denote.Ref.{now}
+use Rattle.base.specs.Basics.{sym, _∙_, now, needs, not-false, not-true}
 use Rattle.log_lent.proofs.Ways.{log-fits, log-unfit, not-lent}
 use Rattle.log_lent.proofs.number.Statement.{statement}
 use Rattle.log_lent.proofs.number.Tie as tie

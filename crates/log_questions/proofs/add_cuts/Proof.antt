@@ -1,7 +1,5 @@
 -- `add_cuts`: the sums passed have the entry's cuts added. Assumes nothing.
-use native.Mathlib.Omega.{arith}
-use Prim.Native.Nat.{_-_}
-use borrow.Author.Needs.{needs}
+use Rattle.base.specs.Basics.{_-_, arith, needs}
 use Rattle.log_questions.proofs.Cuts.{AddedTo, added-start, added-next, added-end, added-most, added-fits}
 use Rattle.log_questions.proofs.add_cuts.Statement.{statement}
 use Rattle.log_questions.proofs.add_cuts.Tie as tie

@@ -1,11 +1,5 @@
 -- `are_within`: the answer so far, with that of the trades left, is the whole one. Assumes nothing.
-use mathlib.Core.Bool.{Bool, _&&_}
-use mathlib.Core.Path.{_≡_, sym, ap, ap₂, _∙_}
-use native.Mathlib.Omega.{arith}
-use Prim.Native.Nat.{_+_, _-_}
-use lib.ListN.{drop, take, getD}
-use lib.Seq.{getD-take, length-take-le}
-use borrow.Author.Needs.{needs}
+use Rattle.base.specs.Basics.{_≡_, sym, ap, ap₂, _∙_, Bool, _&&_, _+_, _-_, arith, drop, take, getD, getD-take, length-take-le, needs}
 use Rattle.book_format.proofs.Passed.{length-tradesOf}
 use Rattle.book_format.specs.Book.{tradesOf}
 use Rattle.log_bytes.proofs.Walks.{Answering, answering-start, answering-next, answering-end}

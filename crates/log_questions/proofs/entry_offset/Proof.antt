@@ -1,6 +1,5 @@
 -- `entry_offset`: the entries stand one after the other behind the held book. Assumes nothing.
-use mathlib.Core.Path.{refl}
-use borrow.Author.Needs.{needs}
+use Rattle.base.specs.Basics.{refl, needs}
 use Rattle.log_format.specs.Log.{entryAt}
 use Rattle.log_questions.proofs.entry_offset.Statement.{statement}
 use Rattle.log_questions.proofs.entry_offset.Tie as tie

@@ -1,8 +1,5 @@
 -- `fits` asks part after part, and the next only where the last is as it should be. Assumes nothing.
-use mathlib.Core.Path.{refl, sym, _∙_}
-use borrow.Author.Needs.{needs}
-use borrow.Author.Tests.{not-true, not-false}
-use denote.Ref.{now}
+use Rattle.base.specs.Basics.{refl, sym, _∙_, now, needs, not-true, not-false}
 use Rattle.log_format.specs.Fits.{logFits}
 use Rattle.log_questions.proofs.Form.{formed-facts}
 use Rattle.log_questions.specs.Form.{LogFormed}

@@ -1,8 +1,5 @@
 -- `holds_book` compares the bytes only where the lengths are the same. Assumes nothing.
-use mathlib.Core.Path.{_∙_}
-use native.Mathlib.Omega.{arith}
-use borrow.Author.Needs.{needs}
-use borrow.Author.Tests.{ne-eqb}
+use Rattle.base.specs.Basics.{_∙_, arith, needs, ne-eqb}
 use Rattle.log_format.specs.Log.{heldLength}
 use Rattle.log_format.specs.Fits.{holdsBook}
 use Rattle.log_questions.proofs.Form.{held-same}

@@ -1,6 +1,5 @@
 -- `is_formed` looks at the first 12 bytes only where the length is a log's. Assumes nothing.
-use borrow.Author.Needs.{needs}
-use borrow.Author.Tests.{ne-eqb, eq-eqb}
+use Rattle.base.specs.Basics.{needs, ne-eqb, eq-eqb}
 use Rattle.log_format.specs.Log.{entryCount, heldLength, logMark, logMarkOf, logZero}
 use Rattle.log_format.specs.Fits.{logFormed}
 use Rattle.log_questions.proofs.is_formed.Statement.{statement}

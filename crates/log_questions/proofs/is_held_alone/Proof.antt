@@ -1,7 +1,5 @@
 -- `is_held_alone` asks the bytes from the end of the held book to the entries. Assumes nothing.
-use mathlib.Core.Path.{ap, _∙_}
-use native.Mathlib.Omega.{arith}
-use borrow.Author.Needs.{needs}
+use Rattle.base.specs.Basics.{ap, _∙_, arith, needs}
 use Rattle.log_format.specs.Fits.{zeros}
 use Rattle.log_format.specs.Log.{heldLength}
 use Rattle.log_questions.proofs.Form.{held-rest}

@@ -1,8 +1,5 @@
 -- `is_used_as_told` joins what is asked of the unused bytes with what is asked of the cuts. Assumes nothing.
-use mathlib.Core.Path.{_≡_}
-use native.Mathlib.Omega.{arith}
-use borrow.Author.Needs.{needs}
-use denote.Ref.{now}
+use Rattle.base.specs.Basics.{_≡_, arith, now, needs}
 use Rattle.log_format.specs.Log.{entryCount}
 use Rattle.log_questions.proofs.Entries.{used-as-told}
 use Rattle.log_questions.proofs.is_used_as_told.Statement.{statement}

@@ -1,5 +1,5 @@
 -- `is_within` joins the comparison with the kind of the trade. Assumes nothing.
-use borrow.Author.Needs.{needs}
+use Rattle.base.specs.Basics.{needs}
 use Rattle.book_records.specs.Trade.{asTrade}
 use Rattle.log_format.specs.Fits.{raiseWithin}
 use Rattle.log_questions.proofs.is_within.Statement.{statement}

@@ -1,8 +1,5 @@
 -- `sum_entries`: the entries passed are summed, and the answer so far is theirs. Assumes nothing.
-use mathlib.Core.Path.{ap, _∙_}
-use native.Mathlib.Omega.{arith}
-use Prim.Native.Nat.{_-_, _≤_}
-use borrow.Author.Needs.{needs}
+use Rattle.base.specs.Basics.{ap, _∙_, _-_, _≤_, arith, needs}
 use Rattle.log_questions.proofs.Form.{cuts-rest}
 use Rattle.log_questions.proofs.Entries.{SummedTo, summed-start, summed-next, summed-end}
 use Rattle.log_format.specs.Fits.{zeros}

@@ -1,10 +1,5 @@
 -- `give_back`: the trades passed have risen, and what is left to settle gives the whole. Assumes nothing.
-use mathlib.Core.Path.{_≡_, sym, ap, _∙_, refl}
-use Prim.Native.Nat.{ℕ, _+_, _-_, _*_, _<_}
-use native.Mathlib.Omega.{arith}
-use lib.ListN.{drop, getD, length}
-use borrow.Author.Needs.{needs}
-use denote.Ref.{now}
+use Rattle.base.specs.Basics.{_≡_, sym, ap, _∙_, refl, ℕ, _+_, _-_, _*_, _<_, arith, drop, getD, length, now, needs}
 use Rattle.book_format.proofs.Passed.{length-tradesOf}
 use Rattle.book_format.specs.Book.{bookOf}
 use Rattle.fields.proofs.Records.{length-recordsOf}

@@ -1,9 +1,5 @@
 -- `give_back_at`: the parties move, and the trade is written over. Assumes nothing.
-use mathlib.Core.Path.{_≡_, ap, _∙_}
-use native.Mathlib.Omega.{arith}
-use lib.ListN.{getD}
-use borrow.Author.Needs.{needs}
-use denote.Ref.{now}
+use Rattle.base.specs.Basics.{_≡_, ap, _∙_, arith, getD, now, needs}
 use Rattle.book_format.specs.Book.{tradesOf}
 use Rattle.book_records.specs.Trade.{asTrade}
 use Rattle.log_format.specs.Withdrawal.{raiseBy}

@@ -1,7 +1,5 @@
 -- `raised`: the sum fits, and all else is as it was. Assumes nothing.
-use mathlib.Core.Path.{ap}
-use Prim.Native.Nat.{ℕ}
-use native.Mathlib.Omega.{arith}
+use Rattle.base.specs.Basics.{ap, ℕ, arith}
 use Rattle.book_records.specs.Trade.{asTrade}
 use Rattle.log_format.specs.Withdrawal.{raiseBy}
 use Rattle.log_withdrawal.proofs.raised.Statement.{statement}

@@ -1,5 +1,5 @@
 -- `return_parties`: the fall and the rise are both in range. Assumes nothing.
-use borrow.Author.Needs.{needs}
+use Rattle.base.specs.Basics.{needs}
 use Rattle.log_withdrawal.proofs.Bounds.{buyer-can, parties-back, seller-can}
 use Rattle.log_withdrawal.proofs.return_parties.Statement.{statement}
 use Rattle.log_withdrawal.proofs.return_parties.Tie as tie

@@ -1,10 +1,5 @@
 -- `tally`: what is left to tally, tallied, gives the whole. Assumes nothing.
-use mathlib.Core.Path.{_≡_, sym, ap, _∙_}
-use Prim.Native.Nat.{ℕ, _+_, _-_, _*_, _<_}
-use native.Mathlib.Omega.{arith}
-use lib.ListN.{drop, getD, length}
-use borrow.Author.Needs.{needs}
-use denote.Ref.{now}
+use Rattle.base.specs.Basics.{_≡_, sym, ap, _∙_, ℕ, _+_, _-_, _*_, _<_, arith, drop, getD, length, now, needs}
 use Rattle.book_format.proofs.Passed.{length-tradesOf}
 use Rattle.book_format.specs.Book.{bookOf}
 use Rattle.book_records.specs.Trade.{asTrade}

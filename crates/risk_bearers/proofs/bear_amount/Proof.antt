@@ -1,5 +1,5 @@
 -- `bear_amount`: one amount more is added. Assumes nothing.
-use borrow.Author.Needs.{needs}
+use Rattle.base.specs.Basics.{needs}
 use Rattle.risk_bearers.proofs.Rows.{amount-lies, rows-next}
 use Rattle.risk_bearers.proofs.bear_amount.Statement.{statement}
 use Rattle.risk_bearers.proofs.bear_amount.Tie as tie

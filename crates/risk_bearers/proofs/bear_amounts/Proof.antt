@@ -1,8 +1,5 @@
 -- `bear_amounts`: the amounts of the users passed are added. Assumes nothing.
-use Prim.Native.Nat.{_-_, _≤_}
-use native.Mathlib.Omega.{arith}
-use denote.Ref.{now}
-use borrow.Author.Needs.{needs}
+use Rattle.base.specs.Basics.{_-_, _≤_, arith, now, needs}
 use Rattle.risk_bearers.specs.Rows.{RowsTo}
 use Rattle.risk_bearers.proofs.Rows.{next-borne, rows-end, rows-start, rows-turn}
 use Rattle.risk_bearers.proofs.bear_amounts.Statement.{statement}

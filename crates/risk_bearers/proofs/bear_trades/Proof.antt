@@ -1,10 +1,5 @@
 -- `bear_trades`: of the trades passed the places of those who bear the risk are listed, and what stands is counted at each. Assumes nothing.
-use Prim.Native.Nat.{_-_, _≤_, _<_}
-use mathlib.Core.Path.{_≡_, sym, ap, _∙_}
-use native.Mathlib.Omega.{arith}
-use denote.Ref.{now}
-use lib.ListN.{getD}
-use borrow.Author.Needs.{needs}
+use Rattle.base.specs.Basics.{_≡_, sym, ap, _∙_, _-_, _≤_, _<_, arith, getD, now, needs}
 use Rattle.book_format.specs.Book.{tradeCount, tradesOf}
 use Rattle.book_records.specs.Trade.{asTrade}
 use Rattle.rules.specs.Book.{Trade, noTrade}

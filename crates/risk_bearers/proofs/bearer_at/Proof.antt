@@ -1,11 +1,5 @@
 -- `bearer_at`: without a manager the user itself, else the manager's place. Assumes nothing.
-use mathlib.Core.List.{List}
-use mathlib.Core.Path.{_≡_, ap, _∙_}
-use Prim.Native.Nat.{ℕ}
-use native.Mathlib.Omega.{arith}
-use denote.Ref.{now}
-use lib.ListN.{getD}
-use borrow.Author.Needs.{needs}
+use Rattle.base.specs.Basics.{_≡_, ap, _∙_, List, ℕ, arith, getD, now, needs}
 use Rattle.book_format.proofs.Offsets.{user-managed}
 use Rattle.book_format.proofs.Places.{record-lies}
 use Rattle.book_format.specs.Book.{usersOf, versionOf}

@@ -1,7 +1,5 @@
 -- `clear_amounts`: the places passed are cleared. Assumes nothing.
-use Prim.Native.Nat.{_-_}
-use native.Mathlib.Omega.{arith}
-use borrow.Author.Needs.{needs}
+use Rattle.base.specs.Basics.{_-_, arith, needs}
 use Rattle.risk_bearers.proofs.Rows.{ClearedTo, cleared-more}
 use Rattle.risk_bearers.proofs.clear_amounts.Statement.{statement}
 use Rattle.risk_bearers.proofs.clear_amounts.Tie as tie

@@ -1,9 +1,5 @@
 -- `fill_bearers`: the users passed have who bears their risk. Assumes nothing.
-use mathlib.Core.Path.{refl}
-use Prim.Native.Nat.{_-_}
-use native.Mathlib.Omega.{arith}
-use denote.Ref.{now}
-use borrow.Author.Needs.{needs}
+use Rattle.base.specs.Basics.{refl, _-_, arith, now, needs}
 use Rattle.book_format.specs.Book.{usersOf}
 use Rattle.risk_bearers.proofs.Table.{BearersTo, bearers-end, bearers-more}
 use Rattle.risk_bearers.proofs.fill_bearers.Statement.{statement}

@@ -1,8 +1,5 @@
 -- `fill_ids`: the ids of the users passed are listed. Assumes nothing.
-use Prim.Native.Nat.{_-_, _≤_}
-use native.Mathlib.Omega.{arith}
-use denote.Ref.{now}
-use borrow.Author.Needs.{needs}
+use Rattle.base.specs.Basics.{_-_, _≤_, arith, now, needs}
 use Rattle.book_format.proofs.Places.{user-lies}
 use Rattle.book_format.specs.Book.{usersOf}
 use Rattle.book_format.specs.Places.{UserIn}

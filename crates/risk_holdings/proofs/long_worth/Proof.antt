@@ -1,8 +1,5 @@
 -- `long_worth`: how long the position is, at the area's selling tariff. Assumes nothing.
-use mathlib.Core.Path.{ap₂, _∙_}
-use Prim.Native.Nat.{ℕ, _*_}
-use native.Mathlib.Omega.{arith}
-use borrow.Author.Needs.{needs}
+use Rattle.base.specs.Basics.{ap₂, _∙_, ℕ, _*_, arith, needs}
 use Rattle.risk_holdings.proofs.long_worth.Statement.{statement}
 use Rattle.risk_holdings.proofs.long_worth.Tie as tie
 

@@ -1,9 +1,7 @@
 -- `short_worth`: how short the position is, at the area's reference price. Assumes nothing.
-use mathlib.Core.Path.{ap, _∙_}
-use Prim.Native.Nat.{ℕ, _*_}
+use Rattle.base.specs.Basics.{ap, _∙_, ℕ, _*_, needs}
 use Rattle.rules.specs.Areas.{referencePrice}
 use Rattle.units.specs.Prices.{asPrices}
-use borrow.Author.Needs.{needs}
 use Rattle.risk_holdings.proofs.short_worth.Statement.{statement}
 use Rattle.risk_holdings.proofs.short_worth.Tie as tie
 

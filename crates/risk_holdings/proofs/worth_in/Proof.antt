@@ -1,8 +1,5 @@
 -- `worth_in` is `Price::worth` at the area's reference price. Assumes nothing.
-use mathlib.Core.Path.{ap, _∙_}
-use Prim.Native.Nat.{ℕ, _*_}
-use native.Mathlib.Omega.{arith}
-use borrow.Author.Needs.{needs}
+use Rattle.base.specs.Basics.{ap, _∙_, ℕ, _*_, arith, needs}
 use Rattle.risk_holdings.proofs.worth_in.Statement.{statement}
 use Rattle.risk_holdings.proofs.worth_in.Tie as tie
 

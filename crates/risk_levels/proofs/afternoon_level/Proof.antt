@@ -1,8 +1,5 @@
 -- `afternoon_level`: the needs of the three areas, the short and the long positions are the sums of the definition, and the floor does the rest. Assumes nothing.
-use mathlib.Core.Path.{sym, ap, ap₂, _∙_}
-use Prim.Native.Nat.{ℕ}
-use native.Mathlib.Omega.{arith}
-use lib.IntN.{ℤ, pos, _+ℤ_, _-ℤ_}
+use Rattle.base.specs.Basics.{sym, ap, ap₂, _∙_, ℕ, arith, ℤ, pos, _+ℤ_, _-ℤ_, needs}
 use Rattle.base.specs.Sums.{sum}
 use Rattle.rules.specs.Areas.{areas}
 use Rattle.rules.specs.Levels.{afternoonSum, exposure, floored}
@@ -11,7 +8,6 @@ use Rattle.units.specs.Prices.{asPrices}
 use Rattle.units.specs.Limits.{asLimits}
 use Rattle.risk_holdings.specs.Holdings.{heldIn}
 use Rattle.risk_levels.proofs.Floors.{add-worths, credit-held, exposure-held}
-use borrow.Author.Needs.{needs}
 use Rattle.risk_levels.proofs.afternoon_level.Statement.{statement}
 use Rattle.risk_levels.proofs.afternoon_level.Tie as tie
 

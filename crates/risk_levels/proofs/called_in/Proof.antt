@@ -1,11 +1,9 @@
 -- `called_in`: who is party to a trade standing below notified is called in, and else who is flagged. Assumes nothing.
-use mathlib.Core.Bool.{Bool, true, false, _||_}
-use mathlib.Core.Path.{_≡_, refl, sym, _∙_}
+use Rattle.base.specs.Basics.{_≡_, refl, sym, _∙_, Bool, true, false, _||_, needs}
 use Rattle.rules.specs.Levels.{flaggedFrom}
 use Rattle.units.specs.Prices.{asPrices}
 use Rattle.units.specs.Limits.{asLimits}
 use Rattle.risk_holdings.specs.Holdings.{positioned}
-use borrow.Author.Needs.{needs}
 use Rattle.risk_levels.proofs.called_in.Statement.{statement}
 use Rattle.risk_levels.proofs.called_in.Tie as tie
 

@@ -1,12 +1,11 @@
 -- `credit` is the sum over the three areas. Assumes nothing.
-use native.Mathlib.Omega.{arith}
+use Rattle.base.specs.Basics.{arith, needs}
 use Rattle.base.specs.Sums.{sum}
 use Rattle.rules.specs.Areas.{areas}
 use Rattle.rules.specs.Book.{at}
 use Rattle.rules.specs.Levels.{credit}
 use Rattle.book_records.specs.User.{asAmounts}
 use Rattle.risk_holdings.specs.Holdings.{positioned}
-use borrow.Author.Needs.{needs}
 use Rattle.risk_levels.proofs.credit.Statement.{statement}
 use Rattle.risk_levels.proofs.credit.Tie as tie
 

@@ -1,9 +1,6 @@
 -- `exceeds_margin` tests what the definition does. Assumes nothing.
-use mathlib.Core.Path.{ap, _∙_}
-use Prim.Native.Nat.{ℕ, _+_}
-use lib.Dec.{ltb}
+use Rattle.base.specs.Basics.{ap, _∙_, ℕ, _+_, ltb, needs}
 use Rattle.rules.specs.Levels.{exceedsMargin}
-use borrow.Author.Needs.{needs}
 use Rattle.risk_levels.proofs.exceeds_margin.Statement.{statement}
 use Rattle.risk_levels.proofs.exceeds_margin.Tie as tie
 

@@ -1,8 +1,5 @@
 -- `flagged` tests what the definition does. Assumes nothing.
-use mathlib.Core.Path.{ap, ap₂, _∙_}
-use Prim.Native.Nat.{ℕ, _+_, _*_}
-use lib.Dec.{ltb}
-use borrow.Author.Needs.{needs}
+use Rattle.base.specs.Basics.{ap, ap₂, _∙_, ℕ, _+_, _*_, ltb, needs}
 use Rattle.risk_levels.proofs.flagged.Statement.{statement}
 use Rattle.risk_levels.proofs.flagged.Tie as tie
 

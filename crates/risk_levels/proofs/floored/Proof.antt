@@ -1,11 +1,8 @@
 -- `floored`: charges, worth and credit as a difference, which the floor bounds from below. Assumes nothing.
-use mathlib.Core.Path.{sym, _∙_}
-use native.Mathlib.Omega.{arith}
-use borrow.Author.Tests.{ltb-true, ltb-false}
+use Rattle.base.specs.Basics.{sym, _∙_, arith, needs, ltb-true, ltb-false}
 use Rattle.units.specs.Amounts.{balance}
 use Rattle.units.specs.Limits.{asLimits}
 use Rattle.risk_levels.proofs.Floors.{floored-of}
-use borrow.Author.Needs.{needs}
 use Rattle.risk_levels.proofs.floored.Statement.{statement}
 use Rattle.risk_levels.proofs.floored.Tie as tie
 

@@ -1,6 +1,6 @@
 -- `least_reference_price`: the lower of PVB's price and the lower of the other two. Assumes nothing.
 use Rattle.rules.specs.Levels.{leastReferencePrice}
-use borrow.Author.Needs.{needs}
+use Rattle.base.specs.Basics.{needs}
 use Rattle.risk_levels.proofs.least_reference_price.Statement.{statement}
 use Rattle.risk_levels.proofs.least_reference_price.Tie as tie
 

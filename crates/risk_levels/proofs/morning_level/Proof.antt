@@ -1,15 +1,11 @@
 -- `morning_level`: the needs of the three areas are the sum of the definition, no credit is taken off, and the floor does the rest. Assumes nothing.
-use mathlib.Core.Path.{ap, _∙_}
-use Prim.Native.Nat.{ℕ}
-use native.Mathlib.Omega.{arith}
-use lib.IntN.{ℤ, pos, _+ℤ_, +ℤ-idr}
+use Rattle.base.specs.Basics.{ap, _∙_, ℕ, arith, ℤ, pos, _+ℤ_, +ℤ-idr, needs}
 use Rattle.base.specs.Sums.{sum}
 use Rattle.rules.specs.Areas.{areas}
 use Rattle.rules.specs.Levels.{morningSum, floored}
 use Rattle.units.specs.Amounts.{balance}
 use Rattle.units.specs.Limits.{asLimits}
 use Rattle.risk_holdings.specs.Holdings.{heldIn}
-use borrow.Author.Needs.{needs}
 use Rattle.risk_levels.proofs.morning_level.Statement.{statement}
 use Rattle.risk_levels.proofs.morning_level.Tie as tie
 

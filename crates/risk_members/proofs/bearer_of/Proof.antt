@@ -1,9 +1,5 @@
 -- `bearer_of`: without a manager the user itself, else the manager. Assumes nothing.
-use mathlib.Core.Path.{_≡_, _∙_}
-use native.Mathlib.Omega.{arith}
-use denote.Ref.{now}
-use lib.ListN.{getD}
-use borrow.Author.Needs.{needs}
+use Rattle.base.specs.Basics.{_≡_, _∙_, arith, getD, now, needs}
 use Rattle.book_format.proofs.Offsets.{user-managed}
 use Rattle.book_format.proofs.Places.{record-lies}
 use Rattle.book_format.specs.Book.{usersOf, versionOf}

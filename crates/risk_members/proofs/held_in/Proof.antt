@@ -1,12 +1,5 @@
 -- `held_in`: from one who counts to the next. Assumes nothing.
-use mathlib.Core.Bool.{true}
-use mathlib.Core.Path.{_≡_, subst}
-use Prim.Native.Nat.{ℕ, _-_, _≤_, _<_}
-use native.Mathlib.Omega.{arith}
-use borrow.Author.Needs.{needs}
-use denote.Ref.{now}
-use lib.Dec.{eqb}
-use lib.ListN.{getD}
+use Rattle.base.specs.Basics.{_≡_, subst, true, ℕ, _-_, _≤_, _<_, arith, eqb, getD, now, needs}
 use Rattle.book_format.specs.Book.{userCount, usersOf}
 use Rattle.rules.specs.Bearers.{bearer}
 use Rattle.rules.specs.Book.{nobody}

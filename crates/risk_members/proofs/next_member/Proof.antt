@@ -1,11 +1,5 @@
 -- `next_member`: those who are passed count nowhere. Assumes nothing.
-use mathlib.Core.Path.{_≡_, sym, _∙_}
-use Prim.Native.Nat.{_-_, _≤_, _<_}
-use native.Mathlib.Omega.{arith}
-use borrow.Author.Needs.{needs}
-use borrow.Author.Tests.{eq-eqb, ne-eqb}
-use denote.Ref.{now}
-use lib.ListN.{getD}
+use Rattle.base.specs.Basics.{sym, _∙_, _-_, _≤_, _<_, arith, getD, now, needs, eq-eqb, ne-eqb}
 use Rattle.book_format.proofs.Passed.{length-usersOf}
 use Rattle.book_format.specs.Book.{userCount, usersOf}
 use Rattle.rules.specs.Bearers.{bearer}

@@ -1,12 +1,5 @@
 -- `position_in`: from one who counts to the next. Assumes nothing.
-use mathlib.Core.Bool.{true}
-use mathlib.Core.Path.{_≡_}
-use Prim.Native.Nat.{_-_, _≤_, _<_}
-use native.Mathlib.Omega.{arith}
-use borrow.Author.Needs.{needs}
-use denote.Ref.{now}
-use lib.Dec.{eqb}
-use lib.ListN.{getD}
+use Rattle.base.specs.Basics.{_≡_, true, _-_, _≤_, _<_, arith, eqb, getD, now, needs}
 use Rattle.book_format.proofs.Passed.{length-usersOf}
 use Rattle.book_format.specs.Book.{userCount, usersOf}
 use Rattle.rules.specs.Bearers.{bearer}

@@ -1,9 +1,5 @@
 -- `positions_of`: by the version. Assumes nothing.
-use mathlib.Core.Path.{_≡_, sym, ap, _∙_}
-use native.Mathlib.Omega.{arith}
-use borrow.Author.Needs.{needs}
-use denote.Ref.{now}
-use lib.ListN.{getD}
+use Rattle.base.specs.Basics.{sym, ap, _∙_, arith, getD, now, needs}
 use Rattle.book_format.specs.Book.{usersOf}
 use Rattle.rules.specs.Areas.{managersIn}
 use Rattle.rules.specs.Book.{nobody}

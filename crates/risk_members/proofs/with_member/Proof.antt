@@ -1,11 +1,5 @@
 -- `with_member`: what the user has in the area, added to what is held. Assumes nothing.
-use mathlib.Core.List.{List}
-use mathlib.Core.Path.{_≡_, ap, _∙_}
-use Prim.Native.Nat.{ℕ, _+_, _*_, _<_}
-use native.Mathlib.Omega.{arith}
-use borrow.Author.Needs.{needs}
-use denote.Ref.{now}
-use lib.ListN.{length, getD}
+use Rattle.base.specs.Basics.{_≡_, ap, _∙_, List, ℕ, _+_, _*_, _<_, arith, length, getD, now, needs}
 use Rattle.book_format.proofs.Passed.{length-usersOf}
 use Rattle.book_format.specs.Book.{tradesOf, usersOf}
 use Rattle.rules.specs.Book.{User, at, bought, nobody, sold}

@@ -1,9 +1,5 @@
 -- `with_position`: the position of the user in the area, added to the sum. Assumes nothing.
-use mathlib.Core.Path.{_≡_}
-use native.Mathlib.Omega.{arith}
-use borrow.Author.Needs.{needs}
-use denote.Ref.{now}
-use lib.ListN.{getD}
+use Rattle.base.specs.Basics.{_≡_, arith, getD, now, needs}
 use Rattle.book_format.proofs.Passed.{length-usersOf}
 use Rattle.book_format.specs.Book.{usersOf}
 use Rattle.rules.specs.Book.{at, nobody}

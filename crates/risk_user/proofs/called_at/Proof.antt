@@ -1,10 +1,5 @@
 -- `called_at`: asked of the blocked guarantee and the positions that are read. Assumes nothing.
-use mathlib.Core.Bool.{Bool, _||_}
-use mathlib.Core.Path.{ap, _∙_}
-use native.Mathlib.Omega.{arith}
-use lib.ListN.{getD}
-use borrow.Author.Needs.{needs}
-use denote.Ref.{now}
+use Rattle.base.specs.Basics.{ap, _∙_, Bool, _||_, arith, getD, now, needs}
 use Rattle.book_format.specs.Book.{usersOf}
 use Rattle.rules.specs.Book.{nobody}
 use Rattle.units.specs.Prices.{asPrices}

@@ -1,6 +1,5 @@
 -- `charges_at`: a field of the record, with its sign. Assumes nothing.
-use borrow.Author.Needs.{needs}
-use mathlib.Core.Path.{ap, _∙_}
+use Rattle.base.specs.Basics.{ap, _∙_, needs}
 use Rattle.rules.specs.Signed.{signedOf}
 use Rattle.risk_user.proofs.Money.{charges-is}
 use Rattle.risk_user.proofs.charges_at.Statement.{statement}

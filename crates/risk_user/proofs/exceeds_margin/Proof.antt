@@ -1,8 +1,5 @@
 -- `exceeds_margin`: asked of the blocked guarantee that is read. Assumes nothing.
-use native.Mathlib.Omega.{arith}
-use lib.ListN.{getD}
-use borrow.Author.Needs.{needs}
-use denote.Ref.{now}
+use Rattle.base.specs.Basics.{arith, getD, now, needs}
 use Rattle.book_format.specs.Book.{usersOf}
 use Rattle.rules.specs.Book.{nobody}
 use Rattle.risk_user.proofs.exceeds_margin.Statement.{statement}

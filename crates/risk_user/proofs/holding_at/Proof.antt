@@ -1,13 +1,9 @@
 -- `holding_at`: the four sums of the area, none of them high, with the physical entry and the position. Assumes nothing.
-use native.Mathlib.Omega.{arith}
-use mathlib.Core.Path.{sym, ap₂, _∙_}
-use denote.Ref.{now}
-use lib.IntN.{ℤ}
+use Rattle.base.specs.Basics.{sym, ap₂, _∙_, arith, ℤ, now, needs}
 use Rattle.book_records.proofs.Amounts.{at-asAmounts}
 use Rattle.risk_holdings.specs.Holdings.{asHolding}
 use Rattle.risk_user.specs.UserAt.{heldBy}
 use Rattle.risk_user.proofs.Held.{held-by}
-use borrow.Author.Needs.{needs}
 use Rattle.risk_user.proofs.holding_at.Statement.{statement}
 use Rattle.risk_user.proofs.holding_at.Tie as tie
 

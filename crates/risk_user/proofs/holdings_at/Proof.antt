@@ -1,8 +1,7 @@
 -- `holdings_at`: a holding for each area. Assumes nothing.
-use denote.Ref.{now}
+use Rattle.base.specs.Basics.{now, needs}
 use Rattle.book_records.specs.User.{asAmounts}
 use Rattle.risk_user.proofs.Held.{held-each}
-use borrow.Author.Needs.{needs}
 use Rattle.risk_user.proofs.holdings_at.Statement.{statement}
 use Rattle.risk_user.proofs.holdings_at.Tie as tie
 

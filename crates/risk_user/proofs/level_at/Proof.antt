@@ -1,9 +1,5 @@
 -- `level_at`: asked of the charges and the holdings that are read. Assumes nothing.
-use mathlib.Core.Path.{ap, _∙_}
-use lib.IntN.{ℤ}
-use lib.ListN.{getD}
-use borrow.Author.Needs.{needs}
-use denote.Ref.{now}
+use Rattle.base.specs.Basics.{ap, _∙_, ℤ, getD, now, needs}
 use Rattle.book_format.specs.Book.{usersOf}
 use Rattle.rules.specs.Book.{nobody}
 use Rattle.rules.specs.Levels.{afternoonSum, floored}

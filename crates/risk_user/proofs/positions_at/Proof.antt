@@ -1,9 +1,6 @@
 -- `positions_at`: the three positions of the place. Assumes nothing.
-use mathlib.Core.Path.{_≡_, refl}
-use Prim.Native.Nat.{_+_, _*_}
-use native.Mathlib.Omega.{arith}
+use Rattle.base.specs.Basics.{_≡_, refl, _+_, _*_, arith, needs}
 use Rattle.book_records.specs.User.{asAmounts}
-use borrow.Author.Needs.{needs}
 use Rattle.risk_user.proofs.positions_at.Statement.{statement}
 use Rattle.risk_user.proofs.positions_at.Tie as tie
 

@@ -1,6 +1,5 @@
 -- `role_at`: a field of the record. Assumes nothing.
-use borrow.Author.Needs.{needs}
-use mathlib.Core.Path.{_∙_}
+use Rattle.base.specs.Basics.{_∙_, needs}
 use Rattle.risk_user.proofs.Money.{role-is}
 use Rattle.risk_user.proofs.role_at.Statement.{statement}
 use Rattle.risk_user.proofs.role_at.Tie as tie

@@ -1,8 +1,5 @@
 -- `state_of`: each way out is a case of the definition. Assumes nothing.
-use lib.ListN.{getD}
-use borrow.Author.Needs.{needs}
-use borrow.Author.Tests.{not-true, not-false}
-use denote.Ref.{now}
+use Rattle.base.specs.Basics.{getD, now, needs, not-true, not-false}
 use Rattle.book_format.specs.Book.{usersOf}
 use Rattle.rules.specs.Book.{User, nobody}
 use Rattle.rules.specs.Levels.{Limits}

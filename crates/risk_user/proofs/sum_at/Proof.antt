@@ -1,6 +1,5 @@
 -- `sum_at`: the element, which is low. Assumes nothing.
-use borrow.Author.Needs.{needs}
-use native.Mathlib.Omega.{arith}
+use Rattle.base.specs.Basics.{arith, needs}
 use Rattle.risk_user.proofs.sum_at.Statement.{statement}
 use Rattle.risk_user.proofs.sum_at.Tie as tie
 

@@ -3,8 +3,7 @@ use Rattle.book_format.specs.Book.{usersOf}
 use Rattle.risk_user.proofs.Targets.{target-house, target-shipper}
 use Rattle.units.specs.Prices.{asPrices}
 use Rattle.units.specs.Limits.{asLimits}
-use borrow.Author.Needs.{needs}
-use denote.Ref.{now}
+use Rattle.base.specs.Basics.{now, needs}
 use Rattle.risk_user.proofs.target_at.Statement.{statement}
 use Rattle.risk_user.proofs.target_at.Tie as tie
 

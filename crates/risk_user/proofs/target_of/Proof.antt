@@ -1,7 +1,5 @@
 -- `target_of`: each way out is a case of the definition. Assumes nothing.
-use lib.ListN.{getD}
-use borrow.Author.Needs.{needs}
-use denote.Ref.{now}
+use Rattle.base.specs.Basics.{getD, now, needs}
 use Rattle.book_format.specs.Book.{usersOf}
 use Rattle.rules.specs.Book.{nobody}
 use Rattle.units.specs.Limits.{asLimits}

@@ -1,9 +1,5 @@
 -- `copy_sales`: the sales passed are copied. Assumes nothing.
-use Prim.Native.Nat.{_-_, _≤_}
-use mathlib.Core.Path.{_≡_, subst}
-use native.Mathlib.Omega.{arith}
-use borrow.Author.Needs.{needs}
-use lib.ListN.{take}
+use Rattle.base.specs.Basics.{_≡_, subst, _-_, _≤_, arith, take, needs}
 use Rattle.run_book.proofs.Losing.{CopiedTo, copied-more, copied-start}
 use Rattle.run_book.proofs.copy_sales.Statement.{statement}
 use Rattle.run_book.proofs.copy_sales.Tie as tie

@@ -1,7 +1,5 @@
 -- `lost_of`: the sales passed have what they have lost. Assumes nothing.
-use Prim.Native.Nat.{_-_}
-use native.Mathlib.Omega.{arith}
-use borrow.Author.Needs.{needs}
+use Rattle.base.specs.Basics.{_-_, arith, needs}
 use Rattle.run_book.proofs.Losing.{LostTo, lost-end, lost-fits, lost-more, lost-start}
 use Rattle.run_book.proofs.lost_of.Statement.{statement}
 use Rattle.run_book.proofs.lost_of.Tie as tie

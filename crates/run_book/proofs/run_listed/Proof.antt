@@ -1,8 +1,6 @@
 -- `run_listed`: positions, who has been cut and who owes what are those of the opening book; the run goes on in a copy of what stands, and what its sales have lost, taken off in
 -- the bytes, gives the rules' book. Assumes nothing.
-use mathlib.Core.Path.{_≡_, refl}
-use borrow.Author.Needs.{needs}
-use denote.Ref.{now}
+use Rattle.base.specs.Basics.{_≡_, refl, now, needs}
 use Rattle.book_format.specs.Book.{tradeCount, userCount}
 use Rattle.run_reduction.proofs.Steps.{run-day}
 use Rattle.run_book.proofs.Ending.{lost-cuttable, ran-in, ran-left}

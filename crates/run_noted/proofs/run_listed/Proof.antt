@@ -1,7 +1,5 @@
 -- `run_listed`: the arrays are those of the opening book; what the run's sales have lost, taken off in the bytes, gives the rules' book. Assumes nothing.
-use mathlib.Core.Path.{_≡_, refl}
-use borrow.Author.Needs.{needs}
-use denote.Ref.{now}
+use Rattle.base.specs.Basics.{_≡_, refl, now, needs}
 use Rattle.book_format.specs.Book.{tradeCount, userCount}
 use Rattle.run_book.proofs.Ending.{lost-cuttable, ran-in, ran-left}
 use Rattle.run_book.proofs.Start.{run-going, run-opening}

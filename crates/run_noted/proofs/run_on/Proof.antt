@@ -1,12 +1,5 @@
 -- `run_on`: what is left of the run, added to the totals and the entries so far, is the run of as many reductions as the log has room for. Assumes nothing.
-use mathlib.Core.Bool.{true, false}
-use mathlib.Core.Path.{ap, sym, subst, _∙_}
-use Prim.Native.Nat.{ℕ, _-_, _<_}
-use native.Mathlib.Omega.{arith}
-use lib.Dec.{T}
-use lib.ListN.{length-replicate}
-use borrow.Author.Needs.{needs}
-use denote.Ref.{now}
+use Rattle.base.specs.Basics.{ap, sym, subst, _∙_, true, false, ℕ, _-_, _<_, arith, T, length-replicate, now, needs}
 use Rattle.book_format.specs.Book.{userCount}
 use Rattle.rules.specs.Calls.{Answer, ofRun}
 use Rattle.run_reduction.proofs.Steps.{part-few}

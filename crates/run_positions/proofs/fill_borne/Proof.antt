@@ -1,7 +1,5 @@
 -- `fill_borne`: the positions of the records are summed over those whose risk each user bears. Assumes nothing.
-use mathlib.Core.Path.{refl}
-use borrow.Author.Needs.{needs}
-use denote.Ref.{now}
+use Rattle.base.specs.Basics.{refl, now}
 use Rattle.run_positions.proofs.Borne.{positions-bearable, positions-borne}
 use Rattle.run_positions.proofs.fill_borne.Statement.{statement}
 use Rattle.run_positions.proofs.fill_borne.Tie as tie

@@ -1,10 +1,7 @@
 -- `fill_own`: the users passed have their positions. Assumes nothing.
-use Prim.Native.Nat.{_-_}
+use Rattle.base.specs.Basics.{_-_, arith, now, needs}
 use Rattle.book_format.specs.Book.{usersOf}
 use Rattle.run_positions.proofs.Filling.{PlacedTo, placed-end, placed-more, placed-start}
-use denote.Ref.{now}
-use native.Mathlib.Omega.{arith}
-use borrow.Author.Needs.{needs}
 use Rattle.run_positions.proofs.fill_own.Statement.{statement}
 use Rattle.run_positions.proofs.fill_own.Tie as tie
 

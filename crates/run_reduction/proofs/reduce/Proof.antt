@@ -1,16 +1,11 @@
 -- `reduce`: the cuts are filled in by the tiers that the positions tell, and can be taken off. Assumes nothing.
-use mathlib.Core.Path.{ap, _∙_}
-use Prim.Native.Nat.{ℕ}
-use mathlib.Core.List.{List}
-use denote.Ref.{now}
-use lib.Seq.{sets}
+use Rattle.base.specs.Basics.{ap, _∙_, List, ℕ, sets, now, needs}
 use Rattle.cut_tiers.proofs.After.{filled-takeable}
 use Rattle.cut_tiers.specs.Tiers.{shortBy}
 use Rattle.units.specs.Prices.{asPrices}
 use Rattle.run_reduction.proofs.Filled.{filled-movable, filled-short}
 use Rattle.run_reduction.proofs.reduce.Statement.{statement}
 use Rattle.run_reduction.proofs.reduce.Tie as tie
-use borrow.Author.Needs.{needs}
 
 settle-requires : tie.Need-settle-requires
 settle-requires c κs =

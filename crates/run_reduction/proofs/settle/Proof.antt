@@ -1,8 +1,5 @@
 -- `settle`: the sales passed stand lower by their cuts, and what is left of the cuts gives the whole tally and all moves. Assumes nothing.
-use mathlib.Core.Path.{_≡_}
-use Prim.Native.Nat.{_-_}
-use native.Mathlib.Omega.{arith}
-use borrow.Author.Needs.{needs}
+use Rattle.base.specs.Basics.{_≡_, _-_, arith, needs}
 use Rattle.cut_tiers.proofs.Tallied.{TakenOff, taken-start, taken-fits, taken-cut, taken-more, taken-standing, taken-tally}
 use Rattle.run_positions.proofs.Passing.{MovedTo, move-high, move-low, moved-end, moved-more, moved-start}
 use Rattle.units.specs.Prices.{asPrices}

@@ -1,10 +1,5 @@
 -- `settle_sale`: with no cut, all stays. Assumes nothing.
-use mathlib.Core.Path.{_≡_, sym, ap, _∙_}
-use Prim.Native.Nat.{ℕ, _-_}
-use native.Mathlib.Omega.{arith}
-use borrow.Author.Needs.{needs}
-use lib.ListN.{getD, set}
-use lib.Seq.{set-getD}
+use Rattle.base.specs.Basics.{_≡_, sym, ap, _∙_, ℕ, _-_, arith, getD, set, set-getD, needs}
 use Rattle.cut_tiers.proofs.Tallied.{tally-same}
 use Rattle.cut_worth.specs.Tallies.{asTally}
 use Rattle.run_positions.proofs.Passing.{one-none}

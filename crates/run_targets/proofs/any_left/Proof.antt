@@ -1,12 +1,7 @@
 -- `any_left`: what is left has the whole answer. Assumes nothing.
-use Prim.Native.Nat.{_-_}
+use Rattle.base.specs.Basics.{_≡_, refl, _-_, arith, ltb, now, needs}
 use Rattle.base.specs.Lists.{any}
 use Rattle.run_targets.proofs.Looking.{left-found, left-more, left-none}
-use denote.Ref.{now}
-use lib.Dec.{ltb}
-use mathlib.Core.Path.{_≡_, refl}
-use native.Mathlib.Omega.{arith}
-use borrow.Author.Needs.{needs}
 use Rattle.run_targets.proofs.any_left.Statement.{statement}
 use Rattle.run_targets.proofs.any_left.Tie as tie
 use Rattle.laws_sales.specs.Parts.{part}

@@ -1,9 +1,5 @@
 -- `chosen`: no cuts in a short run; else those that what is kept tells. Assumes nothing.
-use mathlib.Core.List.{[], _∷_}
-use mathlib.Core.Path.{refl}
-use native.Mathlib.Omega.{arith}
-use borrow.Author.Needs.{needs}
-use denote.Ref.{now}
+use Rattle.base.specs.Basics.{refl, [], _∷_, arith, now, needs}
 use Rattle.cut_peaks.proofs.Keeping.{chosen-none}
 use Rattle.run_reduction.specs.Reductions.{shortIn}
 use Rattle.run_turns.proofs.Sweeps.{shorts-in}

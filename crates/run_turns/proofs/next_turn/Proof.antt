@@ -1,6 +1,5 @@
 -- `next_turn`: by the cuts that what is kept tells, or as any other. Assumes nothing.
-use native.Mathlib.Omega.{arith}
-use borrow.Author.Needs.{needs}
+use Rattle.base.specs.Basics.{arith, needs}
 use Rattle.run_reduction.proofs.Steps.{part-few, part-rises, run-prices, sales-in}
 use Rattle.run_turns.proofs.Sweeps.{keeps-nobody, sweep-cuts, sweep-end}
 use Rattle.run_turns.proofs.Turning.{reached-now}

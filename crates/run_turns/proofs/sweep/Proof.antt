@@ -1,7 +1,5 @@
 -- `sweep`: each step can be taken, and together they are the reduction. Assumes nothing.
-use mathlib.Core.Path.{sym, subst}
-use native.Mathlib.Omega.{arith}
-use denote.Ref.{now}
+use Rattle.base.specs.Basics.{sym, subst, arith, now}
 use Rattle.cut_peaks.specs.declared.Kept.{Kept}
 use Rattle.units.specs.Prices.{asPrices}
 use Rattle.run_reduction.proofs.Steps.{part-few, run-day, run-prices}

@@ -1,6 +1,5 @@
 -- `turn`: each step can be taken, and together they are the reduction. Assumes nothing.
-use native.Mathlib.Omega.{arith}
-use borrow.Author.Needs.{needs}
+use Rattle.base.specs.Basics.{arith, needs}
 use Rattle.run_reduction.proofs.Steps.{left-room, part-few, part-rises, reducible, run-day, run-prices, sales-in}
 use Rattle.run_turns.proofs.Turning.{buyers-in, cut-in, reached-now, turn-room, turned}
 use Rattle.run_turns.proofs.turn.Statement.{statement}

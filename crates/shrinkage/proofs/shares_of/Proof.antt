@@ -1,9 +1,5 @@
 -- `shares_of` gives one user more the share and the remainder at each turn. Assumes nothing.
-use Prim.Native.Nat.{_-_}
-use native.Mathlib.Omega.{arith}
-use borrow.Author.Needs.{needs}
-use lib.IntN.{pos}
-use lib.ListN.{length, getD}
+use Rattle.base.specs.Basics.{_-_, arith, pos, length, getD, needs}
 use Rattle.shrinkage.proofs.Division.{Dividing, dividing-start, dividing-more, dividing-end, given-next, own-most}
 use Rattle.shrinkage.proofs.Signs.{kept-parts}
 use Rattle.shrinkage.proofs.shares_of.Statement.{statement}

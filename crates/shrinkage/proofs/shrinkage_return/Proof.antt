@@ -1,7 +1,5 @@
 -- `shrinkage_return`: each way out is a law of the definition. Assumes nothing.
-use mathlib.Core.Path.{sym, _∙_}
-use borrow.Author.Needs.{needs}
-use borrow.Author.Tests.{not-true, not-false}
+use Rattle.base.specs.Basics.{sym, _∙_, needs, not-true, not-false}
 use Rattle.shrinkage.proofs.Ways.{too-many, one-out, no-return, divisible, returns-half}
 use Rattle.shrinkage.proofs.shrinkage_return.Statement.{statement}
 use Rattle.shrinkage.proofs.shrinkage_return.Tie as tie

@@ -1,9 +1,5 @@
 -- `sums_of` adds both sides of one balance more at each turn. Assumes nothing.
-use Prim.Native.Nat.{_-_}
-use native.Mathlib.Omega.{arith}
-use borrow.Author.Needs.{needs}
-use lib.IntN.{pos}
-use lib.ListN.{length, getD}
+use Rattle.base.specs.Basics.{_-_, arith, pos, length, getD, needs}
 use Rattle.shrinkage.proofs.Balances.{Summing, summing-start, summing-more, summing-no, summing-end}
 use Rattle.shrinkage.proofs.Signs.{kept-parts}
 use Rattle.shrinkage.proofs.sums_of.Statement.{statement}

@@ -1,6 +1,5 @@
 -- `figures_on` takes today's figures where there is no store, and else what the store gives. Assumes nothing.
-use borrow.Author.Needs.{needs}
-use borrow.Author.Tests.{not-true, not-false}
+use Rattle.base.specs.Basics.{needs, not-true, not-false}
 use Rattle.store.specs.Store.{given}
 use Rattle.store.proofs.Ways.{no-store}
 use Rattle.store.proofs.figures_on.Statement.{statement}

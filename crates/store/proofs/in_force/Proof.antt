@@ -1,8 +1,5 @@
 -- `in_force`: none of the sets that are passed, from the last one down, has begun, until one has or none is left. Assumes nothing.
-use mathlib.Core.Path.{refl}
-use native.Mathlib.Omega.{arith}
-use lib.ListN.{length-take, length-drop}
-use borrow.Author.Needs.{needs}
+use Rattle.base.specs.Basics.{refl, arith, length-take, length-drop, needs}
 use Rattle.store.specs.Asked.{asSet}
 use Rattle.store.proofs.Sets.{NoneLater, later-start, later-yes, later-no, later-end}
 use Rattle.store.proofs.Ways.{force-found, force-none}

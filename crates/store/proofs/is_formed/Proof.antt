@@ -1,6 +1,5 @@
 -- `is_formed` looks at mark, version and count only where there are bytes for them, in the order of the definition. Assumes nothing.
-use borrow.Author.Needs.{needs}
-use borrow.Author.Tests.{lt-leb, le-leb}
+use Rattle.base.specs.Basics.{needs, lt-leb, le-leb}
 use Rattle.store.specs.Store.{setCount, storeMark, storeFormed}
 use Rattle.store.proofs.is_formed.Statement.{statement}
 use Rattle.store.proofs.is_formed.Tie as tie

@@ -1,12 +1,5 @@
 -- `of_store` returns 16 where the form or the sets of the store are not as they should be, and goes by the set in force where they are. Assumes nothing.
-use mathlib.Core.Bool.{true}
-use mathlib.Core.List.{List}
-use mathlib.Core.Path.{_≡_, sym, _∙_}
-use native.Mathlib.Omega.{arith}
-use Prim.Native.Nat.{ℕ}
-use denote.Ref.{now}
-use borrow.Author.Needs.{needs}
-use borrow.Author.Tests.{not-true, not-false}
+use Rattle.base.specs.Basics.{_≡_, sym, _∙_, true, List, ℕ, arith, now, needs, not-true, not-false}
 use Rattle.store.specs.Store.{setCount, storeFormed, storeValid}
 use Rattle.store.proofs.Ways.{formed-room, store-16, store-by-force, unformed, formed-by-sets}
 use Rattle.store.proofs.of_store.Statement.{statement}

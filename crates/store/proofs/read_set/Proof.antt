@@ -1,5 +1,5 @@
 -- `read_set` reads each field from its own offset. Assumes nothing.
-use borrow.Author.Needs.{needs}
+use Rattle.base.specs.Basics.{needs}
 use Rattle.store.specs.Store.{setOf}
 use Rattle.store.specs.Asked.{asSet}
 use Rattle.store.proofs.read_set.Statement.{statement}

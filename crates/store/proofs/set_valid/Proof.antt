@@ -1,5 +1,5 @@
 -- `set_valid` joins what the calendar answers with the ranges of the figures. Assumes nothing.
-use borrow.Author.Needs.{needs}
+use Rattle.base.specs.Basics.{needs}
 use Rattle.store.specs.Store.{limitsValid, setValid}
 use Rattle.store.specs.Asked.{asSet}
 use Rattle.store.proofs.set_valid.Statement.{statement}

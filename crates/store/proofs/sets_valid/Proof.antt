@@ -1,10 +1,5 @@
 -- `sets_valid`: the sets that are left have the whole answer, until one fails a test or none is left. Assumes nothing.
-use Prim.Native.Nat.{_-_}
-use mathlib.Core.Path.{sym, _∙_}
-use native.Mathlib.Omega.{arith}
-use lib.ListN.{length-take, length-drop}
-use borrow.Author.Needs.{needs}
-use borrow.Author.Tests.{not-true, not-false}
+use Rattle.base.specs.Basics.{sym, _∙_, _-_, arith, length-take, length-drop, needs, not-true, not-false}
 use Rattle.store.specs.Asked.{asSet}
 use Rattle.store.proofs.Sets.{SetsLeft, sets-start, sets-date-no, sets-no, sets-turn, sets-end}
 use Rattle.store.proofs.sets_valid.Statement.{statement}

@@ -1,5 +1,5 @@
 -- `CancellationAnswer::refused`: no mark, and 0 in every field but the number. Assumes nothing.
-use mathlib.Core.Path.{refl}
+use Rattle.base.specs.Basics.{refl}
 use Rattle.requests.specs.Cancellation.{notCancelled}
 use Rattle.call_cancellation.proofs.CancellationAnswer.refused.Statement.{statement}
 use Rattle.call_cancellation.proofs.CancellationAnswer.refused.Tie as tie

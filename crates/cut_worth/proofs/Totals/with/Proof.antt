@@ -1,8 +1,6 @@
 -- `Totals::with`: one reduction more, and the tally's MWh and worth each added to its own. Assumes nothing.
-use mathlib.Core.Path.{ap₂}
-use Prim.Native.Nat.{_+_}
+use Rattle.base.specs.Basics.{ap₂, _+_, needs}
 use Rattle.rules.specs.Calls.{ofRun}
-use borrow.Author.Needs.{needs}
 use Rattle.cut_worth.proofs.Totals.with.Statement.{statement}
 use Rattle.cut_worth.proofs.Totals.with.Tie as tie
 

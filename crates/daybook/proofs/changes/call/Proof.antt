@@ -1,5 +1,5 @@
 -- `daybook::call` makes the call of a time of the day after the opening questions, with the figures of its setting; a log that is given is emptied. Assumes nothing.
-use borrow.Author.Needs.{needs}
+use Rattle.base.specs.Basics.{needs}
 use Rattle.call_admission.proofs.Log.{admitted-with, parties-with}
 use Rattle.requests.proofs.Emptied.{logged-emptied}
 use Rattle.rights.proofs.Logged.{logged-by}

@@ -1,9 +1,5 @@
 -- `daybook::list` asks whether the list fits, asks its opening questions, and posts its lines; a log that is given is emptied. Assumes nothing.
-use mathlib.Core.Path.{_≡_, _∙_, sym}
-use borrow.Author.Needs.{needs}
-use denote.Ref.{now}
-use lib.ListN.{length}
-use Prim.Native.Nat.{ℕ}
+use Rattle.base.specs.Basics.{_≡_, _∙_, sym, ℕ, length, now, needs}
 use Rattle.book_format.specs.Questions.{bookNumber}
 use Rattle.call_admission.proofs.Log.{lines-with, list-entered}
 use Rattle.call_list.proofs.Opened.{list-book, list-even, list-posted}

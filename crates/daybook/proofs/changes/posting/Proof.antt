@@ -1,7 +1,7 @@
 -- `daybook::posting` posts after the opening questions and passes its amount on: a signed number of 64 bits is the number of its own bits; a log that is given is emptied. Assumes nothing.
 use mir.Syntax.{w64}
 use mir.ValLaws.{toZ-ofZ}
-use borrow.Author.Needs.{needs}
+use Rattle.base.specs.Basics.{needs}
 use Rattle.call_admission.proofs.Log.{admitted-with}
 use Rattle.log_format.proofs.Noted.{posting-empties}
 use Rattle.rules.specs.Calls.{only}

@@ -1,5 +1,5 @@
 -- `daybook::reduction` reduces after the opening questions, with the figures of its setting, and a log that is given has it noted. Assumes nothing.
-use borrow.Author.Needs.{needs}
+use Rattle.base.specs.Basics.{needs}
 use Rattle.call_admission.proofs.Log.{admitted-with, parties-with}
 use Rattle.rights.proofs.Logged.{logged-by}
 use Rattle.rights.specs.Party.{matterBy}

@@ -1,6 +1,5 @@
 -- `daybook::run` runs after the opening questions, with the figures of its setting, and a log that is given has its reductions noted. Assumes nothing.
-use borrow.Author.Needs.{needs}
-use borrow.Author.Tests.{not-false, not-true}
+use Rattle.base.specs.Basics.{needs, not-false, not-true}
 use Rattle.call_admission.proofs.Log.{admitted-with, parties-with}
 use Rattle.rights.proofs.Logged.{logged-by}
 use Rattle.rights.specs.Party.{matterBy}

@@ -1,7 +1,5 @@
 -- `daybook::withdrawal` withdraws after the opening questions, 19 among them. Assumes nothing.
-use mathlib.Core.Bool.{true}
-use mathlib.Core.Path.{refl}
-use borrow.Author.Needs.{needs}
+use Rattle.base.specs.Basics.{refl, true, needs}
 use Rattle.call_admission.proofs.Log.{admitted-with, parties-with}
 use Rattle.requests.proofs.Logged.{logged-withdrawal}
 use Rattle.rights.proofs.Logged.{logged-by}

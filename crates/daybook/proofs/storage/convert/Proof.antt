@@ -1,10 +1,7 @@
 -- `convert` asks the questions of the book and 26 first. Assumes nothing.
-use mathlib.Core.Path.{sym, _∙_}
-use native.Mathlib.Omega.{arith}
-use denote.Ref.{now}
+use Rattle.base.specs.Basics.{sym, _∙_, arith, now, needs}
 use Rattle.conversions.proofs.Acting.{conversion-by}
 use Rattle.rights.specs.Party.{matterBy, partyOf}
-use borrow.Author.Needs.{needs}
 use Rattle.daybook.proofs.storage.convert.Statement.{statement}
 use Rattle.daybook.proofs.storage.convert.Tie as tie
 

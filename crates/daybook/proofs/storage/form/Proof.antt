@@ -1,10 +1,7 @@
 -- `form` asks the questions of the book and 26 first. Assumes nothing.
-use mathlib.Core.Path.{sym, _∙_}
-use native.Mathlib.Omega.{arith}
-use denote.Ref.{now}
+use Rattle.base.specs.Basics.{sym, _∙_, arith, now, needs}
 use Rattle.rights.proofs.Operator.{stored-by}
 use Rattle.rights.specs.Party.{matterBy, partyOf}
-use borrow.Author.Needs.{needs}
 use Rattle.daybook.proofs.storage.form.Statement.{statement}
 use Rattle.daybook.proofs.storage.form.Tie as tie
 

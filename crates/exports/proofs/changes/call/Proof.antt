@@ -1,9 +1,8 @@
 -- `call` makes the call of a time of the day where the lent part has two places, and stores its level and what was added there. Assumes nothing.
-use denote.Ref.{now}
+use Rattle.base.specs.Basics.{now, needs}
 use Rattle.exports_answers.specs.Numbers.{callNumbers}
 use Rattle.exports.specs.Answers.{isYes}
 use Rattle.exports.proofs.Lent.{answered, not-called}
-use borrow.Author.Needs.{needs}
 use Rattle.exports.proofs.changes.call.Statement.{statement}
 use Rattle.exports.proofs.changes.call.Tie as tie
 

@@ -1,5 +1,5 @@
 -- `daybook_raw_list` hands its columns and places on. Assumes nothing.
-use borrow.Author.Needs.{needs}
+use Rattle.base.specs.Basics.{needs}
 use Rattle.exports.specs.Answers.{isYes}
 use Rattle.exports.proofs.changes.daybook_raw_list.Statement.{statement}
 use Rattle.exports.proofs.changes.daybook_raw_list.Tie as tie

@@ -1,7 +1,7 @@
 -- `daybook_raw_posting` passes its amount on: a signed number of 64 bits is the number of its own bits. Assumes nothing.
 use mir.Syntax.{w64}
 use mir.ValLaws.{toZ-ofZ}
-use borrow.Author.Needs.{needs}
+use Rattle.base.specs.Basics.{needs}
 use Rattle.exports.specs.Answers.{isYes}
 use Rattle.exports.proofs.changes.daybook_raw_posting.Statement.{statement}
 use Rattle.exports.proofs.changes.daybook_raw_posting.Tie as tie

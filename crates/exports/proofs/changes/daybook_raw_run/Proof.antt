@@ -1,9 +1,8 @@
 -- `daybook_raw_run` makes the run where the lent part has three places, and stores its numbers there. Assumes nothing.
-use denote.Ref.{now}
+use Rattle.base.specs.Basics.{now, needs}
 use Rattle.exports_answers.specs.Numbers.{runNumbers}
 use Rattle.exports.specs.Answers.{isYes}
 use Rattle.exports.proofs.Lent.{answered, not-called}
-use borrow.Author.Needs.{needs}
 use Rattle.exports.proofs.changes.daybook_raw_run.Statement.{statement}
 use Rattle.exports.proofs.changes.daybook_raw_run.Tie as tie
 

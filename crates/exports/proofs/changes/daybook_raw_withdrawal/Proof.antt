@@ -1,9 +1,8 @@
 -- `daybook_raw_withdrawal` withdraws where the lent part has two places, and stores the numbers there. Assumes nothing.
-use denote.Ref.{now}
+use Rattle.base.specs.Basics.{now, needs}
 use Rattle.exports_answers.specs.Numbers.{withdrawalNumbers}
 use Rattle.exports.specs.Answers.{isYes}
 use Rattle.exports.proofs.Lent.{answered, not-called}
-use borrow.Author.Needs.{needs}
 use Rattle.exports.proofs.changes.daybook_raw_withdrawal.Statement.{statement}
 use Rattle.exports.proofs.changes.daybook_raw_withdrawal.Tie as tie
 

@@ -1,11 +1,10 @@
 -- `daybook_raw_flag` stores whether the user is flagged in a part of one place, and leaves another part as it is. Assumes nothing.
-use denote.Ref.{now}
+use Rattle.base.specs.Basics.{now, needs}
 use Rattle.call_told.specs.Told.{flagTold}
 use Rattle.rights.specs.Trades.{Told}
 use Rattle.exports_answers.specs.Numbers.{flagNumbers}
 use Rattle.exports.specs.Answers.{isYes}
 use Rattle.exports.proofs.Lent.{refused, replied}
-use borrow.Author.Needs.{needs}
 use Rattle.exports.proofs.told.daybook_raw_flag.Statement.{statement}
 use Rattle.exports.proofs.told.daybook_raw_flag.Tie as tie
 

@@ -1,16 +1,10 @@
 -- `daybook_raw_trade` copies the part to the front of 20 zeros and stores its length where both lent parts are of their length, and leaves them as they are where one is not. Assumes nothing.
-use mathlib.Core.List.{List, [], _∷_}
-use mathlib.Core.Path.{_∙_, ap, ap₂}
-use Prim.Native.Nat.{ℕ}
-use native.Mathlib.Omega.{arith}
-use denote.Ref.{now}
-use lib.ListN.{length}
+use Rattle.base.specs.Basics.{_∙_, ap, ap₂, List, [], _∷_, ℕ, arith, length, now, needs}
 use Rattle.book_image.specs.Image.{padded}
 use Rattle.exports_answers.specs.Numbers.{tradeNumbers}
 use Rattle.exports.specs.Answers.{isYes}
 use Rattle.exports.proofs.Lent.{first-refused, second-refused, stored-both}
 use Rattle.exports.proofs.Shown.{one-stored, trade-length}
-use borrow.Author.Needs.{needs}
 use Rattle.exports.proofs.told.daybook_raw_trade.Statement.{statement}
 use Rattle.exports.proofs.told.daybook_raw_trade.Tie as tie
 

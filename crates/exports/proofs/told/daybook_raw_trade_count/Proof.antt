@@ -1,11 +1,10 @@
 -- `daybook_raw_trade_count` stores how many trades the user may see in a part of one place, and leaves another part as it is. Assumes nothing.
-use denote.Ref.{now}
+use Rattle.base.specs.Basics.{now, needs}
 use Rattle.call_told.specs.Told.{countTold}
 use Rattle.rights.specs.Trades.{Told}
 use Rattle.exports_answers.specs.Numbers.{countNumbers}
 use Rattle.exports.specs.Answers.{isYes}
 use Rattle.exports.proofs.Lent.{refused, replied}
-use borrow.Author.Needs.{needs}
 use Rattle.exports.proofs.told.daybook_raw_trade_count.Statement.{statement}
 use Rattle.exports.proofs.told.daybook_raw_trade_count.Tie as tie
 

@@ -1,9 +1,7 @@
 -- `Holding::stock`: PVB is told from the other areas, as in the definition. Assumes nothing.
-use native.Mathlib.Omega.{arith}
-use borrow.Author.Tests.{eq-eqb, ne-eqb}
+use Rattle.base.specs.Basics.{arith, needs, eq-eqb, ne-eqb}
 use Rattle.rules.specs.Levels.{stock}
 use Rattle.risk_holdings.specs.Holdings.{asHolding}
-use borrow.Author.Needs.{needs}
 use Rattle.risk_holdings.proofs.Holding.stock.Statement.{statement}
 use Rattle.risk_holdings.proofs.Holding.stock.Tie as tie
 

@@ -1,8 +1,6 @@
 -- `Area::reference_price` goes by the code as the rule does; in range the sum of three prices is at most 300,000. Assumes nothing.
-use native.Mathlib.Omega.{arith}
-use borrow.Author.Tests.{eq-eqb, ne-eqb}
+use Rattle.base.specs.Basics.{arith, needs, eq-eqb, ne-eqb}
 use Rattle.rules.specs.Areas.{referencePrice}
-use borrow.Author.Needs.{needs}
 use Rattle.units.proofs.Area.reference_price.Statement.{statement}
 use Rattle.units.proofs.Area.reference_price.Tie as tie
 

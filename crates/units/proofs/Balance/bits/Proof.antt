@@ -1,9 +1,7 @@
 -- `Balance::bits` changes the highest bit of the number inside, which is writing in two's complement. Assumes nothing.
-use mathlib.Core.Path.{refl}
-use Prim.Native.Nat.{_^_}
+use Rattle.base.specs.Basics.{refl, _^_, needs}
 use Rattle.units.proofs.TwosComplement.{bitsOf-below, bitsOf-from}
 use Rattle.units.specs.Amounts.{balance}
-use borrow.Author.Needs.{needs}
 use Rattle.units.proofs.Balance.bits.Statement.{statement}
 use Rattle.units.proofs.Balance.bits.Tie as tie
 

@@ -1,7 +1,6 @@
 -- `Balance::credit` is what the number inside is below the offset. Assumes nothing.
-use native.Mathlib.Omega.{arith}
+use Rattle.base.specs.Basics.{arith, needs}
 use Rattle.units.proofs.Amounts.{negPart-balance}
-use borrow.Author.Needs.{needs}
 use Rattle.units.proofs.Balance.credit.Statement.{statement}
 use Rattle.units.proofs.Balance.credit.Tie as tie
 

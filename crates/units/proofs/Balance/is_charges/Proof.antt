@@ -1,9 +1,7 @@
 -- `Balance::is_charges` compares the number inside with both ends of the range, shifted by the offset. Assumes nothing.
-use native.Mathlib.Omega.{arith}
-use Prim.Native.Nat.{_^_}
+use Rattle.base.specs.Basics.{_^_, arith, needs}
 use Rattle.units.proofs.Amounts.{within-offset}
 use Rattle.units.specs.Amounts.{balance}
-use borrow.Author.Needs.{needs}
 use Rattle.units.proofs.Balance.is_charges.Statement.{statement}
 use Rattle.units.proofs.Balance.is_charges.Tie as tie
 

@@ -1,7 +1,6 @@
 -- `Balance::owed` is what the number inside is above the offset. Assumes nothing.
-use native.Mathlib.Omega.{arith}
+use Rattle.base.specs.Basics.{arith, needs}
 use Rattle.units.proofs.Amounts.{posPart-balance}
-use borrow.Author.Needs.{needs}
 use Rattle.units.proofs.Balance.owed.Statement.{statement}
 use Rattle.units.proofs.Balance.owed.Tie as tie
 

@@ -1,5 +1,5 @@
 -- `Limits::today`: the three figures are those of the rules. Assumes nothing.
-use borrow.Author.Needs.{needs}
+use Rattle.base.specs.Basics.{needs}
 use Rattle.rules.specs.Levels.{today}
 use Rattle.units.proofs.Limits.today.Statement.{statement}
 use Rattle.units.proofs.Limits.today.Tie as tie

@@ -1,9 +1,7 @@
 -- `Net::is_entry` compares the number inside with both ends of the range, shifted by the offset. Assumes nothing.
-use native.Mathlib.Omega.{arith}
-use Prim.Native.Nat.{_^_}
+use Rattle.base.specs.Basics.{_^_, arith, needs}
 use Rattle.units.proofs.Amounts.{within-offset}
 use Rattle.units.specs.Amounts.{net}
-use borrow.Author.Needs.{needs}
 use Rattle.units.proofs.Net.is_entry.Statement.{statement}
 use Rattle.units.proofs.Net.is_entry.Tie as tie
 

@@ -1,7 +1,6 @@
 -- `Net::long` is what the number inside is above the offset. Assumes nothing.
-use native.Mathlib.Omega.{arith}
+use Rattle.base.specs.Basics.{arith, needs}
 use Rattle.units.proofs.Amounts.{posPart-net}
-use borrow.Author.Needs.{needs}
 use Rattle.units.proofs.Net.long.Statement.{statement}
 use Rattle.units.proofs.Net.long.Tie as tie
 

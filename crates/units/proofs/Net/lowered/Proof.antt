@@ -1,10 +1,8 @@
 -- `Net::lowered` takes the energy from the number inside, which is no less because what is below 0 stays within 2^31. Assumes nothing.
-use native.Mathlib.Omega.{arith}
-use lib.IntN.{pos, _-ℤ_}
+use Rattle.base.specs.Basics.{arith, pos, _-ℤ_, needs}
 use Rattle.base.proofs.Linear.{posPart-pos, negPart-pos, parts-sub}
 use Rattle.units.specs.Amounts.{net}
 use Rattle.units.proofs.Amounts.{parts-net, net-eq}
-use borrow.Author.Needs.{needs}
 use Rattle.units.proofs.Net.lowered.Statement.{statement}
 use Rattle.units.proofs.Net.lowered.Tie as tie
 

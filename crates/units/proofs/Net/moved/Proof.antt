@@ -1,10 +1,5 @@
 -- `Net::moved` adds to the number inside what the new entry is above the old one; the ranges of all three keep the sum within 32 bits. Assumes nothing.
-use mathlib.Core.Path.{_≡_}
-use mathlib.Core.Bool.{true}
-use Prim.Native.Nat.{_+_, _-_, _≤_, _<_, _^_}
-use native.Mathlib.Omega.{arith}
-use lib.IntN.{_+ℤ_, _-ℤ_}
-use borrow.Author.Needs.{needs}
+use Rattle.base.specs.Basics.{_≡_, true, _+_, _-_, _≤_, _<_, _^_, arith, _+ℤ_, _-ℤ_, needs}
 use Rattle.base.proofs.Linear.{parts-add, parts-sub}
 use Rattle.rules.specs.Signed.{within}
 use Rattle.units.specs.declared.Net.{Net}

@@ -1,10 +1,8 @@
 -- `Net::raised` adds the energy to the number inside; the sum fits because what is above 0 stays below 2^31. Assumes nothing.
-use native.Mathlib.Omega.{arith}
-use lib.IntN.{pos, _+ℤ_}
+use Rattle.base.specs.Basics.{arith, pos, _+ℤ_, needs}
 use Rattle.base.proofs.Linear.{posPart-pos, negPart-pos, parts-add}
 use Rattle.units.specs.Amounts.{net}
 use Rattle.units.proofs.Amounts.{posPart-net, parts-net, net-eq}
-use borrow.Author.Needs.{needs}
 use Rattle.units.proofs.Net.raised.Statement.{statement}
 use Rattle.units.proofs.Net.raised.Tie as tie
 

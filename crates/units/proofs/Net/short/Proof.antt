@@ -1,7 +1,6 @@
 -- `Net::short` is what the number inside is below the offset. Assumes nothing.
-use native.Mathlib.Omega.{arith}
+use Rattle.base.specs.Basics.{arith, needs}
 use Rattle.units.proofs.Amounts.{negPart-net}
-use borrow.Author.Needs.{needs}
 use Rattle.units.proofs.Net.short.Statement.{statement}
 use Rattle.units.proofs.Net.short.Tie as tie
 

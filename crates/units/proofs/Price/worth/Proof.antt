@@ -1,8 +1,5 @@
 -- `Price::worth`: the price is at most 300,000, so the product is at most 300,000 times the energy and fits 64 bits. Assumes nothing.
-use mathlib.Core.Path.{refl}
-use native.Mathlib.Nat.{mul-le-mul-left}
-use native.Mathlib.Omega.{arith}
-use borrow.Author.Needs.{needs}
+use Rattle.base.specs.Basics.{refl, mul-le-mul-left, arith, needs}
 use Rattle.units.proofs.Price.worth.Statement.{statement}
 use Rattle.units.proofs.Price.worth.Tie as tie
 

@@ -1,16 +1,10 @@
 -- `Flow::of`: an amount of 0 or more is itself; of one below 0 the function takes −1 − amount, which is a natural below 2^63, and adds 1.
 -- Assumes nothing.
-use mathlib.Core.Path.{_≡_, refl, sym, _∙_, ap, subst}
-use mathlib.Core.Bool.{Bool, true, false}
-use Prim.Native.Nat.{ℕ, _+_, _<_, _^_}
-use native.Mathlib.Omega.{arith}
-use lib.Dec.{T}
-use lib.IntN.{ℤ, pos, negsuc, natAbs, _-ℤ_}
+use Rattle.base.specs.Basics.{_≡_, refl, sym, _∙_, ap, subst, Bool, true, false, ℕ, _+_, _<_, _^_, arith, T, ℤ, pos, negsuc, natAbs, _-ℤ_, ltb-true}
 use lib.Signed.{ltZ, nonNeg}
 use mir.Syntax.{w64}
 use mir.Val.{Fits, SFits, toZ, ofZ}
 use mir.ValLaws.{toZ-ofZ}
-use borrow.Author.Tests.{ltb-true}
 use Rattle.base.specs.Parts.{posPart, negPart}
 use Rattle.base.proofs.Linear.{eq-parts, parts-sub}
 use Rattle.units.proofs.postings.Flow.of.Statement.{statement}

@@ -1,9 +1,6 @@
 -- `Posted::of` compares the two sides of the sum, each without a sign: the entry inside with what flows in, and the offset with what flows out.
 -- Assumes nothing.
-use mathlib.Core.Path.{_≡_, refl, sym, ap}
-use Prim.Native.Nat.{ℕ, _+_, _^_}
-use native.Mathlib.Omega.{arith}
-use lib.IntN.{ℤ, _+ℤ_}
+use Rattle.base.specs.Basics.{_≡_, refl, sym, ap, ℕ, _+_, _^_, arith, ℤ, _+ℤ_, needs}
 use mir.Syntax.{w64}
 use mir.Val.{SFits, toZ, ofZ}
 use mir.ValLaws.{toZ-ofZ}
@@ -12,7 +9,6 @@ use Rattle.base.proofs.Linear.{parts-add, posPart-of, negPart-of}
 use Rattle.units.specs.declared.Net.{Net}
 use Rattle.units.specs.Amounts.{net}
 use Rattle.units.proofs.Amounts.{parts-net, le-within, lt-within, net-eq}
-use borrow.Author.Needs.{needs}
 use Rattle.units.proofs.postings.Posted.of.Statement.{statement}
 use Rattle.units.proofs.postings.Posted.of.Tie as tie
 
