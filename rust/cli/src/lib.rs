@@ -52,6 +52,7 @@ pub mod table;
 pub mod to_do;
 pub mod told;
 pub mod why;
+pub mod together;
 pub mod why_words;
 pub mod withdraw;
 pub mod write;

@@ -11,6 +11,7 @@ use crate::beside::{sweep, sync_folder, Beside};
 use crate::files::Held;
 use crate::outcome::Failure;
 
+use crate::together::{self, TOGETHER};
 /// A file that is to be written: one that is not there yet, or, where that is asked
 /// for, over the old one.
 #[derive(Clone, Copy, Debug)]
@@ -55,6 +56,42 @@ fn place_all(staged: Vec<Staged>) -> Result<(), Failure> {
 }
 
 /// Writes a folder that is not there yet, with files in it: all is whole beside its
+/// Writes files over those of a folder that belong together, all of them or none, after
+/// a kill too (`together.rs`). Where one is a link to another folder, or the disk has no
+/// such rename, they are written as any others.
+pub fn write_over(folder: &Path, files: &[(&str, &[u8])]) -> Result<(), Failure> {
+    let failed = |error: io::Error| unwritten(folder, &error);
+    let names: Vec<&str> = files.iter().map(|(name, _)| *name).collect();
+    together::complete(folder, &names).map_err(failed)?;
+    let mut staged = Vec::new();
+    for (name, bytes) in files {
+        let path = &folder.join(name);
+        let over = true;
+        staged.push(Staged::new(&New { path, bytes, over }, &[])?);
+    }
+    let is_inside = |(file, name): (&Staged, &&str)| file.path == folder.join(name);
+    if !staged.iter().zip(&names).all(is_inside) {
+        return place_all(staged);
+    }
+    let together = folder.join(TOGETHER);
+    let (mut ready, _locked) = Beside::folder(&together).map_err(failed)?;
+    // The files that were there, and the new ones, are held until all is done.
+    let mut held = Vec::new();
+    for (file, name) in staged.into_iter().zip(&names) {
+        let moved = file.beside.take_place(&ready.path.join(name));
+        moved.map_err(failed)?;
+        held.push((file.file, file.held));
+    }
+    // Somebody else's new files go first.
+    while let Err(error) = ready.try_place(&together) {
+        if !together::is_left(folder) {
+            return Err(failed(error));
+        }
+        together::complete(folder, &names).map_err(failed)?;
+    }
+    together::complete(folder, &names).map_err(failed)
+}
+
 /// place, which it takes in one step.
 pub fn write_folder(folder: &Path, files: &[(&str, &[u8])]) -> Result<(), Failure> {
     let failed = |error: io::Error| unwritten(folder, &error);
