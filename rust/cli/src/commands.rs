@@ -275,7 +275,7 @@ pub const COMMANDS: &[Command] = &[
         name: "store",
         about: "a store of parameter sets as text, and from text",
         page: include_str!("../help/store.txt"),
-        options: &[OUTPUT, FORCE],
+        options: &[OUTPUT, FORCE, CSV, JSON],
         run: parameters::store,
     },
     Command {
