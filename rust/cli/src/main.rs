@@ -5,7 +5,7 @@
 use std::borrow::Cow;
 use std::env;
 use std::ffi::OsString;
-use std::io::{self, IsTerminal, Write};
+use std::io::{self, BufWriter, IsTerminal, Write};
 use std::process::ExitCode;
 
 use cli::excerpt::excerpts;
@@ -13,7 +13,7 @@ use cli::outcome::Status;
 
 fn main() -> ExitCode {
     let words: Vec<OsString> = env::args_os().skip(1).collect();
-    let outcome = cli::commands::perform(&words);
+    let outcome = cli::commands::begin(&words);
     // Where standard error is closed there is nobody to tell.
     let messages = match io::stderr().is_terminal() {
         true => Cow::Owned(excerpts(&outcome.messages)),
@@ -26,7 +26,15 @@ fn main() -> ExitCode {
         Ok(text) if is_verdict => Cow::Owned(excerpts(text).into_bytes()),
         _ => Cow::Borrowed(outcome.out.as_slice()),
     };
-    match out.write_all(&told).and_then(|()| out.flush()) {
+    let written = out.write_all(&told).and_then(|()| {
+        let Some(stream) = &outcome.stream else {
+            return Ok(String::new());
+        };
+        let mut out = BufWriter::new(&mut out);
+        let messages = stream.write(&mut out)?;
+        out.flush().map(|()| messages)
+    });
+    match written.and_then(|messages| out.flush().map(|()| messages)) {
         // A reader that has gone away needs no more.
         Err(error) if error.kind() != io::ErrorKind::BrokenPipe => {
             let (changed, status) = match &outcome.written {
@@ -37,6 +45,10 @@ fn main() -> ExitCode {
             let _ = writeln!(io::stderr(), "standard output: {reason}");
             ExitCode::from(status.code())
         }
-        _ => ExitCode::from(outcome.status.code()),
+        written => {
+            let messages = written.unwrap_or_default();
+            let _ = io::stderr().write_all(messages.as_bytes());
+            ExitCode::from(outcome.status.code())
+        }
     }
 }
