@@ -8,8 +8,9 @@ use std::ffi::OsString;
 use std::io::{self, BufWriter, IsTerminal, Write};
 use std::process::ExitCode;
 
+use cli::advice::of_writing;
 use cli::excerpt::excerpts;
-use cli::outcome::Status;
+use cli::outcome::{Failure, Status};
 
 fn main() -> ExitCode {
     let words: Vec<OsString> = env::args_os().skip(1).collect();
@@ -37,12 +38,16 @@ fn main() -> ExitCode {
     match written.and_then(|messages| out.flush().map(|()| messages)) {
         // A reader that has gone away needs no more.
         Err(error) if error.kind() != io::ErrorKind::BrokenPipe => {
-            let (changed, status) = match &outcome.written {
-                Some(written) => (format!("; {written}"), Status::Untold),
-                None => (String::new(), Status::Misuse),
+            let (changed, advice, status) = match &outcome.written {
+                Some(written) => {
+                    let advice = "do not give the command again: the change counts";
+                    (format!("; {written}"), advice, Status::Untold)
+                }
+                None => (String::new(), of_writing(error.kind()), Status::Misuse),
             };
             let reason = format!("cannot be written: {error}{changed}");
-            let _ = writeln!(io::stderr(), "standard output: {reason}");
+            let told = Failure::file("standard output", reason, advice);
+            let _ = writeln!(io::stderr(), "{}", told.message());
             ExitCode::from(status.code())
         }
         written => {

@@ -154,8 +154,9 @@ impl Failure {
         Failure::Misuse(message.to_string())
     }
 
-    pub fn file(message: impl Display) -> Failure {
-        Failure::File(message.to_string())
+    /// A file that cannot be read or written: why, and what to do.
+    pub fn file(name: impl Display, reason: impl Display, advice: impl Display) -> Failure {
+        Failure::File(format!("{name}: {reason}\n{name}: what to do: {advice}"))
     }
 
     pub fn message(&self) -> &str {

@@ -7,11 +7,12 @@ use std::fs::{self, File, Metadata};
 use std::io::{self, Write};
 use std::path::{Path, PathBuf};
 
+use crate::advice::of_writing;
 use crate::beside::{sweep, sync_folder, Beside};
 use crate::files::Held;
 use crate::outcome::Failure;
-
 use crate::together::{self, TOGETHER};
+
 /// A file that is to be written: one that is not there yet, or, where that is asked
 /// for, over the old one.
 #[derive(Clone, Copy, Debug)]
@@ -55,7 +56,6 @@ fn place_all(staged: Vec<Staged>) -> Result<(), Failure> {
     Ok(())
 }
 
-/// Writes a folder that is not there yet, with files in it: all is whole beside its
 /// Writes files over those of a folder that belong together, all of them or none, after
 /// a kill too (`together.rs`). Where one is a link to another folder, or the disk has no
 /// such rename, they are written as any others.
@@ -92,6 +92,7 @@ pub fn write_over(folder: &Path, files: &[(&str, &[u8])]) -> Result<(), Failure>
     together::complete(folder, &names).map_err(failed)
 }
 
+/// Writes a folder that is not there yet, with files in it: all is whole beside its
 /// place, which it takes in one step.
 pub fn write_folder(folder: &Path, files: &[(&str, &[u8])]) -> Result<(), Failure> {
     let failed = |error: io::Error| unwritten(folder, &error);
@@ -228,11 +229,8 @@ fn place(path: &Path, over: bool) -> Result<(PathBuf, bool), Failure> {
         return Err(there(path));
     }
     let refused = |reason: &str| {
-        let hint = "--force writes over regular files alone";
-        Err(Failure::file(format!(
-            "{}: {reason}; {hint}",
-            path.display()
-        )))
+        let advice = "give another name; --force writes over regular files alone";
+        Err(Failure::file(path.display(), reason, advice))
     };
     let meant = match named.is_symlink() {
         true => fs::canonicalize(path),
@@ -241,7 +239,8 @@ fn place(path: &Path, over: bool) -> Result<(PathBuf, bool), Failure> {
     match meant.and_then(|meant| fs::metadata(&meant).map(|old| (meant, old))) {
         Ok((_, old)) if old.is_file() && old.permissions().readonly() => {
             let reason = "is read-only, and is not written over";
-            Err(Failure::file(format!("{}: {reason}", path.display())))
+            let advice = "give another name, or make the file writable";
+            Err(Failure::file(path.display(), reason, advice))
         }
         Ok((meant, old)) if old.is_file() => Ok((meant, true)),
         Ok((_, old)) if old.is_dir() => refused("is a folder"),
@@ -251,8 +250,8 @@ fn place(path: &Path, over: bool) -> Result<(PathBuf, bool), Failure> {
 }
 
 fn there(path: &Path) -> Failure {
-    let hint = "is there already; --force puts the new one over it";
-    Failure::file(format!("{}: {hint}", path.display()))
+    let advice = "give another name; --force puts the new one over it";
+    Failure::file(path.display(), "is there already", advice)
 }
 
 /// The owner and the group of the old file, where one may give them.
@@ -270,7 +269,8 @@ fn keep_owner(file: &File, old: &Metadata) {
 fn keep_owner(_file: &File, _old: &Metadata) {}
 
 fn unwritten(path: &Path, error: &io::Error) -> Failure {
-    Failure::file(format!("{}: cannot be written: {error}", path.display()))
+    let reason = format!("cannot be written: {error}");
+    Failure::file(path.display(), reason, of_writing(error.kind()))
 }
 
 #[cfg(test)]
