@@ -5,7 +5,6 @@
 #include "hostile.h"
 
 enum { LONGEST = DAYBOOK_IMAGE_SIZE + 60 };
-
 /* ---- the functions with an answer in numbers, under one type */
 
 typedef uint32_t answering(uint8_t *book, size_t size, uint32_t with_store, const uint8_t *store, size_t store_size, uint32_t id, uint64_t *answer, size_t count);
@@ -389,7 +388,6 @@ int main(int argc, char **argv)
     static uint8_t sample[DAYBOOK_IMAGE_SIZE];
     uint32_t id;
     size_t size = read_sample(argc, argv, sample, &id);
-
     random_bytes(sample);
     damaged_books(sample, size, id);
     damaged_images(sample, size);

@@ -7,7 +7,7 @@ import os
 from pathlib import Path
 from typing import Optional
 
-from .fields import Bytes
+from .fields import MOST_USERS, Bytes
 from .refusals import Refusable, Refused
 
 INTERFACE = 7
@@ -84,8 +84,8 @@ _NO_STORE = (False, b"", 0)
 _NO_LOG = (False, ctypes.create_string_buffer(1), 0)
 
 
-NUMBERS = [ctypes.c_uint64 * max(count, 1) for count in range(6)]
-"""The types of an answer with so many numbers."""
+NUMBERS = {count: ctypes.c_uint64 * max(count, 1) for count in (*range(6), 4 * MOST_USERS)}
+"""The types of an answer with so many numbers: the levels of all users have four for each place of a book."""
 
 
 def lent(name: str, data: Bytes) -> tuple[bytes, int]:

@@ -74,6 +74,11 @@ impl Beside {
 
     /// Puts it where it belongs, over what is there.
     pub fn take_place(mut self, path: &Path) -> io::Result<()> {
+        self.try_place(path)
+    }
+
+    /// The same, where it may be tried again.
+    pub fn try_place(&mut self, path: &Path) -> io::Result<()> {
         fs::rename(&self.path, path)?;
         self.has_taken_its_place = true;
         sync_folder(path);

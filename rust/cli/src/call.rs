@@ -285,8 +285,8 @@ fn apart(log: &Path, book: &Path, target: Option<&Path>) -> Result<(), Failure> 
         return Err(Failure::misuse("--log needs a file"));
     }
     if !log.exists() {
-        let hint = "is not there; `daybook log BOOK -o FILE` starts a log";
-        return Err(Failure::file(format!("{}: {hint}", log.display())));
+        let advice = "`daybook log BOOK -o FILE` starts a log";
+        return Err(Failure::file(log.display(), "is not there", advice));
     }
     let is_book = files::are_one(log, book) || target.is_some_and(|it| files::are_one(log, it));
     match is_book {

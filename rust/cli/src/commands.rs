@@ -275,7 +275,7 @@ pub const COMMANDS: &[Command] = &[
         name: "store",
         about: "a store of parameter sets as text, and from text",
         page: include_str!("../help/store.txt"),
-        options: &[OUTPUT, FORCE],
+        options: &[OUTPUT, FORCE, CSV, JSON],
         run: parameters::store,
     },
     Command {
@@ -287,8 +287,13 @@ pub const COMMANDS: &[Command] = &[
     },
 ];
 
-/// Does what the words of a command line ask for.
+/// Does what the words of a command line ask for, and keeps the whole answer.
 pub fn perform(words: &[OsString]) -> Outcome {
+    begin(words).whole()
+}
+
+/// The same, but for what is written as it is found.
+pub fn begin(words: &[OsString]) -> Outcome {
     let Some((name, rest)) = words.split_first() else {
         return Failure::misuse(overview()).into();
     };

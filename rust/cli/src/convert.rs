@@ -2,6 +2,7 @@
 
 use daybook::{Book, Operator, Refusal, Version};
 
+use crate::advice::of_question;
 use crate::arguments::Arguments;
 use crate::files;
 use crate::made::{hold, put, read};
@@ -30,7 +31,14 @@ pub fn convert(arguments: &Arguments) -> Result<Outcome, Failure> {
     let Some(version) = version else {
         let reason = format!("version {to}, the engine knows {VERSIONS}");
         let refusal = Refusal::TargetVersion;
-        return Err(refusals::of_conversion(&source.name, refusal, &[], &reason));
+        let advice = of_question(refusal);
+        return Err(refusals::of_conversion(
+            &source.name,
+            refusal,
+            &[],
+            &reason,
+            advice,
+        ));
     };
     match Operator::new().convert(&source.bytes, version) {
         Ok(bytes) => {
@@ -56,7 +64,7 @@ fn lost_in(source: &Source, version: u16, refusal: Refusal) -> Failure {
     };
     let them = if lost.len() == 1 { "it" } else { "them" };
     let advice = format!("{advice} drops {them}, and its answers may then be others");
-    refusals::of_conversion(&source.name, refusal, &lost, &advice)
+    refusals::of_conversion(&source.name, refusal, &lost, "", &advice)
 }
 
 /// A field that a version has no place for, and that is not 0.

@@ -3,20 +3,20 @@
 use daybook::{Book, Operator, Trade};
 
 use crate::arguments::Arguments;
-use crate::calls::reduction_object;
-use crate::form::{csv_row, or_null, Form};
+use crate::explain_all::AllOf;
+use crate::explain_objects::{run_object, step_object};
+use crate::form::{csv_row, Form};
 use crate::outcome::{Failure, Outcome};
 use crate::reasons::Asked;
 use crate::refusals::of_call;
 use crate::run::run_line;
 use crate::source::{open, Store};
 use daybook_text::credit::{by_area, lines, Credited};
-use daybook_text::groups::{self, area_of, bearer, with_groups};
-use daybook_text::json::{list, Object};
+use daybook_text::groups::{self, area_of, bearer};
 use daybook_text::store::{figures, Figures};
 use daybook_text::text::aligned;
 use daybook_text::trace::{reference_prices, trace, Extent, Sale, Step, Tier, Trace};
-use daybook_text::words::{counted, euros, grouped, plain_euros, wide, word, AREAS};
+use daybook_text::words::{counted, euros, grouped, plain_euros, word, AREAS};
 
 /// How many reductions are shown of a long run.
 const FIRST: usize = 5;
@@ -32,34 +32,105 @@ pub fn explain(arguments: &Arguments) -> Result<Outcome, Failure> {
     let source = open(arguments.file(0))?;
     let store = Store::open(arguments.path("--store").as_deref())?;
     let most = arguments.number("--steps")?.unwrap_or(MOST);
-    let extent = match arguments.has("--all") {
-        true => Extent {
-            first: usize::try_from(most).unwrap_or(usize::MAX),
-            last: 0,
-            chapters: (0, 0),
-            most,
-        },
-        false => Extent {
-            first: FIRST,
-            last: LAST,
-            chapters: (0, 0),
-            most,
-        },
+    let refused = |refusal| of_call(&source, &store, None, Asked::Plain, refusal);
+    let opening = Operator::new().read(&source.bytes).map_err(refused)?;
+    let figures = figures(store.bytes.as_deref(), opening.date);
+    let telling = Telling {
+        name: source.name.clone(),
+        form,
+        figures,
+        opening,
     };
-    let figures = match Operator::new().read(&source.bytes) {
-        Ok(book) => figures(store.bytes.as_deref(), book.date),
-        Err(refusal) => return Err(of_call(&source, &store, None, Asked::Plain, refusal)),
-    };
-    let trace = trace(store.operator(), &figures, &source.bytes, extent)
-        .map_err(|refusal| of_call(&source, &store, None, Asked::Plain, refusal))?;
     let mut outcome = Outcome::default();
     outcome.note(&source);
-    match form {
-        Form::Json => objects(&mut outcome, &source.name, &trace),
-        Form::Csv => table(&mut outcome, &trace),
-        Form::Words => words(&mut outcome, &trace, &figures),
+    if arguments.has("--all") {
+        // What a run is refused for is found before the first reduction is told.
+        let run = store.operator().run(&mut source.bytes.clone());
+        run.map_err(refused)?;
+        outcome.stream = Some(Box::new(AllOf {
+            telling,
+            bytes: source.bytes,
+            store,
+            most,
+        }));
+        return Ok(outcome);
     }
+    let extent = Extent {
+        first: FIRST,
+        last: LAST,
+        chapters: (0, 0),
+        most,
+    };
+    let trace = trace(store.operator(), &figures, &source.bytes, extent).map_err(refused)?;
+    outcome.text(&telling.head());
+    for step in &trace.first {
+        outcome.text(&telling.step(step));
+    }
+    let shown = trace.first.len() + trace.last.len();
+    let shown = u64::try_from(shown).unwrap_or(u64::MAX);
+    outcome.text(&telling.left_out(&trace, shown));
+    for step in &trace.last {
+        outcome.text(&telling.step(step));
+    }
+    let (end, messages) = telling.end(&trace, shown);
+    outcome.text(&end);
+    outcome.messages.push_str(&messages);
     Ok(outcome)
+}
+
+/// How a run is told: in words, or a row for each sale that a reduction looked at, or an
+/// object for each reduction.
+#[derive(Clone, Debug, PartialEq, Eq)]
+pub struct Telling {
+    pub name: String,
+    pub form: Form,
+    pub figures: Figures,
+    pub opening: Book,
+}
+
+impl Telling {
+    /// What stands before the first reduction.
+    pub fn head(&self) -> String {
+        match self.form {
+            Form::Csv => format!("{}\n", csv_row(SALES)),
+            _ => String::new(),
+        }
+    }
+
+    /// A reduction.
+    pub fn step(&self, step: &Step) -> String {
+        match self.form {
+            Form::Json => format!("{}\n", step_object(&self.name, step, &self.opening)),
+            Form::Csv => rows(step),
+            Form::Words => {
+                let least = reference_prices(&self.opening.prices).into_iter().min();
+                step_words(step, &self.figures, least.unwrap_or(0))
+            }
+        }
+    }
+
+    /// How many reductions are not shown, where words have a place for it.
+    pub fn left_out(&self, trace: &Trace, shown: u64) -> String {
+        let unshown = trace.run.reductions.saturating_sub(shown);
+        if self.form != Form::Words || unshown == 0 {
+            return String::new();
+        }
+        let ending = if unshown == 1 { "" } else { "s" };
+        format!("... {} reduction{ending} more ...\n\n", grouped(unshown))
+    }
+
+    /// The run's totals, for standard output and for standard error, which has them and
+    /// how many are left out beside a table.
+    pub fn end(&self, trace: &Trace, shown: u64) -> (String, String) {
+        match self.form {
+            Form::Json => (
+                format!("{}\n", run_object(&self.name, trace, shown)),
+                String::new(),
+            ),
+            Form::Csv => (String::new(), beside(trace, shown)),
+            Form::Words => (run_words(trace), String::new()),
+        }
+    }
 }
 
 /// The columns of a sale that a reduction looked at.
@@ -80,142 +151,57 @@ const SALES: [&str; 14] = [
     "cut",
 ];
 
-/// A row for each sale of each reduction that is shown; the run's totals, and how many
-/// are left out, on standard error.
-fn table(outcome: &mut Outcome, trace: &Trace) {
-    outcome.line(csv_row(SALES));
-    let shown = trace.first.iter().chain(&trace.last);
-    for step in shown {
-        for (tier, sales) in step.tiers.iter().enumerate() {
-            for sale in &sales.sales {
-                outcome.line(csv_row([
-                    step.number.to_string(),
-                    step.user.id.to_string(),
-                    plain_euros(step.level),
-                    plain_euros(step.user.assigned),
-                    plain_euros(step.answer.target),
-                    (tier + 1).to_string(),
-                    (sale.place + 1).to_string(),
-                    sale.trade.seller.to_string(),
-                    sale.trade.buyer.to_string(),
-                    word(&AREAS, sale.trade.area),
-                    sale.trade.standing.to_string(),
-                    sale.share.to_string(),
-                    sale.remainder.to_string(),
-                    sale.cut.to_string(),
-                ]));
-            }
+/// A row for each sale of a reduction.
+fn rows(step: &Step) -> String {
+    let mut rows = String::new();
+    for (tier, sales) in step.tiers.iter().enumerate() {
+        for sale in &sales.sales {
+            rows.push_str(&csv_row([
+                step.number.to_string(),
+                step.user.id.to_string(),
+                plain_euros(step.level),
+                plain_euros(step.user.assigned),
+                plain_euros(step.answer.target),
+                (tier + 1).to_string(),
+                (sale.place + 1).to_string(),
+                sale.trade.seller.to_string(),
+                sale.trade.buyer.to_string(),
+                word(&AREAS, sale.trade.area),
+                sale.trade.standing.to_string(),
+                sale.share.to_string(),
+                sale.remainder.to_string(),
+                sale.cut.to_string(),
+            ]));
+            rows.push('\n');
         }
     }
-    outcome.message(run_line(&trace.run));
-    let shown = wide(trace.first.len() + trace.last.len());
-    if shown < i128::from(trace.run.reductions) {
+    rows
+}
+
+/// The run's totals beside a table, and how many reductions are left out.
+fn beside(trace: &Trace, shown: u64) -> String {
+    let mut text = format!("{}\n", run_line(&trace.run));
+    if shown < trace.run.reductions {
         let hint = "--all shows those that are taken apart";
-        outcome.message(format!("{} of them are shown; {hint}", grouped(shown)));
+        text.push_str(&format!("{} of them are shown; {hint}\n", grouped(shown)));
     }
+    text
 }
 
-fn objects(outcome: &mut Outcome, name: &str, trace: &Trace) {
-    for step in trace.first.iter().chain(&trace.last) {
-        outcome.line(step_object(name, step, &trace.opening));
-    }
-    let run = &trace.run;
-    let object = Object::new()
-        .string("book", name)
-        .put("reductions", run.reductions)
-        .put("shown", trace.first.len() + trace.last.len())
-        .put("taken_apart", trace.taken)
-        .put("mwh", run.mwh)
-        .put("worth_cents", run.worth);
-    outcome.line(object.end());
-}
-
-/// A reduction as an object. A book keeps its managers, so that the groups are those of
-/// the opening one.
-fn step_object(name: &str, step: &Step, opening: &Book) -> String {
-    let object = Object::new()
-        .string("book", name)
-        .put("reduction", step.number)
-        .put("id", step.user.id);
-    let object = with_groups(object, opening, &step.user).put("level_cents", step.level);
-    let object = match &step.credited {
-        Some(Credited { without, credits }) => object
-            .put("level_without_credit_cents", without)
-            .put("credit_cents", list(by_area(credits))),
-        None => object,
-    };
-    let object = object
-        .put("assigned_cents", step.user.assigned)
-        .put("blocked_cents", step.user.blocked)
-        .put("flagged", step.called_in.is_flagged())
-        .put("party_to_cut", step.called_in.is_party());
-    let moves = step.moves.iter().map(|it| {
-        Object::new()
-            .put("id", it.id)
-            .string("area", AREAS[it.area])
-            .put("before_mwh", it.before)
-            .put("after_mwh", it.after)
-            .end()
-    });
-    reduction_object(object, &step.answer)
-        .put("tiers", list(step.tiers.iter().map(tier_object)))
-        .put("moves", list(moves))
-        .put("next", or_null(step.next))
-        .end()
-}
-
-fn tier_object(tier: &Tier) -> String {
-    let sales = tier.sales.iter().map(|sale| {
-        Object::new()
-            .put("trade", sale.place + 1)
-            .put("seller", sale.trade.seller)
-            .put("buyer", sale.trade.buyer)
-            .string("area", &word(&AREAS, sale.trade.area))
-            .put("standing_mwh", sale.trade.standing)
-            .put("share_mwh", sale.share)
-            .put("remainder", sale.remainder)
-            .put("cut_mwh", sale.cut)
-            .end()
-    });
-    Object::new()
-        .put("asked_cents", tier.asked)
-        .put("worth_cents", tier.worth)
-        .put("sales", list(sales))
-        .end()
-}
-
-fn words(outcome: &mut Outcome, trace: &Trace, figures: &Figures) {
-    let least = reference_prices(&trace.opening.prices).into_iter().min();
-    let least = least.unwrap_or(0);
-    for step in &trace.first {
-        outcome.text(&step_words(step, figures, least));
-    }
-    let shown = trace.first.len() + trace.last.len();
-    let shown = u64::try_from(shown).unwrap_or(u64::MAX);
-    let unshown = trace.run.reductions.saturating_sub(shown);
-    if unshown > 0 {
-        let ending = if unshown == 1 { "" } else { "s" };
-        outcome.line(format!(
-            "... {} reduction{ending} more ...\n",
-            grouped(unshown)
-        ));
-    }
-    for step in &trace.last {
-        outcome.text(&step_words(step, figures, least));
-    }
-    outcome.line(format!("run: {}", run_line(&trace.run)));
+fn run_words(trace: &Trace) -> String {
+    let mut text = format!("run: {}\n", run_line(&trace.run));
     if trace.taken < trace.run.reductions {
         let taken = counted(
             usize::try_from(trace.taken).unwrap_or(usize::MAX),
             "reduction",
         );
         let unshown = "the last of the run are not shown";
-        outcome.line(format!(
-            "the first {taken} taken apart (--steps N), {unshown}; in these:"
+        text.push_str(&format!(
+            "the first {taken} taken apart (--steps N), {unshown}; in these:\n"
         ));
     }
-    let rows: Vec<Vec<String>> = reduced(trace);
-    outcome.text(&aligned(&rows));
+    text.push_str(&aligned(&reduced(trace)));
+    text
 }
 
 /// A line for each user that was reduced: how often, and what it lost, both in

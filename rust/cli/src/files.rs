@@ -5,6 +5,7 @@ use std::fs::{self, File, Metadata};
 use std::io::{self, Read};
 use std::path::Path;
 
+use crate::advice::of_reading;
 use crate::outcome::Failure;
 
 /// The longest file that is read, far above the longest book in bytes.
@@ -50,19 +51,23 @@ fn whole(path: &Path, read: io::Result<Vec<u8>>) -> Result<Vec<u8>, Failure> {
         Ok(bytes) if bytes.len() as u64 > LONGEST => {
             let most = LONGEST >> 20;
             let reason = format!("cannot be read: it is longer than {most} MB");
-            Err(Failure::file(format!("{name}: {reason}")))
+            let advice = "give a book, a text or a table: none of them is so long";
+            Err(Failure::file(name, reason, advice))
         }
         Ok(bytes) => Ok(bytes),
         Err(error) if error.kind() == io::ErrorKind::IsADirectory => {
-            let hint = "a folder with header.csv, users.csv and trades.csv is a book";
-            Err(Failure::file(format!("{name}: is a folder; {hint}")))
+            let advice =
+                "give a file; a folder with header.csv, users.csv and trades.csv is a book";
+            Err(Failure::file(name, "is a folder", advice))
         }
         Err(error) => Err(unread(path, &error)),
     }
 }
 
-fn unread(path: &Path, error: &io::Error) -> Failure {
-    Failure::file(format!("{}: cannot be read: {error}", shown(path)))
+/// A file or a folder that cannot be read.
+pub fn unread(path: &Path, error: &io::Error) -> Failure {
+    let reason = format!("cannot be read: {error}");
+    Failure::file(shown(path), reason, of_reading(error.kind()))
 }
 
 fn bytes(source: impl Read) -> io::Result<Vec<u8>> {
@@ -87,14 +92,14 @@ impl Held {
         loop {
             let named = fs::metadata(path).map_err(|error| unread(path, &error))?;
             if !named.is_file() {
-                let reason = format!("is no regular file; {option} needs one");
-                return Err(Failure::file(format!("{}: {reason}", shown(path))));
+                let advice = format!("give a regular file; {option} needs one");
+                return Err(Failure::file(shown(path), "is no regular file", advice));
             }
             let file = File::open(path).map_err(|error| unread(path, &error))?;
             let locked = file.lock().and_then(|()| file.metadata());
             let identity = locked.map_err(|error| {
-                let name = shown(path);
-                Failure::file(format!("{name}: cannot be locked: {error}"))
+                let reason = format!("cannot be locked: {error}");
+                Failure::file(shown(path), reason, "copy it to a disk that has locks")
             })?;
             let held = Held { file, identity };
             // Gone while it was waited for: the next turn says so.

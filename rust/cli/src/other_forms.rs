@@ -52,6 +52,7 @@ pub fn csv(arguments: &Arguments) -> Result<Outcome, Failure> {
     let files: Vec<(&str, &[u8])> = files.map(|(file, text)| (*file, text.as_bytes())).collect();
     match fs::symlink_metadata(folder) {
         Err(_) => write::write_folder(folder, &files)?,
+        Ok(_) if over && folder.is_dir() => write::write_over(folder, &files)?,
         Ok(_) => {
             let paths = files.iter().map(|(file, _)| folder.join(file));
             let paths: Vec<PathBuf> = paths.collect();

@@ -3,6 +3,7 @@
 
 use std::fmt::Display;
 
+use crate::explain_all::AllOf;
 use crate::form::{csv_row, Form};
 use crate::source::Source;
 use daybook_text::json::Object;
@@ -47,9 +48,21 @@ pub struct Outcome {
     pub book: Option<Vec<u8>>,
     /// What was written, in words, where something was.
     pub written: Option<String>,
+    /// What is still to be found, and written behind `out` as it is.
+    pub stream: Option<Box<AllOf>>,
 }
 
 impl Outcome {
+    /// The same with all that is still to be found.
+    pub fn whole(mut self) -> Outcome {
+        if let Some(stream) = self.stream.take() {
+            // A vector takes whatever is written.
+            let messages = stream.write(&mut self.out).unwrap_or_default();
+            self.messages.push_str(&messages);
+        }
+        self
+    }
+
     /// Adds a line to standard output.
     pub fn line(&mut self, line: impl Display) {
         self.out.extend(format!("{line}\n").into_bytes());
@@ -141,8 +154,9 @@ impl Failure {
         Failure::Misuse(message.to_string())
     }
 
-    pub fn file(message: impl Display) -> Failure {
-        Failure::File(message.to_string())
+    /// A file that cannot be read or written: why, and what to do.
+    pub fn file(name: impl Display, reason: impl Display, advice: impl Display) -> Failure {
+        Failure::File(format!("{name}: {reason}\n{name}: what to do: {advice}"))
     }
 
     pub fn message(&self) -> &str {

@@ -9,11 +9,13 @@ use daybook::{Book, Operator, Prices, Refusal, User};
 
 use crate::arguments::Arguments;
 use crate::files;
+use crate::form::Form;
 use crate::other_forms::output;
 use crate::outcome::{Failure, Outcome};
 use crate::refusals;
 use daybook_text::draft::{too_long, Mistake, MOST_MISTAKES};
-use daybook_text::store::{malformed, sets, to_bytes, Figures, Set};
+use daybook_text::json::Object;
+use daybook_text::store::{malformed, sets, to_bytes, Figures, Set, TODAY};
 use daybook_text::text::{aligned, mistake, starts_with_word, Words};
 use daybook_text::words::{date, euros, grouped};
 
@@ -21,8 +23,12 @@ use daybook_text::words::{date, euros, grouped};
 const FIRST: &str = "parameters";
 
 pub fn store(arguments: &Arguments) -> Result<Outcome, Failure> {
-    let usage = "store FILE [-o FILE [--force]]";
+    let usage = "store FILE [-o FILE [--force]] or store FILE --csv|--json";
     arguments.expect(1, 1, usage)?;
+    let form = Form::of(arguments)?;
+    if form != Form::Words && (arguments.has("-o") || arguments.has("--force")) {
+        return Err(Failure::misuse("--csv and --json tell a store, without -o"));
+    }
     let path = arguments.file(0);
     let (name, bytes) = (files::shown(path), files::read(path)?);
     let is_text = is_text(&bytes);
@@ -31,6 +37,9 @@ pub fn store(arguments: &Arguments) -> Result<Outcome, Failure> {
         let reason = malformed(&store).unwrap_or_default();
         return Err(refusals::of_store(&name, refusal, &reason));
     }
+    if form != Form::Words {
+        return Ok(told(&name, &store, form));
+    }
     match is_text {
         false => output(arguments, write(&store).as_bytes()),
         true if arguments.has("-o") => output(arguments, &store),
@@ -38,6 +47,45 @@ pub fn store(arguments: &Arguments) -> Result<Outcome, Failure> {
             "usage: daybook {usage}; a text needs -o"
         ))),
     }
+}
+
+/// The sets of a store, an object or a row each, after how many there are.
+fn told(name: &str, store: &[u8], form: Form) -> Outcome {
+    let mut outcome = Outcome::default();
+    let sets = sets(store);
+    if form == Form::Json {
+        let object = Object::new().string("store", name).put("number", 0);
+        outcome.line(object.put("sets", sets.len()).end());
+    }
+    let object = |place: usize, set: &Set| {
+        Object::new()
+            .put("set", place + 1)
+            .string("from", &date(set.first_date))
+            .put("flag_mwh", set.figures.flag_mwh)
+            .put("margin_cents", set.figures.margin)
+            .put("least_cents", set.figures.least_level)
+    };
+    if let (Form::Csv, []) = (form, sets.as_slice()) {
+        let (first_date, figures) = (0, TODAY);
+        outcome.heads(&object(
+            0,
+            &Set {
+                first_date,
+                figures,
+            },
+        ));
+    }
+    for (place, set) in sets.iter().enumerate() {
+        let object = object(place, set);
+        outcome.object(
+            form,
+            match form {
+                Form::Json => object.about("store", name),
+                _ => object,
+            },
+        );
+    }
+    outcome
 }
 
 /// The store of a file's bytes: a store already, or its text form.

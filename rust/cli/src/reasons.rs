@@ -5,6 +5,7 @@ use std::path::Path;
 
 use daybook::{Book, Level, Operator, Refusal, User};
 
+use crate::advice::of_question;
 use crate::cancel::worth;
 use crate::files::{is_standard, quoted, shown};
 use crate::log_file::LogFile;
@@ -178,7 +179,7 @@ pub fn of_log(
         Refusal::LogEmpty => {
             let emptied = "a posting, a list or a guarantee call empties a log";
             let reason = format!("{name} has no reduction noted; {emptied}");
-            (reason, Vec::new())
+            (reason, vec![of_question(refusal).to_string()])
         }
         Refusal::LogFull => {
             let noted = counted(log.log.entries(), "reduction");
@@ -188,7 +189,7 @@ pub fn of_log(
         _ => {
             let book = Operator::new().read(&source.bytes).unwrap_or_default();
             match log_fault(log.log.as_bytes(), &source.bytes, &book) {
-                None => (String::new(), Vec::new()),
+                None => (String::new(), vec![of_question(refusal).to_string()]),
                 Some(fault) => {
                     let advice = log_advice(source, log, target, fault);
                     (format!("{name} {fault}"), advice)

@@ -41,7 +41,8 @@ pub fn of_book(name: &str, refusal: Refusal, faults: &[(Option<Spot>, Fault)]) -
     let places = faults.iter().map(|(spot, fault)| (spot.as_ref(), fault));
     lines.extend(fault_lines(name, places.clone()));
     let advice = advice::of_faults(places.clone().map(|(_, fault)| fault));
-    lines.extend(advice.map(|it| to_do(name, it)));
+    let advice = advice.unwrap_or_else(|| advice::of_question(refusal));
+    lines.push(to_do(name, advice));
     let faults = places.map(|(spot, fault)| fault_object(spot, fault));
     let object = Object::new()
         .string("book", name)
@@ -49,12 +50,12 @@ pub fn of_book(name: &str, refusal: Refusal, faults: &[(Option<Spot>, Fault)]) -
         .put("number", refusal.number())
         .string("question", &question(refusal))
         .put("faults", list(faults))
-        .put("advice", list(advice.map(quoted)));
+        .put("advice", list([quoted(advice)]));
     told(lines.join("\n"), object)
 }
 
 /// What to do, as a message ends in it.
-fn to_do(name: &str, advice: &str) -> String {
+pub fn to_do(name: &str, advice: &str) -> String {
     format!("{name}: what to do: {advice}")
 }
 
@@ -86,8 +87,8 @@ pub fn of_form(
     let mut lines = vec![format!("{name}: {}", refused(refusal))];
     lines.extend(of_book.map(|it| format!("{name}: its book is {}", refused(it))));
     lines.extend(fault_lines(name, faults.iter().map(|fault| (None, fault))));
-    let advice = advice::of_faults(faults);
-    lines.extend(advice.map(|it| to_do(name, it)));
+    let advice = advice::of_faults(faults).unwrap_or_else(|| advice::of_question(refusal));
+    lines.push(to_do(name, advice));
     let faults = faults.iter().map(|fault| fault_object(None, fault));
     let object = Object::new()
         .string("book", name)
@@ -96,27 +97,37 @@ pub fn of_form(
         .string("question", &question(refusal))
         .put("book_number", or_null(of_book.map(Refusal::number)))
         .put("faults", list(faults))
-        .put("advice", list(advice.map(quoted)));
+        .put("advice", list([quoted(advice)]));
     told(lines.join("\n"), object)
 }
 
-/// A refused conversion: the question, what would be lost, a line each, and the reason
-/// or what helps.
-pub fn of_conversion(name: &str, refusal: Refusal, lost: &[Lost], reason: &str) -> Failure {
+/// A refused conversion: the question, the reason or what would be lost, a line each,
+/// and what to do.
+pub fn of_conversion(
+    name: &str,
+    refusal: Refusal,
+    lost: &[Lost],
+    reason: &str,
+    advice: &str,
+) -> Failure {
     let mut lines = vec![refused(refusal)];
     lines.extend(lost.iter().take(MOST_FAULTS).map(Lost::told));
     if lost.len() > MOST_FAULTS {
         lines.push(format!("and {} more", lost.len() - MOST_FAULTS));
     }
-    lines.push(reason.to_string());
+    if !reason.is_empty() {
+        lines.push(reason.to_string());
+    }
     let line = |line: &String| format!("{name}: {line}");
-    let lines: Vec<String> = lines.iter().map(line).collect();
+    let mut lines: Vec<String> = lines.iter().map(line).collect();
+    lines.push(to_do(name, advice));
     let object = Object::new()
         .string("book", name)
         .put("number", refusal.number())
         .string("question", &question(refusal))
         .put("lost", list(lost.iter().map(|it| quoted(&it.told()))))
-        .string("reason", reason);
+        .string("reason", reason)
+        .put("advice", list([quoted(advice)]));
     told(lines.join("\n"), object)
 }
 
@@ -125,13 +136,15 @@ pub fn noted(name: &str, it: &Mistake) -> String {
     format!("{name}{}: {}", it.spot, it.reason)
 }
 
-/// A text or a table that cannot be read: its mistakes, a line each.
+/// A text or a table that cannot be read: its mistakes, a line each, and what to do.
 pub fn of_text(name: &str, mistakes: &[Mistake]) -> Failure {
-    let lines: Vec<String> = mistakes.iter().map(|it| noted(name, it)).collect();
+    let mut lines: Vec<String> = mistakes.iter().map(|it| noted(name, it)).collect();
+    lines.push(to_do(name, advice::OF_TEXT));
     let object = Object::new()
         .string("book", name)
         .put("accepted", false)
-        .put("mistakes", list(mistakes.iter().map(mistake_object)));
+        .put("mistakes", list(mistakes.iter().map(mistake_object)))
+        .put("advice", list([quoted(advice::OF_TEXT)]));
     told(lines.join("\n"), object)
 }
 
@@ -158,9 +171,9 @@ pub fn of_call(
     if !reason.is_empty() {
         lines.push(format!("{name}: {reason}"));
     }
-    lines.extend(advice.iter().map(|it| to_do(name, it)));
-    let advice = advice.iter().map(|it| quoted(it));
-    told(lines.join("\n"), object.put("advice", list(advice)))
+    lines.push(to_do(name, &advice));
+    let object = object.put("advice", list([quoted(&advice)]));
+    told(lines.join("\n"), object)
 }
 
 /// A call that the party may not make. What is told is told by the two ids alone, and
@@ -176,7 +189,7 @@ pub fn of_party(name: &str, party: u32, id: u32) -> Failure {
         .put("number", refusal.number())
         .put("id", id)
         .string("question", &question(refusal));
-    with_reason(name, refusal, &reason, object)
+    with_reason(name, refusal, &reason, &advice::of_party(party, id), object)
 }
 
 /// A refused book without its fields at fault, and a text that cannot be read without
@@ -194,6 +207,8 @@ pub fn without_faults(name: &str, failure: Failure) -> Failure {
         }
     };
     let object = head.map_or(object.clone(), |head| format!("{head}}}"));
+    let to_do = to_do(name, "tell the operator, who holds the book");
+    let message = format!("{message}\n{to_do}");
     Failure::Refused(Told { message, object })
 }
 
@@ -209,7 +224,7 @@ pub fn of_log(
     let name = &source.name;
     let mut lines = vec![format!("{name}: {}", refused(refusal))];
     lines.push(format!("{name}: {reason}"));
-    lines.extend(advice.iter().map(|line| format!("{name}: {line}")));
+    lines.extend(advice.iter().map(|line| to_do(name, line)));
     let object = Object::new().string("book", name);
     let mut object = object.put("number", refusal.number());
     if let Some(id) = id {
@@ -236,7 +251,8 @@ pub fn of_held(log: &LogFile, refusal: Refusal) -> Failure {
         .put("accepted", false)
         .put("number", number.number())
         .string("question", &question(number));
-    with_reason(name, number, &reason, object)
+    let advice = "`daybook log BOOK -o FILE` starts a log for a book";
+    with_reason(name, number, &reason, advice, object)
 }
 
 /// A refused store.
@@ -246,17 +262,26 @@ pub fn of_store(name: &str, refusal: Refusal, reason: &str) -> Failure {
         .put("accepted", false)
         .put("number", refusal.number())
         .string("question", &question(refusal));
-    with_reason(name, refusal, reason, object)
+    with_reason(name, refusal, reason, advice::of_question(refusal), object)
 }
 
-fn with_reason(name: &str, refusal: Refusal, reason: &str, object: Object) -> Failure {
-    let line = match reason.is_empty() {
-        true => String::new(),
-        false => format!("\n{name}: {reason}"),
-    };
+/// The question, the reason where there is one, and what to do.
+fn with_reason(
+    name: &str,
+    refusal: Refusal,
+    reason: &str,
+    advice: &str,
+    object: Object,
+) -> Failure {
+    let mut lines = vec![format!("{name}: {}", refused(refusal))];
+    if !reason.is_empty() {
+        lines.push(format!("{name}: {reason}"));
+    }
+    lines.push(to_do(name, advice));
+    let object = object.string("reason", reason);
     told(
-        format!("{name}: {}{line}", refused(refusal)),
-        object.string("reason", reason),
+        lines.join("\n"),
+        object.put("advice", list([quoted(advice)])),
     )
 }
 

@@ -3,13 +3,14 @@
 
 use daybook::shrinkage::{over_days, shrinkage_return, Kwh};
 
+use crate::advice::of_return;
 use crate::arguments::Arguments;
 use crate::files;
 use crate::form::Form;
 use crate::outcome::{Failure, Outcome, Told};
 use crate::refusals;
 use daybook_text::draft::{too_long, Mistake, Spot};
-use daybook_text::json::{list, Object};
+use daybook_text::json::{list, quoted, Object};
 use daybook_text::text::{aligned, short};
 use daybook_text::words::{grouped, read_whole};
 
@@ -32,12 +33,15 @@ pub fn shrinkage(arguments: &Arguments) -> Result<Outcome, Failure> {
         Ok(returned) => returned,
         Err(refusal) => {
             let (number, question) = (refusal.number(), refusal.question());
+            let advice = of_return(refusal);
             let object = Object::new()
                 .string("file", &name)
                 .put("number", number)
-                .string("question", question);
+                .string("question", question)
+                .put("advice", list([quoted(advice)]));
+            let to_do = refusals::to_do(&name, advice);
             return Err(Failure::Refused(Told {
-                message: format!("{name}: {refusal}{}", why(&balances)),
+                message: format!("{name}: {refusal}{}\n{to_do}", why(&balances)),
                 object: object.end(),
             }));
         }

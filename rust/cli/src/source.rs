@@ -9,6 +9,7 @@ use crate::files;
 use crate::outcome::Failure;
 use crate::parameters::from_file;
 use crate::refusals;
+use crate::together;
 use daybook_text::csv;
 use daybook_text::draft::{Draft, Mistake, Spot};
 use daybook_text::faults::{faults, Fault};
@@ -75,14 +76,13 @@ pub fn given(path: &Path) -> Result<Given, Failure> {
 /// Whether a folder is meant as a book.
 pub fn is_tables(path: &Path) -> bool {
     let has = |file: &&str| path.join(file).exists();
-    !files::is_standard(path) && path.is_dir() && csv::FILES.iter().any(has)
+    let is_book = || csv::FILES.iter().any(has) || together::is_left(path);
+    !files::is_standard(path) && path.is_dir() && is_book()
 }
 
 /// The three CSV files of a folder.
 pub fn tables(folder: &Path) -> Result<[Vec<u8>; 3], Failure> {
-    let read = |file: &str| files::read(&folder.join(file));
-    let [header, users, trades] = csv::FILES.map(read);
-    Ok([header?, users?, trades?])
+    together::read(folder, csv::FILES)
 }
 
 /// What the engine says of a file.

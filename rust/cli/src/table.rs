@@ -91,8 +91,7 @@ pub fn books(path: &Path) -> Result<Vec<PathBuf>, Failure> {
     if files::is_standard(path) || !path.is_dir() || is_tables(path) {
         return Ok(vec![path.to_path_buf()]);
     }
-    let failed =
-        |error: io::Error| Failure::file(format!("{}: cannot be read: {error}", path.display()));
+    let failed = |error: io::Error| files::unread(path, &error);
     let mut paths = Vec::new();
     for file in fs::read_dir(path).map_err(failed)? {
         let file = file.map_err(failed)?;

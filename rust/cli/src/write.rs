@@ -7,9 +7,11 @@ use std::fs::{self, File, Metadata};
 use std::io::{self, Write};
 use std::path::{Path, PathBuf};
 
+use crate::advice::of_writing;
 use crate::beside::{sweep, sync_folder, Beside};
 use crate::files::Held;
 use crate::outcome::Failure;
+use crate::together::{self, TOGETHER};
 
 /// A file that is to be written: one that is not there yet, or, where that is asked
 /// for, over the old one.
@@ -52,6 +54,42 @@ fn place_all(staged: Vec<Staged>) -> Result<(), Failure> {
         }
     }
     Ok(())
+}
+
+/// Writes files over those of a folder that belong together, all of them or none, after
+/// a kill too (`together.rs`). Where one is a link to another folder, or the disk has no
+/// such rename, they are written as any others.
+pub fn write_over(folder: &Path, files: &[(&str, &[u8])]) -> Result<(), Failure> {
+    let failed = |error: io::Error| unwritten(folder, &error);
+    let names: Vec<&str> = files.iter().map(|(name, _)| *name).collect();
+    together::complete(folder, &names).map_err(failed)?;
+    let mut staged = Vec::new();
+    for (name, bytes) in files {
+        let path = &folder.join(name);
+        let over = true;
+        staged.push(Staged::new(&New { path, bytes, over }, &[])?);
+    }
+    let is_inside = |(file, name): (&Staged, &&str)| file.path == folder.join(name);
+    if !staged.iter().zip(&names).all(is_inside) {
+        return place_all(staged);
+    }
+    let together = folder.join(TOGETHER);
+    let (mut ready, _locked) = Beside::folder(&together).map_err(failed)?;
+    // The files that were there, and the new ones, are held until all is done.
+    let mut held = Vec::new();
+    for (file, name) in staged.into_iter().zip(&names) {
+        let moved = file.beside.take_place(&ready.path.join(name));
+        moved.map_err(failed)?;
+        held.push((file.file, file.held));
+    }
+    // Somebody else's new files go first.
+    while let Err(error) = ready.try_place(&together) {
+        if !together::is_left(folder) {
+            return Err(failed(error));
+        }
+        together::complete(folder, &names).map_err(failed)?;
+    }
+    together::complete(folder, &names).map_err(failed)
 }
 
 /// Writes a folder that is not there yet, with files in it: all is whole beside its
@@ -191,11 +229,8 @@ fn place(path: &Path, over: bool) -> Result<(PathBuf, bool), Failure> {
         return Err(there(path));
     }
     let refused = |reason: &str| {
-        let hint = "--force writes over regular files alone";
-        Err(Failure::file(format!(
-            "{}: {reason}; {hint}",
-            path.display()
-        )))
+        let advice = "give another name; --force writes over regular files alone";
+        Err(Failure::file(path.display(), reason, advice))
     };
     let meant = match named.is_symlink() {
         true => fs::canonicalize(path),
@@ -204,7 +239,8 @@ fn place(path: &Path, over: bool) -> Result<(PathBuf, bool), Failure> {
     match meant.and_then(|meant| fs::metadata(&meant).map(|old| (meant, old))) {
         Ok((_, old)) if old.is_file() && old.permissions().readonly() => {
             let reason = "is read-only, and is not written over";
-            Err(Failure::file(format!("{}: {reason}", path.display())))
+            let advice = "give another name, or make the file writable";
+            Err(Failure::file(path.display(), reason, advice))
         }
         Ok((meant, old)) if old.is_file() => Ok((meant, true)),
         Ok((_, old)) if old.is_dir() => refused("is a folder"),
@@ -214,8 +250,8 @@ fn place(path: &Path, over: bool) -> Result<(PathBuf, bool), Failure> {
 }
 
 fn there(path: &Path) -> Failure {
-    let hint = "is there already; --force puts the new one over it";
-    Failure::file(format!("{}: {hint}", path.display()))
+    let advice = "give another name; --force puts the new one over it";
+    Failure::file(path.display(), "is there already", advice)
 }
 
 /// The owner and the group of the old file, where one may give them.
@@ -233,7 +269,8 @@ fn keep_owner(file: &File, old: &Metadata) {
 fn keep_owner(_file: &File, _old: &Metadata) {}
 
 fn unwritten(path: &Path, error: &io::Error) -> Failure {
-    Failure::file(format!("{}: cannot be written: {error}", path.display()))
+    let reason = format!("cannot be written: {error}");
+    Failure::file(path.display(), reason, of_writing(error.kind()))
 }
 
 #[cfg(test)]

@@ -63,7 +63,7 @@ fn lost_information() {
                 "2.gdb: refused by question 21: {question}\n\
                  2.gdb: header: S 18.00 EUR/MWh would be lost\n\
                  2.gdb: header: U 19.00 EUR/MWh would be lost\n\
-                 2.gdb: `daybook change 2.gdb 'prices S 0.00' 'prices U 0.00' -o FILE` drops them, \
+                 2.gdb: what to do: `daybook change 2.gdb 'prices S 0.00' 'prices U 0.00' -o FILE` drops them, \
                  {advice}\n"
             ),
         ),
@@ -72,7 +72,7 @@ fn lost_information() {
             format!(
                 "3.gdb: refused by question 21: {question}\n\
                  3.gdb: user 4, id 204: manager PVB 201 would be lost\n\
-                 3.gdb: `daybook change 3.gdb 'user 204 manager PVB none' -o FILE` drops it, \
+                 3.gdb: what to do: `daybook change 3.gdb 'user 204 manager PVB none' -o FILE` drops it, \
                  {advice}\n"
             ),
         ),
@@ -83,7 +83,7 @@ fn lost_information() {
                  3.txt: header: S 18.00 EUR/MWh would be lost\n\
                  3.txt: header: U 19.00 EUR/MWh would be lost\n\
                  3.txt: user 4, id 204: manager PVB 201 would be lost\n\
-                 3.txt: `daybook change BOOK 'prices S 0.00' 'prices U 0.00' \
+                 3.txt: what to do: `daybook change BOOK 'prices S 0.00' 'prices U 0.00' \
                  'user 204 manager PVB none' -o FILE` drops them, {advice}\n"
             ),
         ),

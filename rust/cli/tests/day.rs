@@ -315,7 +315,7 @@ fn changes() {
     }
     let outcome = done(&["change", sample, "trade 9 standing 0", "user 101 blocked x"]);
     let places: Vec<&str> = outcome.messages.lines().map(|line| &line[..11]).collect();
-    assert_eq!(places, ["change:1:7:", "change:2:18"]);
+    assert_eq!(places, ["change:1:7:", "change:2:18", "change: wha"]);
     let outcome = done(&["change", sample, "date 2026-03-19", "-o", "-"]);
     assert_eq!(outcome.messages, "date 2026-03-18 -> 2026-03-19\n");
 }

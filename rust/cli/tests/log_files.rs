@@ -192,7 +192,7 @@ fn what_is_no_log() {
         ),
         (
             "run chain.gdb --log pipe",
-            "pipe: is no regular file; --log needs one",
+            "pipe: what to do: give a regular file; --log needs one",
         ),
         ("run chain.gdb --log folder", "folder: is no regular file"),
         (
@@ -201,7 +201,7 @@ fn what_is_no_log() {
         ),
         (
             "run chain.gdb --log none.log",
-            "none.log: is not there; `daybook log",
+            "none.log: is not there\nnone.log: what to do: `daybook log",
         ),
         ("run chain.gdb --log -", "--log needs a file"),
         (

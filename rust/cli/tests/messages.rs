@@ -51,9 +51,9 @@ fn verdicts_in_one_place() {
 fn a_folder_is_no_book() {
     let folder = sample("");
     let outcome = daybook(&["run", &folder]);
-    assert!(outcome
-        .messages
-        .contains("is a folder; a folder with header.csv, users.csv and trades.csv is a book"));
+    assert!(outcome.messages.contains(
+        "what to do: give a file; a folder with header.csv, users.csv and trades.csv is a book"
+    ));
     assert_eq!(outcome.status, Status::Misuse);
 }
 

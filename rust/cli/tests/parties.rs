@@ -113,7 +113,9 @@ fn others_are_told_the_two_ids_and_the_question() {
                     }
                 };
                 let question = "refused by question 26: may the party make this call?";
-                let told = format!("{file}: {question}\n{file}: {reason}\n");
+                let advice = cli::advice::of_party(party, id);
+                let told =
+                    format!("{file}: {question}\n{file}: {reason}\n{file}: what to do: {advice}\n");
                 assert_eq!((out.as_str(), messages, status), ("", told, 1));
                 let words = [command, file, &asked, "--as", &acts, "--json"];
                 let (out, messages, _) = done(&words);
@@ -138,7 +140,8 @@ fn no_field_at_fault_is_told_to_a_shipper() {
         let (out, messages, status) = done(&[command, &refused, "--as", "101"]);
         let question = "refused by question 5: every user field valid, managers too, positions \
                         apart?";
-        let told = format!("{refused}: {question}\n");
+        let advice = "what to do: tell the operator, who holds the book";
+        let told = format!("{refused}: {question}\n{refused}: {advice}\n");
         assert_eq!((out.as_str(), messages, status), ("", told, 1));
         let (out, ..) = done(&[command, &refused, "--as", "101", "--json"]);
         assert!(
@@ -157,7 +160,11 @@ fn no_field_at_fault_is_told_to_a_shipper() {
         assert_eq!(status, 1);
     }
     let (_, messages, _) = done(&["flag", &text, "--as", "101"]);
-    assert_eq!(messages, format!("{text}: cannot be read\n"));
+    let advice = "what to do: tell the operator, who holds the book";
+    assert_eq!(
+        messages,
+        format!("{text}: cannot be read\n{text}: {advice}\n")
+    );
 }
 
 #[test]

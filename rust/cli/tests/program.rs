@@ -278,7 +278,7 @@ fn answers_as_objects() {
     for (words, out) in [
         (
             "run no.txt --json",
-            r#"{"book":"no.txt","accepted":false,"mistakes":[{"line":2,"column":6,"reason":"the id is a whole number, not `x`"}]}"#,
+            r#"{"book":"no.txt","accepted":false,"mistakes":[{"line":2,"column":6,"reason":"the id is a whole number, not `x`"}],"advice":["write these places as they have to be, then give the command again"]}"#,
         ),
         (
             "level no.gdb 1 --json",
@@ -290,7 +290,7 @@ fn answers_as_objects() {
         ),
         (
             "check day.gdb --store no.gdb --json",
-            r#"{"book":"day.gdb","accepted":false,"number":16,"question":"is the store well formed?","reason":"store: 3 bytes, the start alone has 6"}"#,
+            r#"{"book":"day.gdb","accepted":false,"number":16,"question":"is the store well formed?","reason":"store: 3 bytes, the start alone has 6","advice":["`daybook store TEXT -o FILE` makes a store of text"]}"#,
         ),
     ] {
         assert_eq!(

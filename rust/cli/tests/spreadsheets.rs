@@ -215,14 +215,15 @@ fn a_folder_is_a_book() {
     assert_eq!((status, out.lines().count()), (0, 3), "{out}");
     let (status, _, messages) = folder.shell("daybook run tables --in-place");
     assert_eq!(status, 2);
-    assert!(messages.starts_with("tables: is no regular file; --in-place needs one"));
+    assert!(messages.ends_with("give a regular file; --in-place needs one\n"));
     let (status, _, messages) = folder.shell("rm tables/users.csv; daybook check tables");
     assert_eq!(status, 2);
     assert!(messages.starts_with("tables/users.csv: cannot be read: "));
     let (_, _, messages) = folder.shell("mkdir empty; daybook check empty");
     assert_eq!(
         messages,
-        "empty: is a folder; a folder with header.csv, users.csv and trades.csv is a book\n"
+        "empty: is a folder\nempty: what to do: give a file; a folder with header.csv, users.csv and trades.csv is a \
+         book\n"
     );
 }
 

@@ -113,6 +113,34 @@ pub fn trace(
     bytes: &[u8],
     extent: Extent,
 ) -> Result<Trace, Refusal> {
+    taken_apart(operator, figures, bytes, extent, None)
+}
+
+/// The run of an accepted book, each reduction told as soon as it is known who is next,
+/// and none kept, up to so many; who is told says whether there is more to tell.
+pub fn told(
+    operator: Operator,
+    figures: &Figures,
+    bytes: &[u8],
+    most: u64,
+    tell: &mut dyn FnMut(&Step) -> bool,
+) -> Result<Trace, Refusal> {
+    let extent = Extent {
+        first: 0,
+        last: 0,
+        chapters: (0, 0),
+        most,
+    };
+    taken_apart(operator, figures, bytes, extent, Some(tell))
+}
+
+fn taken_apart(
+    operator: Operator,
+    figures: &Figures,
+    bytes: &[u8],
+    extent: Extent,
+    mut tell: Option<&mut dyn FnMut(&Step) -> bool>,
+) -> Result<Trace, Refusal> {
     let mut after = bytes.to_vec();
     let run = operator.without_log().run(&mut after)?;
     let opening = Operator::new().read(bytes)?;
@@ -122,6 +150,8 @@ pub fn trace(
     let mut chapters: Ends<Span> = Ends::new(extent.chapters.0, extent.chapters.1);
     let mut causes = Causes::new(&operator, bytes, &opening);
     let mut taken = 0;
+    let mut untold: Option<Raw> = None;
+    let step = |raw: &Raw| raw.step(&operator, figures);
     while taken < extent.most {
         let before = walk.bytes.clone();
         let Some((id, answer)) = walk.advance() else {
@@ -148,7 +178,7 @@ pub fn trace(
             }),
         }
         let cause = causes.tell(taken, id, &before, &walk.bytes);
-        steps.push(Raw {
+        let raw = Raw {
             number: taken,
             id,
             answer,
@@ -156,7 +186,21 @@ pub fn trace(
             before,
             after: walk.bytes.clone(),
             next: None,
-        });
+        };
+        let Some(tell) = &mut tell else {
+            steps.push(raw);
+            continue;
+        };
+        if let Some(mut previous) = untold.replace(raw) {
+            previous.next = Some(id);
+            if !tell(&step(&previous)?) {
+                untold = None;
+                break;
+            }
+        }
+    }
+    if let (Some(tell), Some(last)) = (tell, untold) {
+        tell(&step(&last)?);
     }
     let (first, mut last) = steps.into_lists();
     let (opened, mut closed) = chapters.into_lists();
@@ -165,7 +209,6 @@ pub fn trace(
         last.clear();
         closed.clear();
     }
-    let step = |raw: &Raw| raw.step(&operator, figures);
     let chapter = |span: &Span| span.chapter();
     Ok(Trace {
         closing: Operator::new().read(&after)?,

@@ -47,7 +47,9 @@ impl State {
 /// The levels and the state of a user.
 #[derive(Clone, Copy, Debug, Default, PartialEq, Eq)]
 pub struct UserLevels {
+    /// The user's id.
     pub id: u32,
+    /// Its state, as on the printed day.
     pub state: State,
     /// The morning level; 0 of a clearing house, which has none.
     pub morning: Level,
