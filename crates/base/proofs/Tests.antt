@@ -1,12 +1,7 @@
 -- Laws of tests: conjunction, disjunction, equality of numbers, a value by a test, every and some element of a list. Assumes nothing.
-use mathlib.Core.Path.{_≡_, refl, sym, ap, ap₂}
-use mathlib.Core.Bool.{Bool, true, false, not, cond, _&&_, _||_}
-use mathlib.Core.List.{List, [], _∷_, _++_, map}
-use Prim.Native.Nat.{ℕ, _+_}
-use lib.Dec.{T, eqb, eqb→eq, eqb-refl}
-use lib.IntN.{ℤ, _+ℤ_}
-use Rattle.base.specs.Sums.{sum, sumℤ}
-use Rattle.base.specs.Lists.{all}
+use Rattle.base.specs.Basics.{_≡_, refl, sym, ap, ap₂, Bool, true, false, not, cond, _&&_, _||_, List, [], _∷_, _++_, map, ℕ, _+_, T, eqb, eqb→eq}
+use Rattle.base.specs.Basics.{eqb-refl, ℤ, _+ℤ_}
+use Rattle.base.specs.{Sums.sum, Sums.sumℤ, Lists.all}
 
 pub and-l : (a b : Bool) → T (a && b) → T a
 and-l true b h = tt

@@ -1,26 +1,19 @@
 -- A book with one user changed: the same bytes but for that user's record, which stands in its place. Assumes nothing.
-use Rattle.base.specs.Basics.{_≡_, _∙_, ap, refl, sym, Bool, _||_, cond, false, true, List, [], _∷_, _*_, _+_, _<_, _≤_, suc, ℕ, le-of-eq, arith, T}
-use Rattle.base.specs.Basics.{eqb, eqb→eq, leb·suc-suc, ltb, getD, length, length-set, set, sets, le-ltb, lt-ltb}
+use Rattle.base.specs.Basics.{_≡_, _∙_, ap, refl, sym, Bool, _||_, cond, false, true, List, [], _∷_, _*_, _+_, _<_, _≤_, suc, ℕ, le-of-eq, arith, T, eqb}
+use Rattle.base.specs.Basics.{eqb→eq, leb·suc-suc, ltb, getD, length, length-set, set, sets, le-ltb, lt-ltb}
 use Rattle.fields.proofs.Sets.{sets-whole}
-use Rattle.fields.specs.Field.{AllBytes}
-use Rattle.fields.specs.Layout.{bytesOfRecords}
-use Rattle.book_format.proofs.Held.{record-part}
-use Rattle.book_format.proofs.Offsets.{length-userRecord, user-range}
-use Rattle.book_format.proofs.Parts.{records-part}
-use Rattle.book_format.proofs.Passed.{Passed, length-usersOf}
-use Rattle.book_format.proofs.Round.{bytesOf-bookOf}
-use Rattle.book_format.proofs.Written.{length-header}
-use Rattle.book_format.specs.Book.{bookOf, bytesOf, headerBytes, headerSize, headerValues, tradesOf, userAt, userCount, userRecord, userSize, usersOf, versionOf}
+use Rattle.fields.specs.{Field.AllBytes, Layout.bytesOfRecords}
+use Rattle.book_format.proofs.{Held.record-part, Parts.records-part, Round.bytesOf-bookOf}
+use Rattle.book_format.proofs.{Offsets.length-userRecord, Offsets.user-range, Passed.Passed, Passed.length-usersOf, Written.length-header}
+use Rattle.book_format.specs.Book.{bookOf, bytesOf, headerBytes, headerSize, headerValues, tradesOf, userAt, userCount, userRecord, userSize, usersOf}
+use Rattle.book_format.specs.Book.{versionOf}
 use Rattle.book_format.specs.Steps.{placeOf}
 use Rattle.base.proofs.Tests.{and-r}
 use Rattle.laws.proofs.Users.{change-absent}
 use Rattle.book_records.proofs.Users.{length-userBytes}
-use Rattle.book_records.specs.Trade.{tradeBytes}
-use Rattle.book_records.specs.User.{userBytes}
-use Rattle.rules.specs.Book.{User, find, nobody}
-use Rattle.rules.specs.Changes.{change, withUsers}
+use Rattle.book_records.specs.{Trade.tradeBytes, User.userBytes}
+use Rattle.rules.specs.{Book.User, Book.find, Book.nobody, Changes.change, Changes.withUsers, Questions.idsRise, Questions.known}
 use Rattle.base.specs.Lists.{any}
-use Rattle.rules.specs.Questions.{idsRise, known}
 
 -- ---- the place of a user
 

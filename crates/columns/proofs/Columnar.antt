@@ -1,10 +1,8 @@
 -- Records to columns and back: the same, over any widths and any number of records. Assumes nothing.
 use mathlib.Core.Bool.{Bool, true, false, not}
+use mathlib.Core.{Path._≡_, Path.refl, Path.sym, Path.ap, Path.ap₂, Path._∙_, List.List, List.[], List._∷_, List._++_, List.map, List.append-assoc}
 use Prim.Native.Nat.{ℕ, zero, suc, _+_, _*_, _≤_}
-use mathlib.Core.Path.{_≡_, refl, sym, ap, ap₂, _∙_}
-use mathlib.Core.List.{List, [], _∷_, _++_, map, append-assoc}
-use native.Mathlib.Omega.{arith}
-use native.Mathlib.Nat.{mul-zero, mul-suc, zero-mul, add-comm, add-mul}
+use native.Mathlib.{Omega.arith, Nat.mul-zero, Nat.mul-suc, Nat.zero-mul, Nat.add-comm, Nat.add-mul}
 use lib.ListN.{length, take, drop, replicate, length-append, length-drop, length-replicate, take-append-drop}
 use lib.Seq.{length-take-le, drop-at, take-at, take-add, take-all}
 use Rattle.fields.specs.Layout.{recordsOf, bytesOfRecords, size, Every}

@@ -1,17 +1,14 @@
 -- Fields that are moved one column at a time: from records to columns, and from columns to records. Assumes nothing.
 use Prim.Native.Nat.{ℕ, zero, suc, _+_, _*_, _≤_}
-use mathlib.Core.Path.{_≡_, refl, sym, ap, ap₂, _∙_}
-use mathlib.Core.List.{List, [], _∷_, _++_, map, append-assoc}
-use native.Mathlib.Omega.{arith}
-use native.Mathlib.Nat.{zero-add, mul-suc, add-mul}
+use mathlib.Core.{Path._≡_, Path.refl, Path.sym, Path.ap, Path.ap₂, Path._∙_, List.List, List.[], List._∷_, List._++_, List.map, List.append-assoc}
+use native.Mathlib.{Omega.arith, Nat.zero-add, Nat.mul-suc, Nat.add-mul}
 use lib.ListN.{length, take, drop, replicate, length-append, length-drop, length-replicate}
 use lib.Seq.{sets, sets-eq, length-sets, length-take-le, take-take, take-all, drop-drop}
 use Rattle.fields.specs.Layout.{recordsOf, bytesOfRecords, size, Every}
-use Rattle.fields.proofs.Records.{length-recordsOf}
-use Rattle.fields.proofs.Sets.{sets-append, sets-left, sets-right, take-of-drop}
-use Rattle.columns.specs.Columns.{byRecord, joined, recordWise}
-use Rattle.columns.specs.Moves.{moved}
-use Rattle.columns.proofs.Columnar.{Sized, empties, empty-sized, joined-sized, length-joined, length-map, length-recordWise, parts-sized, parts-whole, shorter}
+use Rattle.fields.proofs.{Records.length-recordsOf, Sets.sets-append, Sets.sets-left, Sets.sets-right, Sets.take-of-drop}
+use Rattle.columns.specs.{Columns.byRecord, Columns.joined, Columns.recordWise, Moves.moved}
+use Rattle.columns.proofs.Columnar.{Sized, empties, empty-sized, joined-sized, length-joined, length-map, length-recordWise, parts-sized, parts-whole}
+use Rattle.columns.proofs.Columnar.{shorter}
 
 pub length-moved : (w n : ℕ) (s : List ℕ) (from step : ℕ) (out : List ℕ) (to apart : ℕ) → length (moved w n s from step out to apart) ≡ length out
 unfolding moved

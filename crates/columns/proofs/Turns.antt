@@ -1,19 +1,14 @@
 -- The turns of the loops: one over the records of a column, and one over the columns each way. Assumes nothing.
-use mathlib.Core.Bool.{Bool}
+use mathlib.Core.{Bool.Bool, List.List, List.[], List._∷_, List._++_, List.map, List.append-assoc, List.append-nil}
+use mathlib.Core.Path.{_≡_, refl, subst, sym, ap, ap₂, _∙_}
 use borrow.Rule.Slice.PartMut.{putMid}
 use Prim.Native.Nat.{ℕ, zero, suc, _+_, _-_, _*_, _<_, _≤_}
-use mathlib.Core.Path.{_≡_, refl, subst, sym, ap, ap₂, _∙_}
-use mathlib.Core.List.{List, [], _∷_, _++_, map, append-assoc, append-nil}
-use native.Mathlib.Omega.{arith}
-use native.Mathlib.Numerals.{add-one}
+use native.Mathlib.{Omega.arith, Numerals.add-one}
 use native.Mathlib.Nat.{add-zero, mul-zero, mul-suc, add-mul, sub-zero, zero-mul, mul-le-mul-left, not-suc-le-zero, le-of-suc-le-suc}
 use lib.ListN.{length, getD, take, drop, length-drop, drop-of-length-le}
 use lib.Seq.{sets, drop-cons, drop-drop, take-length, take-add, length-sets, length-take-le}
-use Rattle.fields.specs.Field.{AllBytes, field, setField}
-use Rattle.fields.specs.Layout.{recordsOf, bytesOfRecords, size, Every}
-use Rattle.fields.proofs.Field.{toBytes-field}
-use Rattle.fields.proofs.Records.{length-recordsOf}
-use Rattle.fields.proofs.Sets.{part-of-sets, part-sets, take-sets}
+use Rattle.fields.specs.{Field.AllBytes, Field.field, Field.setField, Layout.recordsOf, Layout.bytesOfRecords, Layout.size, Layout.Every}
+use Rattle.fields.proofs.{Field.toBytes-field, Records.length-recordsOf, Sets.part-of-sets, Sets.part-sets, Sets.take-sets}
 use Rattle.columns.specs.Columns.{arranged, byField, byRecord, fieldWise}
 use Rattle.columns.specs.Moves.{FieldsIn, Filled, Movable, Within, moved}
 use Rattle.columns.proofs.Columnar.{length-arranged, length-column, length-map, parts-sized}

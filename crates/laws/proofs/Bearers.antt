@@ -3,9 +3,7 @@ use Rattle.base.specs.Basics.{_≡_, refl, sym, ap, ap₂, _∙_, Bool, true, f
 use Rattle.base.specs.Lists.{all}
 use Rattle.base.proofs.Tests.{all-by, all-map}
 use Rattle.laws.proofs.Users.{known-map}
-use Rattle.rules.specs.Bearers.{bearer, asBorne}
-use Rattle.rules.specs.Book.{PerArea, Party, managerIn, User, Trade, find}
-use Rattle.rules.specs.Levels.{shipper}
+use Rattle.rules.specs.{Bearers.bearer, Bearers.asBorne, Book.PerArea, Book.Party, Book.managerIn, Book.User, Book.Trade, Book.find, Levels.shipper}
 use Rattle.rules.specs.Questions.{manages, managerValid, managersValid}
 
 module _ (g : User → User) (keeps : (u : User) → g u .party ≡ u .party) where

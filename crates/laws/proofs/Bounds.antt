@@ -1,16 +1,13 @@
 -- Numeric bounds of an accepted book: what was sold and bought, positions within ±26,600,000, so that they fit their 32 bits. Assumes nothing.
-use Rattle.base.specs.Basics.{_≡_, refl, Bool, true, false, cond, _&&_, List, [], _∷_, _*_, _+_, _≤_, ℕ, _<_, suc, zero, arith, T, eqb, leb, leb→le}
-use Rattle.base.specs.Basics.{eqb→eq, natAbs, ℤ, length}
-use Rattle.base.proofs.Linear.{abs-parts, negPart-of, posPart-of}
-use Rattle.base.specs.Parts.{negPart, posPart}
-use Rattle.base.specs.Sums.{sum}
+use Rattle.base.specs.Basics.{_≡_, refl, Bool, true, false, cond, _&&_, List, [], _∷_, _*_, _+_, _≤_, ℕ, _<_, suc, zero, arith, T, eqb, leb, leb→le, eqb→eq}
+use Rattle.base.specs.Basics.{natAbs, ℤ, length}
+use Rattle.base.proofs.{Linear.abs-parts, Linear.negPart-of, Linear.posPart-of, Tests.and-l, Tests.and-r}
+use Rattle.base.specs.{Parts.negPart, Parts.posPart, Sums.sum, Lists.all}
 use Rattle.laws.proofs.Positions.{parts-defined, position-is}
 use Rattle.laws.specs.Sound.{Sound}
-use Rattle.base.proofs.Tests.{and-l, and-r}
-use Rattle.rules.specs.Areas.{sellingIn}
-use Rattle.rules.specs.Book.{Book, Trade, User, Terms, dealt, at, bought, definedPosition, sold}
-use Rattle.base.specs.Lists.{all}
-use Rattle.rules.specs.Questions.{amountsValid, countsValid, guaranteesValid, tradeValid, entriesValid, userValid, headerValid, positionsValid, pricesValid, sellingMost, sellingValid, tariffValid, tollValid}
+use Rattle.rules.specs.{Areas.sellingIn, Book.Book, Book.Trade, Book.User, Book.Terms, Book.dealt, Book.at, Book.bought, Book.definedPosition, Book.sold}
+use Rattle.rules.specs.Questions.{amountsValid, countsValid, guaranteesValid, tradeValid, entriesValid, userValid, headerValid, positionsValid, pricesValid}
+use Rattle.rules.specs.Questions.{sellingMost, sellingValid, tariffValid, tollValid}
 use Rattle.rules.specs.Signed.{within}
 
 -- ---- trades: at most 256 of at most 100,000 MWh

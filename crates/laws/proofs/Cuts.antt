@@ -1,20 +1,17 @@
 -- What holds of a reduction's cuts, for any book, user and amount asked: they are within the user's eligible trades, some MWh is cut where something is asked and a trade
 -- is eligible, and the tally's worth is between what is asked, or all there is, and what is asked and one MWh at the largest tariff. Both tiers' laws, added. Assumes nothing.
-use Rattle.base.specs.Basics.{_≡_, refl, sym, ap, ap₂, subst, fun-ext, _∙_, Bool, true, false, not, cond, _&&_, _||_, List, [], _∷_, map, map-map, ℕ}
-use Rattle.base.specs.Basics.{_+_, _*_, _-_, _≤_, _<_, min, add-mul, not-suc-le-zero, le-of-suc-le-suc, mul-pos, arith, T, leb, ltb, eqb, le→leb}
-use Rattle.base.specs.Basics.{leb→le, ltb→lt, length, length-map}
+use Rattle.base.specs.Basics.{_≡_, refl, sym, ap, ap₂, subst, fun-ext, _∙_, Bool, true, false, not, cond, _&&_, _||_, List, [], _∷_, map, map-map, ℕ, _+_, _*_}
+use Rattle.base.specs.Basics.{_-_, _≤_, _<_, min, add-mul, not-suc-le-zero, le-of-suc-le-suc, mul-pos, arith, T, leb, ltb, eqb, le→leb, leb→le, ltb→lt, length}
+use Rattle.base.specs.Basics.{length-map}
 use Rattle.base.proofs.Linear.{by-order}
-use Rattle.base.proofs.Sums.{sum-add, sum-ext, sum-map}
-use Rattle.base.specs.Sums.{sum}
-use Rattle.laws.proofs.Shares.{eachWithin, worthAt, within-length, worth-pos, tier-worth, tier-within, tier-length, tier-worth-le, tier-reaches, tier-near, tier-none}
-use Rattle.base.proofs.Tests.{and-l, and-r, and-i, or-l, or-r, by-test, eqb-of}
+use Rattle.base.proofs.{Sums.sum-add, Sums.sum-ext, Sums.sum-map, Tests.and-l, Tests.and-r, Tests.and-i, Tests.or-l, Tests.or-r, Tests.by-test, Tests.eqb-of}
+use Rattle.base.specs.{Sums.sum, Lists.all, Lists.any}
+use Rattle.laws.proofs.Shares.{eachWithin, worthAt, within-length, worth-pos, tier-worth, tier-within, tier-length, tier-worth-le, tier-reaches}
+use Rattle.laws.proofs.Shares.{tier-near, tier-none}
 use Rattle.laws.specs.Trades.{cutWithin, cutsWithin, eligibleWorth, standingIf, tariffOf}
-use Rattle.rules.specs.Areas.{Prices, tariff}
-use Rattle.rules.specs.Book.{Header, User, Trade, Book, bilateralForDay, at}
-use Rattle.base.specs.Lists.{all, any}
-use Rattle.rules.specs.Questions.{tariffValid, pricesValid, headerValid}
+use Rattle.rules.specs.{Areas.Prices, Areas.tariff, Questions.tariffValid, Questions.pricesValid, Questions.headerValid}
+use Rattle.rules.specs.{Book.Header, Book.User, Book.Trade, Book.Book, Book.bilateralForDay, Book.at, Shares.tierWorth, Shares.tierCuts}
 use Rattle.rules.specs.Reduction.{eligible, hasEligible, shortIn, lot, tierOne, tierTwo, together, cuts, Tally, nothing, tallied, tallyAll}
-use Rattle.rules.specs.Shares.{tierWorth, tierCuts}
 
 -- ---- lists of cuts
 

@@ -1,17 +1,14 @@
 -- Numeric bounds of an accepted book as its risk is borne, where a manager bears that of up to 64 users: positions within ±89,600,000, levels below 2^46. Assumes nothing.
 use Rattle.base.specs.Basics.{_*_, _+_, _≤_, ℕ, _<_, zero, suc, mul-le-mul, arith, T, eqb, _-ℤ_, pos, _+ℤ_, negℤ}
 use Rattle.base.proofs.Linear.{posPart-of, negPart-pos, parts-sub, posPart-pos, negPart-neg, parts-add, posPart-neg}
-use Rattle.base.proofs.Sums.{sum-map}
-use Rattle.base.proofs.Tests.{by-test}
-use Rattle.base.specs.Parts.{negPart, posPart}
-use Rattle.base.specs.Sums.{sum}
+use Rattle.base.proofs.{Sums.sum-map, Tests.by-test}
+use Rattle.base.specs.{Parts.negPart, Parts.posPart, Sums.sum}
 use Rattle.laws.proofs.Bounds.{below-parts, charges-le, dealt-le, dealtInAll, prices-le, trades-le}
 use Rattle.laws.proofs.Members.{entries-borne, parts-borne}
 use Rattle.laws.specs.Sound.{Sound}
-use Rattle.rules.specs.Areas.{referencePrice, areas}
-use Rattle.rules.specs.Bearers.{asBorne, borne, borneSum}
-use Rattle.rules.specs.Book.{Book, User, bought, sold}
-use Rattle.rules.specs.Levels.{afternoonNeed, credit, exposure, holding, stock, Limits, afternoonLevel, afternoonSum, floored, morningLevel, morningNeed, morningSum}
+use Rattle.rules.specs.{Areas.referencePrice, Areas.areas, Bearers.asBorne, Bearers.borne, Bearers.borneSum, Book.Book, Book.User, Book.bought, Book.sold}
+use Rattle.rules.specs.Levels.{afternoonNeed, credit, exposure, holding, stock, Limits, afternoonLevel, afternoonSum, floored, morningLevel, morningNeed}
+use Rattle.rules.specs.Levels.{morningSum}
 use Rattle.rules.specs.Questions.{userValid}
 
 -- what a user sold, and what it bought, as it is borne, in all areas on both days

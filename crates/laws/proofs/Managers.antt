@@ -3,10 +3,8 @@ use Rattle.base.specs.Basics.{_≡_, ap, Bool, true, false, cond, _&&_, _||_, L
 use Rattle.base.proofs.Tests.{and-l, and-r}
 use Rattle.laws.proofs.Users.{all-find, known-id}
 use Rattle.laws.specs.Sound.{Sound}
-use Rattle.rules.specs.Areas.{managersIn}
-use Rattle.rules.specs.Bearers.{bearer}
-use Rattle.rules.specs.Book.{Book, User, find, managerIn}
-use Rattle.rules.specs.Questions.{groupsValid, known, managerValid, managersValid, manages}
+use Rattle.rules.specs.{Areas.managersIn, Questions.groupsValid, Questions.known, Questions.managerValid, Questions.managersValid, Questions.manages}
+use Rattle.rules.specs.{Bearers.bearer, Book.Book, Book.User, Book.find, Book.managerIn}
 
 -- one area of the three
 manager-at : (version : ℕ) (us : List User) (u : User) (area : ℕ) → area < 3 → T (managersValid version us u) → T (managerValid version us u area)

@@ -1,25 +1,17 @@
 -- A book whose trades stand anew. Its positions are settled one trade after another: the seller's rises and the buyer's falls by what stood less what stands.
 -- That is the same as to compute each position anew from the new trades, whether a trade is lowered or raised. Assumes nothing.
-use Rattle.base.specs.Basics.{_≡_, refl, sym, ap, subst, _∙_, Bool, true, false, not, cond, _&&_, List, [], _∷_, map, map-map, ℕ, suc, _+_, _<_}
-use Rattle.base.specs.Basics.{arith, T, eqb, ltb→lt, ℤ, pos, negℤ, _+ℤ_, +ℤ-idr, length, length-map}
+use Rattle.base.specs.Basics.{_≡_, refl, sym, ap, subst, _∙_, Bool, true, false, not, cond, _&&_, List, [], _∷_, map, map-map, ℕ, suc, _+_, _<_, arith, T, eqb}
+use Rattle.base.specs.Basics.{ltb→lt, ℤ, pos, negℤ, _+ℤ_, +ℤ-idr, length, length-map}
 use Rattle.base.proofs.Linear.{parts-add, eq-parts, posPart-neg, negPart-neg, posPart-pos, negPart-pos}
-use Rattle.base.specs.Parts.{posPart, negPart}
-use Rattle.base.specs.Sums.{sum, sumℤ}
-use Rattle.laws.proofs.Areas.{at-add}
-use Rattle.laws.proofs.Bearers.{groups-map}
-use Rattle.laws.proofs.Moved.{Moved}
-use Rattle.laws.proofs.Positions.{parts-defined, position-is, eqbℤ-refl}
-use Rattle.laws.specs.Sound.{Sound}
 use Rattle.base.proofs.Tests.{and-l, and-r, and-i, by-test, map-by, eqb-comm}
-use Rattle.laws.proofs.Trades.{parts-lost}
-use Rattle.laws.proofs.Users.{map-sum, trades-map, idsRise-map}
-use Rattle.laws.specs.Books.{anew, repositioned}
-use Rattle.laws.specs.Trades.{Framed, Pairwise, ended, then, leftMwh, leftWorth}
+use Rattle.base.specs.{Parts.posPart, Parts.negPart, Sums.sum, Sums.sumℤ, Lists.all}
+use Rattle.laws.proofs.{Areas.at-add, Bearers.groups-map, Moved.Moved, Trades.parts-lost}
+use Rattle.laws.proofs.{Positions.parts-defined, Positions.position-is, Positions.eqbℤ-refl, Users.map-sum, Users.trades-map, Users.idsRise-map}
+use Rattle.laws.specs.Sound.{Sound}
+use Rattle.laws.specs.{Books.anew, Books.repositioned, Trades.Framed, Trades.Pairwise, Trades.ended, Trades.then, Trades.leftMwh, Trades.leftWorth}
 use Rattle.rules.specs.Book.{at, User, Trade, Book, sold, bought, definedPosition, dealt, bilateralForDay}
-use Rattle.rules.specs.Changes.{change, moved}
-use Rattle.base.specs.Lists.{all}
+use Rattle.rules.specs.{Changes.change, Changes.moved, Reduction.lost, Reduction.settleOne, Reduction.settle, Reduction.withTrades}
 use Rattle.rules.specs.Questions.{countsValid, groupsValid, userValid, tradeValid, positionsValid, codesValid, guaranteesValid, positionValid, versionValid}
-use Rattle.rules.specs.Reduction.{lost, settleOne, settle, withTrades}
 
 -- ---- one user's part of it
 

@@ -1,12 +1,9 @@
 -- Users after one of them, or all of them, have changed. Assumes nothing.
-use Rattle.base.specs.Basics.{_≡_, refl, sym, ap, ap₂, _∙_, Bool, true, false, cond, _&&_, _||_, List, [], _∷_, map, ℕ, _≤_, _<_, le-of-eq, arith, T}
-use Rattle.base.specs.Basics.{eqb, ltb, eqb→eq, ltb→lt, ℤ, _+ℤ_, +ℤ-assoc, +ℤ-comm}
-use Rattle.base.specs.Sums.{sumℤ}
+use Rattle.base.specs.Basics.{_≡_, refl, sym, ap, ap₂, _∙_, Bool, true, false, cond, _&&_, _||_, List, [], _∷_, map, ℕ, _≤_, _<_, le-of-eq, arith, T, eqb, ltb}
+use Rattle.base.specs.Basics.{eqb→eq, ltb→lt, ℤ, _+ℤ_, +ℤ-assoc, +ℤ-comm}
+use Rattle.base.specs.{Sums.sumℤ, Lists.all, Lists.any}
 use Rattle.base.proofs.Tests.{and-l, and-r, and-i, by-test, all-by}
-use Rattle.rules.specs.Book.{User, Trade, find}
-use Rattle.rules.specs.Changes.{change}
-use Rattle.base.specs.Lists.{all, any}
-use Rattle.rules.specs.Questions.{known, idsRise, tradeValid, partiesValid}
+use Rattle.rules.specs.{Book.User, Book.Trade, Book.find, Changes.change, Questions.known, Questions.idsRise, Questions.tradeValid, Questions.partiesValid}
 
 -- ---- a change that keeps every id
 

@@ -1,25 +1,20 @@
 -- A deposit changes nothing that the rules read but the assigned guarantee: what is borne, held and eligible stays, and so do the level and the answers to all questions but 5.
 -- Assumes nothing.
 use Rattle.base.specs.Basics.{_≡_, refl, ap, ap₂, fun-ext, subst, _∙_, _⊎_, inl, inr, Bool, true, false, cond, _&&_, _||_, Option, none, some}
-use Rattle.base.specs.Basics.{Option·some-ne-none, List, [], _∷_, map, List·Memᴰ, List·Memᴰ·cases-cons, List·Memᴰ·not-nil, ℕ, zero, suc, _+_, _-_}
-use Rattle.base.specs.Basics.{_<_, arith, T, eqb, leb, ltb, lt→ltb, leb→le, le→leb, pos, length-map, le-ltb}
-use Rattle.base.specs.Lists.{all, any}
-use Rattle.base.specs.Sums.{sum}
+use Rattle.base.specs.Basics.{Option·some-ne-none, List, [], _∷_, map, List·Memᴰ, List·Memᴰ·cases-cons, List·Memᴰ·not-nil, ℕ, zero, suc, _+_, _-_, _<_, arith}
+use Rattle.base.specs.Basics.{T, eqb, leb, ltb, lt→ltb, leb→le, le→leb, pos, length-map, le-ltb}
+use Rattle.base.specs.{Lists.all, Lists.any, Sums.sum}
 use Rattle.base.proofs.Tests.{all-map, and-false, and-i, and-l, and-r, same-test}
-use Rattle.laws.proofs.Cuts.{eligible-is}
-use Rattle.laws.proofs.Run.{next-none}
-use Rattle.laws.proofs.Sound.{accept, none-refuses, sound}
-use Rattle.laws.proofs.Users.{map-sum}
+use Rattle.laws.proofs.{Cuts.eligible-is, Run.next-none, Sound.accept, Sound.none-refuses, Sound.sound, Users.map-sum}
 use Rattle.laws_deposits.specs.Deposits.{DepositsAccepted, DepositsLeast, DepositsSuffice, deposited, depositsValid, lacking, withDeposits}
-use Rattle.laws.specs.Sound.{Sound}
-use Rattle.laws.specs.Statements.{AllCovered}
-use Rattle.rules.specs.Bearers.{asBorne, bearer, borne, borneSum}
+use Rattle.laws.specs.{Sound.Sound, Statements.AllCovered}
+use Rattle.rules.specs.{Bearers.asBorne, Bearers.bearer, Bearers.borne, Bearers.borneSum, Reduction.eligible, Reduction.hasEligible, Reduction.target}
 use Rattle.rules.specs.Book.{Book, PerArea, Trade, User, at, bilateralForDay, definedPosition, find, managerIn, nobody}
 use Rattle.rules.specs.Calls.{about, cuttable, effect, nextReduced, ofRun, only, onward, questions, run, runFor, step}
 use Rattle.rules.specs.Changes.{withUsers}
 use Rattle.rules.specs.Levels.{Limits, afternoonLevel, calledIn, exceedsMargin, flagged, holding, partyTo, sells, shipper, shortOfCover}
-use Rattle.rules.specs.Questions.{aboutBook, accepted, countsValid, decided, groupsValid, guaranteesValid, idsRise, known, managerValid, managersValid, manages, partiesValid, positionValid, positionsValid, tradeValid, userValid, versionValid}
-use Rattle.rules.specs.Reduction.{eligible, hasEligible, target}
+use Rattle.rules.specs.Questions.{aboutBook, accepted, countsValid, decided, groupsValid, guaranteesValid, idsRise, known, managerValid, managersValid, manages}
+use Rattle.rules.specs.Questions.{partiesValid, positionValid, positionsValid, tradeValid, userValid, versionValid}
 
 -- ---- what a deposit leaves
 

@@ -1,22 +1,15 @@
 -- A book of a version without managers, 1 or 2: everybody bears its own risk, and what the rules read of users and trades is document 01's. Assumes nothing.
-use Rattle.base.specs.Basics.{_≡_, refl, sym, ap, ap₂, subst, _∙_, Bool, true, false, not, cond, _&&_, _||_, List, [], _∷_, map, ℕ, zero, suc, _≤_}
-use Rattle.base.specs.Basics.{_<_, le-of-eq, le-of-suc-le-suc, not-suc-le-zero, arith, T, eqb, eqb→eq, ltb, ltb→lt, ℤ, pos, _+ℤ_, +ℤ-idr, +ℤ-idl}
-use Rattle.base.specs.Basics.{length, getD, length-map, List·getD-map, ext-getD, eq-eqb, ne-eqb}
-use Rattle.base.proofs.Fronts.{getD-inside}
-use Rattle.base.proofs.Tests.{and-l, and-r, eqb-comm, map-by, sumℤ-by}
+use Rattle.base.specs.Basics.{_≡_, refl, sym, ap, ap₂, subst, _∙_, Bool, true, false, not, cond, _&&_, _||_, List, [], _∷_, map, ℕ, zero, suc, _≤_, _<_}
+use Rattle.base.specs.Basics.{le-of-eq, le-of-suc-le-suc, not-suc-le-zero, arith, T, eqb, eqb→eq, ltb, ltb→lt, ℤ, pos, _+ℤ_, +ℤ-idr, +ℤ-idl, length, getD}
+use Rattle.base.specs.Basics.{length-map, List·getD-map, ext-getD, eq-eqb, ne-eqb}
+use Rattle.base.proofs.{Fronts.getD-inside, Tests.and-l, Tests.and-r, Tests.eqb-comm, Tests.map-by, Tests.sumℤ-by}
 use Rattle.base.specs.Sums.{sumℤ}
-use Rattle.laws.proofs.Managers.{own-bearer}
-use Rattle.laws.proofs.Positions.{buyer-known, seller-known}
-use Rattle.laws.proofs.Users.{all-find, known-id}
-use Rattle.laws.specs.Sound.{Sound}
-use Rattle.laws.specs.Statements.{ownHolding}
-use Rattle.rules.specs.Areas.{managersIn}
-use Rattle.rules.specs.Bearers.{asBorne, bearer, borneSum}
-use Rattle.rules.specs.Book.{Book, PerArea, Trade, User, at, find, managerIn, nobody}
-use Rattle.rules.specs.Levels.{partyTo, sellerOf, sells}
+use Rattle.laws.proofs.{Managers.own-bearer, Positions.buyer-known, Positions.seller-known, Users.all-find, Users.known-id}
+use Rattle.laws.specs.{Sound.Sound, Statements.ownHolding}
+use Rattle.rules.specs.{Areas.managersIn, Book.Book, Book.PerArea, Book.Trade, Book.User, Book.at, Book.find, Book.managerIn, Book.nobody}
+use Rattle.rules.specs.{Bearers.asBorne, Bearers.bearer, Bearers.borneSum, Levels.partyTo, Levels.sellerOf, Levels.sells}
 use Rattle.rules.specs.Questions.{groupsValid, idsRise, known, managerValid, managersValid, manages, partiesValid, tradeValid}
-use Rattle.laws_sales.proofs.Settled.{ids-above}
-use Rattle.laws_sales.proofs.Sums.{held-borne}
+use Rattle.laws_sales.proofs.{Settled.ids-above, Sums.held-borne}
 use Rattle.laws_sales.specs.Borne.{borneBook, borneSums, borneTrade, borneUser, shut, OwnRisk}
 
 -- ---- one user has an id

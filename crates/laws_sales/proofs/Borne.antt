@@ -1,23 +1,15 @@
 -- Where trades change, and positions are settled with them, the book as its risk is borne changes alike: the sum of who bears a party's risk moves as the party's position does. Assumes nothing.
-use Rattle.base.specs.Basics.{_≡_, refl, sym, ap, ap₂, fun-ext, _∙_, Bool, true, false, cond, _||_, List, [], _∷_, map, map-map, ℕ, _<_, le-of-eq}
-use Rattle.base.specs.Basics.{arith, T, eqb, ltb, eqb→eq, ℤ, pos, negℤ, _+ℤ_, +ℤ-assoc, +ℤ-comm, +ℤ-idr}
-use Rattle.base.specs.Lists.{all, any}
-use Rattle.base.specs.Sums.{sumℤ}
-use Rattle.base.proofs.Sums.{sumℤ-map, sumℤ-ext}
-use Rattle.base.proofs.Tests.{and-l, and-r, by-test, eqb-comm}
-use Rattle.laws.proofs.Areas.{at-add}
-use Rattle.laws.proofs.Bearers.{as-borne-same, bearer-map}
-use Rattle.laws.proofs.Positions.{buyer-known, seller-known}
-use Rattle.laws.proofs.Settle.{area-lt}
-use Rattle.laws.proofs.Users.{change-absent, idsRise-map, known-map, trades-map}
+use Rattle.base.specs.Basics.{_≡_, refl, sym, ap, ap₂, fun-ext, _∙_, Bool, true, false, cond, _||_, List, [], _∷_, map, map-map, ℕ, _<_, le-of-eq, arith, T}
+use Rattle.base.specs.Basics.{eqb, ltb, eqb→eq, ℤ, pos, negℤ, _+ℤ_, +ℤ-assoc, +ℤ-comm, +ℤ-idr}
+use Rattle.base.specs.{Lists.all, Lists.any, Sums.sumℤ}
+use Rattle.base.proofs.{Sums.sumℤ-map, Sums.sumℤ-ext, Tests.and-l, Tests.and-r, Tests.by-test, Tests.eqb-comm}
+use Rattle.laws.proofs.{Areas.at-add, Positions.buyer-known, Positions.seller-known, Users.change-absent, Users.idsRise-map, Users.known-map, Users.trades-map}
+use Rattle.laws.proofs.{Bearers.as-borne-same, Bearers.bearer-map, Settle.area-lt}
 use Rattle.laws.specs.Sound.{Sound}
-use Rattle.rules.specs.Bearers.{asBorne, bearer, borneSum}
-use Rattle.rules.specs.Book.{PerArea, at, Book, User, Trade, find}
+use Rattle.rules.specs.{Bearers.asBorne, Bearers.bearer, Bearers.borneSum, Book.PerArea, Book.at, Book.Book, Book.User, Book.Trade, Book.find}
 use Rattle.rules.specs.Changes.{add, change, moved}
-use Rattle.rules.specs.Questions.{known, idsRise, tradeValid}
-use Rattle.rules.specs.Reduction.{lost, settle, settleOne, withTrades}
-use Rattle.laws_sales.proofs.Sums.{at-sums}
-use Rattle.laws_sales.proofs.Settled.{settle-parties, settle-rise}
+use Rattle.rules.specs.{Questions.known, Questions.idsRise, Questions.tradeValid, Reduction.lost, Reduction.settle, Reduction.settleOne, Reduction.withTrades}
+use Rattle.laws_sales.proofs.{Sums.at-sums, Settled.settle-parties, Settled.settle-rise}
 use Rattle.laws_sales.specs.Borne.{borneBook, borneSums, borneTrade, borneUser, shut}
 
 -- a sum after one user's change, if that user's summand has d more

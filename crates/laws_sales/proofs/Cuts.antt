@@ -1,26 +1,17 @@
 -- The cuts of a reduction are those of the user's own sales, spread over the trades; what they do to the sales of each user and to the tally. Assumes nothing.
-use Rattle.base.specs.Basics.{_≡_, refl, sym, ap, ap₂, subst, fun-ext, _∙_, Bool, true, false, not, cond, _&&_, _||_, List, [], _∷_, map, map-map, ℕ}
-use Rattle.base.specs.Basics.{_+_, _-_, sub-zero, zero-mul, arith, T, eqb, leb, ltb, ℤ, length, length-map, ltb-false}
-use Rattle.laws.proofs.Cuts.{together-within, lot-standings}
-use Rattle.laws.proofs.Shares.{eachWithin, within-length, tier-length, tier-within}
+use Rattle.base.specs.Basics.{_≡_, refl, sym, ap, ap₂, subst, fun-ext, _∙_, Bool, true, false, not, cond, _&&_, _||_, List, [], _∷_, map, map-map, ℕ, _+_, _-_}
+use Rattle.base.specs.Basics.{sub-zero, zero-mul, arith, T, eqb, leb, ltb, ℤ, length, length-map, ltb-false}
+use Rattle.laws.proofs.{Cuts.together-within, Cuts.lot-standings, Shares.eachWithin, Shares.within-length, Shares.tier-length, Shares.tier-within}
 use Rattle.base.proofs.Tests.{and-i, and-l, and-r, map-by, by-case, holds}
 use Rattle.laws.specs.Trades.{cutWithin, cutsWithin, standingIf}
 use Rattle.base.specs.Parts.{negPart}
-use Rattle.rules.specs.Areas.{Prices, tariff}
-use Rattle.rules.specs.Bearers.{asBorne}
-use Rattle.rules.specs.Book.{Book, User, Trade, bilateralForDay}
-use Rattle.rules.specs.Levels.{holding}
+use Rattle.rules.specs.{Areas.Prices, Areas.tariff, Book.Book, Book.User, Book.Trade, Book.bilateralForDay, Shares.Lot, Shares.tierWorth, Shares.tierCuts}
+use Rattle.rules.specs.{Bearers.asBorne, Levels.holding}
 use Rattle.rules.specs.Reduction.{eligible, shortIn, lot, tierOne, tierTwo, together, cuts, cutBy, cutAll, Tally, tallied, tallyAll}
-use Rattle.rules.specs.Shares.{Lot, tierWorth, tierCuts}
 use Rattle.laws_sales.proofs.Kept.{kept-map, kept-yes, kept-no, kept-pass, spread-yes, spread-no, spread-through, spread-together}
-use Rattle.laws_sales.proofs.Own.{own-eligible}
-use Rattle.laws_sales.proofs.Sums.{at-sums}
-use Rattle.laws_sales.proofs.Tiers.{tier-kept, worth-kept}
-use Rattle.laws_sales.specs.Borne.{borneBook, borneTrade, borneUser, shut}
-use Rattle.laws_sales.specs.Kept.{kept, spread}
-use Rattle.laws_sales.specs.Own.{EligibleBy, OfTerms, Owned}
-use Rattle.laws_sales.specs.Reduced.{cutsBy}
-use Rattle.laws_sales.specs.Sales.{ownSale, shortAt, saleLots, saleCuts}
+use Rattle.laws_sales.proofs.{Own.own-eligible, Sums.at-sums, Tiers.tier-kept, Tiers.worth-kept}
+use Rattle.laws_sales.specs.{Borne.borneBook, Borne.borneTrade, Borne.borneUser, Borne.shut, Sales.ownSale, Sales.shortAt, Sales.saleLots, Sales.saleCuts}
+use Rattle.laws_sales.specs.{Kept.kept, Kept.spread, Own.EligibleBy, Own.OfTerms, Own.Owned, Reduced.cutsBy}
 
 -- ---- the cuts of own sales
 

@@ -1,15 +1,9 @@
 -- A sale is its seller's, of trades as they are borne: the test is one of the terms, no trade is a sale of two users, each is one of some user, and those that stand above 0 are eligible. Assumes nothing.
 use Rattle.base.specs.Basics.{_≡_, refl, sym, ap, _∙_, Bool, true, false, not, cond, _&&_, List, [], _∷_, ℕ, T, eqb, eqb→eq, ltb, ne-eqb}
 use Rattle.base.proofs.Tests.{and-l, and-r, eqb-comm, or-l, by-case}
-use Rattle.rules.specs.Bearers.{asBorne}
-use Rattle.rules.specs.Book.{Book, Terms, Trade, User, bilateralForDay}
-use Rattle.rules.specs.Levels.{sells}
+use Rattle.rules.specs.{Bearers.asBorne, Book.Book, Book.Terms, Book.Trade, Book.User, Book.bilateralForDay, Levels.sells, Questions.known, Reduction.eligible}
 use Rattle.base.specs.Lists.{any}
-use Rattle.rules.specs.Questions.{known}
-use Rattle.rules.specs.Reduction.{eligible}
-use Rattle.laws_sales.specs.Borne.{borneTrade, borneValid, shut}
-use Rattle.laws_sales.specs.Own.{EligibleBy, OfTerms, Owned, OwnedAmong}
-use Rattle.laws_sales.specs.Sales.{ownSale}
+use Rattle.laws_sales.specs.{Borne.borneTrade, Borne.borneValid, Borne.shut, Own.EligibleBy, Own.OfTerms, Own.Owned, Own.OwnedAmong, Sales.ownSale}
 
 of-terms : (id : ℕ) → OfTerms (ownSale id)
 unfolding OfTerms ownSale bilateralForDay

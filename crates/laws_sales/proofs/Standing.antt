@@ -4,9 +4,7 @@ use Rattle.base.proofs.Tests.{by-case}
 use Rattle.laws.specs.Trades.{Framed, Pairwise, ended, then}
 use Rattle.rules.specs.Book.{Book, Party, Terms, User, Trade}
 use Rattle.laws_sales.proofs.Groups.{grouped-length, grouped-parties}
-use Rattle.laws_sales.specs.Groups.{startOf, standingAt, written}
-use Rattle.laws_sales.specs.Kept.{kept, placesOf}
-use Rattle.laws_sales.specs.Own.{OfTerms, Owned}
+use Rattle.laws_sales.specs.{Groups.startOf, Groups.standingAt, Groups.written, Kept.kept, Kept.placesOf, Own.OfTerms, Own.Owned}
 
 -- ---- amounts written at places
 

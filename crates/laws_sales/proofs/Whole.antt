@@ -5,13 +5,9 @@ use Rattle.laws.proofs.Trades.{framed-refl}
 use Rattle.laws.specs.Trades.{Framed, Pairwise, ended, then}
 use Rattle.rules.specs.Book.{Terms, Trade, User, bilateralForDay}
 use Rattle.base.specs.Lists.{all, any}
-use Rattle.laws_sales.proofs.Groups.{places-length}
-use Rattle.laws_sales.proofs.Origins.{grouped-ext}
-use Rattle.laws_sales.proofs.Standing.{places-stay, written-append, written-past}
+use Rattle.laws_sales.proofs.{Groups.places-length, Origins.grouped-ext, Standing.places-stay, Standing.written-append, Standing.written-past}
 use Rattle.laws_sales.specs.Borne.{borneValid}
-use Rattle.laws_sales.specs.Groups.{grouped, standingAt, written}
-use Rattle.laws_sales.specs.Kept.{kept, placesOf}
-use Rattle.laws_sales.specs.Own.{OfTerms, Owned, OwnedAmong}
+use Rattle.laws_sales.specs.{Groups.grouped, Groups.standingAt, Groups.written, Kept.kept, Kept.placesOf, Own.OfTerms, Own.Owned, Own.OwnedAmong}
 
 -- trades, and in their place others where they pass a test
 mixed : (Trade → Bool) → List Trade → List Trade → List Trade

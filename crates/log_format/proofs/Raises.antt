@@ -5,8 +5,7 @@ use Rattle.base.proofs.Tests.{and-i, and-l, and-r, eqb-of, or-l, or-r}
 use Rattle.base.specs.Lists.{all}
 use Rattle.laws.proofs.Reduction.{cut-le}
 use Rattle.laws.specs.Trades.{cutWithin, cutsWithin}
-use Rattle.rules.specs.Book.{Trade, User, bilateralForDay}
-use Rattle.rules.specs.Questions.{amountsValid, codesValid, partiesValid, tradeValid}
+use Rattle.rules.specs.{Book.Trade, Book.User, Book.bilateralForDay, Questions.amountsValid, Questions.codesValid, Questions.partiesValid, Questions.tradeValid}
 use Rattle.rules.specs.Reduction.{cutAll, cutBy, together}
 use Rattle.log_format.specs.Fits.{raiseWithin, raisesWithin}
 

@@ -1,22 +1,16 @@
 -- A withdrawal leaves an accepted book, takes its cuts off the totals, and gives back the book before the reduction. Assumes nothing.
-use Rattle.base.specs.Basics.{_≡_, refl, sym, ap, ap₂, subst, _∙_, Bool, true, false, not, _&&_, _||_, List, [], _∷_, map, map-map, ℕ, _+_, _-_}
-use Rattle.base.specs.Basics.{arith, T, T-not, eqb, eqb→eq, leb, ℤ, pos, negℤ, _+ℤ_}
+use Rattle.base.specs.Basics.{_≡_, refl, sym, ap, ap₂, subst, _∙_, Bool, true, false, not, _&&_, _||_, List, [], _∷_, map, map-map, ℕ, _+_, _-_, arith, T}
+use Rattle.base.specs.Basics.{T-not, eqb, eqb→eq, leb, ℤ, pos, negℤ, _+ℤ_}
 use Rattle.base.proofs.Linear.{eq-parts, negPart-neg, negPart-pos, parts-add, posPart-neg, posPart-pos}
 use Rattle.base.proofs.Tests.{and-i, and-l, and-r, map-by, or-second}
-use Rattle.base.specs.Lists.{all}
-use Rattle.base.specs.Parts.{negPart, posPart}
-use Rattle.base.specs.Sums.{sum}
-use Rattle.laws.proofs.Moved.{Moved}
-use Rattle.laws.proofs.Positions.{position-is}
-use Rattle.laws.proofs.Reduction.{cut-le, cuts-lowered, cuts-sound}
-use Rattle.laws.proofs.Settle.{retraded-anew, retraded-moved, retraded-sound}
+use Rattle.base.specs.{Lists.all, Parts.negPart, Parts.posPart, Sums.sum}
+use Rattle.laws.proofs.{Moved.Moved, Positions.position-is}
+use Rattle.laws.proofs.{Reduction.cut-le, Reduction.cuts-lowered, Reduction.cuts-sound, Settle.retraded-anew, Settle.retraded-moved, Settle.retraded-sound}
 use Rattle.laws.proofs.Trades.{framed, framed-refl, left-mwh, left-trans, left-worth, left-worth-trans, pairs-refl, standingWorth}
-use Rattle.laws.specs.Books.{anew, repositioned}
-use Rattle.laws.specs.Sound.{Sound}
+use Rattle.laws.specs.{Books.anew, Books.repositioned, Sound.Sound}
 use Rattle.laws.specs.Trades.{ended, then, Framed, Pairwise, cutWithin, cutsWithin, leftMwh, leftWorth}
-use Rattle.rules.specs.Areas.{Prices}
+use Rattle.rules.specs.{Areas.Prices, Questions.amountsValid, Questions.codesValid, Questions.partiesValid, Questions.positionsValid, Questions.tradeValid}
 use Rattle.rules.specs.Book.{Book, Terms, Trade, User, at, bilateralForDay, definedPosition}
-use Rattle.rules.specs.Questions.{amountsValid, codesValid, partiesValid, positionsValid, tradeValid}
 use Rattle.rules.specs.Reduction.{Tally, cutAll, cutBy, nothing, tallied, tallyAll, withTrades}
 use Rattle.log_format.specs.Fits.{raiseWithin, raisesWithin}
 use Rattle.log_format.specs.Withdrawal.{raiseAll, raiseBy, withdrawn, withdrawnTally}

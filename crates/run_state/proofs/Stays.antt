@@ -2,26 +2,17 @@
 -- rules say of the run's book. Assumes nothing.
 use Rattle.base.specs.Basics.{_≡_, refl, sym, ap, ap₂, _∙_, Bool, true, cond, List, [], map, map-map, ℕ, _+_, _*_, _-_, _<_, arith, ltb, length, getD}
 use Rattle.base.specs.Basics.{length-map, List·getD-map}
-use Rattle.laws.proofs.Settle.{retraded-anew}
-use Rattle.laws.specs.Sound.{Sound}
-use Rattle.laws.specs.Statements.{ownHolding}
-use Rattle.laws.proofs.Trades.{framed, lowered-refl}
-use Rattle.laws.specs.Books.{anew, repositioned}
-use Rattle.laws.specs.Trades.{Framed, Lowered, Pairwise}
+use Rattle.laws.proofs.{Settle.retraded-anew, Trades.framed, Trades.lowered-refl}
+use Rattle.laws.specs.{Sound.Sound, Statements.ownHolding, Books.anew, Books.repositioned, Trades.Framed, Trades.Lowered, Trades.Pairwise}
 use Rattle.rules.specs.Areas.{Prices}
-use Rattle.rules.specs.Book.{Book, Header, Party, User, nobody, sold, bought}
+use Rattle.rules.specs.{Book.Book, Book.Header, Book.Party, Book.User, Book.nobody, Book.sold, Book.bought, Reduction.target, Reduction.withTrades}
 use Rattle.rules.specs.Levels.{Limits, Holding, afternoonLevel, exposure, holding, leastReferencePrice, levelFrom, flaggedFrom, shipper, exceedsMargin}
-use Rattle.rules.specs.Reduction.{target, withTrades}
-use Rattle.run_state.specs.Asked.{memberAt}
+use Rattle.run_state.specs.{Asked.memberAt, Going.owedCalled}
 use Rattle.book_sums.specs.Twelve.{TwelveOf}
 use Rattle.risk_user.proofs.Borne.{blocked-borne, member-borne, members-borne, parties-borne, party-borne, party-same}
 use Rattle.risk_user.specs.UserAt.{PositionsOf, flaggedAt, heldAt, levelAt, targetAt}
-use Rattle.run_state.specs.Going.{owedCalled}
-use Rattle.laws_sales.proofs.Cover.{sold-next, bought-next, exposure-next, level-next, short-next}
-use Rattle.laws_sales.proofs.Settled.{settle-none}
-use Rattle.laws_sales.proofs.Sums.{held-borne}
-use Rattle.laws_sales.specs.Borne.{borneBook, borneUser}
-use Rattle.laws_sales.specs.Cover.{AllNext, shortFrom}
+use Rattle.laws_sales.proofs.{Cover.sold-next, Cover.bought-next, Cover.exposure-next, Cover.level-next, Cover.short-next, Settled.settle-none, Sums.held-borne}
+use Rattle.laws_sales.specs.{Borne.borneBook, Borne.borneUser, Cover.AllNext, Cover.shortFrom}
 
 -- ---- of a user, levels and cover read the money
 

@@ -2,12 +2,8 @@
 use Rattle.base.specs.Basics.{_≡_, _∙_, ap, refl, sym, Bool, true, false, cond, _||_, List, ℕ, _<_, arith, T, eqb, eqb→eq, ne-eqb}
 use Rattle.base.specs.Lists.{any}
 use Rattle.laws.proofs.Users.{known-id}
-use Rattle.rules.specs.Areas.{areas}
-use Rattle.rules.specs.Bearers.{asBorne, bearer}
-use Rattle.rules.specs.Book.{Trade, User, find, managerIn}
-use Rattle.rules.specs.Questions.{known}
-use Rattle.views.specs.Claim.{ViewsClaim, manages}
-use Rattle.views.specs.Views.{seesTrade, seesUser}
+use Rattle.rules.specs.{Areas.areas, Bearers.asBorne, Bearers.bearer, Book.Trade, Book.User, Book.find, Book.managerIn, Questions.known}
+use Rattle.views.specs.{Claim.ViewsClaim, Claim.manages, Views.seesTrade, Views.seesUser}
 
 -- ---- tests
 

@@ -1,10 +1,9 @@
 -- Sums over the elements of a list that pass a test, and users looked for among them. Assumes nothing.
-use Rattle.base.specs.Basics.{_≡_, _∙_, ap, refl, sym, Bool, true, false, not, cond, List, [], _∷_, map, ℕ, zero, suc, _+_, _<_, _≤_, le-of-eq, arith}
-use Rattle.base.specs.Basics.{T, eqb, eqb→eq, ltb, ltb→lt, ℤ, _+ℤ_, pos, +ℤ-idl, getD}
+use Rattle.base.specs.Basics.{_≡_, _∙_, ap, refl, sym, Bool, true, false, not, cond, List, [], _∷_, map, ℕ, zero, suc, _+_, _<_, _≤_, le-of-eq, arith, T, eqb}
+use Rattle.base.specs.Basics.{eqb→eq, ltb, ltb→lt, ℤ, _+ℤ_, pos, +ℤ-idl, getD}
 use Rattle.base.specs.Sums.{sum, sumℤ}
 use Rattle.base.proofs.Tests.{and-l, and-r, by-case, by-test}
-use Rattle.rules.specs.Book.{User, find, nobody}
-use Rattle.rules.specs.Questions.{idsRise}
+use Rattle.rules.specs.{Book.User, Book.find, Book.nobody, Questions.idsRise}
 use Rattle.laws_sales.specs.Kept.{kept}
 use Rattle.views.specs.Kept.{placeKept}
 

@@ -1,14 +1,9 @@
 -- What a party holds, its record and whether it is a shipper of the book stand in what it may see. Assumes nothing.
-use Rattle.base.specs.Basics.{_≡_, _∙_, ap, ap₂, refl, subst, sym, Bool, true, false, not, cond, _&&_, _||_, List, map, ℕ, zero, suc, T, T-not, eqb}
-use Rattle.base.specs.Basics.{ℤ, pos}
+use Rattle.base.specs.Basics.{_≡_, _∙_, ap, ap₂, refl, subst, sym, Bool, true, false, not, cond, _&&_, _||_, List, map, ℕ, zero, suc, T, T-not, eqb, ℤ, pos}
 use Rattle.base.specs.Lists.{any}
-use Rattle.base.proofs.Sums.{sum-ext, sum-map}
-use Rattle.base.proofs.Tests.{by-test, or-l, or-r}
-use Rattle.rules.specs.Areas.{areas}
-use Rattle.rules.specs.Bearers.{asBorne, bearer, borne, borneSum}
+use Rattle.base.proofs.{Sums.sum-ext, Sums.sum-map, Tests.by-test, Tests.or-l, Tests.or-r}
+use Rattle.rules.specs.{Areas.areas, Bearers.asBorne, Bearers.bearer, Bearers.borne, Bearers.borneSum, Levels.Holding, Levels.holding, Questions.idsRise}
 use Rattle.rules.specs.Book.{Book, PerArea, Terms, Trade, User, bought, dealt, find, managerIn, nobody, sold}
-use Rattle.rules.specs.Levels.{Holding, holding}
-use Rattle.rules.specs.Questions.{idsRise}
 use Rattle.views.proofs.Kept.{find-kept, kept-sum, kept-sumℤ}
 use Rattle.laws_sales.specs.Kept.{kept}
 use Rattle.views.specs.Views.{seesTrade, seesUser, tradesSeen, viewOf}

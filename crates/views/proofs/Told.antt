@@ -1,14 +1,12 @@
 -- Over two books in which ids rise and that agree on what a party may see: they agree on its record, on whether it is in the book, on its levels and its flag. Assumes nothing.
-use Rattle.base.specs.Basics.{_≡_, _∙_, ap, ap₂, refl, subst, sym, Bool, true, false, not, cond, _||_, List, [], _∷_, ℕ, _<_, arith, T, eqb, eqb→eq}
-use Rattle.base.specs.Basics.{ltb, ltb→lt, not-T}
+use Rattle.base.specs.Basics.{_≡_, _∙_, ap, ap₂, refl, subst, sym, Bool, true, false, not, cond, _||_, List, [], _∷_, ℕ, _<_, arith, T, eqb, eqb→eq, ltb}
+use Rattle.base.specs.Basics.{ltb→lt, not-T}
 use Rattle.base.specs.Lists.{any}
 use Rattle.laws.proofs.Users.{known-id}
 use Rattle.base.proofs.Tests.{and-l, and-r, by-case, eqb-of, or-l}
-use Rattle.rules.specs.Book.{Book, Header, User, find, nobody}
+use Rattle.rules.specs.{Book.Book, Book.Header, Book.User, Book.find, Book.nobody, Questions.idsRise, Questions.known}
 use Rattle.rules.specs.Levels.{Holding, Limits, afternoonLevel, afternoonSum, flagged, flaggedFrom, floored, holding, morningLevel, morningSum}
-use Rattle.rules.specs.Questions.{idsRise, known}
-use Rattle.views.proofs.Kept.{find-kept}
-use Rattle.views.proofs.Seen.{holding-seen}
+use Rattle.views.proofs.{Kept.find-kept, Seen.holding-seen}
 use Rattle.laws_sales.specs.Kept.{kept}
 use Rattle.views.specs.Views.{seesUser, tradesSeen, viewOf}
 
