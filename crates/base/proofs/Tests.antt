@@ -28,6 +28,11 @@ pub or-second : (a b : Bool) → T (not a) → T (a || b) → T b
 or-second true b h k = absurd h
 or-second false b h k = k
 
+-- another second that follows from it
+pub or-by : (a b c : Bool) → (T b → T c) → T (a || b) → T (a || c)
+or-by true b c f h = tt
+or-by false b c f h = f h
+
 pub or-none : (a b : Bool) → T (not (a || b)) → T (not a) × T (not b)
 or-none true b h = absurd h
 or-none false b h = (tt, h)

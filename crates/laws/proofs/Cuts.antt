@@ -4,7 +4,7 @@ use Rattle.base.specs.Basics.{_≡_, refl, sym, ap, ap₂, subst, fun-ext, _∙
 use Rattle.base.specs.Basics.{_≤_, _<_, min, add-mul, not-suc-le-zero, le-of-suc-le-suc, mul-pos, arith, T, leb, ltb, eqb, le→leb, leb→le, ltb→lt, length}
 use Rattle.base.specs.Basics.{length-map}
 use Rattle.base.proofs.{Linear.by-order, Sums.sum-add, Sums.sum-ext, Sums.sum-map}
-use Rattle.base.proofs.Tests.{and-l, and-r, and-i, or-l, or-r, by-test, eqb-of, by-case, holds, fails, all-yes, all-map, or-second}
+use Rattle.base.proofs.Tests.{and-l, and-r, and-i, or-l, or-r, by-test, eqb-of, by-case, holds, all-yes, all-map, or-by}
 use Rattle.base.specs.{Sums.sum, Lists.all, Lists.any}
 use Rattle.laws.proofs.Shares.{eachWithin, worthAt, within-length, worth-pos, tier-worth, tier-within, tier-length, tier-worth-le, tier-reaches}
 use Rattle.laws.proofs.Shares.{tier-near, tier-none}
@@ -39,7 +39,7 @@ cuts-within-by p q f (c ∷ cs) (t ∷ ts) h =
     let k = and-l (cutWithin p c t) (cutsWithin p cs ts) h in
     and-i (cutWithin q c t) (cutsWithin q cs ts)
     (and-i (leb c (t .standing)) (eqb c 0 || q t) (and-l (leb c (t .standing)) (eqb c 0 || p t) k)
-    (by-case (eqb c 0) (λ e. rw e tt) (λ e. rw e (f t (or-second (eqb c 0) (p t) (fails e) (and-r (leb c (t .standing)) (eqb c 0 || p t) k))))))
+    (or-by (eqb c 0) (p t) (q t) (f t) (and-r (leb c (t .standing)) (eqb c 0 || p t) k)))
     (cuts-within-by p q f cs ts (and-r (cutWithin p c t) (cutsWithin p cs ts) h))
 
 -- two cuts of each trade as one
