@@ -26,7 +26,8 @@ within-standing p (c ∷ cs) (t ∷ ts) h =
     and-i (cutWithin p c t) (cutsWithin p cs ts)
     (by-case (p t)
     (λ e. rw e (and-i (leb c (t .standing)) (eqb c 0 || true) (le→leb c (t .standing) (rw e at l)) (or-r (eqb c 0) true tt)))
-    (λ e. let z : c ≤ 0 = rw e at l in rw e (and-i (leb c (t .standing)) (eqb c 0 || false) (le→leb c (t .standing) (omega arith)) (or-l (eqb c 0) false (eqb-of c 0 (omega arith))))))
+    (λ e. let z : c ≤ 0 = rw e at l in
+    rw e (and-i (leb c (t .standing)) (eqb c 0 || false) (le→leb c (t .standing) (omega arith)) (or-l (eqb c 0) false (eqb-of c 0 (omega arith))))))
     (within-standing p cs ts (and-r (leb c (standingIf p t)) (eachWithin cs (map (standingIf p) ts)) h))
 
 -- a weaker test admits as much

@@ -207,15 +207,16 @@ anew-sound : (b : Book) (ns : List Trade) → Sound b → Pairwise Framed (b .tr
 unfolding anew versionValid countsValid groupsValid
 anew-sound b ns s h k =
     let same = repositioned-same ns in
+    let us = b .users in
     record {
       version = s .version;
       counts = rw (length-map (b .users) (repositioned ns), pairs-length h) (s .counts);
       header = s .header;
       ids = rw (idsRise-map (repositioned ns) same 0 (b .users)) (s .ids);
-      users = rw (all-map userValid (repositioned ns) (b .users)) (all-by userValid (λ u. userValid (repositioned ns u)) (repositioned-user ns) (b .users) (s .users));
+      users = rw (all-map userValid (repositioned ns) us) (all-by userValid (λ u. userValid (repositioned ns u)) (repositioned-user ns) us (s .users));
       groups = groups-map (repositioned ns) same (b .header .version) (b .users) (s .groups);
       trades = trades-map (repositioned ns) same (b .users) ns k;
-      positions = rw (all-map (positionsValid ns) (repositioned ns) (b .users)) (all-yes (λ u. positionsValid ns (repositioned ns u)) (repositioned-ok ns) (b .users));
+      positions = rw (all-map (positionsValid ns) (repositioned ns) us) (all-yes (λ u. positionsValid ns (repositioned ns u)) (repositioned-ok ns) us);
     }
 
 -- Trades that differ in what stands only, and pass question 6: an accepted book.

@@ -119,7 +119,8 @@ module _ (limits : Limits) where
   next-there b f u k [] m e = List·Memᴰ·not-nil m
   next-there b f u k (v ∷ us) m e =
       by-case (cut b (f v)) (λ c. Option·some-ne-none (f v) (rw c at e))
-      (λ c. ⊎-elim (λ p. T-not (cut b (f v)) (fails c) (subst (λ (w : User). T (cut b (f w))) p k)) (λ l. next-there b f u k us l (rw c at e)) (List·Memᴰ·cases-cons m))
+      (λ c. ⊎-elim (λ p. T-not (cut b (f v)) (fails c) (subst (λ (w : User). T (cut b (f w))) p k))
+      (λ l. next-there b f u k us l (rw c at e)) (List·Memᴰ·cases-cons m))
 
   -- so a run reduces one
   run-there : (n : ℕ) (b : Book) → 0 < n → (nextReduced limits b (b .users) ≡ none → ⊥) → 0 < runFor limits n b .answer .reductions

@@ -67,19 +67,9 @@ module _ (b : Book) (s : Sound b) (plain : managersIn (b .header .version) ≡ f
   user-own : (i : ℕ) → i < length (b .users) → borneUser (b .users) (getD (b .users) i nobody) ≡ getD (b .users) i nobody
   unfolding borneUser borneSums at
   user-own i l =
-      let u = getD (b .users) i nobody in
-      let p0 = sum-own (λ v. v .physical) i 0 l in
-      let p1 = sum-own (λ v. v .physical) i 1 l in
-      let p2 = sum-own (λ v. v .physical) i 2 l in
-      let z0 = sum-own (λ v. v .position) i 0 l in
-      let z1 = sum-own (λ v. v .position) i 1 l in
-      let z2 = sum-own (λ v. v .position) i 2 l in
-      λ i. record {
-        party = u .party;
-        physical = record { pvb = p0 i; tvb = p1 i; avb = p2 i };
-        position = record { pvb = z0 i; tvb = z1 i; avb = z2 i };
-        blocked = u .blocked;
-      }
+      let entry = sum-own (λ v. v .physical) i in
+      let position = sum-own (λ v. v .position) i in
+      rw (entry 0 l, entry 1 l, entry 2 l, position 0 l, position 1 l, position 2 l)
 
   users-own : map (borneUser (b .users)) (b .users) ≡ b .users
   users-own =

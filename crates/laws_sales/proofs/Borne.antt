@@ -9,7 +9,7 @@ use Rattle.laws.specs.Sound.{Sound}
 use Rattle.rules.specs.{Bearers.asBorne, Bearers.bearer, Bearers.borneSum, Book.PerArea, Book.at, Book.Book, Book.User, Book.Trade, Book.find}
 use Rattle.rules.specs.Changes.{add, change, moved}
 use Rattle.rules.specs.{Questions.known, Questions.idsRise, Questions.tradeValid, Reduction.lost, Reduction.settle, Reduction.settleOne, Reduction.withTrades}
-use Rattle.laws_sales.proofs.{Sums.at-sums, Settled.settle-parties, Settled.settle-rise}
+use Rattle.laws_sales.proofs.{Sums.at-sums, Settled.settle-one-parties, Settled.settle-one-rise, Settled.settle-parties}
 use Rattle.laws_sales.specs.Borne.{borneBook, borneSums, borneTrade, borneUser, shut}
 
 -- a user moves in an area: the sum there of who bears its risk moves, all others stay
@@ -69,10 +69,7 @@ module _ (us : List User) (id area : ℕ) (z : ℤ) (inside : area < 3) (rise : 
       ∙ sumℤ-ext (λ u. cond (eqb (bearer (cond (eqb (u .party .id) id) (moved area z u) u) i) who) (at (cond (eqb (u .party .id) id) (moved area z u) u .physical) i) (pos 0))
       (λ u. cond (eqb (bearer u i) who) (at (u .physical) i) (pos 0))
       (λ u. by-test (λ (v : User). cond (eqb (bearer v i) who) (at (v .physical) i) (pos 0) ≡ cond (eqb (bearer u i) who) (at (u .physical) i) (pos 0)) (eqb (u .party .id) id) (λ t. refl) (λ t. refl)) us in
-      let p = one 0 in
-      let t = one 1 in
-      let a = one 2 in
-      λ i. record { pvb = p i; tvb = t i; avb = a i }
+      rw (one 0, one 1, one 2)
 
   -- the users as they are borne: the one who bears the risk moves
   borne-change : map (borneUser after) after ≡ change owner (moved area z) (map (borneUser us) us)
@@ -136,14 +133,6 @@ borne-trades-same : (us vs : List User) → map (λ u. u .party) us ≡ map (λ 
 unfolding borneTrade
 borne-trades-same us vs e = fun-ext (λ (t : Trade). ap shut (as-borne-same us vs e t))
 
-settle-one-parties : (t n : Trade) (us : List User) → map (λ u. u .party) (settleOne t n us) ≡ map (λ u. u .party) us
-unfolding settle
-settle-one-parties t n us = settle-parties (t ∷ []) (n ∷ []) us
-
-settle-one-rise : (t n : Trade) (us : List User) → idsRise 0 (settleOne t n us) ≡ idsRise 0 us
-unfolding settle
-settle-one-rise t n us = settle-rise (t ∷ []) (n ∷ []) 0 us
-
 -- all trades
 pub borne-settle : (ts ns : List Trade) (us : List User) → T (idsRise 0 us) → T (all (tradeValid us) ts)
     → map (borneUser (settle ts ns us)) (settle ts ns us) ≡ settle (map (borneTrade us) ts) (map (borneTrade us) ns) (map (borneUser us) us)
@@ -153,7 +142,7 @@ borne-settle (t ∷ ts) [] us r v = refl
 borne-settle (t ∷ ts) (n ∷ ns) us r v =
     let one = and-l (tradeValid us t) (all (tradeValid us) ts) v in
     let us′ = settleOne t n us in
-    borne-settle ts ns us′ (rw (settle-one-rise t n us) r) (settled-valid us t n r one ts (and-r (tradeValid us t) (all (tradeValid us) ts) v))
+    borne-settle ts ns us′ (rw (settle-one-rise t n 0 us) r) (settled-valid us t n r one ts (and-r (tradeValid us t) (all (tradeValid us) ts) v))
     ∙ ap₂ (λ (f : Trade → Trade) (vs : List User). settle (map f ts) (map f ns) vs) (borne-trades-same us′ us (settle-one-parties t n us)) (borne-settle-one us t n r one)
 
 -- the book

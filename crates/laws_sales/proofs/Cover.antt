@@ -89,7 +89,8 @@ some-cut-all q [] ss h e = refl
 some-cut-all q (c ∷ cs) [] h e = absurd (omega arith)
 some-cut-all q (c ∷ cs) (s ∷ ss) h e =
     let yes = and-l (q s) (all q ss) h in
-    ap₂ (λ (x y : Bool). (x && ltb 0 c) || y) (by-case (q s) (λ t. t) (λ t. absurd (rw t at yes))) (some-cut-all q cs ss (and-r (q s) (all q ss) h) (omega arith))
+    ap₂ (λ (x y : Bool). (x && ltb 0 c) || y) (by-case (q s) (λ t. t) (λ t. absurd (rw t at yes)))
+    (some-cut-all q cs ss (and-r (q s) (all q ss) h) (omega arith))
 
 -- of sales on which two tests agree
 some-cut-same : (p q r : Trade → Bool) → ((t : Trade) → T (p t) → q t ≡ r t) → (cs : List ℕ) (ss : List Trade) → T (all p ss) → someCut q cs ss ≡ someCut r cs ss

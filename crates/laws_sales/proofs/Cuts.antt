@@ -147,7 +147,8 @@ module _ (us : List User) where
           let low = leb c (t .standing) in
           let all = eqb c 0 || bilateralForDay (borneTrade us t) in
           and-i low (eqb c 0 || bilateralForDay t) (and-l low all h)
-          (or-by (eqb c 0) (bilateralForDay (borneTrade us t)) (bilateralForDay t) (kind (eqb (r .seller) (r .buyer)) (t .terms .kind) (t .terms .day)) (and-r low all h))
+          (or-by (eqb c 0) (bilateralForDay (borneTrade us t)) (bilateralForDay t)
+          (kind (eqb (r .seller) (r .buyer)) (t .terms .kind) (t .terms .day)) (and-r low all h))
 
   -- and their tally
   pub tally-borne : (f : Prices) (cs : List ℕ) (ts : List Trade) (tally : Tally) → tallyAll f cs (map (borneTrade us) ts) tally ≡ tallyAll f cs ts tally

@@ -39,6 +39,7 @@ own-eligible b u t =
     let seller = asBorne (b .users) t .terms .seller in
     let buyer = asBorne (b .users) t .terms .buyer in
     by-case (eqb seller (u .party .id))
-    (λ s. let same : eqb seller buyer ≡ eqb buyer (u .party .id) = ap (λ (n : ℕ). eqb n buyer) (eqb-true seller (u .party .id) s) ∙ eqb-comm (u .party .id) buyer in
+    (λ s. let same : eqb seller buyer ≡ eqb buyer (u .party .id)
+    = ap (λ (n : ℕ). eqb n buyer) (eqb-true seller (u .party .id) s) ∙ eqb-comm (u .party .id) buyer in
     by-case (eqb buyer (u .party .id)) (λ o. rw (s, same, o)) (λ o. rw (s, same, o)))
     (λ s. rw s)

@@ -1,6 +1,7 @@
 -- The cuts of a tier in which all trades that fail a test stand at 0: the cuts of the tier without them, and 0 for each of them. A lot of 0 has share 0 and
 -- remainder 0: it has no worth, loses nothing, and no rank sees it. Assumes nothing.
-use Rattle.base.specs.Basics.{_≡_, refl, sym, ap, ap₂, _∙_, ⊎-elim, Bool, false, not, cond, _&&_, _||_, List, [], _∷_, map, map-map, ℕ, _+_, _*_, _/_, _%_, _<_, zero-mul, eq-zero-or-pos, zero-div, zero-mod, arith, T, leb, ltb, eqb, le-ltb, lt-leb}
+use Rattle.base.specs.Basics.{_≡_, refl, sym, ap, ap₂, _∙_, ⊎-elim, Bool, false, not, cond, _&&_, _||_, List, [], _∷_, map, map-map, ℕ, _+_, _*_, _/_, _%_, _<_}
+use Rattle.base.specs.Basics.{zero-mul, eq-zero-or-pos, zero-div, zero-mod, arith, T, leb, ltb, eqb, le-ltb, lt-leb}
 use Rattle.base.proofs.Tests.{by-case, fails}
 use Rattle.base.specs.Sums.{sum}
 use Rattle.laws.proofs.Ranks.{proportion-rank}

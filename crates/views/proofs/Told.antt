@@ -43,7 +43,8 @@ own-seen party us r =
     let u = find us party in
     find-kept (seesUser party) us 0 party r
     ∙ by-test (λ (v : User). v ≡ u) (seesUser party u) (λ t. refl)
-    (λ t. by-case (known us party) (λ e. absurd (T-not (seesUser party u) t (own-sees party u (known-id us party (holds e))))) (λ e. sym (find-none us party e)))
+    (λ t. by-case (known us party) (λ e. absurd (T-not (seesUser party u) t (own-sees party u (known-id us party (holds e)))))
+    (λ e. sym (find-none us party e)))
 
 known-seen : (party : ℕ) (us : List User) → known (kept (seesUser party) us) party ≡ known us party
 unfolding known any kept
@@ -83,7 +84,8 @@ module _ (party : ℕ) (b c : Book) (r : T (idsRise 0 (b .users))) (q : T (idsRi
 
     -- and so is what the rules make of a header, a user's record and what it holds
     same-of : {A : Type 0} (of : Header → User → (ℕ → Holding) → A)
-        → of (b .header) (find (b .users) party) (holding b (find (b .users) party)) ≡ of (c .header) (find (c .users) party) (holding c (find (c .users) party))
+        → of (b .header) (find (b .users) party) (holding b (find (b .users) party))
+        ≡ of (c .header) (find (c .users) party) (holding c (find (c .users) party))
     same-of of =
         ap (λ (f : Header). of f (find (b .users) party) (holding b (find (b .users) party))) same-header
         ∙ ap₂ (λ (u : User) (h : ℕ → Holding). of (c .header) u h) same-user same-holding
