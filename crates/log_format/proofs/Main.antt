@@ -1,5 +1,5 @@
 -- The main laws of withdrawals and of runs with a log, as specs/Statements.antt states them. Assumes nothing.
-use Rattle.base.specs.Basics.{_≡_, refl, sym, ap, _∙_, Option, none, some, List, _∷_, ℕ, zero, suc, _+_, le-refl, arith, +ℤ-idr, length}
+use Rattle.base.specs.Basics.{_≡_, refl, sym, ap, _∙_, Option, Option·some-ne-none, none, some, List, _∷_, ℕ, zero, suc, _+_, le-refl, arith, +ℤ-idr, length}
 use Rattle.laws.proofs.{Fuel.run-answer, Fuel.run-stops, Main.conserved, Run.Done, Run.run-count, Run.run-done, Run.run-none, Sound.accept, Sound.sound}
 use Rattle.laws.specs.Sound.{Sound}
 use Rattle.rules.specs.{Book.Book, Book.User, Levels.Limits}
@@ -66,14 +66,7 @@ module _ (limits : Limits) where
   stopped-due : (o : Option User) (a : Answer) → a .number ≡ 0 → stopped o a .number ≡ 20 → o ≡ none → ⊥
   unfolding stopped
   stopped-due none a z h e = omega arith
-  stopped-due (some u) a z h e = some-not-none e
-    where
-      some-not-none : {x : User} → some x ≡ none → ⊥
-      some-not-none k = let n : _≡_ {A = ℕ} 1 0 = ap count k in omega arith
-        where
-          count : Option User → ℕ
-          count none = 0
-          count (some y) = 1
+  stopped-due (some u) a z h e = Option·some-ne-none u e
 
   stopped-none : (o : Option User) (a : Answer) → stopped o a .number ≡ 0 → (o ≡ none) × (stopped o a ≡ a)
   unfolding stopped

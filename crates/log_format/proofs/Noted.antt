@@ -1,17 +1,15 @@
 -- What a log holds that was written by the calls: the cuts, newest first, that led from one book to another. Withdrawing them all gives the first book, and their sums pass question 19. Assumes nothing.
-use Rattle.base.specs.Basics.{_≡_, refl, sym, ap, subst, true, _||_, Option, none, some, List, [], _∷_, ℕ, zero, suc, _≤_, arith, T, eqb, leb, leb→le, ℤ, pos}
-use Rattle.base.specs.Basics.{length}
+use Rattle.base.specs.Basics.{_≡_, refl, sym, ap, subst, true, _||_, Option, none, some, List, [], _∷_, ℕ, zero, suc, arith, T, eqb, ℤ, pos, length}
 use Rattle.base.proofs.Tests.{and-l, and-r}
 use Rattle.base.specs.Lists.{all}
 use Rattle.fields.specs.Layout.{Every}
 use Rattle.laws.proofs.{Cuts.cuts-within-by, Cuts.eligible-is, Reduction.cut-le, Reduction.cuts-lowered, Reduction.cuts-sound, Run.next-none, Run.run-law}
-use Rattle.laws.proofs.{Main.cuts-eligible, Moved.Moved, Settle.pairs-length, Trades.framed}
+use Rattle.laws.proofs.{Main.cuts-eligible, Moved.Moved, Settle.pairs-length, Trades.framed, Bounds.standing-le}
 use Rattle.laws.specs.{Sound.Sound, Statements.AllCovered, Trades.Lowered, Trades.Pairwise, Trades.cutWithin, Trades.cutsWithin}
 use Rattle.rules.specs.Book.{Book, Trade, User, bilateralForDay}
 use Rattle.rules.specs.Calls.{posting, morningCall, afternoonCall, Call, Result, effect, guaranteed, nextReduced, ofLevel, only, onward, reduced, reducedBy}
 use Rattle.rules.specs.Calls.{runFor}
-use Rattle.rules.specs.{Levels.Limits, Reduction.cutAll, Reduction.cuts, Reduction.eligible, Reduction.target, Reduction.withTrades}
-use Rattle.rules.specs.Questions.{amountsValid, codesValid, partiesValid, tradeValid}
+use Rattle.rules.specs.{Levels.Limits, Reduction.cutAll, Reduction.cuts, Reduction.eligible, Reduction.target, Reduction.withTrades, Questions.tradeValid}
 use Rattle.log_format.specs.{Fits.allCuts, Fits.raisesWithin, Withdrawal.withdrawn}
 use Rattle.log_format.specs.Noted.{callEntered, emptying, entryOf, lastly, noted, noting, runWithin, stopped}
 use Rattle.log_format.proofs.{Parts.EntryFits, Raises.cuts-raised, Raises.none-raised, Withdrawal.withdrawn-back}
@@ -102,14 +100,6 @@ unfolding lastly callEntered effect guaranteed ofLevel
 afternoon-empties id = record { last = λ n. refl; entered = λ limits n es b. refl; number = λ limits b. refl }
 
 -- ---- what is noted passes question 19
-
--- a trade stands at most at 100,000 MWh
-standing-le : (us : List User) (t : Trade) → T (tradeValid us t) → t .standing ≤ 100000
-unfolding tradeValid partiesValid codesValid amountsValid
-standing-le us t h =
-    let l : T (leb (t .standing) (t .terms .notified)) = search (and-l, and-r) in
-    let m : T (leb (t .terms .notified) 100000) = search (and-l, and-r) in
-    omega (arith, leb→le (t .standing) (t .terms .notified) l, leb→le (t .terms .notified) 100000 m)
 
 cuts-fit : (us : List User) (cs : List ℕ) (ts : List Trade) → T (cutsWithin bilateralForDay cs ts) → T (all (tradeValid us) ts) → EntryFits (length ts) cs
 unfolding cutsWithin all

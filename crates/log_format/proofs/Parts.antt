@@ -1,6 +1,6 @@
 -- A log part by part: its 12 first bytes, the held book with its zeros, the entries with theirs. The parts make the log, and the log has the parts. Assumes nothing.
-use Rattle.base.specs.Basics.{_≡_, refl, sym, ap, ap₂, subst, _∙_, List, [], _∷_, _++_, ℕ, zero, _+_, _-_, _*_, _≤_, _<_, arith, length, getD, take, drop}
-use Rattle.base.specs.Basics.{length-append, take-append-drop, drop-at, drop-drop, take-at, take-take}
+use Rattle.base.specs.Basics.{_≡_, refl, sym, ap, ap₂, subst, _∙_, List, [], _∷_, _++_, ℕ, zero, _*_, _≤_, _<_, arith, length, getD, take, drop, length-append}
+use Rattle.base.specs.Basics.{take-append-drop, drop-at, drop-drop, take-at, take-take}
 use Rattle.fields.proofs.{Field.length-toBytes, Pack.fieldsAt-pack, Pack.length-pack, Pack.pack-fieldsAt, Records.length-bytesOfRecords}
 use Rattle.fields.specs.{Field.AllBytes, Field.toBytes, Layout.Every, Layout.fieldsAt, Layout.pack, Layout.size}
 use Rattle.log_format.proofs.Padded.{length-padded, take-padded}

@@ -1,6 +1,6 @@
 -- A log that is written reads back: its entries are those that were written, it passes question 19 for the book that it holds, and so do the logs that calls leave. Assumes nothing.
-use Rattle.base.specs.Basics.{_≡_, refl, sym, ap, ap₂, subst, _∙_, _&&_, List, [], _∷_, _++_, append-assoc, ℕ, zero, _+_, _-_, _*_, _≤_, _<_, arith, T, eqb}
-use Rattle.base.specs.Basics.{eqb-refl, leb, le→leb, length, take, drop, replicate, length-replicate, drop-at, drop-drop, take-all, take-at}
+use Rattle.base.specs.Basics.{_≡_, refl, sym, ap, ap₂, subst, _∙_, _&&_, List, [], _∷_, _++_, append-assoc, ℕ, _+_, _-_, _*_, _≤_, _<_, arith, T, eqb, eqb-refl}
+use Rattle.base.specs.Basics.{leb, le→leb, length, take, drop, replicate, length-replicate, drop-at, drop-drop, take-all, take-at}
 use Rattle.base.proofs.Tests.{and-i, eqb-of}
 use Rattle.fields.proofs.{Field.fromBytes-toBytes, Field.length-toBytes, Records.recordsOf-bytesOfRecords, Sets.take-of-drop}
 use Rattle.fields.specs.{Field.field, Field.fromBytes, Field.toBytes, Layout.Every, Layout.bytesOfRecords, Layout.recordsOf}

@@ -103,10 +103,7 @@ unfolding movedAll
 moved-next place [] areas cs ps n h k l = absurd (not-suc-le-zero h)
 moved-next place (b ∷ bs) [] cs ps n h k l = absurd (not-suc-le-zero k)
 moved-next place (b ∷ bs) (a ∷ areas) [] ps n h k l = absurd (not-suc-le-zero l)
-moved-next place (b ∷ bs) (a ∷ areas) (c ∷ cs) ps zero h k l = ended (movedOne place b a c ps)
-  where
-    ended : (qs : List ℕ) → movedAll place (take 0 bs) (take 0 areas) (take 0 cs) qs ≡ qs
-    ended qs = refl
+moved-next place (b ∷ bs) (a ∷ areas) (c ∷ cs) ps zero h k l = refl
 moved-next place (b ∷ bs) (a ∷ areas) (c ∷ cs) ps (suc n) h k l =
     moved-next place bs areas cs (movedOne place b a c ps) n (le-of-suc-le-suc h) (le-of-suc-le-suc k) (le-of-suc-le-suc l)
 

@@ -8,7 +8,7 @@ use Rattle.book_format.proofs.OneUser.{place-known}
 use Rattle.book_format.specs.Steps.{placeOf}
 use Rattle.laws.proofs.{Fuel.reducedBy-mwh, Run.has-target, Run.reducedBy-less, Trades.framed}
 use Rattle.laws.specs.{Sound.Sound, Statements.ownHolding}
-use Rattle.base.proofs.Tests.{and-l, and-r, all-by, by-case, holds}
+use Rattle.base.proofs.Tests.{and-l, and-r, all-by, by-case, holds, and-false}
 use Rattle.rules.specs.{Areas.Prices, Reduction.Tally, Reduction.hasEligible, Reduction.nothing, Reduction.tallied, Reduction.tallyAll, Reduction.target}
 use Rattle.rules.specs.{Book.Book, Book.Header, Book.Party, Book.Trade, Book.User, Book.nobody, Calls.Answer, Calls.ofCuts, Calls.reducedBy}
 use Rattle.rules.specs.Levels.{Limits, Holding, exceedsMargin, holding, levelFrom, shipper, shortOfCover}
@@ -46,12 +46,7 @@ unfolding any tallyAll tallied
 tally-none f [] ss y e = refl
 tally-none f (c ∷ cs) [] y e = refl
 tally-none f (c ∷ cs) (s ∷ ss) y e =
-    let first = neither (ltb 0 c) (any (λ d. ltb 0 d) cs) e in
-    omega (arith, ltb-false 0 c (first .0), tally-none f cs ss (tallied f c s y) (first .1))
-  where
-    neither : (x z : Bool) → (x || z) ≡ false → (x ≡ false) × (z ≡ false)
-    neither true z k = absurd (subst T k tt)
-    neither false z k = (refl, k)
+    by-case (ltb 0 c) (λ x. absurd (subst T (rw x at e) tt)) (λ x. omega (arith, ltb-false 0 c x, tally-none f cs ss (tallied f c s y) (rw x at e)))
 
 -- who buys in a sale that lost something
 touched-buyers : (us : List User) (j : ℕ) → T (idsRise 0 us) → j < length us → (cs : List ℕ) (ss : List Trade) → T (all (λ s. known us (s .terms .buyer)) ss)
@@ -246,5 +241,4 @@ module _ (limits : Limits) (b : Book) (sound : Sound b) (place : ℕ) (k : place
       -- without an eligible trade there was no target
       none : (x y : Bool) (m t : ℕ) → cond y m 0 ≡ cond y m (cond (x && y) t 0)
       none x true m t = refl
-      none true false m t = refl
-      none false false m t = refl
+      none x false m t = rw (and-false x)

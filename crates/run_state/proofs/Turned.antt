@@ -3,7 +3,7 @@
 use Rattle.base.specs.Basics.{_≡_, refl, sym, ap, ap₂, subst, _∙_, Bool, true, false, cond, _&&_, List, map, ℕ, suc, _≤_, _<_, arith, T, ltb, length, getD, set}
 use Rattle.base.specs.Basics.{length-set}
 use Rattle.book_format.specs.Steps.{placeOf}
-use Rattle.base.proofs.{Linear.by-order, Tests.all-by, Stores.here-or-apart, Stores.set-each}
+use Rattle.base.proofs.{Linear.by-order, Tests.all-by, Tests.by-case, Stores.here-or-apart, Stores.set-each}
 use Rattle.laws.proofs.{Run.Ran, Run.reducedBy-law, Trades.framed, Trades.lowered-trans, Users.tradeValid-map}
 use Rattle.laws.specs.{Sound.Sound, Books.repositioned, Trades.Lowered, Trades.Pairwise}
 use Rattle.rules.specs.{Book.Book, Book.Party, Book.Trade, Book.User, Book.nobody, Levels.Limits, Reduction.hasEligible, Reduction.target, Reduction.withTrades}
@@ -23,11 +23,7 @@ use Rattle.laws_sales.specs.{Parts.part, Sales.less, Sales.salesOf}
 
 -- a user with something owed is due, and owes its target
 pub owed-due : (limits : Limits) (b : Book) (u : User) {n : ℕ} → n ≡ owed limits b u → 0 < n → (due limits b u ≡ true) × (n ≡ target limits b u)
-owed-due limits b u {n} e h = go (due limits b u) e
-  where
-    go : (x : Bool) → n ≡ cond x (target limits b u) 0 → (x ≡ true) × (n ≡ target limits b u)
-    go true g = (refl, g)
-    go false g = absurd (omega (arith, g))
+owed-due limits b u {n} e h = by-case (due limits b u) (λ x. (x, rw x at e)) (λ x. let z : n ≡ 0 = rw x at e in absurd (omega arith))
 
 module _ {limits : Limits} {o b : Book} {ns ps ts : List ℕ} {es : List Bool} (first : Sound o) (h : Going limits o b ns ps ts es) (place : ℕ) (k : place < length (b .users)) where
   abbrev user : User
@@ -74,10 +70,8 @@ module _ {limits : Limits} {o b : Book} {ns ps ts : List ℕ} {es : List Bool} (
   trades-valid =
       let g = repositioned (b .trades) in
       all-by (tradeValid (b .users)) (tradeValid (o .users))
-      (λ t v. subst T (ap (λ (us : List User). tradeValid us t) (now-stays .users) ∙ tradeValid-map g (keeps (b .trades)) (o .users) t) v) (b .trades) (h .sound .trades)
-    where
-      keeps : (xs : List Trade) (u : User) → repositioned xs u .party ≡ u .party
-      keeps xs u = refl
+      (λ t v. subst T (ap (λ (us : List User). tradeValid us t) (now-stays .users) ∙ tradeValid-map g (λ u. refl) (o .users) t) v)
+      (b .trades) (h .sound .trades)
 
   after-same : after ≡ withTrades o (after .trades)
   unfolding reducedBy withTrades
@@ -119,10 +113,8 @@ module _ {limits : Limits} {o b : Book} {ns ps ts : List ℕ} {es : List Bool} (
         let all = members-borne o in
         by-order i place
         (λ m. part-before only (starts (borneBook o) i) (starts (borneBook o) (suc i)) (starts-rise bo i (suc i) (omega arith) (omega arith)) (starts-rise bo (suc i) place (omega arith) (omega arith)))
-        (λ m. part-behind only (starts (borneBook o) i) (starts (borneBook o) (suc i)) (starts-rise bo (suc place) i (later m) (omega arith)))
-      where
-        later : place ≤ i → suc place ≤ i
-        later m = by-order place i (λ x. omega arith) (λ x. absurd (n (omega arith)))
+        (λ m. part-behind only (starts (borneBook o) i) (starts (borneBook o) (suc i))
+        (starts-rise bo (suc place) i (by-order place i (λ x. omega arith) (λ x. absurd (n (omega arith)))) (omega arith)))
 
     standing-after : StandingIn (borneBook o) (borneBook after) ms
     unfolding borneResult borneUser
