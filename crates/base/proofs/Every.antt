@@ -1,7 +1,5 @@
 -- A test of every element of a list, by the next one and those after it. Assumes nothing.
-use mathlib.Core.Path.{_≡_, ap, _∙_}
-use mathlib.Core.Bool.{Bool, true, _&&_}
-use mathlib.Core.List.{List, [], _∷_}
+use Rattle.base.specs.Basics.{_≡_, ap, _∙_, Bool, true, _&&_, List, [], _∷_}
 use Rattle.base.specs.Lists.{all}
 
 module _ {A : Type 0} (p : A → Bool) where

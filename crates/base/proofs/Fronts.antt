@@ -1,12 +1,6 @@
 -- The front of an array: what its first n elements stand for, and tests that all elements of a list pass. Assumes nothing.
-use mathlib.Core.Bool.{Bool}
-use mathlib.Core.List.{List, [], _∷_, map}
-use mathlib.Core.Path.{_≡_, refl, ap, _∙_}
-use Prim.Native.Nat.{ℕ, zero, suc, _≤_, _<_}
-use native.Mathlib.Nat.{not-suc-le-zero, le-of-suc-le-suc}
-use lib.Dec.{T}
-use lib.ListN.{length, take, getD, length-map, List·getD-map}
-use lib.Seq.{getD-take, length-take-le}
+use Rattle.base.specs.Basics.{Bool, List, [], _∷_, map, _≡_, refl, ap, _∙_, ℕ, zero, suc, _≤_, _<_, not-suc-le-zero, le-of-suc-le-suc, T, length, take}
+use Rattle.base.specs.Basics.{getD, length-map, List·getD-map, getD-take, length-take-le}
 use Rattle.base.proofs.Tests.{and-l, and-r}
 use Rattle.base.specs.Lists.{all}
 

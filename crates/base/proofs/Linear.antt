@@ -2,14 +2,8 @@
 -- parts, to be listed in the call; `eq-parts` turns an equation of integers into one of naturals. So (x + y) − y = x is
 --     eq-parts (x +ℤ y -ℤ y) x (omega (arith, parts-add x y, parts-sub (x +ℤ y) y))
 -- Assumes nothing.
-use mathlib.Core.Path.{_≡_, refl, sym, _∙_, ap}
-use mathlib.Core.Bool.{Bool, true, false}
-use Prim.Native.Nat.{ℕ, zero, suc, _+_, _*_, _-_, _<_, _≤_}
-use native.Mathlib.Nat.{zero-mul}
-use native.Mathlib.Omega.{arith}
-use lib.Dec.{ltb}
-use lib.IntN.{ℤ, pos, negsuc, natAbs, negℤ, _+ℤ_, _-ℤ_, _*ℤ_, subℕ}
-use borrow.Author.Tests.{lt-ltb, le-ltb, ltb-true, ltb-false}
+use Rattle.base.specs.Basics.{_≡_, refl, sym, _∙_, ap, Bool, true, false, ℕ, zero, suc, _+_, _*_, _-_, _<_, _≤_, zero-mul, arith, ltb, ℤ, pos, negsuc}
+use Rattle.base.specs.Basics.{natAbs, negℤ, _+ℤ_, _-ℤ_, _*ℤ_, subℕ, lt-ltb, le-ltb, ltb-true, ltb-false}
 use Rattle.base.specs.Parts.{posPart, negPart}
 
 -- one of two orders

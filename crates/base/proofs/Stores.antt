@@ -1,14 +1,6 @@
 -- What holds at one place and at any other; and at each place of a list after a store. Assumes nothing.
-use mathlib.Core.List.{List}
-use mathlib.Core.Path.{_≡_, sym, subst}
-use Prim.Native.Nat.{ℕ, _+_, _<_}
-use native.Mathlib.Omega.{arith}
-use lib.Dec.{eqb}
-use lib.ListN.{length, getD, set}
-use lib.Seq.{getD-set-same, getD-set-other}
-use borrow.Author.Tests.{eqb-true, eqb-false}
-use Rattle.base.proofs.Tests.{by-case}
-use Rattle.base.proofs.Linear.{by-order}
+use Rattle.base.specs.Basics.{List, _≡_, sym, subst, ℕ, _+_, _<_, arith, eqb, length, getD, set, getD-set-same, getD-set-other, eqb-true, eqb-false}
+use Rattle.base.proofs.{Tests.by-case, Linear.by-order}
 
 -- at a place, and at any other
 pub here-or-apart : (P : ℕ → Type 0) (i j : ℕ) → P i → ((j ≡ i → ⊥) → P j) → P j

@@ -1,11 +1,6 @@
 -- A loop that stores a list in a part of another, place by place: what is left to store, stored, gives the whole. Assumes nothing.
-use mathlib.Core.List.{List, _++_, append-nil}
-use mathlib.Core.Path.{_≡_, refl, ap, _∙_}
-use Prim.Native.Nat.{ℕ, _+_, _-_, _≤_, _<_}
-use native.Mathlib.Numerals.{add-one}
-use native.Mathlib.Omega.{arith}
-use lib.ListN.{length, drop, getD, set, length-set, drop-of-length-le}
-use lib.Seq.{drop-cons, getD-set-other, sets, sets-eq}
+use Rattle.base.specs.Basics.{List, _++_, append-nil, _≡_, refl, ap, _∙_, ℕ, _+_, _-_, _≤_, _<_, add-one, arith, length, drop, getD, set, length-set}
+use Rattle.base.specs.Basics.{drop-of-length-le, drop-cons, getD-set-other, sets, sets-eq}
 
 -- the list vs is stored from a start up to i; what comes after is as it was
 pub record Storing {A : Type 0} (vs : List A) (from : ℕ) (before now : List A) (i : ℕ) : Type 0 where

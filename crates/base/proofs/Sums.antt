@@ -1,15 +1,7 @@
 -- Laws of sums over a list. Assumes nothing.
-use mathlib.Core.Path.{_≡_, refl, sym, _∙_, ap, ap₂}
-use mathlib.Core.List.{List, [], _∷_, _++_, map}
-use Prim.Native.Nat.{ℕ, zero, suc, _+_, _*_, _<_, _≤_}
-use native.Mathlib.Nat.{le-of-suc-le-suc, not-suc-le-zero, zero-mul}
-use native.Mathlib.Numerals.{add-one}
-use native.Mathlib.Omega.{arith}
-use lib.IntN.{ℤ, _+ℤ_, _-ℤ_, +ℤ-assoc}
-use lib.ListN.{length, take, getD, set}
-use lib.Seq.{take-suc}
-use Rattle.base.specs.Parts.{posPart, negPart}
-use Rattle.base.specs.Sums.{sum, sumℤ}
+use Rattle.base.specs.Basics.{_≡_, refl, sym, _∙_, ap, ap₂, List, [], _∷_, _++_, map, ℕ, zero, suc, _+_, _*_, _<_, _≤_, le-of-suc-le-suc, not-suc-le-zero}
+use Rattle.base.specs.Basics.{zero-mul, add-one, arith, ℤ, _+ℤ_, _-ℤ_, +ℤ-assoc, length, take, getD, set, take-suc}
+use Rattle.base.specs.{Parts.posPart, Parts.negPart, Sums.sum, Sums.sumℤ}
 use Rattle.base.proofs.Linear.{posPart-pos, negPart-pos, parts-add, parts-sub, eq-parts}
 
 module _ {A : Type 0} where

@@ -1,12 +1,7 @@
 -- Laws of tests: conjunction, disjunction, equality of numbers, a value by a test, every and some element of a list. Assumes nothing.
-use mathlib.Core.Path.{_≡_, refl, sym, ap, ap₂}
-use mathlib.Core.Bool.{Bool, true, false, not, cond, _&&_, _||_}
-use mathlib.Core.List.{List, [], _∷_, _++_, map}
-use Prim.Native.Nat.{ℕ, _+_}
-use lib.Dec.{T, eqb, eqb→eq, eqb-refl}
-use lib.IntN.{ℤ, _+ℤ_}
-use Rattle.base.specs.Sums.{sum, sumℤ}
-use Rattle.base.specs.Lists.{all}
+use Rattle.base.specs.Basics.{_≡_, refl, sym, ap, ap₂, Bool, true, false, not, cond, _&&_, _||_, List, [], _∷_, _++_, map, ℕ, zero, suc, _+_, _<_}
+use Rattle.base.specs.Basics.{arith, T, eqb, eqb→eq, eqb-refl, ℤ, _+ℤ_}
+use Rattle.base.specs.{Sums.sum, Sums.sumℤ, Lists.all}
 
 pub and-l : (a b : Bool) → T (a && b) → T a
 and-l true b h = tt
@@ -33,6 +28,11 @@ pub or-second : (a b : Bool) → T (not a) → T (a || b) → T b
 or-second true b h k = absurd h
 or-second false b h k = k
 
+-- another second that follows from it
+pub or-by : (a b c : Bool) → (T b → T c) → T (a || b) → T (a || c)
+or-by true b c f h = tt
+or-by false b c f h = f h
+
 pub or-none : (a b : Bool) → T (not (a || b)) → T (not a) × T (not b)
 or-none true b h = absurd h
 or-none false b h = (tt, h)
@@ -45,6 +45,13 @@ and-false false = refl
 pub by-test {ℓ} : {A : Type 0} (P : A → Type ℓ) (c : Bool) {x y : A} → (T c → P x) → (T (not c) → P y) → P (cond c x y)
 by-test P true f g = f tt
 by-test P false f g = g tt
+
+-- what holds of 0, 1 and 2 holds of an area
+pub of-three : (P : ℕ → Type 0) → P 0 → P 1 → P 2 → (a : ℕ) → a < 3 → P a
+of-three P x y z zero h = x
+of-three P x y z (suc zero) h = y
+of-three P x y z (suc (suc zero)) h = z
+of-three P x y z (suc (suc (suc a))) h = absurd (omega arith)
 
 -- tests that say the same are equal
 pub same-test : (a b : Bool) → (T a → T b) → (T b → T a) → a ≡ b
@@ -78,6 +85,11 @@ module _ {A : Type 0} where
   all-by p q h [] k = tt
   all-by p q h (x ∷ xs) k =
       and-i (q x) (all q xs) (h x (and-l (p x) (all p xs) k)) (all-by p q h xs (and-r (p x) (all p xs) k))
+
+  pub all-yes : (p : A → Bool) → ((x : A) → T (p x)) → (xs : List A) → T (all p xs)
+  unfolding all
+  all-yes p h [] = tt
+  all-yes p h (x ∷ xs) = and-i (p x) (all p xs) (h x) (all-yes p h xs)
 
   pub all-append : (p : A → Bool) (xs ys : List A) → T (all p xs) → T (all p ys) → T (all p (xs ++ ys))
   unfolding all

@@ -6,7 +6,7 @@ pub use mathlib.Core.Bool.{Bool, _&&_, _||_, cond, false, false≢true, not, tru
 pub use mathlib.Core.Option.{Option, Option·none-ne-some, Option·some-injective, Option·some-ne-none, none, some}
 pub use mathlib.Core.List.{List, List·Memᴰ, List·Memᴰ·cases-cons, List·Memᴰ·not-nil, List·Permᴰ, List·Permᴰ·cons, List·Permᴰ·nil, List·Permᴰ·swap}
 pub use mathlib.Core.List.{List·Permᴰ·trans, Permᴰ·symm, [], _++_, _∷_, append-assoc, append-nil, cons≢nil, head-eq-of-cons-eq, map, map-append}
-pub use mathlib.Core.List.{map-map, nil≢cons, tail-eq-of-cons-eq}
+pub use mathlib.Core.List.{map-id, map-map, nil≢cons, tail-eq-of-cons-eq}
 pub use Prim.Native.Nat.{_%_, _*_, _+_, _-_, _/_, _<_, _^_, _≤_, max, min, suc, suc-le-suc, zero, ℕ}
 pub use native.Mathlib.Numerals.{add-one}
 pub use native.Mathlib.Nat.{add-assoc, add-mul, add-zero, div-add-mod', div-eq-of-lt, div-le-of-le-mul, div-mul-le-self, eq-zero-or-pos, le-of-eq}

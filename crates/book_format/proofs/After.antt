@@ -1,14 +1,11 @@
 -- Questions asked in two parts, by the number of the first part; a call and a query on any bytes are those after the questions of the bytes. Assumes nothing.
 use Rattle.base.specs.Basics.{_≡_, _∙_, ap, refl, sym, Option, none, some, List, _++_, ℕ, suc, zero, arith, T, ltb, ltb→lt}
 use Rattle.book_format.proofs.Formed.{bytes-numbered}
-use Rattle.book_format.specs.After.{CalledAfter, after, stepAfter, unchanged}
-use Rattle.book_format.specs.Book.{bookOf}
-use Rattle.book_format.specs.Questions.{aboutBytes, bookNumber}
+use Rattle.book_format.specs.{After.CalledAfter, After.after, After.stepAfter, After.unchanged, Book.bookOf, Questions.aboutBytes, Questions.bookNumber}
 use Rattle.book_format.specs.Steps.{Called, InBytes, inBytes, stepBytes}
 use Rattle.laws.proofs.Refusals.{numbered, refusal-first, refusal-is, refusal-next}
-use Rattle.rules.specs.Calls.{Answer, Call, about, effect}
+use Rattle.rules.specs.{Calls.Answer, Calls.Call, Calls.about, Calls.effect, Questions.Question, Questions.decided, Questions.numberOf, Questions.refusal}
 use Rattle.rules.specs.Levels.{Limits}
-use Rattle.rules.specs.Questions.{Question, decided, numberOf, refusal}
 
 -- ---- two lists of questions, one after the other
 

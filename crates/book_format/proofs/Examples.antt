@@ -1,9 +1,8 @@
 -- Question 1 asks for 32 bytes in every version: a book of version 2 or 3 that ends before its header does is judged by 3. Assumes nothing.
 use Rattle.base.specs.Basics.{_≡_, refl, List, _∷_, ℕ, replicate}
 use Rattle.fields.specs.Field.{field, fromBytes}
-use Rattle.rules.specs.Areas.{managersIn, sellingIn}
+use Rattle.rules.specs.{Areas.managersIn, Areas.sellingIn, Questions.numberOf, Questions.refusal, Questions.versionKnown}
 use Rattle.book_records.specs.User.{recordSize}
-use Rattle.rules.specs.Questions.{numberOf, refusal, versionKnown}
 use Rattle.book_format.specs.Book.{headerSize, lengthBy, lengthOf, mark, markOf, tradeCount, userCount, userSize, versionOf}
 use Rattle.book_format.specs.Questions.{aboutForm, formNumber, marked, sized, versioned}
 

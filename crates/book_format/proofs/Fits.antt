@@ -1,21 +1,17 @@
 -- A user that is read from bytes fits them, and so do the users and trades of an accepted book. Assumes nothing.
-use Rattle.base.specs.Basics.{_≡_, ap, Bool, true, false, cond, List, [], _∷_, ℕ, _*_, _<_, _^_, arith, T, T-not, eqb, leb→le, ltb→lt, ℤ, length}
-use Rattle.base.specs.Basics.{eqb-true}
+use Rattle.base.specs.Basics.{_≡_, ap, Bool, true, false, cond, List, [], _∷_, ℕ, _*_, _<_, _^_, arith, T, T-not, eqb, leb→le, ltb→lt, ℤ, length, eqb-true}
 use Rattle.base.proofs.Tests.{and-l, and-r, by-case, by-test, fails, or-second}
 use Rattle.base.specs.Lists.{all}
 use Rattle.fields.proofs.Field.{field-lt}
-use Rattle.fields.specs.Field.{AllBytes}
-use Rattle.fields.specs.Layout.{Every}
+use Rattle.fields.specs.{Field.AllBytes, Layout.Every}
 use Rattle.book_records.proofs.Users.{managers-past}
 use Rattle.book_records.specs.Trade.{FitsTrade}
 use Rattle.book_records.specs.User.{FitsAmounts, FitsManagers, FitsRecord, FitsSigned, FitsUser, amountsAt, managersAt, recordSize, userOf}
-use Rattle.laws.proofs.Bounds.{entry-le, position-bound, within-le}
-use Rattle.laws.proofs.Users.{all-find, known-id}
+use Rattle.laws.proofs.{Bounds.entry-le, Bounds.position-bound, Bounds.within-le, Users.all-find, Users.known-id}
 use Rattle.laws.specs.Sound.{Sound}
-use Rattle.rules.specs.Areas.{managersIn}
-use Rattle.rules.specs.Book.{Book, Managers, Trade, User, at, find, managerIn}
-use Rattle.rules.specs.Questions.{amountsValid, codesValid, groupsValid, guaranteesValid, known, managerValid, managersValid, manages, partiesValid, positionsValid, tradeValid, userValid}
-use Rattle.rules.specs.Signed.{signedOf, within}
+use Rattle.rules.specs.{Areas.managersIn, Book.Book, Book.Managers, Book.Trade, Book.User, Book.at, Book.find, Book.managerIn, Signed.signedOf, Signed.within}
+use Rattle.rules.specs.Questions.{amountsValid, codesValid, groupsValid, guaranteesValid, known, managerValid, managersValid, manages, partiesValid}
+use Rattle.rules.specs.Questions.{positionsValid, tradeValid, userValid}
 use Rattle.units.proofs.TwosComplement.{posPart-signedOf-lt, negPart-signedOf-le}
 
 -- a number of w bits stands for an integer of w bits

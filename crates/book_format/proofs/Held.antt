@@ -1,29 +1,22 @@
 -- A book held in bytes: accepted bytes hold theirs; its records are read where they stand; with one record set, or a part of it, the bytes hold the book with that record. Assumes nothing.
-use Rattle.base.specs.Basics.{_≡_, refl, sym, ap, ap₂, subst, _∙_, cond, List, [], _++_, append-assoc, append-nil, ℕ, _+_, _*_, _<_, _≤_, zero-add}
-use Rattle.base.specs.Basics.{arith, T, length, take, drop, getD, set, length-append, length-set, sets}
+use Rattle.base.specs.Basics.{_≡_, refl, sym, ap, ap₂, subst, _∙_, cond, List, [], _++_, append-assoc, append-nil, ℕ, _+_, _*_, _<_, _≤_, zero-add, arith, T}
+use Rattle.base.specs.Basics.{length, take, drop, getD, set, length-append, length-set, sets}
 use Rattle.fields.proofs.Field.{all-bytes-part, field-part}
-use Rattle.fields.proofs.Records.{length-bytesOfRecords}
-use Rattle.fields.proofs.Sets.{drop-sets, drop-sets-add, length-part, sets-left, sets-whole, take-sets}
-use Rattle.fields.specs.Field.{AllBytes, field}
-use Rattle.fields.specs.Layout.{bytesOfRecords}
+use Rattle.fields.proofs.{Records.length-bytesOfRecords, Sets.drop-sets, Sets.drop-sets-add, Sets.length-part, Sets.sets-left, Sets.sets-whole, Sets.take-sets}
+use Rattle.fields.specs.{Field.AllBytes, Field.field, Layout.bytesOfRecords}
 use Rattle.book_format.proofs.Offsets.{header-range, header-selling, length-userRecord, same-begin, size-lies, user-range}
 use Rattle.book_format.proofs.Passed.{length-tradesOf, length-usersOf, passed}
-use Rattle.book_format.proofs.Round.{bytesOf-bookOf}
-use Rattle.book_format.proofs.Written.{all-bytes-bytesOf, formed-bytesOf, length-header}
-use Rattle.book_format.specs.Book.{bookOf, bytesOf, headerBytes, headerSize, headerValues, pricesOf, sellingAt, tradeCount, tradesAt, tradesOf, userAt, userCount, userRecord, userSize, usersOf, versionOf}
-use Rattle.book_format.specs.Questions.{Formed, bookNumber}
-use Rattle.book_format.proofs.Fits.{managersAt-fit, userOf-fits}
-use Rattle.book_format.proofs.Parts.{record-at, records-before, records-part, records-set}
-use Rattle.book_format.specs.Held.{Accepted, HeldAs, tradesReplaced}
-use Rattle.book_records.proofs.Trades.{length-tradeBytes}
-use Rattle.book_records.proofs.Users.{length-userBytes, user-of-record}
+use Rattle.book_format.proofs.{Round.bytesOf-bookOf, Written.all-bytes-bytesOf, Written.formed-bytesOf, Written.length-header}
+use Rattle.book_format.proofs.{Fits.managersAt-fit, Fits.userOf-fits, Parts.record-at, Parts.records-before, Parts.records-part, Parts.records-set}
+use Rattle.book_format.specs.Book.{bookOf, bytesOf, headerBytes, headerSize, headerValues, pricesOf, sellingAt, tradeCount, tradesAt, tradesOf, userAt}
+use Rattle.book_format.specs.Book.{userCount, userRecord, userSize, usersOf, versionOf}
+use Rattle.book_format.specs.{Questions.Formed, Questions.bookNumber, Held.Accepted, Held.HeldAs, Held.tradesReplaced}
+use Rattle.book_records.proofs.{Trades.length-tradeBytes, Users.length-userBytes, Users.user-of-record}
 use Rattle.book_records.specs.Trade.{tradeBytes, tradeOf}
 use Rattle.book_records.specs.User.{FitsManagers, FitsRecord, FitsUser, managerBytes, recordBytes, userBytes, userOf}
 use Rattle.base.proofs.Tests.{by-case}
 use Rattle.rules.specs.Areas.{managersIn, sellingIn}
-use Rattle.rules.specs.Book.{Book, Header, Managers, Trade, User}
-use Rattle.rules.specs.Changes.{withUsers}
-use Rattle.rules.specs.Questions.{idsRise, tradeValid}
+use Rattle.rules.specs.{Book.Book, Book.Header, Book.Managers, Book.Trade, Book.User, Changes.withUsers, Questions.idsRise, Questions.tradeValid}
 use Rattle.base.specs.Lists.{all}
 
 -- accepted bytes hold their book

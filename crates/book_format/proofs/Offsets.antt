@@ -1,15 +1,13 @@
 -- Where the users and the trades of a book in bytes begin, and what is read from there. Assumes nothing.
-use Rattle.base.specs.Basics.{_≡_, refl, ap, _∙_, true, false, _||_, List, [], _∷_, ℕ, _+_, _*_, _^_, _<_, _≤_, add-one, mul-le-mul, mul-le-mul-left}
-use Rattle.base.specs.Basics.{mul-suc, arith, T, eqb, eqb→eq, length, drop, eqb-true}
+use Rattle.base.specs.Basics.{_≡_, refl, ap, _∙_, true, false, _||_, List, [], _∷_, ℕ, _+_, _*_, _^_, _<_, _≤_, add-one, mul-le-mul, mul-le-mul-left, mul-suc}
+use Rattle.base.specs.Basics.{arith, T, eqb, eqb→eq, length, drop, eqb-true}
 use Rattle.base.proofs.Tests.{by-case, fails, or-second}
 use Rattle.fields.specs.Layout.{pack, recordsOf}
-use Rattle.book_format.specs.Book.{headerSize, lengthBy, sellingBytes, sellingWidths, tradeCount, tradesAt, tradesOf, userAt, userCount, userRecord, userSize, usersOf, versionOf}
-use Rattle.book_records.specs.Trade.{tradeOf}
+use Rattle.book_format.specs.Book.{headerSize, lengthBy, sellingBytes, sellingWidths, tradeCount, tradesAt, tradesOf, userAt, userCount, userRecord}
+use Rattle.book_format.specs.Book.{userSize, usersOf, versionOf}
+use Rattle.book_records.specs.{Trade.tradeOf, User.recordSize, User.userOf, User.userZeros}
 use Rattle.book_records.proofs.Users.{length-recordBytes, userZeros-recordBytes}
-use Rattle.book_records.specs.User.{recordSize, userOf, userZeros}
-use Rattle.rules.specs.Areas.{Prices, managersIn, sellingIn}
-use Rattle.rules.specs.Book.{User}
-use Rattle.rules.specs.Questions.{versionKnown}
+use Rattle.rules.specs.{Areas.Prices, Areas.managersIn, Areas.sellingIn, Book.User, Questions.versionKnown}
 
 -- a version that is known fits its two bytes
 pub known-lt : (version : ℕ) → T (versionKnown version) → version < 2 ^ 16

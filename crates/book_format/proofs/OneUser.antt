@@ -1,47 +1,34 @@
 -- A book with one user changed: the same bytes but for that user's record, which stands in its place. Assumes nothing.
-use Rattle.base.specs.Basics.{_≡_, _∙_, ap, refl, sym, Bool, _||_, cond, false, true, List, [], _∷_, _*_, _+_, _<_, _≤_, suc, ℕ, le-of-eq, arith, T}
-use Rattle.base.specs.Basics.{eqb, eqb→eq, leb·suc-suc, ltb, getD, length, length-set, set, sets, le-ltb, lt-ltb}
+use Rattle.base.specs.Basics.{_≡_, _∙_, ap, refl, sym, false, true, List, [], _∷_, _*_, _+_, _<_, _≤_, suc, ℕ, le-of-eq, arith, T, eqb, leb·suc-suc, ltb, getD}
+use Rattle.base.specs.Basics.{length, length-set, set, sets, le-ltb, lt-ltb, eqb-true}
 use Rattle.fields.proofs.Sets.{sets-whole}
-use Rattle.fields.specs.Field.{AllBytes}
-use Rattle.fields.specs.Layout.{bytesOfRecords}
-use Rattle.book_format.proofs.Held.{record-part}
-use Rattle.book_format.proofs.Offsets.{length-userRecord, user-range}
-use Rattle.book_format.proofs.Parts.{records-part}
-use Rattle.book_format.proofs.Passed.{Passed, length-usersOf}
-use Rattle.book_format.proofs.Round.{bytesOf-bookOf}
-use Rattle.book_format.proofs.Written.{length-header}
-use Rattle.book_format.specs.Book.{bookOf, bytesOf, headerBytes, headerSize, headerValues, tradesOf, userAt, userCount, userRecord, userSize, usersOf, versionOf}
+use Rattle.fields.specs.{Field.AllBytes, Layout.bytesOfRecords}
+use Rattle.book_format.proofs.{Held.record-part, Parts.records-part, Round.bytesOf-bookOf}
+use Rattle.book_format.proofs.{Offsets.length-userRecord, Offsets.user-range, Passed.Passed, Passed.length-usersOf, Written.length-header}
+use Rattle.book_format.specs.Book.{bookOf, bytesOf, headerBytes, headerSize, headerValues, tradesOf, userAt, userCount, userRecord, userSize, usersOf}
+use Rattle.book_format.specs.Book.{versionOf}
 use Rattle.book_format.specs.Steps.{placeOf}
-use Rattle.base.proofs.Tests.{and-r}
+use Rattle.base.proofs.Tests.{and-r, by-case}
 use Rattle.laws.proofs.Users.{change-absent}
 use Rattle.book_records.proofs.Users.{length-userBytes}
-use Rattle.book_records.specs.Trade.{tradeBytes}
-use Rattle.book_records.specs.User.{userBytes}
-use Rattle.rules.specs.Book.{User, find, nobody}
-use Rattle.rules.specs.Changes.{change, withUsers}
+use Rattle.book_records.specs.{Trade.tradeBytes, User.userBytes}
+use Rattle.rules.specs.{Book.User, Book.find, Book.nobody, Changes.change, Changes.withUsers, Questions.idsRise, Questions.known}
 use Rattle.base.specs.Lists.{any}
-use Rattle.rules.specs.Questions.{idsRise, known}
 
 -- ---- the place of a user
 
 pub find-place : (us : List User) (id : ℕ) → find us id ≡ getD us (placeOf us id) nobody
 unfolding find placeOf
 find-place [] id = refl
-find-place (u ∷ us) id = go (eqb (u .party .id) id) (find-place us id)
-  where
-    go : (c : Bool) → find us id ≡ getD us (placeOf us id) nobody → cond c u (find us id) ≡ getD (u ∷ us) (cond c 0 (suc (placeOf us id))) nobody
-    go true h = refl
-    go false h = h
+find-place (u ∷ us) id = by-case (eqb (u .party .id) id) (λ e. rw e) (λ e. rw e (find-place us id))
 
 -- it is below the number of users exactly where the id is known
 pub place-known : (us : List User) (id : ℕ) → ltb (placeOf us id) (length us) ≡ known us id
 unfolding placeOf known any
 place-known [] id = refl
-place-known (u ∷ us) id = go (eqb (u .party .id) id) (place-known us id)
-  where
-    go : (c : Bool) → ltb (placeOf us id) (length us) ≡ known us id → ltb (cond c 0 (suc (placeOf us id))) (suc (length us)) ≡ (c || known us id)
-    go true h = lt-ltb 0 (suc (length us)) (omega arith)
-    go false h = leb·suc-suc (suc (placeOf us id)) (length us) ∙ h
+place-known (u ∷ us) id =
+    by-case (eqb (u .party .id) id) (λ e. rw e (lt-ltb 0 (suc (length us)) (omega arith)))
+    (λ e. rw e (leb·suc-suc (suc (placeOf us id)) (length us) ∙ place-known us id))
 
 -- the changed users are the users with that one record set
 pub change-place : (f : User → User) (us : List User) (low id : ℕ) → T (idsRise low us) → change id f us ≡ set us (placeOf us id) (f (find us id))
@@ -49,12 +36,9 @@ unfolding change find placeOf idsRise
 change-place f [] low id r = refl
 change-place f (u ∷ us) low id r =
     let rest = and-r (ltb low (u .party .id)) (idsRise (u .party .id) us) r in
-    go (eqb (u .party .id) id) (λ t. change-absent f us (u .party .id) id (le-of-eq (sym (eqb→eq (u .party .id) id t))) rest) (change-place f us (u .party .id) id rest)
-  where
-    go : (c : Bool) → (T c → change id f us ≡ us) → change id f us ≡ set us (placeOf us id) (f (find us id))
-        → cond c (f u) u ∷ change id f us ≡ set (u ∷ us) (cond c 0 (suc (placeOf us id))) (f (cond c u (find us id)))
-    go true a h = ap (λ (l : List User). f u ∷ l) (a tt)
-    go false a h = ap (λ (l : List User). u ∷ l) h
+    by-case (eqb (u .party .id) id)
+    (λ e. rw e (ap (λ (l : List User). f u ∷ l) (change-absent f us (u .party .id) id (le-of-eq (sym (eqb-true (u .party .id) id e))) rest)))
+    (λ e. rw e (ap (λ (l : List User). u ∷ l) (change-place f us (u .party .id) id rest)))
 
 -- ---- in bytes
 

@@ -1,11 +1,9 @@
 -- A part of a record is set: a field of its values, the record's bytes among others, and the records that are read again. Assumes nothing.
-use Rattle.base.specs.Basics.{_≡_, refl, sym, ap, _∙_, List, [], _∷_, _++_, ℕ, zero, suc, _+_, _*_, _<_, _≤_, add-assoc, mul-zero, mul-le-mul-left}
-use Rattle.base.specs.Basics.{zero-add, not-suc-le-zero, le-of-suc-le-suc, arith, length, getD, take, drop, set, length-drop, sets, drop-drop}
-use Rattle.fields.proofs.Field.{length-toBytes}
-use Rattle.fields.proofs.Records.{getD-recordsOf, length-bytesOfRecords, mul-suc-front, recordsOf-sets}
+use Rattle.base.specs.Basics.{_≡_, refl, sym, ap, _∙_, List, [], _∷_, _++_, ℕ, zero, suc, _+_, _*_, _<_, _≤_, add-assoc, mul-zero, mul-le-mul-left, zero-add}
+use Rattle.base.specs.Basics.{not-suc-le-zero, le-of-suc-le-suc, arith, length, getD, take, drop, set, length-drop, sets, drop-drop}
+use Rattle.fields.proofs.{Field.length-toBytes, Records.getD-recordsOf, Records.length-bytesOfRecords, Records.mul-suc-front, Records.recordsOf-sets}
 use Rattle.fields.proofs.Sets.{sets-left, sets-right, sets-whole, take-sets, drop-sets-add}
-use Rattle.fields.specs.Field.{toBytes, setField}
-use Rattle.fields.specs.Layout.{pack, size, recordsOf, bytesOfRecords}
+use Rattle.fields.specs.{Field.toBytes, Field.setField, Layout.pack, Layout.size, Layout.recordsOf, Layout.bytesOfRecords}
 
 -- one value of a record replaced is its field set
 pub pack-set : (ws vs : List ℕ) (k v : ℕ) → k < length ws → length vs ≡ length ws → pack ws (set vs k v) ≡ setField (getD ws k 0) (size (take k ws)) v (pack ws vs)

@@ -5,12 +5,10 @@ use Rattle.fields.specs.Layout.{EveryPart, recordsOf}
 use Rattle.book_format.proofs.Formed.{book-passed, formed-of}
 use Rattle.book_format.specs.Book.{bookOf, tradeCount, tradesAt, tradesOf, userCount, usersOf, versionOf, headerSize, userSize}
 use Rattle.book_format.specs.Questions.{Formed, aboutBytes, aboutFields, aboutForm, bookNumber, partsOf, tradeZerosValid, userZerosValid}
-use Rattle.laws.proofs.Refusals.{append-yes, first-yes}
-use Rattle.laws.proofs.Sound.{sound}
+use Rattle.laws.proofs.{Refusals.append-yes, Refusals.first-yes, Sound.sound}
 use Rattle.laws.specs.Sound.{Sound}
 use Rattle.base.proofs.Tests.{and-i, and-l, and-r}
-use Rattle.book_records.specs.Trade.{tradeOf, tradeZeros}
-use Rattle.book_records.specs.User.{userOf, userZeros}
+use Rattle.book_records.specs.{Trade.tradeOf, Trade.tradeZeros, User.userOf, User.userZeros}
 use Rattle.base.specs.Lists.{all}
 use Rattle.rules.specs.Questions.{countsValid, groupsValid, idsRise, refusal, tradeValid, userValid, usersValid, versionValid}
 

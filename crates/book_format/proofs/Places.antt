@@ -1,26 +1,16 @@
 -- A user and a trade at their places: their bytes lie in the book, and are read as them; a field of them, and others in their place. Assumes nothing.
-use Rattle.base.specs.Basics.{_≡_, refl, sym, ap, _∙_, List, [], _∷_, ℕ, zero, suc, _+_, _-_, _*_, _≤_, _<_, le-of-suc-le-suc, not-suc-le-zero, arith}
-use Rattle.base.specs.Basics.{length, take, drop, getD, set, drop-drop, sets}
+use Rattle.base.specs.Basics.{_≡_, refl, sym, ap, _∙_, List, [], _∷_, ℕ, zero, suc, _+_, _-_, _*_, _≤_, _<_, le-of-suc-le-suc, not-suc-le-zero, arith, length}
+use Rattle.base.specs.Basics.{take, drop, getD, set, drop-drop, sets}
 use borrow.Rule.Slice.PartMut.{putMid}
-use Rattle.fields.proofs.Field.{all-bytes-part, field-part}
-use Rattle.fields.proofs.Records.{every-part-at}
-use Rattle.fields.proofs.Sets.{length-part, part-sets}
+use Rattle.fields.proofs.{Field.all-bytes-part, Field.field-part, Records.every-part-at, Sets.length-part, Sets.part-sets}
 use Rattle.fields.specs.Field.{AllBytes, field}
-use Rattle.book_format.proofs.Held.{held-trade-set, held-userCount}
-use Rattle.book_format.proofs.Offsets.{size-lies, user-range}
-use Rattle.book_format.proofs.Parts.{record-at}
-use Rattle.book_format.proofs.Passed.{Passed, length-tradesOf}
-use Rattle.book_format.proofs.Positions.{position-bytes}
+use Rattle.book_format.proofs.{Held.held-trade-set, Held.held-userCount, Offsets.size-lies, Offsets.user-range, Passed.Passed, Passed.length-tradesOf}
+use Rattle.book_format.proofs.{Parts.record-at, Positions.position-bytes}
 use Rattle.book_format.specs.Book.{bookOf, tradeCount, tradesAt, tradesOf, userAt, userCount, usersOf, headerSize, userSize, versionOf}
-use Rattle.book_format.specs.Held.{HeldAs, tradesReplaced}
-use Rattle.book_format.specs.Questions.{Formed}
-use Rattle.book_format.specs.Places.{HeaderIn, TradeIn, UserIn, positionAt}
-use Rattle.book_records.proofs.Trades.{length-tradeBytes, trade-of-bytes}
-use Rattle.book_records.proofs.Users.{length-userBytes, user-bytes-of, user-of-front}
-use Rattle.book_records.specs.Trade.{FitsTrade, tradeBytes, tradeOf}
-use Rattle.book_records.specs.User.{alone, userBytes, userOf, userZeros}
-use Rattle.rules.specs.Book.{Trade, User, at, noTrade, nobody}
-use Rattle.rules.specs.Signed.{signedOf}
+use Rattle.book_format.specs.{Held.HeldAs, Held.tradesReplaced, Questions.Formed, Places.HeaderIn, Places.TradeIn, Places.UserIn, Places.positionAt}
+use Rattle.book_records.proofs.{Trades.length-tradeBytes, Trades.trade-of-bytes, Users.length-userBytes, Users.user-bytes-of, Users.user-of-front}
+use Rattle.book_records.specs.{Trade.FitsTrade, Trade.tradeBytes, Trade.tradeOf, User.alone, User.userBytes, User.userOf, User.userZeros}
+use Rattle.rules.specs.{Book.Trade, Book.User, Book.at, Book.noTrade, Book.nobody, Signed.signedOf}
 
 -- the front of a front
 pub take-front : (k n : ℕ) (l : List ℕ) → k ≤ n → take k (take n l) ≡ take k l

@@ -2,8 +2,7 @@
 use Rattle.base.specs.Basics.{_≡_, refl, List, ℕ, zero, suc, _+_, _*_, _<_, arith}
 use Rattle.fields.specs.Field.{field}
 use Rattle.book_records.specs.User.{amountsAt, userOf}
-use Rattle.rules.specs.Book.{at}
-use Rattle.rules.specs.Signed.{signedOf}
+use Rattle.rules.specs.{Book.at, Signed.signedOf}
 
 pub position-bytes : (c : List ℕ) (area : ℕ) → area < 3 → at (userOf c .position) area ≡ signedOf 32 (field 4 (20 + 4 * area) c)
 unfolding userOf amountsAt at

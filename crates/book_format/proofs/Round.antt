@@ -2,19 +2,15 @@
 use Rattle.base.specs.Basics.{_≡_, refl, sym, ap, ap₂, _∙_, true, List, _++_, append-nil, _*_, _+_, _≤_, ℕ, arith, drop, length, length-drop, take}
 use Rattle.base.specs.Basics.{take-append-drop, drop-drop, take-add, take-all}
 use Rattle.base.proofs.Tests.{by-case}
-use Rattle.fields.proofs.Field.{all-bytes-drop}
-use Rattle.fields.proofs.Pack.{pack-fieldsAt}
-use Rattle.fields.proofs.Records.{bytesOfRecords-recordsOf, every-part-map}
-use Rattle.fields.specs.Field.{AllBytes}
-use Rattle.fields.specs.Layout.{bytesOfRecords, fieldsAt, pack, size}
+use Rattle.fields.proofs.{Field.all-bytes-drop, Pack.pack-fieldsAt, Records.bytesOfRecords-recordsOf, Records.every-part-map}
+use Rattle.fields.specs.{Field.AllBytes, Layout.bytesOfRecords, Layout.fieldsAt, Layout.pack, Layout.size}
 use Rattle.book_format.proofs.Offsets.{header-plain, header-selling, selling-none, users-end}
 use Rattle.book_format.proofs.Passed.{Passed, length-tradesOf, length-usersOf}
-use Rattle.book_format.specs.Book.{bookOf, bytesOf, headerBytes, headerSize, headerValues, headerWidths, markOf, pricesOf, sellingAt, sellingBytes, sellingWidths, tradeCount, tradesAt, tradesOf, userAt, userCount, userRecord, userSize, usersOf, versionOf}
+use Rattle.book_format.specs.Book.{bookOf, bytesOf, headerBytes, headerSize, headerValues, headerWidths, markOf, pricesOf, sellingAt, sellingBytes}
+use Rattle.book_format.specs.Book.{sellingWidths, tradeCount, tradesAt, tradesOf, userAt, userCount, userRecord, userSize, usersOf, versionOf}
 use Rattle.book_format.specs.Questions.{Formed}
-use Rattle.book_records.proofs.Trades.{trade-bytes-of}
-use Rattle.book_records.proofs.Users.{record-bytes-of}
-use Rattle.book_records.specs.Trade.{tradeBytes, tradeOf, tradeZeros}
-use Rattle.book_records.specs.User.{userOf, userZeros}
+use Rattle.book_records.proofs.{Trades.trade-bytes-of, Users.record-bytes-of}
+use Rattle.book_records.specs.{Trade.tradeBytes, Trade.tradeOf, Trade.tradeZeros, User.userOf, User.userZeros}
 use Rattle.rules.specs.Areas.{managersIn, sellingIn}
 
 -- the fields that every version has

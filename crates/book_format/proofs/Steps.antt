@@ -1,13 +1,9 @@
 -- A call on a book in bytes, by what the questions of the book answer. Assumes nothing.
 use Rattle.base.specs.Basics.{_≡_, List, ℕ}
 use Rattle.book_format.proofs.Formed.{book-passed, book-refused}
-use Rattle.book_format.specs.Book.{bookOf}
-use Rattle.book_format.specs.Questions.{aboutBytes, bookNumber}
-use Rattle.book_format.specs.Steps.{stepBytes, inBytes}
+use Rattle.book_format.specs.{Book.bookOf, Questions.aboutBytes, Questions.bookNumber, Steps.stepBytes, Steps.inBytes}
 use Rattle.laws.proofs.Refusals.{refusal-first, refusal-next}
-use Rattle.rules.specs.Calls.{Call, effect, only, about}
-use Rattle.rules.specs.Levels.{Limits}
-use Rattle.rules.specs.Questions.{decided, refusal}
+use Rattle.rules.specs.{Calls.Call, Calls.effect, Calls.only, Calls.about, Levels.Limits, Questions.decided, Questions.refusal}
 
 module _ (limits : Limits) (s : List ℕ) where
   pub step-refused : (c : Call) (n : ℕ) → n ≡ bookNumber s → (n ≡ 0 → ⊥) → stepBytes limits s c ≡ record { answer = only n; bytes = s }

@@ -1,5 +1,5 @@
 -- A book of version 1 in bytes is document 01's. Assumes nothing.
-use Rattle.base.specs.Basics.{_≡_, refl, false, append-nil, ℕ, _+_, _*_}
+use Rattle.base.specs.Basics.{_≡_, refl, false, append-nil, ℕ}
 use Rattle.rules.specs.Areas.{managersIn, sellingIn}
 use Rattle.book_records.specs.User.{recordBytes, recordSize, userBytes}
 use Rattle.book_format.specs.Book.{headerBytes, headerSize, lengthBy, pricesOf, sellingAt, userRecord, userSize}

@@ -1,30 +1,28 @@
 -- A book that is written and read again: what was written are bytes, they pass every question, and the book that they hold is the book. Assumes nothing.
-use Rattle.base.specs.Basics.{_≡_, refl, sym, _∙_, ap, _&&_, true, false, none, some, List, [], _++_, _∷_, append-assoc, append-nil, _*_, _+_, _<_}
-use Rattle.base.specs.Basics.{_^_, ℕ, _/_, _≤_, zero-add, arith, T, eqb, leb→le, eqb-refl, leb, le→leb, length, length-append, drop, getD, sets}
-use Rattle.base.specs.Basics.{drop-at, take-at, drop-drop}
+use Rattle.base.specs.Basics.{_≡_, refl, sym, _∙_, ap, _&&_, true, false, none, some, List, [], _++_, _∷_, append-assoc, append-nil, _*_, _+_, _<_, _^_, ℕ, _/_}
+use Rattle.base.specs.Basics.{_≤_, zero-add, arith, T, eqb, leb→le, eqb-refl, leb, le→leb, length, length-append, drop, getD, sets, drop-at, take-at, drop-drop}
 use Rattle.fields.proofs.Field.{all-bytes-append, field-append, length-toBytes}
 use Rattle.fields.proofs.Pack.{all-bytes-pack, length-pack, fieldsAt-pack, setFields-sets}
-use Rattle.fields.proofs.Records.{all-bytes-records, length-bytesOfRecords, recordsOf-bytesOfRecords}
-use Rattle.fields.proofs.Sets.{sets-append, sets-three}
+use Rattle.fields.proofs.{Records.all-bytes-records, Records.length-bytesOfRecords, Records.recordsOf-bytesOfRecords, Sets.sets-append, Sets.sets-three}
 use Rattle.fields.specs.Field.{AllBytes, field, toBytes}
 use Rattle.fields.specs.Layout.{Every, bytesOfRecords, pack, recordsOf, size, FitAll, fieldsAt, setFields}
-use Rattle.book_format.specs.Book.{bytesOf, headerBytes, headerSize, headerValues, headerWidths, bookOf, lengthBy, lengthOf, mark, markOf, pricesOf, sellingAt, sellingBytes, sellingWidths, tradeCount, tradesAt, tradesOf, userAt, userCount, userRecord, userSize, usersOf, versionOf}
-use Rattle.book_format.specs.Questions.{partsOf, aboutBytes, aboutFields, aboutForm, bookNumber, marked, sized, tradeZerosValid, userZerosValid, versioned, Formed}
+use Rattle.book_format.specs.Book.{bytesOf, headerBytes, headerSize, headerValues, headerWidths, bookOf, lengthBy, lengthOf, mark, markOf, pricesOf}
+use Rattle.book_format.specs.Book.{sellingAt, sellingBytes, sellingWidths, tradeCount, tradesAt, tradesOf, userAt, userCount, userRecord, userSize}
+use Rattle.book_format.specs.Book.{usersOf, versionOf}
+use Rattle.book_format.specs.Questions.{partsOf, aboutBytes, aboutFields, aboutForm, bookNumber, marked, sized, tradeZerosValid, userZerosValid}
+use Rattle.book_format.specs.Questions.{versioned, Formed}
 use Rattle.book_format.proofs.Offsets.{header-plain, header-range, header-selling, known-lt, length-by, length-userRecord, zeros-userRecord}
 use Rattle.book_format.proofs.Fits.{every-record, every-trade}
-use Rattle.laws.proofs.Bounds.{prices-le, selling-le, selling-most}
-use Rattle.laws.proofs.Refusals.{yes-first}
+use Rattle.laws.proofs.{Bounds.prices-le, Bounds.selling-le, Bounds.selling-most, Refusals.yes-first}
 use Rattle.laws.specs.Sound.{Sound}
 use Rattle.base.proofs.Tests.{and-l, and-r, and-i, by-case, eqb-of, same-test}
 use Rattle.book_records.proofs.Trades.{all-bytes-tradeBytes, length-tradeBytes, trade-of-bytes, tradeZeros-tradeBytes}
 use Rattle.book_records.proofs.Users.{all-bytes-recordBytes, user-of-record}
-use Rattle.book_records.specs.Trade.{FitsTrade, tradeBytes, tradeOf, tradeZeros}
-use Rattle.book_records.specs.User.{FitsRecord, userOf, userZeros}
-use Rattle.rules.specs.Areas.{Prices, managersIn, sellingIn}
-use Rattle.rules.specs.Book.{Book, Trade, User}
-use Rattle.rules.specs.Calendar.{realDay, yearOf}
+use Rattle.book_records.specs.{Trade.FitsTrade, Trade.tradeBytes, Trade.tradeOf, Trade.tradeZeros, User.FitsRecord, User.userOf, User.userZeros}
+use Rattle.rules.specs.{Areas.Prices, Areas.managersIn, Areas.sellingIn, Book.Book, Book.Trade, Book.User, Calendar.realDay, Calendar.yearOf}
+use Rattle.rules.specs.Questions.{positionsValid, tradeValid, userValid, countsValid, groupsValid, headerValid, idsRise, numberOf, refusal, sellingMost}
+use Rattle.rules.specs.Questions.{usersValid, versionKnown, versionValid}
 use Rattle.base.specs.Lists.{all}
-use Rattle.rules.specs.Questions.{positionsValid, tradeValid, userValid, countsValid, groupsValid, headerValid, idsRise, numberOf, refusal, sellingMost, usersValid, versionKnown, versionValid}
 
 -- ---- what was written are bytes, as many as the counts say
 

@@ -1,11 +1,9 @@
 -- Records to columns and back: the same, over any widths and any number of records. Assumes nothing.
 use mathlib.Core.Bool.{Bool, true, false, not}
+use mathlib.Core.{Path._≡_, Path.refl, Path.sym, Path.ap, Path.ap₂, Path._∙_, List.List, List.[], List._∷_, List._++_, List.map, List.append-assoc}
 use Prim.Native.Nat.{ℕ, zero, suc, _+_, _*_, _≤_}
-use mathlib.Core.Path.{_≡_, refl, sym, ap, ap₂, _∙_}
-use mathlib.Core.List.{List, [], _∷_, _++_, map, append-assoc}
-use native.Mathlib.Omega.{arith}
-use native.Mathlib.Nat.{mul-zero, mul-suc, zero-mul, add-comm, add-mul}
-use lib.ListN.{length, take, drop, replicate, length-append, length-drop, length-replicate, take-append-drop}
+use native.Mathlib.{Omega.arith, Nat.mul-zero, Nat.mul-suc, Nat.zero-mul, Nat.add-comm, Nat.add-mul}
+use lib.ListN.{length, take, drop, replicate, length-append, length-drop, length-map, length-replicate, take-append-drop}
 use lib.Seq.{length-take-le, drop-at, take-at, take-add, take-all}
 use Rattle.fields.specs.Layout.{recordsOf, bytesOfRecords, size, Every}
 use Rattle.fields.proofs.Records.{length-recordsOf}
@@ -15,10 +13,6 @@ use Rattle.columns.specs.Statements.{Rearranges}
 -- every record has the length of its fields
 abbrev pub Sized : List ℕ → List (List ℕ) → Type 0
 Sized ws rs = Every (λ c. length c ≡ size ws) rs
-
-pub length-map : {A B : Type 0} (f : A → B) (xs : List A) → length (map f xs) ≡ length xs
-length-map f [] = refl
-length-map f (x ∷ xs) = ap suc (length-map f xs)
 
 -- ---- the records of a size that bytes are
 
@@ -95,7 +89,7 @@ record-back (w ∷ ws) rs h =
     let c = bytesOfRecords (take w) rs in
     let more = fieldWise ws (map (drop w) rs) in
     let e : recordWise ws (length rs) more ≡ map (drop w) rs =
-    ap (λ (n : ℕ). recordWise ws n more) (sym (length-map (drop w) rs)) ∙ record-back ws (map (drop w) rs) (shorter w ws rs h) in
+    ap (λ (n : ℕ). recordWise ws n more) (sym (length-map rs (drop w))) ∙ record-back ws (map (drop w) rs) (shorter w ws rs h) in
     rw (column-back w ws rs more h, drop-at c more (w * length rs) (length-column w ws rs h), e) (whole w rs)
 
 -- columns have as many bytes as records

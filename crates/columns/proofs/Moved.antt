@@ -1,17 +1,13 @@
 -- Fields that are moved one column at a time: from records to columns, and from columns to records. Assumes nothing.
 use Prim.Native.Nat.{ℕ, zero, suc, _+_, _*_, _≤_}
-use mathlib.Core.Path.{_≡_, refl, sym, ap, ap₂, _∙_}
-use mathlib.Core.List.{List, [], _∷_, _++_, map, append-assoc}
-use native.Mathlib.Omega.{arith}
-use native.Mathlib.Nat.{zero-add, mul-suc, add-mul}
-use lib.ListN.{length, take, drop, replicate, length-append, length-drop, length-replicate}
+use mathlib.Core.{Path._≡_, Path.refl, Path.sym, Path.ap, Path.ap₂, Path._∙_, List.List, List.[], List._∷_, List._++_, List.map, List.append-assoc}
+use native.Mathlib.{Omega.arith, Nat.zero-add, Nat.mul-suc, Nat.add-mul}
+use lib.ListN.{length, take, drop, replicate, length-append, length-drop, length-map, length-replicate}
 use lib.Seq.{sets, sets-eq, length-sets, length-take-le, take-take, take-all, drop-drop}
 use Rattle.fields.specs.Layout.{recordsOf, bytesOfRecords, size, Every}
-use Rattle.fields.proofs.Records.{length-recordsOf}
-use Rattle.fields.proofs.Sets.{sets-append, sets-left, sets-right, take-of-drop}
-use Rattle.columns.specs.Columns.{byRecord, joined, recordWise}
-use Rattle.columns.specs.Moves.{moved}
-use Rattle.columns.proofs.Columnar.{Sized, empties, empty-sized, joined-sized, length-joined, length-map, length-recordWise, parts-sized, parts-whole, shorter}
+use Rattle.fields.proofs.{Records.length-recordsOf, Sets.sets-append, Sets.sets-left, Sets.sets-right, Sets.take-of-drop}
+use Rattle.columns.specs.{Columns.byRecord, Columns.joined, Columns.recordWise, Moves.moved}
+use Rattle.columns.proofs.Columnar.{Sized, empties, empty-sized, joined-sized, length-joined, length-recordWise, parts-sized, parts-whole, shorter}
 
 pub length-moved : (w n : ℕ) (s : List ℕ) (from step : ℕ) (out : List ℕ) (to apart : ℕ) → length (moved w n s from step out to apart) ≡ length out
 unfolding moved
@@ -114,7 +110,7 @@ stored-behind (w ∷ ws) o ps qs s from l hp hq h =
     ap (λ (i : ℕ). stored ws n (o + (w + size ws)) s (from + w * n) (moved w n s from w (bytesOfRecords (λ (c : List ℕ). c) (joined ps qs)) i (o + (w + size ws))) (o + w)) (sym (zero-add o))
     ∙ ap (λ (t : List ℕ). stored ws n (o + (w + size ws)) s (from + w * n) t (o + w)) (record-moved w o (size ws) ps qs s from [] l hp hq (omega (arith, h, m)))
     ∙ ap₂ (λ (i k : ℕ). stored ws k i s (from + w * n) (bytesOfRecords (λ (c : List ℕ). c) (joined (joined ps cs) qs')) (o + w)) long (sym lj)
-    ∙ stored-behind ws (o + w) (joined ps cs) qs' s (from + w * n) (lj ∙ l ∙ sym (length-map (drop w) qs)) sized (shorter w ws qs hq) (rw lj (omega (arith, h, m)))
+    ∙ stored-behind ws (o + w) (joined ps cs) qs' s (from + w * n) (lj ∙ l ∙ sym (length-map qs (drop w))) sized (shorter w ws qs hq) (rw lj (omega (arith, h, m)))
     ∙ ap (λ (k : ℕ). bytesOfRecords (λ (c : List ℕ). c) (joined (joined ps cs) (recordWise ws k (drop (from + w * n) s)))) lj
     ∙ ap (bytesOfRecords (λ (c : List ℕ). c)) (joined-assoc ps cs rest)
     ∙ ap (λ (t : List ℕ). bytesOfRecords (λ (c : List ℕ). c) (joined ps (joined cs (recordWise ws n t)))) (sym (drop-drop (w * n) from s))

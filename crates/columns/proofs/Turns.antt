@@ -1,22 +1,17 @@
 -- The turns of the loops: one over the records of a column, and one over the columns each way. Assumes nothing.
-use mathlib.Core.Bool.{Bool}
+use mathlib.Core.{Bool.Bool, List.List, List.[], List._∷_, List._++_, List.map, List.map-id, List.map-map, List.append-assoc, List.append-nil}
+use mathlib.Core.Path.{_≡_, refl, fun-ext, subst, sym, ap, ap₂, _∙_}
 use borrow.Rule.Slice.PartMut.{putMid}
 use Prim.Native.Nat.{ℕ, zero, suc, _+_, _-_, _*_, _<_, _≤_}
-use mathlib.Core.Path.{_≡_, refl, subst, sym, ap, ap₂, _∙_}
-use mathlib.Core.List.{List, [], _∷_, _++_, map, append-assoc, append-nil}
-use native.Mathlib.Omega.{arith}
-use native.Mathlib.Numerals.{add-one}
+use native.Mathlib.{Omega.arith, Numerals.add-one}
 use native.Mathlib.Nat.{add-zero, mul-zero, mul-suc, add-mul, sub-zero, zero-mul, mul-le-mul-left, not-suc-le-zero, le-of-suc-le-suc}
-use lib.ListN.{length, getD, take, drop, length-drop, drop-of-length-le}
+use lib.ListN.{length, getD, take, drop, length-drop, length-map, drop-of-length-le}
 use lib.Seq.{sets, drop-cons, drop-drop, take-length, take-add, length-sets, length-take-le}
-use Rattle.fields.specs.Field.{AllBytes, field, setField}
-use Rattle.fields.specs.Layout.{recordsOf, bytesOfRecords, size, Every}
-use Rattle.fields.proofs.Field.{toBytes-field}
-use Rattle.fields.proofs.Records.{length-recordsOf}
-use Rattle.fields.proofs.Sets.{part-of-sets, part-sets, take-sets}
+use Rattle.fields.specs.{Field.AllBytes, Field.field, Field.setField, Layout.recordsOf, Layout.bytesOfRecords, Layout.size, Layout.Every}
+use Rattle.fields.proofs.{Field.toBytes-field, Records.length-recordsOf, Sets.part-of-sets, Sets.part-sets, Sets.take-sets}
 use Rattle.columns.specs.Columns.{arranged, byField, byRecord, fieldWise}
 use Rattle.columns.specs.Moves.{FieldsIn, Filled, Movable, Within, moved}
-use Rattle.columns.proofs.Columnar.{length-arranged, length-column, length-map, parts-sized}
+use Rattle.columns.proofs.Columnar.{length-arranged, length-column, parts-sized}
 use Rattle.columns.proofs.Moved.{column-moved, length-moved, stored, stored-all}
 
 -- ---- a field in each record
@@ -114,13 +109,7 @@ dropped-sized at k [] e = tt
 dropped-sized at k (r ∷ rs) e = (rw length-drop (omega (arith, e .0)), dropped-sized at k rs (e .1))
 
 dropped-more : (w at : ℕ) (rs : List (List ℕ)) → map (drop w) (map (drop at) rs) ≡ map (drop (at + w)) rs
-dropped-more w at [] = refl
-dropped-more w at (r ∷ rs) = ap₂ (λ (x : List ℕ) (xs : List (List ℕ)). x ∷ xs) (drop-drop w at r) (dropped-more w at rs)
-
--- records without no byte
-dropped-none : (rs : List (List ℕ)) → map (drop 0) rs ≡ rs
-dropped-none [] = refl
-dropped-none (r ∷ rs) = ap (λ (xs : List (List ℕ)). r ∷ xs) (dropped-none rs)
+dropped-more w at rs = map-map (drop w) (drop at) rs ∙ ap (λ (f : List ℕ → List ℕ). map f rs) (fun-ext (drop-drop w at))
 
 -- where j columns are written: those and the columns that are left give all
 pub record Columning (ws : List ℕ) (long n : ℕ) (s out : List ℕ) (j at begin : ℕ) : Type 0 where
@@ -130,7 +119,7 @@ pub record Columning (ws : List ℕ) (long n : ℕ) (s out : List ℕ) (j at beg
 
 module _ {ws : List ℕ} {long n : ℕ} {s : List ℕ} where
   pub columning-start : {out : List ℕ} → size ws ≡ long → length out ≡ long * n → Columning ws long n s out 0 0 0
-  columning-start e k = record { here = column-start e; kept = k; answer = ap (fieldWise ws) (dropped-none (recordsOf long (λ c. c) n s)) }
+  columning-start e k = record { here = column-start e; kept = k; answer = ap (fieldWise ws) (map-id (recordsOf long (λ c. c) n s)) }
 
   -- the next column can be moved
   pub columning-movable : {out : List ℕ} {lent j at begin w : ℕ} → Filled ws long n (length s) lent → Columning ws long n s out j at begin → j < length ws → w ≡ getD ws j 0
@@ -151,7 +140,7 @@ module _ {ws : List ℕ} {long n : ℕ} {s : List ℕ} where
       let rs' = map (drop at) rs in
       let column = bytesOfRecords (take w) rs' in
       let room = field-room (before .here) h is in
-      let count : length rs' ≡ n = length-map (drop at) rs ∙ length-recordsOf long (λ (c : List ℕ). c) n s in
+      let count : length rs' ≡ n = length-map rs (drop at) ∙ length-recordsOf long (λ (c : List ℕ). c) n s in
       let whole : at + (w + size rest) ≡ long = omega (arith, room) in
       let z : Every (λ c. length c ≡ w + size rest) rs' = dropped-sized at (w + size rest) rs (rw whole (parts-sized long n s (omega (arith, l)))) in
       let k : length column ≡ w * n = length-column w rest rs' z ∙ ap (λ (i : ℕ). w * i) count in

@@ -1,11 +1,9 @@
 -- Who manages whom, and so who bears whose risk, depends on the parties of the users alone: a change of users that keeps these leaves it. Assumes nothing.
-use Rattle.base.specs.Basics.{_≡_, refl, sym, ap, ap₂, _∙_, Bool, true, false, cond, List, [], _∷_, map, map-map, ℕ, T, eqb, pos}
+use Rattle.base.specs.Basics.{_≡_, refl, sym, ap, ap₂, _∙_, cond, List, [], _∷_, map, map-map, ℕ, T, eqb, pos}
 use Rattle.base.specs.Lists.{all}
-use Rattle.base.proofs.Tests.{all-by, all-map}
+use Rattle.base.proofs.Tests.{all-by, all-map, by-case}
 use Rattle.laws.proofs.Users.{known-map}
-use Rattle.rules.specs.Bearers.{bearer, asBorne}
-use Rattle.rules.specs.Book.{PerArea, Party, managerIn, User, Trade, find}
-use Rattle.rules.specs.Levels.{shipper}
+use Rattle.rules.specs.{Bearers.bearer, Bearers.asBorne, Book.PerArea, Book.Party, Book.managerIn, Book.User, Book.Trade, Book.find, Levels.shipper}
 use Rattle.rules.specs.Questions.{manages, managerValid, managersValid}
 
 module _ (g : User → User) (keeps : (u : User) → g u .party ≡ u .party) where
@@ -13,11 +11,8 @@ module _ (g : User → User) (keeps : (u : User) → g u .party ≡ u .party) wh
   unfolding find
   find-map [] id = refl
   find-map (u ∷ us) id =
-      ap (λ (p : Party). cond (eqb (p .id) id) (g u) (find (map g us) id) .party) (keeps u) ∙ go (eqb (u .party .id) id) (find-map us id)
-    where
-      go : (c : Bool) → find (map g us) id .party ≡ find us id .party → cond c (g u) (find (map g us) id) .party ≡ cond c u (find us id) .party
-      go true e = keeps u
-      go false e = e
+      ap (λ (p : Party). cond (eqb (p .id) id) (g u) (find (map g us) id) .party) (keeps u)
+      ∙ by-case (eqb (u .party .id) id) (λ e. rw e (keeps u)) (λ e. rw e (find-map us id))
 
   -- who bears the risk of the user of an id
   pub bearer-map : (us : List User) (id area : ℕ) → bearer (find (map g us) id) area ≡ bearer (find us id) area

@@ -1,16 +1,13 @@
 -- Numeric bounds of an accepted book: what was sold and bought, positions within ±26,600,000, so that they fit their 32 bits. Assumes nothing.
-use Rattle.base.specs.Basics.{_≡_, refl, Bool, true, false, cond, _&&_, List, [], _∷_, _*_, _+_, _≤_, ℕ, _<_, suc, zero, arith, T, eqb, leb, leb→le}
-use Rattle.base.specs.Basics.{eqb→eq, natAbs, ℤ, length}
-use Rattle.base.proofs.Linear.{abs-parts, negPart-of, posPart-of}
-use Rattle.base.specs.Parts.{negPart, posPart}
-use Rattle.base.specs.Sums.{sum}
+use Rattle.base.specs.Basics.{_≡_, refl, Bool, true, false, cond, _&&_, List, [], _∷_, _*_, _+_, _≤_, ℕ, _<_, arith, T, eqb, leb, leb→le, natAbs, ℤ, length}
+use Rattle.base.specs.Basics.{eqb-true, ne-eqb}
+use Rattle.base.proofs.{Linear.abs-parts, Linear.negPart-of, Linear.posPart-of, Tests.and-l, Tests.and-r, Tests.by-case, Tests.by-test, Tests.of-three}
+use Rattle.base.specs.{Parts.negPart, Parts.posPart, Sums.sum, Lists.all}
 use Rattle.laws.proofs.Positions.{parts-defined, position-is}
 use Rattle.laws.specs.Sound.{Sound}
-use Rattle.base.proofs.Tests.{and-l, and-r}
-use Rattle.rules.specs.Areas.{sellingIn}
-use Rattle.rules.specs.Book.{Book, Trade, User, Terms, dealt, at, bought, definedPosition, sold}
-use Rattle.base.specs.Lists.{all}
-use Rattle.rules.specs.Questions.{amountsValid, countsValid, guaranteesValid, tradeValid, entriesValid, userValid, headerValid, positionsValid, pricesValid, sellingMost, sellingValid, tariffValid, tollValid}
+use Rattle.rules.specs.{Areas.sellingIn, Book.Book, Book.Trade, Book.User, Book.Terms, Book.dealt, Book.at, Book.bought, Book.definedPosition, Book.sold}
+use Rattle.rules.specs.Questions.{amountsValid, countsValid, guaranteesValid, tradeValid, entriesValid, userValid, headerValid, positionsValid, pricesValid}
+use Rattle.rules.specs.Questions.{sellingMost, sellingValid, tariffValid, tollValid}
 use Rattle.rules.specs.Signed.{within}
 
 -- ---- trades: at most 256 of at most 100,000 MWh
@@ -38,16 +35,10 @@ trades-le b s =
 
 -- a number is at most one of 0, 1 and 2
 one-of-three : (x n : ℕ) → cond (eqb x 0) n 0 + cond (eqb x 1) n 0 + cond (eqb x 2) n 0 ≤ n
-one-of-three x n = go (eqb x 0) (eqb x 1) (eqb x 2) (λ t. eqb→eq x 0 t) (λ t. eqb→eq x 1 t) (λ t. eqb→eq x 2 t)
-  where
-    go : (p q r : Bool) → (T p → x ≡ 0) → (T q → x ≡ 1) → (T r → x ≡ 2) → cond p n 0 + cond q n 0 + cond r n 0 ≤ n
-    go true true r f g h = absurd (omega (arith, f tt, g tt))
-    go true false true f g h = absurd (omega (arith, f tt, h tt))
-    go true false false f g h = omega arith
-    go false true true f g h = absurd (omega (arith, g tt, h tt))
-    go false true false f g h = omega arith
-    go false false true f g h = omega arith
-    go false false false f g h = omega arith
+one-of-three x n =
+    by-case (eqb x 0) (λ p. rw (p, ne-eqb x 1 (λ e. omega (arith, eqb-true x 0 p)), ne-eqb x 2 (λ e. omega (arith, eqb-true x 0 p))) (omega arith))
+    (λ p. by-case (eqb x 1) (λ q. rw (p, q, ne-eqb x 2 (λ e. omega (arith, eqb-true x 1 q))) (omega arith))
+    (λ q. by-test (λ (m : ℕ). cond (eqb x 0) n 0 + cond (eqb x 1) n 0 + m ≤ n) (eqb x 2) (λ t. rw (p, q) (omega arith)) (λ t. rw (p, q) (omega arith))))
 
 and-cond : (c p q : Bool) (n : ℕ) → cond c (cond (p && q) n 0) 0 ≡ cond p (cond c (cond q n 0) 0) 0
 and-cond true true q n = refl
@@ -58,6 +49,11 @@ and-cond false false q n = refl
 -- an amount of each area and day, in all three areas on both days
 unfoldable pub dealtInAll : (ℕ → ℕ → ℕ) → ℕ
 dealtInAll amount = amount 0 0 + amount 1 0 + amount 2 0 + (amount 0 1 + amount 1 1 + amount 2 1)
+
+-- in one area for the day it is no more
+pub in-all : (amount : ℕ → ℕ → ℕ) {n : ℕ} → dealtInAll amount ≤ n → (a : ℕ) → a < 3 → amount a 0 ≤ n
+unfolding dealtInAll
+in-all amount {n} h = of-three (λ (a : ℕ). amount a 0 ≤ n) (omega arith) (omega arith) (omega arith)
 
 pub dealt-le : (side : Terms → ℕ) (counts : ℕ → Bool) (ts : List Trade) → dealtInAll (dealt side counts ts) ≤ sum (λ t. t .standing) ts
 unfolding dealtInAll dealt sum
@@ -91,15 +87,11 @@ pub within-le : (n : ℕ) (z : ℤ) → T (within n z) → (posPart z ≤ n) × 
 unfolding within
 within-le n z h = let l = leb→le (natAbs z) n h in (omega (arith, abs-parts z), omega (arith, abs-parts z))
 
-entry-valid : (u : User) (a : ℕ) → a < 3 → T (userValid u) → T (within 1000000 (at (u .physical) a))
-unfolding userValid entriesValid
-entry-valid u zero k h = search (and-l, and-r)
-entry-valid u (suc zero) k h = search (and-l, and-r)
-entry-valid u (suc (suc zero)) k h = search (and-l, and-r)
-entry-valid u (suc (suc (suc a))) k h = absurd (omega arith)
-
 pub entry-le : (u : User) (a : ℕ) → a < 3 → T (userValid u) → (posPart (at (u .physical) a) ≤ 1000000) × (negPart (at (u .physical) a) ≤ 1000000)
-entry-le u a k h = within-le 1000000 (at (u .physical) a) (entry-valid u a k h)
+unfolding userValid entriesValid
+entry-le u a k h =
+    within-le 1000000 (at (u .physical) a)
+    (of-three (λ (a : ℕ). T (within 1000000 (at (u .physical) a))) (search (and-l, and-r)) (search (and-l, and-r)) (search (and-l, and-r)) a k)
 
 pub charges-le : (u : User) → T (userValid u) → posPart (u .party .charges) ≤ 1000000000000
 unfolding userValid
@@ -140,11 +132,7 @@ selling-le b s =
 
 pub selling-most : (version : ℕ) → sellingMost version ≤ 100000
 unfolding sellingMost
-selling-most version = go (sellingIn version)
-  where
-    go : (c : Bool) → cond c 100000 0 ≤ 100000
-    go true = omega arith
-    go false = omega arith
+selling-most version = by-test (λ (n : ℕ). n ≤ 100000) (sellingIn version) (λ t. omega arith) (λ t. omega arith)
 
 pub tariffs-pos : (b : Book) → Sound b → (0 < b .header .prices .p) × (0 < b .header .prices .q)
 unfolding headerValid pricesValid tariffValid
@@ -174,8 +162,7 @@ module _ (b : Book) (s : Sound b) (u : User) (v : T (userValid u)) (p : T (posit
       rw e (omega arith, omega arith)
 
   pub position-bound : (a : ℕ) → a < 3 → (posPart (at (u .position) a) ≤ 26600000) × (negPart (at (u .position) a) ≤ 26600000)
-  unfolding dealtInAll
-  position-bound zero k = let l = position-parts 0 k in (omega (arith, bought-le), omega (arith, sold-le))
-  position-bound (suc zero) k = let l = position-parts 1 k in (omega (arith, bought-le), omega (arith, sold-le))
-  position-bound (suc (suc zero)) k = let l = position-parts 2 k in (omega (arith, bought-le), omega (arith, sold-le))
-  position-bound (suc (suc (suc a))) k = absurd (omega arith)
+  position-bound a k =
+      let l = position-parts a k in
+      let id = u .party .id in
+      (omega (arith, l, in-all (bought (b .trades) id) bought-le a k), omega (arith, l, in-all (sold (b .trades) id) sold-le a k))

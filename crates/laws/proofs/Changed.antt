@@ -2,10 +2,8 @@
 use Rattle.base.specs.Basics.{_≡_, refl, cond, ℕ, T, eqb, length-map}
 use Rattle.laws.specs.Sound.{Sound}
 use Rattle.base.proofs.Tests.{by-test}
-use Rattle.laws.proofs.Bearers.{groups-map}
-use Rattle.laws.proofs.Users.{trades-map, change-all, idsRise-map}
-use Rattle.rules.specs.Book.{User, Book, find}
-use Rattle.rules.specs.Changes.{change, withUsers}
+use Rattle.laws.proofs.{Bearers.groups-map, Users.trades-map, Users.change-all, Users.idsRise-map}
+use Rattle.rules.specs.{Book.User, Book.Book, Book.find, Changes.change, Changes.withUsers}
 use Rattle.rules.specs.Questions.{countsValid, groupsValid, userValid, positionsValid, versionValid}
 
 -- one user's record is replaced by one of the same party

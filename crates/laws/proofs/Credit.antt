@@ -2,12 +2,9 @@
 use Rattle.base.specs.Basics.{_≡_, ap, _∙_, Bool, false, cond, ℕ, arith, ℤ, pos, _-ℤ_, +ℤ-idr}
 use Rattle.base.specs.Sums.{sum}
 use Rattle.laws.proofs.Bounds.{selling-le}
-use Rattle.laws.specs.Sound.{Sound}
-use Rattle.laws.specs.Statements.{uncreditedLevel}
-use Rattle.rules.specs.Areas.{Prices, areas, sellingIn, sellingTariff}
-use Rattle.rules.specs.Book.{Book, User}
+use Rattle.laws.specs.{Sound.Sound, Statements.uncreditedLevel}
+use Rattle.rules.specs.{Areas.Prices, Areas.areas, Areas.sellingIn, Areas.sellingTariff, Book.Book, Book.User, Questions.sellingMost}
 use Rattle.rules.specs.Levels.{Holding, Limits, afternoonLevel, afternoonSum, credit, floored, holding}
-use Rattle.rules.specs.Questions.{sellingMost}
 
 -- with selling tariffs of 0
 credit-none : (f : Prices) (h : ℕ → Holding) → f .s ≡ 0 → f .u ≡ 0 → credit f h ≡ 0

@@ -1,20 +1,17 @@
 -- What holds of a reduction's cuts, for any book, user and amount asked: they are within the user's eligible trades, some MWh is cut where something is asked and a trade
 -- is eligible, and the tally's worth is between what is asked, or all there is, and what is asked and one MWh at the largest tariff. Both tiers' laws, added. Assumes nothing.
-use Rattle.base.specs.Basics.{_≡_, refl, sym, ap, ap₂, subst, fun-ext, _∙_, Bool, true, false, not, cond, _&&_, _||_, List, [], _∷_, map, map-map, ℕ}
-use Rattle.base.specs.Basics.{_+_, _*_, _-_, _≤_, _<_, min, add-mul, not-suc-le-zero, le-of-suc-le-suc, mul-pos, arith, T, leb, ltb, eqb, le→leb}
-use Rattle.base.specs.Basics.{leb→le, ltb→lt, length, length-map}
-use Rattle.base.proofs.Linear.{by-order}
-use Rattle.base.proofs.Sums.{sum-add, sum-ext, sum-map}
-use Rattle.base.specs.Sums.{sum}
-use Rattle.laws.proofs.Shares.{eachWithin, worthAt, within-length, worth-pos, tier-worth, tier-within, tier-length, tier-worth-le, tier-reaches, tier-near, tier-none}
-use Rattle.base.proofs.Tests.{and-l, and-r, and-i, or-l, or-r, by-test, eqb-of}
+use Rattle.base.specs.Basics.{_≡_, refl, sym, ap, ap₂, subst, fun-ext, _∙_, Bool, true, false, not, _&&_, _||_, List, [], _∷_, map, map-map, ℕ, _+_, _*_, _-_}
+use Rattle.base.specs.Basics.{_≤_, _<_, min, add-mul, not-suc-le-zero, le-of-suc-le-suc, mul-pos, arith, T, leb, ltb, eqb, le→leb, leb→le, ltb→lt, length}
+use Rattle.base.specs.Basics.{length-map}
+use Rattle.base.proofs.{Linear.by-order, Sums.sum-add, Sums.sum-ext, Sums.sum-map}
+use Rattle.base.proofs.Tests.{and-l, and-r, and-i, or-l, or-r, by-test, eqb-of, by-case, holds, all-yes, all-map, or-by}
+use Rattle.base.specs.{Sums.sum, Lists.all, Lists.any}
+use Rattle.laws.proofs.Shares.{eachWithin, worthAt, within-length, worth-pos, tier-worth, tier-within, tier-length, tier-worth-le, tier-reaches}
+use Rattle.laws.proofs.Shares.{tier-near, tier-none}
 use Rattle.laws.specs.Trades.{cutWithin, cutsWithin, eligibleWorth, standingIf, tariffOf}
-use Rattle.rules.specs.Areas.{Prices, tariff}
-use Rattle.rules.specs.Book.{Header, User, Trade, Book, bilateralForDay, at}
-use Rattle.base.specs.Lists.{all, any}
-use Rattle.rules.specs.Questions.{tariffValid, pricesValid, headerValid}
+use Rattle.rules.specs.{Areas.Prices, Areas.tariff, Questions.tariffValid, Questions.pricesValid, Questions.headerValid}
+use Rattle.rules.specs.{Book.Header, Book.User, Book.Trade, Book.Book, Book.bilateralForDay, Book.at, Shares.tierWorth, Shares.tierCuts}
 use Rattle.rules.specs.Reduction.{eligible, hasEligible, shortIn, lot, tierOne, tierTwo, together, cuts, Tally, nothing, tallied, tallyAll}
-use Rattle.rules.specs.Shares.{tierWorth, tierCuts}
 
 -- ---- lists of cuts
 
@@ -25,13 +22,13 @@ within-standing p [] [] h = tt
 within-standing p [] (t ∷ ts) h = h
 within-standing p (c ∷ cs) [] h = h
 within-standing p (c ∷ cs) (t ∷ ts) h =
+    let l = leb→le c (standingIf p t) (and-l (leb c (standingIf p t)) (eachWithin cs (map (standingIf p) ts)) h) in
     and-i (cutWithin p c t) (cutsWithin p cs ts)
-    (one (p t) (leb→le c (standingIf p t) (and-l (leb c (standingIf p t)) (eachWithin cs (map (standingIf p) ts)) h)))
+    (by-case (p t)
+    (λ e. rw e (and-i (leb c (t .standing)) (eqb c 0 || true) (le→leb c (t .standing) (rw e at l)) (or-r (eqb c 0) true tt)))
+    (λ e. let z : c ≤ 0 = rw e at l in
+    rw e (and-i (leb c (t .standing)) (eqb c 0 || false) (le→leb c (t .standing) (omega arith)) (or-l (eqb c 0) false (eqb-of c 0 (omega arith))))))
     (within-standing p cs ts (and-r (leb c (standingIf p t)) (eachWithin cs (map (standingIf p) ts)) h))
-  where
-    one : (passes : Bool) → c ≤ cond passes (t .standing) 0 → T (leb c (t .standing) && (eqb c 0 || passes))
-    one true l = and-i (leb c (t .standing)) (eqb c 0 || true) (le→leb c (t .standing) l) (or-r (eqb c 0) true tt)
-    one false l = and-i (leb c (t .standing)) (eqb c 0 || false) (le→leb c (t .standing) (omega arith)) (or-l (eqb c 0) false (eqb-of c 0 (omega arith)))
 
 -- a weaker test admits as much
 pub cuts-within-by : (p q : Trade → Bool) → ((t : Trade) → T (p t) → T (q t)) → (cs : List ℕ) (ts : List Trade) → T (cutsWithin p cs ts) → T (cutsWithin q cs ts)
@@ -43,12 +40,8 @@ cuts-within-by p q f (c ∷ cs) (t ∷ ts) h =
     let k = and-l (cutWithin p c t) (cutsWithin p cs ts) h in
     and-i (cutWithin q c t) (cutsWithin q cs ts)
     (and-i (leb c (t .standing)) (eqb c 0 || q t) (and-l (leb c (t .standing)) (eqb c 0 || p t) k)
-    (weaker (eqb c 0) (p t) (q t) (f t) (and-r (leb c (t .standing)) (eqb c 0 || p t) k)))
+    (or-by (eqb c 0) (p t) (q t) (f t) (and-r (leb c (t .standing)) (eqb c 0 || p t) k)))
     (cuts-within-by p q f cs ts (and-r (cutWithin p c t) (cutsWithin p cs ts) h))
-  where
-    weaker : (a x y : Bool) → (T x → T y) → T (a || x) → T (a || y)
-    weaker true x y g h = tt
-    weaker false x y g h = g h
 
 -- two cuts of each trade as one
 pub together-within : (f g : Trade → ℕ) (cs ds : List ℕ) (ts : List Trade) → T (eachWithin cs (map f ts)) → T (eachWithin ds (map g ts))
@@ -116,12 +109,10 @@ module _ (f : Prices) (p : Trade → Bool) (ts : List Trade) where
 
 -- every trade's tariff is P or Q
 tariffs-le : (f : Prices) (m : ℕ) → f .p ≤ m → f .q ≤ m → (ts : List Trade) → T (all (λ n. leb n m) (map (tariffOf f) ts))
-unfolding all tariff
-tariffs-le f m h k [] = tt
-tariffs-le f m h k (t ∷ ts) =
-    and-i (leb (tariffOf f t) m) (all (λ n. leb n m) (map (tariffOf f) ts))
-    (le→leb (tariffOf f t) m (by-test (λ (n : ℕ). n ≤ m) (eqb (t .terms .area) 0) (λ e. h) (λ e. k)))
-    (tariffs-le f m h k ts)
+unfolding tariff
+tariffs-le f m h k ts =
+    rw (all-map (λ n. leb n m) (tariffOf f) ts)
+    (all-yes (λ t. leb (tariffOf f t) m) (λ t. le→leb (tariffOf f t) m (by-test (λ (n : ℕ). n ≤ m) (eqb (t .terms .area) 0) (λ e. h) (λ e. k))) ts)
 
 -- questions about a book ask that both tariffs are above 0
 pub tariff-pos : (h : Header) → T (headerValid h) → (area : ℕ) → 0 < tariff (h .prices) area
@@ -136,14 +127,8 @@ standing-worth-pos : (p : Trade → Bool) (price : Trade → ℕ) → ((t : Trad
     → (ts : List Trade) → T (any p ts) → 0 < sum (λ t. standingIf p t * price t) ts
 unfolding any sum
 standing-worth-pos p price f g [] h = absurd h
-standing-worth-pos p price f g (t ∷ ts) h = one (p t) (f t) (λ k. standing-worth-pos p price f g ts k) h
-  where
-    rest : ℕ
-    rest = sum (λ t. standingIf p t * price t) ts
-
-    one : (passes : Bool) → (T passes → 0 < t .standing) → (T (any p ts) → 0 < rest) → T (passes || any p ts) → 0 < cond passes (t .standing) 0 * price t + rest
-    one true stands later h = omega (arith, mul-pos (stands tt) (g t))
-    one false stands later h = omega (arith, later h)
+standing-worth-pos p price f g (t ∷ ts) h =
+    by-case (p t) (λ e. rw e (omega (arith, mul-pos (f t (holds e)) (g t)))) (λ e. omega (arith, standing-worth-pos p price f g ts (rw e at h)))
 
 module _ (b : Book) (u : User) where
   -- the tests of the two tiers
@@ -156,12 +141,8 @@ module _ (b : Book) (u : User) where
   -- an eligible trade is of one of the tiers, and no other of either
   tiers-standing : (t : Trade) → standingIf inOne t + standingIf inTwo t ≡ standingIf (eligible b u) t
   unfolding inOne inTwo
-  tiers-standing t = split (eligible b u t) (shortIn b u t)
-    where
-      split : (e i : Bool) → cond (e && i) (t .standing) 0 + cond (e && not i) (t .standing) 0 ≡ cond e (t .standing) 0
-      split true true = omega arith
-      split true false = omega arith
-      split false i = refl
+  tiers-standing t =
+      by-case (eligible b u t) (λ e. by-case (shortIn b u t) (λ i. rw (e, i) (omega arith)) (λ i. rw (e, i) (omega arith))) (λ e. rw e)
 
   -- what is eligible is worth both tiers
   pub eligible-worth : eligibleWorth b u ≡ tierWorth (tierOne b u) + tierWorth (tierTwo b u)

@@ -1,17 +1,14 @@
 -- Numeric bounds of an accepted book as its risk is borne, where a manager bears that of up to 64 users: positions within ±89,600,000, levels below 2^46. Assumes nothing.
-use Rattle.base.specs.Basics.{_*_, _+_, _≤_, ℕ, _<_, zero, suc, mul-le-mul, arith, T, eqb, _-ℤ_, pos, _+ℤ_, negℤ}
+use Rattle.base.specs.Basics.{_*_, _+_, _≤_, ℕ, _<_, mul-le-mul, arith, T, eqb, _-ℤ_, pos, _+ℤ_, negℤ}
 use Rattle.base.proofs.Linear.{posPart-of, negPart-pos, parts-sub, posPart-pos, negPart-neg, parts-add, posPart-neg}
-use Rattle.base.proofs.Sums.{sum-map}
-use Rattle.base.proofs.Tests.{by-test}
-use Rattle.base.specs.Parts.{negPart, posPart}
-use Rattle.base.specs.Sums.{sum}
-use Rattle.laws.proofs.Bounds.{below-parts, charges-le, dealt-le, dealtInAll, prices-le, trades-le}
+use Rattle.base.proofs.{Sums.sum-map, Tests.by-test}
+use Rattle.base.specs.{Parts.negPart, Parts.posPart, Sums.sum}
+use Rattle.laws.proofs.Bounds.{below-parts, charges-le, dealt-le, dealtInAll, in-all, prices-le, trades-le}
 use Rattle.laws.proofs.Members.{entries-borne, parts-borne}
 use Rattle.laws.specs.Sound.{Sound}
-use Rattle.rules.specs.Areas.{referencePrice, areas}
-use Rattle.rules.specs.Bearers.{asBorne, borne, borneSum}
-use Rattle.rules.specs.Book.{Book, User, bought, sold}
-use Rattle.rules.specs.Levels.{afternoonNeed, credit, exposure, holding, stock, Limits, afternoonLevel, afternoonSum, floored, morningLevel, morningNeed, morningSum}
+use Rattle.rules.specs.{Areas.referencePrice, Areas.areas, Bearers.asBorne, Bearers.borne, Bearers.borneSum, Book.Book, Book.User, Book.bought, Book.sold}
+use Rattle.rules.specs.Levels.{afternoonNeed, credit, exposure, holding, stock, Limits, afternoonLevel, afternoonSum, floored, morningLevel, morningNeed}
+use Rattle.rules.specs.Levels.{morningSum}
 use Rattle.rules.specs.Questions.{userValid}
 
 -- what a user sold, and what it bought, as it is borne, in all areas on both days
@@ -37,11 +34,9 @@ module _ (b : Book) (s : Sound b) (id : ℕ) where
       (omega (arith, l, entries-borne b s id a k), omega (arith, l, entries-borne b s id a k))
 
   pub borne-bound : (a : ℕ) → a < 3 → (posPart (borneSum (λ v. v .position) (b .users) id a) ≤ 89600000) × (negPart (borneSum (λ v. v .position) (b .users) id a) ≤ 89600000)
-  unfolding dealtInAll
-  borne-bound zero k = let l = position-parts 0 k in (omega (arith, l, all-bought-le), omega (arith, l, all-sold-le))
-  borne-bound (suc zero) k = let l = position-parts 1 k in (omega (arith, l, all-bought-le), omega (arith, l, all-sold-le))
-  borne-bound (suc (suc zero)) k = let l = position-parts 2 k in (omega (arith, l, all-bought-le), omega (arith, l, all-sold-le))
-  borne-bound (suc (suc (suc a))) k = absurd (omega arith)
+  borne-bound a k =
+      let l = position-parts a k in
+      (omega (arith, l, in-all (bought (borne b) id) all-bought-le a k), omega (arith, l, in-all (sold (borne b) id) all-sold-le a k))
 
 module _ (b : Book) (s : Sound b) (u : User) where
   short-le : (a : ℕ) → a < 3 → negPart (holding b u a .position) ≤ 64000000 + sold (borne b) (u .party .id) a 0

@@ -1,59 +1,21 @@
 -- The main laws, each as its statement in specs/Statements.antt says it. Assumes nothing.
 use Rattle.base.specs.Basics.{_≡_, refl, ap, Option, none, some, max, ℕ, arith, leb→le, le→leb, ltb, ltb→lt, _+ℤ_, natAbs}
-use Rattle.base.proofs.Linear.{abs-parts, posPart-of}
+use Rattle.base.proofs.{Linear.abs-parts, Linear.posPart-of, Tests.and-l, Tests.and-r}
 use Rattle.base.specs.Parts.{negPart, posPart}
-use Rattle.laws.proofs.Bounds.{position-bound, tariffs-pos}
-use Rattle.laws.proofs.Levels.{afternoon-level-le, morning-level-le}
-use Rattle.laws.proofs.Credit.{level-uncredited}
-use Rattle.laws.proofs.Cuts.{cuts-bilateral, cuts-pos, cuts-within, tally-mwh, tally-near, tally-reaches}
-use Rattle.laws.proofs.Guarantee.{guarantee-sound}
-use Rattle.laws.proofs.Positions.{positions-sum}
-use Rattle.laws.proofs.Posting.{posting-sound}
-use Rattle.laws.proofs.Reduction.{cuts-lowered}
-use Rattle.laws.proofs.Refusals.{append-yes, first-yes}
-use Rattle.laws.proofs.Run.{Done, has-target, next-none, reduced-law, run-count, run-done, run-law, run-none}
-use Rattle.laws.proofs.Settle.{retraded-anew}
-use Rattle.laws.proofs.Sound.{accept, sound}
-use Rattle.laws.specs.Sound.{Sound}
-use Rattle.base.proofs.Tests.{and-l, and-r}
-use Rattle.laws.proofs.Trades.{framed, lowered-refl}
-use Rattle.laws.proofs.Users.{all-find}
-use Rattle.laws.specs.Statements.{Conserved, StaysAccepted, CutsEligible, SomethingCut, TargetMet, SettledAnew, AllCovered, RunEnds, RunCounts, Bounded, KeepsReading}
-use Rattle.laws.specs.Trades.{Lowered, Pairwise}
-use Rattle.rules.specs.Areas.{sellingIn}
-use Rattle.rules.specs.Book.{Book, at, find}
-use Rattle.rules.specs.Calls.{
-  posting,
-  morningCall,
-  afternoonCall,
-  reduction,
-  run,
-  Call,
-  about,
-  assignedFallsShort,
-  assignedSuffices,
-  calledInBeyondMargin,
-  cuttable,
-  effect,
-  eligibleTrade,
-  entryInRange,
-  guaranteed,
-  idKnown,
-  isShipper,
-  marginExceeded,
-  ofCuts,
-  only,
-  questions,
-  reduced,
-  reducedBy,
-  runFor,
-  step,
-}
-use Rattle.rules.specs.Changes.{withUsers}
-use Rattle.rules.specs.Levels.{Limits, afternoonLevel, morningLevel}
-use Rattle.rules.specs.Questions.{aboutBook, decided, positionsValid, refusal, userValid}
-use Rattle.rules.specs.Reduction.{cutAll, cuts, target}
-use Rattle.rules.specs.Signed.{within}
+use Rattle.laws.proofs.{Bounds.position-bound, Bounds.tariffs-pos, Levels.afternoon-level-le, Levels.morning-level-le, Guarantee.guarantee-sound}
+use Rattle.laws.proofs.{Credit.level-uncredited, Refusals.append-yes, Refusals.first-yes, Sound.accept, Sound.sound, Trades.framed, Trades.lowered-refl}
+use Rattle.laws.proofs.{Cuts.cuts-bilateral, Cuts.cuts-pos, Cuts.cuts-within, Cuts.tally-mwh, Cuts.tally-near, Cuts.tally-reaches, Posting.posting-sound}
+use Rattle.laws.proofs.{Positions.positions-sum, Reduction.cuts-lowered, Settle.retraded-anew}
+use Rattle.laws.proofs.{Run.Done, Run.has-target, Run.next-none, Run.reduced-law, Run.run-count, Run.run-done, Run.run-law, Run.run-none, Users.all-find}
+use Rattle.laws.specs.{Sound.Sound, Trades.Lowered, Trades.Pairwise}
+use Rattle.laws.specs.Statements.{Conserved, StaysAccepted, CutsEligible, SomethingCut, TargetMet, SettledAnew, AllCovered, RunEnds, RunCounts, Bounded}
+use Rattle.laws.specs.Statements.{KeepsReading}
+use Rattle.rules.specs.{Areas.sellingIn, Signed.within}
+use Rattle.rules.specs.{Book.Book, Book.at, Book.find, Questions.aboutBook, Questions.decided, Questions.positionsValid, Questions.refusal, Questions.userValid}
+use Rattle.rules.specs.Calls.{posting, morningCall, afternoonCall, reduction, run, Call, about, assignedFallsShort, assignedSuffices, calledInBeyondMargin}
+use Rattle.rules.specs.Calls.{cuttable, effect, eligibleTrade, entryInRange, guaranteed, idKnown, isShipper, marginExceeded, ofCuts, only, questions, reduced}
+use Rattle.rules.specs.Calls.{reducedBy, runFor, step}
+use Rattle.rules.specs.{Changes.withUsers, Levels.Limits, Levels.afternoonLevel, Levels.morningLevel, Reduction.cutAll, Reduction.cuts, Reduction.target}
 
 pub conserved : Conserved
 conserved =

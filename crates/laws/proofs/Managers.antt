@@ -1,20 +1,16 @@
 -- What question 5 says of managers, in an accepted book: who bears a user's risk is a user of the book and bears its own. Assumes nothing.
-use Rattle.base.specs.Basics.{_≡_, ap, Bool, true, false, cond, _&&_, _||_, List, ℕ, zero, suc, _<_, arith, T, eqb, eqb→eq, eq-eqb}
-use Rattle.base.proofs.Tests.{and-l, and-r}
+use Rattle.base.specs.Basics.{_≡_, ap, Bool, cond, _&&_, List, ℕ, _<_, T, eqb, eqb→eq, eq-eqb}
+use Rattle.base.proofs.Tests.{and-l, and-r, by-test, of-three, or-second}
 use Rattle.laws.proofs.Users.{all-find, known-id}
 use Rattle.laws.specs.Sound.{Sound}
-use Rattle.rules.specs.Areas.{managersIn}
-use Rattle.rules.specs.Bearers.{bearer}
-use Rattle.rules.specs.Book.{Book, User, find, managerIn}
-use Rattle.rules.specs.Questions.{groupsValid, known, managerValid, managersValid, manages}
+use Rattle.rules.specs.{Areas.managersIn, Questions.groupsValid, Questions.known, Questions.managerValid, Questions.managersValid, Questions.manages}
+use Rattle.rules.specs.{Bearers.bearer, Book.Book, Book.User, Book.find, Book.managerIn}
 
 -- one area of the three
 manager-at : (version : ℕ) (us : List User) (u : User) (area : ℕ) → area < 3 → T (managersValid version us u) → T (managerValid version us u area)
 unfolding managersValid
-manager-at version us u zero l h = and-l (managerValid version us u 0) (managerValid version us u 1 && managerValid version us u 2) h
-manager-at version us u (suc zero) l h = search (and-l, and-r)
-manager-at version us u (suc (suc zero)) l h = search (and-l, and-r)
-manager-at version us u (suc (suc (suc area))) l h = absurd (omega arith)
+manager-at version us u area l h =
+    of-three (λ (a : ℕ). T (managerValid version us u a)) (search (and-l, and-r)) (search (and-l, and-r)) (search (and-l, and-r)) area l
 
 -- a user without a manager bears its own risk
 pub own-bearer : (u : User) (area : ℕ) → managerIn (u .party .managers) area ≡ 0 → bearer u area ≡ u .party .id
@@ -27,12 +23,9 @@ by-bearer : (version : ℕ) (us : List User) (u : User) (area : ℕ) (P : ℕ �
     → (T (manages us (managerIn (u .party .managers) area) u area) → P (managerIn (u .party .managers) area)) → P (bearer u area)
 unfolding bearer managerValid
 by-bearer version us u area P h own managed =
-    go (eqb (managerIn (u .party .managers) area) 0) (λ t. eqb→eq (managerIn (u .party .managers) area) 0 t) h
-  where
-    go : (c : Bool) → (T c → managerIn (u .party .managers) area ≡ 0) → T (c || (managersIn version && manages us (managerIn (u .party .managers) area) u area))
-        → P (cond c (u .party .id) (managerIn (u .party .managers) area))
-    go true e h = own (e tt)
-    go false e h = managed (and-r (managersIn version) (manages us (managerIn (u .party .managers) area) u area) h)
+    let m = managerIn (u .party .managers) area in
+    by-test P (eqb m 0) (λ t. own (eqb→eq m 0 t))
+    (λ t. managed (and-r (managersIn version) (manages us m u area) (or-second (eqb m 0) (managersIn version && manages us m u area) t h)))
 
 module _ (b : Book) (s : Sound b) where
   -- of the user of a known id

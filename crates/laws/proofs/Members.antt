@@ -1,12 +1,10 @@
 -- What a user holds by those whose risk it bears: the sums over the trades as they are borne are the sums over these users, positions as they are borne are as defined, and so bounded. Assumes nothing.
-use Rattle.base.specs.Basics.{_≡_, refl, sym, ap, _∙_, Bool, true, false, cond, _&&_, List, [], _∷_, map, ℕ, _+_, _*_, _≤_, _<_, arith, T, eqb, leb}
-use Rattle.base.specs.Basics.{eqb→eq, leb→le, ℤ, pos, length}
+use Rattle.base.specs.Basics.{_≡_, refl, sym, ap, _∙_, Bool, true, false, cond, _&&_, List, [], _∷_, map, ℕ, _+_, _*_, _≤_, _<_, arith, T, eqb, leb, eqb→eq}
+use Rattle.base.specs.Basics.{leb→le, ℤ, pos, length}
 use Rattle.base.proofs.Linear.{posPart-of, negPart-of, posPart-pos, negPart-pos}
 use Rattle.base.proofs.Sums.{parts-sum, sum-map, sum-swap, sum-ext, sum-zero}
 use Rattle.base.proofs.Tests.{and-l, and-r, by-test, sum-by, sumℤ-by}
-use Rattle.base.specs.Lists.{all}
-use Rattle.base.specs.Parts.{posPart, negPart}
-use Rattle.base.specs.Sums.{sum, sumℤ}
+use Rattle.base.specs.{Lists.all, Parts.posPart, Parts.negPart, Sums.sum, Sums.sumℤ}
 use Rattle.laws.proofs.Bounds.{entry-le}
 use Rattle.laws.proofs.Positions.{once, seller-known, buyer-known, parts-defined-sum, position-is}
 use Rattle.laws.specs.Sound.{Sound}

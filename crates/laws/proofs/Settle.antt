@@ -1,25 +1,17 @@
 -- A book whose trades stand anew. Its positions are settled one trade after another: the seller's rises and the buyer's falls by what stood less what stands.
 -- That is the same as to compute each position anew from the new trades, whether a trade is lowered or raised. Assumes nothing.
-use Rattle.base.specs.Basics.{_≡_, refl, sym, ap, subst, _∙_, Bool, true, false, not, cond, _&&_, List, [], _∷_, map, map-map, ℕ, suc, _+_, _<_}
-use Rattle.base.specs.Basics.{arith, T, eqb, ltb→lt, ℤ, pos, negℤ, _+ℤ_, +ℤ-idr, length, length-map}
+use Rattle.base.specs.Basics.{_≡_, refl, sym, ap, subst, _∙_, Bool, true, false, not, cond, _&&_, List, [], _∷_, map, map-map, ℕ, suc, _+_, _<_, arith, T, eqb}
+use Rattle.base.specs.Basics.{ltb→lt, ℤ, pos, negℤ, _+ℤ_, +ℤ-idr, length, length-map, map-id, T-not, not-T}
 use Rattle.base.proofs.Linear.{parts-add, eq-parts, posPart-neg, negPart-neg, posPart-pos, negPart-pos}
-use Rattle.base.specs.Parts.{posPart, negPart}
-use Rattle.base.specs.Sums.{sum, sumℤ}
-use Rattle.laws.proofs.Areas.{at-add}
-use Rattle.laws.proofs.Bearers.{groups-map}
-use Rattle.laws.proofs.Moved.{Moved}
-use Rattle.laws.proofs.Positions.{parts-defined, position-is, eqbℤ-refl}
+use Rattle.base.proofs.Tests.{and-l, and-r, and-i, by-test, map-by, eqb-comm, by-case, all-yes, all-map, all-by}
+use Rattle.base.specs.{Parts.posPart, Parts.negPart, Sums.sum, Sums.sumℤ, Lists.all}
+use Rattle.laws.proofs.{Areas.at-add, Bearers.groups-map, Moved.Moved, Trades.parts-lost}
+use Rattle.laws.proofs.{Positions.parts-defined, Positions.position-is, Positions.eqbℤ-refl, Users.map-sum, Users.trades-map, Users.idsRise-map}
 use Rattle.laws.specs.Sound.{Sound}
-use Rattle.base.proofs.Tests.{and-l, and-r, and-i, by-test, map-by, eqb-comm}
-use Rattle.laws.proofs.Trades.{parts-lost}
-use Rattle.laws.proofs.Users.{map-sum, trades-map, idsRise-map}
-use Rattle.laws.specs.Books.{anew, repositioned}
-use Rattle.laws.specs.Trades.{Framed, Pairwise, ended, then, leftMwh, leftWorth}
+use Rattle.laws.specs.{Books.anew, Books.repositioned, Trades.Framed, Trades.Pairwise, Trades.ended, Trades.then, Trades.leftMwh, Trades.leftWorth}
 use Rattle.rules.specs.Book.{at, User, Trade, Book, sold, bought, definedPosition, dealt, bilateralForDay}
-use Rattle.rules.specs.Changes.{change, moved}
-use Rattle.base.specs.Lists.{all}
+use Rattle.rules.specs.{Changes.change, Changes.moved, Reduction.lost, Reduction.settleOne, Reduction.settle, Reduction.withTrades}
 use Rattle.rules.specs.Questions.{countsValid, groupsValid, userValid, tradeValid, positionsValid, codesValid, guaranteesValid, positionValid, versionValid}
-use Rattle.rules.specs.Reduction.{lost, settleOne, settle, withTrades}
 
 -- ---- one user's part of it
 
@@ -33,10 +25,6 @@ settleUser : List Trade → List Trade → User → User
 settleUser [] ns u = u
 settleUser (t ∷ ts) [] u = u
 settleUser (t ∷ ts) (n ∷ ns) u = settleUser ts ns (settledOne t n u)
-
-map-id : (us : List User) → map (λ (u : User). u) us ≡ us
-map-id [] = refl
-map-id (u ∷ us) = ap (λ (r : List User). u ∷ r) (map-id us)
 
 settle-map : (ts ns : List Trade) (us : List User) → settle ts ns us ≡ map (settleUser ts ns) us
 unfolding settle settleUser settleOne change ofId settledOne
@@ -70,11 +58,8 @@ same-at id r z v =
 moved-at : (id r : ℕ) (z : ℤ) (v : User) (a : ℕ) → r < 3 → a < 3
     → at (ofId id (moved r z) v .position) a ≡ at (v .position) a +ℤ cond (eqb (v .party .id) id) (cond (eqb r a) z (pos 0)) (pos 0)
 unfolding ofId moved
-moved-at id r z v a h k = go (eqb (v .party .id) id)
-  where
-    go : (c : Bool) → at (cond c (moved r z v) v .position) a ≡ at (v .position) a +ℤ cond c (cond (eqb r a) z (pos 0)) (pos 0)
-    go true = at-add (v .position) r z a h k
-    go false = sym (+ℤ-idr (at (v .position) a))
+moved-at id r z v a h k =
+    by-case (eqb (v .party .id) id) (λ e. rw e (at-add (v .position) r z a h k)) (λ e. rw e (sym (+ℤ-idr (at (v .position) a))))
 
 settledOne-same : (t n : Trade) (v : User) → Same v (settledOne t n v)
 unfolding settledOne
@@ -126,11 +111,8 @@ by-day false d q s r h = omega arith
 
 same-off-day : {t n : Trade} → Framed t n → T (not (eqb (t .terms .day) 0)) → n .standing ≡ t .standing
 unfolding bilateralForDay
-same-off-day {t} {n} p h = p .other (not-day (eqb (t .terms .kind) 0) (eqb (t .terms .day) 0) h)
-  where
-    not-day : (k d : Bool) → T (not d) → T (not (k && d))
-    not-day true d n = n
-    not-day false d n = tt
+same-off-day {t} {n} p h =
+    p .other (not-T (bilateralForDay t) (λ k. T-not (eqb (t .terms .day) 0) h (and-r (eqb (t .terms .kind) 0) (eqb (t .terms .day) 0) k)))
 
 settled-same : (ts ns : List Trade) (v : User) → Same v (settleUser ts ns v)
 unfolding settleUser
@@ -205,16 +187,6 @@ retraded-anew b ns s h =
 
 -- ---- the book
 
-all-of : (p : User → Bool) (g : User → User) → ((u : User) → T (p u) → T (p (g u))) → (us : List User) → T (all p us) → T (all p (map g us))
-unfolding all
-all-of p g e [] h = tt
-all-of p g e (u ∷ us) h = and-i (p (g u)) (all p (map g us)) (e u (and-l (p u) (all p us) h)) (all-of p g e us (and-r (p u) (all p us) h))
-
-all-after : (p : User → Bool) (g : User → User) → ((u : User) → T (p (g u))) → (us : List User) → T (all p (map g us))
-unfolding all
-all-after p g e [] = tt
-all-after p g e (u ∷ us) = and-i (p (g u)) (all p (map g us)) (e u) (all-after p g e us)
-
 repositioned-ok : (ts : List Trade) (u : User) → T (positionsValid ts (repositioned ts u))
 unfolding positionsValid positionValid repositioned at definedPosition
 repositioned-ok ts u = search (and-i, eqbℤ-refl)
@@ -235,15 +207,16 @@ anew-sound : (b : Book) (ns : List Trade) → Sound b → Pairwise Framed (b .tr
 unfolding anew versionValid countsValid groupsValid
 anew-sound b ns s h k =
     let same = repositioned-same ns in
+    let us = b .users in
     record {
       version = s .version;
       counts = rw (length-map (b .users) (repositioned ns), pairs-length h) (s .counts);
       header = s .header;
       ids = rw (idsRise-map (repositioned ns) same 0 (b .users)) (s .ids);
-      users = all-of userValid (repositioned ns) (repositioned-user ns) (b .users) (s .users);
+      users = rw (all-map userValid (repositioned ns) us) (all-by userValid (λ u. userValid (repositioned ns u)) (repositioned-user ns) us (s .users));
       groups = groups-map (repositioned ns) same (b .header .version) (b .users) (s .groups);
       trades = trades-map (repositioned ns) same (b .users) ns k;
-      positions = all-after (positionsValid ns) (repositioned ns) (repositioned-ok ns) (b .users);
+      positions = rw (all-map (positionsValid ns) (repositioned ns) us) (all-yes (λ u. positionsValid ns (repositioned ns u)) (repositioned-ok ns) us);
     }
 
 -- Trades that differ in what stands only, and pass question 6: an accepted book.

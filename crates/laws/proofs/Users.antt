@@ -1,12 +1,9 @@
 -- Users after one of them, or all of them, have changed. Assumes nothing.
-use Rattle.base.specs.Basics.{_≡_, refl, sym, ap, ap₂, _∙_, Bool, true, false, cond, _&&_, _||_, List, [], _∷_, map, ℕ, _≤_, _<_, le-of-eq, arith, T}
-use Rattle.base.specs.Basics.{eqb, ltb, eqb→eq, ltb→lt, ℤ, _+ℤ_, +ℤ-assoc, +ℤ-comm}
-use Rattle.base.specs.Sums.{sumℤ}
-use Rattle.base.proofs.Tests.{and-l, and-r, and-i, by-test, all-by}
-use Rattle.rules.specs.Book.{User, Trade, find}
-use Rattle.rules.specs.Changes.{change}
-use Rattle.base.specs.Lists.{all, any}
-use Rattle.rules.specs.Questions.{known, idsRise, tradeValid, partiesValid}
+use Rattle.base.specs.Basics.{_≡_, refl, sym, ap, ap₂, _∙_, Bool, _&&_, _||_, List, [], _∷_, map, ℕ, _≤_, _<_, le-of-eq, arith, T, eqb, ltb, eqb→eq, ltb→lt, ℤ}
+use Rattle.base.specs.Basics.{_+ℤ_, +ℤ-assoc, +ℤ-comm, eqb-true}
+use Rattle.base.specs.{Sums.sumℤ, Lists.all, Lists.any}
+use Rattle.base.proofs.Tests.{and-l, and-r, and-i, by-test, all-by, by-case}
+use Rattle.rules.specs.{Book.User, Book.Trade, Book.find, Changes.change, Questions.known, Questions.idsRise, Questions.tradeValid, Questions.partiesValid}
 
 -- ---- a change that keeps every id
 
@@ -39,11 +36,8 @@ change-absent f (u ∷ us) low id h r =
     let lt : low < u .party .id = ltb→lt low (u .party .id) (and-l (ltb low (u .party .id)) (idsRise (u .party .id) us) r) in
     let rest : change id f us ≡ us = change-absent f us (u .party .id) id (omega arith) (and-r (ltb low (u .party .id)) (idsRise (u .party .id) us) r) in
     by-test (λ v. v ∷ change id f us ≡ u ∷ us) (eqb (u .party .id) id)
-    (λ t. absurd (clash lt (eqb→eq (u .party .id) id t)))
+    (λ t. absurd (omega (arith, eqb→eq (u .party .id) id t)))
     (λ t. ap (λ r. u ∷ r) rest)
-  where
-    clash : low < u .party .id → u .party .id ≡ id → ⊥
-    clash a b = omega arith
 
 -- what holds of all holds after the change, if it holds of the changed record
 pub change-all : (p q : User → Bool) (f : User → User) (id : ℕ) → ((u : User) → T (p u) → T (q u))
@@ -51,40 +45,25 @@ pub change-all : (p q : User → Bool) (f : User → User) (id : ℕ) → ((u : 
 unfolding change idsRise find all
 change-all p q f id h [] low r k n = tt
 change-all p q f id h (u ∷ us) low r k n =
-    go (eqb (u .party .id) id)
-    (λ t. rw (change-absent f us (u .party .id) id (le-of-eq (sym (eqb→eq (u .party .id) id t))) rest) (all-by p q h us pus))
-    (λ m. change-all p q f id h us (u .party .id) rest pus m)
-    n
-  where
-    rest : T (idsRise (u .party .id) us)
-    rest = and-r (ltb low (u .party .id)) (idsRise (u .party .id) us) r
-
-    pus : T (all p us)
-    pus = and-r (p u) (all p us) k
-
-    go : (c : Bool) → (T c → T (all q (change id f us))) → (T (q (f (find us id))) → T (all q (change id f us)))
-        → T (q (f (cond c u (find us id)))) → T (q (cond c (f u) u) && all q (change id f us))
-    go true a ih m = and-i (q (f u)) (all q (change id f us)) m (a tt)
-    go false a ih m = and-i (q u) (all q (change id f us)) (h u (and-l (p u) (all p us) k)) (ih m)
+    let rest = and-r (ltb low (u .party .id)) (idsRise (u .party .id) us) r in
+    let pus = and-r (p u) (all p us) k in
+    by-case (eqb (u .party .id) id)
+    (λ e. rw (e, change-absent f us (u .party .id) id (le-of-eq (sym (eqb-true (u .party .id) id e))) rest)
+    (and-i (q (f u)) (all q us) (rw e at n) (all-by p q h us pus)))
+    (λ e. rw e
+    (and-i (q u) (all q (change id f us)) (h u (and-l (p u) (all p us) k)) (change-all p q f id h us (u .party .id) rest pus (rw e at n))))
 
 -- a sum after the change, if the changed record has d more
-pub change-sum : (h : User → ℤ) (d : ℤ) (f : User → User) (id : ℕ) → ((u : User) → h (f u) ≡ h u +ℤ d)
-    → (us : List User) (low : ℕ) → T (idsRise low us) → T (known us id) → sumℤ h (change id f us) ≡ sumℤ h us +ℤ d
-unfolding change idsRise known any sumℤ
-change-sum h d f id e [] low r k = absurd k
-change-sum h d f id e (u ∷ us) low r k =
-    go (eqb (u .party .id) id)
-    (λ t. ap (sumℤ h) (change-absent f us (u .party .id) id (le-of-eq (sym (eqb→eq (u .party .id) id t))) rest))
-    (λ m. change-sum h d f id e us (u .party .id) rest m)
-    k
-  where
-    rest : T (idsRise (u .party .id) us)
-    rest = and-r (ltb low (u .party .id)) (idsRise (u .party .id) us) r
-
-    go : (c : Bool) → (T c → sumℤ h (change id f us) ≡ sumℤ h us) → (T (known us id) → sumℤ h (change id f us) ≡ sumℤ h us +ℤ d)
-        → T (c || known us id) → h (cond c (f u) u) +ℤ sumℤ h (change id f us) ≡ h u +ℤ sumℤ h us +ℤ d
-    go true a ih m = ap₂ (λ x y. x +ℤ y) (e u) (a tt) ∙ +ℤ-assoc (h u) d (sumℤ h us) ∙ ap (λ x. h u +ℤ x) (+ℤ-comm d (sumℤ h us)) ∙ sym (+ℤ-assoc (h u) (sumℤ h us) d)
-    go false a ih m = ap (λ x. h u +ℤ x) (ih m) ∙ sym (+ℤ-assoc (h u) (sumℤ h us) d)
+pub change-sum : (h : User → ℤ) (d : ℤ) (f : User → User) (id : ℕ) (us : List User) (low : ℕ) → T (idsRise low us) → T (known us id)
+    → h (f (find us id)) ≡ h (find us id) +ℤ d → sumℤ h (change id f us) ≡ sumℤ h us +ℤ d
+unfolding change idsRise known any sumℤ find
+change-sum h d f id [] low r k e = absurd k
+change-sum h d f id (u ∷ us) low r k e =
+    let rest = and-r (ltb low (u .party .id)) (idsRise (u .party .id) us) r in
+    by-case (eqb (u .party .id) id)
+    (λ t. rw (t, change-absent f us (u .party .id) id (le-of-eq (sym (eqb-true (u .party .id) id t))) rest)
+    (ap (λ x. x +ℤ sumℤ h us) (rw t at e) ∙ +ℤ-assoc (h u) d (sumℤ h us) ∙ ap (λ x. h u +ℤ x) (+ℤ-comm d (sumℤ h us)) ∙ sym (+ℤ-assoc (h u) (sumℤ h us) d)))
+    (λ t. rw t (ap (λ x. h u +ℤ x) (change-sum h d f id us (u .party .id) rest (rw t at k) (rw t at e)) ∙ sym (+ℤ-assoc (h u) (sumℤ h us) d)))
 
 -- a sum after a change that leaves every summand
 pub map-sum : (h : User → ℤ) (g : User → User) → ((u : User) → h (g u) ≡ h u) → (us : List User) → sumℤ h (map g us) ≡ sumℤ h us
@@ -96,18 +75,11 @@ map-sum h g e (u ∷ us) = ap₂ (λ x y. x +ℤ y) (e u) (map-sum h g e us)
 pub all-find : (p : User → Bool) (us : List User) (id : ℕ) → T (all p us) → T (known us id) → T (p (find us id))
 unfolding all known any find
 all-find p [] id h k = absurd k
-all-find p (u ∷ us) id h k = go (eqb (u .party .id) id) (λ m. all-find p us id (and-r (p u) (all p us) h) m) k
-  where
-    go : (c : Bool) → (T (known us id) → T (p (find us id))) → T (c || known us id) → T (p (cond c u (find us id)))
-    go true ih m = and-l (p u) (all p us) h
-    go false ih m = ih m
+all-find p (u ∷ us) id h k =
+    by-case (eqb (u .party .id) id) (λ e. rw e (and-l (p u) (all p us) h)) (λ e. rw e (all-find p us id (and-r (p u) (all p us) h) (rw e at k)))
 
 -- the user of a known id has that id
 pub known-id : (us : List User) (id : ℕ) → T (known us id) → find us id .party .id ≡ id
 unfolding known any find
 known-id [] id k = absurd k
-known-id (u ∷ us) id k = go (eqb (u .party .id) id) (λ t. eqb→eq (u .party .id) id t) (λ m. known-id us id m) k
-  where
-    go : (c : Bool) → (T c → u .party .id ≡ id) → (T (known us id) → find us id .party .id ≡ id) → T (c || known us id) → cond c u (find us id) .party .id ≡ id
-    go true e ih m = e tt
-    go false e ih m = ih m
+known-id (u ∷ us) id k = by-case (eqb (u .party .id) id) (λ e. rw e (eqb-true (u .party .id) id e)) (λ e. rw e (known-id us id (rw e at k)))

@@ -1,25 +1,20 @@
 -- A deposit changes nothing that the rules read but the assigned guarantee: what is borne, held and eligible stays, and so do the level and the answers to all questions but 5.
 -- Assumes nothing.
-use Rattle.base.specs.Basics.{_≡_, refl, ap, ap₂, fun-ext, subst, _∙_, _⊎_, inl, inr, Bool, true, false, cond, _&&_, _||_, Option, none, some}
-use Rattle.base.specs.Basics.{Option·some-ne-none, List, [], _∷_, map, List·Memᴰ, List·Memᴰ·cases-cons, List·Memᴰ·not-nil, ℕ, zero, suc, _+_, _-_}
-use Rattle.base.specs.Basics.{_<_, arith, T, eqb, leb, ltb, lt→ltb, leb→le, le→leb, pos, length-map, le-ltb}
+use Rattle.base.specs.Basics.{_≡_, refl, ap, ap₂, fun-ext, subst, _∙_, Bool, true, false, cond, _&&_, _||_, Option, none, some, Option·some-ne-none, List, []}
+use Rattle.base.specs.Basics.{_∷_, map, List·Memᴰ, List·Memᴰ·cases-cons, List·Memᴰ·not-nil, ℕ, zero, suc, _+_, _-_, _<_, arith, T, eqb, leb, ltb, lt→ltb}
+use Rattle.base.specs.Basics.{leb→le, le→leb, pos, length-map, le-ltb, ⊎-elim, T-not}
 use Rattle.base.specs.Lists.{all, any}
-use Rattle.base.specs.Sums.{sum}
-use Rattle.base.proofs.Tests.{all-map, and-false, and-i, and-l, and-r, same-test}
-use Rattle.laws.proofs.Cuts.{eligible-is}
-use Rattle.laws.proofs.Run.{next-none}
-use Rattle.laws.proofs.Sound.{accept, none-refuses, sound}
-use Rattle.laws.proofs.Users.{map-sum}
+use Rattle.base.proofs.Tests.{all-map, and-false, and-i, and-l, and-r, same-test, by-case, fails}
+use Rattle.laws.proofs.{Run.next-none, Run.eligible-cuttable, Sound.accept, Sound.none-refuses, Sound.sound, Users.map-sum, Fuel.run-stops}
 use Rattle.laws_deposits.specs.Deposits.{DepositsAccepted, DepositsLeast, DepositsSuffice, deposited, depositsValid, lacking, withDeposits}
-use Rattle.laws.specs.Sound.{Sound}
-use Rattle.laws.specs.Statements.{AllCovered}
-use Rattle.rules.specs.Bearers.{asBorne, bearer, borne, borneSum}
-use Rattle.rules.specs.Book.{Book, PerArea, Trade, User, at, bilateralForDay, definedPosition, find, managerIn, nobody}
+use Rattle.laws.specs.{Sound.Sound, Statements.AllCovered}
+use Rattle.rules.specs.{Bearers.asBorne, Bearers.bearer, Bearers.borne, Bearers.borneSum, Reduction.eligible, Reduction.hasEligible, Reduction.target}
+use Rattle.rules.specs.Book.{Book, PerArea, Trade, User, at, definedPosition, find, managerIn, nobody}
 use Rattle.rules.specs.Calls.{about, cuttable, effect, nextReduced, ofRun, only, onward, questions, run, runFor, step}
 use Rattle.rules.specs.Changes.{withUsers}
 use Rattle.rules.specs.Levels.{Limits, afternoonLevel, calledIn, exceedsMargin, flagged, holding, partyTo, sells, shipper, shortOfCover}
-use Rattle.rules.specs.Questions.{aboutBook, accepted, countsValid, decided, groupsValid, guaranteesValid, idsRise, known, managerValid, managersValid, manages, partiesValid, positionValid, positionsValid, tradeValid, userValid, versionValid}
-use Rattle.rules.specs.Reduction.{eligible, hasEligible, target}
+use Rattle.rules.specs.Questions.{aboutBook, accepted, countsValid, decided, groupsValid, guaranteesValid, idsRise, known, managerValid, managersValid, manages}
+use Rattle.rules.specs.Questions.{partiesValid, positionValid, positionsValid, tradeValid, userValid, versionValid}
 
 -- ---- what a deposit leaves
 
@@ -32,11 +27,7 @@ module _ (amounts : User → ℕ) where
   found : (us : List User) (id : ℕ) → (n : ℕ) × (find (map richer us) id ≡ deposited n (find us id))
   unfolding find nobody deposited
   found [] id = (0, refl)
-  found (u ∷ us) id = go (eqb (u .party .id) id) (found us id)
-    where
-      go : (c : Bool) → (n : ℕ) × (find (map richer us) id ≡ deposited n (find us id)) → (n : ℕ) × (cond c (richer u) (find (map richer us) id) ≡ deposited n (cond c u (find us id)))
-      go true e = (amounts u, refl)
-      go false e = e
+  found (u ∷ us) id = by-case (eqb (u .party .id) id) (λ e. rw e (amounts u, refl)) (λ e. rw e (found us id))
 
   -- so who bears its risk is the same
   bearer-same : (us : List User) (id area : ℕ) → bearer (find (map richer us) id) area ≡ bearer (find us id) area
@@ -111,17 +102,6 @@ covered-by true true false level assigned = and-false (ltb (assigned + cond (ltb
 covered-by true true true level assigned =
     rw (and-true (ltb assigned level), and-true (ltb (assigned + cond (ltb assigned level) (level - assigned) 0) level)) (reaches level assigned (ltb assigned level) refl)
 
--- a user that has an eligible trade has MWh that can be cut
-eligible-cuttable : (b : Book) (u : User) (ts : List Trade) → T (any (eligible b u) ts) → 0 < cuttable ts
-unfolding any cuttable sum
-eligible-cuttable b u [] h = absurd h
-eligible-cuttable b u (t ∷ ts) h = go (eligible b u t) (bilateralForDay t) (λ k. eligible-is b u t k) (λ k. eligible-cuttable b u ts k) h
-  where
-    go : (p q : Bool) → (T p → T q × (0 < t .standing)) → (T (any (eligible b u) ts) → 0 < cuttable ts) → T (p || any (eligible b u) ts) → 0 < cond q (t .standing) 0 + cuttable ts
-    go true true a ih k = omega (arith, a tt .1)
-    go true false a ih k = absurd (a tt .0)
-    go false q a ih k = omega (arith, ih k)
-
 module _ (limits : Limits) where
   -- the user is one that a run reduces
   abbrev cut : Book → User → Bool
@@ -137,20 +117,12 @@ module _ (limits : Limits) where
   next-there : (b : Book) (f : User → User) (u : User) → T (cut b (f u)) → (us : List User) → List·Memᴰ u us → nextReduced limits b (map f us) ≡ none → ⊥
   unfolding nextReduced
   next-there b f u k [] m e = List·Memᴰ·not-nil m
-  next-there b f u k (v ∷ us) m e = go (cut b (f v)) (λ p. subst (λ (w : User). T (cut b (f w))) p k) (λ l o. next-there b f u k us l o) (List·Memᴰ·cases-cons m) e
-    where
-      go : (c : Bool) → (u ≡ v → T c) → (List·Memᴰ u us → nextReduced limits b (map f us) ≡ none → ⊥) → (u ≡ v) ⊎ List·Memᴰ u us
-          → cond c (some (f v)) (nextReduced limits b (map f us)) ≡ none → ⊥
-      go true h ih o e = Option·some-ne-none (f v) e
-      go false h ih (inl p) e = h p
-      go false h ih (inr l) e = ih l e
+  next-there b f u k (v ∷ us) m e =
+      by-case (cut b (f v)) (λ c. Option·some-ne-none (f v) (rw c at e))
+      (λ c. ⊎-elim (λ p. T-not (cut b (f v)) (fails c) (subst (λ (w : User). T (cut b (f w))) p k))
+      (λ l. next-there b f u k us l (rw c at e)) (List·Memᴰ·cases-cons m))
 
-  -- a run where none is, and where one is
-  run-absent : (n : ℕ) (b : Book) → nextReduced limits b (b .users) ≡ none → runFor limits n b ≡ record { answer = only 0; book = b }
-  unfolding runFor onward
-  run-absent zero b e = refl
-  run-absent (suc n) b e = ap (λ (o : Option User). onward limits b o (runFor limits n)) e
-
+  -- so a run reduces one
   run-there : (n : ℕ) (b : Book) → 0 < n → (nextReduced limits b (b .users) ≡ none → ⊥) → 0 < runFor limits n b .answer .reductions
   unfolding runFor onward ofRun
   run-there zero b h k = absurd (omega arith)
@@ -177,7 +149,7 @@ module _ (limits : Limits) where
       record {
         covered = λ b. next-none limits (withDeposits (lacking limits b) b) (withDeposits (lacking limits b) b .users) (next b);
         next = next;
-        run = λ n b. run-absent n (withDeposits (lacking limits b) b) (next b);
+        run = λ n b. run-stops limits n (withDeposits (lacking limits b) b) (next b);
       }
     where
       next : (b : Book) → nextReduced limits (withDeposits (lacking limits b) b) (withDeposits (lacking limits b) b .users) ≡ none

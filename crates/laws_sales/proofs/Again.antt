@@ -1,14 +1,9 @@
 -- Trades that stand anew twice, one after the other: the book is the one of the last trades. Assumes nothing.
 use Rattle.base.specs.Basics.{_≡_, sym, ap, _∙_, List, map-map, T}
-use Rattle.laws.proofs.Settle.{retraded-anew, retraded-sound}
-use Rattle.laws.specs.Sound.{Sound}
-use Rattle.laws.proofs.Trades.{pairs-trans}
-use Rattle.laws.specs.Books.{anew, repositioned}
-use Rattle.laws.specs.Trades.{Framed, Pairwise}
-use Rattle.rules.specs.Book.{Book, Trade, User, definedPosition}
+use Rattle.laws.proofs.{Settle.retraded-anew, Settle.retraded-sound, Trades.pairs-trans}
+use Rattle.laws.specs.{Sound.Sound, Books.anew, Books.repositioned, Trades.Framed, Trades.Pairwise}
+use Rattle.rules.specs.{Book.Book, Book.Trade, Book.User, Book.definedPosition, Questions.tradeValid, Reduction.withTrades}
 use Rattle.base.specs.Lists.{all}
-use Rattle.rules.specs.Questions.{tradeValid}
-use Rattle.rules.specs.Reduction.{withTrades}
 
 -- positions computed anew forget how they were computed before
 anew-again : (b : Book) (ns ms : List Trade) → anew (anew b ns) ms ≡ anew b ms

@@ -1,22 +1,15 @@
 -- A book of a version without managers, 1 or 2: everybody bears its own risk, and what the rules read of users and trades is document 01's. Assumes nothing.
-use Rattle.base.specs.Basics.{_≡_, refl, sym, ap, ap₂, subst, _∙_, Bool, true, false, not, cond, _&&_, _||_, List, [], _∷_, map, ℕ, zero, suc, _≤_}
-use Rattle.base.specs.Basics.{_<_, le-of-eq, le-of-suc-le-suc, not-suc-le-zero, arith, T, eqb, eqb→eq, ltb, ltb→lt, ℤ, pos, _+ℤ_, +ℤ-idr, +ℤ-idl}
-use Rattle.base.specs.Basics.{length, getD, length-map, List·getD-map, ext-getD, eq-eqb, ne-eqb}
-use Rattle.base.proofs.Fronts.{getD-inside}
-use Rattle.base.proofs.Tests.{and-l, and-r, eqb-comm, map-by, sumℤ-by}
+use Rattle.base.specs.Basics.{_≡_, refl, sym, ap, ap₂, subst, _∙_, Bool, false, not, cond, _&&_, _||_, List, [], _∷_, map, ℕ, zero, suc, _≤_, _<_, le-of-eq}
+use Rattle.base.specs.Basics.{le-of-suc-le-suc, not-suc-le-zero, arith, T, eqb, ltb, ltb→lt, ℤ, pos, _+ℤ_, +ℤ-idr, +ℤ-idl, length, getD, length-map}
+use Rattle.base.specs.Basics.{List·getD-map, ext-getD, eq-eqb, ne-eqb, eqb-true, map-id}
+use Rattle.base.proofs.{Fronts.getD-inside, Tests.and-l, Tests.and-r, Tests.eqb-comm, Tests.map-by, Tests.sumℤ-by, Tests.by-case}
 use Rattle.base.specs.Sums.{sumℤ}
-use Rattle.laws.proofs.Managers.{own-bearer}
-use Rattle.laws.proofs.Positions.{buyer-known, seller-known}
-use Rattle.laws.proofs.Users.{all-find, known-id}
-use Rattle.laws.specs.Sound.{Sound}
-use Rattle.laws.specs.Statements.{ownHolding}
-use Rattle.rules.specs.Areas.{managersIn}
-use Rattle.rules.specs.Bearers.{asBorne, bearer, borneSum}
-use Rattle.rules.specs.Book.{Book, PerArea, Trade, User, at, find, managerIn, nobody}
-use Rattle.rules.specs.Levels.{partyTo, sellerOf, sells}
+use Rattle.laws.proofs.{Managers.own-bearer, Positions.buyer-known, Positions.seller-known, Users.all-find, Users.known-id, Reduction.none-unless}
+use Rattle.laws.specs.{Sound.Sound, Statements.ownHolding}
+use Rattle.rules.specs.{Areas.managersIn, Book.Book, Book.PerArea, Book.Trade, Book.User, Book.at, Book.find, Book.managerIn, Book.nobody}
+use Rattle.rules.specs.{Bearers.asBorne, Bearers.bearer, Bearers.borneSum, Levels.partyTo, Levels.sellerOf, Levels.sells}
 use Rattle.rules.specs.Questions.{groupsValid, idsRise, known, managerValid, managersValid, manages, partiesValid, tradeValid}
-use Rattle.laws_sales.proofs.Settled.{ids-above}
-use Rattle.laws_sales.proofs.Sums.{held-borne}
+use Rattle.laws_sales.proofs.{Settled.ids-above, Sums.held-borne}
 use Rattle.laws_sales.specs.Borne.{borneBook, borneSums, borneTrade, borneUser, shut, OwnRisk}
 
 -- ---- one user has an id
@@ -48,13 +41,7 @@ one-of h (u ∷ us) low (suc i) d r l =
 module _ (b : Book) (s : Sound b) (plain : managersIn (b .header .version) ≡ false) where
   -- the user's managers are 0
   none : (m : ℕ) (c : Bool) → T (eqb m 0 || (managersIn (b .header .version) && c)) → m ≡ 0
-  none m c h =
-      let k : T (eqb m 0 || false) = subst (λ (x : Bool). T (eqb m 0 || (x && c))) plain h in
-      eqb→eq m 0 (go (eqb m 0) k)
-    where
-      go : (x : Bool) → T (x || false) → T x
-      go true h = tt
-      go false h = absurd h
+  none m c h = none-unless m false (subst (λ (x : Bool). T (eqb m 0 || (x && c))) plain h) tt
 
   no-manager : (u : User) → T (managersValid (b .header .version) (b .users) u) → (area : ℕ) → managerIn (u .party .managers) area ≡ 0
   unfolding managersValid managerValid managerIn
@@ -80,19 +67,9 @@ module _ (b : Book) (s : Sound b) (plain : managersIn (b .header .version) ≡ f
   user-own : (i : ℕ) → i < length (b .users) → borneUser (b .users) (getD (b .users) i nobody) ≡ getD (b .users) i nobody
   unfolding borneUser borneSums at
   user-own i l =
-      let u = getD (b .users) i nobody in
-      let p0 = sum-own (λ v. v .physical) i 0 l in
-      let p1 = sum-own (λ v. v .physical) i 1 l in
-      let p2 = sum-own (λ v. v .physical) i 2 l in
-      let z0 = sum-own (λ v. v .position) i 0 l in
-      let z1 = sum-own (λ v. v .position) i 1 l in
-      let z2 = sum-own (λ v. v .position) i 2 l in
-      λ i. record {
-        party = u .party;
-        physical = record { pvb = p0 i; tvb = p1 i; avb = p2 i };
-        position = record { pvb = z0 i; tvb = z1 i; avb = z2 i };
-        blocked = u .blocked;
-      }
+      let entry = sum-own (λ v. v .physical) i in
+      let position = sum-own (λ v. v .position) i in
+      rw (entry 0 l, entry 1 l, entry 2 l, position 0 l, position 1 l, position 2 l)
 
   users-own : map (borneUser (b .users)) (b .users) ≡ b .users
   users-own =
@@ -118,11 +95,9 @@ module _ (b : Book) (s : Sound b) (plain : managersIn (b .header .version) ≡ f
   -- which differ
   differ : (t : Trade) → T (tradeValid (b .users) t) → eqb (t .terms .seller) (t .terms .buyer) ≡ false
   unfolding tradeValid partiesValid
-  differ t v = is-false (eqb (t .terms .seller) (t .terms .buyer)) (search (and-l, and-r))
-    where
-      is-false : (c : Bool) → T (not c) → c ≡ false
-      is-false true h = absurd h
-      is-false false h = refl
+  differ t v =
+      let h : T (not (eqb (t .terms .seller) (t .terms .buyer))) = search (and-l, and-r) in
+      by-case (eqb (t .terms .seller) (t .terms .buyer)) (λ e. absurd (rw e at h)) (λ e. e)
 
   trade-own : (t : Trade) → T (tradeValid (b .users) t) → borneTrade (b .users) t ≡ t
   unfolding borneTrade shut
@@ -134,10 +109,6 @@ module _ (b : Book) (s : Sound b) (plain : managersIn (b .header .version) ≡ f
 
   trades-own : map (borneTrade (b .users)) (b .trades) ≡ b .trades
   trades-own = map-by (tradeValid (b .users)) (borneTrade (b .users)) (λ t. t) trade-own (b .trades) (s .trades) ∙ map-id (b .trades)
-    where
-      map-id : (ts : List Trade) → map (λ (t : Trade). t) ts ≡ ts
-      map-id [] = refl
-      map-id (t ∷ ts) = ap (λ (ns : List Trade). t ∷ ns) (map-id ts)
 
   book-own : borneBook b ≡ b
   unfolding borneBook
@@ -154,8 +125,8 @@ module _ (b : Book) (s : Sound b) (plain : managersIn (b .header .version) ≡ f
   }
     where
       apart : (u : User) (t : Trade) → T (tradeValid (b .users) t) → (eqb (t .terms .seller) (u .party .id) && not (eqb (t .terms .buyer) (u .party .id))) ≡ eqb (t .terms .seller) (u .party .id)
-      apart u t v = go (eqb (t .terms .seller) (u .party .id)) (λ h. eqb→eq (t .terms .seller) (u .party .id) h)
-        where
-          go : (c : Bool) → (T c → t .terms .seller ≡ u .party .id) → (c && not (eqb (t .terms .buyer) (u .party .id))) ≡ c
-          go true e = ap not (ap (eqb (t .terms .buyer)) (sym (e tt)) ∙ eqb-comm (t .terms .buyer) (t .terms .seller) ∙ differ t v)
-          go false e = refl
+      apart u t v =
+          let seller = t .terms .seller in
+          by-case (eqb seller (u .party .id))
+          (λ e. rw e (ap not (ap (eqb (t .terms .buyer)) (sym (eqb-true seller (u .party .id) e)) ∙ eqb-comm (t .terms .buyer) seller ∙ differ t v)))
+          (λ e. rw e)

@@ -1,15 +1,12 @@
 -- The places of all own sales: each is that of a trade of kind 0 and day 0, and no two are the same. Assumes nothing.
-use Rattle.base.specs.Basics.{_≡_, sym, subst, Bool, not, List, [], _∷_, _++_, map, ℕ, zero, suc, _≤_, _<_, le-of-suc-le-suc, not-suc-le-zero, arith}
-use Rattle.base.specs.Basics.{T, T-not, eqb, eqb·suc-suc, ltb, ltb→lt, getD, length, ne-eqb}
+use Rattle.base.specs.Basics.{_≡_, sym, subst, Bool, not, List, [], _∷_, _++_, map, ℕ, zero, suc, _≤_, _<_, le-of-suc-le-suc, not-suc-le-zero, arith, T, T-not}
+use Rattle.base.specs.Basics.{eqb, eqb·suc-suc, ltb, ltb→lt, getD, length, ne-eqb}
 use Rattle.base.proofs.Fronts.{all-at}
-use Rattle.base.proofs.Tests.{all-append, all-by, all-map, and-i, and-l, and-r, eqb-of, by-case, fails, holds}
-use Rattle.rules.specs.Book.{Trade, User, bilateralForDay}
+use Rattle.base.proofs.Tests.{all-append, all-by, all-map, and-i, and-l, and-r, eqb-of, by-case, fails, holds, all-yes}
+use Rattle.rules.specs.{Book.Trade, Book.User, Book.bilateralForDay, Questions.idsRise}
 use Rattle.base.specs.Lists.{all}
-use Rattle.rules.specs.Questions.{idsRise}
 use Rattle.laws_sales.proofs.Origins.{grouped-all}
-use Rattle.laws_sales.specs.Groups.{grouped}
-use Rattle.laws_sales.specs.Kept.{placesOf}
-use Rattle.laws_sales.specs.Own.{Owned}
+use Rattle.laws_sales.specs.{Groups.grouped, Kept.placesOf, Own.Owned}
 
 -- ---- numbers that differ
 
@@ -59,12 +56,8 @@ module _ {A : Type 0} (p : A → Bool) where
   places-apart (x ∷ xs) =
       let rest = apart-suc (places-apart xs) in
       let later : T (all (λ n. not (eqb n 0)) (map suc (placesOf p xs))) =
-      rw (all-map (λ n. not (eqb n 0)) suc (placesOf p xs)) (every (λ n. not (eqb (suc n) 0)) (λ n. not-same (suc n) 0 (λ e. omega arith)) (placesOf p xs)) in
+      rw (all-map (λ n. not (eqb n 0)) suc (placesOf p xs)) (all-yes (λ n. not (eqb (suc n) 0)) (λ n. not-same (suc n) 0 (λ e. omega arith)) (placesOf p xs)) in
       by-case (p x) (λ e. rw e (before later rest)) (λ e. rw e rest)
-    where
-      every : (q : ℕ → Bool) → ((n : ℕ) → T (q n)) → (is : List ℕ) → T (all q is)
-      every q h [] = tt
-      every q h (i ∷ is) = and-i (q i) (all q is) (h i) (every q h is)
 
   -- what stands there passes
   places-pass : (d : A) (xs : List A) → T (all (λ i. p (getD xs i d)) (placesOf p xs))

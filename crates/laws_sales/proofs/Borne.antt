@@ -1,43 +1,16 @@
 -- Where trades change, and positions are settled with them, the book as its risk is borne changes alike: the sum of who bears a party's risk moves as the party's position does. Assumes nothing.
-use Rattle.base.specs.Basics.{_≡_, refl, sym, ap, ap₂, fun-ext, _∙_, Bool, true, false, cond, _||_, List, [], _∷_, map, map-map, ℕ, _<_, le-of-eq}
-use Rattle.base.specs.Basics.{arith, T, eqb, ltb, eqb→eq, ℤ, pos, negℤ, _+ℤ_, +ℤ-assoc, +ℤ-comm, +ℤ-idr}
-use Rattle.base.specs.Lists.{all, any}
-use Rattle.base.specs.Sums.{sumℤ}
-use Rattle.base.proofs.Sums.{sumℤ-map, sumℤ-ext}
-use Rattle.base.proofs.Tests.{and-l, and-r, by-test, eqb-comm}
-use Rattle.laws.proofs.Areas.{at-add}
-use Rattle.laws.proofs.Bearers.{as-borne-same, bearer-map}
-use Rattle.laws.proofs.Positions.{buyer-known, seller-known}
-use Rattle.laws.proofs.Settle.{area-lt}
-use Rattle.laws.proofs.Users.{change-absent, idsRise-map, known-map, trades-map}
+use Rattle.base.specs.Basics.{_≡_, refl, sym, ap, ap₂, fun-ext, _∙_, Bool, cond, List, [], _∷_, map, map-map, ℕ, _<_, arith, T, eqb, ℤ, pos, negℤ, _+ℤ_, +ℤ-idr}
+use Rattle.base.specs.Basics.{eqb-true}
+use Rattle.base.specs.Lists.{all}
+use Rattle.base.proofs.{Sums.sumℤ-map, Sums.sumℤ-ext, Tests.and-l, Tests.and-r, Tests.by-test, Tests.eqb-comm, Tests.by-case}
+use Rattle.laws.proofs.{Areas.at-add, Bearers.as-borne-same, Bearers.bearer-map}
+use Rattle.laws.proofs.{Positions.buyer-known, Positions.seller-known, Users.change-sum, Users.idsRise-map, Users.known-map, Users.trades-map, Settle.area-lt}
 use Rattle.laws.specs.Sound.{Sound}
-use Rattle.rules.specs.Bearers.{asBorne, bearer, borneSum}
-use Rattle.rules.specs.Book.{PerArea, at, Book, User, Trade, find}
+use Rattle.rules.specs.{Bearers.asBorne, Bearers.bearer, Bearers.borneSum, Book.PerArea, Book.at, Book.Book, Book.User, Book.Trade, Book.find}
 use Rattle.rules.specs.Changes.{add, change, moved}
-use Rattle.rules.specs.Questions.{known, idsRise, tradeValid}
-use Rattle.rules.specs.Reduction.{lost, settle, settleOne, withTrades}
-use Rattle.laws_sales.proofs.Sums.{at-sums}
-use Rattle.laws_sales.proofs.Settled.{settle-parties, settle-rise}
+use Rattle.rules.specs.{Questions.known, Questions.idsRise, Questions.tradeValid, Reduction.lost, Reduction.settle, Reduction.settleOne, Reduction.withTrades}
+use Rattle.laws_sales.proofs.{Sums.at-sums, Settled.settle-one-parties, Settled.settle-one-rise, Settled.settle-parties}
 use Rattle.laws_sales.specs.Borne.{borneBook, borneSums, borneTrade, borneUser, shut}
-
--- a sum after one user's change, if that user's summand has d more
-change-sum-at : (h : User → ℤ) (d : ℤ) (f : User → User) (id : ℕ) (us : List User) (low : ℕ) → T (idsRise low us) → T (known us id)
-    → h (f (find us id)) ≡ h (find us id) +ℤ d → sumℤ h (change id f us) ≡ sumℤ h us +ℤ d
-unfolding change idsRise known any sumℤ find
-change-sum-at h d f id [] low r k e = absurd k
-change-sum-at h d f id (u ∷ us) low r k e =
-    go (eqb (u .party .id) id)
-    (λ t. ap (sumℤ h) (change-absent f us (u .party .id) id (le-of-eq (sym (eqb→eq (u .party .id) id t))) rest))
-    (λ m. change-sum-at h d f id us (u .party .id) rest m)
-    k e
-  where
-    rest : T (idsRise (u .party .id) us)
-    rest = and-r (ltb low (u .party .id)) (idsRise (u .party .id) us) r
-
-    go : (c : Bool) → (T c → sumℤ h (change id f us) ≡ sumℤ h us) → (T (known us id) → h (f (find us id)) ≡ h (find us id) +ℤ d → sumℤ h (change id f us) ≡ sumℤ h us +ℤ d)
-        → T (c || known us id) → h (f (cond c u (find us id))) ≡ h (cond c u (find us id)) +ℤ d → h (cond c (f u) u) +ℤ sumℤ h (change id f us) ≡ h u +ℤ sumℤ h us +ℤ d
-    go true a ih m e = ap₂ (λ x y. x +ℤ y) e (a tt) ∙ +ℤ-assoc (h u) d (sumℤ h us) ∙ ap (λ x. h u +ℤ x) (+ℤ-comm d (sumℤ h us)) ∙ sym (+ℤ-assoc (h u) (sumℤ h us) d)
-    go false a ih m e = ap (λ x. h u +ℤ x) (ih m e) ∙ sym (+ℤ-assoc (h u) (sumℤ h us) d)
 
 -- a user moves in an area: the sum there of who bears its risk moves, all others stay
 borne-moved : (us : List User) (id who area i : ℕ) (z : ℤ) → area < 3 → i < 3 → T (idsRise 0 us) → T (known us id)
@@ -45,26 +18,17 @@ borne-moved : (us : List User) (id who area i : ℕ) (z : ℤ) → area < 3 → 
     ≡ borneSum (λ v. v .position) us who i +ℤ cond (eqb (bearer (find us id) area) who) (cond (eqb area i) z (pos 0)) (pos 0)
 unfolding borneSum bearer moved
 borne-moved us id who area i z l m r k =
-    change-sum-at (λ v. cond (eqb (bearer v i) who) (at (v .position) i) (pos 0)) (cond (eqb (bearer (find us id) area) who) (cond (eqb area i) z (pos 0)) (pos 0)) (moved area z) id us 0 r k
+    change-sum (λ v. cond (eqb (bearer v i) who) (at (v .position) i) (pos 0)) (cond (eqb (bearer (find us id) area) who) (cond (eqb area i) z (pos 0)) (pos 0)) (moved area z) id us 0 r k
     (here (find us id))
   where
-    add-if : (c : Bool) (x y : ℤ) → cond c (x +ℤ y) (pos 0) ≡ cond c x (pos 0) +ℤ cond c y (pos 0)
-    add-if true x y = refl
-    add-if false x y = refl
-
-    same : (v : User) (c : Bool) → (T c → area ≡ i) → cond (eqb (bearer v i) who) (cond c z (pos 0)) (pos 0) ≡ cond (eqb (bearer v area) who) (cond c z (pos 0)) (pos 0)
-    same v true e = ap (λ (a : ℕ). cond (eqb (bearer v a) who) z (pos 0)) (sym (e tt))
-    same v false e = nothing (eqb (bearer v i) who) ∙ sym (nothing (eqb (bearer v area) who))
-      where
-        nothing : (c : Bool) → cond c (pos 0) (pos 0) ≡ pos 0
-        nothing true = refl
-        nothing false = refl
-
-    here : (v : User) → cond (eqb (bearer v i) who) (at (add (v .position) area z) i) (pos 0) ≡ cond (eqb (bearer v i) who) (at (v .position) i) (pos 0) +ℤ cond (eqb (bearer v area) who) (cond (eqb area i) z (pos 0)) (pos 0)
+    here : (v : User) → cond (eqb (bearer v i) who) (at (add (v .position) area z) i) (pos 0)
+        ≡ cond (eqb (bearer v i) who) (at (v .position) i) (pos 0) +ℤ cond (eqb (bearer v area) who) (cond (eqb area i) z (pos 0)) (pos 0)
     here v =
+        let other = eqb (bearer v area) who in
         ap (λ (x : ℤ). cond (eqb (bearer v i) who) x (pos 0)) (at-add (v .position) area z i l m)
-        ∙ add-if (eqb (bearer v i) who) (at (v .position) i) (cond (eqb area i) z (pos 0))
-        ∙ ap (λ (x : ℤ). cond (eqb (bearer v i) who) (at (v .position) i) (pos 0) +ℤ x) (same v (eqb area i) (λ t. eqb→eq area i t))
+        ∙ by-case (eqb (bearer v i) who)
+        (λ w. by-case (eqb area i) (λ e. rw (eqb-true area i e, w)) (λ e. by-case other (λ o. rw (e, w, o)) (λ o. rw (e, w, o))))
+        (λ w. by-case (eqb area i) (λ e. rw (eqb-true area i e, w)) (λ e. by-case other (λ o. rw (e, w, o)) (λ o. rw (e, w, o))))
 
 -- ---- one user's position moves
 
@@ -92,11 +56,8 @@ module _ (us : List User) (id area : ℕ) (z : ℤ) (inside : area < 3) (rise : 
       ∙ borne-moved us id who area i z inside l rise isKnown
       ∙ ap (λ (x : ℤ). x +ℤ cond (eqb owner who) (cond (eqb area i) z (pos 0)) (pos 0)) (sym (at-sums (λ v. v .position) us who i))
       ∙ ap (λ (c : Bool). at (borneSums (λ v. v .position) us who) i +ℤ cond c (cond (eqb area i) z (pos 0)) (pos 0)) (eqb-comm owner who)
-      ∙ go (borneSums (λ v. v .position) us who) (eqb who owner) i l)
-    where
-      go : (v : PerArea) (c : Bool) (i : ℕ) → i < 3 → at v i +ℤ cond c (cond (eqb area i) z (pos 0)) (pos 0) ≡ at (cond c (add v area z) v) i
-      go v true i l = sym (at-add v area z i inside l)
-      go v false i l = +ℤ-idr (at v i)
+      ∙ (let v = borneSums (λ v. v .position) us who in
+      by-case (eqb who owner) (λ e. rw e (sym (at-add v area z i inside l))) (λ e. rw e (+ℤ-idr (at v i)))))
 
   -- those of entries stay
   entries-stay : (who : ℕ) → borneSums (λ v. v .physical) after who ≡ borneSums (λ v. v .physical) us who
@@ -108,10 +69,7 @@ module _ (us : List User) (id area : ℕ) (z : ℤ) (inside : area < 3) (rise : 
       ∙ sumℤ-ext (λ u. cond (eqb (bearer (cond (eqb (u .party .id) id) (moved area z u) u) i) who) (at (cond (eqb (u .party .id) id) (moved area z u) u .physical) i) (pos 0))
       (λ u. cond (eqb (bearer u i) who) (at (u .physical) i) (pos 0))
       (λ u. by-test (λ (v : User). cond (eqb (bearer v i) who) (at (v .physical) i) (pos 0) ≡ cond (eqb (bearer u i) who) (at (u .physical) i) (pos 0)) (eqb (u .party .id) id) (λ t. refl) (λ t. refl)) us in
-      let p = one 0 in
-      let t = one 1 in
-      let a = one 2 in
-      λ i. record { pvb = p i; tvb = t i; avb = a i }
+      rw (one 0, one 1, one 2)
 
   -- the users as they are borne: the one who bears the risk moves
   borne-change : map (borneUser after) after ≡ change owner (moved area z) (map (borneUser us) us)
@@ -125,12 +83,7 @@ module _ (us : List User) (id area : ℕ) (z : ℤ) (inside : area < 3) (rise : 
       one u =
           by-test (λ (v : User). borneUser after v ≡ borneUser after u) (eqb (u .party .id) id) (λ t. refl) (λ t. refl)
           ∙ ap₂ (λ (p e : PerArea). record { party = u .party; physical = e; position = p; blocked = u .blocked }) (positions-moved (u .party .id)) (entries-stay (u .party .id))
-          ∙ go (eqb (u .party .id) owner)
-        where
-          go : (c : Bool) → record { party = u .party; physical = borneUser us u .physical; position = cond c (add (borneUser us u .position) area z) (borneUser us u .position); blocked = u .blocked }
-              ≡ cond c (moved area z (borneUser us u)) (borneUser us u)
-          go true = refl
-          go false = refl
+          ∙ by-case (eqb (u .party .id) owner) (λ e. rw e) (λ e. rw e)
 
 -- ---- trades change
 
@@ -180,14 +133,6 @@ borne-trades-same : (us vs : List User) → map (λ u. u .party) us ≡ map (λ 
 unfolding borneTrade
 borne-trades-same us vs e = fun-ext (λ (t : Trade). ap shut (as-borne-same us vs e t))
 
-settle-one-parties : (t n : Trade) (us : List User) → map (λ u. u .party) (settleOne t n us) ≡ map (λ u. u .party) us
-unfolding settle
-settle-one-parties t n us = settle-parties (t ∷ []) (n ∷ []) us
-
-settle-one-rise : (t n : Trade) (us : List User) → idsRise 0 (settleOne t n us) ≡ idsRise 0 us
-unfolding settle
-settle-one-rise t n us = settle-rise (t ∷ []) (n ∷ []) 0 us
-
 -- all trades
 pub borne-settle : (ts ns : List Trade) (us : List User) → T (idsRise 0 us) → T (all (tradeValid us) ts)
     → map (borneUser (settle ts ns us)) (settle ts ns us) ≡ settle (map (borneTrade us) ts) (map (borneTrade us) ns) (map (borneUser us) us)
@@ -197,7 +142,7 @@ borne-settle (t ∷ ts) [] us r v = refl
 borne-settle (t ∷ ts) (n ∷ ns) us r v =
     let one = and-l (tradeValid us t) (all (tradeValid us) ts) v in
     let us′ = settleOne t n us in
-    borne-settle ts ns us′ (rw (settle-one-rise t n us) r) (settled-valid us t n r one ts (and-r (tradeValid us t) (all (tradeValid us) ts) v))
+    borne-settle ts ns us′ (rw (settle-one-rise t n 0 us) r) (settled-valid us t n r one ts (and-r (tradeValid us t) (all (tradeValid us) ts) v))
     ∙ ap₂ (λ (f : Trade → Trade) (vs : List User). settle (map f ts) (map f ns) vs) (borne-trades-same us′ us (settle-one-parties t n us)) (borne-settle-one us t n r one)
 
 -- the book

@@ -1,29 +1,18 @@
 -- After the cuts of a reduction: who is party to a trade standing below notified, who is short of cover and who has an eligible trade. Assumes nothing.
-use Rattle.base.specs.Basics.{_≡_, refl, sym, ap, ap₂, fun-ext, _∙_, Bool, true, false, not, cond, _&&_, _||_, List, [], _∷_, map, map-map, ℕ, _+_}
-use Rattle.base.specs.Basics.{_-_, _*_, _≤_, arith, T, eqb, ltb, leb, leb→le, eqb→eq, ltb→lt, ℤ, pos, _+ℤ_, _-ℤ_, length, lt-ltb, le-ltb, ltb-true}
-use Rattle.base.specs.Basics.{ltb-false, ne-eqb}
-use Rattle.laws_sales.specs.Parties.{isCut, cutBefore}
-use Rattle.base.specs.Parts.{posPart, negPart}
-use Rattle.base.specs.Sums.{sum}
+use Rattle.base.specs.Basics.{_≡_, refl, sym, ap, ap₂, fun-ext, _∙_, Bool, true, false, cond, _&&_, _||_, List, [], _∷_, map, map-map, ℕ, _+_, _-_, _*_, _≤_}
+use Rattle.base.specs.Basics.{arith, T, eqb, ltb, leb, leb→le, eqb→eq, ltb→lt, ℤ, pos, _+ℤ_, _-ℤ_, length, lt-ltb, le-ltb, ltb-true, ltb-false, ne-eqb}
+use Rattle.laws_sales.specs.{Parties.isCut, Parties.cutBefore, Cover.SameNext, Cover.AllNext, Cover.shortFrom, Kept.kept, Kept.spread, Own.EligibleBy}
+use Rattle.laws_sales.specs.{Borne.borneBook, Borne.borneTrade, Borne.borneUser, Borne.shut, Sales.ownSale, Sales.salesOf, Sales.isParty, Sales.someCut}
+use Rattle.base.specs.{Parts.posPart, Parts.negPart, Sums.sum, Lists.all, Lists.any}
 use Rattle.laws.proofs.Shares.{eachWithin}
-use Rattle.base.proofs.Tests.{and-l, and-r, or-l, all-by, sum-by, by-case, fails}
-use Rattle.laws.specs.Statements.{ownHolding}
-use Rattle.laws.specs.Trades.{Framed, Pairwise, ended, then}
+use Rattle.base.proofs.Tests.{and-l, and-r, or-l, all-by, sum-by, by-case, and-false}
+use Rattle.laws.specs.{Statements.ownHolding, Trades.Framed, Trades.Pairwise, Trades.ended, Trades.then}
 use Rattle.rules.specs.Areas.{Prices, areas, referencePrice, sellingTariff}
-use Rattle.rules.specs.Bearers.{asBorne}
-use Rattle.rules.specs.Book.{Party, Terms, Book, User, Trade, bilateralForDay, dealt, sold, bought}
-use Rattle.rules.specs.Levels.{Limits, Holding, partyTo, floored, stock, afternoonNeed, afternoonSum, credit, exposure, leastReferencePrice, levelFrom, flaggedFrom, afternoonLevel, flagged, calledIn, exceedsMargin, shipper, shortOfCover}
-use Rattle.base.specs.Lists.{all, any}
+use Rattle.rules.specs.{Bearers.asBorne, Book.Party, Book.Terms, Book.Book, Book.User, Book.Trade, Book.bilateralForDay, Book.dealt, Book.sold, Book.bought}
+use Rattle.rules.specs.Levels.{Limits, Holding, partyTo, floored, stock, afternoonNeed, afternoonSum, credit, exposure, leastReferencePrice, levelFrom}
+use Rattle.rules.specs.Levels.{flaggedFrom, afternoonLevel, flagged, calledIn, exceedsMargin, shipper, shortOfCover}
 use Rattle.rules.specs.Reduction.{hasEligible, target, cutBy, cutAll}
-use Rattle.laws_sales.proofs.Cuts.{cut-yes, cut-no}
-use Rattle.laws_sales.proofs.Kept.{kept-map, kept-yes, kept-no, any-kept}
-use Rattle.laws_sales.proofs.Own.{own-eligible}
-use Rattle.laws_sales.proofs.Sums.{held-borne}
-use Rattle.laws_sales.specs.Borne.{borneBook, borneTrade, borneUser, shut}
-use Rattle.laws_sales.specs.Cover.{SameNext, AllNext, shortFrom}
-use Rattle.laws_sales.specs.Kept.{kept, spread}
-use Rattle.laws_sales.specs.Own.{EligibleBy}
-use Rattle.laws_sales.specs.Sales.{ownSale, salesOf, isParty, someCut}
+use Rattle.laws_sales.proofs.{Cuts.cut-yes, Cuts.cut-no, Kept.kept-map, Kept.kept-yes, Kept.kept-no, Kept.any-kept, Own.own-eligible, Sums.held-borne}
 
 -- ---- trades standing below notified
 
@@ -99,11 +88,9 @@ unfolding someCut any all
 some-cut-all q [] ss h e = refl
 some-cut-all q (c ∷ cs) [] h e = absurd (omega arith)
 some-cut-all q (c ∷ cs) (s ∷ ss) h e =
-    ap₂ (λ (x y : Bool). (x && ltb 0 c) || y) (is-true (q s) (and-l (q s) (all q ss) h)) (some-cut-all q cs ss (and-r (q s) (all q ss) h) (omega arith))
-  where
-    is-true : (a : Bool) → T a → a ≡ true
-    is-true true t = refl
-    is-true false t = absurd t
+    let yes = and-l (q s) (all q ss) h in
+    ap₂ (λ (x y : Bool). (x && ltb 0 c) || y) (by-case (q s) (λ t. t) (λ t. absurd (rw t at yes)))
+    (some-cut-all q cs ss (and-r (q s) (all q ss) h) (omega arith))
 
 -- of sales on which two tests agree
 some-cut-same : (p q r : Trade → Bool) → ((t : Trade) → T (p t) → q t ≡ r t) → (cs : List ℕ) (ss : List Trade) → T (all p ss) → someCut q cs ss ≡ someCut r cs ss
@@ -167,11 +154,7 @@ not-of-day : {t n : Trade} (area : ℕ) → Framed t n → T (eqb (t .terms .are
 unfolding bilateralForDay
 not-of-day {t} {n} area p h =
     let e = eqb→eq (t .terms .day) 1 (and-r (eqb (t .terms .area) area) (eqb (t .terms .day) 1) h) in
-    p .other (off (eqb (t .terms .kind) 0) (ne-eqb (t .terms .day) 0 (λ z. omega arith)))
-  where
-    off : (k : Bool) → eqb (t .terms .day) 0 ≡ false → T (not (k && eqb (t .terms .day) 0))
-    off true e = fails e
-    off false e = tt
+    p .other (rw (ne-eqb (t .terms .day) 0 (λ z. omega arith), and-false (eqb (t .terms .kind) 0)) tt)
 
 -- trades that differ in what stands of kind 0 and day 0 only: for d+1 the same is dealt
 pub next-framed : (side : Terms → ℕ) (counts : ℕ → Bool) (area : ℕ) {ts ns : List Trade} → Pairwise Framed ts ns → dealt side counts ns area 1 ≡ dealt side counts ts area 1

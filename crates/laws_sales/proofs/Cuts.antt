@@ -1,26 +1,17 @@
 -- The cuts of a reduction are those of the user's own sales, spread over the trades; what they do to the sales of each user and to the tally. Assumes nothing.
-use Rattle.base.specs.Basics.{_≡_, refl, sym, ap, ap₂, subst, fun-ext, _∙_, Bool, true, false, not, cond, _&&_, _||_, List, [], _∷_, map, map-map, ℕ}
-use Rattle.base.specs.Basics.{_+_, _-_, sub-zero, zero-mul, arith, T, eqb, leb, ltb, ℤ, length, length-map, ltb-false}
-use Rattle.laws.proofs.Cuts.{together-within, lot-standings}
-use Rattle.laws.proofs.Shares.{eachWithin, within-length, tier-length, tier-within}
-use Rattle.base.proofs.Tests.{and-i, and-l, and-r, map-by, by-case, holds}
+use Rattle.base.specs.Basics.{_≡_, refl, sym, ap, ap₂, subst, fun-ext, _∙_, Bool, true, false, not, cond, _&&_, _||_, List, [], _∷_, map, map-map, ℕ, _+_, _-_}
+use Rattle.base.specs.Basics.{sub-zero, zero-mul, arith, T, eqb, leb, ltb, ℤ, length, length-map, ltb-false}
+use Rattle.laws.proofs.{Cuts.together-within, Cuts.lot-standings, Shares.eachWithin, Shares.within-length, Shares.tier-length, Shares.tier-within}
+use Rattle.base.proofs.Tests.{and-i, and-l, and-r, map-by, by-case, holds, or-by}
 use Rattle.laws.specs.Trades.{cutWithin, cutsWithin, standingIf}
 use Rattle.base.specs.Parts.{negPart}
-use Rattle.rules.specs.Areas.{Prices, tariff}
-use Rattle.rules.specs.Bearers.{asBorne}
-use Rattle.rules.specs.Book.{Book, User, Trade, bilateralForDay}
-use Rattle.rules.specs.Levels.{holding}
+use Rattle.rules.specs.{Areas.Prices, Areas.tariff, Book.Book, Book.User, Book.Trade, Book.bilateralForDay, Shares.Lot, Shares.tierWorth, Shares.tierCuts}
+use Rattle.rules.specs.{Bearers.asBorne, Levels.holding}
 use Rattle.rules.specs.Reduction.{eligible, shortIn, lot, tierOne, tierTwo, together, cuts, cutBy, cutAll, Tally, tallied, tallyAll}
-use Rattle.rules.specs.Shares.{Lot, tierWorth, tierCuts}
 use Rattle.laws_sales.proofs.Kept.{kept-map, kept-yes, kept-no, kept-pass, spread-yes, spread-no, spread-through, spread-together}
-use Rattle.laws_sales.proofs.Own.{own-eligible}
-use Rattle.laws_sales.proofs.Sums.{at-sums}
-use Rattle.laws_sales.proofs.Tiers.{tier-kept, worth-kept}
-use Rattle.laws_sales.specs.Borne.{borneBook, borneTrade, borneUser, shut}
-use Rattle.laws_sales.specs.Kept.{kept, spread}
-use Rattle.laws_sales.specs.Own.{EligibleBy, OfTerms, Owned}
-use Rattle.laws_sales.specs.Reduced.{cutsBy}
-use Rattle.laws_sales.specs.Sales.{ownSale, shortAt, saleLots, saleCuts}
+use Rattle.laws_sales.proofs.{Own.own-eligible, Sums.at-sums, Tiers.tier-kept, Tiers.worth-kept}
+use Rattle.laws_sales.specs.{Borne.borneBook, Borne.borneTrade, Borne.borneUser, Borne.shut, Sales.ownSale, Sales.shortAt, Sales.saleLots, Sales.saleCuts}
+use Rattle.laws_sales.specs.{Kept.kept, Kept.spread, Own.EligibleBy, Own.OfTerms, Own.Owned, Reduced.cutsBy}
 
 -- ---- the cuts of own sales
 
@@ -32,11 +23,7 @@ tier-count f belongs asked ss = tier-length asked (saleLots f belongs ss) ∙ le
 module _ (f : Prices) (short : ℕ → Bool) (asked : ℕ) (ss : List Trade) where
   -- a sale is of one of the tiers
   both : (s : Trade) → standingIf (λ t. short (t .terms .area)) s + standingIf (λ t. not (short (t .terms .area))) s ≡ s .standing
-  both s = go (short (s .terms .area))
-    where
-      go : (c : Bool) → cond c (s .standing) 0 + cond (not c) (s .standing) 0 ≡ s .standing
-      go true = omega arith
-      go false = omega arith
+  both s = by-case (short (s .terms .area)) (λ e. rw e (omega arith)) (λ e. rw e (omega arith))
 
   -- each cut is at most what stands, and there are as many cuts as sales
   pub sale-within : T (eachWithin (saleCuts f short asked ss) (map (λ s. s .standing) ss))
@@ -154,17 +141,14 @@ module _ (us : List User) where
       kind true n d h = absurd h
       kind false n d h = h
 
-      either : (a b c : Bool) → (T b → T c) → T (a || b) → T (a || c)
-      either true b c f h = tt
-      either false b c f h = f h
-
       here : (c : ℕ) (t : Trade) → T (cutWithin bilateralForDay c (borneTrade us t)) → T (cutWithin bilateralForDay c t)
       here c t h =
           let r = asBorne us t .terms in
           let low = leb c (t .standing) in
           let all = eqb c 0 || bilateralForDay (borneTrade us t) in
           and-i low (eqb c 0 || bilateralForDay t) (and-l low all h)
-          (either (eqb c 0) (bilateralForDay (borneTrade us t)) (bilateralForDay t) (kind (eqb (r .seller) (r .buyer)) (t .terms .kind) (t .terms .day)) (and-r low all h))
+          (or-by (eqb c 0) (bilateralForDay (borneTrade us t)) (bilateralForDay t)
+          (kind (eqb (r .seller) (r .buyer)) (t .terms .kind) (t .terms .day)) (and-r low all h))
 
   -- and their tally
   pub tally-borne : (f : Prices) (cs : List ℕ) (ts : List Trade) (tally : Tally) → tallyAll f cs (map (borneTrade us) ts) tally ≡ tallyAll f cs ts tally

@@ -1,31 +1,18 @@
 -- Positions while own sales are cut one after the other: after each, the users are those of an accepted book, so that their positions are within the range of one.
 -- Start, a turn and the end of a loop over the sales, by the places of the users. Assumes nothing.
-use Rattle.base.specs.Basics.{_≡_, sym, ap, subst, _∙_, Bool, _||_, List, [], _∷_, map, ℕ, suc, _≤_, _<_, arith, T, eqb, leb, le→leb, length, take}
-use Rattle.base.specs.Basics.{getD, length-map, length-take, List·getD-eq-default, List·getD-map, take-all, getD-take}
-use Rattle.base.proofs.Fronts.{getD-inside}
-use Rattle.base.proofs.Linear.{by-order}
+use Rattle.base.specs.Basics.{_≡_, sym, ap, subst, _∙_, Bool, _||_, List, [], _∷_, map, ℕ, suc, _≤_, _<_, arith, T, eqb, leb, le→leb, length, take, getD}
+use Rattle.base.specs.Basics.{length-map, length-take, List·getD-eq-default, List·getD-map, take-all, getD-take}
+use Rattle.base.proofs.{Fronts.getD-inside, Linear.by-order, Tests.and-i, Tests.or-r, Tests.by-case, Tests.holds}
 use Rattle.base.specs.Parts.{posPart, negPart}
-use Rattle.laws.proofs.Levels.{borne-bound}
-use Rattle.laws.proofs.Reduction.{cuts-sound}
-use Rattle.laws.proofs.Shares.{within-at}
-use Rattle.laws.specs.Sound.{Sound}
-use Rattle.base.proofs.Tests.{and-i, or-r, by-case, holds}
-use Rattle.laws.specs.Trades.{cutWithin, cutsWithin}
-use Rattle.rules.specs.Book.{at, Party, Book, User, Trade, bilateralForDay, nobody}
-use Rattle.rules.specs.Questions.{idsRise}
+use Rattle.laws.proofs.{Levels.borne-bound, Reduction.cuts-sound, Shares.within-at}
+use Rattle.laws.specs.{Sound.Sound, Trades.cutWithin, Trades.cutsWithin}
+use Rattle.rules.specs.{Book.at, Book.Party, Book.Book, Book.User, Book.Trade, Book.bilateralForDay, Book.nobody, Questions.idsRise}
 use Rattle.rules.specs.Reduction.{cutAll, settle, withTrades}
-use Rattle.laws_sales.proofs.Borne.{borne-with}
-use Rattle.laws_sales.proofs.Cuts.{cut-borne, sale-length, sale-within, within-borne}
-use Rattle.laws_sales.proofs.Kept.{kept-yes, kept-no}
-use Rattle.laws_sales.proofs.Numbers.{read-at}
-use Rattle.laws_sales.proofs.Own.{own-sales}
-use Rattle.laws_sales.proofs.Sums.{at-sums}
+use Rattle.laws_sales.proofs.{Borne.borne-with, Cuts.cut-borne, Cuts.sale-length, Cuts.sale-within, Cuts.within-borne, Kept.kept-yes, Kept.kept-no}
+use Rattle.laws_sales.proofs.{Numbers.read-at, Own.own-sales, Sums.at-sums}
 use Rattle.laws_sales.proofs.Settled.{settle-none, settle-kept, settle-front, settle-parties, settle-rise, settle-one-at, party-at}
-use Rattle.laws_sales.specs.Borne.{borneBook, borneUser}
-use Rattle.laws_sales.specs.Kept.{kept, spread}
-use Rattle.laws_sales.specs.Own.{Owned}
-use Rattle.laws_sales.specs.Reduced.{cutsBy, salesBy, settledFirst}
-use Rattle.laws_sales.specs.Sales.{ownSale, shortAt, settledAt}
+use Rattle.laws_sales.specs.{Borne.borneBook, Borne.borneUser, Own.Owned}
+use Rattle.laws_sales.specs.{Kept.kept, Kept.spread, Reduced.cutsBy, Reduced.salesBy, Reduced.settledFirst, Sales.ownSale, Sales.shortAt, Sales.settledAt}
 
 -- ---- cuts of some of the sales
 

@@ -1,10 +1,7 @@
 -- The trades of a tier and their worth: a list of lots from two lists of numbers, trade by trade. Assumes nothing.
 use Rattle.base.specs.Basics.{_≡_, refl, ap, Bool, List, [], _∷_, map, ℕ, suc, _*_, _≤_, mul-le-mul, arith, length}
 use Rattle.laws.specs.Trades.{standingIf, tariffOf}
-use Rattle.rules.specs.Areas.{Prices}
-use Rattle.rules.specs.Book.{Trade}
-use Rattle.rules.specs.Reduction.{lot}
-use Rattle.rules.specs.Shares.{Lot}
+use Rattle.rules.specs.{Areas.Prices, Book.Trade, Reduction.lot, Shares.Lot}
 use Rattle.laws_sales.specs.Lots.{lotsOf}
 
 -- there are as many as in either list

@@ -1,9 +1,7 @@
 -- The user that is reduced next, by a test of the user at each place. Assumes nothing.
-use Rattle.base.specs.Basics.{_≡_, refl, sym, _∙_, Bool, true, false, none, some, List, [], _∷_, ℕ, zero, suc, _<_, not-suc-le-zero, le-of-suc-le-suc}
-use Rattle.base.specs.Basics.{arith, length, getD}
-use Rattle.rules.specs.Book.{Book, User, nobody}
-use Rattle.rules.specs.Calls.{nextReduced}
-use Rattle.rules.specs.Levels.{Limits}
+use Rattle.base.specs.Basics.{_≡_, refl, sym, _∙_, Bool, true, false, none, some, List, [], _∷_, ℕ, zero, suc, _<_, not-suc-le-zero, le-of-suc-le-suc, arith}
+use Rattle.base.specs.Basics.{length, getD}
+use Rattle.rules.specs.{Book.Book, Book.User, Book.nobody, Calls.nextReduced, Levels.Limits}
 use Rattle.laws_sales.specs.Cover.{due, Dues}
 
 module _ (limits : Limits) (b : Book) where

@@ -1,15 +1,11 @@
 -- Own sales as lists of numbers: their tiers, their cuts, and what stands of them after the cuts. Assumes nothing.
-use Rattle.base.specs.Basics.{_≡_, refl, sym, ap, ap₂, _∙_, Bool, not, cond, List, [], _∷_, map, ℕ, zero, suc, _-_, _<_, not-suc-le-zero}
-use Rattle.base.specs.Basics.{le-of-suc-le-suc, arith, length, getD, length-map, List·getD-eq-default, List·getD-map}
+use Rattle.base.specs.Basics.{_≡_, refl, sym, ap, ap₂, _∙_, Bool, not, cond, List, [], _∷_, map, ℕ, zero, suc, _-_, _<_, not-suc-le-zero, le-of-suc-le-suc}
+use Rattle.base.specs.Basics.{arith, length, getD, length-map, List·getD-eq-default, List·getD-map}
 use Rattle.base.proofs.Fronts.{getD-inside}
 use Rattle.laws.specs.Trades.{standingIf, tariffOf}
-use Rattle.rules.specs.Areas.{Prices}
-use Rattle.rules.specs.Book.{Terms, Trade}
-use Rattle.rules.specs.Reduction.{together, cutBy, cutAll}
-use Rattle.rules.specs.Shares.{tierWorth, tierCuts}
-use Rattle.laws_sales.specs.Sales.{saleLots, saleCuts, standingIn, less}
+use Rattle.rules.specs.{Areas.Prices, Book.Terms, Book.Trade, Reduction.together, Reduction.cutBy, Reduction.cutAll, Shares.tierWorth, Shares.tierCuts}
+use Rattle.laws_sales.specs.{Sales.saleLots, Sales.saleCuts, Sales.standingIn, Sales.less, Lots.lotsOf}
 use Rattle.laws_sales.proofs.Lots.{lots-map}
-use Rattle.laws_sales.specs.Lots.{lotsOf}
 
 -- what is read off a list, at a place
 pub read-at : {A B : Type 0} (g : A → B) (xs : List A) (i : ℕ) (d : A) (e : B) → i < length xs → getD (map g xs) i e ≡ g (getD xs i d)

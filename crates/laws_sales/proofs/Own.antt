@@ -1,15 +1,9 @@
 -- A sale is its seller's, of trades as they are borne: the test is one of the terms, no trade is a sale of two users, each is one of some user, and those that stand above 0 are eligible. Assumes nothing.
-use Rattle.base.specs.Basics.{_≡_, refl, sym, ap, _∙_, Bool, true, false, not, cond, _&&_, List, [], _∷_, ℕ, T, eqb, eqb→eq, ltb, ne-eqb}
+use Rattle.base.specs.Basics.{_≡_, refl, sym, ap, _∙_, _&&_, List, [], _∷_, ℕ, T, eqb, eqb→eq, ne-eqb, eqb-true}
 use Rattle.base.proofs.Tests.{and-l, and-r, eqb-comm, or-l, by-case}
-use Rattle.rules.specs.Bearers.{asBorne}
-use Rattle.rules.specs.Book.{Book, Terms, Trade, User, bilateralForDay}
-use Rattle.rules.specs.Levels.{sells}
+use Rattle.rules.specs.{Bearers.asBorne, Book.Book, Book.Terms, Book.Trade, Book.User, Book.bilateralForDay, Levels.sells, Questions.known, Reduction.eligible}
 use Rattle.base.specs.Lists.{any}
-use Rattle.rules.specs.Questions.{known}
-use Rattle.rules.specs.Reduction.{eligible}
-use Rattle.laws_sales.specs.Borne.{borneTrade, borneValid, shut}
-use Rattle.laws_sales.specs.Own.{EligibleBy, OfTerms, Owned, OwnedAmong}
-use Rattle.laws_sales.specs.Sales.{ownSale}
+use Rattle.laws_sales.specs.{Borne.borneTrade, Borne.borneValid, Borne.shut, Own.EligibleBy, Own.OfTerms, Own.Owned, Own.OwnedAmong, Sales.ownSale}
 
 of-terms : (id : ℕ) → OfTerms (ownSale id)
 unfolding OfTerms ownSale bilateralForDay
@@ -42,18 +36,10 @@ own-among us = record { some = λ t v e. known-owned us t e (search (and-l, and-
 pub own-eligible : (b : Book) (u : User) → EligibleBy b u (λ t. ownSale (u .party .id) (borneTrade (b .users) t))
 unfolding EligibleBy eligible sells ownSale borneTrade shut bilateralForDay asBorne
 own-eligible b u t =
-    let r = asBorne (b .users) t .terms in
-    go (eqb (r .seller) (u .party .id)) (λ e. eqb→eq (r .seller) (u .party .id) e)
-  where
-    go : (c : Bool) → (T c → asBorne (b .users) t .terms .seller ≡ u .party .id)
-        → ((c && not (eqb (asBorne (b .users) t .terms .buyer) (u .party .id))) && ((eqb (t .terms .kind) 0 && eqb (t .terms .day) 0) && ltb 0 (t .standing)))
-        ≡ ((c && (eqb (cond (eqb (asBorne (b .users) t .terms .seller) (asBorne (b .users) t .terms .buyer)) 1 (t .terms .kind)) 0 && eqb (t .terms .day) 0)) && ltb 0 (t .standing))
-    go true e =
-        let buyer = asBorne (b .users) t .terms .buyer in
-        pick (eqb buyer (u .party .id))
-        ∙ ap (λ (c : Bool). ((eqb (cond c 1 (t .terms .kind)) 0 && eqb (t .terms .day) 0) && ltb 0 (t .standing))) (eqb-comm buyer (u .party .id) ∙ ap (λ (n : ℕ). eqb n buyer) (sym (e tt)))
-      where
-        pick : (c : Bool) → (not c && ((eqb (t .terms .kind) 0 && eqb (t .terms .day) 0) && ltb 0 (t .standing))) ≡ ((eqb (cond c 1 (t .terms .kind)) 0 && eqb (t .terms .day) 0) && ltb 0 (t .standing))
-        pick true = refl
-        pick false = refl
-    go false e = refl
+    let seller = asBorne (b .users) t .terms .seller in
+    let buyer = asBorne (b .users) t .terms .buyer in
+    by-case (eqb seller (u .party .id))
+    (λ s. let same : eqb seller buyer ≡ eqb buyer (u .party .id)
+    = ap (λ (n : ℕ). eqb n buyer) (eqb-true seller (u .party .id) s) ∙ eqb-comm (u .party .id) buyer in
+    by-case (eqb buyer (u .party .id)) (λ o. rw (s, same, o)) (λ o. rw (s, same, o)))
+    (λ s. rw s)

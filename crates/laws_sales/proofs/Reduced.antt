@@ -1,31 +1,20 @@
 -- A reduction in an accepted book, said of the user's own sales alone; and the users that it leaves as they were: neither the seller nor the buyer of a sale that lost
 -- something. Assumes nothing.
-use Rattle.base.specs.Basics.{_≡_, refl, sym, ap, subst, _∙_, Bool, true, false, _&&_, _||_, List, [], _∷_, map, ℕ, zero, suc, arith, T, eqb, ltb}
-use Rattle.base.specs.Basics.{negℤ, getD, ltb-false}
-use Rattle.laws_sales.specs.Parties.{cutBefore}
-use Rattle.laws.proofs.Reduction.{cuts-lowered}
-use Rattle.laws.specs.Sound.{Sound}
-use Rattle.laws.specs.Statements.{ownHolding}
-use Rattle.laws.specs.Trades.{Lowered, Pairwise}
-use Rattle.base.proofs.Tests.{eqb-comm, by-case}
-use Rattle.laws.proofs.Trades.{framed}
-use Rattle.rules.specs.Book.{Header, Book, User, Trade, bilateralForDay}
-use Rattle.rules.specs.Calls.{Result, reducedBy, ofCuts}
-use Rattle.rules.specs.Changes.{change, moved}
-use Rattle.rules.specs.Levels.{Limits, Holding, shortOfCover}
-use Rattle.rules.specs.Reduction.{cutBy, cutAll, cuts, settleOne, settle, tallyAll, nothing, withTrades, lost}
-use Rattle.laws_sales.proofs.Cover.{cut-before-kept, next-holding, or-false, short-from, short-next}
-use Rattle.laws_sales.proofs.Cuts.{cut-borne, sale-within, cuts-sales, sales-cut, sales-other, tally-borne, tally-kept, cut-zero}
-use Rattle.laws_sales.proofs.Borne.{borne-with}
-use Rattle.laws_sales.proofs.FirstCuts.{own-cut-le, spread-within}
-use Rattle.laws_sales.proofs.Valid.{borne-notified}
-use Rattle.laws_sales.proofs.Own.{own-sales}
-use Rattle.laws_sales.proofs.Settled.{settle-kept, settle-parties, settle-one-none, settle-none}
-use Rattle.laws_sales.specs.Borne.{borneBook, borneResult, borneUser}
-use Rattle.laws_sales.specs.Cover.{AllNext, shortFrom}
+use Rattle.base.specs.Basics.{_≡_, refl, sym, ap, subst, _∙_, Bool, true, false, _&&_, _||_, List, [], _∷_, map, ℕ, zero, suc, arith, T, eqb, ltb, negℤ, getD}
+use Rattle.base.specs.Basics.{ltb-false}
+use Rattle.laws_sales.specs.{Parties.cutBefore, Cover.AllNext, Cover.shortFrom, Reduced.ReducedOf, Reduced.SalesReduced, Reduced.cutsBy, Reduced.salesBy}
+use Rattle.laws_sales.specs.{Borne.borneBook, Borne.borneResult, Borne.borneUser, Sales.ownSale, Sales.shortAt, Sales.isParty, Sales.someCut}
 use Rattle.laws_sales.specs.Kept.{kept, spread}
-use Rattle.laws_sales.specs.Reduced.{ReducedOf, SalesReduced, cutsBy, salesBy}
-use Rattle.laws_sales.specs.Sales.{ownSale, shortAt, isParty, someCut}
+use Rattle.laws.proofs.{Reduction.cuts-lowered, Trades.framed}
+use Rattle.laws.specs.{Sound.Sound, Statements.ownHolding, Trades.Lowered, Trades.Pairwise}
+use Rattle.base.proofs.Tests.{eqb-comm, by-case}
+use Rattle.rules.specs.{Book.Header, Book.Book, Book.User, Book.Trade, Book.bilateralForDay, Levels.Limits, Levels.Holding, Levels.shortOfCover}
+use Rattle.rules.specs.{Calls.Result, Calls.reducedBy, Calls.ofCuts, Changes.change, Changes.moved}
+use Rattle.rules.specs.Reduction.{cutBy, cutAll, cuts, settleOne, settle, tallyAll, nothing, withTrades, lost}
+use Rattle.laws_sales.proofs.{Cover.cut-before-kept, Cover.next-holding, Cover.or-false, Cover.short-from, Cover.short-next, Valid.borne-notified}
+use Rattle.laws_sales.proofs.Cuts.{cut-borne, sale-within, cuts-sales, sales-cut, sales-other, tally-borne, tally-kept, cut-zero}
+use Rattle.laws_sales.proofs.{Borne.borne-with, Own.own-sales, Settled.settle-kept, Settled.settle-parties, Settled.settle-one-none, Settled.settle-none}
+use Rattle.laws_sales.proofs.FirstCuts.{own-cut-le, spread-within}
 
 module _ (b : Book) (u : User) (asked : ℕ) (s : Sound b) where
   -- the book, the user and what a reduction makes of the book, as the risk is borne

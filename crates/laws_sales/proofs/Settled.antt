@@ -1,20 +1,14 @@
 -- Positions after the cuts of a reduction: a trade that loses nothing moves nobody, so the own sales alone settle them; sale by sale, and by the places of the
 -- users. Assumes nothing.
-use Rattle.base.specs.Basics.{_≡_, refl, sym, ap, ap₂, _∙_, Bool, cond, List, [], _∷_, map, ℕ, zero, suc, _≤_, _<_, le-of-eq, not-suc-le-zero}
-use Rattle.base.specs.Basics.{le-of-suc-le-suc, arith, T, eqb, ltb, ltb→lt, eqb·zero-suc, eqb·suc-zero, eqb·suc-suc, ℤ, pos, negℤ, +ℤ-idr, length}
-use Rattle.base.specs.Basics.{take, getD, set, length-map, List·getD-map, eq-eqb, ne-eqb}
-use Rattle.base.proofs.Linear.{eq-parts, posPart-pos, negPart-pos}
-use Rattle.base.proofs.Tests.{and-l, and-r, by-test, by-case}
-use Rattle.laws.proofs.Trades.{parts-lost}
-use Rattle.laws.proofs.Users.{change-absent, idsRise-map}
-use Rattle.rules.specs.Book.{Party, PerArea, User, Trade, nobody}
-use Rattle.rules.specs.Changes.{add, change, moved}
-use Rattle.rules.specs.Questions.{idsRise}
-use Rattle.rules.specs.Reduction.{cutBy, cutAll, lost, settleOne, settle}
-use Rattle.laws_sales.proofs.Cuts.{cut-zero, cut-nobody, cut-yes, cut-no}
-use Rattle.laws_sales.proofs.Kept.{kept-yes, kept-no}
-use Rattle.laws_sales.specs.Kept.{kept, spread}
-use Rattle.laws_sales.specs.Sales.{settledAt}
+use Rattle.base.specs.Basics.{_≡_, refl, sym, ap, ap₂, _∙_, Bool, cond, List, [], _∷_, map, ℕ, zero, suc, _≤_, _<_, le-of-eq, not-suc-le-zero, le-of-suc-le-suc}
+use Rattle.base.specs.Basics.{arith, T, eqb, ltb, ltb→lt, eqb·zero-suc, eqb·suc-zero, eqb·suc-suc, ℤ, pos, negℤ, +ℤ-idr, length, take, getD, set, length-map}
+use Rattle.base.specs.Basics.{List·getD-map, eq-eqb, ne-eqb}
+use Rattle.base.proofs.{Linear.eq-parts, Linear.posPart-pos, Linear.negPart-pos, Tests.and-l, Tests.and-r, Tests.by-test, Tests.by-case}
+use Rattle.laws.proofs.{Trades.parts-lost, Users.change-absent, Users.idsRise-map}
+use Rattle.rules.specs.{Book.Party, Book.PerArea, Book.User, Book.Trade, Book.nobody, Questions.idsRise}
+use Rattle.rules.specs.{Changes.add, Changes.change, Changes.moved, Reduction.cutBy, Reduction.cutAll, Reduction.lost, Reduction.settleOne, Reduction.settle}
+use Rattle.laws_sales.proofs.{Cuts.cut-zero, Cuts.cut-nobody, Cuts.cut-yes, Cuts.cut-no, Kept.kept-yes, Kept.kept-no}
+use Rattle.laws_sales.specs.{Kept.kept, Kept.spread, Sales.settledAt}
 
 -- ---- a trade that loses nothing
 

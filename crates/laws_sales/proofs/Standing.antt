@@ -1,12 +1,10 @@
 -- What stands of trades: amounts written at places; and what stays of the own sales of users where trades differ in what stands of kind 0 and day 0 only. Assumes nothing.
-use Rattle.base.specs.Basics.{_≡_, refl, sym, ap, ap₂, _∙_, Bool, List, [], _∷_, _++_, map, ℕ, zero, suc, arith, length, take, getD, set, length-map}
-use Rattle.base.proofs.Tests.{by-case}
+use Rattle.base.specs.Basics.{_≡_, refl, sym, ap, ap₂, _∙_, Bool, List, [], _∷_, _++_, map, ℕ, suc, arith, length, take, getD, set, length-map}
+use Rattle.base.proofs.{Tests.by-case, Fronts.front-take}
 use Rattle.laws.specs.Trades.{Framed, Pairwise, ended, then}
-use Rattle.rules.specs.Book.{Book, Party, Terms, User, Trade}
+use Rattle.rules.specs.Book.{Book, Terms, User, Trade}
 use Rattle.laws_sales.proofs.Groups.{grouped-length, grouped-parties}
-use Rattle.laws_sales.specs.Groups.{startOf, standingAt, written}
-use Rattle.laws_sales.specs.Kept.{kept, placesOf}
-use Rattle.laws_sales.specs.Own.{OfTerms, Owned}
+use Rattle.laws_sales.specs.{Groups.startOf, Groups.standingAt, Groups.written, Kept.kept, Kept.placesOf, Own.OfTerms, Own.Owned}
 
 -- ---- amounts written at places
 
@@ -54,12 +52,7 @@ module _ {own : ℕ → Trade → Bool} (o : Owned own) where
 
 -- the same parties, as many from the front
 take-parties : (us vs : List User) → map (λ v. v .party) vs ≡ map (λ u. u .party) us → (i : ℕ) → map (λ v. v .party) (take i vs) ≡ map (λ u. u .party) (take i us)
-take-parties us vs e i = reads vs i ∙ ap (take i) e ∙ sym (reads us i)
-  where
-    reads : (ws : List User) (i : ℕ) → map (λ w. w .party) (take i ws) ≡ take i (map (λ w. w .party) ws)
-    reads ws zero = refl
-    reads [] (suc i) = refl
-    reads (w ∷ ws) (suc i) = ap (λ (qs : List Party). w .party ∷ qs) (reads ws i)
+take-parties us vs e i = front-take (λ v. v .party) i vs ∙ ap (take i) e ∙ sym (front-take (λ u. u .party) i us)
 
 -- users who are the same parties are as many
 pub same-length : (us vs : List User) → map (λ v. v .party) vs ≡ map (λ u. u .party) us → length vs ≡ length us

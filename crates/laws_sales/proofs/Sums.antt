@@ -3,8 +3,7 @@ use Rattle.base.specs.Basics.{_≡_, refl, sym, _∙_, cond, _&&_, List, ℕ, z
 use Rattle.base.proofs.Sums.{sum-map}
 use Rattle.laws.specs.Statements.{ownHolding}
 use Rattle.rules.specs.Bearers.{asBorne, bearer, borne, borneSum}
-use Rattle.rules.specs.Book.{Book, PerArea, Trade, User, at, bought, dealt, managerIn, sold}
-use Rattle.rules.specs.Levels.{holding}
+use Rattle.rules.specs.{Book.Book, Book.PerArea, Book.Trade, Book.User, Book.at, Book.bought, Book.dealt, Book.managerIn, Book.sold, Levels.holding}
 use Rattle.laws_sales.specs.Borne.{borneBook, borneSums, borneTrade, borneUser, shut}
 
 -- the sum of an area

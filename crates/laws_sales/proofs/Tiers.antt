@@ -1,7 +1,7 @@
 -- The cuts of a tier in which all trades that fail a test stand at 0: the cuts of the tier without them, and 0 for each of them. A lot of 0 has share 0 and
 -- remainder 0: it has no worth, loses nothing, and no rank sees it. Assumes nothing.
-use Rattle.base.specs.Basics.{_≡_, refl, sym, ap, ap₂, _∙_, ⊎-elim, Bool, true, false, not, cond, _&&_, _||_, List, [], _∷_, map, map-map, ℕ, _+_}
-use Rattle.base.specs.Basics.{_*_, _/_, _%_, _<_, zero-mul, eq-zero-or-pos, zero-div, zero-mod, arith, T, leb, ltb, eqb, le-ltb, lt-leb}
+use Rattle.base.specs.Basics.{_≡_, refl, sym, ap, ap₂, _∙_, ⊎-elim, Bool, false, not, cond, _&&_, _||_, List, [], _∷_, map, map-map, ℕ, _+_, _*_, _/_, _%_, _<_}
+use Rattle.base.specs.Basics.{zero-mul, eq-zero-or-pos, zero-div, zero-mod, arith, T, leb, ltb, eqb, le-ltb, lt-leb}
 use Rattle.base.proofs.Tests.{by-case, fails}
 use Rattle.base.specs.Sums.{sum}
 use Rattle.laws.proofs.Ranks.{proportion-rank}
@@ -110,14 +110,10 @@ module _ {A : Type 0} (p : A → Bool) (lotOf : A → Lot) (none : (x : A) → T
   pub tier-kept : (asked : ℕ) (xs : List A) → tierCuts asked (map lotOf xs) ≡ spread p xs (tierCuts asked (map lotOf (kept p xs)))
   unfolding tierCuts
   tier-kept asked xs =
-      rw (worth-kept xs) (go (eqb asked 0 || eqb (tierWorth (map lotOf (kept p xs))) 0) (leb (tierWorth (map lotOf (kept p xs))) asked))
+      let v = tierWorth (map lotOf (kept p xs)) in
+      rw (worth-kept xs)
+      (by-case (eqb asked 0 || eqb v 0) (λ n. rw n (read (λ x. 0) (λ x h. refl)))
+      (λ n. by-case (leb v asked) (λ w. rw (n, w) (read (λ x. x .standing) none)) (λ w. rw (n, w) (proportion-kept asked xs))))
     where
       read : (f : Lot → ℕ) → ((x : A) → T (not (p x)) → f (lotOf x) ≡ 0) → map f (map lotOf xs) ≡ spread p xs (map f (map lotOf (kept p xs)))
       read f z = map-map f lotOf xs ∙ spread-map p (λ x. f (lotOf x)) z xs ∙ ap (spread p xs) (sym (map-map f lotOf (kept p xs)))
-
-      go : (a b : Bool)
-          → cond a (map (λ x. 0) (map lotOf xs)) (cond b (map (λ x. x .standing) (map lotOf xs)) (inProportion asked (map lotOf xs)))
-          ≡ spread p xs (cond a (map (λ x. 0) (map lotOf (kept p xs))) (cond b (map (λ x. x .standing) (map lotOf (kept p xs))) (inProportion asked (map lotOf (kept p xs)))))
-      go true b = read (λ x. 0) (λ x h. refl)
-      go false true = read (λ x. x .standing) none
-      go false false = proportion-kept asked xs

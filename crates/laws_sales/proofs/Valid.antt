@@ -1,21 +1,14 @@
 -- What is known of each own sale of an accepted book as its risk is borne, and of its tiers. Assumes nothing.
-use Rattle.base.specs.Basics.{_≡_, refl, sym, _∙_, Bool, true, false, not, cond, _&&_, List, ℕ, _≤_, _<_, arith, T, eqb, eqb→eq, leb→le, ltb→lt}
-use Rattle.base.specs.Basics.{T-not, length, getD}
-use Rattle.base.proofs.Fronts.{all-at}
-use Rattle.laws.proofs.Managers.{bearer-known}
-use Rattle.laws.proofs.Positions.{buyer-known, seller-known}
-use Rattle.laws.proofs.Settle.{area-lt}
-use Rattle.laws.proofs.Users.{idsRise-map, known-map}
+use Rattle.base.specs.Basics.{_≡_, refl, sym, _∙_, Bool, true, false, not, cond, _&&_, List, ℕ, _≤_, _<_, arith, T, eqb, eqb→eq, leb→le, ltb→lt, T-not, length}
+use Rattle.base.specs.Basics.{getD}
+use Rattle.base.proofs.{Fronts.all-at, Tests.and-false, Tests.and-i, Tests.and-l, Tests.and-r, Tests.all-by, Tests.all-map, Tests.eqb-of}
+use Rattle.laws.proofs.{Managers.bearer-known, Positions.buyer-known, Positions.seller-known, Settle.area-lt, Users.idsRise-map, Users.known-map}
 use Rattle.laws.specs.Sound.{Sound}
-use Rattle.base.proofs.Tests.{and-false, and-i, and-l, and-r, all-by, all-map, eqb-of}
-use Rattle.rules.specs.Bearers.{asBorne}
+use Rattle.rules.specs.{Bearers.asBorne, Questions.amountsValid, Questions.codesValid, Questions.idsRise, Questions.known, Questions.tradeValid}
 use Rattle.rules.specs.Book.{Book, User, Trade, bilateralForDay}
 use Rattle.base.specs.Lists.{all}
-use Rattle.rules.specs.Questions.{amountsValid, codesValid, idsRise, known, tradeValid}
-use Rattle.laws_sales.proofs.Cover.{asNotified}
-use Rattle.laws_sales.proofs.Kept.{kept-all, kept-pass}
-use Rattle.laws_sales.specs.Borne.{borneBook, borneTrade, borneUser, borneValid, shut}
-use Rattle.laws_sales.specs.Sales.{ownSale, salesOf}
+use Rattle.laws_sales.proofs.{Cover.asNotified, Kept.kept-all, Kept.kept-pass}
+use Rattle.laws_sales.specs.{Borne.borneBook, Borne.borneTrade, Borne.borneUser, Borne.borneValid, Borne.shut, Sales.ownSale, Sales.salesOf}
 
 -- a sale of the user of an id, to another user
 pub record Sale (us : List User) (id : ℕ) (s : Trade) : Type 0 where

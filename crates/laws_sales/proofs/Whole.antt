@@ -1,17 +1,13 @@
 -- What stands of all own sales, written at their places, is what stands of the trades. Assumes nothing.
-use Rattle.base.specs.Basics.{_≡_, refl, sym, ap, ap₂, _∙_, Bool, true, false, not, cond, _||_, List, [], _∷_, map, ℕ, T, T-not, length, length-map}
+use Rattle.base.specs.Basics.{_≡_, refl, sym, ap, ap₂, _∙_, Bool, false, cond, _||_, List, [], _∷_, map, ℕ, T, T-not, length, length-map, not-T}
 use Rattle.base.proofs.Tests.{and-l, and-r, by-case, fails}
 use Rattle.laws.proofs.Trades.{framed-refl}
 use Rattle.laws.specs.Trades.{Framed, Pairwise, ended, then}
 use Rattle.rules.specs.Book.{Terms, Trade, User, bilateralForDay}
 use Rattle.base.specs.Lists.{all, any}
-use Rattle.laws_sales.proofs.Groups.{places-length}
-use Rattle.laws_sales.proofs.Origins.{grouped-ext}
-use Rattle.laws_sales.proofs.Standing.{places-stay, written-append, written-past}
+use Rattle.laws_sales.proofs.{Groups.places-length, Origins.grouped-ext, Standing.places-stay, Standing.written-append, Standing.written-past}
 use Rattle.laws_sales.specs.Borne.{borneValid}
-use Rattle.laws_sales.specs.Groups.{grouped, standingAt, written}
-use Rattle.laws_sales.specs.Kept.{kept, placesOf}
-use Rattle.laws_sales.specs.Own.{OfTerms, Owned, OwnedAmong}
+use Rattle.laws_sales.specs.{Groups.grouped, Groups.standingAt, Groups.written, Kept.kept, Kept.placesOf, Own.OfTerms, Own.Owned, Own.OwnedAmong}
 
 -- trades, and in their place others where they pass a test
 mixed : (Trade → Bool) → List Trade → List Trade → List Trade
@@ -97,12 +93,8 @@ module _ {own : ℕ → Trade → Bool} (o : Owned own) where
       let valid = and-l (borneValid us t) (all (borneValid us) ts) v in
       ap₂ (λ (x : Trade) (xs : List Trade). x ∷ xs)
       (by-case (ofSome us t) (λ k. rw k refl)
-      (λ k. rw k (same-trade (f .terms) (f .other (not-by (bilateralForDay t) (λ h. T-not (ofSome us t) (fails k) (a .some t valid h)))))))
+      (λ k. rw k (same-trade (f .terms) (f .other (not-T (bilateralForDay t) (λ h. T-not (ofSome us t) (fails k) (a .some t valid h)))))))
       (mixed-all us a fs (and-r (borneValid us t) (all (borneValid us) ts) v))
-    where
-      not-by : (c : Bool) → (T c → ⊥) → T (not c)
-      not-by true h = h tt
-      not-by false h = tt
 
   -- trades that differ in what stands of kind 0 and day 0 only: with what stands of the others' own sales written, they are the others
   pub whole : (d : Trade) (us : List User) → OwnedAmong own us → {ts ns : List Trade} → Pairwise Framed ts ns → T (all (borneValid us) ts)

@@ -1,14 +1,9 @@
 -- What stands of the trades that pass a test, less their cuts, written at their places: the trades with these cuts, and no cut of the others. Assumes nothing.
 use Rattle.base.specs.Basics.{_≡_, refl, sym, ap, ap₂, _∙_, Bool, true, List, [], _∷_, map, ℕ, arith, length}
 use Rattle.base.proofs.Tests.{by-case}
-use Rattle.rules.specs.Book.{Trade}
-use Rattle.rules.specs.Reduction.{cutBy, cutAll}
-use Rattle.laws_sales.proofs.Cuts.{cut-zero}
-use Rattle.laws_sales.proofs.Kept.{spread-no}
-use Rattle.laws_sales.proofs.Standing.{written-past}
-use Rattle.laws_sales.specs.Groups.{standingAt, written}
-use Rattle.laws_sales.specs.Kept.{kept, placesOf, spread}
-use Rattle.laws_sales.specs.Sales.{less}
+use Rattle.rules.specs.{Book.Trade, Reduction.cutBy, Reduction.cutAll}
+use Rattle.laws_sales.proofs.{Cuts.cut-zero, Kept.spread-no, Standing.written-past}
+use Rattle.laws_sales.specs.{Groups.standingAt, Groups.written, Kept.kept, Kept.placesOf, Kept.spread, Sales.less}
 
 -- the trade is cut by the first
 cut-first : (d t : Trade) (p : Trade → Bool) (ts : List Trade) (cs : List ℕ) → p t ≡ true → length cs ≡ length (kept p (t ∷ ts))

@@ -2,10 +2,9 @@
 -- Assumes nothing.
 use Rattle.base.specs.Basics.{refl, List, ℕ, _<_, _^_, _*_, arith}
 use mir.Val.{Val}
-use denote.RattleType.{RattleType}
-use denote.Laws.{Is}
-use denote.Struct.Laws as LL
+use denote.{RattleType.RattleType, Laws.Is}
 use Rattle.book_records.specs.declared.Trade.{Trade}
+use denote.Struct.Laws as LL
 use Rattle.units.proofs.Mwh as N
 use Rattle.units.proofs.Mwh.Laws as N′
 use Rattle.book_records.proofs.Trade as T

@@ -2,12 +2,10 @@
 -- Assumes nothing.
 use Rattle.base.specs.Basics.{_≡_, subst, ap, [], _∷_, List}
 use mir.Val.{Val}
-use denote.RattleType.{RattleType}
-use denote.Laws.{Is}
-use denote.Steps.{only}
-use denote.Struct.Laws as LL
+use denote.{RattleType.RattleType, Laws.Is, Steps.only}
 use Rattle.units.specs.declared.Cents.{Cents}
 use Rattle.book_records.specs.declared.User.{User}
+use denote.Struct.Laws as LL
 use Rattle.units.proofs.Cents as N
 use Rattle.units.proofs.Cents.Laws as N′
 use Rattle.book_records.proofs.User as T

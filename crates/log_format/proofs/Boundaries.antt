@@ -1,8 +1,6 @@
 -- What is at the boundaries of the questions of a log: 18, 20, and 19 at the start of one. Assumes nothing.
 use Rattle.base.specs.Basics.{_≡_, refl, true, false, List, [], _∷_, ℕ, length}
-use Rattle.log_format.specs.Fits.{startFits, startNumber, started}
-use Rattle.log_format.specs.Log.{heldRoom, logBytes, logSize}
-use Rattle.log_format.specs.Noted.{hasEntry, hasRoom}
+use Rattle.log_format.specs.{Fits.startFits, Fits.startNumber, Fits.started, Log.heldRoom, Log.logBytes, Log.logSize, Noted.hasEntry, Noted.hasRoom}
 
 pub record Boundaries : Type 0 where
   -- "A withdrawal with an empty log" is 18

@@ -1,17 +1,11 @@
 -- The main laws of withdrawals and of runs with a log, as specs/Statements.antt states them. Assumes nothing.
-use Rattle.base.specs.Basics.{_≡_, refl, sym, ap, _∙_, Option, none, some, List, _∷_, ℕ, zero, suc, _+_, le-refl, arith, +ℤ-idr, length}
-use Rattle.laws.proofs.Fuel.{run-answer, run-stops}
-use Rattle.laws.proofs.Main.{conserved}
-use Rattle.laws.proofs.Run.{Done, run-count, run-done, run-none}
-use Rattle.laws.proofs.Sound.{accept, sound}
+use Rattle.base.specs.Basics.{_≡_, refl, sym, ap, _∙_, Option, Option·some-ne-none, none, some, List, _∷_, ℕ, zero, suc, _+_, le-refl, arith, +ℤ-idr, length}
+use Rattle.laws.proofs.{Fuel.run-answer, Fuel.run-stops, Main.conserved, Run.Done, Run.run-count, Run.run-done, Run.run-none, Sound.accept, Sound.sound}
 use Rattle.laws.specs.Sound.{Sound}
-use Rattle.rules.specs.Book.{Book, User}
+use Rattle.rules.specs.{Book.Book, Book.User, Levels.Limits}
 use Rattle.rules.specs.Calls.{Answer, Result, cuttable, effect, nextReduced, ofRun, only, onward, reduced, reducedBy, run, runFor}
-use Rattle.rules.specs.Levels.{Limits}
-use Rattle.log_format.proofs.Noted.{cuts-bilateral}
-use Rattle.log_format.proofs.Withdrawal.{withdrawn-back, withdrawn-moved, withdrawn-sound}
-use Rattle.log_format.specs.Noted.{entryOf, noted, noting, runWithin, stopped}
-use Rattle.log_format.specs.Statements.{RunsWithin, Withdraws}
+use Rattle.log_format.proofs.{Noted.cuts-bilateral, Withdrawal.withdrawn-back, Withdrawal.withdrawn-moved, Withdrawal.withdrawn-sound}
+use Rattle.log_format.specs.{Noted.entryOf, Noted.noted, Noted.noting, Noted.runWithin, Noted.stopped, Statements.RunsWithin, Statements.Withdraws}
 use Rattle.log_format.specs.Withdrawal.{returned, withdrawn}
 
 pub withdraws : Withdraws
@@ -72,14 +66,7 @@ module _ (limits : Limits) where
   stopped-due : (o : Option User) (a : Answer) → a .number ≡ 0 → stopped o a .number ≡ 20 → o ≡ none → ⊥
   unfolding stopped
   stopped-due none a z h e = omega arith
-  stopped-due (some u) a z h e = some-not-none e
-    where
-      some-not-none : {x : User} → some x ≡ none → ⊥
-      some-not-none k = let n : _≡_ {A = ℕ} 1 0 = ap count k in omega arith
-        where
-          count : Option User → ℕ
-          count none = 0
-          count (some y) = 1
+  stopped-due (some u) a z h e = Option·some-ne-none u e
 
   stopped-none : (o : Option User) (a : Answer) → stopped o a .number ≡ 0 → (o ≡ none) × (stopped o a ≡ a)
   unfolding stopped

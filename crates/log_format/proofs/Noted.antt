@@ -1,30 +1,18 @@
 -- What a log holds that was written by the calls: the cuts, newest first, that led from one book to another. Withdrawing them all gives the first book, and their sums pass question 19. Assumes nothing.
-use Rattle.base.specs.Basics.{_≡_, refl, sym, ap, subst, true, _||_, Option, none, some, List, [], _∷_, ℕ, zero, suc, _≤_, arith, T, eqb, leb, leb→le}
-use Rattle.base.specs.Basics.{ℤ, pos, length}
+use Rattle.base.specs.Basics.{_≡_, refl, sym, ap, subst, true, _||_, Option, none, some, List, [], _∷_, ℕ, zero, suc, arith, T, eqb, ℤ, pos, length}
 use Rattle.base.proofs.Tests.{and-l, and-r}
 use Rattle.base.specs.Lists.{all}
 use Rattle.fields.specs.Layout.{Every}
-use Rattle.laws.proofs.Cuts.{cuts-within-by, eligible-is}
-use Rattle.laws.proofs.Main.{cuts-eligible}
-use Rattle.laws.proofs.Moved.{Moved}
-use Rattle.laws.proofs.Reduction.{cut-le, cuts-lowered, cuts-sound}
-use Rattle.laws.proofs.Run.{next-none, run-law}
-use Rattle.laws.proofs.Settle.{pairs-length}
-use Rattle.laws.proofs.Trades.{framed}
-use Rattle.laws.specs.Sound.{Sound}
-use Rattle.laws.specs.Statements.{AllCovered}
-use Rattle.laws.specs.Trades.{Lowered, Pairwise, cutWithin, cutsWithin}
+use Rattle.laws.proofs.{Cuts.cuts-within-by, Cuts.eligible-is, Reduction.cut-le, Reduction.cuts-lowered, Reduction.cuts-sound, Run.next-none, Run.run-law}
+use Rattle.laws.proofs.{Main.cuts-eligible, Moved.Moved, Settle.pairs-length, Trades.framed, Bounds.standing-le}
+use Rattle.laws.specs.{Sound.Sound, Statements.AllCovered, Trades.Lowered, Trades.Pairwise, Trades.cutWithin, Trades.cutsWithin}
 use Rattle.rules.specs.Book.{Book, Trade, User, bilateralForDay}
-use Rattle.rules.specs.Calls.{posting, morningCall, afternoonCall, Call, Result, effect, guaranteed, nextReduced, ofLevel, only, onward, reduced, reducedBy, runFor}
-use Rattle.rules.specs.Levels.{Limits}
-use Rattle.rules.specs.Questions.{amountsValid, codesValid, partiesValid, tradeValid}
-use Rattle.rules.specs.Reduction.{cutAll, cuts, eligible, target, withTrades}
-use Rattle.log_format.specs.Fits.{allCuts, raisesWithin}
+use Rattle.rules.specs.Calls.{posting, morningCall, afternoonCall, Call, Result, effect, guaranteed, nextReduced, ofLevel, only, onward, reduced, reducedBy}
+use Rattle.rules.specs.Calls.{runFor}
+use Rattle.rules.specs.{Levels.Limits, Reduction.cutAll, Reduction.cuts, Reduction.eligible, Reduction.target, Reduction.withTrades, Questions.tradeValid}
+use Rattle.log_format.specs.{Fits.allCuts, Fits.raisesWithin, Withdrawal.withdrawn}
 use Rattle.log_format.specs.Noted.{callEntered, emptying, entryOf, lastly, noted, noting, runWithin, stopped}
-use Rattle.log_format.specs.Withdrawal.{withdrawn}
-use Rattle.log_format.proofs.Parts.{EntryFits}
-use Rattle.log_format.proofs.Raises.{cuts-raised, none-raised}
-use Rattle.log_format.proofs.Withdrawal.{withdrawn-back}
+use Rattle.log_format.proofs.{Parts.EntryFits, Raises.cuts-raised, Raises.none-raised, Withdrawal.withdrawn-back}
 
 -- from a book that stands at the beginning to the book after the cuts
 pub data Noted (o : Book) : List (List ℕ) → Book → Type 0 where
@@ -112,14 +100,6 @@ unfolding lastly callEntered effect guaranteed ofLevel
 afternoon-empties id = record { last = λ n. refl; entered = λ limits n es b. refl; number = λ limits b. refl }
 
 -- ---- what is noted passes question 19
-
--- a trade stands at most at 100,000 MWh
-standing-le : (us : List User) (t : Trade) → T (tradeValid us t) → t .standing ≤ 100000
-unfolding tradeValid partiesValid codesValid amountsValid
-standing-le us t h =
-    let l : T (leb (t .standing) (t .terms .notified)) = search (and-l, and-r) in
-    let m : T (leb (t .terms .notified) 100000) = search (and-l, and-r) in
-    omega (arith, leb→le (t .standing) (t .terms .notified) l, leb→le (t .terms .notified) 100000 m)
 
 cuts-fit : (us : List User) (cs : List ℕ) (ts : List Trade) → T (cutsWithin bilateralForDay cs ts) → T (all (tradeValid us) ts) → EntryFits (length ts) cs
 unfolding cutsWithin all

@@ -1,12 +1,11 @@
 -- Bytes with 0 behind them, and runs of zero bytes: stated over the room, so that no proof looks at its zeros one by one. Assumes nothing.
-use Rattle.base.specs.Basics.{_≡_, refl, sym, ap, ap₂, _∙_, List, [], _∷_, _++_, append-assoc, ℕ, zero, suc, _+_, _-_, _≤_, arith, T, eqb, eqb→eq}
-use Rattle.base.specs.Basics.{length, take, drop, replicate, length-append, length-drop, length-replicate, replicate-append-replicate}
-use Rattle.base.specs.Basics.{take-append-drop, sets, drop-at, length-take-le, take-at}
+use Rattle.base.specs.Basics.{_≡_, refl, sym, ap, ap₂, _∙_, List, [], _∷_, _++_, append-assoc, ℕ, zero, suc, _+_, _-_, _≤_, arith, T, eqb, eqb→eq, length, take}
+use Rattle.base.specs.Basics.{drop, replicate, length-append, length-drop, length-replicate, replicate-append-replicate, take-append-drop, sets, drop-at}
+use Rattle.base.specs.Basics.{length-take-le, take-at}
 use Rattle.base.proofs.Tests.{and-l, and-r}
 use Rattle.base.specs.Lists.{all}
 use Rattle.fields.proofs.Sets.{sets-left, sets-replicate, sets-right, sets-whole}
-use Rattle.log_format.specs.Fits.{zeros}
-use Rattle.log_format.specs.Log.{padded}
+use Rattle.log_format.specs.{Fits.zeros, Log.padded}
 
 -- ---- runs of zero bytes
 

@@ -1,14 +1,12 @@
 -- A log part by part: its 12 first bytes, the held book with its zeros, the entries with theirs. The parts make the log, and the log has the parts. Assumes nothing.
-use Rattle.base.specs.Basics.{_≡_, refl, sym, ap, ap₂, subst, _∙_, List, [], _∷_, _++_, ℕ, zero, _+_, _-_, _*_, _≤_, _<_, arith, length, getD, take}
-use Rattle.base.specs.Basics.{drop, length-append, take-append-drop, drop-at, drop-drop, take-at, take-take}
-use Rattle.fields.proofs.Field.{length-toBytes}
-use Rattle.fields.proofs.Pack.{fieldsAt-pack, length-pack, pack-fieldsAt}
-use Rattle.fields.proofs.Records.{length-bytesOfRecords}
-use Rattle.fields.specs.Field.{AllBytes, toBytes}
-use Rattle.fields.specs.Layout.{Every, fieldsAt, pack, size}
+use Rattle.base.specs.Basics.{_≡_, refl, sym, ap, ap₂, subst, _∙_, List, [], _∷_, _++_, ℕ, zero, _*_, _≤_, _<_, arith, length, getD, take, drop, length-append}
+use Rattle.base.specs.Basics.{take-append-drop, drop-at, drop-drop, take-at, take-take}
+use Rattle.fields.proofs.{Field.length-toBytes, Pack.fieldsAt-pack, Pack.length-pack, Pack.pack-fieldsAt, Records.length-bytesOfRecords}
+use Rattle.fields.specs.{Field.AllBytes, Field.toBytes, Layout.Every, Layout.fieldsAt, Layout.pack, Layout.size}
 use Rattle.log_format.proofs.Padded.{length-padded, take-padded}
 use Rattle.log_format.specs.Fits.{LogOf}
-use Rattle.log_format.specs.Log.{cutBytes, entriesBytes, entriesRoom, entryBytes, entryCount, heldAt, heldLength, heldOf, heldRoom, logBytes, logHead, logMark, logMarkOf, logZero, padded}
+use Rattle.log_format.specs.Log.{cutBytes, entriesBytes, entriesRoom, entryBytes, entryCount, heldAt, heldLength, heldOf, heldRoom, logBytes, logHead}
+use Rattle.log_format.specs.Log.{logMark, logMarkOf, logZero, padded}
 
 -- ---- the first 12 bytes
 

@@ -1,23 +1,18 @@
 -- Question 19 by sums over the entries: the last entry fits by itself, and what an entry's cuts left can be raised by them again. Assumes nothing.
-use Rattle.base.specs.Basics.{_≡_, refl, Bool, true, false, _||_, List, [], _∷_, ℕ, _+_, _-_, _≤_, arith, T, eqb, eqb→eq, leb, leb→le, le→leb, length}
-use Rattle.base.specs.Basics.{replicate}
-use Rattle.base.proofs.Tests.{and-i, and-l, and-r, eqb-of, or-l, or-r}
+use Rattle.base.specs.Basics.{_≡_, Bool, true, _||_, List, [], _∷_, ℕ, _+_, _-_, _≤_, arith, T, eqb, leb, leb→le, le→leb, length, replicate}
+use Rattle.base.proofs.Tests.{and-i, and-l, and-r, eqb-of, or-l, or-r, by-case, fails, holds}
 use Rattle.base.specs.Lists.{all}
-use Rattle.laws.proofs.Reduction.{cut-le}
+use Rattle.laws.proofs.Reduction.{cut-le, none-unless}
 use Rattle.laws.specs.Trades.{cutWithin, cutsWithin}
-use Rattle.rules.specs.Book.{Trade, User, bilateralForDay}
-use Rattle.rules.specs.Questions.{amountsValid, codesValid, partiesValid, tradeValid}
+use Rattle.rules.specs.{Book.Trade, Book.User, Book.bilateralForDay, Questions.amountsValid, Questions.codesValid, Questions.partiesValid, Questions.tradeValid}
 use Rattle.rules.specs.Reduction.{cutAll, cutBy, together}
 use Rattle.log_format.specs.Fits.{raiseWithin, raisesWithin}
 
 -- ---- an entry and the others
 
 zero-or : (c d : ℕ) (p : Bool) → T (eqb (c + d) 0 || p) → T (eqb c 0 || p)
-zero-or c d p h = go (eqb (c + d) 0) refl h
-  where
-    go : (z : Bool) → eqb (c + d) 0 ≡ z → T (z || p) → T (eqb c 0 || p)
-    go true e k = let n : c + d ≡ 0 = eqb→eq (c + d) 0 (rw e tt) in or-l (eqb c 0) p (eqb-of c 0 (omega arith))
-    go false e k = or-r (eqb c 0) p k
+zero-or c d p h =
+    by-case p (λ e. or-r (eqb c 0) p (holds e)) (λ e. or-l (eqb c 0) p (eqb-of c 0 (omega (arith, none-unless (c + d) p h (fails e)))))
 
 module _ (c d : ℕ) (t : Trade) (h : T (raiseWithin (c + d) t)) where
   both-within : t .standing + (c + d) ≤ t .terms .notified
@@ -73,15 +68,11 @@ cut-within c d t h k =
     let m = leb→le (t .standing + d) (t .terms .notified) (and-l (leb (t .standing + d) (t .terms .notified)) (eqb d 0 || bilateralForDay t) k) in
     and-i (leb (t .standing - c + (c + d)) (t .terms .notified)) (eqb (c + d) 0 || bilateralForDay t)
     (le→leb (t .standing - c + (c + d)) (t .terms .notified) (omega arith))
-    (go (eqb c 0) (eqb d 0) refl refl (and-r (leb c (t .standing)) (eqb c 0 || bilateralForDay t) h) (and-r (leb (t .standing + d) (t .terms .notified)) (eqb d 0 || bilateralForDay t) k))
-  where
-    go : (x y : Bool) → eqb c 0 ≡ x → eqb d 0 ≡ y → T (x || bilateralForDay t) → T (y || bilateralForDay t) → T (eqb (c + d) 0 || bilateralForDay t)
-    go true true e f p q =
-        let m : c ≡ 0 = eqb→eq c 0 (rw e tt) in
-        let n : d ≡ 0 = eqb→eq d 0 (rw f tt) in
-        or-l (eqb (c + d) 0) (bilateralForDay t) (eqb-of (c + d) 0 (omega arith))
-    go true false e f p q = or-r (eqb (c + d) 0) (bilateralForDay t) q
-    go false y e f p q = or-r (eqb (c + d) 0) (bilateralForDay t) p
+    (by-case (bilateralForDay t) (λ e. or-r (eqb (c + d) 0) (bilateralForDay t) (holds e))
+    (λ e.
+    let m = none-unless c (bilateralForDay t) (and-r (leb c (t .standing)) (eqb c 0 || bilateralForDay t) h) (fails e) in
+    let n = none-unless d (bilateralForDay t) (and-r (leb (t .standing + d) (t .terms .notified)) (eqb d 0 || bilateralForDay t) k) (fails e) in
+    or-l (eqb (c + d) 0) (bilateralForDay t) (eqb-of (c + d) 0 (omega arith))))
 
 pub cuts-raised : (cs ds : List ℕ) (ts : List Trade) → T (cutsWithin bilateralForDay cs ts) → T (raisesWithin ds ts) → T (raisesWithin (together cs ds) (cutAll cs ts))
 unfolding raisesWithin cutsWithin cutAll together

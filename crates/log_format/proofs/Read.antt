@@ -1,21 +1,17 @@
 -- A log that passes question 19 is the log of its entries and its book, part by part: what the writers start from. And what its entries and cuts are, one by one. Assumes nothing.
-use Rattle.base.specs.Basics.{_≡_, refl, sym, ap, ap₂, subst, _∙_, List, [], _∷_, _++_, ℕ, zero, suc, _+_, _-_, _*_, _≤_, _<_, arith, T, eqb, eqb→eq}
-use Rattle.base.specs.Basics.{leb, leb→le, ltb, length, take, drop, length-drop, length-replicate, drop-drop, length-take-le, take-add, take-all}
-use Rattle.base.specs.Basics.{take-take}
+use Rattle.base.specs.Basics.{_≡_, refl, sym, ap, ap₂, subst, _∙_, List, [], _∷_, _++_, ℕ, zero, suc, _+_, _-_, _*_, _≤_, _<_, arith, T, eqb, eqb→eq, leb}
+use Rattle.base.specs.Basics.{leb→le, ltb, length, take, drop, length-drop, length-replicate, drop-drop, length-take-le, take-add, take-all, take-take}
 use Rattle.base.proofs.Tests.{and-l, and-r}
 use Rattle.fields.proofs.Field.{all-bytes-drop, all-bytes-take, field-lt, toBytes-field}
-use Rattle.fields.proofs.Records.{bytesOfRecords-recordsOf, length-recordsOf, mul-suc-front}
-use Rattle.fields.proofs.Sets.{take-of-drop}
-use Rattle.fields.specs.Field.{AllBytes, field, toBytes}
-use Rattle.fields.specs.Layout.{Every, EveryPart, bytesOfRecords, recordsOf}
-use Rattle.rules.specs.Book.{Trade}
-use Rattle.rules.specs.Reduction.{together}
+use Rattle.fields.proofs.{Records.bytesOfRecords-recordsOf, Records.length-recordsOf, Records.mul-suc-front, Sets.take-of-drop}
+use Rattle.fields.specs.{Field.AllBytes, Field.field, Field.toBytes, Layout.Every, Layout.EveryPart, Layout.bytesOfRecords, Layout.recordsOf}
+use Rattle.rules.specs.{Book.Trade, Reduction.together}
 use Rattle.book_format.specs.Book.{tradeCount, tradesOf}
-use Rattle.log_format.proofs.Padded.{padded-of}
-use Rattle.log_format.proofs.Parts.{EntryFits, Headed, head-made}
-use Rattle.log_format.proofs.Raises.{raises-first}
-use Rattle.log_format.specs.Fits.{LogOf, allCuts, cutsRest, entriesRest, heldRest, holdsBook, logFits, logFormed, raisesWithin, restsZero, sameBytes, unusedZero, zeros}
-use Rattle.log_format.specs.Log.{cutBytes, cutSize, cutsAt, entriesAt, entriesBytes, entriesIn, entriesOf, entryAt, entryBytes, entryCount, entrySize, heldAt, heldLength, heldOf, heldRoom, logMark, logMarkOf, logSize, logZero, mostEntries, padded}
+use Rattle.log_format.proofs.{Padded.padded-of, Parts.EntryFits, Parts.Headed, Parts.head-made, Raises.raises-first}
+use Rattle.log_format.specs.Fits.{LogOf, allCuts, cutsRest, entriesRest, heldRest, holdsBook, logFits, logFormed, raisesWithin, restsZero, sameBytes}
+use Rattle.log_format.specs.Fits.{unusedZero, zeros}
+use Rattle.log_format.specs.Log.{cutBytes, cutSize, cutsAt, entriesAt, entriesBytes, entriesIn, entriesOf, entryAt, entryBytes, entryCount, entrySize}
+use Rattle.log_format.specs.Log.{heldAt, heldLength, heldOf, heldRoom, logMark, logMarkOf, logSize, logZero, mostEntries, padded}
 use Rattle.log_format.specs.Noted.{lastEntry}
 
 -- ---- entries and cuts, one by one

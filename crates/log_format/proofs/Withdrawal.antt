@@ -1,22 +1,16 @@
 -- A withdrawal leaves an accepted book, takes its cuts off the totals, and gives back the book before the reduction. Assumes nothing.
-use Rattle.base.specs.Basics.{_≡_, refl, sym, ap, ap₂, subst, _∙_, Bool, true, false, not, _&&_, _||_, List, [], _∷_, map, map-map, ℕ, _+_, _-_}
-use Rattle.base.specs.Basics.{arith, T, T-not, eqb, eqb→eq, leb, ℤ, pos, negℤ, _+ℤ_}
+use Rattle.base.specs.Basics.{_≡_, refl, sym, ap, ap₂, subst, _∙_, not, _&&_, _||_, List, [], _∷_, map-map, ℕ, _+_, _-_, arith, T, eqb, leb, ℤ, pos, negℤ, _+ℤ_}
+use Rattle.base.specs.Basics.{map-id}
 use Rattle.base.proofs.Linear.{eq-parts, negPart-neg, negPart-pos, parts-add, posPart-neg, posPart-pos}
-use Rattle.base.proofs.Tests.{and-i, and-l, and-r, map-by, or-second}
-use Rattle.base.specs.Lists.{all}
-use Rattle.base.specs.Parts.{negPart, posPart}
-use Rattle.base.specs.Sums.{sum}
-use Rattle.laws.proofs.Moved.{Moved}
-use Rattle.laws.proofs.Positions.{position-is}
-use Rattle.laws.proofs.Reduction.{cut-le, cuts-lowered, cuts-sound}
-use Rattle.laws.proofs.Settle.{retraded-anew, retraded-moved, retraded-sound}
+use Rattle.base.proofs.Tests.{and-i, and-l, and-r, map-by}
+use Rattle.base.specs.{Lists.all, Parts.negPart, Parts.posPart, Sums.sum}
+use Rattle.laws.proofs.{Moved.Moved, Settle.retraded-anew, Settle.retraded-moved, Settle.retraded-sound}
+use Rattle.laws.proofs.{Positions.position-is, Reduction.cut-le, Reduction.cuts-lowered, Reduction.cuts-sound, Reduction.still-valid, Reduction.none-unless}
 use Rattle.laws.proofs.Trades.{framed, framed-refl, left-mwh, left-trans, left-worth, left-worth-trans, pairs-refl, standingWorth}
-use Rattle.laws.specs.Books.{anew, repositioned}
-use Rattle.laws.specs.Sound.{Sound}
+use Rattle.laws.specs.{Books.anew, Books.repositioned, Sound.Sound}
 use Rattle.laws.specs.Trades.{ended, then, Framed, Pairwise, cutWithin, cutsWithin, leftMwh, leftWorth}
-use Rattle.rules.specs.Areas.{Prices}
+use Rattle.rules.specs.{Areas.Prices, Questions.amountsValid, Questions.codesValid, Questions.partiesValid, Questions.positionsValid, Questions.tradeValid}
 use Rattle.rules.specs.Book.{Book, Terms, Trade, User, at, bilateralForDay, definedPosition}
-use Rattle.rules.specs.Questions.{amountsValid, codesValid, partiesValid, positionsValid, tradeValid}
 use Rattle.rules.specs.Reduction.{Tally, cutAll, cutBy, nothing, tallied, tallyAll, withTrades}
 use Rattle.log_format.specs.Fits.{raiseWithin, raisesWithin}
 use Rattle.log_format.specs.Withdrawal.{raiseAll, raiseBy, withdrawn, withdrawnTally}
@@ -26,12 +20,7 @@ use Rattle.log_format.specs.Withdrawal.{raiseAll, raiseBy, withdrawn, wi
 -- a trade of another kind or day does not
 raise-none : (c : ℕ) (t : Trade) → T (raiseWithin c t) → T (not (bilateralForDay t)) → c ≡ 0
 unfolding raiseWithin
-raise-none c t h k = go (eqb c 0) refl
-  where
-    go : (z : Bool) → eqb c 0 ≡ z → c ≡ 0
-    go true e = eqb→eq c 0 (rw e tt)
-    go false e =
-        absurd (T-not (bilateralForDay t) k (or-second (eqb c 0) (bilateralForDay t) (rw e tt) (and-r (leb (t .standing + c) (t .terms .notified)) (eqb c 0 || bilateralForDay t) h)))
+raise-none c t h k = none-unless c (bilateralForDay t) (and-r (leb (t .standing + c) (t .terms .notified)) (eqb c 0 || bilateralForDay t) h) k
 
 raises-framed : (cs : List ℕ) (ts : List Trade) → T (raisesWithin cs ts) → Pairwise Framed ts (raiseAll cs ts)
 unfolding raiseAll raisesWithin raiseBy
@@ -58,10 +47,6 @@ module _ (f : Prices) where
   raises-worth [] (t ∷ ts) y h = absurd h
   raises-worth (c ∷ cs) [] y h = absurd h
   raises-worth (c ∷ cs) (t ∷ ts) y h = omega (arith, raises-worth cs ts (tallied f c t y) (and-r (raiseWithin c t) (raisesWithin cs ts) h))
-
-still-valid : (p : Bool) (s n d : ℕ) → (T (not p) → d ≡ s) → T (p || eqb s n) → T (p || eqb d n)
-still-valid true s n d e h = tt
-still-valid false s n d e h = rw (e tt) h
 
 raise-valid : (us : List User) (c : ℕ) (t : Trade) → T (raiseWithin c t) → T (tradeValid us t) → T (tradeValid us (raiseBy c t))
 unfolding tradeValid partiesValid codesValid amountsValid raiseBy bilateralForDay raiseWithin
@@ -126,18 +111,11 @@ module _ (b : Book) (cs : List ℕ) (s : Sound b) (h : T (raisesWithin cs (b .tr
 repositioned-is : (ts : List Trade) (v : User) → T (positionsValid ts v) → repositioned ts v ≡ v
 unfolding repositioned at
 repositioned-is ts v p =
-    let h0 = sym (position-is ts v 0 (omega arith) p) in
-    let h1 = sym (position-is ts v 1 (omega arith) p) in
-    let h2 = sym (position-is ts v 2 (omega arith) p) in
-    λ i. record { party = v .party; physical = v .physical; position = record { pvb = h0 i; tvb = h1 i; avb = h2 i }; blocked = v .blocked }
+    rw (← position-is ts v 0 (omega arith) p, ← position-is ts v 1 (omega arith) p, ← position-is ts v 2 (omega arith) p)
 
 twice-repositioned : (ts ns : List Trade) (v : User) → repositioned ts (repositioned ns v) ≡ repositioned ts v
 unfolding repositioned definedPosition
 twice-repositioned ts ns v = refl
-
-map-id : (us : List User) → map (λ (u : User). u) us ≡ us
-map-id [] = refl
-map-id (u ∷ us) = ap (λ (r : List User). u ∷ r) (map-id us)
 
 -- the trades as they were give the book as it was
 anew-back : (b : Book) (ns : List Trade) → Sound b → Pairwise Framed (b .trades) ns → Sound (withTrades b ns) → withTrades (withTrades b ns) (b .trades) ≡ b

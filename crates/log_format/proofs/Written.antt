@@ -1,17 +1,16 @@
 -- A log that is written reads back: its entries are those that were written, it passes question 19 for the book that it holds, and so do the logs that calls leave. Assumes nothing.
-use Rattle.base.specs.Basics.{_≡_, refl, sym, ap, ap₂, subst, _∙_, _&&_, List, [], _∷_, _++_, append-assoc, ℕ, zero, _+_, _-_, _*_, _≤_, _<_, arith}
-use Rattle.base.specs.Basics.{T, eqb, eqb-refl, leb, le→leb, length, take, drop, replicate, length-replicate, drop-at, drop-drop, take-all, take-at}
+use Rattle.base.specs.Basics.{_≡_, refl, sym, ap, ap₂, subst, _∙_, _&&_, List, [], _∷_, _++_, append-assoc, ℕ, _+_, _-_, _*_, _≤_, _<_, arith, T, eqb, eqb-refl}
+use Rattle.base.specs.Basics.{leb, le→leb, length, take, drop, replicate, length-replicate, drop-at, drop-drop, take-all, take-at}
 use Rattle.base.proofs.Tests.{and-i, eqb-of}
-use Rattle.fields.proofs.Field.{fromBytes-toBytes, length-toBytes}
-use Rattle.fields.proofs.Records.{recordsOf-bytesOfRecords}
-use Rattle.fields.proofs.Sets.{take-of-drop}
-use Rattle.fields.specs.Field.{field, fromBytes, toBytes}
-use Rattle.fields.specs.Layout.{Every, bytesOfRecords, recordsOf}
+use Rattle.fields.proofs.{Field.fromBytes-toBytes, Field.length-toBytes, Records.recordsOf-bytesOfRecords, Sets.take-of-drop}
+use Rattle.fields.specs.{Field.field, Field.fromBytes, Field.toBytes, Layout.Every, Layout.bytesOfRecords, Layout.recordsOf}
 use Rattle.book_format.specs.Book.{tradeCount, tradesOf}
 use Rattle.log_format.proofs.Padded.{drop-padded, zeros-replicate}
 use Rattle.log_format.proofs.Parts.{EntryFits, length-cuts, length-entries, logged-head, logged-held, logged-length}
-use Rattle.log_format.specs.Fits.{LogOf, allCuts, cutsRest, entriesRest, heldRest, holdsBook, logFits, logFormed, raisesWithin, restsZero, sameBytes, unusedZero, zeros}
-use Rattle.log_format.specs.Log.{cutBytes, cutSize, cutsAt, entriesAt, entriesBytes, entriesIn, entriesOf, entriesRoom, entryAt, entryBytes, entryCount, entrySize, heldAt, heldLength, heldOf, heldRoom, logMark, logMarkOf, logSize, logZero, mostEntries, padded}
+use Rattle.log_format.specs.Fits.{LogOf, allCuts, cutsRest, entriesRest, heldRest, holdsBook, logFits, logFormed, raisesWithin, restsZero, sameBytes}
+use Rattle.log_format.specs.Fits.{unusedZero, zeros}
+use Rattle.log_format.specs.Log.{cutBytes, cutSize, cutsAt, entriesAt, entriesBytes, entriesIn, entriesOf, entriesRoom, entryAt, entryBytes, entryCount}
+use Rattle.log_format.specs.Log.{entrySize, heldAt, heldLength, heldOf, heldRoom, logMark, logMarkOf, logSize, logZero, mostEntries, padded}
 
 -- ---- one entry
 

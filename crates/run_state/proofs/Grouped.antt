@@ -3,20 +3,13 @@ use Rattle.base.specs.Basics.{_≡_, sym, ap, ap₂, _∙_, Bool, List, map, �
 use Rattle.book_format.specs.Steps.{placeOf}
 use Rattle.laws.specs.Sound.{Sound}
 use Rattle.laws.proofs.Trades.{lowered-refl}
-use Rattle.rules.specs.Book.{Book, Terms}
-use Rattle.rules.specs.Levels.{Limits}
+use Rattle.rules.specs.{Book.Book, Book.Terms, Levels.Limits}
 use Rattle.run_state.proofs.Stays.{Alike, alike-many, with-same}
-use Rattle.run_state.specs.Asked.{memberAt}
+use Rattle.run_state.specs.{Asked.memberAt, Going.Going, Going.OwedOf, Going.Rooms, Going.SalesIn, Going.StandingIn}
 use Rattle.risk_user.specs.UserAt.{PositionsOf}
-use Rattle.run_state.specs.Going.{Going, OwedOf, Rooms, SalesIn, StandingIn}
-use Rattle.laws_sales.proofs.Groups.{start-same}
-use Rattle.laws_sales.proofs.Listed.{all-grouped, part-grouped, terms-many}
-use Rattle.laws_sales.proofs.Own.{own-sales}
-use Rattle.laws_sales.proofs.Standing.{starts-stay}
-use Rattle.laws_sales.specs.Borne.{borneBook}
-use Rattle.laws_sales.specs.Groups.{areasOf, grouped, standings, starts, termsOf}
+use Rattle.laws_sales.proofs.{Groups.start-same, Listed.all-grouped, Listed.part-grouped, Listed.terms-many, Own.own-sales, Standing.starts-stay}
+use Rattle.laws_sales.specs.{Borne.borneBook, Groups.areasOf, Groups.grouped, Groups.standings, Groups.starts, Groups.termsOf, Sales.ownSale, Sales.salesOf}
 use Rattle.laws_sales.specs.Parts.{part}
-use Rattle.laws_sales.specs.Sales.{ownSale, salesOf}
 
 -- ---- the lists of a book
 

@@ -1,17 +1,12 @@
 -- What is left of a run: added to the totals so far it is the whole run. What can still be cut bounds the totals. Nobody before a place is due. Assumes nothing.
 use Rattle.base.specs.Basics.{_≡_, sym, ap, _∙_, Bool, false, _&&_, none, some, List, ℕ, _+_, _*_, _≤_, _<_, arith, ltb, length, getD, lt-ltb, le-ltb}
-use Rattle.base.proofs.Linear.{by-order}
+use Rattle.base.proofs.{Linear.by-order, Tests.and-l, Tests.by-case, Tests.holds}
 use Rattle.laws.proofs.Fuel.{cuttable-most, reduced-less, reducedBy-mwh, reducedBy-worth, run-answer, run-goes-on, run-stops}
 use Rattle.laws.proofs.Run.{has-target}
 use Rattle.laws.specs.Sound.{Sound}
-use Rattle.base.proofs.Tests.{and-l, by-case, holds}
-use Rattle.rules.specs.Book.{Book, User}
+use Rattle.rules.specs.{Book.Book, Book.User, Levels.Limits, Levels.shortOfCover, Reduction.Tally, Reduction.hasEligible, Reduction.target}
 use Rattle.rules.specs.Calls.{Answer, Result, cuttable, nextReduced, ofCuts, ofRun, only, onward, reduced}
-use Rattle.rules.specs.Levels.{Limits, shortOfCover}
-use Rattle.rules.specs.Reduction.{Tally, hasEligible, target}
-use Rattle.run_state.specs.Asked.{memberAt}
-use Rattle.run_state.specs.Going.{OwedOf, owed}
-use Rattle.run_state.specs.Running.{NextFrom, wholeRun}
+use Rattle.run_state.specs.{Asked.memberAt, Going.OwedOf, Going.owed, Running.NextFrom, Running.wholeRun}
 use Rattle.laws_sales.proofs.Next.{next-ready, next-over}
 use Rattle.laws_sales.specs.Cover.{due, Dues}
 

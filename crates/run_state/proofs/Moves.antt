@@ -1,28 +1,21 @@
 -- Positions in an array while own sales are cut one after the other: they are those of the settled users. Assumes nothing.
 use Rattle.base.specs.Basics.{_≡_, refl, sym, ap, ap₂, subst, _∙_, cond, List, [], _∷_, map, ℕ, zero, suc, _+_, _*_, _-_, _≤_, _<_, not-suc-le-zero}
-use Rattle.base.specs.Basics.{le-of-suc-le-suc, arith, eqb, ℤ, pos, negℤ, _+ℤ_, +ℤ-idr, length, take, getD, set, length-map, length-set}
-use Rattle.base.specs.Basics.{getD-set-same, getD-set-other, set-out, take-all, eqb-true, eqb-false}
+use Rattle.base.specs.Basics.{le-of-suc-le-suc, arith, eqb, ℤ, pos, negℤ, _+ℤ_, +ℤ-idr, length, take, getD, set, length-map, length-set, getD-set-same}
+use Rattle.base.specs.Basics.{getD-set-other, set-out, take-all, eqb-true, eqb-false}
 use Rattle.base.proofs.Tests.{by-case}
+use Rattle.base.proofs.{Linear.by-order, Linear.negPart-neg, Linear.negPart-pos, Linear.parts-add, Linear.posPart-neg, Linear.posPart-pos, Stores.set-each}
 use Rattle.book_format.specs.Steps.{placeOf}
-use Rattle.base.proofs.Linear.{by-order, negPart-neg, negPart-pos, parts-add, posPart-neg, posPart-pos}
 use Rattle.base.specs.Parts.{negPart}
 use Rattle.laws.proofs.Areas.{at-add}
 use Rattle.laws.specs.Sound.{Sound}
-use Rattle.rules.specs.Book.{at, Book, Party, Trade, User, nobody, noTrade}
-use Rattle.rules.specs.Calls.{reducedBy}
-use Rattle.rules.specs.Changes.{moved}
-use Rattle.base.proofs.Stores.{set-each}
+use Rattle.rules.specs.{Book.at, Book.Book, Book.Party, Book.Trade, Book.User, Book.nobody, Book.noTrade, Calls.reducedBy, Changes.moved}
 use Rattle.run_state.proofs.Reduced.{place-id, place-inside}
 use Rattle.risk_user.proofs.Borne.{members-borne, party-borne}
 use Rattle.run_state.specs.Asked.{movedOne, movedAll}
 use Rattle.risk_user.specs.UserAt.{positionIn, PositionsOf}
 use Rattle.laws_sales.proofs.FirstCuts.{first-all, first-bound, first-length, first-next, first-none, own-cut-le, own-cuts-length}
-use Rattle.laws_sales.proofs.Numbers.{read-at}
-use Rattle.laws_sales.proofs.Own.{own-sales}
-use Rattle.laws_sales.proofs.Reduced.{sales-reduced}
-use Rattle.laws_sales.proofs.Valid.{borne-ids, borne-valid, sale-at}
-use Rattle.laws_sales.specs.Borne.{borneBook, borneResult, borneUser}
-use Rattle.laws_sales.specs.Reduced.{ownSales, ownCuts, settledFirst}
+use Rattle.laws_sales.proofs.{Numbers.read-at, Own.own-sales, Reduced.sales-reduced, Valid.borne-ids, Valid.borne-valid, Valid.sale-at}
+use Rattle.laws_sales.specs.{Borne.borneBook, Borne.borneResult, Borne.borneUser, Reduced.ownSales, Reduced.ownCuts, Reduced.settledFirst}
 use Rattle.laws_sales.specs.Sales.{ownSale, settledAt}
 use Rattle.units.proofs.Amounts.{net-eq, parts-net}
 use Rattle.units.specs.Amounts.{net}
@@ -110,10 +103,7 @@ unfolding movedAll
 moved-next place [] areas cs ps n h k l = absurd (not-suc-le-zero h)
 moved-next place (b ∷ bs) [] cs ps n h k l = absurd (not-suc-le-zero k)
 moved-next place (b ∷ bs) (a ∷ areas) [] ps n h k l = absurd (not-suc-le-zero l)
-moved-next place (b ∷ bs) (a ∷ areas) (c ∷ cs) ps zero h k l = ended (movedOne place b a c ps)
-  where
-    ended : (qs : List ℕ) → movedAll place (take 0 bs) (take 0 areas) (take 0 cs) qs ≡ qs
-    ended qs = refl
+moved-next place (b ∷ bs) (a ∷ areas) (c ∷ cs) ps zero h k l = refl
 moved-next place (b ∷ bs) (a ∷ areas) (c ∷ cs) ps (suc n) h k l =
     moved-next place bs areas cs (movedOne place b a c ps) n (le-of-suc-le-suc h) (le-of-suc-le-suc k) (le-of-suc-le-suc l)
 

@@ -3,14 +3,9 @@ use Rattle.base.specs.Basics.{_≡_, refl, sym, ap, fun-ext, _∙_, List, [], _
 use Rattle.book_format.specs.Steps.{placeOf}
 use Rattle.rules.specs.Book.{Book, Party, PerArea, Terms, Trade, User}
 use Rattle.run_state.proofs.Stays.{Alike, alike-many, party-stays}
-use Rattle.run_state.specs.Asked.{memberAt}
-use Rattle.run_state.specs.Going.{SalesIn}
-use Rattle.laws_sales.proofs.Own.{own-sales}
-use Rattle.laws_sales.proofs.Standing.{terms-stay}
-use Rattle.laws_sales.specs.Groups.{starts}
-use Rattle.laws_sales.specs.Parts.{part}
-use Rattle.laws_sales.specs.Reduced.{ownSales}
-use Rattle.laws_sales.specs.Sales.{salesOf}
+use Rattle.run_state.specs.{Asked.memberAt, Going.SalesIn}
+use Rattle.laws_sales.proofs.{Own.own-sales, Standing.terms-stay}
+use Rattle.laws_sales.specs.{Groups.starts, Parts.part, Reduced.ownSales, Sales.salesOf}
 
 -- the place of an id is read of the parties alone
 place-through : (p : Party → User) → ((q : Party) → p q .party ≡ q) → (us : List User) (id : ℕ) → placeOf (map (λ u. p (u .party)) us) id ≡ placeOf us id

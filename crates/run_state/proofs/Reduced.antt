@@ -1,39 +1,24 @@
 -- What a reduction of the user at a place leaves of who is due: it and the buyers of sales that lost something are party to a trade standing below notified; the others are due as before.
 -- Assumes nothing.
-use Rattle.base.specs.Basics.{_≡_, refl, sym, ap, ap₂, fun-ext, subst, _∙_, Bool, true, false, cond, _&&_, _||_, List, [], _∷_, map, ℕ, _-_, _<_}
-use Rattle.base.specs.Basics.{arith, T, eqb, ltb, eqb→eq, ltb→lt, length, getD, eq-eqb, ltb-false}
-use Rattle.laws_sales.specs.Parties.{cutBefore}
+use Rattle.base.specs.Basics.{_≡_, refl, sym, ap, ap₂, fun-ext, subst, _∙_, Bool, true, false, cond, _&&_, _||_, List, [], _∷_, map, ℕ, _-_, _<_, arith, T, eqb}
+use Rattle.base.specs.Basics.{ltb, eqb→eq, ltb→lt, length, getD, eq-eqb, ltb-false}
+use Rattle.laws_sales.specs.{Parties.cutBefore, Cover.AllNext, Cover.due, Cover.shortFrom, Groups.standings, Sales.isParty, Sales.someCut}
+use Rattle.laws_sales.specs.{Borne.borneBook, Borne.borneResult, Borne.borneUser, Borne.borneValid, Reduced.ownSales, Reduced.ownCuts, Reduced.SalesReduced}
 use Rattle.book_format.proofs.OneUser.{place-known}
 use Rattle.book_format.specs.Steps.{placeOf}
-use Rattle.laws.proofs.Fuel.{reducedBy-mwh}
-use Rattle.laws.proofs.Run.{has-target, reducedBy-less}
-use Rattle.laws.specs.Sound.{Sound}
-use Rattle.laws.specs.Statements.{ownHolding}
-use Rattle.base.proofs.Tests.{and-l, and-r, all-by, by-case, holds}
-use Rattle.laws.proofs.Trades.{framed}
-use Rattle.rules.specs.Areas.{Prices}
-use Rattle.rules.specs.Book.{Book, Header, Party, Trade, User, nobody}
-use Rattle.rules.specs.Calls.{Answer, ofCuts, reducedBy}
+use Rattle.laws.proofs.{Fuel.reducedBy-mwh, Run.has-target, Run.reducedBy-less, Trades.framed}
+use Rattle.laws.specs.{Sound.Sound, Statements.ownHolding}
+use Rattle.base.proofs.Tests.{and-l, and-r, all-by, by-case, holds, and-false}
+use Rattle.rules.specs.{Areas.Prices, Reduction.Tally, Reduction.hasEligible, Reduction.nothing, Reduction.tallied, Reduction.tallyAll, Reduction.target}
+use Rattle.rules.specs.{Book.Book, Book.Header, Book.Party, Book.Trade, Book.User, Book.nobody, Calls.Answer, Calls.ofCuts, Calls.reducedBy}
 use Rattle.rules.specs.Levels.{Limits, Holding, exceedsMargin, holding, levelFrom, shipper, shortOfCover}
-use Rattle.base.specs.Lists.{all, any}
 use Rattle.rules.specs.Questions.{idsRise, known}
-use Rattle.rules.specs.Reduction.{Tally, hasEligible, nothing, tallied, tallyAll, target}
+use Rattle.base.specs.Lists.{all, any}
 use Rattle.risk_user.proofs.Borne.{member-borne, members-borne, party-borne}
-use Rattle.run_state.specs.Asked.{memberAt, touched}
-use Rattle.run_state.specs.Going.{owed, owedCalled}
+use Rattle.run_state.specs.{Asked.memberAt, Asked.touched, Going.owed, Going.owedCalled}
 use Rattle.laws_sales.proofs.Cover.{has-eligible-sales, level-next, next-holding, short-from, some-cut-buyer, some-cut-seller, target-from}
-use Rattle.laws_sales.proofs.FirstCuts.{own-cuts-length}
-use Rattle.laws_sales.proofs.Own.{own-sales}
-use Rattle.laws_sales.proofs.Reduced.{cover-left, sales-reduced, user-left}
-use Rattle.laws_sales.proofs.Settled.{party-at, same-place}
-use Rattle.laws_sales.proofs.Standing.{same-length}
-use Rattle.laws_sales.proofs.Sums.{held-borne}
-use Rattle.laws_sales.proofs.Valid.{borne-ids, borne-valid, sales-own, sales-valid}
-use Rattle.laws_sales.specs.Borne.{borneBook, borneResult, borneUser, borneValid}
-use Rattle.laws_sales.specs.Cover.{AllNext, due, shortFrom}
-use Rattle.laws_sales.specs.Groups.{standings}
-use Rattle.laws_sales.specs.Reduced.{ownSales, ownCuts, SalesReduced}
-use Rattle.laws_sales.specs.Sales.{isParty, someCut}
+use Rattle.laws_sales.proofs.{FirstCuts.own-cuts-length, Own.own-sales, Reduced.cover-left, Reduced.sales-reduced, Reduced.user-left, Standing.same-length}
+use Rattle.laws_sales.proofs.{Settled.party-at, Settled.same-place, Sums.held-borne, Valid.borne-ids, Valid.borne-valid, Valid.sales-own, Valid.sales-valid}
 
 -- ---- the user of a known id stands at its place
 
@@ -61,12 +46,7 @@ unfolding any tallyAll tallied
 tally-none f [] ss y e = refl
 tally-none f (c ∷ cs) [] y e = refl
 tally-none f (c ∷ cs) (s ∷ ss) y e =
-    let first = neither (ltb 0 c) (any (λ d. ltb 0 d) cs) e in
-    omega (arith, ltb-false 0 c (first .0), tally-none f cs ss (tallied f c s y) (first .1))
-  where
-    neither : (x z : Bool) → (x || z) ≡ false → (x ≡ false) × (z ≡ false)
-    neither true z k = absurd (subst T k tt)
-    neither false z k = (refl, k)
+    by-case (ltb 0 c) (λ x. absurd (subst T (rw x at e) tt)) (λ x. omega (arith, ltb-false 0 c x, tally-none f cs ss (tallied f c s y) (rw x at e)))
 
 -- who buys in a sale that lost something
 touched-buyers : (us : List User) (j : ℕ) → T (idsRise 0 us) → j < length us → (cs : List ℕ) (ss : List Trade) → T (all (λ s. known us (s .terms .buyer)) ss)
@@ -261,5 +241,4 @@ module _ (limits : Limits) (b : Book) (sound : Sound b) (place : ℕ) (k : place
       -- without an eligible trade there was no target
       none : (x y : Bool) (m t : ℕ) → cond y m 0 ≡ cond y m (cond (x && y) t 0)
       none x true m t = refl
-      none true false m t = refl
-      none false false m t = refl
+      none x false m t = rw (and-false x)

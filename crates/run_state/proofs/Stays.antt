@@ -1,27 +1,18 @@
 -- A run's book and the opening book: the same users but for their positions, and the same trades but for what stands of kind 0 and day 0. What is read from the arrays is what the
 -- rules say of the run's book. Assumes nothing.
 use Rattle.base.specs.Basics.{_≡_, refl, sym, ap, ap₂, _∙_, Bool, true, cond, List, [], map, map-map, ℕ, _+_, _*_, _-_, _<_, arith, ltb, length, getD}
-use Rattle.base.specs.Basics.{length-map, List·getD-map}
-use Rattle.laws.proofs.Settle.{retraded-anew}
-use Rattle.laws.specs.Sound.{Sound}
-use Rattle.laws.specs.Statements.{ownHolding}
-use Rattle.laws.proofs.Trades.{framed, lowered-refl}
-use Rattle.laws.specs.Books.{anew, repositioned}
-use Rattle.laws.specs.Trades.{Framed, Lowered, Pairwise}
+use Rattle.base.specs.Basics.{length-map, List·getD-map, subst, fun-ext}
+use Rattle.laws.proofs.{Settle.retraded-anew, Trades.framed, Trades.lowered-refl}
+use Rattle.laws.specs.{Sound.Sound, Statements.ownHolding, Books.anew, Books.repositioned, Trades.Framed, Trades.Lowered, Trades.Pairwise}
 use Rattle.rules.specs.Areas.{Prices}
-use Rattle.rules.specs.Book.{Book, Header, Party, User, nobody, sold, bought}
+use Rattle.rules.specs.{Book.Book, Book.Header, Book.Party, Book.User, Book.nobody, Book.sold, Book.bought, Reduction.target, Reduction.withTrades}
 use Rattle.rules.specs.Levels.{Limits, Holding, afternoonLevel, exposure, holding, leastReferencePrice, levelFrom, flaggedFrom, shipper, exceedsMargin}
-use Rattle.rules.specs.Reduction.{target, withTrades}
-use Rattle.run_state.specs.Asked.{memberAt}
+use Rattle.run_state.specs.{Asked.memberAt, Going.owedCalled}
 use Rattle.book_sums.specs.Twelve.{TwelveOf}
 use Rattle.risk_user.proofs.Borne.{blocked-borne, member-borne, members-borne, parties-borne, party-borne, party-same}
 use Rattle.risk_user.specs.UserAt.{PositionsOf, flaggedAt, heldAt, levelAt, targetAt}
-use Rattle.run_state.specs.Going.{owedCalled}
-use Rattle.laws_sales.proofs.Cover.{sold-next, bought-next, exposure-next, level-next, short-next}
-use Rattle.laws_sales.proofs.Settled.{settle-none}
-use Rattle.laws_sales.proofs.Sums.{held-borne}
-use Rattle.laws_sales.specs.Borne.{borneBook, borneUser}
-use Rattle.laws_sales.specs.Cover.{AllNext, shortFrom}
+use Rattle.laws_sales.proofs.{Cover.sold-next, Cover.bought-next, Cover.exposure-next, Cover.level-next, Cover.short-next, Settled.settle-none, Sums.held-borne}
+use Rattle.laws_sales.specs.{Borne.borneBook, Borne.borneUser, Cover.AllNext, Cover.shortFrom}
 
 -- ---- of a user, levels and cover read the money
 
@@ -89,15 +80,15 @@ module _ {o b : Book} (t : Alike o b) where
       let id : memberAt o i .party .id ≡ memberAt b i .party .id = sym (ap (λ (q : Party). q .id) (party-stays i)) in
       let l : i < length (o .users) = omega (arith, alike-many) in
       record {
-        each = λ area h. record {
-          position = p .each i area k h;
-          sold = w .sold-at i area 1 l h (omega arith) ∙ sym (sold-next (memberAt o i .party .id) area (t .framed)) ∙ ap (λ (n : ℕ). sold (b .trades) n area 1) id;
-          bought = ap (λ (n : ℕ). getD sums n 0) (next area) ∙ w .bought-at i area 1 l h (omega arith) ∙ sym (bought-next (memberAt o i .party .id) area (t .framed)) ∙ ap (λ (n : ℕ). bought (b .trades) n area 1) id;
-        };
+        each = λ area h.
+            let next : 12 * i + 9 + area ≡ 12 * i + 6 + 3 * 1 + area = omega arith in
+            let m = memberAt o i .party .id in
+            record {
+              position = p .each i area k h;
+              sold = w .sold-at i area 1 l h (omega arith) ∙ sym (sold-next m area (t .framed)) ∙ ap (λ (n : ℕ). sold (b .trades) n area 1) id;
+              bought = ap (λ (n : ℕ). getD sums n 0) next ∙ w .bought-at i area 1 l h (omega arith) ∙ sym (bought-next m area (t .framed)) ∙ ap (λ (n : ℕ). bought (b .trades) n area 1) id;
+            };
       }
-    where
-      next : (area : ℕ) → 12 * i + 9 + area ≡ 12 * i + 6 + 3 * 1 + area
-      next area = omega arith
 
 -- ---- of a run's book
 
@@ -109,13 +100,7 @@ module _ {o b : Book} (t : Stays o b) (a : Alike (borneBook o) (borneBook b)) {s
       let read = held-alike a w p i (omega (arith, members-borne b)) in
       let one : (area : ℕ) → ownHolding (borneBook b) (memberAt (borneBook b) i) area ≡ holding b (memberAt b i) area
       = λ area. ap (λ (u : User). ownHolding (borneBook b) u area) (member-borne b i k) ∙ sym (held-borne b (memberAt b i) area) in
-      record {
-        each = λ area h. record {
-          position = read .each area h .position ∙ ap (λ (x : Holding). x .position) (one area);
-          sold = read .each area h .sold ∙ ap (λ (x : Holding). x .soldNext) (one area);
-          bought = read .each area h .bought ∙ ap (λ (x : Holding). x .boughtNext) (one area);
-        };
-      }
+      subst (AllNext (heldAt sums ps i)) (fun-ext one) read
 
   -- exposure reads the positions alone
   exposed : (f : Prices) → exposure f (heldAt [] ps i) ≡ exposure f (heldAt sums ps i)

@@ -1,50 +1,29 @@
 -- A reduction of a user that is due, in the arrays of a run: they are those of the rules' book after it, and no target before the least place that was asked anew has changed.
 -- Assumes nothing.
-use Rattle.base.specs.Basics.{_≡_, refl, sym, ap, ap₂, subst, _∙_, Bool, true, false, cond, _&&_, List, map, ℕ, suc, _≤_, _<_, arith, T, ltb, length}
-use Rattle.base.specs.Basics.{getD, set, length-set}
+use Rattle.base.specs.Basics.{_≡_, refl, sym, ap, ap₂, subst, _∙_, Bool, true, false, cond, _&&_, List, map, ℕ, suc, _≤_, _<_, arith, T, ltb, length, getD, set}
+use Rattle.base.specs.Basics.{length-set}
 use Rattle.book_format.specs.Steps.{placeOf}
-use Rattle.base.proofs.Linear.{by-order}
-use Rattle.laws.proofs.Run.{Ran, reducedBy-law}
-use Rattle.laws.specs.Sound.{Sound}
-use Rattle.base.proofs.Tests.{all-by}
-use Rattle.laws.proofs.Trades.{framed, lowered-trans}
-use Rattle.laws.proofs.Users.{tradeValid-map}
-use Rattle.laws.specs.Books.{repositioned}
-use Rattle.laws.specs.Trades.{Lowered, Pairwise}
-use Rattle.rules.specs.Book.{Book, Party, Trade, User, nobody}
-use Rattle.rules.specs.Calls.{reduced, reducedBy}
-use Rattle.rules.specs.Levels.{Limits}
+use Rattle.base.proofs.{Linear.by-order, Tests.all-by, Tests.by-case, Stores.here-or-apart, Stores.set-each}
+use Rattle.laws.proofs.{Run.Ran, Run.reducedBy-law, Trades.framed, Trades.lowered-trans, Users.tradeValid-map}
+use Rattle.laws.specs.{Sound.Sound, Books.repositioned, Trades.Lowered, Trades.Pairwise}
+use Rattle.rules.specs.{Book.Book, Book.Party, Book.Trade, Book.User, Book.nobody, Levels.Limits, Reduction.hasEligible, Reduction.target, Reduction.withTrades}
+use Rattle.rules.specs.{Calls.reduced, Calls.reducedBy, Questions.tradeValid}
 use Rattle.base.specs.Lists.{all, any}
-use Rattle.rules.specs.Questions.{tradeValid}
-use Rattle.rules.specs.Reduction.{hasEligible, target, withTrades}
 use Rattle.run_state.proofs.Moves.{all-moved, moved-length}
-use Rattle.run_state.proofs.Own.{own-areas, own-buyers}
-use Rattle.base.proofs.Stores.{here-or-apart, set-each}
+use Rattle.run_state.proofs.{Own.own-areas, Own.own-buyers, Stays.Alike, Stays.Stays, Stays.alike-borne, Stays.stays, Stays.target-is, Stays.users-many}
 use Rattle.run_state.proofs.Reduced.{apart, asked-other, asked-own, eligible-left, eligible-own, law, member-stays, members-stay}
-use Rattle.run_state.proofs.Stays.{Alike, Stays, alike-borne, stays, target-is, users-many}
 use Rattle.risk_user.proofs.Borne.{members-borne, party-borne}
 use Rattle.run_state.specs.Asked.{memberAt, LookedAgain, movedAll, touched}
+use Rattle.run_state.specs.Going.{Going, OwedOf, SalesIn, StandingIn, owed, owedCalled}
 use Rattle.risk_user.specs.UserAt.{PositionsOf, targetAt}
 use Rattle.book_sums.specs.Twelve.{TwelveOf}
-use Rattle.run_state.specs.Going.{Going, OwedOf, SalesIn, StandingIn, owed, owedCalled}
-use Rattle.laws_sales.proofs.Again.{retraded-again}
-use Rattle.laws_sales.proofs.Listed.{starts-rise}
-use Rattle.laws_sales.proofs.Numbers.{standing-cut}
-use Rattle.laws_sales.proofs.Parts.{Around, part-before, part-behind}
-use Rattle.laws_sales.specs.Borne.{borneBook, borneResult, borneUser}
-use Rattle.laws_sales.specs.Cover.{due}
-use Rattle.laws_sales.specs.Groups.{standings, starts}
-use Rattle.laws_sales.specs.Parts.{part}
-use Rattle.laws_sales.specs.Reduced.{ownSales, ownCuts}
-use Rattle.laws_sales.specs.Sales.{less, salesOf}
+use Rattle.laws_sales.proofs.{Again.retraded-again, Listed.starts-rise, Numbers.standing-cut, Parts.Around, Parts.part-before, Parts.part-behind}
+use Rattle.laws_sales.specs.{Borne.borneBook, Borne.borneResult, Borne.borneUser, Cover.due, Groups.standings, Groups.starts, Reduced.ownSales, Reduced.ownCuts}
+use Rattle.laws_sales.specs.{Parts.part, Sales.less, Sales.salesOf}
 
 -- a user with something owed is due, and owes its target
 pub owed-due : (limits : Limits) (b : Book) (u : User) {n : ℕ} → n ≡ owed limits b u → 0 < n → (due limits b u ≡ true) × (n ≡ target limits b u)
-owed-due limits b u {n} e h = go (due limits b u) e
-  where
-    go : (x : Bool) → n ≡ cond x (target limits b u) 0 → (x ≡ true) × (n ≡ target limits b u)
-    go true g = (refl, g)
-    go false g = absurd (omega (arith, g))
+owed-due limits b u {n} e h = by-case (due limits b u) (λ x. (x, rw x at e)) (λ x. let z : n ≡ 0 = rw x at e in absurd (omega arith))
 
 module _ {limits : Limits} {o b : Book} {ns ps ts : List ℕ} {es : List Bool} (first : Sound o) (h : Going limits o b ns ps ts es) (place : ℕ) (k : place < length (b .users)) where
   abbrev user : User
@@ -91,10 +70,8 @@ module _ {limits : Limits} {o b : Book} {ns ps ts : List ℕ} {es : List Bool} (
   trades-valid =
       let g = repositioned (b .trades) in
       all-by (tradeValid (b .users)) (tradeValid (o .users))
-      (λ t v. subst T (ap (λ (us : List User). tradeValid us t) (now-stays .users) ∙ tradeValid-map g (keeps (b .trades)) (o .users) t) v) (b .trades) (h .sound .trades)
-    where
-      keeps : (xs : List Trade) (u : User) → repositioned xs u .party ≡ u .party
-      keeps xs u = refl
+      (λ t v. subst T (ap (λ (us : List User). tradeValid us t) (now-stays .users) ∙ tradeValid-map g (λ u. refl) (o .users) t) v)
+      (b .trades) (h .sound .trades)
 
   after-same : after ≡ withTrades o (after .trades)
   unfolding reducedBy withTrades
@@ -136,10 +113,8 @@ module _ {limits : Limits} {o b : Book} {ns ps ts : List ℕ} {es : List Bool} (
         let all = members-borne o in
         by-order i place
         (λ m. part-before only (starts (borneBook o) i) (starts (borneBook o) (suc i)) (starts-rise bo i (suc i) (omega arith) (omega arith)) (starts-rise bo (suc i) place (omega arith) (omega arith)))
-        (λ m. part-behind only (starts (borneBook o) i) (starts (borneBook o) (suc i)) (starts-rise bo (suc place) i (later m) (omega arith)))
-      where
-        later : place ≤ i → suc place ≤ i
-        later m = by-order place i (λ x. omega arith) (λ x. absurd (n (omega arith)))
+        (λ m. part-behind only (starts (borneBook o) i) (starts (borneBook o) (suc i))
+        (starts-rise bo (suc place) i (by-order place i (λ x. omega arith) (λ x. absurd (n (omega arith)))) (omega arith)))
 
     standing-after : StandingIn (borneBook o) (borneBook after) ms
     unfolding borneResult borneUser

@@ -1,13 +1,10 @@
 -- What a party may see, by the ids of users and managers: its own, and what it manages. Assumes nothing.
-use Rattle.base.specs.Basics.{_≡_, _∙_, ap, refl, sym, Bool, true, false, cond, _||_, List, ℕ, _<_, arith, T, eqb, eqb→eq, ne-eqb}
+use Rattle.base.specs.Basics.{_≡_, _∙_, ap, refl, sym, Bool, true, false, cond, _||_, List, ℕ, _<_, arith, T, eqb, ne-eqb, eqb-true}
 use Rattle.base.specs.Lists.{any}
 use Rattle.laws.proofs.Users.{known-id}
-use Rattle.rules.specs.Areas.{areas}
-use Rattle.rules.specs.Bearers.{asBorne, bearer}
-use Rattle.rules.specs.Book.{Trade, User, find, managerIn}
-use Rattle.rules.specs.Questions.{known}
-use Rattle.views.specs.Claim.{ViewsClaim, manages}
-use Rattle.views.specs.Views.{seesTrade, seesUser}
+use Rattle.rules.specs.{Areas.areas, Bearers.asBorne, Bearers.bearer, Book.Trade, Book.User, Book.find, Book.managerIn, Questions.known}
+use Rattle.views.specs.{Claim.ViewsClaim, Claim.manages, Views.seesTrade, Views.seesUser}
+use Rattle.base.proofs.Tests.{by-case}
 
 -- ---- tests
 
@@ -28,13 +25,11 @@ two-or false false a b c d p q = rw (p, q) refl
 
 module _ (party : ℕ) (above : 0 < party) where
   bears : (id manager : ℕ) → (eqb id party || eqb (cond (eqb manager 0) id manager) party) ≡ (eqb id party || eqb manager party)
-  bears id manager = go (eqb manager 0) refl
-    where
-      go : (c : Bool) → eqb manager 0 ≡ c → (eqb id party || eqb (cond c id manager) party) ≡ (eqb id party || eqb manager party)
-      go false e = refl
-      go true e =
-          let z : manager ≡ 0 = eqb→eq manager 0 (rw e tt) in
-          same (eqb id party) ∙ ap (λ (x : Bool). eqb id party || x) (sym (ne-eqb manager party (λ h. omega (arith, above, z, h))))
+  bears id manager =
+      by-case (eqb manager 0)
+      (λ e. let z = eqb-true manager 0 e in
+      rw e (same (eqb id party) ∙ ap (λ (x : Bool). eqb id party || x) (sym (ne-eqb manager party (λ h. omega (arith, above, z, h))))))
+      (λ e. rw e)
 
   sees-user : (u : User) → seesUser party u ≡ (eqb (u .party .id) party || any (manages party u) areas)
   unfolding seesUser bearer manages any areas

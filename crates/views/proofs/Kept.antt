@@ -1,10 +1,9 @@
 -- Sums over the elements of a list that pass a test, and users looked for among them. Assumes nothing.
-use Rattle.base.specs.Basics.{_≡_, _∙_, ap, refl, sym, Bool, true, false, not, cond, List, [], _∷_, map, ℕ, zero, suc, _+_, _<_, _≤_, le-of-eq, arith}
-use Rattle.base.specs.Basics.{T, eqb, eqb→eq, ltb, ltb→lt, ℤ, _+ℤ_, pos, +ℤ-idl, getD}
+use Rattle.base.specs.Basics.{_≡_, _∙_, ap, refl, sym, Bool, not, cond, List, [], _∷_, map, ℕ, zero, suc, _+_, _<_, _≤_, le-of-eq, arith, T, eqb, eqb→eq, ltb}
+use Rattle.base.specs.Basics.{ltb→lt, ℤ, _+ℤ_, pos, +ℤ-idl, getD, eqb-true}
 use Rattle.base.specs.Sums.{sum, sumℤ}
 use Rattle.base.proofs.Tests.{and-l, and-r, by-case, by-test}
-use Rattle.rules.specs.Book.{User, find, nobody}
-use Rattle.rules.specs.Questions.{idsRise}
+use Rattle.rules.specs.{Book.User, Book.find, Book.nobody, Questions.idsRise}
 use Rattle.laws_sales.specs.Kept.{kept}
 use Rattle.views.specs.Kept.{placeKept}
 
@@ -47,18 +46,8 @@ module _ {A : Type 0} (p : A → Bool) (d : A) where
   pub getD-kept : (xs : List A) (ordinal : ℕ) → getD (kept p xs) ordinal d ≡ getD xs (placeKept p xs ordinal) d
   unfolding kept placeKept
   getD-kept [] ordinal = refl
-  getD-kept (x ∷ xs) zero = go (p x) (getD-kept xs 0)
-    where
-      go : (c : Bool) → getD (kept p xs) 0 d ≡ getD xs (placeKept p xs 0) d
-          → getD (cond c (x ∷ kept p xs) (kept p xs)) 0 d ≡ getD (x ∷ xs) (cond c 0 (suc (placeKept p xs 0))) d
-      go true e = refl
-      go false e = e
-  getD-kept (x ∷ xs) (suc ordinal) = go (p x) (getD-kept xs ordinal) (getD-kept xs (suc ordinal))
-    where
-      go : (c : Bool) → getD (kept p xs) ordinal d ≡ getD xs (placeKept p xs ordinal) d → getD (kept p xs) (suc ordinal) d ≡ getD xs (placeKept p xs (suc ordinal)) d
-          → getD (cond c (x ∷ kept p xs) (kept p xs)) (suc ordinal) d ≡ getD xs (placeKept p xs (cond c ordinal (suc ordinal))) d
-      go true e f = e
-      go false e f = f
+  getD-kept (x ∷ xs) zero = by-case (p x) (λ e. rw e) (λ e. rw e (getD-kept xs 0))
+  getD-kept (x ∷ xs) (suc ordinal) = by-case (p x) (λ e. rw e (getD-kept xs ordinal)) (λ e. rw e (getD-kept xs (suc ordinal)))
 
 -- ---- a user of an id among those that pass
 
@@ -70,11 +59,8 @@ module _ (p : User → Bool) where
       let lt : low < u .party .id = ltb→lt low (u .party .id) (and-l (ltb low (u .party .id)) (idsRise (u .party .id) us) r) in
       let rest : find (kept p us) id ≡ nobody = absent us (u .party .id) id (omega arith) (and-r (ltb low (u .party .id)) (idsRise (u .party .id) us) r) in
       by-test (λ (vs : List User). find vs id ≡ nobody) (p u)
-      (λ t. by-test (λ (v : User). v ≡ nobody) (eqb (u .party .id) id) (λ e. absurd (clash lt (eqb→eq (u .party .id) id e))) (λ e. rest))
+      (λ t. by-test (λ (v : User). v ≡ nobody) (eqb (u .party .id) id) (λ e. absurd (omega (arith, eqb→eq (u .party .id) id e))) (λ e. rest))
       (λ t. rest)
-    where
-      clash : low < u .party .id → u .party .id ≡ id → ⊥
-      clash a b = omega arith
 
   -- ids rise, so there is one user of an id at most: it is found where it passes
   pub find-kept : (us : List User) (low id : ℕ) → T (idsRise low us) → find (kept p us) id ≡ cond (p (find us id)) (find us id) nobody
@@ -83,26 +69,7 @@ module _ (p : User → Bool) where
   find-kept (u ∷ us) low id r =
       let rest = and-r (ltb low (u .party .id)) (idsRise (u .party .id) us) r in
       let others = find-kept us (u .party .id) id rest in
-      by-test
-      (λ (vs : List User). find vs id ≡ cond (p (cond (eqb (u .party .id) id) u (find us id))) (cond (eqb (u .party .id) id) u (find us id)) nobody)
-      (p u)
-      (λ t. passes (eqb (u .party .id) id) t others)
-      (λ t. fails (eqb (u .party .id) id) t (λ e. absent us (u .party .id) id (le-of-eq (sym (eqb→eq (u .party .id) id e))) rest) others)
-    where
-      taken : (c : Bool) → T c → u ≡ cond c u nobody
-      taken true h = refl
-      taken false h = absurd h
-
-      left : (c : Bool) → T (not c) → nobody ≡ cond c u nobody
-      left true h = absurd h
-      left false h = refl
-
-      passes : (c : Bool) → T (p u) → find (kept p us) id ≡ cond (p (find us id)) (find us id) nobody
-          → cond c u (find (kept p us) id) ≡ cond (p (cond c u (find us id))) (cond c u (find us id)) nobody
-      passes true t e = taken (p u) t
-      passes false t e = e
-
-      fails : (c : Bool) → T (not (p u)) → (T c → find (kept p us) id ≡ nobody) → find (kept p us) id ≡ cond (p (find us id)) (find us id) nobody
-          → find (kept p us) id ≡ cond (p (cond c u (find us id))) (cond c u (find us id)) nobody
-      fails true t f e = f tt ∙ left (p u) t
-      fails false t f e = e
+      by-case (eqb (u .party .id) id)
+      (λ e. by-case (p u) (λ t. rw (e, t, e))
+      (λ t. rw (e, t) (absent us (u .party .id) id (le-of-eq (sym (eqb-true (u .party .id) id e))) rest)))
+      (λ e. by-case (p u) (λ t. rw (e, t, e) others) (λ t. rw (e, t) others))

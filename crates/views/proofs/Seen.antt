@@ -1,14 +1,9 @@
 -- What a party holds, its record and whether it is a shipper of the book stand in what it may see. Assumes nothing.
-use Rattle.base.specs.Basics.{_≡_, _∙_, ap, ap₂, refl, subst, sym, Bool, true, false, not, cond, _&&_, _||_, List, map, ℕ, zero, suc, T, T-not, eqb}
-use Rattle.base.specs.Basics.{ℤ, pos}
+use Rattle.base.specs.Basics.{_≡_, _∙_, ap, ap₂, refl, sym, Bool, true, false, not, cond, _&&_, _||_, List, map, ℕ, zero, suc, T, T-not, eqb, ℤ, pos}
 use Rattle.base.specs.Lists.{any}
-use Rattle.base.proofs.Sums.{sum-ext, sum-map}
-use Rattle.base.proofs.Tests.{by-test, or-l, or-r}
-use Rattle.rules.specs.Areas.{areas}
-use Rattle.rules.specs.Bearers.{asBorne, bearer, borne, borneSum}
+use Rattle.base.proofs.{Sums.sum-ext, Sums.sum-map, Tests.by-test, Tests.or-l, Tests.or-r}
+use Rattle.rules.specs.{Areas.areas, Bearers.asBorne, Bearers.bearer, Bearers.borne, Bearers.borneSum, Levels.holding, Questions.idsRise}
 use Rattle.rules.specs.Book.{Book, PerArea, Terms, Trade, User, bought, dealt, find, managerIn, nobody, sold}
-use Rattle.rules.specs.Levels.{Holding, holding}
-use Rattle.rules.specs.Questions.{idsRise}
 use Rattle.views.proofs.Kept.{find-kept, kept-sum, kept-sumℤ}
 use Rattle.laws_sales.specs.Kept.{kept}
 use Rattle.views.specs.Views.{seesTrade, seesUser, tradesSeen, viewOf}
@@ -39,12 +34,9 @@ bearer-seen : (party : ℕ) (us : List User) → T (idsRise 0 us) → T (not (eq
     → eqb (bearer (find (kept (seesUser party) us) id) area) party ≡ eqb (bearer (find us id) area) party
 bearer-seen party us r n id area =
     let u = find us id in
-    ap (λ (v : User). eqb (bearer v area) party) (find-kept (seesUser party) us 0 id r) ∙ go (seesUser party u) (bearer-sees party u area)
-  where
-    go : (c : Bool) → (T (eqb (bearer (find us id) area) party) → T c)
-        → eqb (bearer (cond c (find us id) nobody) area) party ≡ eqb (bearer (find us id) area) party
-    go true f = refl
-    go false f = bearer-nobody party area n ∙ sym (false-of (eqb (bearer (find us id) area) party) (λ t. f t))
+    ap (λ (v : User). eqb (bearer v area) party) (find-kept (seesUser party) us 0 id r)
+    ∙ by-test (λ (v : User). eqb (bearer v area) party ≡ eqb (bearer u area) party) (seesUser party u) (λ s. refl)
+    (λ s. bearer-nobody party area n ∙ sym (false-of (eqb (bearer u area) party) (λ t. T-not (seesUser party u) s (bearer-sees party u area t))))
 
 -- a sum over those whose risk the party bears
 sum-seen : (amounts : User → PerArea) (us : List User) (party area : ℕ) → borneSum amounts (kept (seesUser party) us) party area ≡ borneSum amounts us party area
@@ -104,7 +96,8 @@ module _ (party : ℕ) (us : List User) where
 pub holding-seen : (party : ℕ) (b : Book) (u : User) → u .party .id ≡ party → T (idsRise 0 (b .users)) → T (not (eqb 0 party)) → (area : ℕ)
     → holding (viewOf party b) u area ≡ holding b u area
 unfolding holding viewOf tradesSeen sold bought borne asBorne
-holding-seen party b u e r n area = subst (λ (id : ℕ). ofId id ≡ ofId' id) (sym e) seen
+holding-seen party b u e r n area =
+    rw (e, sum-seen (λ v. v .physical) us party area, sum-seen (λ v. v .position) us party area, sells 0, buys 0, sells 1, buys 1)
   where
     us : List User
     us = b .users
@@ -115,23 +108,6 @@ holding-seen party b u e r n area = subst (λ (id : ℕ). ofId id ≡ ofId' id) 
     ts : List Trade
     ts = kept (seesTrade us party) (b .trades)
 
-    of : List User → List Trade → ℕ → Holding
-    of ws ns id =
-        record {
-          physical = borneSum (λ v. v .physical) ws id area;
-          position = borneSum (λ v. v .position) ws id area;
-          sold = sold (map (asBorne ws) ns) id area 0;
-          bought = bought (map (asBorne ws) ns) id area 0;
-          soldNext = sold (map (asBorne ws) ns) id area 1;
-          boughtNext = bought (map (asBorne ws) ns) id area 1;
-        }
-
-    ofId : ℕ → Holding
-    ofId id = of vs ts id
-
-    ofId' : ℕ → Holding
-    ofId' id = of us (b .trades) id
-
     sells : (day : ℕ) → sold (map (asBorne vs) ts) party area day ≡ sold (map (asBorne us) (b .trades)) party area day
     sells day =
         dealt-seen (λ r. r .seller) party us vs area day (λ t. bearer-seen party us r n (t .terms .seller) (t .terms .area)) (seller-sees party us) (b .trades)
@@ -139,13 +115,3 @@ holding-seen party b u e r n area = subst (λ (id : ℕ). ofId id ≡ ofId' id) 
     buys : (day : ℕ) → bought (map (asBorne vs) ts) party area day ≡ bought (map (asBorne us) (b .trades)) party area day
     buys day =
         dealt-seen (λ r. r .buyer) party us vs area day (λ t. bearer-seen party us r n (t .terms .buyer) (t .terms .area)) (buyer-sees party us) (b .trades)
-
-    seen : ofId party ≡ ofId' party
-    seen =
-        let x = sum-seen (λ v. v .physical) us party area in
-        let y = sum-seen (λ v. v .position) us party area in
-        let s0 = sells 0 in
-        let b0 = buys 0 in
-        let s1 = sells 1 in
-        let b1 = buys 1 in
-        λ i. record { physical = x i; position = y i; sold = s0 i; bought = b0 i; soldNext = s1 i; boughtNext = b1 i }

@@ -1,14 +1,12 @@
 -- Over two books in which ids rise and that agree on what a party may see: they agree on its record, on whether it is in the book, on its levels and its flag. Assumes nothing.
-use Rattle.base.specs.Basics.{_≡_, _∙_, ap, ap₂, refl, subst, sym, Bool, true, false, not, cond, _||_, List, [], _∷_, ℕ, _<_, arith, T, eqb, eqb→eq}
-use Rattle.base.specs.Basics.{ltb, ltb→lt, not-T}
+use Rattle.base.specs.Basics.{_≡_, _∙_, ap, ap₂, refl, subst, sym, Bool, false, not, _||_, List, [], _∷_, ℕ, _<_, arith, T, eqb, eqb→eq, ltb, ltb→lt, not-T}
+use Rattle.base.specs.Basics.{eqb-true, T-not}
 use Rattle.base.specs.Lists.{any}
 use Rattle.laws.proofs.Users.{known-id}
-use Rattle.base.proofs.Tests.{and-l, and-r, by-case, eqb-of, or-l}
-use Rattle.rules.specs.Book.{Book, Header, User, find, nobody}
+use Rattle.base.proofs.Tests.{and-l, and-r, by-case, eqb-of, or-l, by-test, holds, fails}
+use Rattle.rules.specs.{Book.Book, Book.Header, Book.User, Book.find, Book.nobody, Questions.idsRise, Questions.known}
 use Rattle.rules.specs.Levels.{Holding, Limits, afternoonLevel, afternoonSum, flagged, flaggedFrom, floored, holding, morningLevel, morningSum}
-use Rattle.rules.specs.Questions.{idsRise, known}
-use Rattle.views.proofs.Kept.{find-kept}
-use Rattle.views.proofs.Seen.{holding-seen}
+use Rattle.views.proofs.{Kept.find-kept, Seen.holding-seen}
 use Rattle.laws_sales.specs.Kept.{kept}
 use Rattle.views.specs.Views.{seesUser, tradesSeen, viewOf}
 
@@ -18,11 +16,8 @@ use Rattle.views.specs.Views.{seesUser, tradesSeen, viewOf}
 find-none : (us : List User) (id : ℕ) → known us id ≡ false → find us id ≡ nobody
 unfolding find known any
 find-none [] id k = refl
-find-none (u ∷ us) id k = go (eqb (u .party .id) id) (find-none us id) k
-  where
-    go : (c : Bool) → (known us id ≡ false → find us id ≡ nobody) → (c || known us id) ≡ false → cond c u (find us id) ≡ nobody
-    go true rest e = absurd (subst (λ (x : Bool). T x) e tt)
-    go false rest e = rest e
+find-none (u ∷ us) id k =
+    by-case (eqb (u .party .id) id) (λ e. absurd (subst (λ (x : Bool). T x) (rw e at k) tt)) (λ e. rw e (find-none us id (rw e at k)))
 
 -- ids rise from above 0, so none is 0
 pub known-above : (us : List User) (low id : ℕ) → T (idsRise low us) → T (known us id) → low < id
@@ -30,17 +25,11 @@ unfolding idsRise known any
 known-above [] low id r k = absurd k
 known-above (u ∷ us) low id r k =
     let lt : low < u .party .id = ltb→lt low (u .party .id) (and-l (ltb low (u .party .id)) (idsRise (u .party .id) us) r) in
-    go (eqb (u .party .id) id) lt (eqb→eq (u .party .id) id) (known-above us (u .party .id) id (and-r (ltb low (u .party .id)) (idsRise (u .party .id) us) r)) k
-  where
-    go : (c : Bool) → low < u .party .id → (T c → u .party .id ≡ id) → (T (known us id) → u .party .id < id) → T (c || known us id) → low < id
-    go true lt f rest k = let e = f tt in omega arith
-    go false lt f rest k = let h = rest k in omega arith
+    by-case (eqb (u .party .id) id) (λ e. omega (arith, eqb-true (u .party .id) id e))
+    (λ e. omega (arith, known-above us (u .party .id) id (and-r (ltb low (u .party .id)) (idsRise (u .party .id) us) r) (rw e at k)))
 
 known-some : (us : List User) (id : ℕ) → T (idsRise 0 us) → T (known us id) → T (not (eqb 0 id))
-known-some us id r k = not-T (eqb 0 id) (λ t. clash (known-above us 0 id r k) (eqb→eq 0 id t))
-  where
-    clash : 0 < id → 0 ≡ id → ⊥
-    clash a b = omega arith
+known-some us id r k = not-T (eqb 0 id) (λ t. omega (arith, known-above us 0 id r k, eqb→eq 0 id t))
 
 -- ---- in what the party sees
 
@@ -50,44 +39,22 @@ unfolding seesUser
 own-sees party u e = or-l (eqb (u .party .id) party) _ (eqb-of (u .party .id) party e)
 
 own-seen : (party : ℕ) (us : List User) → T (idsRise 0 us) → find (kept (seesUser party) us) party ≡ find us party
-own-seen party us r = find-kept (seesUser party) us 0 party r ∙ by-case (known us party) seen unseen
-  where
-    chosen : (c : Bool) (u : User) → T c → cond c u nobody ≡ u
-    chosen true u h = refl
-    chosen false u h = absurd h
-
-    either : (c : Bool) → cond c nobody nobody ≡ nobody
-    either true = refl
-    either false = refl
-
-    seen : known us party ≡ true → cond (seesUser party (find us party)) (find us party) nobody ≡ find us party
-    seen e = chosen (seesUser party (find us party)) (find us party) (own-sees party (find us party) (known-id us party (subst (λ (c : Bool). T c) (sym e) tt)))
-
-    unseen : known us party ≡ false → cond (seesUser party (find us party)) (find us party) nobody ≡ find us party
-    unseen e = rw (find-none us party e) (either (seesUser party nobody))
+own-seen party us r =
+    let u = find us party in
+    find-kept (seesUser party) us 0 party r
+    ∙ by-test (λ (v : User). v ≡ u) (seesUser party u) (λ t. refl)
+    (λ t. by-case (known us party) (λ e. absurd (T-not (seesUser party u) t (own-sees party u (known-id us party (holds e)))))
+    (λ e. sym (find-none us party e)))
 
 known-seen : (party : ℕ) (us : List User) → known (kept (seesUser party) us) party ≡ known us party
 unfolding known any kept
 known-seen party [] = refl
-known-seen party (u ∷ us) = go (seesUser party u) (eqb (u .party .id) party) refl (λ t. own-sees party u (eqb→eq (u .party .id) party t)) (known-seen party us)
-  where
-    go : (s c : Bool) → eqb (u .party .id) party ≡ c → (T c → T s) → known (kept (seesUser party) us) party ≡ known us party
-        → known (cond s (u ∷ kept (seesUser party) us) (kept (seesUser party) us)) party ≡ (c || known us party)
-    go true c e f rest = ap₂ (λ (x y : Bool). x || y) e rest
-    go false true e f rest = absurd (f tt)
-    go false false e f rest = rest
+known-seen party (u ∷ us) =
+    by-case (seesUser party u) (λ s. rw s (ap (λ (c : Bool). eqb (u .party .id) party || c) (known-seen party us)))
+    (λ s. by-case (eqb (u .party .id) party)
+    (λ e. absurd (T-not (seesUser party u) (fails s) (own-sees party u (eqb-true (u .party .id) party e)))) (λ e. rw (s, e) (known-seen party us)))
 
 -- ---- two books
-
--- what the rules make of a header, a user's record and what it holds
-morningOf : Limits → Header → User → (ℕ → Holding) → ℕ
-morningOf limits f u h = floored limits (morningSum (f .prices) h (u .party .charges))
-
-afternoonOf : Limits → Header → User → (ℕ → Holding) → ℕ
-afternoonOf limits f u h = floored limits (afternoonSum (f .prices) h (u .party .charges))
-
-flagOf : Limits → Header → User → (ℕ → Holding) → Bool
-flagOf limits f u h = flaggedFrom limits (f .prices) u h
 
 module _ (party : ℕ) (b c : Book) (r : T (idsRise 0 (b .users))) (q : T (idsRise 0 (c .users))) (e : viewOf party b ≡ viewOf party c) where
   pub same-header : b .header ≡ c .header
@@ -115,20 +82,22 @@ module _ (party : ℕ) (b c : Book) (r : T (idsRise 0 (b .users))) (q : T (idsRi
         ∙ ap₂ (λ (v : Book) (u : User). holding v u) e same-user
         ∙ (λ i area. holding-seen party c (find (c .users) party) (known-id (c .users) party m) q n area i)
 
+    -- and so is what the rules make of a header, a user's record and what it holds
+    same-of : {A : Type 0} (of : Header → User → (ℕ → Holding) → A)
+        → of (b .header) (find (b .users) party) (holding b (find (b .users) party))
+        ≡ of (c .header) (find (c .users) party) (holding c (find (c .users) party))
+    same-of of =
+        ap (λ (f : Header). of f (find (b .users) party) (holding b (find (b .users) party))) same-header
+        ∙ ap₂ (λ (u : User) (h : ℕ → Holding). of (c .header) u h) same-user same-holding
+
     pub same-morning : (limits : Limits) → morningLevel limits b (find (b .users) party) ≡ morningLevel limits c (find (c .users) party)
-    unfolding morningLevel morningOf
-    same-morning limits =
-        ap (λ (f : Header). morningOf limits f (find (b .users) party) (holding b (find (b .users) party))) same-header
-        ∙ ap₂ (λ (u : User) (h : ℕ → Holding). morningOf limits (c .header) u h) same-user same-holding
+    unfolding morningLevel
+    same-morning limits = same-of (λ f u h. floored limits (morningSum (f .prices) h (u .party .charges)))
 
     pub same-afternoon : (limits : Limits) → afternoonLevel limits b (find (b .users) party) ≡ afternoonLevel limits c (find (c .users) party)
-    unfolding afternoonLevel afternoonOf
-    same-afternoon limits =
-        ap (λ (f : Header). afternoonOf limits f (find (b .users) party) (holding b (find (b .users) party))) same-header
-        ∙ ap₂ (λ (u : User) (h : ℕ → Holding). afternoonOf limits (c .header) u h) same-user same-holding
+    unfolding afternoonLevel
+    same-afternoon limits = same-of (λ f u h. floored limits (afternoonSum (f .prices) h (u .party .charges)))
 
     pub same-flag : (limits : Limits) → flagged limits b (find (b .users) party) ≡ flagged limits c (find (c .users) party)
-    unfolding flagged flagOf
-    same-flag limits =
-        ap (λ (f : Header). flagOf limits f (find (b .users) party) (holding b (find (b .users) party))) same-header
-        ∙ ap₂ (λ (u : User) (h : ℕ → Holding). flagOf limits (c .header) u h) same-user same-holding
+    unfolding flagged
+    same-flag limits = same-of (λ f u h. flaggedFrom limits (f .prices) u h)

@@ -1,8 +1,7 @@
 -- `user_offset_from`: where the users begin, and the records of those before. Assumes nothing.
 use Rattle.base.specs.Basics.{_*_, _≤_, mul-le-mul, arith, now}
 use Rattle.book_format.specs.Book.{versionOf}
-use Rattle.book_format.proofs.Offsets.{header-range, user-range, user-there}
-use Rattle.book_format.proofs.Places.{user-lies, user-low}
+use Rattle.book_format.proofs.{Offsets.header-range, Offsets.user-range, Offsets.user-there, Places.user-lies, Places.user-low}
 use Rattle.book_format.proofs.user_offset_from.Statement.{statement}
 use Rattle.book_format.proofs.user_offset_from.Tie as tie
 
