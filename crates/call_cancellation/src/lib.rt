@@ -60,10 +60,10 @@ fn eligible_at(book: &[u8], at: usize, i: usize, seller: u8, buyer: u8, place: u
     requires { ⌜ TradeIn (now book) at i ⌝ }
     ensures { λ r. ⌜ r ≡ ((eqb seller place && not (eqb buyer place)) && (bilateralForDay (getD (tradesOf (now (book .entry))) i noTrade) && ltb 0 (getD (tradesOf (now (book .entry))) i noTrade .standing))) ⌝ }
 {
-    if cut_lists::index(seller) != place {
+    if indices::index(seller) != place {
         return false;
     }
-    if cut_lists::index(buyer) == place {
+    if indices::index(buyer) == place {
         return false;
     }
     let t = book_format::trade_at(book, at, i);
