@@ -6,9 +6,9 @@ use Rattle.book_format.specs.After.{after, stepAfter, unchanged}
 use Rattle.book_format.specs.Book.{bookOf}
 use Rattle.book_format.specs.Questions.{bookNumber}
 use Rattle.book_format.specs.Steps.{Called, stepBytes}
-use Rattle.requests.proofs.Opened.{opening-zero, request-opened}
+use Rattle.requests.proofs.Opened.{opening-zero, outcome, request-opened}
 use Rattle.requests.specs.Carried.{Carried}
-use Rattle.requests.specs.Request.{Outcome, Setting, callIn, limitsOn, opening, outcome, request}
+use Rattle.requests.specs.Request.{Outcome, Setting, callIn, limitsOn, opening, request}
 
 module _ (g : Setting) (c : Call) (s : List ℕ) where
   -- ---- passed
@@ -24,13 +24,13 @@ module _ (g : Setting) (c : Call) (s : List ℕ) where
   unfolding outcome
   passed-called e k =
       let h = request-passed e in
-      record { answer = k .answer ∙ ap (λ (x : Outcome). x .answer) h; bytes = k .bytes ∙ ap (λ (x : Outcome). x .bytes) h }
+      record { answer = k .answer ∙ ap (λ (x : Outcome (List ℕ)). x .answer) h; bytes = k .bytes ∙ ap (λ (x : Outcome (List ℕ)). x .book) h }
 
   pub passed-carried : {a : Answer} {t : List ℕ} → opening (bookNumber s) g s ≡ 0 → Called (limitsOn g (bookOf s)) s c a t → Carried (callIn g c) s a t
   unfolding outcome
   passed-carried e k =
       let h = sym (request-passed e) in
-      record { answer = k .answer ∙ ap (λ (x : Outcome). x .answer) h; bytes = k .bytes ∙ ap (λ (x : Outcome). x .bytes) h }
+      record { answer = k .answer ∙ ap (λ (x : Outcome (List ℕ)). x .answer) h; bytes = k .bytes ∙ ap (λ (x : Outcome (List ℕ)). x .book) h }
 
   -- ---- refused
 
@@ -40,4 +40,4 @@ module _ (g : Setting) (c : Call) (s : List ℕ) where
   opening-refused {n = n} e k =
       let limits = limitsOn g (bookOf s) in
       let h = request-opened g s c ∙ ap (λ (m : ℕ). outcome (stepAfter m limits s c)) e in
-      (k .answer ∙ ap (λ (x : Outcome). x .answer) h, k .bytes ∙ ap (λ (x : Outcome). x .bytes) h)
+      (k .answer ∙ ap (λ (x : Outcome (List ℕ)). x .answer) h, k .bytes ∙ ap (λ (x : Outcome (List ℕ)). x .book) h)

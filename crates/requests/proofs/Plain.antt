@@ -14,9 +14,9 @@ use Rattle.book_format.specs.Book.{bookOf, userAt, userSize, versionOf}
 use Rattle.book_format.specs.Questions.{aboutBytes, bookNumber}
 use Rattle.book_format.specs.Steps.{Called, placeOf, replyBytes, shownPart, stepBytes}
 use Rattle.store.specs.Store.{aboutStore, limitsOf, storeNumber}
-use Rattle.requests.proofs.Opened.{first-alone, request-opened}
+use Rattle.requests.proofs.Opened.{first-alone, outcome, request-opened}
 use Rattle.requests.specs.Carried.{Carried, partShown}
-use Rattle.requests.specs.Request.{Outcome, Setting, enquiry, enquiryAfter, limitsOn, opening, outcome, request, requestOf}
+use Rattle.requests.specs.Request.{Outcome, Setting, enquiry, enquiryAfter, limitsOn, opening, openingIn, request, requestOf}
 
 -- the setting of a call of document 01
 unfoldable pub alone : Setting
@@ -24,7 +24,7 @@ alone = record { store = none }
 
 -- nothing is asked but the questions of the book
 opening-alone : (s : List ℕ) → opening (bookNumber s) alone s ≡ bookNumber s
-unfolding opening storeNumber aboutStore alone refusal numberOf
+unfolding openingIn storeNumber aboutStore alone refusal numberOf
 opening-alone s = first-alone (bookNumber s)
 
 -- ---- calls
@@ -41,14 +41,14 @@ pub plain-called : {s t : List ℕ} {c : Call} {a : Answer} → Carried (request
 unfolding outcome
 plain-called {s} {c = c} k =
     let e = request-alone s c in
-    record { answer = k .answer ∙ ap (λ (x : Outcome). x .answer) e; bytes = k .bytes ∙ ap (λ (x : Outcome). x .bytes) e }
+    record { answer = k .answer ∙ ap (λ (x : Outcome (List ℕ)). x .answer) e; bytes = k .bytes ∙ ap (λ (x : Outcome (List ℕ)). x .book) e }
 
 -- and the other way round
 pub plain-carried : {s t : List ℕ} {c : Call} {a : Answer} → Called today s c a t → Carried (requestOf none c) s a t
 unfolding outcome
 plain-carried {s} {c = c} k =
     let e = sym (request-alone s c) in
-    record { answer = k .answer ∙ ap (λ (x : Outcome). x .answer) e; bytes = k .bytes ∙ ap (λ (x : Outcome). x .bytes) e }
+    record { answer = k .answer ∙ ap (λ (x : Outcome (List ℕ)). x .answer) e; bytes = k .bytes ∙ ap (λ (x : Outcome (List ℕ)). x .book) e }
 
 -- ---- queries
 
