@@ -10,9 +10,6 @@ Inv-loop best base low from until spare k₀ k = NoneBetter best base until spar
 abbrev μ-loop : tie.MeasureT-loop
 μ-loop best base low from until spare k₀ k = until - k
 
-loop-holds : tie.Need-loop-holds Inv-loop μ-loop
-loop-holds c = none-first (c .pre .inside)
-
 add-is-better : tie.Need-add-is-better Inv-loop μ-loop
 add-is-better c =
     let t = c .before in
@@ -29,19 +26,14 @@ add-k c =
     let t = c .before .before .before in
     record { fits = omega (arith, t .loop-test .taken, t .before .before .pre .few) }
 
-loop-less : tie.Need-loop-less Inv-loop μ-loop
-loop-less c = omega (arith, c .before .before .before .loop-test .taken)
-
 loop-again : tie.Need-loop-again Inv-loop μ-loop
 loop-again c =
     let b = c .before in
     let t = b .before .before in
     none-more (t .before .loop .inv) (t .loop-test .taken) (b .is-better .ensures) (c .if1 .left)
 
-returns-2 : tie.Need-returns-2 Inv-loop μ-loop
-returns-2 c = first-none (c .before .loop .inv) (c .loop-test .left)
-
 pub first-better-spec : {M : Type 1} → statement M
 first-better-spec =
     tie.close
-    (tie.spec Inv-loop μ-loop loop-holds (λ c. search needs) (λ c. search needs) add-is-better (λ c κs. search needs) returns add-k loop-less loop-again returns-2)
+    (tie.spec Inv-loop μ-loop (λ c. none-first (c .pre .inside)) (λ c. search needs) (λ c. search needs) add-is-better (λ c κs. search needs) returns add-k
+    (λ c. omega (arith, c .before .before .before .loop-test .taken)) loop-again (λ c. first-none (c .before .loop .inv) (c .loop-test .left)))

@@ -19,9 +19,6 @@ abbrev μ-loop : tie.MeasureT-loop
 abbrev start : tie.At-loop Inv-loop μ-loop → tie.Start Inv-loop μ-loop
 start l = l .before .before .before .before .before .before
 
-sub-spare : tie.Need-sub-spare Inv-loop μ-loop
-sub-spare c = omega (arith, c .pre .reached)
-
 table-requires : tie.Need-table-requires Inv-loop μ-loop
 table-requires c κs =
     let g = c .before .before in
@@ -156,6 +153,6 @@ returns-2 c =
 pub search-spec : {M : Type 1} → statement M
 search-spec =
     tie.close
-    (tie.spec Inv-loop μ-loop sub-spare (λ c κs. search needs) (λ c κs. search needs) (λ c κs. search needs) table-requires add-table table-requires-2 loop-holds
-    (λ c. search needs) array-read-through mul-lesser add-lesser (λ c κs. search needs) through-requires found-requires returns loop-less loop-again
-    found-requires-2 returns-2)
+    (tie.spec Inv-loop μ-loop (λ c. omega (arith, c .pre .reached)) (λ c κs. search needs) (λ c κs. search needs) (λ c κs. search needs) table-requires
+    add-table table-requires-2 loop-holds (λ c. search needs) array-read-through mul-lesser add-lesser (λ c κs. search needs) through-requires
+    found-requires returns loop-less loop-again found-requires-2 returns-2)

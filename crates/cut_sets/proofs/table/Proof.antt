@@ -28,12 +28,6 @@ worth-of-requires c κs =
     let a = l .before .args in
     (l .before .pre .given, set-inside (a .n) (a .step) (a .count) (l .loop .j) (l .before .pre .inside) (c .loop-test .taken))
 
-mul-table : tie.Need-mul-table Inv-loop μ-loop
-mul-table c = omega (arith, c .before .before .before .pre .room)
-
-array-write-table : tie.Need-array-write-table Inv-loop μ-loop
-array-write-table c = omega (arith, c .before .before .before .pre .room)
-
 loop-again : tie.Need-loop-again Inv-loop μ-loop
 loop-again c =
     let l = c .before .before in
@@ -55,8 +49,8 @@ table-spec =
     loop-holds
     mul-worth-of
     worth-of-requires
-    mul-table
-    array-write-table
+    (λ c. omega (arith, c .before .before .before .pre .room))
+    (λ c. omega (arith, c .before .before .before .pre .room))
     (λ c. search needs)
     (λ c. search needs)
     loop-again

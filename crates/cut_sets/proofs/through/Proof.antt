@@ -14,12 +14,6 @@ abbrev μ-loop : tie.MeasureT-loop
 abbrev looked : tie.After-first-better Inv-loop μ-loop → tie.At-loop Inv-loop μ-loop
 looked c = c .before .before .before .before .before
 
-loop-holds : tie.Need-loop-holds Inv-loop μ-loop
-loop-holds c = going-first (c .pre)
-
-returns : tie.Need-returns Inv-loop μ-loop
-returns c = going-end (c .before .before .before .before .loop .inv) (inl (c .if2 .taken))
-
 first-better-requires : tie.Need-first-better-requires Inv-loop μ-loop
 first-better-requires c κs =
     let l = c .before .before .before .before in
@@ -62,5 +56,5 @@ returns-3 c =
 pub through-spec : {M : Type 1} → statement M
 through-spec =
     tie.close
-    (tie.spec Inv-loop μ-loop loop-holds returns first-better-requires returns-2 (λ c. search needs) (λ c. search needs) add-t14 add-t15 loop-less loop-again
-    returns-3)
+    (tie.spec Inv-loop μ-loop (λ c. going-first (c .pre)) (λ c. going-end (c .before .before .before .before .loop .inv) (inl (c .if2 .taken)))
+    first-better-requires returns-2 (λ c. search needs) (λ c. search needs) add-t14 add-t15 loop-less loop-again returns-3)

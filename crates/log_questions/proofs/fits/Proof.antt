@@ -13,9 +13,6 @@ returns : tie.Need-returns
 unfolding logFits
 returns c = rw (sym (sym (not-true _ (c .if1 .taken)) ∙ c .before .is-formed .ensures))
 
-holds-book-requires : tie.Need-holds-book-requires
-holds-book-requires c κs = formed c
-
 returns-2 : tie.Need-returns-2
 unfolding logFits
 returns-2 c =
@@ -36,4 +33,4 @@ returns-3 c =
 pub fits-spec : {M : Type 1} → statement M
 fits-spec =
     tie.close
-    (tie.spec (λ c κs. search needs) returns holds-book-requires returns-2 is-used-as-told-requires returns-3)
+    (tie.spec (λ c κs. search needs) returns (λ c κs. formed c) returns-2 is-used-as-told-requires returns-3)
