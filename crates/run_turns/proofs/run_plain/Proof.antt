@@ -10,12 +10,12 @@ use Rattle.run_turns.proofs.run_plain.Statement.{statement}
 use Rattle.run_turns.proofs.run_plain.Tie as tie
 
 abbrev Inv-loop : tie.InvT-loop
-Inv-loop book n sums starts standing₀ areas buyers positions₀ eligible₀ targets₀ cuts₀ rests₀ day due totals₀ place₀ standing positions eligible targets cuts rests totals place =
+Inv-loop book n sums starts standing₀ areas sale-buyers positions₀ eligible₀ targets₀ cuts₀ rests₀ day due totals₀ place₀ standing positions eligible targets cuts rests totals place =
     RunTo (asLimits (day .limits)) book n standing positions targets eligible cuts rests totals place × (totals₀ .reductions ≤ totals .reductions)
     × (64 ≤ totals₀ .reductions → ManyStand n starts standing₀ standing)
 
 abbrev μ-loop : tie.MeasureT-loop
-μ-loop book n sums starts standing₀ areas buyers positions₀ eligible₀ targets₀ cuts₀ rests₀ day due totals₀ place₀ standing positions eligible targets cuts rests totals place = 25600000 - totals .reductions
+μ-loop book n sums starts standing₀ areas sale-buyers positions₀ eligible₀ targets₀ cuts₀ rests₀ day due totals₀ place₀ standing positions eligible targets cuts rests totals place = 25600000 - totals .reductions
 
 loop-holds : tie.Need-loop-holds Inv-loop μ-loop
 loop-holds c = (c .before .pre .1, omega arith, λ h. many-start _)
@@ -26,7 +26,7 @@ is-kept-requires c κs =
     let q = s .pre .0 .0 in
     let many = s .pre .0 .1 in
     let k = c .loop-test .taken in
-    (omega (arith, k, many, q .form .users), part-rises q (omega (arith, k, many)))
+    (omega (arith, k, many, q .risk .opened .accepted .held .form .users), part-rises q (omega (arith, k, many)))
 
 returns : tie.Need-returns Inv-loop μ-loop
 returns c =
@@ -41,7 +41,7 @@ plain-turn-requires c κs =
     let at-loop = c .before .before .before .before .before .before .before .before .before in
     let p = at-loop .loop .inv .0 in
     let k = c .before .before .before .before .before .before .before .before .loop-test .taken in
-    ((q, omega (arith, k, many), p .here k), (run-ongoing many (q .sound) p, p .none-cut, p .rests-room))
+    ((q, omega (arith, k, many), p .here k), (run-ongoing many (q .risk .opened .accepted .sound) p, p .none-cut, p .rests-room))
 
 with-requires : tie.Need-with-requires Inv-loop μ-loop
 with-requires c κs =
@@ -51,7 +51,7 @@ with-requires c κs =
     let at-loop = c .before .before .before .before .before .before .before .before .before .before .before in
     let p = at-loop .loop .inv .0 in
     let k = c .before .before .before .before .before .before .before .before .before .before .loop-test .taken in
-    (run-within many (q .sound) p, turn-within many (q .sound) p k (c .before .plain-turn .ensures .0 (p .book) (p .going) .turned))
+    (run-within many (q .risk .opened .accepted .sound) p, turn-within many (q .risk .opened .accepted .sound) p k (c .before .plain-turn .ensures .0 (p .book) (p .going) .turned))
 
 next-from-requires : tie.Need-next-from-requires Inv-loop μ-loop
 next-from-requires c κs =
@@ -61,7 +61,7 @@ next-from-requires c κs =
     let at-loop = c .before .before .before .before .before .before .before .before .before .before .before .before .before in
     let p = at-loop .loop .inv .0 in
     let k = c .before .before .before .before .before .before .before .before .before .before .before .before .loop-test .taken in
-    (omega (arith, k, c .before .before .before .plain-turn .ensures .0 (p .book) (p .going) .turned .least-most), omega (arith, many, q .form .users))
+    (omega (arith, k, c .before .before .before .plain-turn .ensures .0 (p .book) (p .going) .turned .least-most), omega (arith, many, q .risk .opened .accepted .held .form .users))
 
 loop-less : tie.Need-loop-less Inv-loop μ-loop
 unfolding ofRun
@@ -72,7 +72,7 @@ loop-less c =
     let at-loop = c .before .before .before .before .before .before .before .before .before .before .before .before .before .before in
     let p = at-loop .loop .inv .0 in
     let k = c .before .before .before .before .before .before .before .before .before .before .before .before .before .loop-test .taken in
-    omega (arith, run-more many (q .sound) p k, ap (λ (z : Answer). z .reductions) (c .before .before .with .ensures))
+    omega (arith, run-more many (q .risk .opened .accepted .sound) p k, ap (λ (z : Answer). z .reductions) (c .before .before .with .ensures))
 
 loop-again : tie.Need-loop-again Inv-loop μ-loop
 unfolding ofRun
@@ -86,7 +86,7 @@ loop-again c =
     let t = c .before .before .before .before .plain-turn .ensures in
     let with = c .before .before .with .ensures in
     let tested = c .before .before .before .before .before .before .before .before .before .before .before in (
-      run-turn many (q .sound) p k (t .0 (p .book) (p .going) .turned) (t .1 .0) (t .1 .1) with (c .next-from .ensures),
+      run-turn many (q .risk .opened .accepted .sound) p k (t .0 (p .book) (p .going) .turned) (t .1 .0) (t .1 .1) with (c .next-from .ensures),
       omega (arith, at-loop .loop .inv .1, ap (λ (z : Answer). z .reductions) with),
       λ h. many-turn many (tested .before .is-kept .ensures .1 (tested .if1 .left) (omega (arith, at-loop .loop .inv .1))) (at-loop .loop .inv .2 h) (t .1 .2),
     )

@@ -10,23 +10,23 @@ use Rattle.run_turns.proofs.long.run_long.Statement.{statement}
 use Rattle.run_turns.proofs.long.run_long.Tie as tie
 
 abbrev Inv-loop : tie.InvT-loop
-Inv-loop book n sums starts standing₀ areas buyers positions₀ eligible₀ targets₀ cuts₀ rests₀ day due kept₀ totals₀ place₀ standing positions eligible targets cuts rests kept totals place =
+Inv-loop book n sums starts standing₀ areas sale-buyers positions₀ eligible₀ targets₀ cuts₀ rests₀ day due kept₀ totals₀ place₀ standing positions eligible targets cuts rests kept totals place =
     RunTo (asLimits (day .limits)) book n standing positions targets eligible cuts rests totals place × KeepsAll (asPrices (day .prices)) n starts standing areas kept
     × (place < n → (64 ≤ totals .reductions) × (getD starts place 0 + 8 < getD starts (place + 1) 0))
 
 abbrev μ-loop : tie.MeasureT-loop
-μ-loop book n sums starts standing₀ areas buyers positions₀ eligible₀ targets₀ cuts₀ rests₀ day due kept₀ totals₀ place₀ standing positions eligible targets cuts rests kept totals place = 25600000 - totals .reductions
+μ-loop book n sums starts standing₀ areas sale-buyers positions₀ eligible₀ targets₀ cuts₀ rests₀ day due kept₀ totals₀ place₀ standing positions eligible targets cuts rests kept totals place = 25600000 - totals .reductions
 
 loop-holds : tie.Need-loop-holds Inv-loop μ-loop
 loop-holds c =
     let s = c .before .before in
-    (s .pre .1 .0, keeps-start (omega (arith, s .pre .0 .1, s .pre .0 .0 .form .users)) (c .nothing .ensures), s .pre .1 .1)
+    (s .pre .1 .0, keeps-start (omega (arith, s .pre .0 .1, s .pre .0 .0 .risk .opened .accepted .held .form .users)) (c .nothing .ensures), s .pre .1 .1)
 
 mul-was : tie.Need-mul-was Inv-loop μ-loop
-mul-was c = let s = c .before .before .before .before in omega (arith, c .loop-test .taken, s .pre .0 .1, s .pre .0 .0 .form .users)
+mul-was c = let s = c .before .before .before .before in omega (arith, c .loop-test .taken, s .pre .0 .1, s .pre .0 .0 .risk .opened .accepted .held .form .users)
 
 array-copy-out-was : tie.Need-array-copy-out-was Inv-loop μ-loop
-array-copy-out-was c = let s = c .before .before .before .before in omega (arith, c .loop-test .taken, s .pre .0 .1, s .pre .0 .0 .form .users)
+array-copy-out-was c = let s = c .before .before .before .before in omega (arith, c .loop-test .taken, s .pre .0 .1, s .pre .0 .0 .risk .opened .accepted .held .form .users)
 
 next-turn-requires : tie.Need-next-turn-requires Inv-loop μ-loop
 next-turn-requires c κs =
@@ -36,13 +36,19 @@ next-turn-requires c κs =
     let at-loop = c .before .before .before .before .before .before .before .before in
     let p = at-loop .loop .inv .0 in
     let k = c .before .before .before .before .before .before .before .loop-test .taken in
-    ((q, omega (arith, k, many), p .here k), ((run-ongoing many (q .sound) p, p .none-cut, p .rests-room), at-loop .loop .inv .1 .each _ _ k (at-loop .loop .inv .2 k .1)))
+    ((q, omega (arith, k, many), p .here k), ((run-ongoing many (q .risk .opened .accepted .sound) p, p .none-cut, p .rests-room), at-loop .loop .inv .1 .each _ _ k (at-loop .loop .inv .2 k .1)))
 
 mul-kept : tie.Need-mul-kept Inv-loop μ-loop
-mul-kept c = let s = c .before .before .before .before .before .before .before .before .before .before .before .before .before in omega (arith, c .before .before .before .before .before .before .before .before .before .loop-test .taken, s .pre .0 .1, s .pre .0 .0 .form .users)
+mul-kept c =
+    let turn = c .before .before .before .before .before .before .before .before .before in
+    let s = turn .before .before .before .before in
+    omega (arith, turn .loop-test .taken, s .pre .0 .1, s .pre .0 .0 .risk .opened .accepted .held .form .users)
 
 array-set-from-kept : tie.Need-array-set-from-kept Inv-loop μ-loop
-array-set-from-kept c = let s = c .before .before .before .before .before .before .before .before .before .before .before .before .before in omega (arith, c .before .before .before .before .before .before .before .before .before .loop-test .taken, s .pre .0 .1, s .pre .0 .0 .form .users)
+array-set-from-kept c =
+    let turn = c .before .before .before .before .before .before .before .before .before in
+    let s = turn .before .before .before .before in
+    omega (arith, turn .loop-test .taken, s .pre .0 .1, s .pre .0 .0 .risk .opened .accepted .held .form .users)
 
 with-requires : tie.Need-with-requires Inv-loop μ-loop
 with-requires c κs =
@@ -52,7 +58,7 @@ with-requires c κs =
     let at-loop = c .before .before .before .before .before .before .before .before .before .before .before in
     let p = at-loop .loop .inv .0 in
     let k = c .before .before .before .before .before .before .before .before .before .before .loop-test .taken in
-    (run-within many (q .sound) p, turn-within many (q .sound) p k (c .before .before .next-turn .ensures .0 (p .book) (p .going) .turned))
+    (run-within many (q .risk .opened .accepted .sound) p, turn-within many (q .risk .opened .accepted .sound) p k (c .before .before .next-turn .ensures .0 (p .book) (p .going) .turned))
 
 next-from-requires : tie.Need-next-from-requires Inv-loop μ-loop
 next-from-requires c κs =
@@ -62,7 +68,7 @@ next-from-requires c κs =
     let at-loop = c .before .before .before .before .before .before .before .before .before .before .before .before .before in
     let p = at-loop .loop .inv .0 in
     let k = c .before .before .before .before .before .before .before .before .before .before .before .before .loop-test .taken in
-    (omega (arith, k, c .before .before .before .before .next-turn .ensures .0 (p .book) (p .going) .turned .least-most), omega (arith, many, q .form .users))
+    (omega (arith, k, c .before .before .before .before .next-turn .ensures .0 (p .book) (p .going) .turned .least-most), omega (arith, many, q .risk .opened .accepted .held .form .users))
 
 run-plain-requires : tie.Need-run-plain-requires Inv-loop μ-loop
 run-plain-requires c κs =
@@ -73,7 +79,7 @@ run-plain-requires c κs =
     let p = at-loop .loop .inv .0 in
     let k = c .before .before .before .before .before .before .before .before .before .before .before .before .before .before .before .before .before .before .before .loop-test .taken in
     let t = c .before .before .before .before .before .before .before .before .before .before .before .next-turn .ensures in
-    ((q, many), run-turn many (q .sound) p k (t .0 (p .book) (p .going) .turned) (t .1 .0) (t .1 .1) (c .before .before .before .before .before .before .before .before .with .ensures) (c .before .before .before .before .before .before .next-from .ensures))
+    ((q, many), run-turn many (q .risk .opened .accepted .sound) p k (t .0 (p .book) (p .going) .turned) (t .1 .0) (t .1 .1) (c .before .before .before .before .before .before .before .before .with .ensures) (c .before .before .before .before .before .before .next-from .ensures))
 
 loop-less : tie.Need-loop-less Inv-loop μ-loop
 unfolding ofRun
@@ -84,7 +90,7 @@ loop-less c =
     let at-loop = c .before .before .before .before .before .before .before .before .before .before .before .before .before .before .before .before .before .before .before .before .before .before in
     let p = at-loop .loop .inv .0 in
     let k = c .before .before .before .before .before .before .before .before .before .before .before .before .before .before .before .before .before .before .before .before .before .loop-test .taken in
-    omega (arith, run-more many (q .sound) p k, ap (λ (z : Answer). z .reductions) (c .before .before .before .before .before .before .before .before .before .before .with .ensures), c .before .run-plain .ensures .1 .0)
+    omega (arith, run-more many (q .risk .opened .accepted .sound) p k, ap (λ (z : Answer). z .reductions) (c .before .before .before .before .before .before .before .before .before .before .with .ensures), c .before .run-plain .ensures .1 .0)
 
 loop-again : tie.Need-loop-again Inv-loop μ-loop
 unfolding ofRun
@@ -99,14 +105,14 @@ loop-again c =
     let r = c .before .run-plain .ensures in
     let more = ap (λ (z : Answer). z .reductions) (c .before .before .before .before .before .before .before .before .before .before .with .ensures) in (
       r .0,
-      keeps-stand (keeps-turn (at-loop .loop .inv .1) many (omega (arith, k, many, q .form .users)) (t .1 .2) (t .1 .3)) (r .1 .1 (omega (arith, more, at-loop .loop .inv .2 k .0))),
+      keeps-stand (keeps-turn (at-loop .loop .inv .1) many (omega (arith, k, many, q .risk .opened .accepted .held .form .users)) (t .1 .2) (t .1 .3)) (r .1 .1 (omega (arith, more, at-loop .loop .inv .2 k .0))),
       r .1 .2,
     )
 
 returns : tie.Need-returns Inv-loop μ-loop
 returns c =
     let s = c .before .before .before .before in
-    run-end (s .pre .0 .1) (s .pre .0 .0 .sound) (c .before .loop .inv .0) (c .loop-test .left)
+    run-end (s .pre .0 .1) (s .pre .0 .0 .risk .opened .accepted .sound) (c .before .loop .inv .0) (c .loop-test .left)
 
 pub run-long-spec : {M : Type 1} → statement M
 run-long-spec =
