@@ -2,7 +2,7 @@
 // 256 trades in the book's format, 0 past the header and the user records of the book's version and past the counts. A book is read into an
 // image, and written from the fields of one: the bytes of that book are asked what any bytes are asked.
 ghost use mathlib.Core.Path.{_≡_};
-ghost use Prim.Native.Nat.{_-_, _≤_, _+_, _*_, min};
+ghost use Prim.Native.Nat.{_-_, _≤_, _+_, _*_};
 ghost use lib.Dec.{T};
 ghost use lib.ListN.{length, replicate, take, drop};
 ghost use lib.Seq.{sets};
@@ -63,16 +63,6 @@ fn fill_part(image: &mut [u8], at: usize, end: usize, front: &[u8])
 
 // ---- records of another size
 
-// The lesser of two sizes.
-fn least(a: usize, b: usize) -> usize
-    ensures { λ r. ⌜ r ≡ min a b ⌝ }
-{
-    if a < b {
-        return a;
-    }
-    b
-}
-
 // Writes the first `kept` bytes that stand from `from` on as `size` bytes from `to` on, with 0 behind them.
 fn fit(s: &[u8], from: usize, kept: usize, out: &mut [u8], to: usize, size: usize)
     requires { ⌜ (from + kept ≤ length (now s)) × (to + size ≤ length (now out)) × (kept ≤ size) ⌝ }
@@ -117,7 +107,7 @@ fn fit_each(
     requires { ⌜ (from + size * n ≤ length (now s)) × (to + «new_size» * n ≤ length (now out)) ⌝ }
     ensures { λ _. ⌜ now (out .exit) ≡ sets (now (out .entry)) to (refitted «new_size» size n (drop from (now (s .entry)))) ⌝ }
 {
-    let kept = least(size, new_size);
+    let kept = indices::lesser(size, new_size);
     let mut i = 0;
     while i < n {
         fit_record(s, from + size * i, kept, out, to + new_size * i, new_size);

@@ -4,9 +4,11 @@ use units::Cents;
 use units::Energy;
 ghost use mathlib.Core.Path.{_≡_};
 ghost use Prim.Native.Nat.{_-_};
+ghost use Rattle.requests.specs.Cancellation.{notCancelled};
 ghost use Rattle.rules.specs.Calls.{only, ofCuts};
 ghost use Rattle.cut_worth.specs.Tallies.{asTally};
 ghost use Rattle.call_answers.specs.Call as call;
+ghost use Rattle.call_answers.specs.Cancellation.{cancellationOf};
 ghost use Rattle.call_answers.specs.Reduction as reduction;
 ghost use Rattle.call_answers.specs.Run as run;
 
@@ -110,6 +112,33 @@ impl RunAnswer {
             reductions: 0,
             mwh: Energy(0),
             worth: Cents(0),
+        }
+    }
+}
+
+// ---- a whole cancellation
+
+// The marks of the trades to cancel, by trade place, what their worth exceeds the target by, the tries made, whether the search is
+// complete, and 0; or no mark, 0 in every field and the number of the first question that is answered by no.
+pub struct CancellationAnswer {
+    pub number: u32,
+    pub marks: [bool; 256],
+    pub excess: Cents,
+    pub tries: u32,
+    pub complete: bool,
+}
+
+impl CancellationAnswer {
+    // A number alone.
+    pub fn refused(number: u32) -> CancellationAnswer
+        ensures { λ r. ⌜ cancellationOf r ≡ notCancelled number ⌝ }
+    {
+        CancellationAnswer {
+            number: number,
+            marks: [false; 256],
+            excess: Cents(0),
+            tries: 0,
+            complete: false,
         }
     }
 }

@@ -1,4 +1,4 @@
--- The answer of the rules that the code's answer is, and what a cancellation gives past the user's id. Assumes nothing.
+-- What a cancellation gives past the user's id. Assumes nothing.
 use Rattle.base.specs.Basics.{[], _∷_, _++_, ℕ}
 use Rattle.rules.specs.Book.{Book, User}
 use Rattle.rules.specs.Calls.{eligibleTrade}
@@ -7,11 +7,6 @@ use Rattle.rules.specs.Questions.{decided, refusal}
 use Rattle.rules.specs.Reduction.{target}
 use Rattle.call_questions.specs.Asked.{levelQuestions}
 use Rattle.requests.specs.Cancellation.{Cancellation, cancelled, cancelledFor, notCancelled, worthSuffices}
-use Rattle.call_cancellation.specs.declared.CancellationAnswer.{CancellationAnswer}
-
--- the same number, marks and amounts
-abbrev pub cancellationOf : CancellationAnswer → Cancellation
-cancellationOf a = record { number = a .number; marks = a .marks; excess = a .excess .0; tries = a .tries; complete = a .complete }
 
 -- the questions 14 and 24, and the cancellation for an amount
 unfoldable pub onSales : Book → User → ℕ → ℕ → Cancellation

@@ -1,6 +1,7 @@
 // A whole cancellation on a lent book in bytes: its questions, the worths of the user's eligible trades, of both tiers, the search among
 // their sets (`cut_sets`), and the marks of the set that it found, by trade place. It changes no book. Everywhere `book` has m trades,
 // which begin at `at`, and `sellers` and `buyers` have the places of those who bear the risk of their sellers and of their buyers.
+use call_answers::CancellationAnswer;
 use risk_user::Day;
 use units::Area;
 use units::Cents;
@@ -18,39 +19,15 @@ ghost use Rattle.book_format.specs.Places.{TradeIn};
 ghost use Rattle.book_format.specs.Questions.{bookNumber};
 ghost use Rattle.units.specs.Limits.{asLimits, LimitsInRange};
 ghost use Rattle.book_questions.specs.Asked.{PartiesFound};
-ghost use Rattle.requests.specs.Cancellation.{cancellationAfter, notCancelled, triesInRange};
+ghost use Rattle.requests.specs.Cancellation.{cancellationAfter, triesInRange};
 ghost use Rattle.rules.specs.Areas.{tariff};
 ghost use Rattle.rules.specs.Book.{bilateralForDay, noTrade, nobody};
 ghost use Rattle.rules.specs.Questions.{numberOf, refusal};
 ghost use Rattle.run_reduction.specs.Books.{Runnable};
 ghost use Rattle.units.specs.Prices.{asPrices, InRange};
-ghost use Rattle.call_cancellation.specs.Call.{cancellationOf, onSales, onUser};
+ghost use Rattle.call_answers.specs.Cancellation.{cancellationOf};
+ghost use Rattle.call_cancellation.specs.Call.{onSales, onUser};
 ghost use Rattle.call_cancellation.specs.Sales.{Selling, Worths, setsOf, unmarked};
-
-// The marks of the trades to cancel, by trade place, what their worth exceeds the target by, the tries made, whether the search is
-// complete, and 0; or no mark, 0 in every field and the number of the first question that is answered by no.
-pub struct CancellationAnswer {
-    pub number: u32,
-    pub marks: [bool; 256],
-    pub excess: Cents,
-    pub tries: u32,
-    pub complete: bool,
-}
-
-impl CancellationAnswer {
-    // A number alone.
-    fn refused(number: u32) -> CancellationAnswer
-        ensures { λ r. ⌜ cancellationOf r ≡ notCancelled number ⌝ }
-    {
-        CancellationAnswer {
-            number: number,
-            marks: [false; 256],
-            excess: Cents(0),
-            tries: 0,
-            complete: false,
-        }
-    }
-}
 
 // ---- the eligible trades
 
@@ -60,10 +37,10 @@ fn eligible_at(book: &[u8], at: usize, i: usize, seller: u8, buyer: u8, place: u
     requires { ⌜ TradeIn (now book) at i ⌝ }
     ensures { λ r. ⌜ r ≡ ((eqb seller place && not (eqb buyer place)) && (bilateralForDay (getD (tradesOf (now (book .entry))) i noTrade) && ltb 0 (getD (tradesOf (now (book .entry))) i noTrade .standing))) ⌝ }
 {
-    if cut_lists::index(seller) != place {
+    if indices::index(seller) != place {
         return false;
     }
-    if cut_lists::index(buyer) == place {
+    if indices::index(buyer) == place {
         return false;
     }
     let t = book_format::trade_at(book, at, i);

@@ -89,11 +89,11 @@ module _ {limits : Limits} {f : Prices} {s sellers parties sums : List ℕ} (r :
   asked-level e = e ∙ ap (λ (g : Prices). levelAt limits g (usersOf s) sums ps place) (r .prices-are) ∙ level-own (bookOf s) (r .twelve) p place member limits
 
   -- and whether it is called in
-  pub asked-called : {called cut : Bool} → called ≡ (flaggedAt limits f (usersOf s) ps place || cut)
-      → cut ≡ cutBefore (idAt (usersIn s) place) (tradesIn s) → called ≡ calledIn limits (bookOf s) (getD (usersOf s) place nobody)
+  pub asked-called : {called below : Bool} → called ≡ (flaggedAt limits f (usersOf s) ps place || below)
+      → below ≡ cutBefore (idAt (usersIn s) place) (tradesIn s) → called ≡ calledIn limits (bookOf s) (getD (usersOf s) place nobody)
   unfolding bookOf
-  asked-called {called} {cut} e c =
-      called-own (bookOf s) (r .twelve) p place member limits (e ∙ ap (λ (g : Prices). flaggedAt limits g (usersOf s) ps place || cut) (r .prices-are))
+  asked-called {called} {below} e c =
+      called-own (bookOf s) (r .twelve) p place member limits (e ∙ ap (λ (g : Prices). flaggedAt limits g (usersOf s) ps place || below) (r .prices-are))
       (c ∙ ap (λ (id : ℕ). cutBefore id (tradesIn s)) (id-in s place))
 
   module _ {level : ℕ} {called : Bool} (le : level ≡ afternoonLevel limits (bookOf s) (getD (usersOf s) place nobody)) (ce : called ≡ calledIn limits (bookOf s) (getD (usersOf s) place nobody))

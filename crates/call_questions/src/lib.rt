@@ -52,8 +52,8 @@ pub fn shortfall_at(
     let n = book_format::user_count(book) as usize;
     let m = book_format::trade_count(book) as usize;
     run_positions::fill_positions(book, n, positions);
-    let cut = cut_parties::cut_at(book, n, m, sellers, parties, place);
-    let called = risk_user::called_at(book, positions, place, cut, day);
+    let below_notified = cut_parties::below_notified_at(book, n, m, sellers, parties, place);
+    let called = risk_user::called_at(book, positions, place, below_notified, day);
     let level = risk_user::level_at(book, sums, positions, place, day);
     let number = refused_by(risk_user::state_of(book, place, level, called, day));
     if number != 0 {

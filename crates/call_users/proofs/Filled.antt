@@ -26,9 +26,9 @@ users-few s e = omega (arith, users-many s, passed s e .form .users)
 
 -- ---- a flag of one user
 
-pub cut-at : (s : List ℕ) {flags : List Bool} → CutFlags (usersIn s) (tradesIn s) flags → (i : ℕ) → i < userCount s
+pub flag-at : (s : List ℕ) {flags : List Bool} → CutFlags (usersIn s) (tradesIn s) flags → (i : ℕ) → i < userCount s
     → getD flags i false ≡ cutBefore (getD (usersOf s) i nobody .party .id) (tradesIn s)
-cut-at s p i h = p .each i (omega (arith, length-usersIn s)) ∙ ap (λ (id : ℕ). cutBefore id (tradesIn s)) (id-in s i)
+flag-at s p i h = p .each i (omega (arith, length-usersIn s)) ∙ ap (λ (id : ℕ). cutBefore id (tradesIn s)) (id-in s i)
 
 -- ---- the rows
 

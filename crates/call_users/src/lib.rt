@@ -58,8 +58,8 @@ fn no_users() -> [UserLevels; 64]
 
 // ---- one user
 
-// The state of the shipper at a place, whose record was read, by what it holds as its risk is borne and its afternoon level. `cut`: it is
-// then party to a trade standing below notified.
+// The state of the shipper at a place, whose record was read, by what it holds as its risk is borne and its afternoon level.
+// `below_notified`: it is then party to a trade standing below notified.
 fn state_at(
     book: &[u8],
     place: usize,
@@ -67,17 +67,17 @@ fn state_at(
     holdings: Holdings,
     limits: Limits,
     level: Cents,
-    cut: bool,
+    below_notified: bool,
 ) -> State
     requires { ⌜ UsersIn (asLimits limits) (now book) × (place < userCount (now book)) ⌝ }
     requires { ⌜ (asUser user ≡ alone (getD (usersOf (now book)) place nobody)) × HoldingsOf (now book) place holdings ⌝ }
-    requires { ⌜ (level .0 ≡ afternoonLevel (asLimits limits) (bookOf (now book)) (getD (usersOf (now book)) place nobody)) × (cut ≡ cutBefore (getD (usersOf (now book)) place nobody .party .id) (tradesIn (now book))) ⌝ }
+    requires { ⌜ (level .0 ≡ afternoonLevel (asLimits limits) (bookOf (now book)) (getD (usersOf (now book)) place nobody)) × («below_notified» ≡ cutBefore (getD (usersOf (now book)) place nobody .party .id) (tradesIn (now book))) ⌝ }
     ensures { λ r. ⌜ stateOf r ≡ day.state (asLimits limits) (bookOf (now (book .entry))) (getD (usersOf (now (book .entry))) place nobody) ⌝ }
 {
     let prices = book_header::read_prices(book);
     let position = holdings.positions();
     let blocked = user.blocked;
-    let called = risk_levels::called_in(limits, prices, blocked, position, cut);
+    let called = risk_levels::called_in(limits, prices, blocked, position, below_notified);
     let day = Day {
         limits: limits,
         prices: prices,
@@ -86,9 +86,15 @@ fn state_at(
 }
 
 // The levels and the state of the user at a place, given the sums of each user.
-fn levels_at(book: &[u8], sums: &[u32; 768], place: usize, limits: Limits, cut: bool) -> UserLevels
+fn levels_at(
+    book: &[u8],
+    sums: &[u32; 768],
+    place: usize,
+    limits: Limits,
+    below_notified: bool,
+) -> UserLevels
     requires { ⌜ UsersIn (asLimits limits) (now book) × SumsOf (now book) (now sums) × (place < userCount (now book)) ⌝ }
-    requires { ⌜ cut ≡ cutBefore (getD (usersOf (now book)) place nobody .party .id) (tradesIn (now book)) ⌝ }
+    requires { ⌜ «below_notified» ≡ cutBefore (getD (usersOf (now book)) place nobody .party .id) (tradesIn (now book)) ⌝ }
     ensures { λ r. ⌜ asRow r ≡ levelsOf (asLimits limits) (bookOf (now (book .entry))) (getD (usersOf (now (book .entry))) place nobody) ⌝ }
 {
     let user = book_format::user_at(book, place);
@@ -103,7 +109,15 @@ fn levels_at(book: &[u8], sums: &[u32; 768], place: usize, limits: Limits, cut: 
     let holdings = risk_members::holdings_of(book, sums, place, user);
     let morning = call_level::level_of(book, place, user, holdings, limits, false);
     let afternoon = call_level::level_of(book, place, user, holdings, limits, true);
-    let state = state_at(book, place, user, holdings, limits, afternoon, cut);
+    let state = state_at(
+        book,
+        place,
+        user,
+        holdings,
+        limits,
+        afternoon,
+        below_notified,
+    );
     UserLevels {
         id: user.id,
         state: state,
@@ -114,22 +128,22 @@ fn levels_at(book: &[u8], sums: &[u32; 768], place: usize, limits: Limits, cut: 
 
 // ---- all users
 
-// The levels and the state of each of n users; `cut` says which of them are, as the risk is borne, party to a trade standing below
-// notified.
+// The levels and the state of each of n users; `below_notified` says which of them are, as the risk is borne, party to a trade standing
+// below notified.
 fn rows_of(
     book: &[u8],
     n: usize,
     sums: &[u32; 768],
-    cut: &[bool; 64],
+    below_notified: &[bool; 64],
     limits: Limits,
 ) -> [UserLevels; 64]
-    requires { ⌜ UsersIn (asLimits limits) (now book) × SumsOf (now book) (now sums) × (n ≡ userCount (now book)) × CutFlags (usersIn (now book)) (tradesIn (now book)) (now cut) ⌝ }
+    requires { ⌜ UsersIn (asLimits limits) (now book) × SumsOf (now book) (now sums) × (n ≡ userCount (now book)) × CutFlags (usersIn (now book)) (tradesIn (now book)) (now «below_notified») ⌝ }
     ensures { λ r. ⌜ map asRow r ≡ userRows (asLimits limits) (bookOf (now (book .entry))) ⌝ }
 {
     let mut rows = no_users();
     let mut i = 0;
     while i < n {
-        rows[i] = levels_at(book, sums, i, limits, cut[i]);
+        rows[i] = levels_at(book, sums, i, limits, below_notified[i]);
         i += 1;
     }
     rows
@@ -137,9 +151,14 @@ fn rows_of(
 
 // Fills in a flag for each user that is, as the risk is borne, party to a trade standing below notified, given the places of the trades'
 // sellers and buyers.
-fn fill_cut(book: &[u8], sellers: &[u8; 256], buyers: &[u8; 256], cut: &mut [bool; 64])
-    requires { ⌜ BookIn (now book) (now sellers) (now buyers) × (now cut ≡ replicate 64 false) ⌝ }
-    ensures { λ _. ⌜ CutFlags (usersIn (now (book .entry))) (tradesIn (now (book .entry))) (now (cut .exit)) ⌝ }
+fn fill_below_notified(
+    book: &[u8],
+    sellers: &[u8; 256],
+    buyers: &[u8; 256],
+    below_notified: &mut [bool; 64],
+)
+    requires { ⌜ BookIn (now book) (now sellers) (now buyers) × (now «below_notified» ≡ replicate 64 false) ⌝ }
+    ensures { λ _. ⌜ CutFlags (usersIn (now (book .entry))) (tradesIn (now (book .entry))) (now («below_notified» .exit)) ⌝ }
 {
     let n = book_format::user_count(book) as usize;
     let m = book_format::trade_count(book) as usize;
@@ -155,10 +174,17 @@ fn fill_cut(book: &[u8], sellers: &[u8; 256], buyers: &[u8; 256], cut: &mut [boo
             &mut bearing_buyers,
             &mut borne,
         );
-        cut_parties::fill_cut(book, n, m, &bearing_sellers, &bearing_buyers, cut);
+        cut_parties::fill_below_notified(
+            book,
+            n,
+            m,
+            &bearing_sellers,
+            &bearing_buyers,
+            below_notified,
+        );
         return;
     }
-    cut_parties::fill_cut(book, n, m, sellers, buyers, cut);
+    cut_parties::fill_below_notified(book, n, m, sellers, buyers, below_notified);
 }
 
 // The levels and the state of every user, after the opening questions, whose number is given with the places of the trades' parties and the
@@ -184,9 +210,9 @@ pub fn levels(
         };
     }
     let n = book_format::user_count(book) as usize;
-    let mut cut = [false; 64];
-    fill_cut(book, sellers, buyers, &mut cut);
-    let users = rows_of(book, n, sums, &cut, limits);
+    let mut below_notified = [false; 64];
+    fill_below_notified(book, sellers, buyers, &mut below_notified);
+    let users = rows_of(book, n, sums, &below_notified, limits);
     LevelsAnswer {
         number: 0,
         users: users,

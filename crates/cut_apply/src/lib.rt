@@ -106,7 +106,7 @@ fn cut_sale(
 {
     if 0 < cut {
         let t = book_format::trade_at(book, at, place);
-        let area = cut_lists::index(t.area);
+        let area = indices::index(t.area);
         move_parties(book, seller, buyer, area, cut as u32);
         places[lost] = place as u8;
         amounts[lost] = cut;
@@ -136,9 +136,9 @@ fn move_all(
     let mut lost = 0;
     let mut k = from;
     while k < to {
-        let place = cut_lists::index(origins[k]);
-        let seller = cut_lists::index(sellers[place]);
-        let buyer = cut_lists::index(parties[place]);
+        let place = indices::index(origins[k]);
+        let seller = indices::index(sellers[place]);
+        let buyer = indices::index(parties[place]);
         let cut = cuts[k];
         lost = cut_sale(book, at, seller, buyer, place, cut, lost, places, amounts);
         k += 1;

@@ -15,37 +15,37 @@ ghost use Rattle.rules.specs.Book.{noTrade};
 ghost use Rattle.cut_parties.specs.Flags.{CutFlags};
 
 // Fills in a flag for each user that is party to a trade standing below notified, of a book of n users and m trades.
-pub fn fill_cut(
+pub fn fill_below_notified(
     book: &[u8],
     n: usize,
     m: usize,
     sellers: &[u8; 256],
     buyers: &[u8; 256],
-    cut: &mut [bool; 64],
+    below_notified: &mut [bool; 64],
 )
     requires { ⌜ BorneIn (now book) (now sellers) (now buyers) × (n ≡ userCount (now book)) × (m ≡ tradeCount (now book)) ⌝ }
-    requires { ⌜ now cut ≡ replicate 64 false ⌝ }
-    ensures { λ _. ⌜ CutFlags (usersIn (now (book .entry))) (tradesIn (now (book .entry))) (now (cut .exit)) ⌝ }
+    requires { ⌜ now «below_notified» ≡ replicate 64 false ⌝ }
+    ensures { λ _. ⌜ CutFlags (usersIn (now (book .entry))) (tradesIn (now (book .entry))) (now («below_notified» .exit)) ⌝ }
 {
     let at = book_format::trades_offset(book, n);
     let mut i = 0;
     while i < m {
         let t = book_format::trade_at(book, at, i);
         let below = t.standing.0 < t.notified.0;
-        let seller = cut_lists::index(sellers[i]);
-        cut[seller] = cut[seller] | below;
-        let buyer = cut_lists::index(buyers[i]);
-        cut[buyer] = cut[buyer] | below;
+        let seller = indices::index(sellers[i]);
+        below_notified[seller] = below_notified[seller] | below;
+        let buyer = indices::index(buyers[i]);
+        below_notified[buyer] = below_notified[buyer] | below;
         i += 1;
     }
 }
 
 // Is the user at a place one of the parties of the trade i, at their places, and does the trade stand below notified?
-fn is_cut(book: &[u8], at: usize, i: usize, seller: u8, buyer: u8, place: usize) -> bool
+fn is_below_notified(book: &[u8], at: usize, i: usize, seller: u8, buyer: u8, place: usize) -> bool
     requires { ⌜ TradeIn (now book) at i ⌝ }
     ensures { λ r. ⌜ r ≡ (eqb seller place || eqb buyer place) && ltb (getD (tradesOf (now (book .entry))) i noTrade .standing) (getD (tradesOf (now (book .entry))) i noTrade .terms .notified) ⌝ }
 {
-    let party = (cut_lists::index(seller) == place) | (cut_lists::index(buyer) == place);
+    let party = (indices::index(seller) == place) | (indices::index(buyer) == place);
     if !party {
         return false;
     }
@@ -54,7 +54,7 @@ fn is_cut(book: &[u8], at: usize, i: usize, seller: u8, buyer: u8, place: usize)
 }
 
 // Is the user at a place party to a trade standing below notified? The same of one user alone.
-pub fn cut_at(
+pub fn below_notified_at(
     book: &[u8],
     n: usize,
     m: usize,
@@ -68,7 +68,7 @@ pub fn cut_at(
     let at = book_format::trades_offset(book, n);
     let mut i = 0;
     while i < m {
-        if is_cut(book, at, i, sellers[i], buyers[i], place) {
+        if is_below_notified(book, at, i, sellers[i], buyers[i], place) {
             return true;
         }
         i += 1;

@@ -41,16 +41,6 @@ impl Best {
     }
 }
 
-// The lesser of two numbers.
-fn lesser(one: usize, other: usize) -> usize
-    ensures { λ r. ⌜ r ≡ min one other ⌝ }
-{
-    if one < other {
-        return one;
-    }
-    other
-}
-
 // The number of sets of n trades, or 65,536, more than can be tried.
 fn sets_of(n: usize) -> usize
     ensures { λ r. ⌜ r ≡ min (2 ^ n) 65536 ⌝ }
@@ -180,8 +170,8 @@ pub fn search(worths: &[u64; 256], n: usize, together: u64, asked: u64, tries: u
 {
     let spare = together - asked;
     let sets = sets_of(n);
-    let limit = lesser(tries, sets);
-    let low = table(worths, n, 1, lesser(limit, 256));
+    let limit = indices::lesser(tries, sets);
+    let low = table(worths, n, 1, indices::lesser(limit, 256));
     let high = table(worths, n, 256, (limit + 255) / 256);
     let mut best = Best {
         left: 0,
@@ -190,7 +180,13 @@ pub fn search(worths: &[u64; 256], n: usize, together: u64, asked: u64, tries: u
     };
     while best.made < limit {
         let h = best.made / 256;
-        best = through(best, high[h], &low, lesser(256 * h + 256, limit), spare);
+        best = through(
+            best,
+            high[h],
+            &low,
+            indices::lesser(256 * h + 256, limit),
+            spare,
+        );
         if best.out == spare {
             return best.found(spare, sets);
         }

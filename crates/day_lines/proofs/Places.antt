@@ -39,7 +39,7 @@ line-of limits b r u e {z} {level} {printed} hs hl hp =
 
 -- ---- what a line is told from
 
-module _ {limits : Limits} {f : Prices} {s sums ps : List ℕ} {place : ℕ} {cut : Bool} (p : LineAsked limits f s sums ps place cut) where
+module _ {limits : Limits} {f : Prices} {s sums ps : List ℕ} {place : ℕ} {below : Bool} (p : LineAsked limits f s sums ps place below) where
   member : place < length (usersOf s)
   member = omega (arith, length-usersOf s, p .inside)
 
@@ -56,11 +56,11 @@ module _ {limits : Limits} {f : Prices} {s sums ps : List ℕ} {place : ℕ} {cu
       h ∙ ap (λ (g : Prices). levelAt limits g (usersOf s) sums ps place) (p .prices-are) ∙ level-own (bookOf s) (p .twelve) (p .positions) place member limits
 
   -- and the state
-  pub line-state : {level : ℕ} {called : Bool} {z : State} → level ≡ levelAt limits f (usersOf s) sums ps place → called ≡ (flaggedAt limits f (usersOf s) ps place || cut)
+  pub line-state : {level : ℕ} {called : Bool} {z : State} → level ≡ levelAt limits f (usersOf s) sums ps place → called ≡ (flaggedAt limits f (usersOf s) ps place || below)
       → z ≡ stateBy limits (getD (usersOf s) place nobody) level called → z ≡ state limits (bookOf s) (getD (usersOf s) place nobody)
   unfolding bookOf
   line-state {level} {called} h c z =
       let u = getD (usersOf s) place nobody in
       let called-is : called ≡ calledIn limits (bookOf s) u
-      = called-own (bookOf s) (p .twelve) (p .positions) place member limits (c ∙ ap (λ (g : Prices). flaggedAt limits g (usersOf s) ps place || cut) (p .prices-are)) (p .cut-is) in
+      = called-own (bookOf s) (p .twelve) (p .positions) place member limits (c ∙ ap (λ (g : Prices). flaggedAt limits g (usersOf s) ps place || below) (p .prices-are)) (p .below-is) in
       z ∙ state-own limits (bookOf s) u (line-level h) called-is

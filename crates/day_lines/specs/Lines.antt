@@ -29,7 +29,7 @@ lineIn limits b i = getD (day.lines limits b) i (day.line limits b nobody)
 
 -- an accepted book with a user at a place, limits and the book's prices; as the risk is borne, the sums and the positions of its users, and whether the user is party to a trade
 -- standing below notified
-pub record LineAsked (limits : Limits) (f : Prices) (s sums ps : List ℕ) (place : ℕ) (cut : Bool) : Type 0 where
+pub record LineAsked (limits : Limits) (f : Prices) (s sums ps : List ℕ) (place : ℕ) (below : Bool) : Type 0 where
   pub passes : bookNumber s ≡ 0
   pub inside : place < userCount s
   pub limits-in : LimitsInRange limits
@@ -37,4 +37,4 @@ pub record LineAsked (limits : Limits) (f : Prices) (s sums ps : List ℕ) (plac
   pub twelve : TwelveOf (usersIn s) (tradesIn s) sums
   pub low : Low sums
   pub positions : PositionsOf (usersIn s) ps
-  pub cut-is : cut ≡ cutBefore (getD (usersOf s) place nobody .party .id) (tradesIn s)
+  pub below-is : below ≡ cutBefore (getD (usersOf s) place nobody .party .id) (tradesIn s)

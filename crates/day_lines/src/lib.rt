@@ -32,22 +32,23 @@ pub struct Line {
     pub position: [Net; 3],
 }
 
-// The line of the user at a place of an accepted book. `cut`: as the risk is borne, the user is party to a trade standing below notified.
+// The line of the user at a place of an accepted book. `below_notified`: as the risk is borne, the user is party to a trade standing below
+// notified.
 pub fn line_at(
     book: &[u8],
     sums: &[u32; 768],
     positions: &[u32; 192],
     place: usize,
-    cut: bool,
+    below_notified: bool,
     day: Day,
 ) -> Line
-    requires { ⌜ LineAsked (asLimits (day .limits)) (asPrices (day .prices)) (now book) (now sums) (now positions) place cut ⌝ }
+    requires { ⌜ LineAsked (asLimits (day .limits)) (asPrices (day .prices)) (now book) (now sums) (now positions) place «below_notified» ⌝ }
     ensures { λ r. ⌜ asLine r ≡ lineIn (asLimits (day .limits)) (bookOf (now (book .entry))) place ⌝ }
 {
     let user = book_format::user_at(book, place);
     let position = user.position;
     let level = risk_user::level_at(book, sums, positions, place, day);
-    let called = risk_user::called_at(book, positions, place, cut, day);
+    let called = risk_user::called_at(book, positions, place, below_notified, day);
     let state = risk_user::state_of(book, place, level, called, day);
     let printed = printed_level(user, level);
     Line {

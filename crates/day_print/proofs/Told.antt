@@ -43,7 +43,7 @@ lines-asked r passes e p c =
       twelve = r .twelve;
       low = r .low;
       positions = p;
-      cut = c;
+      below = c;
     }
 
 pub line-asked : {limits : Limits} {f : Prices} {s : List ℕ} {n : ℕ} {sums ps : List ℕ} {flags : List Bool} → LinesAsked limits f s n sums ps flags → (i : ℕ) → i < n
@@ -57,5 +57,5 @@ line-asked {s = s} p i h =
       twelve = p .twelve;
       low = p .low;
       positions = p .positions;
-      cut-is = p .cut .each i (omega (arith, length-usersIn s, p .users-are)) ∙ ap (λ (id : ℕ). cutBefore id (tradesIn s)) (id-in s i);
+      below-is = p .below .each i (omega (arith, length-usersIn s, p .users-are)) ∙ ap (λ (id : ℕ). cutBefore id (tradesIn s)) (id-in s i);
     }

@@ -23,4 +23,4 @@ pub record LinesAsked (limits : Limits) (f : Prices) (s : List ℕ) (n : ℕ) (s
   pub twelve : TwelveOf (usersIn s) (tradesIn s) sums
   pub low : Low sums
   pub positions : PositionsOf (usersIn s) ps
-  pub cut : CutFlags (usersIn s) (tradesIn s) flags
+  pub below : CutFlags (usersIn s) (tradesIn s) flags

@@ -71,21 +71,21 @@ fn line(line: Line) {
     io::write_all(STDOUT_FILENO, b"\n");
 }
 
-// The line of every user of an accepted book in bytes, in its order; `cut` says which of them are, as the risk is borne, party to a trade
-// standing below notified.
+// The line of every user of an accepted book in bytes, in its order; `below_notified` says which of them are, as the risk is borne, party
+// to a trade standing below notified.
 fn lines_of(
     book: &[u8],
     n: usize,
     sums: &[u32; 768],
     positions: &[u32; 192],
-    cut: &[bool; 64],
+    below_notified: &[bool; 64],
     day: Day,
 )
-    requires { ⌜ LinesAsked (asLimits (day .limits)) (asPrices (day .prices)) (now book) n (now sums) (now positions) (now cut) ⌝ }
+    requires { ⌜ LinesAsked (asLimits (day .limits)) (asPrices (day .prices)) (now book) n (now sums) (now positions) (now «below_notified») ⌝ }
 {
     let mut i = 0;
     while i < n {
-        line(day_lines::line_at(book, sums, positions, i, cut[i], day));
+        line(day_lines::line_at(book, sums, positions, i, below_notified[i], day));
         i += 1;
     }
 }
@@ -116,9 +116,16 @@ fn lines(book: &[u8])
     let m = book_format::trade_count(book) as usize;
     let mut positions = [0u32; 192];
     run_positions::fill_positions(book, n, &mut positions);
-    let mut cut = [false; 64];
-    cut_parties::fill_cut(book, n, m, &bearing_sellers, &bearing_buyers, &mut cut);
-    lines_of(book, n, &sums, &positions, &cut, day);
+    let mut below_notified = [false; 64];
+    cut_parties::fill_below_notified(
+        book,
+        n,
+        m,
+        &bearing_sellers,
+        &bearing_buyers,
+        &mut below_notified,
+    );
+    lines_of(book, n, &sums, &positions, &below_notified, day);
 }
 
 // The line of a refused book.

@@ -2,10 +2,10 @@
 ghost use mathlib.Core.List.{map};
 ghost use mathlib.Core.Path.{_≡_};
 ghost use lib.ListN.{length};
-ghost use Rattle.call_cancellation.specs.Call.{cancellationOf};
+ghost use Rattle.call_answers.specs.Cancellation.{cancellationOf};
 ghost use Rattle.exports_answers.specs.Numbers.{bit};
 ghost use Rattle.exports_cancellation.specs.Numbers.{cancellationNumbers, markNumbers};
-use call_cancellation::CancellationAnswer;
+use call_answers::CancellationAnswer;
 
 // Stores a number for each trade place: 1 where the trade is marked, else 0.
 fn store_marks(part: &mut [u8], marks: [bool; 256])

@@ -49,7 +49,7 @@ fn put_cuts(entry: &mut [u8], origins: &[u8; 256], cuts: &[u64; 256], from: usiz
 {
     let mut k = from;
     while k < to {
-        let place = cut_lists::index(origins[k]);
+        let place = indices::index(origins[k]);
         fields::put_u32(entry, 4 * place, cuts[k] as u32);
         k += 1;
     }

@@ -54,7 +54,7 @@ fn give_back_at(book: &mut [u8], at: usize, seller: usize, buyer: usize, place: 
     ensures { λ _. ⌜ HeldAs (backTo (bookOf (now (book .entry))) seller buyer place cut) (now (book .exit)) ⌝ }
 {
     let t = book_format::trade_at(book, at, place);
-    let area = cut_lists::index(t.area);
+    let area = indices::index(t.area);
     return_parties(book, seller, buyer, area, cut);
     book_format::put_trade(book, at, place, raised(t, cut));
 }
@@ -75,8 +75,8 @@ pub fn give_back(
     let mut k = 0;
     while k < m {
         let cut = fields::get_u32(entry, 4 * k);
-        let seller = cut_lists::index(sellers[k]);
-        let buyer = cut_lists::index(parties[k]);
+        let seller = indices::index(sellers[k]);
+        let buyer = indices::index(parties[k]);
         give_back_at(book, at, seller, buyer, k, cut);
         k += 1;
     }

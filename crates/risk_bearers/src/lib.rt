@@ -15,13 +15,6 @@ ghost use Rattle.rules.specs.Book.{Trade, nobody};
 ghost use Rattle.risk_bearers.specs.Bearers.{AllBorne, BearersOf, Bearing, IdsOf, SummedAt, bearerIn};
 ghost use Rattle.risk_bearers.specs.Rows.{Bearable, Cleared, NextBorne, Rows, RowsTo};
 
-// A place of a list as an index.
-fn index(place: u8) -> usize
-    ensures { λ r. ⌜ r ≡ place ⌝ }
-{
-    place as usize
-}
-
 // The place of who bears the risk of the user at a place in an area.
 pub fn bearer_of(bearers: &[u8; 192], place: u8, area: u8) -> u8
     requires { ⌜ (place < 64) × (area < 3) ⌝ }
@@ -56,8 +49,8 @@ pub fn bear_trades(
         let buyer = bearer_of(bearers, buyers[i], t.area);
         bearing_sellers[i] = seller;
         bearing_buyers[i] = buyer;
-        book_sums::add_trade(sums, index(seller), 0, t);
-        book_sums::add_trade(sums, index(buyer), 1, t);
+        book_sums::add_trade(sums, indices::index(seller), 0, t);
+        book_sums::add_trade(sums, indices::index(buyer), 1, t);
         i += 1;
     }
 }
@@ -79,7 +72,7 @@ fn bear_amount(own: &[u32; 192], bearers: &[u8; 192], rows: &mut [u32; 192], i: 
     ensures { λ _. ⌜ RowsTo i (area + 1) (now (own .entry)) (now (bearers .entry)) (now (rows .exit)) ⌝ }
 {
     let k = 3 * i + area;
-    let place = index(bearers[k]);
+    let place = indices::index(bearers[k]);
     add_amount(rows, 3 * place + area, own[k]);
 }
 

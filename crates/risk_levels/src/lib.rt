@@ -124,18 +124,18 @@ pub fn flagged(limits: Limits, prices: Prices, blocked: Cents, positions: [Net; 
     short.exceeds(allowed.plus(blocked))
 }
 
-// Is a user called in: flagged, or party to a trade standing below notified (`cut`)?
+// Is a user called in: flagged, or party to a trade standing below notified (`below_notified`)?
 pub fn called_in(
     limits: Limits,
     prices: Prices,
     blocked: Cents,
     positions: [Net; 3],
-    cut: bool,
+    below_notified: bool,
 ) -> bool
     requires { ⌜ LimitsInRange (asLimits limits) × InRange (asPrices prices) × (blocked .0 ≤ 1000000000000) ⌝ }
-    ensures { λ r. ⌜ ((u : User) → blocked .0 ≡ u .blocked → r ≡ flaggedFrom (asLimits limits) (asPrices prices) u (positioned positions) || cut) ⌝ }
+    ensures { λ r. ⌜ ((u : User) → blocked .0 ≡ u .blocked → r ≡ flaggedFrom (asLimits limits) (asPrices prices) u (positioned positions) || «below_notified») ⌝ }
 {
-    if cut {
+    if below_notified {
         return true;
     }
     flagged(limits, prices, blocked, positions)

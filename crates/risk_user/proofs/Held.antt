@@ -104,8 +104,8 @@ module _ (b : Book) (i : ℕ) (k : i < length (b .users)) where
         (exposure-same (b .header .prices) (positioned v) (holding b user) (λ area l. ap (λ (q : PerArea). at q area) e ∙ ap (λ (x : Holding). x .position) (own-row area)))
 
     -- and whether it is called in
-    pub called-row : (v : List Net) {r cut : Bool} → asAmounts v ≡ getD (borneBook b .users) i nobody .position → r ≡ (flaggedFrom limits f (getD (b .users) i nobody) (positioned v) || cut)
-        → cut ≡ cutBefore (getD (b .users) i nobody .party .id) (borneBook b .trades) → r ≡ calledIn limits b (getD (b .users) i nobody)
+    pub called-row : (v : List Net) {r below : Bool} → asAmounts v ≡ getD (borneBook b .users) i nobody .position → r ≡ (flaggedFrom limits f (getD (b .users) i nobody) (positioned v) || below)
+        → below ≡ cutBefore (getD (b .users) i nobody .party .id) (borneBook b .trades) → r ≡ calledIn limits b (getD (b .users) i nobody)
     unfolding calledIn
     called-row v e g c = g ∙ ap₂ (λ (x y : Bool). x || y) (flagged-row v e) (c ∙ sym (cut-borne-before limits b user))
 

@@ -40,10 +40,10 @@ module _ (b : Book) {sums ps : List ℕ} (w : TwelveOf (borneBook b .users) (bor
     level-own = level-next held-own limits (b .header .prices) (getD (b .users) i nobody)
 
     -- flagged, or party to a trade standing below notified
-    pub called-own : {r cut : Bool} → r ≡ (flaggedAt limits (b .header .prices) (b .users) ps i || cut) → cut ≡ cutBefore (getD (b .users) i nobody .party .id) (borneBook b .trades)
+    pub called-own : {r below : Bool} → r ≡ (flaggedAt limits (b .header .prices) (b .users) ps i || below) → below ≡ cutBefore (getD (b .users) i nobody .party .id) (borneBook b .trades)
         → r ≡ calledIn limits b (getD (b .users) i nobody)
     unfolding flaggedAt heldAt exposure calledIn flagged
-    called-own {r} {cut} e c =
+    called-own {r} {below} e c =
         e ∙ ap₂ (λ (x y : Bool). x || y) (flagged-next held-own limits (b .header .prices) (getD (b .users) i nobody)) (c ∙ sym (cut-borne-before limits b (getD (b .users) i nobody)))
 
 module _ (limits : Limits) (b : Book) (u : User) {level : ℕ} (e : level ≡ afternoonLevel limits b u) where

@@ -174,14 +174,20 @@ pub fn level_at(
     risk_levels::afternoon_level(day.limits, day.prices, charges, holdings)
 }
 
-// Is the user at a place called in: flagged, or party to a trade standing below notified (`cut`)?
-pub fn called_at(book: &[u8], positions: &[u32; 192], place: usize, cut: bool, day: Day) -> bool
+// Is the user at a place called in: flagged, or party to a trade standing below notified (`below_notified`)?
+pub fn called_at(
+    book: &[u8],
+    positions: &[u32; 192],
+    place: usize,
+    below_notified: bool,
+    day: Day,
+) -> bool
     requires { ⌜ DayOf (asLimits (day .limits)) (asPrices (day .prices)) (now book) × UserIn (now book) place ⌝ }
-    ensures { λ r. ⌜ r ≡ flaggedAt (asLimits (day .limits)) (asPrices (day .prices)) (usersOf (now (book .entry))) (now (positions .entry)) place || cut ⌝ }
+    ensures { λ r. ⌜ r ≡ flaggedAt (asLimits (day .limits)) (asPrices (day .prices)) (usersOf (now (book .entry))) (now (positions .entry)) place || «below_notified» ⌝ }
 {
     let blocked = blocked_at(book, place);
     let position = positions_at(positions, place);
-    risk_levels::called_in(day.limits, day.prices, blocked, position, cut)
+    risk_levels::called_in(day.limits, day.prices, blocked, position, below_notified)
 }
 
 // Does a level of the user at a place exceed its blocked guarantee by more than the margin?

@@ -31,7 +31,7 @@ module _ {limits : Limits} {f : Prices} {s sellers parties sums : List ℕ} (r :
         few = omega (arith, q .all, q .few);
         standing-room = l .room .standing-room;
         standing = listed-standing l refl;
-        cut = c;
+        below = c;
       }
 
   -- the run starts at its opening book

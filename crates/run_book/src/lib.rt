@@ -42,8 +42,8 @@ pub fn lost_of(standing: &[u64; 256], left: &mut [u64; 256], count: usize)
 
 // ---- the run
 
-// Runs a book of which the own sales are listed: fills in positions, who has been cut and who owes what, runs on in a copy of what stands,
-// and takes off what was lost.
+// Runs a book of which the own sales are listed: fills in positions, who is party to a trade standing below notified and who owes what,
+// runs on in a copy of what stands, and takes off what was lost.
 fn run_listed(
     book: &mut [u8],
     own_sellers: &[u8; 256],
@@ -68,8 +68,8 @@ fn run_listed(
     let m = book_format::trade_count(book) as usize;
     let mut positions = [0u32; 192];
     run_positions::fill_positions(book, n, &mut positions);
-    let mut cut = [false; 64];
-    cut_parties::fill_cut(book, n, m, sellers, parties, &mut cut);
+    let mut below_notified = [false; 64];
+    cut_parties::fill_below_notified(book, n, m, sellers, parties, &mut below_notified);
     let mut eligible = [false; 64];
     let mut targets = [0u64; 64];
     run_targets::fill_targets(
@@ -79,7 +79,7 @@ fn run_listed(
         &positions,
         starts,
         standing,
-        &cut,
+        &below_notified,
         &mut eligible,
         &mut targets,
         day,

@@ -90,8 +90,8 @@ pub fn run_on(
     }
 }
 
-// Runs a book of which the own sales are listed, and notes its reductions: positions, who has been cut and who owes what are filled in, the
-// run goes on in a copy of what stands, and what was lost is taken off.
+// Runs a book of which the own sales are listed, and notes its reductions: positions, who is party to a trade standing below notified and
+// who owes what are filled in, the run goes on in a copy of what stands, and what was lost is taken off.
 fn run_listed(
     book: &mut [u8],
     own_sellers: &[u8; 256],
@@ -119,8 +119,8 @@ fn run_listed(
     let m = book_format::trade_count(book) as usize;
     let mut positions = [0u32; 192];
     run_positions::fill_positions(book, n, &mut positions);
-    let mut cut = [false; 64];
-    cut_parties::fill_cut(book, n, m, sellers, parties, &mut cut);
+    let mut below_notified = [false; 64];
+    cut_parties::fill_below_notified(book, n, m, sellers, parties, &mut below_notified);
     let mut eligible = [false; 64];
     let mut targets = [0u64; 64];
     run_targets::fill_targets(
@@ -130,7 +130,7 @@ fn run_listed(
         &positions,
         starts,
         standing,
-        &cut,
+        &below_notified,
         &mut eligible,
         &mut targets,
         day,

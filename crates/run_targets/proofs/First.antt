@@ -27,23 +27,23 @@ use Rattle.laws_sales.specs.Parts.{part}
 
 -- ---- T or 0, by cases
 
-pub first-none : (flagged cut : Bool) (t : ℕ) (left : Bool) → not left ≡ true → 0 ≡ owedIf flagged left cut t
+pub first-none : (flagged below : Bool) (t : ℕ) (left : Bool) → not left ≡ true → 0 ≡ owedIf flagged left below t
 unfolding owedIf
-first-none flagged cut t true e = absurd (subst T (sym e) tt)
-first-none flagged cut t false e = refl
+first-none flagged below t true e = absurd (subst T (sym e) tt)
+first-none flagged below t false e = refl
 
 has-left : (left : Bool) → not left ≡ false → left ≡ true
 has-left true e = refl
 has-left false e = absurd (subst T e tt)
 
 module _ (t : ℕ) (left : Bool) (l : not left ≡ false) where
-  pub first-called : (flagged cut : Bool) {r : Bool} → r ≡ (flagged || cut) → r ≡ true → t ≡ owedIf flagged left cut t
+  pub first-called : (flagged below : Bool) {r : Bool} → r ≡ (flagged || below) → r ≡ true → t ≡ owedIf flagged left below t
   unfolding owedIf
-  first-called flagged cut g e = rw (has-left left l, sym g ∙ e)
+  first-called flagged below g e = rw (has-left left l, sym g ∙ e)
 
-  pub first-uncalled : (flagged cut : Bool) {r : Bool} → r ≡ (flagged || cut) → r ≡ false → 0 ≡ owedIf flagged left cut t
+  pub first-uncalled : (flagged below : Bool) {r : Bool} → r ≡ (flagged || below) → r ≡ false → 0 ≡ owedIf flagged left below t
   unfolding owedIf
-  first-uncalled flagged cut g e = rw (has-left left l, sym g ∙ e)
+  first-uncalled flagged below g e = rw (has-left left l, sym g ∙ e)
 
 -- of a user that is party to a trade standing below notified
 pub owed-cut : (flagged left : Bool) (t : ℕ) → owedIf flagged left true t ≡ cond left t 0
@@ -54,12 +54,12 @@ owed-cut false left t = refl
 -- ---- it is what the rules say
 
 -- short of cover is called in, and short of cover as one who is
-called-in : (limits : Limits) (f : Prices) (u : User) (h : ℕ → Holding) (cut e : Bool) (t : ℕ)
-    → cond e (cond (flaggedFrom limits f u h || cut) (cond (shortFrom limits f u h true) t 0) 0) 0 ≡ cond (shortFrom limits f u h cut && e) t 0
+called-in : (limits : Limits) (f : Prices) (u : User) (h : ℕ → Holding) (below e : Bool) (t : ℕ)
+    → cond e (cond (flaggedFrom limits f u h || below) (cond (shortFrom limits f u h true) t 0) 0) 0 ≡ cond (shortFrom limits f u h below && e) t 0
 unfolding shortFrom
-called-in limits f u h cut e t =
+called-in limits f u h below e t =
     let r = exceedsMargin limits (levelFrom limits f u h) u && ltb (u .party .assigned) (levelFrom limits f u h) in
-    ap (λ (n : ℕ). cond e n 0) (go (shipper u) (flaggedFrom limits f u h) cut r) ∙ sym (cond-and (shortFrom limits f u h cut) e t)
+    ap (λ (n : ℕ). cond e n 0) (go (shipper u) (flaggedFrom limits f u h) below r) ∙ sym (cond-and (shortFrom limits f u h below) e t)
   where
     go : (a g c r : Bool) → cond (g || c) (cond ((a && (g || true)) && r) t 0) 0 ≡ cond ((a && (g || c)) && r) t 0
     go true true c r = refl
@@ -107,17 +107,17 @@ module _ {f : Prices} {n : ℕ} {s sums ps ss ns : List ℕ} {flags : List Bool}
       let t = stays-first b (p .sound) in
       let a = alike-first b (p .sound) in
       let g = b .header .prices in
-      let cut = cutBefore (u .party .id) (tradesIn s) in
-      let called = flaggedFrom limits g u (holding b u) || cut in
+      let below = cutBefore (u .party .id) (tradesIn s) in
+      let called = flaggedFrom limits g u (holding b u) || below in
       let flag : flaggedAt limits f (usersOf s) ps i ≡ flaggedFrom limits g u (holding b u)
       = ap (λ (x : Prices). flaggedAt limits x (usersOf s) ps i) (p .prices-are) ∙ flagged-is t a (p .twelve) (p .positions) i l limits in
       let goal : targetAt limits f (usersOf s) sums ps i ≡ owedCalled limits b u
       = ap (λ (x : Prices). targetAt limits x (usersOf s) sums ps i) (p .prices-are) ∙ target-is t a (p .twelve) (p .positions) i l limits in
       ap (λ (x : Bool). cond x (cond (flaggedAt limits f (usersOf s) ps i || getD flags i false) (targetAt limits f (usersOf s) sums ps i) 0) 0) e
       ∙ ap₂ (λ (x y : Bool). cond (hasEligible b u) (cond (x || y) (targetAt limits f (usersOf s) sums ps i) 0) 0) flag
-      (p .cut .each i k ∙ ap (λ (q : Party). cutBefore (q .id) (tradesIn s)) (party-borne b i))
+      (p .below .each i k ∙ ap (λ (q : Party). cutBefore (q .id) (tradesIn s)) (party-borne b i))
       ∙ ap (λ (m : ℕ). cond (hasEligible b u) (cond called m 0) 0) goal
-      ∙ called-in limits g u (holding b u) cut (hasEligible b u) (target limits b u)
+      ∙ called-in limits g u (holding b u) below (hasEligible b u) (target limits b u)
       ∙ ap (λ (x : Bool). cond (x && hasEligible b u) (target limits b u) 0) (sym (short-rules limits b u))
 
 -- ---- all users

@@ -52,18 +52,21 @@ module _ (now : ℕ → ℕ) (es : List Bool) (from to : ℕ) (bs cs ts₀ : Lis
     pub before : (j : ℕ) → j < low → getD ts j 0 ≡ getD ts₀ j 0
     pub most : low ≤ least
 
-  pub looked-start : length ts₀ ≡ 64 → LookedTo ts₀ least from
+-- what the loop is about is shown by what is passed, and is not written at each law
+module _ {now : ℕ → ℕ} {es : List Bool} {from to : ℕ} {bs cs ts₀ : List ℕ} {least : ℕ} where
+  pub looked-start : length ts₀ ≡ 64 → LookedTo now es from to bs cs ts₀ least ts₀ least from
   looked-start e = record { room = e; rest = λ j h. refl; before = λ j h. refl; most = omega arith }
 
-  module _ (b-room : to ≤ length bs) (c-room : to ≤ length cs) {ts : List ℕ} {low i : ℕ} (h : i < to) (p : LookedTo ts low i) where
+  module _ (b-room : to ≤ length bs) (c-room : to ≤ length cs) {ts : List ℕ} {low i : ℕ} (h : i < to) (p : LookedTo now es from to bs cs ts₀ least ts low i) where
     next-touched : (j : ℕ) → touched j (part i to bs) (part i to cs) ≡ ((eqb (getD bs i 0) j && ltb 0 (getD cs i 0)) || touched j (part (i + 1) to bs) (part (i + 1) to cs))
     unfolding touched
     next-touched j = ap₂ (touched j) (part-first bs i to 0 h (omega arith)) (part-first cs i to 0 h (omega arith))
 
     -- a sale that lost nothing
-    pub looked-skip : getD cs i 0 ≤ 0 → LookedTo ts low (i + 1)
-    looked-skip k =
-        record {
+    pub looked-skip : getD cs i 0 ≤ 0 → {us : List ℕ} {n : ℕ} → us ≡ ts → n ≡ low → LookedTo now es from to bs cs ts₀ least us n (i + 1)
+    looked-skip k {us} {n} f g =
+        rw (f, g)
+        (record {
           room = p .room;
           rest = λ j l.
               let r = touched j (part (i + 1) to bs) (part (i + 1) to cs) in
@@ -72,7 +75,7 @@ module _ (now : ℕ → ℕ) (es : List Bool) (from to : ℕ) (bs cs ts₀ : Lis
               ap (λ (x : Bool). cond (x && getD es j false) (now j) (getD ts j 0)) (sym e) ∙ p .rest j l;
           before = p .before;
           most = p .most;
-        }
+        })
       where
         none : (x : Bool) → (x && false) ≡ false
         none true = refl
@@ -104,7 +107,7 @@ module _ (now : ℕ → ℕ) (es : List Bool) (from to : ℕ) (bs cs ts₀ : Lis
           let w : n ≡ low = lower ∙ no e (min low b) low in
           ap (λ (xs : List ℕ). getD xs j 0) (told ∙ no e (set ts b (now b)) ts) ∙ p .before j (omega (arith, w)))
 
-      pub looked-more : LookedTo us n (i + 1)
+      pub looked-more : LookedTo now es from to bs cs ts₀ least us n (i + 1)
       looked-more =
           record {
             room = told-room;
@@ -122,7 +125,7 @@ module _ (now : ℕ → ℕ) (es : List Bool) (from to : ℕ) (bs cs ts₀ : Lis
           whole true = refl
           whole false = refl
 
-  pub looked-end : {ts : List ℕ} {low i : ℕ} → to ≤ i → LookedTo ts low i → LookedAgain now es (part from to bs) (part from to cs) ts₀ ts low × (low ≤ least)
+  pub looked-end : {ts : List ℕ} {low i : ℕ} → to ≤ i → LookedTo now es from to bs cs ts₀ least ts low i → LookedAgain now es (part from to bs) (part from to cs) ts₀ ts low × (low ≤ least)
   unfolding touched
   looked-end {ts} {low} {i} h p = (
     record {

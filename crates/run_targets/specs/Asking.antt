@@ -23,7 +23,7 @@ pub record BuyersIn (s bs : List ℕ) (from to : ℕ) : Type 0 where
 
 -- T of a user that is called in, where it has an eligible trade and is flagged or party to a trade standing below notified
 unfoldable pub owedIf : Bool → Bool → Bool → ℕ → ℕ
-owedIf flagged left cut target = cond left (cond (flagged || cut) target 0) 0
+owedIf flagged left below target = cond left (cond (flagged || below) target 0) 0
 
 -- the arrays of an accepted book in bytes, as its risk is borne: prices, sums and positions, where the own sales of each user start and what stands of them, and flags of trades standing below notified
 pub record Opening (f : Prices) (n : ℕ) (s sums ps ss ns : List ℕ) (flags : List Bool) : Type 0 where
@@ -37,4 +37,4 @@ pub record Opening (f : Prices) (n : ℕ) (s sums ps ss ns : List ℕ) (flags : 
   pub few : starts (borneBook (bookOf s)) (length (usersIn s)) ≤ 256
   pub standing-room : length ns ≡ 256
   pub standing : StandingIn (borneBook (bookOf s)) (borneBook (bookOf s)) ns
-  pub cut : CutFlags (usersIn s) (tradesIn s) flags
+  pub below : CutFlags (usersIn s) (tradesIn s) flags

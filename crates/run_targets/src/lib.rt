@@ -35,31 +35,25 @@ pub fn any_left(standing: &[u64; 256], from: usize, to: usize) -> bool
     false
 }
 
-// A byte as a place.
-fn index(b: u8) -> usize
-    ensures { λ r. ⌜ r ≡ b ⌝ }
-{
-    b as usize
-}
-
-// T where the user at a place is due, else 0. `left`: it has an eligible trade; `cut`: it is party to a trade standing below notified.
+// T where the user at a place is due, else 0. `left`: it has an eligible trade; `below_notified`: it is party to a trade standing below
+// notified.
 pub fn owed_at(
     book: &[u8],
     sums: &[u32; 768],
     positions: &[u32; 192],
     place: usize,
     left: bool,
-    cut: bool,
+    below_notified: bool,
     day: Day,
 ) -> Cents
     requires { ⌜ DayOf (asLimits (day .limits)) (asPrices (day .prices)) (now book) × UserIn (now book) place × Low (now sums) ⌝ }
-    ensures { λ r. ⌜ r .0 ≡ owedIf (flaggedAt (asLimits (day .limits)) (asPrices (day .prices)) (usersOf (now (book .entry))) (now (positions .entry)) place) left cut
+    ensures { λ r. ⌜ r .0 ≡ owedIf (flaggedAt (asLimits (day .limits)) (asPrices (day .prices)) (usersOf (now (book .entry))) (now (positions .entry)) place) left «below_notified»
         (targetAt (asLimits (day .limits)) (asPrices (day .prices)) (usersOf (now (book .entry))) (now (sums .entry)) (now (positions .entry)) place) ⌝ }
 {
     if !left {
         return Cents(0);
     }
-    if risk_user::called_at(book, positions, place, cut, day) {
+    if risk_user::called_at(book, positions, place, below_notified, day) {
         return risk_user::target_at(book, sums, positions, place, day);
     }
     Cents(0)
@@ -73,13 +67,13 @@ pub fn fill_targets(
     positions: &[u32; 192],
     starts: &[usize; 65],
     standing: &[u64; 256],
-    cut: &[bool; 64],
+    below_notified: &[bool; 64],
     eligible: &mut [bool; 64],
     targets: &mut [u64; 64],
     day: Day,
 )
     requires { ⌜ DayOf (asLimits (day .limits)) (asPrices (day .prices)) (now book) × Low (now sums) ⌝ }
-    requires { ⌜ Opening (asPrices (day .prices)) n (now book) (now sums) (now positions) (now starts) (now standing) (now cut) × (length (now targets) ≡ 64) × (length (now eligible) ≡ 64) ⌝ }
+    requires { ⌜ Opening (asPrices (day .prices)) n (now book) (now sums) (now positions) (now starts) (now standing) (now «below_notified») × (length (now targets) ≡ 64) × (length (now eligible) ≡ 64) ⌝ }
     ensures { λ _. ⌜ OwedOf (asLimits (day .limits)) (bookOf (now (book .entry))) (now (targets .exit)) (now (eligible .exit)) × (length (now (targets .exit)) ≡ 64) × (length (now (eligible .exit)) ≡ 64) ⌝ }
 {
     let mut i = 0;
@@ -88,23 +82,13 @@ pub fn fill_targets(
         let to = starts[i + 1];
         let left = any_left(standing, from, to);
         eligible[i] = left;
-        let owed = owed_at(book, sums, positions, i, left, cut[i], day);
+        let owed = owed_at(book, sums, positions, i, left, below_notified[i], day);
         targets[i] = owed.0;
         i += 1;
     }
 }
 
 // ---- after a reduction
-
-// The lesser of two places.
-fn lesser(a: usize, b: usize) -> usize
-    ensures { λ r. ⌜ r ≡ min a b ⌝ }
-{
-    if a < b {
-        return a;
-    }
-    b
-}
 
 // Asks the user at a place anew where it has an eligible trade: it is party to a trade standing below notified. Hands back the lesser of
 // `least` and the place asked.
@@ -126,7 +110,7 @@ fn look_at(
     if eligible[place] {
         let target = risk_user::target_at(book, sums, positions, place, day);
         targets[place] = target.0;
-        return lesser(least, place);
+        return indices::lesser(least, place);
     }
     least
 }
@@ -153,7 +137,7 @@ pub fn look_again(
     let mut i = from;
     while i < to {
         if 0 < cuts[i] {
-            let place = index(buyers[i]);
+            let place = indices::index(buyers[i]);
             low = look_at(book, sums, positions, eligible, targets, place, low, day);
         }
         i += 1;

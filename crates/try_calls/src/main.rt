@@ -14,10 +14,10 @@ ghost use Prim.Native.Nat.{_≤_, max};
 use book_records::User;
 use book_tables::Book;
 use call_answers::CallAnswer;
+use call_answers::CancellationAnswer;
 use call_answers::LevelAnswer;
 use call_answers::ReductionAnswer;
 use call_answers::RunAnswer;
-use call_cancellation::CancellationAnswer;
 use call_rights::OPERATOR;
 use libc::STDOUT_FILENO;
 

@@ -42,15 +42,15 @@ add-fit-record-2 c = omega (arith, to-lies (c .before))
 
 fit-record-requires : tie.Need-fit-record-requires Inv-loop μ-loop
 fit-record-requires c κs =
-    let least = c .before .before .before .least .ensures in
+    let lesser = c .before .before .before .lesser .ensures in
     (omega (arith, from-lies (c .before)), to-lies (c .before), omega arith)
 
 loop-again : tie.Need-loop-again Inv-loop μ-loop
 loop-again c =
     let done = c .before .before in
     let inside = done .before .before in
-    let least = inside .before .before in
-    fitting-turn (least .least .ensures) (least .before .before .before .pre .0) (inside .before .loop .inv) (inside .loop-test .taken) (done .fit-record .ensures)
+    let sized = inside .before .before in
+    fitting-turn (sized .lesser .ensures) (sized .before .before .before .pre .0) (inside .before .loop .inv) (inside .loop-test .taken) (done .fit-record .ensures)
 
 same-length : tie.Need-same-length Inv-loop μ-loop
 same-length c = c .before .loop .inv .same

@@ -66,8 +66,8 @@ user-count-requires c κs = omega (arith, form (c .before .before .before .befor
 trade-count-requires : tie.Need-trade-count-requires
 trade-count-requires c κs = omega (arith, form (c .before .before .before .before .before .before .before) .head)
 
-cut-at-requires : tie.Need-cut-at-requires
-cut-at-requires c κs =
+below-notified-at-requires : tie.Need-below-notified-at-requires
+below-notified-at-requires c κs =
     let n = c .before in
     let s = n .before .before .before .before .before .before .before in
     (s .pre .0 .1 (n .before .before .if2 .taken), n .user-count .ensures, c .trade-count .ensures, omega (arith, n .user-count .ensures, s .pre .0 .2))
@@ -90,7 +90,7 @@ returns-2 c =
     let bytes = now (a .book) in
     rw (t .if2 .taken, sym (margin (e .before)) ∙ not-false (e .before .exceeds-margin .result) (e .if1 .left))
     (called-row (bookOf bytes) (a .place) (omega (arith, s .pre .0 .2, length-usersOf bytes)) (asLimits (a .limits)) (priced p) (a .position) (s .pre .1 .1)
-    (c .called-in .ensures (user s) (blocked-is s)) (k .cut-at .ensures ∙ ap (λ (id : ℕ). cutBefore id (tradesIn bytes)) (id-in bytes (a .place))))
+    (c .called-in .ensures (user s) (blocked-is s)) (k .below-notified-at .ensures ∙ ap (λ (id : ℕ). cutBefore id (tradesIn bytes)) (id-in bytes (a .place))))
 
 returns-3 : tie.Need-returns-3
 unfolding dueOf
@@ -101,5 +101,5 @@ returns-3 c =
 pub is-due-spec : {M : Type 1} → statement M
 is-due-spec =
     tie.close
-    (tie.spec exceeds-margin-requires returns read-prices-requires user-count-requires (λ c. search needs) trade-count-requires (λ c. search needs) cut-at-requires called-in-requires
+    (tie.spec exceeds-margin-requires returns read-prices-requires user-count-requires (λ c. search needs) trade-count-requires (λ c. search needs) below-notified-at-requires called-in-requires
     returns-2 returns-3)

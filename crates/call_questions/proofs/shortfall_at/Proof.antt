@@ -46,15 +46,15 @@ called-is : (c : tie.After-level-at) → let a = start (filled c) .args in c .be
 called-is c =
     let f = filled c in
     let s = start f in
-    asked-called (s .pre .0) (s .pre .1) (f .fill-positions .ensures .0) (c .before .before .called-at .ensures) (c .before .before .before .before .cut-at .ensures)
+    asked-called (s .pre .0) (s .pre .1) (f .fill-positions .ensures .0) (c .before .before .called-at .ensures) (c .before .before .before .before .below-notified-at .ensures)
 
 fill-positions-requires : tie.Need-fill-positions-requires
 fill-positions-requires c κs =
     let s = c .before .before .before .before in
     (s .pre .0 .book .accepted, users-are (c .before .before), s .pre .2)
 
-cut-at-requires : tie.Need-cut-at-requires
-cut-at-requires c κs =
+below-notified-at-requires : tie.Need-below-notified-at-requires
+below-notified-at-requires c κs =
     let k = counted c in
     let s = start c in
     (s .pre .0 .book, users-are (k .before), trades-are k, omega (arith, s .pre .1, users-are (k .before)))
@@ -90,5 +90,5 @@ returns-2 c =
 pub shortfall-at-spec : {M : Type 1} → statement M
 shortfall-at-spec =
     tie.close
-    (tie.spec (λ c κs. search needs) (λ c. search needs) (λ c κs. search needs) (λ c. search needs) fill-positions-requires cut-at-requires called-at-requires
+    (tie.spec (λ c κs. search needs) (λ c. search needs) (λ c κs. search needs) (λ c. search needs) fill-positions-requires below-notified-at-requires called-at-requires
     level-at-requires state-of-requires (λ c κs. search needs) returns target-of-requires returns-2)

@@ -33,8 +33,8 @@ returns c =
 user-count-requires : tie.Need-user-count-requires
 user-count-requires c κs = omega (arith, placed c .accepted .held .form .head)
 
-fill-cut-requires : tie.Need-fill-cut-requires
-fill-cut-requires c κs = (placed (c .before .before), refl)
+fill-below-notified-requires : tie.Need-fill-below-notified-requires
+fill-below-notified-requires c κs = (placed (c .before .before), refl)
 
 rows-of-requires : tie.Need-rows-of-requires
 rows-of-requires c κs =
@@ -45,7 +45,7 @@ rows-of-requires c κs =
       record { accepted = placed e .accepted; passes = passes e; limits-in = start e .pre .1 .0 },
       record { twelve = told .twelve (e .if1 .left); low = told .low (e .if1 .left) },
       n .user-count .ensures,
-      f .fill-cut .ensures,
+      f .fill-below-notified .ensures,
     )
 
 returns-2 : tie.Need-returns-2
@@ -63,6 +63,6 @@ levels-spec =
     returns
     user-count-requires
     (λ c. search needs)
-    fill-cut-requires
+    fill-below-notified-requires
     rows-of-requires
     returns-2)

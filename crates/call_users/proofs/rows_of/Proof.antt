@@ -2,15 +2,15 @@
 use Rattle.base.specs.Basics.{_-_, _<_, arith, now, needs}
 use Rattle.book_format.specs.Book.{bookOf, userCount}
 use Rattle.units.specs.Limits.{asLimits}
-use Rattle.call_users.proofs.Filled.{Filled, cut-at, filled-end, filled-more, filled-start, users-few, users-many}
+use Rattle.call_users.proofs.Filled.{Filled, flag-at, filled-end, filled-more, filled-start, users-few, users-many}
 use Rattle.call_users.proofs.rows_of.Statement.{statement}
 use Rattle.call_users.proofs.rows_of.Tie as tie
 
 abbrev Inv-loop : tie.InvT-loop
-Inv-loop book n sums cut limits rows₀ i₀ rows i = Filled (asLimits limits) (bookOf book) rows i
+Inv-loop book n sums below limits rows₀ i₀ rows i = Filled (asLimits limits) (bookOf book) rows i
 
 abbrev μ-loop : tie.MeasureT-loop
-μ-loop book n sums cut limits rows₀ i₀ rows i = n - i
+μ-loop book n sums below limits rows₀ i₀ rows i = n - i
 
 loop-holds : tie.Need-loop-holds Inv-loop μ-loop
 loop-holds c =
@@ -35,7 +35,7 @@ levels-at-requires : tie.Need-levels-at-requires Inv-loop μ-loop
 levels-at-requires c κs =
     let l = c .before in
     let s = start l in
-    ((s .pre .0, s .pre .1, inside l), cut-at (now (s .args .book)) (s .pre .3) (l .before .loop .i) (inside l))
+    ((s .pre .0, s .pre .1, inside l), flag-at (now (s .args .book)) (s .pre .3) (l .before .loop .i) (inside l))
 
 mul-rows : tie.Need-mul-rows Inv-loop μ-loop
 mul-rows c = omega (arith, few (c .before .before))

@@ -46,8 +46,8 @@ trade-count-requires c κs = let s = start (asked (c .before .before .before)) i
 fill-positions-requires : tie.Need-fill-positions-requires
 fill-positions-requires c κs = let m = c .before in (borne m .bear .ensures .0 .accepted, users-are (m .before), refl)
 
-fill-cut-requires : tie.Need-fill-cut-requires
-fill-cut-requires c κs =
+fill-below-notified-requires : tie.Need-fill-below-notified-requires
+fill-below-notified-requires c κs =
     let m = c .before .before .before .before .before in
     ((borne m .bear .ensures .0, users-are (m .before), trades-are m), refl)
 
@@ -61,10 +61,10 @@ lines-of-requires c κs =
     let b = borne m in
     let k = b .bear .ensures in
     lines-asked (record { book = k .0; limits-in = p .before .today .ensures .1; prices-are = p .read-prices .ensures; twelve = k .1 .0; low = k .1 .1 }) (start (asked b) .pre) (users-are (m .before))
-    (q .fill-positions .ensures .0) (f .fill-cut .ensures)
+    (q .fill-positions .ensures .0) (f .fill-below-notified .ensures)
 
 pub lines-spec : {M : Type 1} → statement M
 lines-spec =
     tie.close
     (tie.spec (λ c. search needs) (λ c. search needs) (λ c κs. search needs) bear-requires (λ c κs. search needs) read-prices-requires user-count-requires (λ c. search needs)
-    trade-count-requires (λ c. search needs) fill-positions-requires fill-cut-requires lines-of-requires (λ c. search needs))
+    trade-count-requires (λ c. search needs) fill-positions-requires fill-below-notified-requires lines-of-requires (λ c. search needs))

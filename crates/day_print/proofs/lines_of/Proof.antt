@@ -9,10 +9,10 @@ use Rattle.day_print.proofs.lines_of.Statement.{statement}
 use Rattle.day_print.proofs.lines_of.Tie as tie
 
 abbrev Inv-loop : tie.InvT-loop
-Inv-loop book n sums positions cut day i₀ i = i ≤ n
+Inv-loop book n sums positions below day i₀ i = i ≤ n
 
 abbrev μ-loop : tie.MeasureT-loop
-μ-loop book n sums positions cut day i₀ i = n - i
+μ-loop book n sums positions below day i₀ i = n - i
 
 element-copy-out-line-at : tie.Need-element-copy-out-line-at Inv-loop μ-loop
 element-copy-out-line-at c =

@@ -8,13 +8,13 @@ add-amount-requires : tie.Need-add-amount-requires
 add-amount-requires c κs =
     let i = c .before .before in
     let s = i .before .before in
-    amount-lies (s .pre .0) (s .pre .1) (i .index .ensures)
+    amount-lies (s .pre .0) (s .pre .1) (i .index .ensures .0)
 
 returns : tie.Need-returns
 returns c =
     let i = c .before .before .before in
     let s = i .before .before in
-    rows-next (s .pre .0) (s .pre .1) (i .index .ensures) (c .add-amount .ensures)
+    rows-next (s .pre .0) (s .pre .1) (i .index .ensures .0) (c .add-amount .ensures)
 
 pub bear-amount-spec : {M : Type 1} → statement M
 bear-amount-spec =

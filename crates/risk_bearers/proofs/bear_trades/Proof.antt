@@ -60,7 +60,7 @@ seller-is c =
     let o = c .before .before .before .before in
     let t = o .before .before in
     let a = t .before .before .before .before .args in
-    c .index .ensures ∙ o .bearer-of .ensures ∙ ap (bearerIn (now (a .bearers)) (getD (now (a .sellers)) (t .before .before .loop .i) 0)) (area-is t)
+    c .index .ensures .0 ∙ o .bearer-of .ensures ∙ ap (bearerIn (now (a .bearers)) (getD (now (a .sellers)) (t .before .before .loop .i) 0)) (area-is t)
 
 buyer-is : (c : tie.After-bearer-of2 Inv-loop μ-loop) → let t = c .before .before .before .before in let a = t .before .before .before .before .args in
     c .bearer-of2 .result ≡ bearerIn (now (a .bearers)) (getD (now (a .buyers)) (t .before .before .loop .i) 0) (getD (tradesOf (now (a .book))) (t .before .before .loop .i) noTrade .terms .area)
@@ -89,7 +89,7 @@ add-trade-requires-2 c κs =
     let s = l .before .before in
     let a = s .args in
     let e = s .pre .0 .3 in
-    borne-bought (now (a .book)) (now (a .bearers)) (now (a .sellers)) (now (a .buyers)) (s .pre .0 .0) (e .bearers) (inside t) (e .borne) (seller-is p) (c .index2 .ensures ∙ buyer-is q) (l .loop .inv .1 .passed (e .trades) (e .borne))
+    borne-bought (now (a .book)) (now (a .bearers)) (now (a .sellers)) (now (a .buyers)) (s .pre .0 .0) (e .bearers) (inside t) (e .borne) (seller-is p) (c .index2 .ensures .0 ∙ buyer-is q) (l .loop .inv .1 .passed (e .trades) (e .borne))
     (t .trade-at .ensures) (d .add-trade .ensures)
 
 loop-again : tie.Need-loop-again Inv-loop μ-loop
@@ -103,8 +103,8 @@ loop-again c =
     let s = l .before .before in
     let a = s .args in (
       omega (arith, t .before .loop-test .taken),
-      borne-turn (now (a .book)) (now (a .bearers)) (now (a .sellers)) (now (a .buyers)) (s .pre .0 .0) (s .pre .0 .3 .bearers) (inside t) (l .loop .inv .1) (t .trade-at .ensures) (sym (p .index .ensures) ∙ seller-is p) (buyer-is q)
-          (p .index .ensures) (k .index2 .ensures) (d .add-trade .ensures) (c .add-trade2 .ensures),
+      borne-turn (now (a .book)) (now (a .bearers)) (now (a .sellers)) (now (a .buyers)) (s .pre .0 .0) (s .pre .0 .3 .bearers) (inside t) (l .loop .inv .1) (t .trade-at .ensures) (sym (p .index .ensures .0) ∙ seller-is p) (buyer-is q)
+          (p .index .ensures .0) (k .index2 .ensures .0) (d .add-trade .ensures) (c .add-trade2 .ensures),
     )
 
 returns : tie.Need-returns Inv-loop μ-loop

@@ -21,7 +21,7 @@ returns c =
     let a = p .before .before .before .args in
     let u = getD (usersOf (now (a .book))) (a .place) nobody in
     c .called-in .ensures u (p .before .blocked-at .ensures)
-    ∙ ap (λ (x : Bool). x || a .cut) (flagged-positions (now (a .positions)) (a .place) (p .positions-at .result) (p .positions-at .ensures) (asLimits (a .day .limits)) (asPrices (a .day .prices)) u)
+    ∙ ap (λ (x : Bool). x || a .below-notified) (flagged-positions (now (a .positions)) (a .place) (p .positions-at .result) (p .positions-at .ensures) (asLimits (a .day .limits)) (asPrices (a .day .prices)) u)
 
 pub called-at-spec : {M : Type 1} → statement M
 called-at-spec = tie.close (tie.spec (λ c κs. search needs) (λ c κs. search needs) called-in-requires returns)

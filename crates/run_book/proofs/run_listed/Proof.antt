@@ -1,4 +1,4 @@
--- `run_listed`: positions, who has been cut and who owes what are those of the opening book; the run goes on in a copy of what stands, and what its sales have lost, taken off in
+-- `run_listed`: positions, who is party to a trade standing below notified and who owes what are those of the opening book; the run goes on in a copy of what stands, and what its sales have lost, taken off in
 -- the bytes, gives the rules' book. Assumes nothing.
 use Rattle.base.specs.Basics.{_≡_, refl, now, needs}
 use Rattle.book_format.specs.Book.{tradeCount, userCount}
@@ -19,8 +19,8 @@ trades-are c = c .trade-count .ensures
 fill-positions-requires : tie.Need-fill-positions-requires
 fill-positions-requires c κs = (c .before .before .before .before .before .before .before .pre .1 .0 .book .accepted, users-are (c .before .before .before .before), refl)
 
-fill-cut-requires : tie.Need-fill-cut-requires
-fill-cut-requires c κs =
+fill-below-notified-requires : tie.Need-fill-below-notified-requires
+fill-below-notified-requires c κs =
     let r = c .before .before .before .before .before .before .before .before .before .before .pre .1 .0 in
     ((r .book, users-are (c .before .before .before .before .before .before .before), trades-are (c .before .before .before .before .before)), refl)
 
@@ -33,7 +33,7 @@ fill-targets-requires c κs =
       (
         run-opening r l (users-are (c .before .before .before .before .before .before .before .before .before .before .before .before .before))
             (c .before .before .before .before .before .before .before .before .fill-positions .ensures .0)
-            (c .before .before .before .before .before .fill-cut .ensures),
+            (c .before .before .before .before .before .fill-below-notified .ensures),
         refl,
         refl,
       ),
@@ -76,5 +76,5 @@ returns c =
 pub run-listed-spec : {M : Type 1} → statement M
 run-listed-spec =
     tie.close
-    (tie.spec (λ c κs. search needs) (λ c. search needs) (λ c κs. search needs) (λ c. search needs) fill-positions-requires fill-cut-requires
+    (tie.spec (λ c κs. search needs) (λ c. search needs) (λ c κs. search needs) (λ c. search needs) fill-positions-requires fill-below-notified-requires
     fill-targets-requires copy-sales-requires run-on-requires lost-of-requires apply-requires (λ c. search needs) returns)

@@ -19,19 +19,19 @@ trades-are c = c .trade-count .ensures
 fill-positions-requires : tie.Need-fill-positions-requires
 fill-positions-requires c κs = (c .before .before .before .before .before .before .before .before .pre .1 .0 .book .accepted, users-are (c .before .before .before .before), refl)
 
-fill-cut-requires : tie.Need-fill-cut-requires
-fill-cut-requires c κs = ((c .before .before .before .before .before .before .before .before .before .before .before .pre .1 .0 .book, users-are (c .before .before .before .before .before .before .before), trades-are (c .before .before .before .before .before)), refl)
+fill-below-notified-requires : tie.Need-fill-below-notified-requires
+fill-below-notified-requires c κs = ((c .before .before .before .before .before .before .before .before .before .before .before .pre .1 .0 .book, users-are (c .before .before .before .before .before .before .before), trades-are (c .before .before .before .before .before)), refl)
 
 fill-targets-requires : tie.Need-fill-targets-requires
 fill-targets-requires c κs =
-    let at-fill-cut = c .before .before .before .before .before in
-    let at-fill-positions = at-fill-cut .before .before .before in
+    let at-fill-below-notified = c .before .before .before .before .before in
+    let at-fill-positions = at-fill-below-notified .before .before .before in
     let at-users-are = at-fill-positions .before .before .before .before .before in
     let s = at-users-are .before .before .before .before in
     let r = s .pre .1 .0 in
     let l = s .pre .1 .1 .0 in (
       (run-day (run-stays r l), r .low),
-      (run-opening r l (users-are at-users-are) (at-fill-positions .fill-positions .ensures .0) (at-fill-cut .fill-cut .ensures), refl, refl),
+      (run-opening r l (users-are at-users-are) (at-fill-positions .fill-positions .ensures .0) (at-fill-below-notified .fill-below-notified .ensures), refl, refl),
     )
 
 copy-sales-requires : tie.Need-copy-sales-requires
@@ -84,5 +84,5 @@ returns c =
 pub run-listed-spec : {M : Type 1} → statement M
 run-listed-spec =
     tie.close
-    (tie.spec (λ c κs. search needs) (λ c. search needs) (λ c κs. search needs) (λ c. search needs) fill-positions-requires fill-cut-requires
+    (tie.spec (λ c κs. search needs) (λ c. search needs) (λ c κs. search needs) (λ c. search needs) fill-positions-requires fill-below-notified-requires
     fill-targets-requires copy-sales-requires run-on-requires lost-of-requires apply-requires (λ c. search needs) (λ c. search needs) returns)

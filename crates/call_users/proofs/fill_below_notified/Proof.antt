@@ -1,10 +1,10 @@
--- `fill_cut`: with managers the flags are those of the trades' bearers; without them each user bears its own risk. Assumes nothing.
+-- `fill_below_notified`: with managers the flags are those of the trades' bearers; without them each user bears its own risk. Assumes nothing.
 use Rattle.base.specs.Basics.{_≡_, refl, sym, ap, _∙_, now, needs}
 use Rattle.book_format.specs.Book.{versionOf}
 use Rattle.call_parties.proofs.Borne.{plain-in}
 use Rattle.rules.specs.Areas.{managersIn}
-use Rattle.call_users.proofs.fill_cut.Statement.{statement}
-use Rattle.call_users.proofs.fill_cut.Tie as tie
+use Rattle.call_users.proofs.fill_below_notified.Statement.{statement}
+use Rattle.call_users.proofs.fill_below_notified.Tie as tie
 
 abbrev start : tie.After-has-managers → tie.Start
 start h = h .before .before .before .before .before
@@ -18,8 +18,8 @@ bear-managed-requires c κs =
     let t = c .before .before .before in
     ((start (t .before) .pre .0, sym (managed (t .before)) ∙ t .if1 .taken), (refl, refl))
 
-fill-cut-requires-2 : tie.Need-fill-cut-requires-2
-fill-cut-requires-2 c κs =
+fill-below-notified-requires-2 : tie.Need-fill-below-notified-requires-2
+fill-below-notified-requires-2 c κs =
     let e = c .before in
     let h = e .before in
     let s = start h in
@@ -29,8 +29,8 @@ fill-cut-requires-2 c κs =
       s .pre .1,
     )
 
-pub fill-cut-spec : {M : Type 1} → statement M
-fill-cut-spec =
+pub fill-below-notified-spec : {M : Type 1} → statement M
+fill-below-notified-spec =
     tie.close
     (tie.spec
     (λ c κs. search needs)
@@ -42,5 +42,5 @@ fill-cut-spec =
     bear-managed-requires
     (λ c κs. search needs)
     (λ c. search needs)
-    fill-cut-requires-2
+    fill-below-notified-requires-2
     (λ c. search needs))
