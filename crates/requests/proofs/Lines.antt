@@ -1,12 +1,11 @@
 -- A list of postings after its opening questions, asked once: an accepted posting leaves a book that passes them again, so that asking them before each line gives the
 -- same. Assumes nothing.
-use Rattle.base.specs.Basics.{_≡_, _∙_, ap, ap₂, refl, sym, Bool, cond, true, false, Option, none, some, List, [], _∷_, map, ℕ, arith, T, ltb, ltb→lt}
+use Rattle.base.specs.Basics.{_≡_, _∙_, ap, ap₂, refl, sym, Bool, cond, true, false, Option, none, some, List, [], _∷_, map, ℕ, arith, ltb, ltb→lt}
 use Rattle.base.specs.Basics.{ℤ, _+ℤ_}
 use Rattle.fields.specs.Field.{AllBytes}
 use Rattle.laws.proofs.Posting.{posting-sound}
-use Rattle.laws.proofs.Refusals.{first-yes, numbered}
+use Rattle.laws.proofs.Refusals.{first-yes}
 use Rattle.base.proofs.Tests.{and-l, and-r}
-use Rattle.base.specs.Lists.{all}
 use Rattle.laws.proofs.Changed.{keeps-party}
 use Rattle.laws.specs.Sound.{Sound}
 use Rattle.rules.specs.Book.{Book, Header, User, at, find}
@@ -35,11 +34,6 @@ fit-number v = go (linesFit v)
     go : (c : Bool) → numberOf (refusal (record { number = 15; holds = c } ∷ [])) ≡ cond c 0 15
     go true = refl
     go false = refl
-
--- which is not 0
-pub lines-numbered : (v : Lines) → T (numbered (aboutLines v))
-unfolding aboutLines numbered all
-lines-numbered v = tt
 
 -- a list that passes its opening questions fits, and each of its lines would pass its own
 pub lines-opening : (n : ℕ) (g : Setting) (v : Lines) (s : List ℕ) → opening (openingLines n v) g s ≡ 0 → (linesFit v ≡ true) × (opening n g s ≡ 0)

@@ -1,8 +1,6 @@
 -- Acts with a lent log, given or not, after the questions of the book, and 26, whose number is n; a lent log that is not given changes nothing. What the public functions stand on.
 -- Assumes nothing.
-use Rattle.base.specs.Basics.{_≡_, _∙_, ap, refl, sym, Option, none, some, List, [], _∷_, _++_, ℕ, suc, zero, T, ℤ}
-use Rattle.base.specs.Lists.{all}
-use Rattle.laws.proofs.Refusals.{numbered}
+use Rattle.base.specs.Basics.{_≡_, _∙_, ap, refl, sym, Option, none, some, List, [], _∷_, _++_, ℕ, suc, zero, ℤ}
 use Rattle.rules.specs.Calls.{Answer, Call, Result, about, effect}
 use Rattle.rules.specs.Levels.{Limits}
 use Rattle.rules.specs.Questions.{decided, refusal}
@@ -14,18 +12,14 @@ use Rattle.log_format.specs.Noted.{Entered, callEntered, hasEntry, lastly, room
 use Rattle.rules.specs.Questions.{numberOf}
 use Rattle.requests.proofs.Opened.{carried, first-alone}
 use Rattle.requests.specs.Logged.{AdmittedWith, GivesLogged, LoggedAfter, lentLog}
-use Rattle.requests.specs.Request.{call, postings, withdrawal, Act, Outcome, Request, Setting, actBy, actIn, actWith, asBytes, callAfter, emptiedIn, enteredIn, limitsOn, linesIn, loggedAfter, opening, openingLines, openingWith, openingWithIn, refusedGiven, requestAfter, requestIn, resultIn, stepIn, withdrawalAfter}
+use Rattle.requests.specs.Request.{call, postings, withdrawal, Act, Outcome, Request, Setting, actBy, actIn, actWith, asBytes, callAfter, emptiedIn, enteredIn, limitsOn, linesIn}
+use Rattle.requests.specs.Request.{loggedAfter, opening, openingLines, openingWith, openingWithIn, refusedGiven, requestAfter, requestIn, resultIn, stepIn, withdrawalAfter}
 
 -- an act in a setting, with a log or none
 abbrev pub actLent : Setting → Option (List ℕ) → Act → Request
 actLent g log a = record { setting = g; log = log; act = a }
 
 -- ---- the opening questions
-
-pub log-numbered : (log : Option (List ℕ)) (s : List ℕ) → T (numbered (aboutLog log s))
-unfolding numbered aboutLog all
-log-numbered none s = tt
-log-numbered (some l) s = tt
 
 -- without a log nothing more is asked
 pub without-number : (n : ℕ) (g : Setting) (s : List ℕ) → openingWith n g none s ≡ opening n g s

@@ -1,18 +1,16 @@
 -- The opening questions by their numbers, one after the other; a call after them, by the figures that the setting gives. Assumes nothing.
 use Rattle.base.specs.Basics.{_≡_, _∙_, ap, refl, sym, Option, none, some, List, [], ℕ, suc, zero, arith, T, ltb, ltb→lt}
 use Rattle.laws.proofs.Refusals.{numbered, refusal-is}
-use Rattle.rules.specs.Book.{Book}
 use Rattle.rules.specs.Calls.{Answer, Call, about, effect}
 use Rattle.rules.specs.Levels.{Limits}
-use Rattle.base.specs.Lists.{all}
 use Rattle.rules.specs.Questions.{Question, decided, numberOf, refusal}
 use Rattle.book_format.specs.After.{CalledAfter, after, stepAfter, unchanged}
 use Rattle.book_format.specs.Book.{bookOf}
 use Rattle.book_format.specs.Questions.{bookNumber}
 use Rattle.book_format.specs.Steps.{InBytes, inBytes}
-use Rattle.store.specs.Store.{aboutStore, storeNumber}
+use Rattle.store.specs.Store.{storeNumber}
 use Rattle.requests.specs.Carried.{Admitted, CarriedAfter}
-use Rattle.requests.specs.Request.{Outcome, Setting, aboutSetting, actBy, actIn, asBytes, callAfter, callIn, firstOf, limitsOn, opening, openingIn, refusedGiven, request, requestIn, resultIn, stepIn}
+use Rattle.requests.specs.Request.{Outcome, Setting, actBy, actIn, asBytes, callAfter, callIn, firstOf, limitsOn, opening, openingIn, refusedGiven, request, requestIn, resultIn, stepIn}
 
 -- ---- numbers
 
@@ -41,12 +39,6 @@ unfolding after
 first-alone zero = refl
 first-alone (suc n) = refl
 
--- two parts one after the other, by their one number
-pub after-first : {R : Type 0} (n m : ℕ) (f : ℕ → R) (x : R) → after n f (after m f x) ≡ after (firstOf n m) f x
-unfolding after
-after-first zero m f x = refl
-after-first (suc n) m f x = refl
-
 -- what is decided by questions that have numbers is decided by their number
 pub decided-after : {R : Type 0} (f : ℕ → R) (x : R) (qs : List Question) → T (numbered qs) → decided (refusal qs) f x ≡ after (numberOf (refusal qs)) f x
 unfolding numbered decided numberOf after
@@ -61,15 +53,6 @@ decided-after f x qs k = go (refusal qs) refl
 pub opening-zero : (n : ℕ) (g : Setting) (s : List ℕ) → opening n g s ≡ 0 → n ≡ 0
 unfolding openingIn
 opening-zero n g s e = first-zero n (storeNumber (g .store) (bookOf s .header .date)) e
-
--- no question of a setting has the number 0
-pub setting-numbered : (g : Setting) (b : Book) → T (numbered (aboutSetting g b))
-unfolding aboutSetting numbered aboutStore all
-setting-numbered g b = go (g .store)
-  where
-    go : (store : Option (List ℕ)) → T (numbered (aboutStore store (b .header .date)))
-    go none = tt
-    go (some s) = tt
 
 -- ---- calls
 

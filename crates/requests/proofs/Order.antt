@@ -1,7 +1,9 @@
 -- The numbers of the opening questions, one after the other, are those of the first "no" among all of them in their order. Assumes nothing.
-use Rattle.base.specs.Basics.{_≡_, _∙_, ap, sym, Option, some, List, [], _++_, ℕ, T, ltb}
+use Rattle.base.specs.Basics.{_≡_, _∙_, ap, sym, Option, none, some, List, [], _++_, ℕ, T, ltb}
 use Rattle.base.proofs.Tests.{all-append}
+use Rattle.base.specs.Lists.{all}
 use Rattle.laws.proofs.Refusals.{numbered, refusal-first}
+use Rattle.rules.specs.Book.{Book}
 use Rattle.rules.specs.Calls.{Call, about}
 use Rattle.rules.specs.Levels.{Limits}
 use Rattle.rules.specs.Questions.{Question, decided, numberOf, refusal}
@@ -13,11 +15,23 @@ use Rattle.book_format.specs.Questions.{aboutBytes, bookNumber}
 use Rattle.log_format.specs.Fits.{aboutLog, logNumber}
 use Rattle.log_format.specs.Log.{entriesOf}
 use Rattle.log_format.specs.Noted.{hasEntry, lastly, room}
-use Rattle.store.specs.Store.{storeNumber}
-use Rattle.requests.proofs.Lines.{lines-numbered}
-use Rattle.requests.proofs.Opened.{setting-numbered}
+use Rattle.store.specs.Store.{aboutStore, storeNumber}
 use Rattle.requests.specs.Logged.{AskedInOrder}
 use Rattle.requests.specs.Request.{Lines, Setting, aboutLines, aboutSetting, asBytes, firstOf, loggedAfter, opening, openingIn, openingLines, openingWith, openingWithIn, refusedGiven, withdrawalAfter}
+
+-- no question of a setting has the number 0
+setting-numbered : (g : Setting) (b : Book) → T (numbered (aboutSetting g b))
+unfolding aboutSetting numbered aboutStore all
+setting-numbered g b = go (g .store)
+  where
+    go : (store : Option (List ℕ)) → T (numbered (aboutStore store (b .header .date)))
+    go none = tt
+    go (some s) = tt
+
+-- nor has 15
+lines-numbered : (v : Lines) → T (numbered (aboutLines v))
+unfolding aboutLines numbered all
+lines-numbered v = tt
 
 -- two lists that have numbers have them together
 both-numbered : (ps qs : List Question) → T (numbered ps) → T (numbered qs) → T (numbered (ps ++ qs))

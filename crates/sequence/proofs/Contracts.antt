@@ -9,7 +9,8 @@ use Rattle.log_format.specs.Noted.{Entered, callEntered, hasEntry, lastly, room
 use Rattle.requests.proofs.Lines.{lines-answer}
 use Rattle.requests.proofs.Logged.{actLent, with-log, without-log}
 use Rattle.requests.specs.Logged.{lentLog}
-use Rattle.requests.specs.Request.{call, postings, withdrawal, Act, Lines, Outcome, Setting, actBy, actIn, actWith, asBytes, callAfter, emptiedIn, enteredIn, limitsOn, linesIn, linesOf, loggedAfter, opening, openingLines, openingWith, refusedGiven, requestAfter, requestIn, resultIn, settingOf, stepIn, withdrawalAfter}
+use Rattle.requests.specs.Request.{call, postings, withdrawal, Act, Lines, Outcome, Setting, actBy, actIn, actWith, asBytes, callAfter, emptiedIn, enteredIn, limitsOn, linesIn, linesOf}
+use Rattle.requests.specs.Request.{loggedAfter, opening, openingLines, openingWith, refusedGiven, requestAfter, requestIn, resultIn, settingOf, stepIn, withdrawalAfter}
 use Rattle.rules.specs.Calls.{Answer, Call, Result, about, effect, only}
 use Rattle.rules.specs.Questions.{decided, refusal}
 use Rattle.store.specs.Store.{given}

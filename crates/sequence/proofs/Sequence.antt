@@ -16,7 +16,8 @@ use Rattle.laws.specs.Trades.{Lowered, Pairwise}
 use Rattle.requests.specs.Carried.{Carried}
 use Rattle.log_format.specs.Log.{entriesOf, logBytes}
 use Rattle.log_format.specs.Noted.{Entered, callEntered, hasEntry, lastly, room, withdrawalEntered}
-use Rattle.requests.specs.Request.{call, postings, withdrawal, Act, Outcome, Request, Setting, actBy, actIn, actWith, asBook, asBytes, callAfter, emptiedIn, enteredIn, firstOf, limitsOn, linesIn, loggedAfter, openingIn, openingLines, openingWith, openingWithIn, refusedGiven, request, requestGiven, requestIn, resultIn, stepIn, withdrawalAfter}
+use Rattle.requests.specs.Request.{call, postings, withdrawal, Act, Outcome, Request, Setting, actBy, actIn, actWith, asBook, asBytes, callAfter, emptiedIn, enteredIn, firstOf, limitsOn, linesIn}
+use Rattle.requests.specs.Request.{loggedAfter, openingIn, openingLines, openingWith, openingWithIn, refusedGiven, request, requestGiven, requestIn, resultIn, stepIn, withdrawalAfter}
 use Rattle.rules.specs.Book.{Book, Header}
 use Rattle.rules.specs.Calls.{posting, Answer, Call, Result, about, effect}
 use Rattle.rules.specs.Levels.{Limits}
