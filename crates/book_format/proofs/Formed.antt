@@ -55,10 +55,6 @@ unfolding formNumber bookNumber aboutBytes
 form-passed s h = ap numberOf (refusal-next (aboutForm s) (aboutFields s) (number-none (aboutForm s) (form-numbered s) h))
 
 -- the book as a whole
-pub book-refused : (s : List ℕ) (n : ℕ) → n ≡ bookNumber s → (n ≡ 0 → ⊥) → refusal (aboutBytes s) ≡ some n
-unfolding bookNumber
-book-refused s n e h = number-some (refusal (aboutBytes s)) n e h
-
 pub book-passed : (s : List ℕ) → bookNumber s ≡ 0 → refusal (aboutBytes s) ≡ none
 unfolding bookNumber
 book-passed s h = number-none (aboutBytes s) (bytes-numbered s) h

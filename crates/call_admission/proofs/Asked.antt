@@ -8,7 +8,7 @@ use Rattle.rules.specs.Levels.{Limits}
 use Rattle.store.specs.Asked.{ByStore}
 use Rattle.requests.proofs.Opened.{opening-zero}
 use Rattle.requests.specs.Carried.{Admitted}
-use Rattle.requests.specs.Request.{Setting, firstOf, limitsOn, opening, settingOf}
+use Rattle.requests.specs.Request.{Setting, firstOf, limitsOn, openingIn, settingOf}
 use Rattle.rights.proofs.Entered.{entering-book}
 use Rattle.rights.specs.Acting.{enteringNumber}
 use Rattle.rights.specs.Party.{Matter, Party}
@@ -31,12 +31,12 @@ fit n fits z e = rw (z, e)
 module _ (s : List ℕ) (store : Option (List ℕ)) {asked : ℕ} where
   -- a question before the store's refuses: whatever the figures
   pub admitted-refused : {limits : Limits} → (asked ≡ 0 → ⊥) → Admitted asked (settingOf store) s asked limits
-  unfolding opening
+  unfolding openingIn
   admitted-refused h = record { asked = stays asked _ h; taken = λ z. absurd (h z) }
 
   -- none does: by the store, on the book's date
   pub admitted-by-store : {limits : Limits} {date number : ℕ} → asked ≡ 0 → date ≡ field 4 8 s → ByStore store date number limits → Admitted asked (settingOf store) s number limits
-  unfolding after bookOf limitsOn opening
+  unfolding after bookOf limitsOn openingIn
   admitted-by-store z d f = let g = rw d at f in record { asked = rw z (g .asked); taken = λ k. g .taken }
 
 -- ---- what the calls cite

@@ -8,7 +8,7 @@ use Rattle.requests.proofs.Lines.{fit-number}
 use Rattle.requests.proofs.Opened.{first-zero, opening-zero}
 use Rattle.requests.specs.Carried.{Admitted}
 use Rattle.requests.specs.Logged.{AdmittedWith}
-use Rattle.requests.specs.Request.{Lines, Setting, firstOf, linesFit, opening, openingLines, openingWith}
+use Rattle.requests.specs.Request.{Lines, Setting, firstOf, linesFit, opening, openingLines, openingWith, openingWithIn}
 use Rattle.rights.proofs.Entered.{entering-book}
 use Rattle.rights.specs.Acting.{enteringNumber}
 use Rattle.rights.specs.Party.{Matter, Party}
@@ -47,14 +47,14 @@ module _ (l s : List ℕ) (lent : Bool) where
 
 pub admitted-with : {n : ℕ} {g : Setting} {s l : List ℕ} {asked number : ℕ} {limits : Limits} (lent : Bool) → Admitted n g s asked limits → LogAsked asked lent l s number
     → AdmittedWith n g (given lent l) s number limits
-unfolding openingWith
+unfolding openingWithIn
 admitted-with {s = s} {l} lent a k =
     record { asked = k .is ∙ ap (λ (n : ℕ). after n (λ m. m) (logNumber (given lent l) s)) (a .asked); taken = λ z. a .taken (k .before z) }
 
 -- of a list, whose question 15 was answered by what it passes
 pub lines-with : (n : ℕ) (g : Setting) (v : Lines) {fits : Bool} {s l : List ℕ} {asked number : ℕ} (lent : Bool) → fits ≡ linesFit v → asked ≡ opening (firstOf n (cond fits 0 15)) g s
     → LogAsked asked lent l s number → number ≡ openingWith (openingLines n v) g (given lent l) s
-unfolding openingWith openingLines
+unfolding openingWithIn openingLines
 lines-with n g v {s = s} {l} lent e a k =
     k .is
     ∙ ap (λ (i : ℕ). after i (λ m. m) (logNumber (given lent l) s)) a

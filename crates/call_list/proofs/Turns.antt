@@ -12,7 +12,8 @@ use Rattle.book_parties.specs.Ids.{placeIn}
 use Rattle.call_posting.proofs.Ways.{refused}
 use Rattle.call_posting.specs.Posting.{postingOf}
 use Rattle.requests.proofs.Lines.{Onward, one-line, onward-opening, posting-onward}
-use Rattle.requests.specs.Request.{Outcome, Setting, limitsOn, linesIn, opening, outcome, stepIn}
+use Rattle.requests.proofs.Opened.{call-outcome, outcome}
+use Rattle.requests.specs.Request.{Outcome, Setting, asBytes, limitsOn, linesIn, opening, stepIn}
 use Rattle.rules.specs.Calls.{Answer, only, posting}
 use Rattle.rules.specs.Levels.{Limits, today}
 use Rattle.call_list.proofs.Ids.{known-onward}
@@ -47,8 +48,8 @@ pub record Going (known : List ℕ) (n at size : ℕ) (ids areas : List ℕ) (am
   pub room : length places ≡ length ids
   pub within : i ≤ length ids
   pub opened : (g : Setting) → opening (bookNumber s₀) g s₀ ≡ 0 → opening (bookNumber s) g s ≡ 0
-  pub onBytes : (g : Setting) → opening (bookNumber s₀) g s₀ ≡ 0 → linesIn g s (drop i ids) (drop i areas) (drop i amounts) .bytes ≡ linesIn g s₀ ids areas amounts .bytes
-  pub onNumbers : (g : Setting) → opening (bookNumber s₀) g s₀ ≡ 0 → take i places ++ linesIn g s (drop i ids) (drop i areas) (drop i amounts) .numbers ≡ linesIn g s₀ ids areas amounts .numbers
+  pub onBytes : (g : Setting) → opening (bookNumber s₀) g s₀ ≡ 0 → linesIn asBytes g s (drop i ids) (drop i areas) (drop i amounts) .book ≡ linesIn asBytes g s₀ ids areas amounts .book
+  pub onNumbers : (g : Setting) → opening (bookNumber s₀) g s₀ ≡ 0 → take i places ++ linesIn asBytes g s (drop i ids) (drop i areas) (drop i amounts) .numbers ≡ linesIn asBytes g s₀ ids areas amounts .numbers
 
 module _ {known : List ℕ} {n at size : ℕ} {ids areas : List ℕ} {amounts : List ℤ} {s₀ : List ℕ} where
   pub going-start : {places : List ℕ} → AllBytes s₀ → Known known n at size s₀ → length places ≡ length ids → Going known n at size ids areas amounts s₀ s₀ places 0
@@ -63,18 +64,18 @@ module _ {known : List ℕ} {n at size : ℕ} {ids areas : List ℕ} {amounts : 
         (posting-onward today s (getD ids i 0) (getD areas i 0) (getD amounts i (pos 0)) (p .bytes) (p .searched .passes))
 
     -- the line by itself, in a setting
-    first : (g : Setting) → opening (bookNumber s) g s ≡ 0 → (stepIn (bookNumber s) g s (posting (getD ids i 0) (getD areas i 0) (getD amounts i (pos 0))) .answer .number ≡ r) × (stepIn (bookNumber s) g s (posting (getD ids i 0) (getD areas i 0) (getD amounts i (pos 0))) .bytes ≡ t)
+    first : (g : Setting) → opening (bookNumber s) g s ≡ 0 → (stepIn asBytes (bookNumber s) g s (posting (getD ids i 0) (getD areas i 0) (getD amounts i (pos 0))) .answer .number ≡ r) × (stepIn asBytes (bookNumber s) g s (posting (getD ids i 0) (getD areas i 0) (getD amounts i (pos 0))) .book ≡ t)
     unfolding stepIn outcome only
     first g e =
         let call = posting (getD ids i 0) (getD areas i 0) (getD amounts i (pos 0)) in
         let limits = limitsOn g (bookOf s) in
-        let o : stepIn (bookNumber s) g s call ≡ outcome (stepAfter 0 limits s call) = ap (λ (m : ℕ). outcome (stepAfter m limits s call)) e in
-        (ap (λ (x : Outcome). x .answer .number) o ∙ ap (λ (a : Answer). a .number) (sym (c limits .answer)), ap (λ (x : Outcome). x .bytes) o ∙ sym (c limits .bytes))
+        let o : stepIn asBytes (bookNumber s) g s call ≡ outcome (stepAfter 0 limits s call) = call-outcome (opening (bookNumber s) g s) limits s call ∙ ap (λ (m : ℕ). outcome (stepAfter m limits s call)) e in
+        (ap (λ (x : Outcome (List ℕ)). x .answer .number) o ∙ ap (λ (a : Answer). a .number) (sym (c limits .answer)), ap (λ (x : Outcome (List ℕ)). x .book) o ∙ sym (c limits .bytes))
 
     -- the line and those after it
     line-then : (g : Setting) → opening (bookNumber s) g s ≡ 0
-        → (linesIn g s (drop i ids) (drop i areas) (drop i amounts) .bytes ≡ linesIn g t (drop (i + 1) ids) (drop (i + 1) areas) (drop (i + 1) amounts) .bytes)
-        × (linesIn g s (drop i ids) (drop i areas) (drop i amounts) .numbers ≡ r ∷ linesIn g t (drop (i + 1) ids) (drop (i + 1) areas) (drop (i + 1) amounts) .numbers)
+        → (linesIn asBytes g s (drop i ids) (drop i areas) (drop i amounts) .book ≡ linesIn asBytes g t (drop (i + 1) ids) (drop (i + 1) areas) (drop (i + 1) amounts) .book)
+        × (linesIn asBytes g s (drop i ids) (drop i areas) (drop i amounts) .numbers ≡ r ∷ linesIn asBytes g t (drop (i + 1) ids) (drop (i + 1) areas) (drop (i + 1) amounts) .numbers)
     line-then g e =
         rw (add-one, drop-cons ids i 0 h, drop-cons areas i 0 (omega arith), drop-cons amounts i (pos 0) (omega arith))
         (one-line g s t (getD ids i 0) (getD areas i 0) (getD amounts i (pos 0)) r (drop (suc i) ids) (drop (suc i) areas) (drop (suc i) amounts) (first g e .0) (first g e .1))
@@ -90,9 +91,9 @@ module _ {known : List ℕ} {n at size : ℕ} {ids areas : List ℕ} {amounts : 
           opened = λ g e. onward-opening g onward (p .searched .passes) (p .opened g e);
           onBytes = λ g e. sym (line-then g (p .opened g e) .0) ∙ p .onBytes g e;
           onNumbers = λ g e.
-              ap (λ (l : List ℕ). l ++ linesIn g t (drop (i + 1) ids) (drop (i + 1) areas) (drop (i + 1) amounts) .numbers)
+              ap (λ (l : List ℕ). l ++ linesIn asBytes g t (drop (i + 1) ids) (drop (i + 1) areas) (drop (i + 1) amounts) .numbers)
               (ap (λ (m : ℕ). take m (set places i r)) (add-one i) ∙ take-suc-set places i r (omega (arith, p .room)))
-              ∙ append-assoc (take i places) (r ∷ []) (linesIn g t (drop (i + 1) ids) (drop (i + 1) areas) (drop (i + 1) amounts) .numbers)
+              ∙ append-assoc (take i places) (r ∷ []) (linesIn asBytes g t (drop (i + 1) ids) (drop (i + 1) areas) (drop (i + 1) amounts) .numbers)
               ∙ ap (λ (l : List ℕ). take i places ++ l) (sym (line-then g (p .opened g e) .1))
               ∙ p .onNumbers g e;
         }
@@ -101,11 +102,11 @@ module _ {known : List ℕ} {n at size : ℕ} {ids areas : List ℕ} {amounts : 
   unfolding linesIn
   going-end {s} {places} {i} p h =
       record {
-        bytes = λ g e. sym (ap (λ (l : List ℕ). linesIn g s l (drop i areas) (drop i amounts) .bytes) (drop-of-length-le ids {i = i} h)) ∙ p .onBytes g e;
+        bytes = λ g e. sym (ap (λ (l : List ℕ). linesIn asBytes g s l (drop i areas) (drop i amounts) .book) (drop-of-length-le ids {i = i} h)) ∙ p .onBytes g e;
         beside = λ g e.
             sym (append-nil places)
             ∙ ap (λ (l : List ℕ). l ++ []) (sym (take-all i places (omega (arith, p .room))))
-            ∙ ap (λ (l : List ℕ). take i places ++ linesIn g s l (drop i areas) (drop i amounts) .numbers) (sym (drop-of-length-le ids {i = i} h))
+            ∙ ap (λ (l : List ℕ). take i places ++ linesIn asBytes g s l (drop i areas) (drop i amounts) .numbers) (sym (drop-of-length-le ids {i = i} h))
             ∙ p .onNumbers g e;
       }
 

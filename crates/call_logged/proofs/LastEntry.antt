@@ -22,7 +22,7 @@ use Rattle.log_format.specs.Noted.{beforeLast, hasEntry, lastEntry, withdrawalE
 use Rattle.log_format.specs.Withdrawal.{returned, withdrawn, withdrawnTally}
 use Rattle.log_questions.specs.Form.{cutsFrom}
 use Rattle.requests.specs.Logged.{GivesLogged}
-use Rattle.requests.specs.Request.{Outcome, enteredIn, refusedGiven, withdrawalAfter}
+use Rattle.requests.specs.Request.{Outcome, asBytes, enteredIn, refusedGiven, withdrawalAfter}
 use Rattle.rules.specs.Areas.{Prices}
 use Rattle.rules.specs.Calls.{Answer, ofRun, only}
 use Rattle.rules.specs.Questions.{decided, refusal}
@@ -30,7 +30,7 @@ use Rattle.rules.specs.Reduction.{nothing, tallyAll}
 
 -- ---- refused
 
-pub withdrawal-refused : (s l : List ℕ) (n : ℕ) → (n ≡ 0 → ⊥) → {a : Answer} → a ≡ only n → GivesLogged (withdrawalAfter n l s) a s l
+pub withdrawal-refused : (s l : List ℕ) (n : ℕ) → (n ≡ 0 → ⊥) → {a : Answer} → a ≡ only n → GivesLogged (withdrawalAfter asBytes n l s) a s l
 unfolding withdrawalAfter after refusedGiven
 withdrawal-refused s l zero h e = absurd (h refl)
 withdrawal-refused s l (suc n) h e = record { answer = e; bytes = refl; log = refl }
@@ -40,21 +40,21 @@ no-entries : (s l : List ℕ) → entryCount l ≡ 0 → entriesOf s l ≡ []
 unfolding entriesOf entriesIn
 no-entries s l e = ap (λ (k : ℕ). entriesIn (tradeCount s) k l) e
 
-empty-refused : (s l : List ℕ) {n : ℕ} → n ≡ 0 → entryCount l ≡ 0 → withdrawalAfter n l s ≡ refusedGiven (some l) s 18
+empty-refused : (s l : List ℕ) {n : ℕ} → n ≡ 0 → entryCount l ≡ 0 → withdrawalAfter asBytes n l s ≡ refusedGiven (some l) s 18
 unfolding withdrawalAfter after hasEntry refusal decided
 empty-refused s l z e = rw (z, no-entries s l e)
 
-pub withdrawal-none : (s l : List ℕ) {n : ℕ} → n ≡ 0 → entryCount l ≡ 0 → {a : Answer} → a ≡ only 18 → GivesLogged (withdrawalAfter n l s) a s l
+pub withdrawal-none : (s l : List ℕ) {n : ℕ} → n ≡ 0 → entryCount l ≡ 0 → {a : Answer} → a ≡ only 18 → GivesLogged (withdrawalAfter asBytes n l s) a s l
 unfolding refusedGiven
-withdrawal-none s l {n} z e {a} f = subst (λ (o : Outcome). GivesLogged o a s l) (sym (empty-refused s l z e)) (record { answer = f; bytes = refl; log = refl })
+withdrawal-none s l {n} z e {a} f = subst (λ (o : Outcome (List ℕ)). GivesLogged o a s l) (sym (empty-refused s l z e)) (record { answer = f; bytes = refl; log = refl })
 
 -- some number above 0
 pub some-left : {n : ℕ} → (n ≡ 0 → ⊥) → 1 ≤ n
 some-left {n} h = by-order n 1 (λ l. absurd (h (omega arith))) (λ l. l)
 
 -- the opening questions are passed
-pub by-number : (s l : List ℕ) {n : ℕ} {t m : List ℕ} {a : Answer} → n ≡ 0 → GivesLogged (withdrawalAfter 0 l s) a t m → GivesLogged (withdrawalAfter n l s) a t m
-by-number s l {t = t} {m = m} {a = a} z g = subst (λ (k : ℕ). GivesLogged (withdrawalAfter k l s) a t m) (sym z) g
+pub by-number : (s l : List ℕ) {n : ℕ} {t m : List ℕ} {a : Answer} → n ≡ 0 → GivesLogged (withdrawalAfter asBytes 0 l s) a t m → GivesLogged (withdrawalAfter asBytes n l s) a t m
+by-number s l {t = t} {m = m} {a = a} z g = subst (λ (k : ℕ). GivesLogged (withdrawalAfter asBytes k l s) a t m) (sym z) g
 
 -- ---- the last entry
 
@@ -106,7 +106,7 @@ module _ (l s : List ℕ) (b : AllBytes l) (few : tradeCount s ≤ 256) (h : T (
   unfolding bookOf
   part-within f k = subst (λ (cs : List ℕ). T (raisesWithin cs (tradesOf s))) (sym (part-cuts f k)) last-within
 
-  passed : withdrawalAfter 0 l s ≡ enteredIn (record { answer = returned (bookOf s) (cutsAt (tradeCount s) l place); book = withdrawn (bookOf s) (cutsAt (tradeCount s) l place); entries = entriesIn (tradeCount s) place l })
+  passed : withdrawalAfter asBytes 0 l s ≡ enteredIn asBytes (record { answer = returned (bookOf s) (cutsAt (tradeCount s) l place); book = withdrawn (bookOf s) (cutsAt (tradeCount s) l place); entries = entriesIn (tradeCount s) place l })
   unfolding withdrawalAfter after hasEntry refusal decided withdrawalEntered lastEntry beforeLast
   passed = rw (entries-are, lt-ltb 0 (suc (length others)) (omega arith))
 
@@ -115,7 +115,7 @@ module _ (l s : List ℕ) (b : AllBytes l) (few : tradeCount s ≤ 256) (h : T (
       → asTally y ≡ tallyAll f (cutsFrom m 0 (take ((from + 1024) - from) (drop from l))) (bookOf s .trades) nothing
       → HeldAs (withdrawn (bookOf s) (cutsFrom m 0 (take ((from + 1024) - from) (drop from l)))) t
       → l' ≡ cleared (entryAt place) entrySize l → n ≡ sealed place t l' → {a : Answer} → a ≡ ofRun 0 (y .mwh .0) (y .worth .0)
-      → GivesLogged (withdrawalAfter 0 l s) a t n
+      → GivesLogged (withdrawalAfter asBytes 0 l s) a t n
   unfolding enteredIn returned withdrawnTally
   withdrawal-gives fr k {f} p {t} {l'} {n} {y} ty hd c sl {a} an =
       let same = part-cuts fr k in
@@ -127,7 +127,7 @@ module _ (l s : List ℕ) (b : AllBytes l) (few : tradeCount s ≤ 256) (h : T (
       = ty ∙ ap₂ (λ (g : Prices) (cs : List ℕ). tallyAll g cs (bookOf s .trades) nothing) p same in
       let o = sym passed in
       record {
-        answer = an ∙ ap (λ x. ofRun 0 (x .mwh) (x .worth)) tally ∙ ap (λ (x : Outcome). x .answer) o;
-        bytes = held .bytes ∙ ap (λ (x : Outcome). x .bytes) o;
-        log = ap some (log-sealed t left (sym long) sl ∙ ap (logBytes others) (held .bytes)) ∙ ap (λ (x : Outcome). x .log) o;
+        answer = an ∙ ap (λ x. ofRun 0 (x .mwh) (x .worth)) tally ∙ ap (λ (x : Outcome (List ℕ)). x .answer) o;
+        bytes = held .bytes ∙ ap (λ (x : Outcome (List ℕ)). x .book) o;
+        log = ap some (log-sealed t left (sym long) sl ∙ ap (logBytes others) (held .bytes)) ∙ ap (λ (x : Outcome (List ℕ)). x .log) o;
       }

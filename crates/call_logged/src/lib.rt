@@ -21,7 +21,7 @@ ghost use Rattle.call_run.specs.Call.{runCall};
 ghost use Rattle.cut_worth.specs.Totals.{totals};
 ghost use Rattle.rules.specs.Calls.{ofRun, only};
 ghost use Rattle.requests.specs.Logged.{GivesLogged};
-ghost use Rattle.requests.specs.Request.{loggedAfter, withdrawalAfter};
+ghost use Rattle.requests.specs.Request.{asBytes, loggedAfter, withdrawalAfter};
 ghost use Rattle.units.specs.Limits.{asLimits, LimitsInRange};
 ghost use Rattle.call_logged.specs.Given.{Opened, numbered};
 ghost use Rattle.call_logged.specs.Withdrawal.{withdrawalOf};
@@ -65,7 +65,7 @@ pub fn run(
     requires { ⌜ LimitsInRange (asLimits limits) ⌝ }
     requires { ⌜ (length (now sellers) ≡ 256) × (length (now buyers) ≡ 256) ⌝ }
     requires { ⌜ PartiesFound (now book) number (now sellers) (now buyers) (now sums) ⌝ }
-    ensures { λ r. ⌜ GivesLogged (loggedAfter number (asLimits limits) (now (log .entry)) (now (book .entry)) runCall) (answerOf r) (now (book .exit)) (now (log .exit)) ⌝ }
+    ensures { λ r. ⌜ GivesLogged (loggedAfter asBytes number (asLimits limits) (now (log .entry)) (now (book .entry)) runCall) (answerOf r) (now (book .exit)) (now (log .exit)) ⌝ }
 {
     if number != 0 {
         return RunAnswer::refused(number);
@@ -144,7 +144,7 @@ fn withdraw_last(
     place: usize,
 ) -> WithdrawalAnswer
     requires { ⌜ BookIn (now book) (now sellers) (now parties) × T (logFits (now log) (now book)) × (entryCount (now log) ≡ suc place) ⌝ }
-    ensures { λ r. ⌜ GivesLogged (withdrawalAfter 0 (now (log .entry)) (now (book .entry))) (withdrawalOf r) (now (book .exit)) (now (log .exit)) ⌝ }
+    ensures { λ r. ⌜ GivesLogged (withdrawalAfter asBytes 0 (now (log .entry)) (now (book .entry))) (withdrawalOf r) (now (book .exit)) (now (log .exit)) ⌝ }
 {
     let n = book_format::user_count(book) as usize;
     let m = book_format::trade_count(book) as usize;
@@ -170,7 +170,7 @@ pub fn withdrawal(
 ) -> WithdrawalAnswer
     requires { ⌜ Opened number (now book) (now log) ⌝ }
     requires { ⌜ PartiesFound (now book) number (now sellers) (now parties) (now sums) ⌝ }
-    ensures { λ r. ⌜ GivesLogged (withdrawalAfter number (now (log .entry)) (now (book .entry))) (withdrawalOf r) (now (book .exit)) (now (log .exit)) ⌝ }
+    ensures { λ r. ⌜ GivesLogged (withdrawalAfter asBytes number (now (log .entry)) (now (book .entry))) (withdrawalOf r) (now (book .exit)) (now (log .exit)) ⌝ }
 {
     if number != 0 {
         return not_withdrawn(number);

@@ -23,7 +23,7 @@ use Rattle.log_format.specs.Log.{entriesOf, entryCount, logBytes}
 use Rattle.log_format.specs.Noted.{callEntered, entryOf, hasRoom, lastly, room}
 use Rattle.log_lent.specs.Lent.{NotableIn, NotedLent, roomIn}
 use Rattle.requests.proofs.Emptied.{about-numbered}
-use Rattle.requests.specs.Request.{Outcome, enteredIn, loggedAfter, refusedGiven}
+use Rattle.requests.specs.Request.{Outcome, asBytes, enteredIn, loggedAfter, refusedGiven}
 use Rattle.rules.specs.Areas.{Prices}
 use Rattle.risk_user.proofs.Borne.{party-borne}
 use Rattle.rules.specs.Book.{Party, User, find, nobody}
@@ -116,8 +116,8 @@ module _ (number : ℕ) (limits : Limits) (l s : List ℕ) (id : ℕ) where
   entry = entryOf limits (bookOf s) (find (bookOf s .users) id)
 
   -- what it gives without a log, with the entry noted
-  withNoted : InBytes → Outcome
-  withNoted x = record { answer = x .answer; numbers = []; bytes = x .bytes; log = some (after (x .answer .number) (λ n. l) (logBytes (entry ∷ entriesOf s l) (x .bytes))) }
+  withNoted : InBytes → Outcome (List ℕ)
+  withNoted x = record { answer = x .answer; numbers = []; book = x .bytes; log = some (after (x .answer .number) (λ n. l) (logBytes (entry ∷ entriesOf s l) (x .bytes))) }
 
   asks : List Question
   asks = about limits (bookOf s) (reduction id) ++ (hasRoom (room l) ∷ [])
@@ -127,13 +127,13 @@ module _ (number : ℕ) (limits : Limits) (l s : List ℕ) (id : ℕ) where
   asks-numbered = all-append (λ q. ltb 0 (q .number)) (about limits (bookOf s) (reduction id)) (hasRoom (room l) ∷ []) (about-numbered limits (bookOf s) (reduction id)) tt
 
   noted-decided : (o : Option ℕ) → refusal asks ≡ o
-      → decided o (refusedGiven (some l) s) (enteredIn (callEntered limits (room l) (entriesOf s l) (bookOf s) (reduction id))) ≡ withNoted (decided o (unchanged s) (inBytes (effect limits (bookOf s) (reduction id))))
+      → decided o (refusedGiven (some l) s) (enteredIn asBytes (callEntered limits (room l) (entriesOf s l) (bookOf s) (reduction id))) ≡ withNoted (decided o (unchanged s) (inBytes (effect limits (bookOf s) (reduction id))))
   unfolding decided enteredIn callEntered inBytes refusedGiven unchanged withNoted only after effect reduced reducedBy ofCuts numbered
   noted-decided none k = refl
   noted-decided (some zero) k = absurd (let n = ltb→lt 0 0 (refusal-is (λ i. ltb 0 i) asks 0 asks-numbered k) in omega arith)
   noted-decided (some (suc n)) k = refl
 
-  noted-after : (n : ℕ) → loggedAfter n limits l s (reduction id) ≡ withNoted (stepWith (hasRoom (room l) ∷ []) n limits s id)
+  noted-after : (n : ℕ) → loggedAfter asBytes n limits l s (reduction id) ≡ withNoted (stepWith (hasRoom (room l) ∷ []) n limits s id)
   unfolding loggedAfter stepWith after refusedGiven unchanged withNoted only lastly asks
   noted-after (suc n) = refl
   noted-after zero = noted-decided (refusal asks) refl
@@ -159,9 +159,9 @@ module _ (number : ℕ) (limits : Limits) (l s : List ℕ) (id : ℕ) where
         without = λ x. absurd (subst T x tt);
         stays = λ x. absurd (subst T x tt);
         within = λ x. record {
-          answer = g .answer ∙ ap (λ (o : Outcome). o .answer) e;
-          bytes = g .bytes ∙ ap (λ (o : Outcome). o .bytes) e;
+          answer = g .answer ∙ ap (λ (o : Outcome (List ℕ)). o .answer) e;
+          bytes = g .bytes ∙ ap (λ (o : Outcome (List ℕ)). o .book) e;
           log = ap some (h ∙ ap (λ (n : ℕ). after n (λ i. l) (logBytes (entry ∷ entriesOf s l) t)) (ap (λ (r : Answer). r .number) (g .answer))
-              ∙ ap (λ (y : List ℕ). after (step .answer .number) (λ i. l) (logBytes (entry ∷ entriesOf s l) y)) (g .bytes)) ∙ ap (λ (o : Outcome). o .log) e;
+              ∙ ap (λ (y : List ℕ). after (step .answer .number) (λ i. l) (logBytes (entry ∷ entriesOf s l) y)) (g .bytes)) ∙ ap (λ (o : Outcome (List ℕ)). o .log) e;
         };
       }

@@ -3,7 +3,7 @@ use Rattle.base.specs.Basics.{_≡_, Bool, true, false, cond, List, _∷_, ℕ}
 use Rattle.book_format.specs.After.{CalledAfter, after}
 use Rattle.log_format.specs.Log.{entriesOf, logBytes}
 use Rattle.requests.specs.Logged.{GivesLogged}
-use Rattle.requests.specs.Request.{loggedAfter}
+use Rattle.requests.specs.Request.{asBytes, loggedAfter}
 use Rattle.rules.specs.Calls.{Answer}
 use Rattle.rules.specs.Levels.{Limits}
 use Rattle.call_reduction.specs.Call.{reductionOf}
@@ -17,4 +17,4 @@ notedBy lent number loss s t l = cond lent (after number (λ n. l) (logBytes (lo
 pub record ReducedWith (lent : Bool) (number : ℕ) (limits : Limits) (l s : List ℕ) (id : ℕ) (a : Answer) (t m : List ℕ) : Type 0 where
   pub without : lent ≡ false → CalledAfter number limits s (reductionOf id) a t
   pub stays : lent ≡ false → m ≡ l
-  pub within : lent ≡ true → GivesLogged (loggedAfter number limits l s (reductionOf id)) a t m
+  pub within : lent ≡ true → GivesLogged (loggedAfter asBytes number limits l s (reductionOf id)) a t m

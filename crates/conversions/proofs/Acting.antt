@@ -52,13 +52,13 @@ module _ {v : ℕ} {s : List ℕ} (c : Convertible v s) where
   -- ---- calls, queries, whole cancellations
 
   -- two outcomes that are alike, by others that they are
-  alike-of : {x y z w : Outcome} → x ≡ z → y ≡ w → Alike v z w → Alike v x y
+  alike-of : {x y z w : Outcome (List ℕ)} → x ≡ z → y ≡ w → Alike v z w → Alike v x y
   alike-of e f k =
       record {
-        answer = ap (λ (o : Outcome). o .answer) e ∙ k .answer ∙ sym (ap (λ (o : Outcome). o .answer) f);
-        numbers = ap (λ (o : Outcome). o .numbers) e ∙ k .numbers ∙ sym (ap (λ (o : Outcome). o .numbers) f);
-        bytes = ap (λ (o : Outcome). o .bytes) e ∙ k .bytes ∙ sym (ap (λ (o : Outcome). converted v (o .bytes)) f);
-        log = ap (λ (o : Outcome). o .log) e ∙ k .log ∙ sym (ap (λ (o : Outcome). o .log) f);
+        answer = ap (λ (o : Outcome (List ℕ)). o .answer) e ∙ k .answer ∙ sym (ap (λ (o : Outcome (List ℕ)). o .answer) f);
+        numbers = ap (λ (o : Outcome (List ℕ)). o .numbers) e ∙ k .numbers ∙ sym (ap (λ (o : Outcome (List ℕ)). o .numbers) f);
+        bytes = ap (λ (o : Outcome (List ℕ)). o .book) e ∙ k .bytes ∙ sym (ap (λ (o : Outcome (List ℕ)). converted v (o .book)) f);
+        log = ap (λ (o : Outcome (List ℕ)). o .log) e ∙ k .log ∙ sym (ap (λ (o : Outcome (List ℕ)). o .log) f);
       }
 
   requests-by : (actor : Party) (store : Option (List ℕ)) (a : Act) → Alike v (requestBy actor (actOf store none a) there) (requestBy actor (actOf store none a) s)

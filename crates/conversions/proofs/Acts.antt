@@ -1,82 +1,79 @@
 -- What an act without a log gives on a book as a version: the same answer and numbers, and the book as that version. Assumes nothing.
-use Rattle.base.specs.Basics.{_≡_, refl, subst, ap, ap₂, _∙_, Option, none, some, List, [], _∷_, _++_, ℕ, ℤ}
+use Rattle.base.specs.Basics.{_≡_, refl, subst, sym, ap, _∙_, Option, none, some, List, [], _∷_, ℕ, zero, suc, ℤ}
 use Rattle.rules.specs.Book.{Book}
 use Rattle.rules.specs.Calls.{Call, Result, about, effect, only, posting}
 use Rattle.rules.specs.Levels.{Limits}
-use Rattle.rules.specs.Questions.{Question, aboutBook, decided, refusal}
+use Rattle.rules.specs.Questions.{decided, refusal}
 use Rattle.laws.specs.Sound.{Sound}
-use Rattle.laws.proofs.Refusals.{refusal-next}
-use Rattle.laws.proofs.Sound.{none-refuses}
-use Rattle.log_format.specs.Noted.{hasEntry}
-use Rattle.requests.specs.Request.{Act, Event, Setting, aboutLines, aboutSetting, actGiven, call, limitsOn, linesGiven, ofCall, postings, refusedOn, stepGiven, withdrawal}
-use Rattle.sequence.proofs.Step.{step-law}
+use Rattle.book_format.specs.After.{after}
+use Rattle.requests.specs.Request.{Act, Outcome, Setting, actIn, asBook, call, callAfter, firstOf, limitsOn, linesIn, openingIn, openingLines, postings, refusedGiven, resultIn, stepIn, withdrawal}
+use Rattle.sequence.proofs.Acts.{book-number, step-law}
+use Rattle.store.specs.Store.{storeNumber}
 use Rattle.conversions.specs.Conversion.{asVersion}
 use Rattle.conversions.proofs.Alike.{about-alike, effect-alike, resultAs}
 
 -- what an act gives, with the book as a version
-unfoldable pub eventAs : ℕ → Event → Event
-eventAs v e = record { answer = e .answer; numbers = e .numbers; book = asVersion v (e .book); log = e .log }
+unfoldable pub outcomeAs : ℕ → Outcome Book → Outcome Book
+outcomeAs v e = record { answer = e .answer; numbers = e .numbers; book = asVersion v (e .book); log = e .log }
 
 module _ (g : Setting) (v : ℕ) where
-  -- the date is the same, and so are the figures and the questions of the setting
-  pub limits-alike : (b : Book) → limitsOn g (asVersion v b) ≡ limitsOn g b
-  unfolding limitsOn asVersion
-  limits-alike b = refl
-
-  pub setting-alike : (b : Book) → aboutSetting g (asVersion v b) ≡ aboutSetting g b
-  unfolding aboutSetting asVersion
-  setting-alike b = refl
-
-  -- a call past the questions of the book
+  -- a call that its own questions refuse, or let pass
   own-alike : (b : Book) (o : Option ℕ) (r : Result)
-      → decided o (λ n. record { answer = only n; book = asVersion v b }) (resultAs v r) ≡ resultAs v (decided o (λ n. record { answer = only n; book = b }) r)
-  unfolding decided resultAs
+      → decided o (refusedGiven none (asVersion v b)) (resultIn asBook (resultAs v r)) ≡ outcomeAs v (decided o (refusedGiven none b) (resultIn asBook r))
+  unfolding decided refusedGiven resultIn resultAs outcomeAs
   own-alike b none r = refl
   own-alike b (some n) r = refl
 
-  pub step-alike : (b : Book) (c : Call) → Sound b → Sound (asVersion v b) → stepGiven g (asVersion v b) c ≡ resultAs v (stepGiven g b c)
-  unfolding stepGiven
-  step-alike b c s t =
-      let limits = limitsOn g b in
-      let own = aboutSetting g b ++ about limits b c in
-      let own' = aboutSetting g (asVersion v b) ++ about (limitsOn g (asVersion v b)) (asVersion v b) c in
-      let e : own' ≡ own = ap₂ (λ (x y : List Question). x ++ y) (setting-alike b) (ap (λ (l : Limits). about l (asVersion v b) c) (limits-alike b) ∙ about-alike limits v b c) in
-      rw (refusal-next (aboutBook (asVersion v b)) own' (none-refuses (asVersion v b) t), refusal-next (aboutBook b) own (none-refuses b s), e, limits-alike b, effect-alike limits v b c)
-      (own-alike b (refusal own) (effect limits b c))
+  call-alike : (n : ℕ) (limits : Limits) (b : Book) (c : Call) → callAfter asBook n limits (asVersion v b) c ≡ outcomeAs v (callAfter asBook n limits b c)
+  unfolding callAfter after refusedGiven outcomeAs
+  call-alike zero limits b c = rw (about-alike limits v b c, effect-alike limits v b c) (own-alike b (refusal (about limits b c)) (effect limits b c))
+  call-alike (suc n) limits b c = refl
+
+  -- in a setting: the date is the same, and so are the figures and the number of the store's questions
+  step-alike : (n : ℕ) (b : Book) (c : Call) → stepIn asBook n g (asVersion v b) c ≡ outcomeAs v (stepIn asBook n g b c)
+  unfolding stepIn openingIn limitsOn asVersion
+  step-alike n b c = call-alike (firstOf n (storeNumber (g .store) (b .header .date))) (limitsOn g b) b c
+
+  -- both books pass their own questions
+  number-alike : (b : Book) → Sound b → Sound (asVersion v b) → asBook .number (asVersion v b) ≡ asBook .number b
+  number-alike b s t = book-number g (asVersion v b) t ∙ sym (book-number g b s)
 
   -- the lines of a list, one after another
   lines-alike : (b : Book) (ids areas : List ℕ) (amounts : List ℤ) → Sound b → Sound (asVersion v b)
-      → linesGiven g (asVersion v b) ids areas amounts ≡ eventAs v (linesGiven g b ids areas amounts)
-  unfolding linesGiven eventAs resultAs
+      → linesIn asBook g (asVersion v b) ids areas amounts ≡ outcomeAs v (linesIn asBook g b ids areas amounts)
+  unfolding linesIn outcomeAs
   lines-alike b [] areas amounts s t = refl
   lines-alike b (id ∷ ids) [] amounts s t = refl
   lines-alike b (id ∷ ids) (area ∷ areas) [] s t = refl
   lines-alike b (id ∷ ids) (area ∷ areas) (z ∷ amounts) s t =
       let c = posting id area z in
-      let first = stepGiven g b c in
-      let e : stepGiven g (asVersion v b) c ≡ resultAs v first = step-alike b c s t in
+      let n = asBook .number b in
+      let first = stepIn asBook n g b c in
+      let e : stepIn asBook (asBook .number (asVersion v b)) g (asVersion v b) c ≡ outcomeAs v first
+      = ap (λ (k : ℕ). stepIn asBook k g (asVersion v b) c) (number-alike b s t) ∙ step-alike n b c in
       let s' : Sound (first .book) = step-law g b c s .sound in
-      let t' : Sound (asVersion v (first .book)) = subst (λ (r : Result). Sound (r .book)) e (step-law g (asVersion v b) c t .sound) in
+      let t' : Sound (asVersion v (first .book)) = subst (λ (r : Outcome Book). Sound (r .book)) e (step-law g (asVersion v b) c t .sound) in
       let rest = lines-alike (first .book) ids areas amounts s' t' in
-      ap (λ (r : Result). line r (linesGiven g (r .book) ids areas amounts)) e ∙ ap (line (resultAs v first)) rest
+      ap (λ (r : Outcome Book). line r (linesIn asBook g (r .book) ids areas amounts)) e ∙ ap (line (outcomeAs v first)) rest
     where
-      line : Result → Event → Event
+      line : Outcome Book → Outcome Book → Outcome Book
       line first rest = record { answer = only 0; numbers = first .answer .number ∷ rest .numbers; book = rest .book; log = none }
 
-  -- an act past the questions of the book
-  after-own : (b : Book) (o : Option ℕ) (e : Event) → decided o (refusedOn (asVersion v b) none) (eventAs v e) ≡ eventAs v (decided o (refusedOn b none) e)
-  unfolding decided refusedOn eventAs
-  after-own b none e = refl
-  after-own b (some n) e = refl
+  -- after a list's opening questions
+  after-alike : (n : ℕ) (b : Book) (e : Outcome Book) → after n (refusedGiven none (asVersion v b)) (outcomeAs v e) ≡ outcomeAs v (after n (refusedGiven none b) e)
+  unfolding after refusedGiven outcomeAs
+  after-alike zero b e = refl
+  after-alike (suc n) b e = refl
 
-  pub act-alike : (b : Book) (a : Act) → Sound b → Sound (asVersion v b) → actGiven g (asVersion v b) a ≡ eventAs v (actGiven g b a)
-  unfolding actGiven ofCall eventAs resultAs decided refusedOn
-  act-alike b (call c) s t = ap ofCall (step-alike b c s t)
-  act-alike b (postings w) s t =
-      let own = aboutLines w ++ aboutSetting g b in
-      rw (setting-alike b, refusal-next (aboutBook (asVersion v b)) own (none-refuses (asVersion v b) t), refusal-next (aboutBook b) own (none-refuses b s), lines-alike b (w .ids) (w .areas) (w .amounts) s t)
-      (after-own b (refusal own) (linesGiven g b (w .ids) (w .areas) (w .amounts)))
-  act-alike b withdrawal s t =
-      let own = aboutSetting g b ++ (hasEntry [] ∷ []) in
-      rw (setting-alike b, refusal-next (aboutBook (asVersion v b)) own (none-refuses (asVersion v b) t), refusal-next (aboutBook b) own (none-refuses b s))
-      (after-own b (refusal own) (refusedOn b none 18))
+  act-after : (n : ℕ) (b : Book) (a : Act) → Sound b → Sound (asVersion v b) → actIn asBook n g (asVersion v b) a ≡ outcomeAs v (actIn asBook n g b a)
+  unfolding actIn openingIn outcomeAs refusedGiven asVersion
+  act-after n b (call c) s t = step-alike n b c
+  act-after n b (postings w) s t =
+      let k = firstOf (openingLines n w) (storeNumber (g .store) (b .header .date)) in
+      ap (λ (e : Outcome Book). after k (refusedGiven none (asVersion v b)) e) (lines-alike b (w .ids) (w .areas) (w .amounts) s t)
+      ∙ after-alike k b (linesIn asBook g b (w .ids) (w .areas) (w .amounts))
+  act-after n b withdrawal s t = refl
+
+  pub act-alike : (b : Book) (a : Act) → Sound b → Sound (asVersion v b)
+      → actIn asBook (asBook .number (asVersion v b)) g (asVersion v b) a ≡ outcomeAs v (actIn asBook (asBook .number b) g b a)
+  act-alike b a s t = ap (λ (n : ℕ). actIn asBook n g (asVersion v b) a) (number-alike b s t) ∙ act-after (asBook .number b) b a s t

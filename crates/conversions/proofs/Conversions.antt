@@ -19,13 +19,13 @@ use Rattle.book_format.proofs.Passed.{passed}
 use Rattle.book_format.proofs.Round.{bytesOf-bookOf}
 use Rattle.book_format.proofs.Written.{all-bytes-bytesOf, bookOf-bytesOf, written-number}
 use Rattle.requests.specs.Cancellation.{Cancellation, aboutCancellation, cancellationAfter, cancellationIn, cancelled, cancelledFor, marksOf, notCancelled, searchFor, triesInRange, wholeWorth, worthSuffices}
-use Rattle.requests.specs.Request.{Act, Event, Setting, actGiven, actOf, enquiryAfter, firstOf, limitsOn, opening, request, requestGiven, settingOf}
+use Rattle.requests.specs.Request.{Act, Outcome, Setting, actBy, actOf, enquiryAfter, firstOf, limitsOn, opening, openingIn, request, requestGiven, requestIn, settingOf}
 use Rattle.store.specs.Store.{storeNumber}
 use Rattle.sequence.proofs.Sequence.{Left, left-of}
 use Rattle.outputs.specs.Output.{accepted, refused, written}
 use Rattle.conversions.specs.Conversion.{aboutConversion, asVersion, conversion, converted, kept, nothingLost, roomFor}
 use Rattle.conversions.specs.Statements.{Alike, Back, Conversions, Convertible, NothingLost}
-use Rattle.conversions.proofs.Acts.{act-alike, eventAs}
+use Rattle.conversions.proofs.Acts.{act-alike, outcomeAs}
 use Rattle.conversions.proofs.Alike.{about-alike, found-alike, query-alike}
 use Rattle.conversions.proofs.Kept.{own-kept, sound-as, upward-kept}
 
@@ -150,17 +150,17 @@ module _ {v : ℕ} {s : List ℕ} (c : Convertible v s) where
   -- ---- calls, queries, whole cancellations
 
   pub requests-alike : (store : Option (List ℕ)) (a : Act) → Alike v (request (actOf store none a) t) (request (actOf store none a) s)
-  unfolding converted eventAs requestGiven
+  unfolding converted outcomeAs requestIn actBy
   requests-alike store a =
       let g = settingOf store in
       let here = left store a s (c .bytes) (c .accepted) in
       let there = left store a t bytes-there number-there in
-      let e : actGiven g (bookOf t) a ≡ eventAs v (actGiven g b a) = ap (λ (n : Book). actGiven g n a) book-there ∙ act-alike g v b a sound sound-there in
+      let e : requestGiven (actOf store none a) (bookOf t) ≡ outcomeAs v (requestGiven (actOf store none a) b) = ap (requestGiven (actOf store none a)) book-there ∙ act-alike g v b a sound sound-there in
       record {
-        answer = there .answer ∙ ap (λ (x : Event). x .answer) e ∙ sym (here .answer);
-        numbers = there .numbers ∙ ap (λ (x : Event). x .numbers) e ∙ sym (here .numbers);
-        bytes = there .bytes ∙ ap (λ (x : Event). bytesOf (x .book)) e ∙ ap (λ (x : Book). bytesOf (asVersion v x)) (sym (here .book));
-        log = there .log ∙ ap (λ (x : Event). x .log) e ∙ sym (here .log);
+        answer = there .answer ∙ ap (λ (x : Outcome Book). x .answer) e ∙ sym (here .answer);
+        numbers = there .numbers ∙ ap (λ (x : Outcome Book). x .numbers) e ∙ sym (here .numbers);
+        bytes = there .bytes ∙ ap (λ (x : Outcome Book). bytesOf (x .book)) e ∙ ap (λ (x : Book). bytesOf (asVersion v x)) (sym (here .book));
+        log = there .log ∙ ap (λ (x : Outcome Book). x .log) e ∙ sym (here .log);
       }
 
   -- a query and a whole cancellation after any opening number, by the book that the bytes hold; the date and the figures are the same
@@ -168,7 +168,7 @@ module _ {v : ℕ} {s : List ℕ} (c : Convertible v s) where
   replied n g q x = after (firstOf n (storeNumber (g .store) (x .header .date))) onlyNumber (decided (refusal (aboutQuery x q)) onlyNumber (found (limitsOn g x) x q))
 
   pub enquiries-alike : (n : ℕ) (g : Setting) (q : Query) → enquiryAfter n g t q ≡ enquiryAfter n g s q
-  unfolding enquiryAfter replyAfter opening replied limitsOn asVersion
+  unfolding enquiryAfter replyAfter openingIn replied limitsOn asVersion
   enquiries-alike n g q =
       let limits = limitsOn g b in
       ap (replied n g q) book-there
@@ -180,7 +180,7 @@ module _ {v : ℕ} {s : List ℕ} (c : Convertible v s) where
       (decided (refusal (aboutCancellation (limitsOn g x) x id tries)) notCancelled (cancelled (limitsOn g x) x (find (x .users) id) tries))
 
   pub cancellations-alike : (n : ℕ) (g : Setting) (id tries : ℕ) → cancellationIn n g t id tries ≡ cancellationIn n g s id tries
-  unfolding cancellationIn cancellationAfter opening searched limitsOn asVersion
+  unfolding cancellationIn cancellationAfter openingIn searched limitsOn asVersion
   cancellations-alike n g id tries =
       let limits = limitsOn g b in
       ap (searched n g id tries) book-there

@@ -39,10 +39,10 @@ pub record Answers (version : ℕ) (s out : List ℕ) : Type 0 where
   pub narrow : Convertible version s → length out < length (converted version s) → conversion version s out ≡ refused out 22
 
 -- what a request without a log gives on a book as a version: the same answer and the same numbers of lines, and the bytes after it as that version
-pub record Alike (version : ℕ) (there here : Outcome) : Type 0 where
+pub record Alike (version : ℕ) (there here : Outcome (List ℕ)) : Type 0 where
   pub answer : there .answer ≡ here .answer
   pub numbers : there .numbers ≡ here .numbers
-  pub bytes : there .bytes ≡ converted version (here .bytes)
+  pub bytes : there .book ≡ converted version (here .book)
   pub log : there .log ≡ here .log
 
 pub record Conversions : Type 0 where

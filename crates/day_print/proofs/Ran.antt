@@ -1,32 +1,31 @@
 -- A book that was run: where the run is accepted, so is the book that it leaves. Assumes nothing.
 use mathlib.Core.List.{List}
-use mathlib.Core.Path.{_≡_, refl, ap, sym, _∙_}
+use mathlib.Core.Path.{_≡_, refl, ap, _∙_}
 use Prim.Native.Nat.{ℕ, zero, suc}
 use native.Mathlib.Omega.{arith}
 use Rattle.book_format.proofs.Passed.{passed}
-use Rattle.book_format.proofs.Steps.{step-passed, step-refused}
 use Rattle.book_format.proofs.Written.{written-number}
+use Rattle.book_format.specs.After.{CalledAfter, after, stepAfter, unchanged}
 use Rattle.book_format.specs.Book.{bookOf}
 use Rattle.book_format.specs.Questions.{bookNumber}
-use Rattle.book_format.specs.Steps.{Called, InBytes, inBytes}
+use Rattle.book_format.specs.Steps.{inBytes}
 use Rattle.laws.proofs.Run.{run-law}
 use Rattle.rules.specs.Calls.{Answer, about, cuttable, effect, only}
 use Rattle.rules.specs.Levels.{Limits}
 use Rattle.rules.specs.Questions.{decided, refusal}
 use Rattle.call_run.specs.Call.{runCall}
 
-module _ {limits : Limits} {s t : List ℕ} {a : Answer} (called : Called limits s runCall a t) where
+module _ {limits : Limits} {s t : List ℕ} {a : Answer} (called : CalledAfter (bookNumber s) limits s runCall a t) where
   -- a book that is refused gets another number than 0
   refused-number : (n : ℕ) → bookNumber s ≡ suc n → a .number ≡ suc n
-  unfolding only
-  refused-number n e =
-      ap (λ (x : Answer). x .number) (called .answer ∙ ap (λ (r : InBytes). r .answer) (step-refused limits s runCall (suc n) (sym e) (λ h. omega arith)))
+  unfolding stepAfter after unchanged only
+  refused-number n e = ap (λ (x : Answer). x .number) (called .answer ∙ ap (λ (m : ℕ). stepAfter m limits s runCall .answer) e)
 
   -- a run of an accepted book asks nothing more, and what it writes is accepted
   left-number : bookNumber s ≡ 0 → bookNumber t ≡ 0
-  unfolding about refusal decided effect inBytes
+  unfolding stepAfter after about refusal decided effect inBytes
   left-number e =
-      ap bookNumber (called .bytes ∙ ap (λ (r : InBytes). r .bytes) (step-passed limits s runCall e))
+      ap bookNumber (called .bytes ∙ ap (λ (m : ℕ). stepAfter m limits s runCall .bytes) e)
       ∙ written-number (effect limits (bookOf s) runCall .book) (run-law limits (cuttable (bookOf s .trades)) (bookOf s) (passed s e .sound) .sound)
 
   pub ran-accepted : a .number ≡ 0 → bookNumber t ≡ 0

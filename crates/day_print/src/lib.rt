@@ -8,8 +8,8 @@ use units::Limits;
 use units::Net;
 ghost use mathlib.Core.Path.{_≡_};
 ghost use Rattle.rules.specs.Levels.{today};
+ghost use Rattle.book_format.specs.After.{CalledAfter, stepAfter};
 ghost use Rattle.book_format.specs.Questions.{bookNumber};
-ghost use Rattle.book_format.specs.Steps.{Called, stepBytes};
 ghost use Rattle.call_answers.specs.Run.{answerOf};
 ghost use Rattle.call_run.specs.Call.{runCall};
 ghost use Rattle.units.specs.Prices.{asPrices};
@@ -148,7 +148,7 @@ fn totals(answer: RunAnswer) {
 
 // Runs a book in bytes, with today's figures.
 fn run(book: &mut [u8]) -> RunAnswer
-    ensures { λ r. ⌜ Called today (now (book .entry)) runCall (answerOf r) (now (book .exit)) ⌝ }
+    ensures { λ r. ⌜ CalledAfter (bookNumber (now (book .entry))) today (now (book .entry)) runCall (answerOf r) (now (book .exit)) ⌝ }
 {
     let mut sellers = [0u8; 256];
     let mut buyers = [0u8; 256];
@@ -167,7 +167,7 @@ fn run(book: &mut [u8]) -> RunAnswer
 // Runs a book in bytes and prints its day: the run, and the line of every user in the book that the run leaves; or the number of the
 // question that refuses it.
 pub fn day(book: &mut [u8])
-    ensures { λ _. ⌜ now (book .exit) ≡ stepBytes today (now (book .entry)) runCall .bytes ⌝ }
+    ensures { λ _. ⌜ now (book .exit) ≡ stepAfter (bookNumber (now (book .entry))) today (now (book .entry)) runCall .bytes ⌝ }
 {
     let answer = run(book);
     let question = answer.number;

@@ -12,7 +12,7 @@ use Rattle.log_format.proofs.Read.{fits-facts}
 use Rattle.log_lent.specs.Lent.{Emptiable}
 use Rattle.requests.proofs.Logged.{actLent, logged-call, logged-without}
 use Rattle.requests.specs.Logged.{AdmittedWith, GivesLogged, LoggedAfter}
-use Rattle.requests.specs.Request.{call, Setting, loggedAfter}
+use Rattle.requests.specs.Request.{call, Setting, asBytes, loggedAfter}
 use Rattle.rules.specs.Calls.{Answer, Call, only}
 use Rattle.rules.specs.Levels.{Limits}
 use Rattle.store.specs.Store.{given}
@@ -48,7 +48,7 @@ module _ {n : ℕ} {g : Setting} {l s : List ℕ} {number : ℕ} {limits : Limit
   called-without true e d k = absurd (subst T e tt)
   called-without false e d k = logged-without d k
 
-  pub called-with : (lent : Bool) {c : Call} {a : Answer} {t m : List ℕ} → lent ≡ true → AdmittedWith n g (given lent l) s number limits → GivesLogged (loggedAfter number limits l s c) a t m
+  pub called-with : (lent : Bool) {c : Call} {a : Answer} {t m : List ℕ} → lent ≡ true → AdmittedWith n g (given lent l) s number limits → GivesLogged (loggedAfter asBytes number limits l s c) a t m
       → LoggedAfter n (actLent g (given lent l) (call c)) s a t l m
   unfolding given
   called-with true e d k = logged-call d k

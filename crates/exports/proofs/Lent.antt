@@ -40,13 +40,13 @@ module _ (n : ℕ) (lent : List ℕ) where
         let made = called .carried in
         record {
           answer = stored _ _ lent result after e (number ∙ ap (λ (b : Answer). b .number) (made .answer)) (part ∙ ap numbers (made .answer));
-          book = made .bytes ∙ of-length (requestBy actor r s .bytes) s e;
+          book = made .bytes ∙ of-length (requestBy actor r s .book) s e;
           log = called .log ∙ of-length (lentLog (requestBy actor r s .log) l) l e;
         }
 
     -- a call that was not made
     pub not-called : (length lent ≡ n → ⊥) → Answered n numbers actor r s lent wrongLength lent s l l
-    not-called e = record { answer = refused _ _ lent e; book = of-other (requestBy actor r s .bytes) s e; log = of-other (lentLog (requestBy actor r s .log) l) l e }
+    not-called e = record { answer = refused _ _ lent e; book = of-other (requestBy actor r s .book) s e; log = of-other (lentLog (requestBy actor r s .log) l) l e }
 
 -- ---- two parts
 

@@ -57,7 +57,7 @@ TradeInto actor g s id ordinal trade answer result trade-after answer-after =
 -- a call with n numbers: its number and the lent part, every byte of the book, and every byte of the lent log, given or not
 pub record Answered (n : ℕ) (numbers : Answer → List ℕ) (actor : Party) (r : Request) (s : List ℕ) (lent : List ℕ) (result : ℕ) (after : List ℕ) (t l m : List ℕ) : Type 0 where
   pub answer : Stored n lent (requestBy actor r s .answer .number) (numbers (requestBy actor r s .answer)) result after
-  pub book : t ≡ byLength n lent (requestBy actor r s .bytes) s
+  pub book : t ≡ byLength n lent (requestBy actor r s .book) s
   pub log : m ≡ byLength n lent (lentLog (requestBy actor r s .log) l) l
 
 -- the levels of all users, with 256 numbers

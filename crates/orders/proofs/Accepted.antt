@@ -1,17 +1,20 @@
 -- An accepted posting on a book in bytes, as facts: what its questions tell, and the bytes that it leaves; and the way back. Assumes nothing.
-use Rattle.base.specs.Basics.{_≡_, refl, sym, ap, _∙_, Bool, true, false, _&&_, Option, none, some, List, [], _∷_, _++_, ℕ, _<_, T, ltb, ltb→lt}
+use Rattle.base.specs.Basics.{_≡_, refl, sym, ap, _∙_, Bool, true, false, _&&_, Option, none, some, List, [], _∷_, ℕ, _<_, T, ltb, ltb→lt}
 use Rattle.base.specs.Basics.{lt→ltb, ℤ, _+ℤ_}
+use Rattle.book_format.proofs.Formed.{book-passed}
 use Rattle.book_format.proofs.Passed.{passed-of}
 use Rattle.book_format.proofs.Written.{bookOf-bytesOf}
+use Rattle.book_format.specs.After.{CalledAfter, after, stepAfter, unchanged}
 use Rattle.book_format.specs.Book.{bookOf, bytesOf}
-use Rattle.book_format.specs.Questions.{aboutBytes, aboutFields, aboutForm, bookNumber}
-use Rattle.book_format.specs.Steps.{Called, inBytes, stepBytes}
+use Rattle.book_format.specs.Questions.{aboutBytes, bookNumber}
+use Rattle.book_format.specs.Steps.{inBytes}
 use Rattle.laws.proofs.Posting.{posting-sound}
-use Rattle.laws.proofs.Refusals.{append-yes, first-yes, number-none, numbered, refusal-next}
+use Rattle.laws.proofs.Refusals.{first-yes, number-none}
 use Rattle.laws.specs.Sound.{Sound}
 use Rattle.base.proofs.Tests.{and-i, and-l, and-r}
 use Rattle.log_format.proofs.Noted.{posting-empties}
-use Rattle.requests.proofs.Emptied.{accepted-with, log-off, log-on, with-opening}
+use Rattle.requests.proofs.Emptied.{about-numbered, accepted-with, log-off, log-on, with-opening}
+use Rattle.requests.proofs.Opened.{opening-zero}
 use Rattle.requests.proofs.Passed.{passed-called, passed-carried}
 use Rattle.requests.specs.Carried.{Carried}
 use Rattle.requests.specs.Request.{call, actOf, limitsOn, openingWith, settingOf}
@@ -19,7 +22,6 @@ use Rattle.rules.specs.Book.{Book, at, find}
 use Rattle.rules.specs.Calls.{posting, Answer, about, effect, entryInRange, idKnown, only}
 use Rattle.rules.specs.Changes.{change, posted, withUsers}
 use Rattle.rules.specs.Levels.{Limits}
-use Rattle.base.specs.Lists.{all}
 use Rattle.rules.specs.Questions.{decided, known, numberOf, refusal}
 use Rattle.rules.specs.Signed.{within}
 
@@ -41,15 +43,10 @@ sound-after {s} {id} {area} {z} q = posting-sound (bookOf s) id area z (passed-o
 
 -- the number of the step is the refusal's
 number-is : (limits : Limits) (s : List ℕ) (id area : ℕ) (z : ℤ) (o : Option ℕ)
-    → decided o (λ n. record { answer = only n; bytes = s }) (inBytes (effect limits (bookOf s) (posting id area z))) .answer .number ≡ numberOf o
-unfolding decided numberOf inBytes effect only
+    → decided o (unchanged s) (inBytes (effect limits (bookOf s) (posting id area z))) .answer .number ≡ numberOf o
+unfolding decided numberOf unchanged inBytes effect only
 number-is limits s id area z none = refl
 number-is limits s id area z (some n) = refl
-
--- no question has the number 0
-all-numbered : (limits : Limits) (s : List ℕ) (id area : ℕ) (z : ℤ) → T (numbered (aboutBytes s ++ about limits (bookOf s) (posting id area z)))
-unfolding numbered all aboutBytes aboutForm aboutFields about idKnown entryInRange
-all-numbered limits s id area z = tt
 
 -- two questions that are answered by yes
 both-yes : (m n : ℕ) (c d : Bool) → T c → T d → refusal (record { number = m; holds = c } ∷ (record { number = n; holds = d } ∷ [])) ≡ none
@@ -58,40 +55,38 @@ both-yes m n true true h k = refl
 both-yes m n true false h k = absurd k
 both-yes m n false d h k = absurd h
 
--- ---- by the contract of document 01
+-- ---- by the contract of the inner call
 
 module _ (limits : Limits) {s : List ℕ} {id area : ℕ} {z : ℤ} where
-  module _ {a : Answer} {t : List ℕ} (k : Called limits s (posting id area z) a t) (h : a .number ≡ 0) where
+  module _ {a : Answer} {t : List ℕ} (k : CalledAfter 0 limits s (posting id area z) a t) (h : a .number ≡ 0) where
     -- no question refuses it
-    none-refuses : refusal (aboutBytes s ++ about limits (bookOf s) (posting id area z)) ≡ none
-    unfolding stepBytes
+    none-refuses : refusal (about limits (bookOf s) (posting id area z)) ≡ none
+    unfolding stepAfter after
     none-refuses =
-        number-none (aboutBytes s ++ about limits (bookOf s) (posting id area z)) (all-numbered limits s id area z)
-        (sym (number-is limits s id area z (refusal (aboutBytes s ++ about limits (bookOf s) (posting id area z)))) ∙ sym (ap (λ (r : Answer). r .number) (k .answer)) ∙ h)
+        number-none (about limits (bookOf s) (posting id area z)) (about-numbered limits (bookOf s) (posting id area z))
+        (sym (number-is limits s id area z (refusal (about limits (bookOf s) (posting id area z)))) ∙ sym (ap (λ (r : Answer). r .number) (k .answer)) ∙ h)
 
     -- so each was answered by yes
-    call-accepted : Accepted s id area z
+    call-accepted : refusal (aboutBytes s) ≡ none → Accepted s id area z
     unfolding about idKnown entryInRange
-    call-accepted =
-        let e = append-yes (aboutBytes s) (about limits (bookOf s) (posting id area z)) none-refuses in
-        let q8 = first-yes _ _ (e .1) in
+    call-accepted e =
+        let q8 = first-yes _ _ none-refuses in
         let q10 = first-yes _ _ (q8 .1) in
         let ok = within 1000000 (at (find (bookOf s .users) id .physical) area +ℤ z) in
-        record { book = e .0; user = q8 .0; area = ltb→lt area 3 (and-l (ltb area 3) ok (q10 .0)); range = and-r (ltb area 3) ok (q10 .0) }
+        record { book = e; user = q8 .0; area = ltb→lt area 3 (and-l (ltb area 3) ok (q10 .0)); range = and-r (ltb area 3) ok (q10 .0) }
 
     -- the bytes that it leaves
     call-bytes : t ≡ bytesOf (postedBook id area z (bookOf s))
-    unfolding stepBytes decided inBytes effect postedBook
+    unfolding stepAfter after decided inBytes effect postedBook
     call-bytes = k .bytes ∙ rw none-refuses
 
   -- where every question is answered by yes, the posting is accepted
-  call-made : Accepted s id area z → Called limits s (posting id area z) (only 0) (bytesOf (postedBook id area z (bookOf s)))
-  unfolding stepBytes decided inBytes effect postedBook about idKnown entryInRange
+  call-made : Accepted s id area z → CalledAfter 0 limits s (posting id area z) (only 0) (bytesOf (postedBook id area z (bookOf s)))
+  unfolding stepAfter after decided inBytes effect postedBook about idKnown entryInRange
   call-made q =
       let ok = within 1000000 (at (find (bookOf s .users) id .physical) area +ℤ z) in
-      let e : refusal (aboutBytes s ++ about limits (bookOf s) (posting id area z)) ≡ none
-      = refusal-next (aboutBytes s) (about limits (bookOf s) (posting id area z)) (q .book)
-      ∙ both-yes 8 10 (known (bookOf s .users) id) (ltb area 3 && ok) (q .user) (and-i (ltb area 3) ok (lt→ltb area 3 (q .area)) (q .range)) in
+      let e : refusal (about limits (bookOf s) (posting id area z)) ≡ none
+      = both-yes 8 10 (known (bookOf s .users) id) (ltb area 3 && ok) (q .user) (and-i (ltb area 3) ok (lt→ltb area 3 (q .area)) (q .range)) in
       record { answer = rw e; bytes = rw e }
 
 -- ---- with a store and a log, or none of them
@@ -102,12 +97,14 @@ module _ (store : Option (List ℕ)) {log : Option (List ℕ)} {s : List ℕ} {i
     pub opened : openingWith (bookNumber s) (settingOf store) log s ≡ 0
     opened = accepted-with (posting-empties id area z) (settingOf store) s k h
 
-    as-called : Called (limitsOn (settingOf store) (bookOf s)) s (posting id area z) a t
+    as-called : CalledAfter 0 (limitsOn (settingOf store) (bookOf s)) s (posting id area z) a t
     as-called =
         passed-called (settingOf store) (posting id area z) s (with-opening (bookNumber s) (settingOf store) log s opened) (log-off (posting-empties id area z) (settingOf store) s opened k)
 
     pub accepted : Accepted s id area z
-    accepted = call-accepted (limitsOn (settingOf store) (bookOf s)) as-called h
+    accepted =
+        call-accepted (limitsOn (settingOf store) (bookOf s)) as-called h
+        (book-passed s (opening-zero (bookNumber s) (settingOf store) s (with-opening (bookNumber s) (settingOf store) log s opened)))
 
     -- the bytes that it leaves
     pub bytes-left : t ≡ bytesOf (postedBook id area z (bookOf s))

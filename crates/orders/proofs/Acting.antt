@@ -26,14 +26,14 @@ module _ {actor : Party} {r : Request} {s : List ℕ} {a : Answer} {t : List ℕ
   unparted = accepted-claim .act actor r s (sym (ap (λ (x : Answer). x .number) (k .answer)) ∙ z)
 
   carried-unparted : Carried r s a t
-  carried-unparted = record { answer = k .answer ∙ ap (λ (o : Outcome). o .answer) (unparted .1); bytes = k .bytes ∙ ap (λ (o : Outcome). o .bytes) (unparted .1) }
+  carried-unparted = record { answer = k .answer ∙ ap (λ (o : Outcome (List ℕ)). o .answer) (unparted .1); bytes = k .bytes ∙ ap (λ (o : Outcome (List ℕ)). o .book) (unparted .1) }
 
 -- and back
 carried-operator : {actor : Party} {r : Request} {s : List ℕ} {a : Answer} {t : List ℕ} → actor ≡ operator → Carried r s a t → CarriedBy actor r s a t
 carried-operator {actor} {r} {s} {a} {t} e k =
     let o = operator-request r s in
     subst (λ (x : Party). CarriedBy x r s a t) (sym e)
-    (record { answer = k .answer ∙ ap (λ (x : Outcome). x .answer) (sym o); bytes = k .bytes ∙ ap (λ (x : Outcome). x .bytes) (sym o) })
+    (record { answer = k .answer ∙ ap (λ (x : Outcome (List ℕ)). x .answer) (sym o); bytes = k .bytes ∙ ap (λ (x : Outcome (List ℕ)). x .book) (sym o) })
 
 posted-unparted : {actor : Party} {store log : Option (List ℕ)} {ids areas : List ℕ} {amounts : List ℤ} {places s t left l m : List ℕ}
     → PostedBy actor store log ids areas amounts places s 0 t left l m → Posted store log ids areas amounts places s 0 t left l m
@@ -41,8 +41,8 @@ unfolding only
 posted-unparted {actor} {store} {log} {ids} {areas} {amounts} {places} {s} {l = l} p =
     let e = unparted (p .logged .carried) refl .1 in
     record {
-      logged = record { carried = carried-unparted (p .logged .carried) refl; log = p .logged .log ∙ ap (λ (o : Outcome). lentLog (o .log) l) e };
-      beside = p .beside ∙ ap (λ (o : Outcome). after 0 (λ n. places) (o .numbers)) e;
+      logged = record { carried = carried-unparted (p .logged .carried) refl; log = p .logged .log ∙ ap (λ (o : Outcome (List ℕ)). lentLog (o .log) l) e };
+      beside = p .beside ∙ ap (λ (o : Outcome (List ℕ)). after 0 (λ n. places) (o .numbers)) e;
     }
 
 -- ---- two postings
@@ -86,7 +86,7 @@ module _ (store : Option (List ℕ)) where
       = subst (λ (x : Act). T (acceptedNumber x (l .gave .answer .number))) (head-eq-of-cons-eq e) (and-l (isAccepted l) (all isAccepted (linksOf ds)) h) in
       let z : l .gave .answer .number ≡ 0 = eqb→eq (l .gave .answer .number) 0 q in
       let same = unparted k z .1 in
-      then g st (carried-unparted k z) (n ∙ ap (λ (x : Outcome). x .numbers) same) (o ∙ ap (λ (x : Outcome). x .log) same)
+      then g st (carried-unparted k z) (n ∙ ap (λ (x : Outcome (List ℕ)). x .numbers) same) (o ∙ ap (λ (x : Outcome (List ℕ)). x .log) same)
       (links-unparted ps rest (tail-eq-of-cons-eq e) (and-r (isAccepted l) (all isAccepted (linksOf ds)) h))
 
   in-order : {s t : List ℕ} {ps : List Posting} {ds : List Deed} → InOrderBy store s ps ds t → InOrder store s ps (linksOf ds) t

@@ -6,25 +6,25 @@ use Rattle.base.proofs.Tests.{and-i, and-l, and-r}
 use Rattle.orders.proofs.Main.{order-posts, same-end}
 use Rattle.orders.specs.Orders.{Apart, InList, LinesOrderFree, Posting, actsOf, callOf}
 use Rattle.requests.proofs.Accepted.{accepted-lines}
-use Rattle.requests.specs.Request.{call, Act, actBy, actIn, linesIn, requestAfter, requestOf, settingOf, stepIn}
+use Rattle.requests.specs.Request.{call, Act, actBy, actIn, asBytes, linesIn, requestIn, requestOf, settingOf, stepIn}
 use Rattle.base.specs.Lists.{all}
 use Rattle.sequence.specs.Links.{Link, acceptedNumber, ended, isAccepted, then}
 
 module _ (store : Option (List ℕ)) where
   -- a line as a posting of its own
   unfoldable linked : List ℕ → Posting → Link
-  linked s p = record { asked = requestOf store (callOf p); given = s; gave = stepIn (bookNumber s) (settingOf store) s (callOf p) }
+  linked s p = record { asked = requestOf store (callOf p); given = s; gave = stepIn asBytes (bookNumber s) (settingOf store) s (callOf p) }
 
   -- the lines, each given 0
-  lines-apart : (ps : List Posting) (s : List ℕ) → T (all (λ n. eqb n 0) (linesIn (settingOf store) s (map (λ p. p .id) ps) (map (λ p. p .area) ps) (map (λ p. p .amount) ps) .numbers))
-      → Apart store s ps (linesIn (settingOf store) s (map (λ p. p .id) ps) (map (λ p. p .area) ps) (map (λ p. p .amount) ps) .bytes)
-  unfolding linesIn all isAccepted acceptedNumber actsOf callOf linked requestAfter actBy actIn
+  lines-apart : (ps : List Posting) (s : List ℕ) → T (all (λ n. eqb n 0) (linesIn asBytes (settingOf store) s (map (λ p. p .id) ps) (map (λ p. p .area) ps) (map (λ p. p .amount) ps) .numbers))
+      → Apart store s ps (linesIn asBytes (settingOf store) s (map (λ p. p .id) ps) (map (λ p. p .area) ps) (map (λ p. p .amount) ps) .book)
+  unfolding linesIn all isAccepted acceptedNumber actsOf callOf linked requestIn actBy actIn
   lines-apart [] s t = record { links = []; order = record { linked = ended; acts = refl }; accepted = tt }
   lines-apart (p ∷ ps) s t =
       let l = linked s p in
       let n = eqb (l .gave .answer .number) 0 in
-      let next = linesIn (settingOf store) (l .gave .bytes) (map (λ q. q .id) ps) (map (λ q. q .area) ps) (map (λ q. q .amount) ps) in
-      let rest = lines-apart ps (l .gave .bytes) (and-r n (all (λ m. eqb m 0) (next .numbers)) t) in
+      let next = linesIn asBytes (settingOf store) (l .gave .book) (map (λ q. q .id) ps) (map (λ q. q .area) ps) (map (λ q. q .amount) ps) in
+      let rest = lines-apart ps (l .gave .book) (and-r n (all (λ m. eqb m 0) (next .numbers)) t) in
       record {
         links = l ∷ rest .links;
         order = record {

@@ -149,9 +149,9 @@ module _ (store : Option (List ℕ)) where
   linked-posts {s} (p ∷ ps) (then {l = l} {ls = ls} g o k w v m) e t b =
       let i : l .asked .act ≡ call (callOf p) = head-eq-of-cons-eq e in
       let r : l .asked ≡ actOf store (l .asked .log) (call (callOf p)) = λ j. record { setting = record { store = o j }; log = l .asked .log; act = i j } in
-      let c : Carried (actOf store (l .asked .log) (call (callOf p))) s (l .gave .answer) (l .gave .bytes)
-      = subst (λ (x : List ℕ). Carried (actOf store (l .asked .log) (call (callOf p))) x (l .gave .answer) (l .gave .bytes)) g
-      (subst (λ (x : Request). Carried x (l .given) (l .gave .answer) (l .gave .bytes)) r k) in
+      let c : Carried (actOf store (l .asked .log) (call (callOf p))) s (l .gave .answer) (l .gave .book)
+      = subst (λ (x : List ℕ). Carried (actOf store (l .asked .log) (call (callOf p))) x (l .gave .answer) (l .gave .book)) g
+      (subst (λ (x : Request). Carried x (l .given) (l .gave .answer) (l .gave .book)) r k) in
       let q : T (acceptedNumber (call (callOf p)) (l .gave .answer .number)) = subst (λ (x : Act). T (acceptedNumber x (l .gave .answer .number))) i (and-l (isAccepted l) (all isAccepted ls) t) in
       next store (l .asked .log) c (eqb→eq (l .gave .answer .number) 0 q) (linked-posts ps m (tail-eq-of-cons-eq e) (and-r (isAccepted l) (all isAccepted ls) t) b)
 

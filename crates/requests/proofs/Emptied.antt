@@ -18,10 +18,10 @@ use Rattle.log_format.specs.Log.{entriesOf, logBytes}
 use Rattle.log_format.specs.Noted.{Entered, callEntered, emptiedBy, emptying, room}
 use Rattle.requests.proofs.Lines.{lines-answer}
 use Rattle.requests.proofs.Logged.{actLent, lines-log, logged-call, logged-without, without-number}
-use Rattle.requests.proofs.Opened.{first-zero}
+use Rattle.requests.proofs.Opened.{call-outcome, first-zero, outcome}
 use Rattle.requests.specs.Carried.{Carried}
 use Rattle.requests.specs.Logged.{AdmittedWith, LoggedAfter, PostedAfter, lentLog, listWith}
-use Rattle.requests.specs.Request.{call, Lines, Outcome, Setting, actBy, actIn, actWith, callIn, emptiedIn, enteredIn, limitsOn, linesIn, linesOf, loggedAfter, opening, openingLines, openingWith, outcome, refusedGiven, request, requestAfter, settingOf, stepIn}
+use Rattle.requests.specs.Request.{call, Lines, Outcome, Setting, actBy, actIn, actWith, asBytes, callIn, emptiedIn, enteredIn, limitsOn, linesIn, linesOf, loggedAfter, opening, openingLines, openingWith, openingWithIn, refusedGiven, request, requestAfter, requestIn, settingOf, stepIn}
 
 -- no question of a call has the number 0
 pub about-numbered : (limits : Limits) (b : Book) (c : Call) → T (numbered (about limits b c))
@@ -35,27 +35,27 @@ about-numbered limits b run = tt
 -- ---- calls that empty the log
 
 -- what such a call gives without a log, with the log emptied
-withEmptied : List ℕ → InBytes → Outcome
-withEmptied l x = record { answer = x .answer; numbers = []; bytes = x .bytes; log = some (after (x .answer .number) (λ n. l) (logBytes [] (x .bytes))) }
+withEmptied : List ℕ → InBytes → Outcome (List ℕ)
+withEmptied l x = record { answer = x .answer; numbers = []; book = x .bytes; log = some (after (x .answer .number) (λ n. l) (logBytes [] (x .bytes))) }
 
 module _ {c : Call} (e : Empties c) where
   decided-emptied : (limits : Limits) (l s : List ℕ) (o : Option ℕ) → refusal (about limits (bookOf s) c) ≡ o
-      → decided o (refusedGiven (some l) s) (enteredIn (emptying (effect limits (bookOf s) c))) ≡ withEmptied l (decided o (unchanged s) (inBytes (effect limits (bookOf s) c)))
+      → decided o (refusedGiven (some l) s) (enteredIn asBytes (emptying (effect limits (bookOf s) c))) ≡ withEmptied l (decided o (unchanged s) (inBytes (effect limits (bookOf s) c)))
   unfolding decided enteredIn emptying inBytes refusedGiven unchanged withEmptied only after numbered
   decided-emptied limits l s none k =
       let r = effect limits (bookOf s) c in
-      ap (λ (n : ℕ). record { answer = r .answer; numbers = []; bytes = bytesOf (r .book); log = some (after n (λ i. l) (logBytes [] (bytesOf (r .book)))) }) (sym (e .number limits (bookOf s)))
+      ap (λ (n : ℕ). record { answer = r .answer; numbers = []; book = bytesOf (r .book); log = some (after n (λ i. l) (logBytes [] (bytesOf (r .book)))) }) (sym (e .number limits (bookOf s)))
   decided-emptied limits l s (some zero) k =
       absurd (let n = ltb→lt 0 0 (refusal-is (λ i. ltb 0 i) (about limits (bookOf s) c) 0 (about-numbered limits (bookOf s) c) k) in omega arith)
   decided-emptied limits l s (some (suc n)) k = refl
 
-  emptied-after : (number : ℕ) (limits : Limits) (l s : List ℕ) → loggedAfter number limits l s c ≡ withEmptied l (stepAfter number limits s c)
+  emptied-after : (number : ℕ) (limits : Limits) (l s : List ℕ) → loggedAfter asBytes number limits l s c ≡ withEmptied l (stepAfter number limits s c)
   unfolding loggedAfter stepAfter after refusedGiven unchanged withEmptied only
   emptied-after (suc n) limits l s = refl
   emptied-after zero limits l s =
-      ap (λ (qs : List Question). decided (refusal (about limits (bookOf s) c ++ qs)) (refusedGiven (some l) s) (enteredIn (callEntered limits (room l) (entriesOf s l) (bookOf s) c))) (e .last (room l))
-      ∙ ap (λ (qs : List Question). decided (refusal qs) (refusedGiven (some l) s) (enteredIn (callEntered limits (room l) (entriesOf s l) (bookOf s) c))) (append-nil (about limits (bookOf s) c))
-      ∙ ap (λ (x : Entered). decided (refusal (about limits (bookOf s) c)) (refusedGiven (some l) s) (enteredIn x)) (e .entered limits (room l) (entriesOf s l) (bookOf s))
+      ap (λ (qs : List Question). decided (refusal (about limits (bookOf s) c ++ qs)) (refusedGiven (some l) s) (enteredIn asBytes (callEntered limits (room l) (entriesOf s l) (bookOf s) c))) (e .last (room l))
+      ∙ ap (λ (qs : List Question). decided (refusal qs) (refusedGiven (some l) s) (enteredIn asBytes (callEntered limits (room l) (entriesOf s l) (bookOf s) c))) (append-nil (about limits (bookOf s) c))
+      ∙ ap (λ (x : Entered). decided (refusal (about limits (bookOf s) c)) (refusedGiven (some l) s) (enteredIn asBytes x)) (e .entered limits (room l) (entriesOf s l) (bookOf s))
       ∙ decided-emptied limits l s (refusal (about limits (bookOf s) c)) refl
 
   pub logged-emptied : {n : ℕ} {g : Setting} {s : List ℕ} {number : ℕ} {limits : Limits} {a : Answer} {t l m : List ℕ} (lent : Bool) → AdmittedWith n g (given lent l) s number limits
@@ -68,28 +68,28 @@ module _ {c : Call} (e : Empties c) where
       let emptied = ap (λ (i : ℕ). after i (λ j. l) (logBytes [] t)) (ap (λ (r : Answer). r .number) (k .answer))
       ∙ ap (λ (x : List ℕ). after (stepAfter number limits s c .answer .number) (λ i. l) (logBytes [] x)) (k .bytes) in
       logged-call d (record {
-        answer = k .answer ∙ ap (λ (o : Outcome). o .answer) e;
-        bytes = k .bytes ∙ ap (λ (o : Outcome). o .bytes) e;
-        log = ap some (h ∙ emptied) ∙ ap (λ (o : Outcome). o .log) e;
+        answer = k .answer ∙ ap (λ (o : Outcome (List ℕ)). o .answer) e;
+        bytes = k .bytes ∙ ap (λ (o : Outcome (List ℕ)). o .book) e;
+        log = ap some (h ∙ emptied) ∙ ap (λ (o : Outcome (List ℕ)). o .log) e;
       })
 
 -- ---- lists
 
 -- an accepted list, with a lent log that is given or not
-emptiedLent : Bool → Outcome → Outcome
-emptiedLent true o = emptiedIn o
+emptiedLent : Bool → Outcome (List ℕ) → Outcome (List ℕ)
+emptiedLent true o = emptiedIn asBytes o
 emptiedLent false o = o
 
 module _ (n : ℕ) (store : Option (List ℕ)) (ids areas : List ℕ) (amounts : List ℤ) (places s l : List ℕ) where
   abbrev lines : Lines
   lines = linesOf ids areas amounts (length places)
 
-  abbrev gives : Outcome
-  gives = linesIn (settingOf store) s ids areas amounts
+  abbrev gives : Outcome (List ℕ)
+  gives = linesIn asBytes (settingOf store) s ids areas amounts
 
   list-lent : (lent : Bool) → requestAfter n (listWith store (given lent l) ids areas amounts (length places)) s
       ≡ after (openingWith (openingLines n lines) (settingOf store) (given lent l) s) (refusedGiven (given lent l) s) (emptiedLent lent gives)
-  unfolding given emptiedLent requestAfter actBy actIn actWith
+  unfolding given emptiedLent requestIn actBy actIn actWith
   list-lent true = refl
   list-lent false = ap (λ (i : ℕ). after i (refusedGiven none s) gives) (sym (without-number (openingLines n lines) (settingOf store) s))
 
@@ -99,7 +99,7 @@ module _ (n : ℕ) (store : Option (List ℕ)) (ids areas : List ℕ) (amounts :
   by-answer zero false = sym (lines-answer (settingOf store) s ids areas amounts)
   by-answer (suc k) lent = refl
 
-  by-bytes : (k : ℕ) (lent : Bool) → after k (λ i. s) (gives .bytes) ≡ after k (refusedGiven (given lent l) s) (emptiedLent lent gives) .bytes
+  by-bytes : (k : ℕ) (lent : Bool) → after k (λ i. s) (gives .book) ≡ after k (refusedGiven (given lent l) s) (emptiedLent lent gives) .book
   unfolding after emptiedLent refusedGiven emptiedIn
   by-bytes zero true = refl
   by-bytes zero false = refl
@@ -111,7 +111,7 @@ module _ (n : ℕ) (store : Option (List ℕ)) (ids areas : List ℕ) (amounts :
   by-numbers zero false = refl
   by-numbers (suc k) lent = refl
 
-  by-log : (k : ℕ) (lent : Bool) (t : List ℕ) → t ≡ after k (λ i. s) (gives .bytes) → emptiedBy lent k t l ≡ lentLog (after k (refusedGiven (given lent l) s) (emptiedLent lent gives) .log) l
+  by-log : (k : ℕ) (lent : Bool) (t : List ℕ) → t ≡ after k (λ i. s) (gives .book) → emptiedBy lent k t l ≡ lentLog (after k (refusedGiven (given lent l) s) (emptiedLent lent gives) .log) l
   unfolding after given emptiedLent refusedGiven emptiedIn emptiedBy lentLog
   by-log zero true t e = ap (logBytes []) e
   by-log zero false t e = sym (ap (λ (o : Option (List ℕ)). lentLog o l) (lines-log (settingOf store) s ids areas amounts))
@@ -121,7 +121,7 @@ module _ (n : ℕ) (store : Option (List ℕ)) (ids areas : List ℕ) (amounts :
   -- a public list, from the number of its opening questions, what the inner list leaves, and the log emptied where it is accepted
   pub posted-list : {number : ℕ} {t left m : List ℕ} (lent : Bool)
       → number ≡ openingWith (openingLines n lines) (settingOf store) (given lent l) s
-      → t ≡ after number (λ i. s) (gives .bytes)
+      → t ≡ after number (λ i. s) (gives .book)
       → left ≡ after number (λ i. places) (gives .numbers)
       → m ≡ emptiedBy lent number t l
       → PostedAfter n store (given lent l) ids areas amounts places s number t left l m
@@ -131,19 +131,19 @@ module _ (n : ℕ) (store : Option (List ℕ)) (ids areas : List ℕ) (amounts :
       record {
         logged = record {
           carried = record {
-            answer = by-answer number lent ∙ sym (ap (λ (o : Outcome). o .answer) whole);
-            bytes = b ∙ by-bytes number lent ∙ sym (ap (λ (o : Outcome). o .bytes) whole);
+            answer = by-answer number lent ∙ sym (ap (λ (o : Outcome (List ℕ)). o .answer) whole);
+            bytes = b ∙ by-bytes number lent ∙ sym (ap (λ (o : Outcome (List ℕ)). o .book) whole);
           };
-          log = k ∙ by-log number lent t b ∙ sym (ap (λ (o : Outcome). lentLog (o .log) l) whole);
+          log = k ∙ by-log number lent t b ∙ sym (ap (λ (o : Outcome (List ℕ)). lentLog (o .log) l) whole);
         };
-        beside = p ∙ by-numbers number lent ∙ ap (λ (o : Outcome). after number (λ i. places) (o .numbers)) (sym whole);
+        beside = p ∙ by-numbers number lent ∙ ap (λ (o : Outcome (List ℕ)). after number (λ i. places) (o .numbers)) (sym whole);
       }
 
 -- ---- an accepted call that empties the log answers and leaves the book as without one
 
 -- who passes the opening questions with a log passes those without it
 pub with-opening : (n : ℕ) (g : Setting) (log : Option (List ℕ)) (s : List ℕ) → openingWith n g log s ≡ 0 → opening n g s ≡ 0
-unfolding openingWith
+unfolding openingWithIn
 with-opening n g log s h = first-zero (opening n g s) (logNumber log s) h
 
 module _ {c : Call} (e : Empties c) (g : Setting) (s : List ℕ) where
@@ -152,14 +152,15 @@ module _ {c : Call} (e : Empties c) (g : Setting) (s : List ℕ) where
 
   -- the inner call after the opening questions
   emptied-step : (log : Option (List ℕ)) → let x = stepAfter (asked log) (limitsOn g (bookOf s)) s c in
-      (request (actLent g log (call c)) s .answer ≡ x .answer) × (request (actLent g log (call c)) s .bytes ≡ x .bytes)
-  unfolding requestAfter actBy actIn actWith stepIn outcome withEmptied
+      (request (actLent g log (call c)) s .answer ≡ x .answer) × (request (actLent g log (call c)) s .book ≡ x .bytes)
+  unfolding requestIn actBy actIn actWith stepIn outcome withEmptied
   emptied-step none =
-      let k = ap (λ (n : ℕ). stepAfter n (limitsOn g (bookOf s)) s c) (sym (without-number (bookNumber s) g s)) in
-      (ap (λ (o : InBytes). o .answer) k, ap (λ (o : InBytes). o .bytes) k)
+      let limits = limitsOn g (bookOf s) in
+      let k = call-outcome (opening (bookNumber s) g s) limits s c ∙ ap (λ (n : ℕ). outcome (stepAfter n limits s c)) (sym (without-number (bookNumber s) g s)) in
+      (ap (λ (o : Outcome (List ℕ)). o .answer) k, ap (λ (o : Outcome (List ℕ)). o .book) k)
   emptied-step (some l) =
       let k = emptied-after e (asked (some l)) (limitsOn g (bookOf s)) l s in
-      (ap (λ (o : Outcome). o .answer) k, ap (λ (o : Outcome). o .bytes) k)
+      (ap (λ (o : Outcome (List ℕ)). o .answer) k, ap (λ (o : Outcome (List ℕ)). o .book) k)
 
   module _ {log : Option (List ℕ)} {a : Answer} {t : List ℕ} where
     -- an accepted one passed its opening questions

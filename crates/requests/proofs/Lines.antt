@@ -1,12 +1,11 @@
 -- A list of postings after its opening questions, asked once: an accepted posting leaves a book that passes them again, so that asking them before each line gives the
 -- same. Assumes nothing.
-use Rattle.base.specs.Basics.{_≡_, _∙_, ap, ap₂, refl, sym, Bool, cond, true, false, Option, none, some, List, [], _∷_, map, ℕ, arith, T, ltb, ltb→lt}
+use Rattle.base.specs.Basics.{_≡_, _∙_, ap, ap₂, refl, sym, Bool, cond, true, false, Option, none, some, List, [], _∷_, map, ℕ, arith, ltb, ltb→lt}
 use Rattle.base.specs.Basics.{ℤ, _+ℤ_}
 use Rattle.fields.specs.Field.{AllBytes}
 use Rattle.laws.proofs.Posting.{posting-sound}
-use Rattle.laws.proofs.Refusals.{first-yes, numbered}
+use Rattle.laws.proofs.Refusals.{first-yes}
 use Rattle.base.proofs.Tests.{and-l, and-r}
-use Rattle.base.specs.Lists.{all}
 use Rattle.laws.proofs.Changed.{keeps-party}
 use Rattle.laws.specs.Sound.{Sound}
 use Rattle.rules.specs.Book.{Book, Header, User, at, find}
@@ -23,7 +22,7 @@ use Rattle.book_format.specs.Questions.{bookNumber}
 use Rattle.book_format.specs.Steps.{inBytes}
 use Rattle.store.specs.Store.{storeNumber}
 use Rattle.requests.proofs.Opened.{first-zero, second-zero}
-use Rattle.requests.specs.Request.{Lines, Setting, aboutLines, firstOf, linesFit, linesIn, opening, openingLines, stepIn}
+use Rattle.requests.specs.Request.{Lines, Setting, aboutLines, asBytes, firstOf, linesFit, linesIn, opening, openingIn, openingLines, stepIn}
 
 -- ---- the opening questions
 
@@ -36,14 +35,9 @@ fit-number v = go (linesFit v)
     go true = refl
     go false = refl
 
--- which is not 0
-pub lines-numbered : (v : Lines) → T (numbered (aboutLines v))
-unfolding aboutLines numbered all
-lines-numbered v = tt
-
 -- a list that passes its opening questions fits, and each of its lines would pass its own
 pub lines-opening : (n : ℕ) (g : Setting) (v : Lines) (s : List ℕ) → opening (openingLines n v) g s ≡ 0 → (linesFit v ≡ true) × (opening n g s ≡ 0)
-unfolding opening openingLines
+unfolding openingIn openingLines
 lines-opening n g v s e =
     let store = storeNumber (g .store) (bookOf s .header .date) in
     let own = numberOf (refusal (aboutLines v)) in
@@ -57,7 +51,7 @@ lines-opening n g v s e =
 -- ---- a list by its number
 
 -- the answer of its lines is 0 alone
-pub lines-answer : (g : Setting) (t xs ys : List ℕ) (zs : List ℤ) → linesIn g t xs ys zs .answer ≡ only 0
+pub lines-answer : (g : Setting) (t xs ys : List ℕ) (zs : List ℤ) → linesIn asBytes g t xs ys zs .answer ≡ only 0
 unfolding linesIn
 lines-answer g t [] ys zs = refl
 lines-answer g t (x ∷ xs) [] zs = refl
@@ -68,12 +62,12 @@ lines-answer g t (x ∷ xs) (y ∷ ys) (z ∷ zs) = refl
 
 -- one line, and the lines after it on the bytes that it leaves
 pub one-line : (g : Setting) (s t : List ℕ) (id area : ℕ) (z : ℤ) (r : ℕ) (ids areas : List ℕ) (amounts : List ℤ)
-    → stepIn (bookNumber s) g s (posting id area z) .answer .number ≡ r → stepIn (bookNumber s) g s (posting id area z) .bytes ≡ t
-    → (linesIn g s (id ∷ ids) (area ∷ areas) (z ∷ amounts) .bytes ≡ linesIn g t ids areas amounts .bytes)
-    × (linesIn g s (id ∷ ids) (area ∷ areas) (z ∷ amounts) .numbers ≡ r ∷ linesIn g t ids areas amounts .numbers)
+    → stepIn asBytes (bookNumber s) g s (posting id area z) .answer .number ≡ r → stepIn asBytes (bookNumber s) g s (posting id area z) .book ≡ t
+    → (linesIn asBytes g s (id ∷ ids) (area ∷ areas) (z ∷ amounts) .book ≡ linesIn asBytes g t ids areas amounts .book)
+    × (linesIn asBytes g s (id ∷ ids) (area ∷ areas) (z ∷ amounts) .numbers ≡ r ∷ linesIn asBytes g t ids areas amounts .numbers)
 unfolding linesIn
 one-line g s t id area z r ids areas amounts e f =
-    (ap (λ (u : List ℕ). linesIn g u ids areas amounts .bytes) f, ap₂ (λ (n : ℕ) (u : List ℕ). n ∷ linesIn g u ids areas amounts .numbers) e f)
+    (ap (λ (u : List ℕ). linesIn asBytes g u ids areas amounts .book) f, ap₂ (λ (n : ℕ) (u : List ℕ). n ∷ linesIn asBytes g u ids areas amounts .numbers) e f)
 
 -- a posting on bytes that pass their questions leaves bytes that pass them, with the header and the parties as they were
 pub record Onward (s t : List ℕ) : Type 0 where
@@ -115,6 +109,6 @@ posting-onward limits s id area z b h = go (refusal (about limits (bookOf s) (po
 
 -- and so the opening questions of the next posting are passed too: the store is asked on the same date
 pub onward-opening : (g : Setting) {s t : List ℕ} → Onward s t → bookNumber s ≡ 0 → opening (bookNumber s) g s ≡ 0 → opening (bookNumber t) g t ≡ 0
-unfolding opening
+unfolding openingIn
 onward-opening g {s} {t} w h e =
     ap (λ (x : Header). firstOf (bookNumber t) (storeNumber (g .store) (x .date))) (w .header) ∙ ap (λ (n : ℕ). firstOf n (storeNumber (g .store) (bookOf s .header .date))) (w .number ∙ sym h) ∙ e

@@ -1,18 +1,16 @@
 -- The opening questions by their numbers, one after the other; a call after them, by the figures that the setting gives. Assumes nothing.
-use Rattle.base.specs.Basics.{_≡_, _∙_, ap, refl, Option, none, some, List, ℕ, suc, zero, arith, T, ltb, ltb→lt}
+use Rattle.base.specs.Basics.{_≡_, _∙_, ap, refl, sym, Option, none, some, List, [], ℕ, suc, zero, arith, T, ltb, ltb→lt}
 use Rattle.laws.proofs.Refusals.{numbered, refusal-is}
-use Rattle.rules.specs.Book.{Book}
-use Rattle.rules.specs.Calls.{Answer, Call}
+use Rattle.rules.specs.Calls.{Answer, Call, about, effect}
 use Rattle.rules.specs.Levels.{Limits}
-use Rattle.base.specs.Lists.{all}
 use Rattle.rules.specs.Questions.{Question, decided, numberOf, refusal}
-use Rattle.book_format.specs.After.{CalledAfter, after, stepAfter}
+use Rattle.book_format.specs.After.{CalledAfter, after, stepAfter, unchanged}
 use Rattle.book_format.specs.Book.{bookOf}
 use Rattle.book_format.specs.Questions.{bookNumber}
-use Rattle.book_format.specs.Steps.{InBytes}
-use Rattle.store.specs.Store.{aboutStore, storeNumber}
+use Rattle.book_format.specs.Steps.{InBytes, inBytes}
+use Rattle.store.specs.Store.{storeNumber}
 use Rattle.requests.specs.Carried.{Admitted, CarriedAfter}
-use Rattle.requests.specs.Request.{Setting, aboutSetting, actBy, actIn, callIn, firstOf, limitsOn, opening, outcome, request, requestAfter, stepIn}
+use Rattle.requests.specs.Request.{Outcome, Setting, actBy, actIn, asBytes, callAfter, callIn, firstOf, limitsOn, opening, openingIn, refusedGiven, request, requestIn, resultIn, stepIn}
 
 -- ---- numbers
 
@@ -41,12 +39,6 @@ unfolding after
 first-alone zero = refl
 first-alone (suc n) = refl
 
--- two parts one after the other, by their one number
-pub after-first : {R : Type 0} (n m : ℕ) (f : ℕ → R) (x : R) → after n f (after m f x) ≡ after (firstOf n m) f x
-unfolding after
-after-first zero m f x = refl
-after-first (suc n) m f x = refl
-
 -- what is decided by questions that have numbers is decided by their number
 pub decided-after : {R : Type 0} (f : ℕ → R) (x : R) (qs : List Question) → T (numbered qs) → decided (refusal qs) f x ≡ after (numberOf (refusal qs)) f x
 unfolding numbered decided numberOf after
@@ -59,23 +51,27 @@ decided-after f x qs k = go (refusal qs) refl
 
 -- who passes the opening questions passes those before them
 pub opening-zero : (n : ℕ) (g : Setting) (s : List ℕ) → opening n g s ≡ 0 → n ≡ 0
-unfolding opening
+unfolding openingIn
 opening-zero n g s e = first-zero n (storeNumber (g .store) (bookOf s .header .date)) e
-
--- no question of a setting has the number 0
-pub setting-numbered : (g : Setting) (b : Book) → T (numbered (aboutSetting g b))
-unfolding aboutSetting numbered aboutStore all
-setting-numbered g b = go (g .store)
-  where
-    go : (store : Option (List ℕ)) → T (numbered (aboutStore store (b .header .date)))
-    go none = tt
-    go (some s) = tt
 
 -- ---- calls
 
+-- what an inner call gives, which knows of no lines and no log
+unfoldable pub outcome : InBytes → Outcome (List ℕ)
+outcome x = record { answer = x .answer; numbers = []; book = x .bytes; log = none }
+
+pub call-outcome : (number : ℕ) (limits : Limits) (s : List ℕ) (c : Call) → callAfter asBytes number limits s c ≡ outcome (stepAfter number limits s c)
+unfolding callAfter stepAfter after decided refusedGiven unchanged resultIn inBytes outcome
+call-outcome (suc n) limits s c = refl
+call-outcome zero limits s c = go (refusal (about limits (bookOf s) c))
+  where
+    go : (o : Option ℕ) → decided o (refusedGiven none s) (resultIn asBytes (effect limits (bookOf s) c)) ≡ outcome (decided o (unchanged s) (inBytes (effect limits (bookOf s) c)))
+    go none = refl
+    go (some n) = refl
+
 pub request-opened : (g : Setting) (s : List ℕ) (c : Call) → request (callIn g c) s ≡ outcome (stepAfter (opening (bookNumber s) g s) (limitsOn g (bookOf s)) s c)
-unfolding requestAfter actBy actIn stepIn
-request-opened g s c = refl
+unfolding requestIn actBy actIn stepIn
+request-opened g s c = call-outcome (opening (bookNumber s) g s) (limitsOn g (bookOf s)) s c
 
 -- a refused call gives the same whatever the figures
 step-same : (n : ℕ) {l m : Limits} (s : List ℕ) (c : Call) → (n ≡ 0 → l ≡ m) → stepAfter n l s c ≡ stepAfter n m s c
@@ -86,7 +82,8 @@ step-same (suc n) s c h = refl
 -- a public call, from what asked its opening questions and the contract of the inner call
 pub carried : {n : ℕ} {g : Setting} {s t : List ℕ} {c : Call} {a : Answer} {number : ℕ} {limits : Limits} → Admitted n g s number limits → CalledAfter number limits s c a t
     → CarriedAfter n (callIn g c) s a t
-unfolding requestAfter actBy actIn stepIn outcome
-carried {g = g} {s} {c = c} {number = number} d k =
-    let e = step-same number s c (d .taken) ∙ ap (λ (m : ℕ). stepAfter m (limitsOn g (bookOf s)) s c) (d .asked) in
-    record { answer = k .answer ∙ ap (λ (x : InBytes). x .answer) e; bytes = k .bytes ∙ ap (λ (x : InBytes). x .bytes) e }
+unfolding requestIn actBy actIn stepIn outcome
+carried {n} {g} {s} {c = c} {number = number} d k =
+    let limits = limitsOn g (bookOf s) in
+    let e = ap outcome (step-same number s c (d .taken) ∙ ap (λ (m : ℕ). stepAfter m limits s c) (d .asked)) ∙ sym (call-outcome (opening n g s) limits s c) in
+    record { answer = k .answer ∙ ap (λ (x : Outcome (List ℕ)). x .answer) e; bytes = k .bytes ∙ ap (λ (x : Outcome (List ℕ)). x .book) e }

@@ -1,7 +1,9 @@
 -- The numbers of the opening questions, one after the other, are those of the first "no" among all of them in their order. Assumes nothing.
-use Rattle.base.specs.Basics.{_≡_, _∙_, ap, sym, Option, some, List, [], _++_, ℕ, T, ltb}
+use Rattle.base.specs.Basics.{_≡_, _∙_, ap, sym, Option, none, some, List, [], _++_, ℕ, T, ltb}
 use Rattle.base.proofs.Tests.{all-append}
+use Rattle.base.specs.Lists.{all}
 use Rattle.laws.proofs.Refusals.{numbered, refusal-first}
+use Rattle.rules.specs.Book.{Book}
 use Rattle.rules.specs.Calls.{Call, about}
 use Rattle.rules.specs.Levels.{Limits}
 use Rattle.rules.specs.Questions.{Question, decided, numberOf, refusal}
@@ -13,11 +15,23 @@ use Rattle.book_format.specs.Questions.{aboutBytes, bookNumber}
 use Rattle.log_format.specs.Fits.{aboutLog, logNumber}
 use Rattle.log_format.specs.Log.{entriesOf}
 use Rattle.log_format.specs.Noted.{hasEntry, lastly, room}
-use Rattle.store.specs.Store.{storeNumber}
-use Rattle.requests.proofs.Lines.{lines-numbered}
-use Rattle.requests.proofs.Opened.{setting-numbered}
+use Rattle.store.specs.Store.{aboutStore, storeNumber}
 use Rattle.requests.specs.Logged.{AskedInOrder}
-use Rattle.requests.specs.Request.{Lines, Setting, aboutLines, aboutSetting, firstOf, loggedAfter, opening, openingLines, openingWith, refusedGiven, withdrawalAfter}
+use Rattle.requests.specs.Request.{Lines, Setting, aboutLines, aboutSetting, asBytes, firstOf, loggedAfter, opening, openingIn, openingLines, openingWith, openingWithIn, refusedGiven, withdrawalAfter}
+
+-- no question of a setting has the number 0
+setting-numbered : (g : Setting) (b : Book) → T (numbered (aboutSetting g b))
+unfolding aboutSetting numbered aboutStore all
+setting-numbered g b = go (g .store)
+  where
+    go : (store : Option (List ℕ)) → T (numbered (aboutStore store (b .header .date)))
+    go none = tt
+    go (some s) = tt
+
+-- nor has 15
+lines-numbered : (v : Lines) → T (numbered (aboutLines v))
+unfolding aboutLines numbered all
+lines-numbered v = tt
 
 -- two lists that have numbers have them together
 both-numbered : (ps qs : List Question) → T (numbered ps) → T (numbered qs) → T (numbered (ps ++ qs))
@@ -27,11 +41,11 @@ both-numbered ps qs h k = all-append (λ q. ltb 0 (q .number)) ps qs h k
 module _ (g : Setting) (s : List ℕ) where
   -- the store's after some questions
   store-after : (qs : List Question) → T (numbered qs) → opening (numberOf (refusal qs)) g s ≡ numberOf (refusal (qs ++ aboutSetting g (bookOf s)))
-  unfolding opening storeNumber aboutSetting
+  unfolding openingIn storeNumber aboutSetting
   store-after qs k = sym (number-after qs (aboutSetting g (bookOf s)) k)
 
   log-after : (qs : List Question) (log : Option (List ℕ)) → T (numbered qs) → openingWith (numberOf (refusal qs)) g log s ≡ numberOf (refusal ((qs ++ aboutSetting g (bookOf s)) ++ aboutLog log s))
-  unfolding openingWith logNumber
+  unfolding openingWithIn logNumber
   log-after qs log k =
       ap (λ (n : ℕ). firstOf n (numberOf (refusal (aboutLog log s)))) (store-after qs k)
       ∙ sym (number-after (qs ++ aboutSetting g (bookOf s)) (aboutLog log s) (both-numbered qs (aboutSetting g (bookOf s)) k (setting-numbered g (bookOf s))))
@@ -43,11 +57,11 @@ of-lists g log v s =
     ap (λ (n : ℕ). openingWith n g log s) (sym (number-after (aboutBytes s) (aboutLines v) (bytes-numbered s)))
     ∙ log-after g s (aboutBytes s ++ aboutLines v) log (both-numbered (aboutBytes s) (aboutLines v) (bytes-numbered s) (lines-numbered v))
 
-of-own : (limits : Limits) (l s : List ℕ) (c : Call) (n : ℕ) → refusal (about limits (bookOf s) c) ≡ some n → loggedAfter 0 limits l s c ≡ refusedGiven (some l) s n
+of-own : (limits : Limits) (l s : List ℕ) (c : Call) (n : ℕ) → refusal (about limits (bookOf s) c) ≡ some n → loggedAfter asBytes 0 limits l s c ≡ refusedGiven (some l) s n
 unfolding loggedAfter after decided
 of-own limits l s c n e = rw (refusal-first (about limits (bookOf s) c) (lastly (room l) c) n e)
 
-of-none : (l s : List ℕ) → entriesOf s l ≡ [] → withdrawalAfter 0 l s ≡ refusedGiven (some l) s 18
+of-none : (l s : List ℕ) → entriesOf s l ≡ [] → withdrawalAfter asBytes 0 l s ≡ refusedGiven (some l) s 18
 unfolding withdrawalAfter after decided refusal hasEntry
 of-none l s e = rw e
 

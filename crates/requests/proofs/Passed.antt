@@ -1,36 +1,30 @@
--- Where the opening questions are passed a request is the call by the figures of its setting; where they are not, it is refused with their number. Assumes nothing.
+-- Where the opening questions are passed a request is the inner call by the figures of its setting; where they are not, it is refused with their number. Assumes nothing.
 use Rattle.base.specs.Basics.{_≡_, _∙_, ap, sym, List, ℕ, suc}
 use Rattle.rules.specs.Calls.{Answer, Call, only}
-use Rattle.book_format.proofs.After.{step-opened}
-use Rattle.book_format.specs.After.{after, stepAfter, unchanged}
+use Rattle.book_format.specs.After.{CalledAfter, after, stepAfter, unchanged}
 use Rattle.book_format.specs.Book.{bookOf}
 use Rattle.book_format.specs.Questions.{bookNumber}
-use Rattle.book_format.specs.Steps.{Called, stepBytes}
-use Rattle.requests.proofs.Opened.{opening-zero, request-opened}
+use Rattle.requests.proofs.Opened.{outcome, request-opened}
 use Rattle.requests.specs.Carried.{Carried}
-use Rattle.requests.specs.Request.{Outcome, Setting, callIn, limitsOn, opening, outcome, request}
+use Rattle.requests.specs.Request.{Outcome, Setting, callIn, limitsOn, opening, request}
 
 module _ (g : Setting) (c : Call) (s : List ℕ) where
   -- ---- passed
 
-  request-passed : opening (bookNumber s) g s ≡ 0 → request (callIn g c) s ≡ outcome (stepBytes (limitsOn g (bookOf s)) s c)
-  request-passed e =
-      let limits = limitsOn g (bookOf s) in
-      request-opened g s c
-      ∙ ap (λ (n : ℕ). outcome (stepAfter n limits s c)) (e ∙ sym (opening-zero (bookNumber s) g s e))
-      ∙ ap outcome (sym (step-opened limits s c))
+  request-passed : opening (bookNumber s) g s ≡ 0 → request (callIn g c) s ≡ outcome (stepAfter 0 (limitsOn g (bookOf s)) s c)
+  request-passed e = request-opened g s c ∙ ap (λ (n : ℕ). outcome (stepAfter n (limitsOn g (bookOf s)) s c)) e
 
-  pub passed-called : {a : Answer} {t : List ℕ} → opening (bookNumber s) g s ≡ 0 → Carried (callIn g c) s a t → Called (limitsOn g (bookOf s)) s c a t
+  pub passed-called : {a : Answer} {t : List ℕ} → opening (bookNumber s) g s ≡ 0 → Carried (callIn g c) s a t → CalledAfter 0 (limitsOn g (bookOf s)) s c a t
   unfolding outcome
   passed-called e k =
       let h = request-passed e in
-      record { answer = k .answer ∙ ap (λ (x : Outcome). x .answer) h; bytes = k .bytes ∙ ap (λ (x : Outcome). x .bytes) h }
+      record { answer = k .answer ∙ ap (λ (x : Outcome (List ℕ)). x .answer) h; bytes = k .bytes ∙ ap (λ (x : Outcome (List ℕ)). x .book) h }
 
-  pub passed-carried : {a : Answer} {t : List ℕ} → opening (bookNumber s) g s ≡ 0 → Called (limitsOn g (bookOf s)) s c a t → Carried (callIn g c) s a t
+  pub passed-carried : {a : Answer} {t : List ℕ} → opening (bookNumber s) g s ≡ 0 → CalledAfter 0 (limitsOn g (bookOf s)) s c a t → Carried (callIn g c) s a t
   unfolding outcome
   passed-carried e k =
       let h = sym (request-passed e) in
-      record { answer = k .answer ∙ ap (λ (x : Outcome). x .answer) h; bytes = k .bytes ∙ ap (λ (x : Outcome). x .bytes) h }
+      record { answer = k .answer ∙ ap (λ (x : Outcome (List ℕ)). x .answer) h; bytes = k .bytes ∙ ap (λ (x : Outcome (List ℕ)). x .book) h }
 
   -- ---- refused
 
@@ -40,4 +34,4 @@ module _ (g : Setting) (c : Call) (s : List ℕ) where
   opening-refused {n = n} e k =
       let limits = limitsOn g (bookOf s) in
       let h = request-opened g s c ∙ ap (λ (m : ℕ). outcome (stepAfter m limits s c)) e in
-      (k .answer ∙ ap (λ (x : Outcome). x .answer) h, k .bytes ∙ ap (λ (x : Outcome). x .bytes) h)
+      (k .answer ∙ ap (λ (x : Outcome (List ℕ)). x .answer) h, k .bytes ∙ ap (λ (x : Outcome (List ℕ)). x .book) h)

@@ -11,7 +11,7 @@ use Rattle.requests.specs.Request.{Request, Setting, limitsOn, opening, 
 -- a call after the questions of the book, and 26, whose number is n: bytes before, answer, bytes after
 pub record CarriedAfter (n : ℕ) (r : Request) (s : List ℕ) (a : Answer) (t : List ℕ) : Type 0 where
   pub answer : a ≡ requestAfter n r s .answer
-  pub bytes : t ≡ requestAfter n r s .bytes
+  pub bytes : t ≡ requestAfter n r s .book
 
 -- a call
 abbrev pub Carried : Request → List ℕ → Answer → List ℕ → Type 0

@@ -1,6 +1,6 @@
 -- The contracts of the public calls that a log is lent to, given or not, and of what asks their opening questions; calls with a log and withdrawals after those questions, by their number.
 -- Assumes nothing.
-use Rattle.base.specs.Basics.{_≡_, Bool, cond, Option, none, some, List, [], _++_, ℕ, ℤ, length}
+use Rattle.base.specs.Basics.{_≡_, Option, none, some, List, [], _++_, ℕ, ℤ, length}
 use Rattle.rules.specs.Calls.{Answer, Call, about, only}
 use Rattle.rules.specs.Levels.{Limits}
 use Rattle.rules.specs.Questions.{numberOf, refusal}
@@ -10,7 +10,7 @@ use Rattle.book_format.specs.Questions.{aboutBytes, bookNumber}
 use Rattle.log_format.specs.Fits.{aboutLog}
 use Rattle.log_format.specs.Log.{entriesOf}
 use Rattle.requests.specs.Carried.{CarriedAfter}
-use Rattle.requests.specs.Request.{call, postings, Act, Lines, Outcome, Request, Setting, aboutLines, aboutSetting, actIn, actOf, callIn, limitsOn, linesOf, loggedAfter, openingLines, openingWith, refusedGiven, request, requestAfter, withdrawalAfter}
+use Rattle.requests.specs.Request.{call, postings, Act, Lines, Outcome, Request, Setting, aboutLines, aboutSetting, actIn, actOf, asBytes, callIn, limitsOn, linesOf, loggedAfter, openingLines, openingWith, refusedGiven, request, requestAfter, withdrawalAfter}
 
 -- the opening questions with that of a log, asked after those of the book, and 26, whose number is n: their number, and the figures of the call where it is 0
 pub record AdmittedWith (n : ℕ) (g : Setting) (log : Option (List ℕ)) (s : List ℕ) (number : ℕ) (limits : Limits) : Type 0 where
@@ -20,9 +20,9 @@ pub record AdmittedWith (n : ℕ) (g : Setting) (log : Option (List ℕ)) (s : L
 -- ---- the inner calls
 
 -- an answer, the bytes of the book and the log afterwards are those of an outcome
-pub record GivesLogged (o : Outcome) (a : Answer) (t m : List ℕ) : Type 0 where
+pub record GivesLogged (o : Outcome (List ℕ)) (a : Answer) (t m : List ℕ) : Type 0 where
   pub answer : a ≡ o .answer
-  pub bytes : t ≡ o .bytes
+  pub bytes : t ≡ o .book
   pub log : some m ≡ o .log
 
 -- ---- the public calls
@@ -62,16 +62,16 @@ pub record AskedInOrder : Type 0 where
   pub opening-of-lists : (g : Setting) (log : Option (List ℕ)) (v : Lines) (s : List ℕ)
       → openingWith (openingLines (bookNumber s) v) g log s ≡ numberOf (refusal (((aboutBytes s ++ aboutLines v) ++ aboutSetting g (bookOf s)) ++ aboutLog log s))
   -- 20 is asked last: a call that its own question refuses has that number,
-  pub own-first : (limits : Limits) (l s : List ℕ) (c : Call) (n : ℕ) → refusal (about limits (bookOf s) c) ≡ some n → loggedAfter 0 limits l s c ≡ refusedGiven (some l) s n
+  pub own-first : (limits : Limits) (l s : List ℕ) (c : Call) (n : ℕ) → refusal (about limits (bookOf s) c) ≡ some n → loggedAfter asBytes 0 limits l s c ≡ refusedGiven (some l) s n
   -- and 18: a log without an entry has none to withdraw
-  pub no-entry : (l s : List ℕ) → entriesOf s l ≡ [] → withdrawalAfter 0 l s ≡ refusedGiven (some l) s 18
+  pub no-entry : (l s : List ℕ) → entriesOf s l ≡ [] → withdrawalAfter asBytes 0 l s ≡ refusedGiven (some l) s 18
 
 -- ---- what a log changes
 
 -- A log is a record of reductions: a call that returns 0 with it answers and leaves the book as without it, and without it every act is what it was before there were logs.
 pub record LogOnlyNotes : Type 0 where
-  pub without : (g : Setting) (s : List ℕ) (a : Act) → request (record { setting = g; log = none; act = a }) s ≡ actIn (bookNumber s) g s a
+  pub without : (g : Setting) (s : List ℕ) (a : Act) → request (record { setting = g; log = none; act = a }) s ≡ actIn asBytes (bookNumber s) g s a
   pub answer : (g : Setting) (l s : List ℕ) (c : Call) → let r = request (record { setting = g; log = some l; act = call c }) s in
       r .answer .number ≡ 0 → r .answer ≡ request (callIn g c) s .answer
   pub bytes : (g : Setting) (l s : List ℕ) (c : Call) → let r = request (record { setting = g; log = some l; act = call c }) s in
-      r .answer .number ≡ 0 → r .bytes ≡ request (callIn g c) s .bytes
+      r .answer .number ≡ 0 → r .book ≡ request (callIn g c) s .book

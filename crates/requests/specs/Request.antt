@@ -1,18 +1,17 @@
--- Document 02, asks 1, 4 and 6: a request is a call, a list of postings or a withdrawal with the store and the log that it is given, or none. What it gives on a book and
--- on a book in bytes. Assumes nothing.
+-- Document 02, asks 1, 4 and 6: a request is a call, a list of postings or a withdrawal with the store and the log that it is given, or none. What it gives is stated once, on a
+-- book in any form: the book itself, or its bytes. Assumes nothing.
 use Rattle.base.specs.Basics.{Bool, _&&_, Option, none, some, List, [], _∷_, _++_, ℕ, eqb, leb, ℤ, length}
 use Rattle.rules.specs.Book.{Book}
 use Rattle.rules.specs.Calls.{Answer, Call, Result, about, effect, only, posting}
 use Rattle.rules.specs.Levels.{Limits}
 use Rattle.rules.specs.Queries.{Query, Reply}
 use Rattle.rules.specs.Questions.{Question, aboutBook, decided, numberOf, refusal}
-use Rattle.book_format.specs.After.{after, replyAfter, stepAfter}
+use Rattle.book_format.specs.After.{after, replyAfter}
 use Rattle.book_format.specs.Book.{bookOf, bytesOf}
 use Rattle.book_format.specs.Questions.{bookNumber}
-use Rattle.book_format.specs.Steps.{InBytes}
 use Rattle.store.specs.Store.{aboutStore, limitsOf, storeNumber}
 use Rattle.log_format.specs.Log.{entriesOf, logBytes}
-use Rattle.log_format.specs.Fits.{aboutLog, logNumber}
+use Rattle.log_format.specs.Fits.{logNumber}
 use Rattle.log_format.specs.Noted.{Entered, callEntered, hasEntry, lastly, room, withdrawalEntered}
 
 -- ---- what is asked for
@@ -62,7 +61,7 @@ linesOf ids areas amounts places = record { ids = ids; areas = areas; amounts = 
 abbrev pub listOf : Option (List ℕ) → List ℕ → List ℕ → List ℤ → ℕ → Request
 listOf store ids areas amounts places = actOf store none (postings (linesOf ids areas amounts places))
 
--- ---- on a book
+-- ---- the setting on a book
 
 -- the figures that the setting gives a call on a book
 unfoldable pub limitsOn : Setting → Book → Limits
@@ -71,12 +70,6 @@ limitsOn g b = limitsOf (g .store) (b .header .date)
 -- the questions that the setting puts between those of the book and those of the call: 16 and 17, "asked after question 7"
 unfoldable pub aboutSetting : Setting → Book → List Question
 aboutSetting g b = aboutStore (g .store) (b .header .date)
-
--- what the rules give for a call: a refusal leaves the book
-unfoldable pub stepGiven : Setting → Book → Call → Result
-stepGiven g b c =
-    decided (refusal (aboutBook b ++ (aboutSetting g b ++ about (limitsOn g b) b c))) (λ n. record { answer = only n; book = b })
-    (effect (limitsOn g b) b c)
 
 -- ---- a list of postings
 
@@ -90,71 +83,25 @@ linesFit v =
 unfoldable pub aboutLines : Lines → List Question
 aboutLines v = record { number = 15; holds = linesFit v } ∷ []
 
--- what an act gives on a book: its answer, "for each, in a place beside it, its single posting's number", the book afterwards, and the log where one is given
-pub record Event : Type 0 where
-  pub answer : Answer
-  pub numbers : List ℕ
-  pub book : Book
-  pub log : Option (List ℕ)
+-- ---- the form of a book
 
--- a call has no lines
-unfoldable pub ofCall : Result → Event
-ofCall r = record { answer = r .answer; numbers = []; book = r .book; log = none }
+-- The form in which a book is given and left: what book it is, how a book is put into the form, the number of the questions about the book, and its bytes, which a log is
+-- compared with.
+pub record Form (B : Type 0) : Type 0 where
+  pub book : B → Book
+  pub put : Book → B
+  pub number : B → ℕ
+  pub bytes : B → List ℕ
 
--- "a refused call leaves it": a number alone, the book and the log as they were
-unfoldable pub refusedOn : Book → Option (List ℕ) → ℕ → Event
-refusedOn b log n = record { answer = only n; numbers = []; book = b; log = log }
+-- a book itself, as the rules have it
+abbrev pub asBook : Form Book
+asBook = record { book = λ b. b; put = λ b. b; number = λ b. numberOf (refusal (aboutBook b)); bytes = bytesOf }
 
--- "Book and answers equal those of the postings made one after another."
-unfoldable pub linesGiven : Setting → Book → List ℕ → List ℕ → List ℤ → Event
-linesGiven g b [] areas amounts = record { answer = only 0; numbers = []; book = b; log = none }
-linesGiven g b (id ∷ ids) [] amounts = record { answer = only 0; numbers = []; book = b; log = none }
-linesGiven g b (id ∷ ids) (area ∷ areas) [] = record { answer = only 0; numbers = []; book = b; log = none }
-linesGiven g b (id ∷ ids) (area ∷ areas) (z ∷ amounts) =
-    let first = stepGiven g b (posting id area z) in
-    let rest = linesGiven g (first .book) ids areas amounts in
-    record { answer = only 0; numbers = first .answer .number ∷ rest .numbers; book = rest .book; log = none }
+-- a book in bytes
+abbrev pub asBytes : Form (List ℕ)
+asBytes = record { book = bookOf; put = bytesOf; number = bookNumber; bytes = λ s. s }
 
--- what the rules give for an act without a log: "A book that fails a question stops the call with that number before the first line." Without a log there is no entry to
--- withdraw.
-unfoldable pub actGiven : Setting → Book → Act → Event
-actGiven g b (call c) = ofCall (stepGiven g b c)
-actGiven g b (postings v) =
-    decided (refusal (aboutBook b ++ (aboutLines v ++ aboutSetting g b))) (refusedOn b none)
-    (linesGiven g b (v .ids) (v .areas) (v .amounts))
-actGiven g b withdrawal =
-    decided (refusal (aboutBook b ++ (aboutSetting g b ++ (hasEntry [] ∷ [])))) (refusedOn b none) (refusedOn b none 18)
-
--- ---- with a log
-
--- the log afterwards holds "the book as the last call given the log left it"
-unfoldable pub enteredOn : Entered → Event
-enteredOn e = record { answer = e .answer; numbers = []; book = e .book; log = some (logBytes (e .entries) (bytesOf (e .book))) }
-
--- an accepted list "empties it"
-unfoldable pub emptiedOn : Event → Event
-emptiedOn e = record { answer = e .answer; numbers = e .numbers; book = e .book; log = some (logBytes [] (bytesOf (e .book))) }
-
--- "19 is asked after question 7 and 15 to 17, the others last"
-unfoldable pub actLogged : Setting → List ℕ → Book → Act → Event
-actLogged g l b (call c) =
-    let limits = limitsOn g b in
-    decided (refusal (aboutBook b ++ (aboutSetting g b ++ (aboutLog (some l) (bytesOf b) ++ (about limits b c ++ lastly (room l) c))))) (refusedOn b (some l))
-    (enteredOn (callEntered limits (room l) (entriesOf (bytesOf b) l) b c))
-actLogged g l b (postings v) =
-    decided (refusal (aboutBook b ++ (aboutLines v ++ (aboutSetting g b ++ aboutLog (some l) (bytesOf b))))) (refusedOn b (some l))
-    (emptiedOn (linesGiven g b (v .ids) (v .areas) (v .amounts)))
-actLogged g l b withdrawal =
-    let es = entriesOf (bytesOf b) l in
-    decided (refusal (aboutBook b ++ (aboutSetting g b ++ (aboutLog (some l) (bytesOf b) ++ (hasEntry es ∷ []))))) (refusedOn b (some l))
-    (enteredOn (withdrawalEntered es b))
-
--- what the rules give for a request on a book
-unfoldable pub requestGiven : Setting → Option (List ℕ) → Book → Act → Event
-requestGiven g none b a = actGiven g b a
-requestGiven g (some l) b a = actLogged g l b a
-
--- ---- on a book in bytes: the opening questions
+-- ---- the opening questions
 
 -- The number of questions that are asked one after the other, by that of the first and that of the second: "the first "no" gives the number", 0 where there is none.
 abbrev pub firstOf : ℕ → ℕ → ℕ
@@ -164,92 +111,119 @@ firstOf n m = after n (λ k. k) m
 unfoldable pub openingLines : ℕ → Lines → ℕ
 openingLines n v = firstOf n (numberOf (refusal (aboutLines v)))
 
--- then 16 and 17, "both asked after question 7 and 15",
-unfoldable pub opening : ℕ → Setting → List ℕ → ℕ
-opening n g s = firstOf n (storeNumber (g .store) (bookOf s .header .date))
+module _ {B : Type 0} (form : Form B) where
+  -- then 16 and 17, "both asked after question 7 and 15",
+  unfoldable pub openingIn : ℕ → Setting → B → ℕ
+  openingIn n g x = firstOf n (storeNumber (g .store) (form .book x .header .date))
 
--- then 19: it "is asked after question 7 and 15 to 17"
-unfoldable pub openingWith : ℕ → Setting → Option (List ℕ) → List ℕ → ℕ
-openingWith n g log s = firstOf (opening n g s) (logNumber log s)
+  -- then 19: it "is asked after question 7 and 15 to 17"
+  unfoldable pub openingWithIn : ℕ → Setting → Option (List ℕ) → B → ℕ
+  openingWithIn n g log x = firstOf (openingIn n g x) (logNumber log (form .bytes x))
 
--- ---- on a book in bytes: what an act gives after the questions of the book, and 26, whose number is n
+-- of a book in bytes
+abbrev pub opening : ℕ → Setting → List ℕ → ℕ
+opening n g s = openingIn asBytes n g s
 
--- what a request gives: its answer, the numbers of a list's lines, the bytes afterwards, and the log where one is given
-pub record Outcome : Type 0 where
+abbrev pub openingWith : ℕ → Setting → Option (List ℕ) → List ℕ → ℕ
+openingWith n g log s = openingWithIn asBytes n g log s
+
+-- ---- what an act gives on a book in some form, after the questions of the book, and 26, whose number is n
+
+-- its answer, "for each, in a place beside it, its single posting's number", the book afterwards in its form, and the log where one is given
+pub record Outcome (B : Type 0) : Type 0 where
   pub answer : Answer
   pub numbers : List ℕ
-  pub bytes : List ℕ
+  pub book : B
   pub log : Option (List ℕ)
 
 -- "A refusal returns the number with every other field 0 and the book byte for byte the same"; the log, where one is given, stays too: "a refused call leaves it"
-unfoldable pub refusedGiven : Option (List ℕ) → List ℕ → ℕ → Outcome
-refusedGiven log s n = record { answer = only n; numbers = []; bytes = s; log = log }
+unfoldable pub refusedGiven : {B : Type 0} → Option (List ℕ) → B → ℕ → Outcome B
+refusedGiven log x n = record { answer = only n; numbers = []; book = x; log = log }
 
--- what a call gives without a log
-unfoldable pub outcome : InBytes → Outcome
-outcome x = record { answer = x .answer; numbers = []; bytes = x .bytes; log = none }
+module _ {B : Type 0} (form : Form B) where
+  -- ---- without a log
 
--- a call in its setting
-unfoldable pub stepIn : ℕ → Setting → List ℕ → Call → Outcome
-stepIn n g s c = outcome (stepAfter (opening n g s) (limitsOn g (bookOf s)) s c)
+  -- what the rules give for a call, which has no lines
+  unfoldable pub resultIn : Result → Outcome B
+  resultIn r = record { answer = r .answer; numbers = []; book = form .put (r .book); log = none }
 
--- "Book and answers equal those of the postings made one after another", each a call of its own on the bytes that the last one left
-unfoldable pub linesIn : Setting → List ℕ → List ℕ → List ℕ → List ℤ → Outcome
-linesIn g s [] areas amounts = record { answer = only 0; numbers = []; bytes = s; log = none }
-linesIn g s (id ∷ ids) [] amounts = record { answer = only 0; numbers = []; bytes = s; log = none }
-linesIn g s (id ∷ ids) (area ∷ areas) [] = record { answer = only 0; numbers = []; bytes = s; log = none }
-linesIn g s (id ∷ ids) (area ∷ areas) (z ∷ amounts) =
-    let first = stepIn (bookNumber s) g s (posting id area z) in
-    let rest = linesIn g (first .bytes) ids areas amounts in
-    record { answer = only 0; numbers = first .answer .number ∷ rest .numbers; bytes = rest .bytes; log = none }
+  -- a call, after its opening questions by their number
+  unfoldable pub callAfter : ℕ → Limits → B → Call → Outcome B
+  callAfter number limits x c =
+      after number (refusedGiven none x) (decided (refusal (about limits (form .book x) c)) (refusedGiven none x) (resultIn (effect limits (form .book x) c)))
 
--- without a log; then there is no entry to withdraw
-unfoldable pub actIn : ℕ → Setting → List ℕ → Act → Outcome
-actIn n g s (call c) = stepIn n g s c
-actIn n g s (postings v) = after (opening (openingLines n v) g s) (refusedGiven none s) (linesIn g s (v .ids) (v .areas) (v .amounts))
-actIn n g s withdrawal = refusedGiven none s (firstOf (opening n g s) 18)
+  -- a call in its setting
+  unfoldable pub stepIn : ℕ → Setting → B → Call → Outcome B
+  stepIn n g x c = callAfter (openingIn form n g x) (limitsOn g (form .book x)) x c
 
--- ---- with a log
+  -- "Book and answers equal those of the postings made one after another", each a call of its own on the book that the last one left
+  unfoldable pub linesIn : Setting → B → List ℕ → List ℕ → List ℤ → Outcome B
+  linesIn g x [] areas amounts = record { answer = only 0; numbers = []; book = x; log = none }
+  linesIn g x (id ∷ ids) [] amounts = record { answer = only 0; numbers = []; book = x; log = none }
+  linesIn g x (id ∷ ids) (area ∷ areas) [] = record { answer = only 0; numbers = []; book = x; log = none }
+  linesIn g x (id ∷ ids) (area ∷ areas) (z ∷ amounts) =
+      let first = stepIn (form .number x) g x (posting id area z) in
+      let rest = linesIn g (first .book) ids areas amounts in
+      record { answer = only 0; numbers = first .answer .number ∷ rest .numbers; book = rest .book; log = none }
 
--- what the rules give, with the book written as bytes, and the log of the entries that holds it
-unfoldable pub enteredIn : Entered → Outcome
-enteredIn e = record { answer = e .answer; numbers = []; bytes = bytesOf (e .book); log = some (logBytes (e .entries) (bytesOf (e .book))) }
+  -- "A book that fails a question stops the call with that number before the first line." Without a log there is no entry to withdraw.
+  unfoldable pub actIn : ℕ → Setting → B → Act → Outcome B
+  actIn n g x (call c) = stepIn n g x c
+  actIn n g x (postings v) = after (openingIn form (openingLines n v) g x) (refusedGiven none x) (linesIn g x (v .ids) (v .areas) (v .amounts))
+  actIn n g x withdrawal = refusedGiven none x (firstOf (openingIn form n g x) 18)
 
--- an accepted list "empties it"
-unfoldable pub emptiedIn : Outcome → Outcome
-emptiedIn o = record { answer = o .answer; numbers = o .numbers; bytes = o .bytes; log = some (logBytes [] (o .bytes)) }
+  -- ---- with a log
 
--- a call with a log, after its opening questions by their number: 20 is asked last
-unfoldable pub loggedAfter : ℕ → Limits → List ℕ → List ℕ → Call → Outcome
-loggedAfter number limits l s c =
-    after number (refusedGiven (some l) s)
-    (decided (refusal (about limits (bookOf s) c ++ lastly (room l) c)) (refusedGiven (some l) s) (enteredIn (callEntered limits (room l) (entriesOf s l) (bookOf s) c)))
+  -- what the rules give: the log afterwards holds "the book as the last call given the log left it"
+  unfoldable pub enteredIn : Entered → Outcome B
+  enteredIn e = record { answer = e .answer; numbers = []; book = form .put (e .book); log = some (logBytes (e .entries) (bytesOf (e .book))) }
 
--- a withdrawal: 18 is asked last
-unfoldable pub withdrawalAfter : ℕ → List ℕ → List ℕ → Outcome
-withdrawalAfter number l s =
-    after number (refusedGiven (some l) s)
-    (decided (refusal (hasEntry (entriesOf s l) ∷ [])) (refusedGiven (some l) s) (enteredIn (withdrawalEntered (entriesOf s l) (bookOf s))))
+  -- an accepted list "empties it"
+  unfoldable pub emptiedIn : Outcome B → Outcome B
+  emptiedIn o = record { answer = o .answer; numbers = o .numbers; book = o .book; log = some (logBytes [] (form .bytes (o .book))) }
 
-unfoldable pub actWith : ℕ → Setting → List ℕ → List ℕ → Act → Outcome
-actWith n g l s (call c) = loggedAfter (openingWith n g (some l) s) (limitsOn g (bookOf s)) l s c
-actWith n g l s (postings v) =
-    after (openingWith (openingLines n v) g (some l) s) (refusedGiven (some l) s) (emptiedIn (linesIn g s (v .ids) (v .areas) (v .amounts)))
-actWith n g l s withdrawal = withdrawalAfter (openingWith n g (some l) s) l s
+  -- a call with a log, after its opening questions by their number: 20 is asked last
+  unfoldable pub loggedAfter : ℕ → Limits → List ℕ → B → Call → Outcome B
+  loggedAfter number limits l x c =
+      after number (refusedGiven (some l) x)
+      (decided (refusal (about limits (form .book x) c ++ lastly (room l) c)) (refusedGiven (some l) x)
+      (enteredIn (callEntered limits (room l) (entriesOf (form .bytes x) l) (form .book x) c)))
+
+  -- a withdrawal: 18 is asked last
+  unfoldable pub withdrawalAfter : ℕ → List ℕ → B → Outcome B
+  withdrawalAfter number l x =
+      let entries = entriesOf (form .bytes x) l in
+      after number (refusedGiven (some l) x)
+      (decided (refusal (hasEntry entries ∷ [])) (refusedGiven (some l) x) (enteredIn (withdrawalEntered entries (form .book x))))
+
+  unfoldable pub actWith : ℕ → Setting → List ℕ → B → Act → Outcome B
+  actWith n g l x (call c) = loggedAfter (openingWithIn form n g (some l) x) (limitsOn g (form .book x)) l x c
+  actWith n g l x (postings v) =
+      after (openingWithIn form (openingLines n v) g (some l) x) (refusedGiven (some l) x) (emptiedIn (linesIn g x (v .ids) (v .areas) (v .amounts)))
+  actWith n g l x withdrawal = withdrawalAfter (openingWithIn form n g (some l) x) l x
+
+  -- ---- requests
+
+  -- without a log as before it, so that calls without a log answer as they did
+  unfoldable pub actBy : ℕ → Setting → Option (List ℕ) → B → Act → Outcome B
+  actBy n g none x a = actIn n g x a
+  actBy n g (some l) x a = actWith n g l x a
+
+  unfoldable pub requestIn : ℕ → Request → B → Outcome B
+  requestIn n r x = actBy n (r .setting) (r .log) x (r .act)
+
+-- what the rules give for a request on a book
+abbrev pub requestGiven : Request → Book → Outcome Book
+requestGiven r b = requestIn asBook (asBook .number b) r b
 
 -- ---- requests and queries on a book in bytes
 
--- without a log as before it, so that calls without a log answer as they did
-unfoldable pub actBy : ℕ → Setting → Option (List ℕ) → List ℕ → Act → Outcome
-actBy n g none s a = actIn n g s a
-actBy n g (some l) s a = actWith n g l s a
-
 -- a request after the questions of the book, and 26 where a party is asked
-unfoldable pub requestAfter : ℕ → Request → List ℕ → Outcome
-requestAfter n r s = actBy n (r .setting) (r .log) s (r .act)
+abbrev pub requestAfter : ℕ → Request → List ℕ → Outcome (List ℕ)
+requestAfter n r s = requestIn asBytes n r s
 
 -- a request on a book in bytes
-abbrev pub request : Request → List ℕ → Outcome
+abbrev pub request : Request → List ℕ → Outcome (List ℕ)
 request r s = requestAfter (bookNumber s) r s
 
 -- a query in a setting, after the same questions

@@ -13,7 +13,7 @@ use Rattle.book_format.specs.Book.{bookOf, userAt, userSize, versionOf}
 use Rattle.book_format.specs.Questions.{bookNumber}
 use Rattle.book_format.specs.Steps.{placeOf}
 use Rattle.requests.specs.Carried.{partShown}
-use Rattle.requests.specs.Request.{Outcome, Setting, enquiryAfter, limitsOn, opening, refusedGiven}
+use Rattle.requests.specs.Request.{Outcome, Setting, enquiryAfter, limitsOn, openingIn, refusedGiven}
 use Rattle.store.specs.Store.{limitsOf, storeNumber}
 use Rattle.views.proofs.Told.{same-afternoon, same-flag, same-header, same-known, same-morning, same-trades, same-user}
 use Rattle.views.specs.Views.{viewOf}
@@ -59,14 +59,14 @@ module _ (party : ℕ) (s t : List ℕ) (passes : bookNumber s ≡ 0) (passed-to
 
   -- one number
   number-same : (m : Matter) (g : Setting) → openingNumberBy (shipperOf party) m g s ≡ openingNumberBy (shipperOf party) m g t
-  unfolding opening enteringNumber rightNumber
+  unfolding openingIn enteringNumber rightNumber
   number-same m g =
       ap₂ (λ (n : ℕ) (h : Header). after (after n (λ k. k) (rightNumber (bookOf s) (shipperOf party) m)) (λ k. k) (storeNumber (g .store) (h .date))) (passes ∙ sym passed-too) header-same
       ∙ ap (λ (r : Bool). after (after (bookNumber t) (λ k. k) (cond r 0 26)) (λ k. k) (storeNumber (g .store) (bookOf t .header .date))) (right-same m)
 
   -- which is 0 for no matter of the operator's, and of the others only for who asks for itself and is a shipper of the book
   granted : (m : Matter) (g : Setting) → openingNumberBy (shipperOf party) m g s ≡ 0 → T (mayDo (bookOf s) (shipperOf party) m)
-  unfolding opening enteringNumber rightNumber
+  unfolding openingIn enteringNumber rightNumber
   granted m g e = go (bookNumber s) (mayDo (bookOf s) (shipperOf party) m) e
     where
       go : (n : ℕ) (may : Bool) → after (after n (λ k. k) (cond may 0 26)) (λ k. k) (storeNumber (g .store) (bookOf s .header .date)) ≡ 0 → T may
@@ -225,9 +225,9 @@ module _ (party : ℕ) (s t : List ℕ) (passes : bookNumber s ≡ 0) (passed-to
             let b = y .read q in (a .0 ∙ sym (b .0), a .1 ∙ sym (b .1));
         written = λ ps qs xs ys out. x .write ps xs out ∙ sym (y .write qs ys out);
         cancelled = λ g id tries. x .cancel g id tries ∙ sym (y .cancel g id tries);
-        answer = λ r. ap (λ (o : Outcome). o .answer) (x .act r) ∙ sym (ap (λ (o : Outcome). o .answer) (y .act r));
-        numbers = λ r. ap (λ (o : Outcome). o .numbers) (x .act r) ∙ sym (ap (λ (o : Outcome). o .numbers) (y .act r));
-        log = λ r. ap (λ (o : Outcome). o .log) (x .act r) ∙ sym (ap (λ (o : Outcome). o .log) (y .act r));
+        answer = λ r. ap (λ (o : Outcome (List ℕ)). o .answer) (x .act r) ∙ sym (ap (λ (o : Outcome (List ℕ)). o .answer) (y .act r));
+        numbers = λ r. ap (λ (o : Outcome (List ℕ)). o .numbers) (x .act r) ∙ sym (ap (λ (o : Outcome (List ℕ)). o .numbers) (y .act r));
+        log = λ r. ap (λ (o : Outcome (List ℕ)). o .log) (x .act r) ∙ sym (ap (λ (o : Outcome (List ℕ)). o .log) (y .act r));
       }
 
 pub agreement-claim : AgreementClaim

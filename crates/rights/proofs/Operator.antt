@@ -106,7 +106,7 @@ accepted-act : (actor : Party) (r : Request) (s : List ℕ) → requestBy actor 
 unfolding refusedGiven only
 accepted-act operator r s e = (refl, operator-request r s)
 accepted-act (shipperOf party) r s e =
-    absurd (shipper-stopped party s (λ n. requestAfter n r s) (λ (o : Outcome). o .answer .number) (λ n. ap (λ (o : Outcome). o .answer .number) (request-stopped r s n)) e)
+    absurd (shipper-stopped party s (λ n. requestAfter n r s) (λ (o : Outcome (List ℕ)). o .answer .number) (λ n. ap (λ (o : Outcome (List ℕ)). o .answer .number) (request-stopped r s n)) e)
 
 accepted-cancellation : (actor : Party) (g : Setting) (s : List ℕ) (id tries : ℕ) → cancellationBy actor g s id tries .number ≡ 0
     → (actor ≡ operator) × (cancellationBy actor g s id tries ≡ cancellation g s id tries)

@@ -22,13 +22,13 @@ openingNumberBy actor m g s = opening (enteringNumber actor m s) g s
 -- ---- calls
 
 -- "All else is the operator's." Every act that changes a book: the request after 26
-abbrev pub requestBy : Party → Request → List ℕ → Outcome
+abbrev pub requestBy : Party → Request → List ℕ → Outcome (List ℕ)
 requestBy actor r s = requestAfter (enteringNumber actor operators s) r s
 
 -- what the contract of a public call says of answer and bytes; the log that is lent to calls is in Logged.antt
 pub record CarriedBy (actor : Party) (r : Request) (s : List ℕ) (a : Answer) (t : List ℕ) : Type 0 where
   pub answer : a ≡ requestBy actor r s .answer
-  pub bytes : t ≡ requestBy actor r s .bytes
+  pub bytes : t ≡ requestBy actor r s .book
 
 -- ---- what changes no book
 

@@ -72,8 +72,8 @@ log-stays store actor l s c b = go (enteringNumber actor operators s) refl
     go : (n : ℕ) → enteringNumber actor operators s ≡ n → requestBy actor run-of s .answer .reductions ≡ 0 → requestBy actor run-of s .log ≡ some l
     go zero e z =
         let h = passed-request actor run-of s e in
-        ap (λ (o : Outcome). o .log) h ∙ run-leaves-log store .leaves {a = request run-of s .answer} c b (record { answer = refl; bytes = refl }) (sym (ap (λ (o : Outcome). o .answer .reductions) h) ∙ z)
-    go (suc n) e z = ap (λ (o : Outcome). o .log) (stopped-request actor run-of s n e)
+        ap (λ (o : Outcome (List ℕ)). o .log) h ∙ run-leaves-log store .leaves {a = request run-of s .answer} c b (record { answer = refl; bytes = refl }) (sym (ap (λ (o : Outcome (List ℕ)). o .answer .reductions) h) ∙ z)
+    go (suc n) e z = ap (λ (o : Outcome (List ℕ)). o .log) (stopped-request actor run-of s n e)
 
 pub run-length-in-c : (store : Option (List ℕ)) → RunLengthInC store
 unfolding lentLog

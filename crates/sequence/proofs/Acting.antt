@@ -25,10 +25,10 @@ use Rattle.sequence.specs.Logs.{begun, beside, handed, kept, written, Ha
 -- ---- one request
 
 -- the operator's is one without a party
-operators-carried : (l : Link) → CarriedBy operator (l .asked) (l .given) (l .gave .answer) (l .gave .bytes) → Carried (l .asked) (l .given) (l .gave .answer) (l .gave .bytes)
+operators-carried : (l : Link) → CarriedBy operator (l .asked) (l .given) (l .gave .answer) (l .gave .book) → Carried (l .asked) (l .given) (l .gave .answer) (l .gave .book)
 operators-carried l k =
     let e = operator-request (l .asked) (l .given) in
-    record { answer = k .answer ∙ ap (λ (o : Outcome). o .answer) e; bytes = k .bytes ∙ ap (λ (o : Outcome). o .bytes) e }
+    record { answer = k .answer ∙ ap (λ (o : Outcome (List ℕ)). o .answer) e; bytes = k .bytes ∙ ap (λ (o : Outcome (List ℕ)). o .book) e }
 
 -- and leaves bytes that pass the questions again
 record Onward (t : List ℕ) : Type 0 where
@@ -40,16 +40,16 @@ onward b h k = let c = sequence b h k in record { bytes = subst (λ (x : List �
 
 -- a shipper's is stopped
 shippers-stopped : (party : ℕ) (l : Link) → bookNumber (l .given) ≡ 0
-    → CarriedBy (shipperOf party) (l .asked) (l .given) (l .gave .answer) (l .gave .bytes) → l .gave .numbers ≡ requestBy (shipperOf party) (l .asked) (l .given) .numbers
+    → CarriedBy (shipperOf party) (l .asked) (l .given) (l .gave .answer) (l .gave .book) → l .gave .numbers ≡ requestBy (shipperOf party) (l .asked) (l .given) .numbers
     → l .gave .log ≡ requestBy (shipperOf party) (l .asked) (l .given) .log → Stopped l
 unfolding refusedGiven
 shippers-stopped party l h k n o =
     let e = forbidden-claim party (l .given) h .act (l .asked) in
     record {
-      answer = k .answer ∙ ap (λ (x : Outcome). x .answer) e;
-      numbers = n ∙ ap (λ (x : Outcome). x .numbers) e;
-      bytes = k .bytes ∙ ap (λ (x : Outcome). x .bytes) e;
-      log = o ∙ ap (λ (x : Outcome). x .log) e;
+      answer = k .answer ∙ ap (λ (x : Outcome (List ℕ)). x .answer) e;
+      numbers = n ∙ ap (λ (x : Outcome (List ℕ)). x .numbers) e;
+      bytes = k .bytes ∙ ap (λ (x : Outcome (List ℕ)). x .book) e;
+      log = o ∙ ap (λ (x : Outcome (List ℕ)). x .log) e;
     }
 
 -- ---- the sequence
@@ -78,14 +78,14 @@ played {store} {s} {t} (thenBy {d = d} {ds = ds} g st k n o rest) b h = go (d .a
     also : {a : Party} → d .actor ≡ a → Linked store s (alsoBy a l (operatorsOf ds)) t → Linked store s (alsoBy (d .actor) l (operatorsOf ds)) t
     also e x = subst (λ (a : Party). Linked store s (alsoBy a l (operatorsOf ds)) t) (sym e) x
 
-    go : (a : Party) → d .actor ≡ a → CarriedBy a (l .asked) (l .given) (l .gave .answer) (l .gave .bytes) → l .gave .numbers ≡ requestBy a (l .asked) (l .given) .numbers
+    go : (a : Party) → d .actor ≡ a → CarriedBy a (l .asked) (l .given) (l .gave .answer) (l .gave .book) → l .gave .numbers ≡ requestBy a (l .asked) (l .given) .numbers
         → l .gave .log ≡ requestBy a (l .asked) (l .given) .log
-        → (AllBytes (l .gave .bytes) → bookNumber (l .gave .bytes) ≡ 0 → Played store (l .gave .bytes) ds t) → Played store s (d ∷ ds) t
+        → (AllBytes (l .gave .book) → bookNumber (l .gave .book) ≡ 0 → Played store (l .gave .book) ds t) → Played store s (d ∷ ds) t
     go operator e k n o more =
         let c = operators-carried l k in
         let same = operator-request (l .asked) (l .given) in
-        let w = n ∙ ap (λ (y : Outcome). y .numbers) same in
-        let v = o ∙ ap (λ (y : Outcome). y .log) same in
+        let w = n ∙ ap (λ (y : Outcome (List ℕ)). y .numbers) same in
+        let v = o ∙ ap (λ (y : Outcome (List ℕ)). y .log) same in
         let x = onward b h (then g st c w v ended) in
         let q = more (x .bytes) (x .number) in
         record { operators = also e (then g st c w v (q .operators)); shippers = deedsAlso (λ party f. absurd (no-shipper party (sym e ∙ f))) (q .shippers) }
@@ -149,7 +149,7 @@ log-back-by store =
 
 module _ (actor : Party) (r : Request) (s : List ℕ) where
   -- what holds of the request without a party and of its refusal holds of the request by a party
-  either : (P : Outcome → Type 0) → P (request r s) → ((n : ℕ) → P (refusedGiven (r .log) s (suc n))) → P (requestBy actor r s)
+  either : (P : Outcome (List ℕ) → Type 0) → P (request r s) → ((n : ℕ) → P (refusedGiven (r .log) s (suc n))) → P (requestBy actor r s)
   either P passed stopped = go (enteringNumber actor operators s) refl
     where
       go : (n : ℕ) → enteringNumber actor operators s ≡ n → P (requestBy actor r s)
@@ -167,16 +167,16 @@ module _ (store log : Option (List ℕ)) (actor : Party) (s : List ℕ) where
   run-most =
       either actor running s (λ o. o .answer .reductions ≤ cuttable (tradesOf s)) (run-length store log .most (record { answer = refl; bytes = refl })) (λ n. omega arith)
 
-  run-none : AllBytes s → requestBy actor running s .answer .reductions ≡ 0 → requestBy actor running s .bytes ≡ s
+  run-none : AllBytes s → requestBy actor running s .answer .reductions ≡ 0 → requestBy actor running s .book ≡ s
   unfolding refusedGiven
   run-none b =
-      either actor running s (λ o. o .answer .reductions ≡ 0 → o .bytes ≡ s) (run-length store log .none b (record { answer = refl; bytes = refl })) (λ n e. refl)
+      either actor running s (λ o. o .answer .reductions ≡ 0 → o .book ≡ s) (run-length store log .none b (record { answer = refl; bytes = refl })) (λ n e. refl)
 
   run-refused : T (not (acceptedNumber (call run) (requestBy actor running s .answer .number)))
-      → (requestBy actor running s .answer .reductions ≡ 0) × (requestBy actor running s .bytes ≡ s)
+      → (requestBy actor running s .answer .reductions ≡ 0) × (requestBy actor running s .book ≡ s)
   unfolding refusedGiven only
   run-refused =
-      either actor running s (λ o. T (not (acceptedNumber (call run) (o .answer .number))) → (o .answer .reductions ≡ 0) × (o .bytes ≡ s))
+      either actor running s (λ o. T (not (acceptedNumber (call run) (o .answer .number))) → (o .answer .reductions ≡ 0) × (o .book ≡ s))
       (run-length store log .refused (record { answer = refl; bytes = refl })) (λ n e. (refl, refl))
 
 pub run-length-by : (store log : Option (List ℕ)) → RunLengthBy store log

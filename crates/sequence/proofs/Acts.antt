@@ -1,23 +1,25 @@
 -- One request by the rules without a log, accepted or refused: a call, a list by its lines one after another, a withdrawal; what it does to a sound book. Assumes nothing.
-use Rattle.base.specs.Basics.{_≡_, ap, refl, subst, Bool, cond, false, not, true, Option, none, some, List, [], _∷_, _++_, _<_, ℕ, arith, T, eqb, ltb}
+use Rattle.base.specs.Basics.{_≡_, ap, refl, subst, sym, Bool, cond, false, not, true, Option, none, some, List, [], _∷_, _<_, ℕ, zero, suc, arith, T, eqb, ltb}
 use Rattle.base.specs.Basics.{ltb→lt, ℤ, pos, _+ℤ_, ne-eqb}
+use Rattle.book_format.specs.After.{after}
+use Rattle.book_format.specs.Book.{bytesOf}
 use Rattle.laws.proofs.Moved.{Moved, moved-refl, moved-trans}
-use Rattle.laws.proofs.Refusals.{append-yes, numbered, refusal-is}
-use Rattle.base.proofs.Tests.{all-append}
+use Rattle.laws.proofs.Refusals.{numbered, refusal-is}
+use Rattle.laws.proofs.Sound.{none-refuses}
 use Rattle.laws.proofs.Trades.{lowered-refl, lowered-trans}
 use Rattle.laws.specs.Sound.{Sound}
 use Rattle.laws.specs.Statements.{AllCovered}
 use Rattle.laws.specs.Trades.{Lowered, Pairwise}
-use Rattle.log_format.specs.Noted.{hasEntry}
-use Rattle.requests.proofs.Opened.{setting-numbered}
-use Rattle.requests.specs.Request.{call, postings, withdrawal, Act, Event, Lines, Setting, aboutLines, aboutSetting, actGiven, limitsOn, linesGiven, ofCall, refusedOn, stepGiven}
+use Rattle.log_format.specs.Fits.{aboutLog, logNumber}
+use Rattle.requests.proofs.Emptied.{about-numbered}
+use Rattle.requests.specs.Request.{call, postings, withdrawal, Act, Lines, Outcome, Setting, actIn, asBook, callAfter, firstOf, limitsOn, linesIn, openingIn, openingLines, openingWithIn, refusedGiven, resultIn, stepIn}
 use Rattle.rules.specs.Book.{Book}
 use Rattle.rules.specs.Calls.{posting, morningCall, afternoonCall, reduction, run, Call, Result, about, effect, only}
 use Rattle.rules.specs.Levels.{Limits}
 use Rattle.base.specs.Lists.{all}
-use Rattle.rules.specs.Questions.{Question, aboutBook, decided, refusal}
-use Rattle.store.specs.Store.{aboutStore}
-use Rattle.sequence.proofs.Step.{Effected, asks, asks-numbered, book-numbered, effect-law, step-law}
+use Rattle.rules.specs.Questions.{Question, decided, numberOf, refusal}
+use Rattle.store.specs.Store.{aboutStore, storeNumber}
+use Rattle.sequence.proofs.Step.{Effected, effect-law}
 use Rattle.sequence.specs.Links.{acceptedNumber}
 use Rattle.sequence.specs.Totals.{amountIn, amountsIn, counted, countedIn, lineAmounts}
 
@@ -33,13 +35,18 @@ callOf (call c) = c
 callOf (postings v) = posting 0 0 (pos 0)
 callOf withdrawal = posting 0 0 (pos 0)
 
+-- a call is no withdrawal
+call-no-withdrawal : {c : Call} → call c ≡ withdrawal → ⊥
+unfolding kindOf
+call-no-withdrawal e = let k : _≡_ {A = ℕ} 0 2 = ap kindOf e in omega arith
+
 -- equal acts are of equal calls
 pub same-call : {c d : Call} → call c ≡ call d → c ≡ d
 unfolding callOf
 same-call e = ap callOf e
 
 -- what an act with a log, or none, does; of a list each line counts by its own number
-pub record Acted (limits : Limits) (b : Book) (log : Option (List ℕ)) (a : Act) (r : Event) : Type 0 where
+pub record Acted (limits : Limits) (b : Book) (log : Option (List ℕ)) (a : Act) (r : Outcome Book) : Type 0 where
   pub sound : Sound (r .book)
   pub moved : Moved b (r .book) (λ i. cond (acceptedNumber a (r .answer .number)) (amountsIn i a (r .numbers)) (pos 0))
       (cond (acceptedNumber a (r .answer .number)) (countedIn a (r .answer .mwh)) (pos 0))
@@ -77,13 +84,13 @@ unaccepted (postings v) n k h = ne-eqb n 0 (λ z. omega arith)
 unaccepted withdrawal n k h = ne-eqb n 0 (λ z. omega arith)
 
 module _ {limits : Limits} {b : Book} {log : Option (List ℕ)} where
-  pub act-refused : (a : Act) (n : ℕ) → Sound b → 0 < n → (a ≡ call run → T (not (eqb n 20))) → Acted limits b log a (refusedOn b log n)
-  unfolding refusedOn only
+  pub act-refused : (a : Act) (n : ℕ) → Sound b → 0 < n → (a ≡ call run → T (not (eqb n 20))) → Acted limits b log a (refusedGiven log b n)
+  unfolding refusedGiven only
   act-refused a n s k h =
       let e = unaccepted a n k h in
       record { sound = s; moved = rw e (moved-refl b); lowered = λ w. lowered-refl (b .trades); refused = λ q. (refl, refl); covered = λ d q. absurd (omega arith) }
 
-  pub act-accepted : (a : Act) (r : Event) → acceptedNumber a (r .answer .number) ≡ true → Sound (r .book)
+  pub act-accepted : (a : Act) (r : Outcome Book) → acceptedNumber a (r .answer .number) ≡ true → Sound (r .book)
       → Moved b (r .book) (λ i. amountsIn i a (r .numbers)) (countedIn a (r .answer .mwh)) (countedIn a (r .answer .worth))
       → ((a ≡ withdrawal → ⊥) → Pairwise Lowered (b .trades) (r .book .trades))
       → (a ≡ call run → r .answer .number ≡ 0 → AllCovered limits (r .book))
@@ -98,45 +105,67 @@ module _ {limits : Limits} {b : Book} {log : Option (List ℕ)} where
       act-accepted (call c) (record { answer = r .answer; numbers = []; book = r .book; log = m }) (accepted-zero (call c) (e .number)) (e .sound) (e .moved) (λ w. e .lowered)
       (λ d n. e .covered (same-call d))
 
--- ---- the numbers of questions
+-- ---- the opening questions of a sound book by their number
 
--- no question of the book or of the store has the number 20
-pub book-plain : (b : Book) → T (all (λ q. not (eqb (q .number) 20)) (aboutBook b))
-unfolding aboutBook all
-book-plain b = tt
+-- no number that stops a run is 20, which is accepted
+abbrev pub Plain : ℕ → Type 0
+Plain n = T (not (eqb n 20))
 
-pub setting-plain : (g : Setting) (b : Book) → T (all (λ q. not (eqb (q .number) 20)) (aboutSetting g b))
-unfolding aboutSetting aboutStore all
-setting-plain g b = go (g .store)
+number-plain : (qs : List Question) → T (all (λ q. not (eqb (q .number) 20)) qs) → Plain (numberOf (refusal qs))
+unfolding numberOf
+number-plain qs h = go (refusal qs) refl
   where
-    go : (store : Option (List ℕ)) → T (all (λ q. not (eqb (q .number) 20)) (aboutStore store (b .header .date)))
-    go none = tt
-    go (some s) = tt
+    go : (o : Option ℕ) → refusal qs ≡ o → Plain (numberOf o)
+    go none e = tt
+    go (some n) e = refusal-is (λ i. not (eqb i 20)) qs n h e
 
--- so a run without a log is not refused with it
-asks-plain : (g : Setting) (b : Book) → T (all (λ q. not (eqb (q .number) 20)) (asks g b run))
-unfolding asks about all
-asks-plain g b =
-    all-append (λ q. not (eqb (q .number) 20)) (aboutBook b) (aboutSetting g b ++ []) (book-plain b) (all-append (λ q. not (eqb (q .number) 20)) (aboutSetting g b) [] (setting-plain g b) tt)
+first-plain : (n m : ℕ) → Plain n → Plain m → Plain (firstOf n m)
+unfolding after
+first-plain zero m h k = k
+first-plain (suc n) m h k = h
+
+module _ (g : Setting) (b : Book) (s : Sound b) where
+  -- the book passes its own
+  pub book-number : asBook .number b ≡ 0
+  unfolding numberOf
+  book-number = ap numberOf (none-refuses b s)
+
+  pub opening-plain : Plain (openingIn asBook (asBook .number b) g b)
+  unfolding openingIn storeNumber aboutStore all
+  opening-plain =
+      first-plain (asBook .number b) (storeNumber (g .store) (b .header .date)) (subst Plain (sym book-number) tt) (go (g .store))
+    where
+      go : (store : Option (List ℕ)) → Plain (storeNumber store (b .header .date))
+      go none = number-plain (aboutStore none (b .header .date)) tt
+      go (some r) = number-plain (aboutStore (some r) (b .header .date)) tt
+
+  pub logged-plain : (l : List ℕ) → Plain (openingWithIn asBook (asBook .number b) g (some l) b)
+  unfolding openingWithIn logNumber aboutLog all
+  logged-plain l =
+      first-plain (openingIn asBook (asBook .number b) g b) (logNumber (some l) (bytesOf b)) opening-plain (number-plain (aboutLog (some l) (bytesOf b)) tt)
 
 -- ---- calls
 
-call-law : (g : Setting) (b : Book) (c : Call) → Sound b → Acted (limitsOn g b) b none (call c) (ofCall (stepGiven g b c))
-unfolding stepGiven decided numbered asks ofCall refusedOn
-call-law g b c s = go (refusal (asks g b c)) refl
+-- after its opening questions by their number
+call-law : (limits : Limits) (b : Book) (c : Call) (n : ℕ) → Plain n → Sound b → Acted limits b none (call c) (callAfter asBook n limits b c)
+unfolding callAfter after decided resultIn about all numbered
+call-law limits b c zero h s = go (refusal (about limits b c)) refl
   where
-    go : (o : Option ℕ) → refusal (asks g b c) ≡ o
-        → Acted (limitsOn g b) b none (call c) (ofCall (decided o (λ n. record { answer = only n; book = b }) (effect (limitsOn g b) b c)))
-    go none e =
-        let own = about (limitsOn g b) b c in
-        call-accepted c (effect (limitsOn g b) b c) none (effect-law (limitsOn g b) b c s (append-yes (aboutSetting g b) own (append-yes (aboutBook b) (aboutSetting g b ++ own) e .1) .1))
+    go : (o : Option ℕ) → refusal (about limits b c) ≡ o → Acted limits b none (call c) (decided o (refusedGiven none b) (resultIn asBook (effect limits b c)))
+    go none e = call-accepted c (effect limits b c) none (effect-law limits b c s e)
     go (some n) e =
-        act-refused (call c) n s (ltb→lt 0 n (refusal-is (λ i. ltb 0 i) (asks g b c) n (asks-numbered g b c) e))
-        (λ d. refusal-is (λ i. not (eqb i 20)) (asks g b run) n (asks-plain g b) (subst (λ (x : Call). refusal (asks g b x) ≡ some n) (same-call d) e))
+        act-refused (call c) n s (ltb→lt 0 n (refusal-is (λ i. ltb 0 i) (about limits b c) n (about-numbered limits b c) e))
+        (λ d. refusal-is (λ i. not (eqb i 20)) (about limits b run) n tt (subst (λ (x : Call). refusal (about limits b x) ≡ some n) (same-call d) e))
+call-law limits b c (suc n) h s = act-refused (call c) (suc n) s (omega arith) (λ d. h)
+
+-- in its setting
+pub step-law : (g : Setting) (b : Book) (c : Call) → Sound b → Acted (limitsOn g b) b none (call c) (stepIn asBook (asBook .number b) g b c)
+unfolding stepIn
+step-law g b c s = call-law (limitsOn g b) b c (openingIn asBook (asBook .number b) g b) (opening-plain g b s) s
 
 -- ---- the lines of a list
 
-pub record Lined (b : Book) (areas : List ℕ) (amounts : List ℤ) (r : Event) : Type 0 where
+pub record Lined (b : Book) (areas : List ℕ) (amounts : List ℤ) (r : Outcome Book) : Type 0 where
   pub accepted : r .answer .number ≡ 0
   pub sound : Sound (r .book)
   pub moved : Moved b (r .book) (λ i. lineAmounts i areas amounts (r .numbers)) (pos 0) (pos 0)
@@ -164,15 +193,15 @@ nothing-cut : (c : Bool) → cond c (pos 0) (pos 0) +ℤ pos 0 ≡ pos 0
 nothing-cut true = refl
 nothing-cut false = refl
 
-pub lines-law : (g : Setting) (b : Book) (ids areas : List ℕ) (amounts : List ℤ) → Sound b → Lined b areas amounts (linesGiven g b ids areas amounts)
-unfolding linesGiven lineAmounts amountIn counted only
+pub lines-law : (g : Setting) (b : Book) (ids areas : List ℕ) (amounts : List ℤ) → Sound b → Lined b areas amounts (linesIn asBook g b ids areas amounts)
+unfolding linesIn lineAmounts amountsIn amountIn countedIn counted acceptedNumber only
 lines-law g b [] areas amounts s = no-lines b areas amounts s
 lines-law g b (id ∷ ids) [] amounts s = no-lines b [] amounts s
 lines-law g b (id ∷ ids) (area ∷ areas) [] s = no-lines b (area ∷ areas) [] s
 lines-law g b (id ∷ ids) (area ∷ areas) (z ∷ amounts) s =
-    let first = stepGiven g b (posting id area z) in
+    let first = stepIn asBook (asBook .number b) g b (posting id area z) in
     let p = step-law g b (posting id area z) s in
-    let rest = linesGiven g (first .book) ids areas amounts in
+    let rest = linesIn asBook g (first .book) ids areas amounts in
     let q = lines-law g (first .book) ids areas amounts (p .sound) in
     let n = eqb (first .answer .number) 0 in
     let added : ℕ → ℤ = λ i. lineAmounts i (area ∷ areas) (z ∷ amounts) (first .answer .number ∷ rest .numbers) in
@@ -180,7 +209,7 @@ lines-law g b (id ∷ ids) (area ∷ areas) (z ∷ amounts) s =
       accepted = refl;
       sound = q .sound;
       moved = subst (λ (x : ℤ). Moved b (rest .book) added x (pos 0)) (nothing-cut n) (subst (λ (x : ℤ). Moved b (rest .book) added (cond n (pos 0) (pos 0) +ℤ pos 0) x) (nothing-cut n) (moved-trans (p .moved) (q .moved)));
-      lowered = lowered-trans (p .lowered) (q .lowered);
+      lowered = lowered-trans (p .lowered call-no-withdrawal) (q .lowered);
     }
 
 -- ---- lists
@@ -191,20 +220,12 @@ unfolding kindOf
 list-no-run e = let k : _≡_ {A = ℕ} 1 0 = ap kindOf e in omega arith
 
 -- an accepted list, with any log afterwards
-pub list-accepted : {limits : Limits} {b : Book} {log : Option (List ℕ)} (v : Lines) (r : Event) (m : Option (List ℕ)) → Lined b (v .areas) (v .amounts) r
+pub list-accepted : {limits : Limits} {b : Book} {log : Option (List ℕ)} (v : Lines) (r : Outcome Book) (m : Option (List ℕ)) → Lined b (v .areas) (v .amounts) r
     → Acted limits b log (postings v) (record { answer = r .answer; numbers = r .numbers; book = r .book; log = m })
 unfolding amountsIn countedIn
 list-accepted v r m l =
     act-accepted (postings v) (record { answer = r .answer; numbers = r .numbers; book = r .book; log = m }) (accepted-zero (postings v) (l .accepted)) (l .sound) (l .moved) (λ w. l .lowered)
     (λ e h. absurd (list-no-run e))
-
--- the opening questions of a list without a log
-lines-asks : Setting → Book → Lines → List Question
-lines-asks g b v = aboutBook b ++ (aboutLines v ++ aboutSetting g b)
-
-lines-asks-numbered : (g : Setting) (b : Book) (v : Lines) → T (numbered (lines-asks g b v))
-unfolding lines-asks numbered aboutLines all
-lines-asks-numbered g b v = all-append (λ q. ltb 0 (q .number)) (aboutBook b) (aboutLines v ++ aboutSetting g b) (book-numbered b) (setting-numbered g b)
 
 -- ---- a withdrawal without a log is refused
 
@@ -212,31 +233,21 @@ pub withdrawal-no-run : withdrawal ≡ call run → ⊥
 unfolding kindOf
 withdrawal-no-run e = let k : _≡_ {A = ℕ} 2 0 = ap kindOf e in omega arith
 
-no-entry-asks : Setting → Book → List Question
-no-entry-asks g b = aboutBook b ++ (aboutSetting g b ++ (hasEntry [] ∷ []))
-
-no-entry-numbered : (g : Setting) (b : Book) → T (numbered (no-entry-asks g b))
-unfolding no-entry-asks numbered hasEntry all
-no-entry-numbered g b =
-    all-append (λ q. ltb 0 (q .number)) (aboutBook b) (aboutSetting g b ++ (hasEntry [] ∷ [])) (book-numbered b)
-    (all-append (λ q. ltb 0 (q .number)) (aboutSetting g b) (hasEntry [] ∷ []) (setting-numbered g b) tt)
-
 -- ---- an act without a log
 
-pub act-law : (g : Setting) (b : Book) (a : Act) → Sound b → Acted (limitsOn g b) b none a (actGiven g b a)
-unfolding actGiven decided numbered lines-asks no-entry-asks
-act-law g b (call c) s = call-law g b c s
-act-law g b (postings v) s = go (refusal (lines-asks g b v)) refl
+pub act-law : (g : Setting) (b : Book) (a : Act) → Sound b → Acted (limitsOn g b) b none a (actIn asBook (asBook .number b) g b a)
+unfolding actIn after
+act-law g b (call c) s = step-law g b c s
+act-law g b (postings v) s = go (openingIn asBook (openingLines (asBook .number b) v) g b)
   where
-    go : (o : Option ℕ) → refusal (lines-asks g b v) ≡ o → Acted (limitsOn g b) b none (postings v) (decided o (refusedOn b none) (linesGiven g b (v .ids) (v .areas) (v .amounts)))
-    go none e = list-left (linesGiven g b (v .ids) (v .areas) (v .amounts)) (lines-law g b (v .ids) (v .areas) (v .amounts) s)
-      where
-        list-left : (r : Event) → Lined b (v .areas) (v .amounts) r → Acted (limitsOn g b) b none (postings v) r
-        list-left r l = list-accepted v r (r .log) l
-    go (some n) e =
-        act-refused (postings v) n s (ltb→lt 0 n (refusal-is (λ i. ltb 0 i) (lines-asks g b v) n (lines-asks-numbered g b v) e)) (λ d. absurd (list-no-run d))
-act-law g b withdrawal s = go (refusal (no-entry-asks g b)) refl
+    list-left : (r : Outcome Book) → Lined b (v .areas) (v .amounts) r → Acted (limitsOn g b) b none (postings v) r
+    list-left r l = list-accepted v r (r .log) l
+
+    go : (n : ℕ) → Acted (limitsOn g b) b none (postings v) (after n (refusedGiven none b) (linesIn asBook g b (v .ids) (v .areas) (v .amounts)))
+    go zero = list-left (linesIn asBook g b (v .ids) (v .areas) (v .amounts)) (lines-law g b (v .ids) (v .areas) (v .amounts) s)
+    go (suc n) = act-refused (postings v) (suc n) s (omega arith) (λ d. absurd (list-no-run d))
+act-law g b withdrawal s = go (openingIn asBook (asBook .number b) g b)
   where
-    go : (o : Option ℕ) → refusal (no-entry-asks g b) ≡ o → Acted (limitsOn g b) b none withdrawal (decided o (refusedOn b none) (refusedOn b none 18))
-    go none e = act-refused withdrawal 18 s (omega arith) (λ d. absurd (withdrawal-no-run d))
-    go (some n) e = act-refused withdrawal n s (ltb→lt 0 n (refusal-is (λ i. ltb 0 i) (no-entry-asks g b) n (no-entry-numbered g b) e)) (λ d. absurd (withdrawal-no-run d))
+    go : (n : ℕ) → Acted (limitsOn g b) b none withdrawal (refusedGiven none b (firstOf n 18))
+    go zero = act-refused withdrawal 18 s (omega arith) (λ d. absurd (withdrawal-no-run d))
+    go (suc n) = act-refused withdrawal (suc n) s (omega arith) (λ d. absurd (withdrawal-no-run d))

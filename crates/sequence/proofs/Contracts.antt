@@ -9,8 +9,9 @@ use Rattle.log_format.specs.Noted.{Entered, callEntered, hasEntry, lastly, room
 use Rattle.requests.proofs.Lines.{lines-answer}
 use Rattle.requests.proofs.Logged.{actLent, with-log, without-log}
 use Rattle.requests.specs.Logged.{lentLog}
-use Rattle.requests.specs.Request.{call, postings, withdrawal, Act, Lines, Outcome, Setting, actBy, actIn, actWith, emptiedIn, enteredIn, limitsOn, linesIn, linesOf, loggedAfter, opening, openingLines, openingWith, outcome, refusedGiven, requestAfter, settingOf, stepIn, withdrawalAfter}
-use Rattle.rules.specs.Calls.{Answer, Call, about, only}
+use Rattle.requests.specs.Request.{call, postings, withdrawal, Act, Lines, Outcome, Setting, actBy, actIn, actWith, asBytes, callAfter, emptiedIn, enteredIn, limitsOn, linesIn, linesOf}
+use Rattle.requests.specs.Request.{loggedAfter, opening, openingLines, openingWith, refusedGiven, requestAfter, requestIn, resultIn, settingOf, stepIn, withdrawalAfter}
+use Rattle.rules.specs.Calls.{Answer, Call, Result, about, effect, only}
 use Rattle.rules.specs.Questions.{decided, refusal}
 use Rattle.store.specs.Store.{given}
 use Rattle.sequence.specs.Contracts.{ContractsLink, callLink, listLink, withdrawalLink}
@@ -18,17 +19,26 @@ use Rattle.sequence.specs.Links.{then}
 
 -- ---- numbers of lines: of requests after the questions of the book, and 26, whose number is n
 
--- what is entered in a log, or a refusal, has none
-entered-numbers : (k : ℕ) (o : Option ℕ) (l s : List ℕ) (e : Entered) → [] ≡ after k (refusedGiven (some l) s) (decided o (refusedGiven (some l) s) (enteredIn e)) .numbers
+-- what the rules give, with a log or without, and a refusal have none
+entered-numbers : (k : ℕ) (o : Option ℕ) (l s : List ℕ) (e : Entered) → [] ≡ after k (refusedGiven (some l) s) (decided o (refusedGiven (some l) s) (enteredIn asBytes e)) .numbers
 unfolding after decided refusedGiven enteredIn
 entered-numbers zero none l s e = refl
 entered-numbers zero (some n) l s e = refl
 entered-numbers (suc k) o l s e = refl
 
+result-numbers : (k : ℕ) (o : Option ℕ) (s : List ℕ) (r : Result) → [] ≡ after k (refusedGiven none s) (decided o (refusedGiven none s) (resultIn asBytes r)) .numbers
+unfolding after decided refusedGiven resultIn
+result-numbers zero none s r = refl
+result-numbers zero (some n) s r = refl
+result-numbers (suc k) o s r = refl
+
 -- so a call has none,
 pub call-numbers : (n : ℕ) (g : Setting) (log : Option (List ℕ)) (s : List ℕ) (c : Call) → [] ≡ requestAfter n (actLent g log (call c)) s .numbers
-unfolding requestAfter actBy actIn actWith stepIn outcome loggedAfter
-call-numbers n g none s c = refl
+unfolding requestIn actBy actIn actWith stepIn callAfter loggedAfter
+call-numbers n g none s c =
+    let b = bookOf s in
+    let limits = limitsOn g b in
+    result-numbers (opening n g s) (refusal (about limits b c)) s (effect limits b c)
 call-numbers n g (some l) s c =
     let b = bookOf s in
     let limits = limitsOn g b in
@@ -36,25 +46,25 @@ call-numbers n g (some l) s c =
 
 -- nor has a withdrawal
 pub withdrawal-numbers : (n : ℕ) (g : Setting) (l s : List ℕ) → [] ≡ requestAfter n (actLent g (some l) withdrawal) s .numbers
-unfolding requestAfter actBy actWith withdrawalAfter
+unfolding requestIn actBy actWith withdrawalAfter
 withdrawal-numbers n g l s = entered-numbers (openingWith n g (some l) s) (refusal (hasEntry (entriesOf s l) ∷ [])) l s (withdrawalEntered (entriesOf s l) (bookOf s))
 
 -- a refused list has none
 pub refused-numbers : (n : ℕ) (g : Setting) (log : Option (List ℕ)) (s : List ℕ) (v : Lines) (m : ℕ) → requestAfter n (actLent g log (postings v)) s .answer ≡ only (suc m)
     → [] ≡ requestAfter n (actLent g log (postings v)) s .numbers
-unfolding requestAfter actBy actIn actWith after refusedGiven emptiedIn only
+unfolding requestIn actBy actIn actWith after refusedGiven emptiedIn only
 refused-numbers n g log s v m = of-log log
   where
-    by-number : (kept : Option (List ℕ)) (x : Outcome) → x .answer ≡ only 0 → (k : ℕ) → after k (refusedGiven kept s) x .answer ≡ only (suc m) → [] ≡ after k (refusedGiven kept s) x .numbers
+    by-number : (kept : Option (List ℕ)) (x : Outcome (List ℕ)) → x .answer ≡ only 0 → (k : ℕ) → after k (refusedGiven kept s) x .answer ≡ only (suc m) → [] ≡ after k (refusedGiven kept s) x .numbers
     by-number kept x z zero e = absurd (let i : _≡_ {A = ℕ} 0 (suc m) = ap (λ (a : Answer). a .number) (sym z ∙ e) in omega arith)
     by-number kept x z (suc k) e = refl
 
-    zero-answer : linesIn g s (v .ids) (v .areas) (v .amounts) .answer ≡ only 0
+    zero-answer : linesIn asBytes g s (v .ids) (v .areas) (v .amounts) .answer ≡ only 0
     zero-answer = lines-answer g s (v .ids) (v .areas) (v .amounts)
 
     of-log : (log : Option (List ℕ)) → requestAfter n (actLent g log (postings v)) s .answer ≡ only (suc m) → [] ≡ requestAfter n (actLent g log (postings v)) s .numbers
-    of-log none e = by-number none (linesIn g s (v .ids) (v .areas) (v .amounts)) zero-answer (opening (openingLines n v) g s) e
-    of-log (some l) e = by-number (some l) (emptiedIn (linesIn g s (v .ids) (v .areas) (v .amounts))) zero-answer (openingWith (openingLines n v) g (some l) s) e
+    of-log none e = by-number none (linesIn asBytes g s (v .ids) (v .areas) (v .amounts)) zero-answer (opening (openingLines n v) g s) e
+    of-log (some l) e = by-number (some l) (emptiedIn asBytes (linesIn asBytes g s (v .ids) (v .areas) (v .amounts))) zero-answer (openingWith (openingLines n v) g (some l) s) e
 
 -- what the places of a list hold, by the number that it returned
 pub list-numbers : (n : ℕ) (g : Setting) (log : Option (List ℕ)) (s : List ℕ) (v : Lines) (number : ℕ) (places : List ℕ) {left : List ℕ} → let r = requestAfter n (actLent g log (postings v)) s in

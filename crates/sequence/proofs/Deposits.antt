@@ -5,17 +5,16 @@ use Rattle.fields.specs.Field.{AllBytes}
 use Rattle.book_format.proofs.Formed.{book-passed}
 use Rattle.book_format.proofs.Passed.{passed-of}
 use Rattle.book_format.proofs.Round.{bytesOf-bookOf}
-use Rattle.book_format.specs.After.{after, stepAfter, unchanged}
+use Rattle.book_format.specs.After.{after}
 use Rattle.book_format.specs.Book.{bookOf, bytesOf}
 use Rattle.book_format.specs.Questions.{bookNumber}
-use Rattle.book_format.specs.Steps.{inBytes}
 use Rattle.laws_deposits.proofs.Deposits.{deposits-least, deposits-suffice}
 use Rattle.laws_deposits.specs.Deposits.{lacking, withDeposits}
 use Rattle.log_format.specs.Noted.{callEntered, lastly, room, runWithin, stopped}
 use Rattle.requests.proofs.Emptied.{with-opening}
 use Rattle.requests.proofs.Logged.{without-number}
 use Rattle.requests.proofs.Opened.{opening-zero}
-use Rattle.requests.specs.Request.{actOf, call, actBy, actIn, actWith, enteredIn, limitsOn, loggedAfter, opening, openingWith, outcome, refusedGiven, request, requestAfter, settingOf, stepIn}
+use Rattle.requests.specs.Request.{actOf, call, actBy, actIn, actWith, asBytes, callAfter, enteredIn, limitsOn, loggedAfter, opening, openingWith, refusedGiven, request, requestIn, resultIn, settingOf, stepIn}
 use Rattle.rules.specs.Book.{Book, User}
 use Rattle.rules.specs.Calls.{Answer, Result, about, cuttable, effect, nextReduced, only, run, runFor}
 use Rattle.rules.specs.Changes.{withUsers}
@@ -44,21 +43,21 @@ module _ (store : Option (List ℕ)) (s : List ℕ) where
   -- a run as it is by their number
   by-number : (log : Option (List ℕ)) (P : ℕ → Answer → List ℕ → Type 0) → ((n : ℕ) → P (suc n) (only (suc n)) s)
       → (bookNumber s ≡ 0 → let r = runs figures log (bookOf s) in P 0 (r .answer) (bytesOf (r .book)))
-      → let x = request (actOf store log (call run)) s in P (asked log) (x .answer) (x .bytes)
-  unfolding requestAfter actBy actIn actWith stepIn runs outcome stepAfter loggedAfter after unchanged inBytes decided refusal about lastly callEntered enteredIn refusedGiven
+      → let x = request (actOf store log (call run)) s in P (asked log) (x .answer) (x .book)
+  unfolding requestIn actBy actIn actWith stepIn runs callAfter loggedAfter after resultIn decided refusal about lastly callEntered enteredIn refusedGiven
   by-number none P refused passed =
-      subst (λ (n : ℕ). P n (request (actOf store none (call run)) s .answer) (request (actOf store none (call run)) s .bytes)) (sym (without-number (bookNumber s) (settingOf store) s))
+      subst (λ (n : ℕ). P n (request (actOf store none (call run)) s .answer) (request (actOf store none (call run)) s .book)) (sym (without-number (bookNumber s) (settingOf store) s))
       (go (opening (bookNumber s) (settingOf store) s) (λ e. passed (opening-zero (bookNumber s) (settingOf store) s e)))
     where
       go : (n : ℕ) → (n ≡ 0 → let r = runs figures none (bookOf s) in P 0 (r .answer) (bytesOf (r .book)))
-          → let x = outcome (stepAfter n figures s run) in P n (x .answer) (x .bytes)
+          → let x = callAfter asBytes n figures s run in P n (x .answer) (x .book)
       go zero h = h refl
       go (suc n) h = refused n
   by-number (some l) P refused passed =
       go (asked (some l)) (λ e. passed (opening-zero (bookNumber s) (settingOf store) s (with-opening (bookNumber s) (settingOf store) (some l) s e)))
     where
       go : (n : ℕ) → (n ≡ 0 → let r = runs figures (some l) (bookOf s) in P 0 (r .answer) (bytesOf (r .book)))
-          → let x = loggedAfter n figures l s run in P n (x .answer) (x .bytes)
+          → let x = loggedAfter asBytes n figures l s run in P n (x .answer) (x .book)
       go zero h = h refl
       go (suc n) h = refused n
 
@@ -98,7 +97,7 @@ module _ (limits : Limits) where
 
 module _ (store log : Option (List ℕ)) where
   suffices : (b : Book) (s : List ℕ) → AllBytes s → bookOf s ≡ withDeposits (lacking (limitsOf store (b .header .date)) b) b
-      → let x = request (actOf store log (call run)) s in (x .answer ≡ only (openingWith (bookNumber s) (settingOf store) log s)) × (x .bytes ≡ s)
+      → let x = request (actOf store log (call run)) s in (x .answer ≡ only (openingWith (bookNumber s) (settingOf store) log s)) × (x .book ≡ s)
   unfolding limitsOn withDeposits withUsers
   suffices b s h e =
       by-number store s log (λ n a t. (a ≡ only n) × (t ≡ s)) (λ n. (refl, refl))

@@ -1,29 +1,28 @@
 -- One request by the rules with a log, accepted or refused: a call, a list, a withdrawal; what it does to a sound book, whatever log it is given. Assumes nothing.
-use Rattle.base.specs.Basics.{_≡_, ap, refl, subst, not, Option, none, some, List, [], _∷_, _++_, ℕ, T, eqb, ltb, ltb→lt, length}
-use Rattle.base.proofs.Tests.{all-append}
+use Rattle.base.specs.Basics.{_≡_, ap, refl, subst, not, Option, none, some, List, [], _∷_, _++_, ℕ, zero, suc, arith, T, eqb, ltb, ltb→lt, length}
 use Rattle.base.specs.Lists.{all}
 use Rattle.book_format.proofs.Written.{bookOf-bytesOf}
+use Rattle.book_format.specs.After.{after}
 use Rattle.book_format.specs.Book.{bookOf, bytesOf, tradeCount, tradesOf}
-use Rattle.laws.proofs.Refusals.{append-yes, first-yes, numbered, refusal-is}
+use Rattle.laws.proofs.Refusals.{append-yes, first-yes, number-none, numbered, refusal-is, yes-first}
 use Rattle.laws.specs.Sound.{Sound}
 use Rattle.log_format.proofs.Noted.{run-within}
 use Rattle.log_format.proofs.Read.{fits-facts, last-within}
 use Rattle.log_format.proofs.Withdrawal.{withdrawn-moved, withdrawn-sound}
-use Rattle.log_format.specs.Fits.{aboutLog, logFits, raisesWithin}
+use Rattle.log_format.specs.Fits.{aboutLog, logFits, logNumber, raisesWithin}
 use Rattle.log_format.specs.Log.{entriesIn, entriesOf, entryCount}
 use Rattle.log_format.specs.Noted.{callEntered, emptying, hasEntry, lastEntry, lastly, room, runWithin, withdrawalEntered}
 use Rattle.log_format.specs.Withdrawal.{returned}
-use Rattle.requests.proofs.Accepted.{last-numbered}
-use Rattle.requests.proofs.Emptied.{about-numbered}
-use Rattle.requests.proofs.Logged.{log-numbered}
-use Rattle.requests.proofs.Opened.{setting-numbered}
-use Rattle.requests.specs.Request.{call, postings, withdrawal, Act, Lines, Setting, aboutLines, aboutSetting, actLogged, emptiedOn, enteredOn, limitsOn, linesGiven, refusedOn, requestGiven}
+use Rattle.requests.proofs.Accepted.{own-numbered}
+use Rattle.requests.proofs.Opened.{first-zero, second-zero}
+use Rattle.requests.specs.Request.{call, postings, withdrawal, Act, Lines, Outcome, Request, Setting, actBy, actWith, asBook, emptiedIn, enteredIn, firstOf, limitsOn, linesIn, loggedAfter, openingIn, openingLines, openingWithIn, refusedGiven, requestGiven, requestIn, withdrawalAfter}
 use Rattle.rules.specs.Book.{Book, Trade}
 use Rattle.rules.specs.Calls.{posting, morningCall, afternoonCall, reduction, run, Call, about, effect, ofRun}
 use Rattle.rules.specs.Levels.{Limits}
-use Rattle.rules.specs.Questions.{Question, aboutBook, decided, refusal}
-use Rattle.sequence.proofs.Acts.{Acted, act-accepted, act-law, act-refused, book-plain, call-accepted, lines-law, list-accepted, list-no-run, same-call, setting-plain, withdrawal-no-run}
-use Rattle.sequence.proofs.Step.{book-numbered, effect-law}
+use Rattle.rules.specs.Questions.{Question, decided, numberOf, refusal}
+use Rattle.store.specs.Store.{storeNumber}
+use Rattle.sequence.proofs.Acts.{Acted, Lined, Plain, act-accepted, act-law, act-refused, call-accepted, lines-law, list-accepted, list-no-run, logged-plain, same-call, withdrawal-no-run}
+use Rattle.sequence.proofs.Step.{effect-law}
 use Rattle.sequence.specs.Links.{acceptedNumber}
 use Rattle.sequence.specs.Totals.{amountIn, amountsIn, counted, countedIn}
 
@@ -40,8 +39,8 @@ run-accepted limits b log m n s =
 
 -- a call that its own questions let pass
 call-entered : (limits : Limits) (b : Book) (log : Option (List ℕ)) (n : ℕ) (es : List (List ℕ)) (c : Call) → Sound b → refusal (about limits b c) ≡ none
-    → Acted limits b log (call c) (enteredOn (callEntered limits n es b c))
-unfolding enteredOn callEntered emptying
+    → Acted limits b log (call c) (enteredIn asBook (callEntered limits n es b c))
+unfolding enteredIn callEntered emptying
 call-entered limits b log n es (posting id area amount) s e = call-accepted (posting id area amount) (effect limits b (posting id area amount)) _ (effect-law limits b (posting id area amount) s e)
 call-entered limits b log n es (morningCall id) s e = call-accepted (morningCall id) (effect limits b (morningCall id)) _ (effect-law limits b (morningCall id) s e)
 call-entered limits b log n es (afternoonCall id) s e = call-accepted (afternoonCall id) (effect limits b (afternoonCall id)) _ (effect-law limits b (afternoonCall id) s e)
@@ -57,105 +56,81 @@ last-fits l b s h k =
     (last-within (tradeCount (bytesOf b)) (entryCount l) l (tradesOf (bytesOf b)) k (fits-facts l (bytesOf b) h .within))
 
 withdrawal-entered : (limits : Limits) (l : List ℕ) (b : Book) → Sound b → T (logFits l (bytesOf b)) → T (ltb 0 (length (entriesOf (bytesOf b) l)))
-    → Acted limits b (some l) withdrawal (enteredOn (withdrawalEntered (entriesOf (bytesOf b) l) b))
-unfolding enteredOn withdrawalEntered returned ofRun amountsIn countedIn acceptedNumber
+    → Acted limits b (some l) withdrawal (enteredIn asBook (withdrawalEntered (entriesOf (bytesOf b) l) b))
+unfolding enteredIn withdrawalEntered returned ofRun amountsIn countedIn acceptedNumber
 withdrawal-entered limits l b s h k =
     let cs = lastEntry (entriesOf (bytesOf b) l) in
     let w = last-fits l b s h k in
-    act-accepted withdrawal (enteredOn (withdrawalEntered (entriesOf (bytesOf b) l) b)) refl (withdrawn-sound b cs s w) (withdrawn-moved b cs s w) (λ n. absurd (n refl)) (λ d q. absurd (withdrawal-no-run d))
+    act-accepted withdrawal (enteredIn asBook (withdrawalEntered (entriesOf (bytesOf b) l) b)) refl (withdrawn-sound b cs s w) (withdrawn-moved b cs s w) (λ n. absurd (n refl)) (λ d q. absurd (withdrawal-no-run d))
 
--- ---- the questions
+-- ---- the opening questions by their number
 
-log-plain : (l s : List ℕ) → T (all (λ q. not (eqb (q .number) 20)) (aboutLog (some l) s))
-unfolding aboutLog all
-log-plain l s = tt
+-- a log that 19 does not refuse fits the book,
+pub log-fits : (l s : List ℕ) → logNumber (some l) s ≡ 0 → T (logFits l s)
+unfolding logNumber aboutLog numbered all
+log-fits l s e = first-yes _ _ (number-none (aboutLog (some l) s) tt e) .0
 
-module _ (g : Setting) (l : List ℕ) (b : Book) where
-  -- those of the book, the store and the log, and what is asked after them
-  unfoldable pub asksThen : List Question → List Question
-  asksThen own = aboutBook b ++ (aboutSetting g b ++ (aboutLog (some l) (bytesOf b) ++ own))
+-- and one that fits is not refused
+pub fits-number : (l s : List ℕ) → T (logFits l s) → logNumber (some l) s ≡ 0
+unfolding logNumber aboutLog refusal numberOf
+fits-number l s h = ap numberOf (yes-first 19 (logFits l s) [] h)
 
-  then-numbered : (own : List Question) → T (numbered own) → T (numbered (asksThen own))
-  unfolding asksThen numbered
-  then-numbered own h =
-      all-append (λ q. ltb 0 (q .number)) (aboutBook b) (aboutSetting g b ++ (aboutLog (some l) (bytesOf b) ++ own)) (book-numbered b)
-      (all-append (λ q. ltb 0 (q .number)) (aboutSetting g b) (aboutLog (some l) (bytesOf b) ++ own) (setting-numbered g b)
-      (all-append (λ q. ltb 0 (q .number)) (aboutLog (some l) (bytesOf b)) own (log-numbered (some l) (bytesOf b)) h))
+-- where they are passed, the store and the log pass theirs
+pub log-passed : (n : ℕ) (g : Setting) (l : List ℕ) (b : Book) → openingWithIn asBook n g (some l) b ≡ 0 → (storeNumber (g .store) (b .header .date) ≡ 0) × T (logFits l (bytesOf b))
+unfolding openingWithIn openingIn
+log-passed n g l b e =
+    let store = storeNumber (g .store) (b .header .date) in
+    let log = logNumber (some l) (bytesOf b) in
+    (second-zero n store (first-zero (firstOf n store) log e), log-fits l (bytesOf b) (second-zero (firstOf n store) log e))
 
-  then-plain : T (all (λ q. not (eqb (q .number) 20)) (asksThen []))
-  unfolding asksThen all
-  then-plain =
-      all-append (λ q. not (eqb (q .number) 20)) (aboutBook b) (aboutSetting g b ++ (aboutLog (some l) (bytesOf b) ++ [])) (book-plain b)
-      (all-append (λ q. not (eqb (q .number) 20)) (aboutSetting g b) (aboutLog (some l) (bytesOf b) ++ []) (setting-plain g b)
-      (all-append (λ q. not (eqb (q .number) 20)) (aboutLog (some l) (bytesOf b)) [] (log-plain l (bytesOf b)) tt))
+-- ---- an act with a log
 
-  -- none of them refuses: the store passes its questions, the log question 19, and what is asked after it is answered by yes
-  pub then-passed : (own : List Question) → refusal (asksThen own) ≡ none → (refusal (aboutSetting g b) ≡ none) × T (logFits l (bytesOf b)) × (refusal own ≡ none)
-  unfolding asksThen aboutLog
-  then-passed own e =
-      let rest = append-yes (aboutBook b) (aboutSetting g b ++ (aboutLog (some l) (bytesOf b) ++ own)) e .1 in
-      let both = append-yes (aboutSetting g b) (aboutLog (some l) (bytesOf b) ++ own) rest in
-      let last = first-yes _ own (both .1) in
-      (both .0, last .0, last .1)
-
-  -- ---- an act with a log
-
-  own-of : Call → List Question
-  own-of c = about (limitsOn g b) b c ++ lastly (room l) c
-
-  own-numbered : (c : Call) → T (numbered (own-of c))
-  unfolding own-of numbered
-  own-numbered c = all-append (λ q. ltb 0 (q .number)) (about (limitsOn g b) b c) (lastly (room l) c) (about-numbered (limitsOn g b) b c) (last-numbered (room l) c)
-
-  run-plain : T (all (λ q. not (eqb (q .number) 20)) (asksThen (own-of run)))
-  unfolding own-of about lastly
-  run-plain = then-plain
-
-  call-logged : (c : Call) → Sound b → Acted (limitsOn g b) b (some l) (call c) (actLogged g l b (call c))
-  unfolding actLogged decided asksThen own-of numbered
-  call-logged c s = go (refusal (asksThen (own-of c))) refl
+module _ (limits : Limits) (l : List ℕ) (b : Book) (s : Sound b) where
+  -- a call after its opening questions
+  call-logged : (c : Call) (n : ℕ) → Plain n → Acted limits b (some l) (call c) (loggedAfter asBook n limits l b c)
+  unfolding loggedAfter after decided about lastly all numbered
+  call-logged c zero h = go (refusal own) refl
     where
-      go : (o : Option ℕ) → refusal (asksThen (own-of c)) ≡ o
-          → Acted (limitsOn g b) b (some l) (call c) (decided o (refusedOn b (some l)) (enteredOn (callEntered (limitsOn g b) (room l) (entriesOf (bytesOf b) l) b c)))
-      go none e = call-entered (limitsOn g b) b (some l) (room l) (entriesOf (bytesOf b) l) c s (append-yes (about (limitsOn g b) b c) (lastly (room l) c) (then-passed (own-of c) e .2) .0)
+      own : List Question
+      own = about limits b c ++ lastly (room l) c
+
+      go : (o : Option ℕ) → refusal own ≡ o
+          → Acted limits b (some l) (call c) (decided o (refusedGiven (some l) b) (enteredIn asBook (callEntered limits (room l) (entriesOf (bytesOf b) l) b c)))
+      go none e = call-entered limits b (some l) (room l) (entriesOf (bytesOf b) l) c s (append-yes (about limits b c) (lastly (room l) c) e .0)
       go (some n) e =
-          act-refused (call c) n s (ltb→lt 0 n (refusal-is (λ i. ltb 0 i) (asksThen (own-of c)) n (then-numbered (own-of c) (own-numbered c)) e))
-          (λ d. refusal-is (λ i. not (eqb i 20)) (asksThen (own-of run)) n run-plain (subst (λ (x : Call). refusal (asksThen (own-of x)) ≡ some n) (same-call d) e))
+          act-refused (call c) n s (ltb→lt 0 n (refusal-is (λ i. ltb 0 i) own n (own-numbered limits b (room l) c) e))
+          (λ d. refusal-is (λ i. not (eqb i 20)) (about limits b run ++ lastly (room l) run) n tt (subst (λ (x : Call). refusal (about limits b x ++ lastly (room l) x) ≡ some n) (same-call d) e))
+  call-logged c (suc n) h = act-refused (call c) (suc n) s (omega arith) (λ d. h)
 
-  lines-asks : Lines → List Question
-  lines-asks v = aboutBook b ++ (aboutLines v ++ (aboutSetting g b ++ aboutLog (some l) (bytesOf b)))
+  list-logged : (v : Lines) (r : Outcome Book) → Lined b (v .areas) (v .amounts) r → (n : ℕ) → Acted limits b (some l) (postings v) (after n (refusedGiven (some l) b) (emptiedIn asBook r))
+  unfolding after emptiedIn
+  list-logged v r k zero = list-accepted v r _ k
+  list-logged v r k (suc n) = act-refused (postings v) (suc n) s (omega arith) (λ d. absurd (list-no-run d))
 
-  lines-numbered : (v : Lines) → T (numbered (lines-asks v))
-  unfolding lines-asks numbered aboutLines all
-  lines-numbered v =
-      all-append (λ q. ltb 0 (q .number)) (aboutBook b) (aboutLines v ++ (aboutSetting g b ++ aboutLog (some l) (bytesOf b))) (book-numbered b)
-      (all-append (λ q. ltb 0 (q .number)) (aboutSetting g b) (aboutLog (some l) (bytesOf b)) (setting-numbered g b) (log-numbered (some l) (bytesOf b)))
-
-  list-logged : (v : Lines) → Sound b → Acted (limitsOn g b) b (some l) (postings v) (actLogged g l b (postings v))
-  unfolding actLogged decided lines-asks emptiedOn numbered
-  list-logged v s = go (refusal (lines-asks v)) refl
-    where
-      go : (o : Option ℕ) → refusal (lines-asks v) ≡ o
-          → Acted (limitsOn g b) b (some l) (postings v) (decided o (refusedOn b (some l)) (emptiedOn (linesGiven g b (v .ids) (v .areas) (v .amounts))))
-      go none e = list-accepted v (linesGiven g b (v .ids) (v .areas) (v .amounts)) _ (lines-law g b (v .ids) (v .areas) (v .amounts) s)
-      go (some n) e = act-refused (postings v) n s (ltb→lt 0 n (refusal-is (λ i. ltb 0 i) (lines-asks v) n (lines-numbered v) e)) (λ d. absurd (list-no-run d))
-
-  withdrawal-logged : Sound b → Acted (limitsOn g b) b (some l) withdrawal (actLogged g l b withdrawal)
-  unfolding actLogged decided asksThen hasEntry numbered all
-  withdrawal-logged s = go (refusal (asksThen (hasEntry es ∷ []))) refl
+  withdrawal-logged : (n : ℕ) → (n ≡ 0 → T (logFits l (bytesOf b))) → Acted limits b (some l) withdrawal (withdrawalAfter asBook n l b)
+  unfolding withdrawalAfter after decided hasEntry numbered all
+  withdrawal-logged zero h = go (refusal (hasEntry es ∷ [])) refl
     where
       es : List (List ℕ)
       es = entriesOf (bytesOf b) l
 
-      go : (o : Option ℕ) → refusal (asksThen (hasEntry es ∷ [])) ≡ o
-          → Acted (limitsOn g b) b (some l) withdrawal (decided o (refusedOn b (some l)) (enteredOn (withdrawalEntered es b)))
-      go none e = let p = then-passed (hasEntry es ∷ []) e in withdrawal-entered (limitsOn g b) l b s (p .1) (first-yes _ _ (p .2) .0)
-      go (some n) e = act-refused withdrawal n s (ltb→lt 0 n (refusal-is (λ i. ltb 0 i) (asksThen (hasEntry es ∷ [])) n (then-numbered (hasEntry es ∷ []) tt) e)) (λ d. absurd (withdrawal-no-run d))
+      go : (o : Option ℕ) → refusal (hasEntry es ∷ []) ≡ o → Acted limits b (some l) withdrawal (decided o (refusedGiven (some l) b) (enteredIn asBook (withdrawalEntered es b)))
+      go none e = withdrawal-entered limits l b s (h refl) (first-yes _ _ e .0)
+      go (some n) e = act-refused withdrawal n s (ltb→lt 0 n (refusal-is (λ i. ltb 0 i) (hasEntry es ∷ []) n tt e)) (λ d. absurd (withdrawal-no-run d))
+  withdrawal-logged (suc n) h = act-refused withdrawal (suc n) s (omega arith) (λ d. absurd (withdrawal-no-run d))
 
 -- a request, with a log or none
-pub request-law : (g : Setting) (log : Option (List ℕ)) (b : Book) (a : Act) → Sound b → Acted (limitsOn g b) b log a (requestGiven g log b a)
-unfolding requestGiven
-request-law g none b a s = act-law g b a s
-request-law g (some l) b (call c) s = call-logged g l b c s
-request-law g (some l) b (postings v) s = list-logged g l b v s
-request-law g (some l) b withdrawal s = withdrawal-logged g l b s
+pub request-law : (r : Request) (b : Book) → Sound b → Acted (limitsOn (r .setting) b) b (r .log) (r .act) (requestGiven r b)
+unfolding requestIn actBy actWith
+request-law r b s = go (r .setting) (r .log) (r .act)
+  where
+    n : ℕ
+    n = asBook .number b
+
+    go : (g : Setting) (log : Option (List ℕ)) (a : Act) → Acted (limitsOn g b) b log a (actBy asBook n g log b a)
+    go g none a = act-law g b a s
+    go g (some l) (call c) = call-logged (limitsOn g b) l b s c (openingWithIn asBook n g (some l) b) (logged-plain g b s l)
+    go g (some l) (postings v) =
+        list-logged (limitsOn g b) l b s v (linesIn asBook g b (v .ids) (v .areas) (v .amounts)) (lines-law g b (v .ids) (v .areas) (v .amounts) s)
+        (openingWithIn asBook (openingLines n v) g (some l) b)
+    go g (some l) withdrawal = withdrawal-logged (limitsOn g b) l b s (openingWithIn asBook n g (some l) b) (λ e. log-passed n g l b e .1)

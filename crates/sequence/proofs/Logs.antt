@@ -1,30 +1,32 @@
 -- The log theorem, as specs/Logs.antt states it: a sequence that starts a log and writes it keeps what it notes, and each withdrawal is accepted and takes one step back. Assumes nothing.
-use Rattle.base.specs.Basics.{_≡_, _∙_, ap, ap₂, refl, subst, sym, Bool, true, false, cond, Option, none, some, List, [], _∷_, ℕ, suc, _-_, _<_}
+use Rattle.base.specs.Basics.{_≡_, _∙_, ap, ap₂, refl, subst, sym, Bool, true, false, cond, Option, none, some, List, [], _∷_, ℕ, suc, _<_}
 use Rattle.base.specs.Basics.{arith, T, lt→ltb, ltb, length}
 use Rattle.base.proofs.Tests.{and-i, and-l, and-r, eqb-of}
 use Rattle.base.specs.Lists.{all}
 use Rattle.book_format.proofs.Passed.{passed}
 use Rattle.book_format.proofs.Round.{bytesOf-bookOf}
 use Rattle.book_format.proofs.Written.{bookOf-bytesOf}
+use Rattle.book_format.specs.After.{after}
 use Rattle.book_format.specs.Book.{bookOf, bytesOf}
 use Rattle.book_format.specs.Questions.{bookNumber}
 use Rattle.fields.specs.Field.{AllBytes}
-use Rattle.laws.proofs.Refusals.{refusal-next, yes-first}
-use Rattle.laws.proofs.Sound.{none-refuses}
+use Rattle.laws.proofs.Refusals.{yes-first}
 use Rattle.laws.specs.Sound.{Sound}
 use Rattle.log_format.proofs.Noted.{Noted, noted-none, noted-sound, start}
-use Rattle.log_format.specs.Fits.{aboutLog, logFits, startFits, startNumber, started}
+use Rattle.log_format.specs.Fits.{logNumber, startFits, startNumber, started}
 use Rattle.log_format.specs.Log.{entriesOf, logBytes}
 use Rattle.log_format.specs.Noted.{beforeLast, hasEntry, lastEntry, withdrawalEntered}
 use Rattle.log_format.specs.Withdrawal.{returned, withdrawn}
-use Rattle.requests.specs.Request.{call, postings, withdrawal, Act, Event, Setting, aboutSetting, actLogged, enteredOn, requestGiven, settingOf}
+use Rattle.requests.specs.Request.{call, postings, withdrawal, Act, Outcome, Setting, actBy, actWith, asBook, enteredIn, firstOf, openingIn, openingWithIn, requestGiven, requestIn, settingOf, withdrawalAfter}
 use Rattle.rules.specs.Book.{Book}
 use Rattle.rules.specs.Calls.{Answer, ofRun}
-use Rattle.rules.specs.Questions.{aboutBook, decided, refusal}
+use Rattle.rules.specs.Questions.{decided, refusal}
 use Rattle.requests.specs.Logged.{lentLog}
-use Rattle.sequence.proofs.Entered.{asksThen}
+use Rattle.store.specs.Store.{storeNumber}
+use Rattle.sequence.proofs.Acts.{book-number}
+use Rattle.sequence.proofs.Entered.{fits-number}
 use Rattle.sequence.proofs.Sequence.{Left, left-of}
-use Rattle.sequence.proofs.Traced.{Traced, act-traced, same-setting, traced-count, traced-entries, traced-fits, traced-held, withdrawal-leads}
+use Rattle.sequence.proofs.Traced.{Traced, act-traced, actLogged, same-setting, traced-count, traced-entries, traced-fits, traced-held, withdrawal-leads}
 use Rattle.sequence.specs.Links.{Link, Linked, acceptedNumber, ended, isAccepted, then}
 use Rattle.sequence.specs.Logs.{Back, Handed, LogBack, Written, begun, beside, handed, isWithdrawal, kept, since, written}
 
@@ -33,23 +35,23 @@ use Rattle.sequence.specs.Logs.{Back, Handed, LogBack, Written, begun, b
 -- a link that is given the log
 record Gave (g : Setting) (l : List ℕ) (k : Link) : Type 0 where
   answer : k .gave .answer ≡ actLogged g l (bookOf (k .given)) (k .asked .act) .answer
-  bytes : k .gave .bytes ≡ bytesOf (actLogged g l (bookOf (k .given)) (k .asked .act) .book)
+  bytes : k .gave .book ≡ bytesOf (actLogged g l (bookOf (k .given)) (k .asked .act) .book)
   log : k .gave .log ≡ actLogged g l (bookOf (k .given)) (k .asked .act) .log
   sound : Sound (actLogged g l (bookOf (k .given)) (k .asked .act) .book)
   header : actLogged g l (bookOf (k .given)) (k .asked .act) .book .header ≡ bookOf (k .given) .header
 
 gave-log : {store : Option (List ℕ)} {l : List ℕ} (k : Link) → k .asked .setting .store ≡ store → k .asked .log ≡ some l → Left k → Gave (settingOf store) l k
-unfolding requestGiven
+unfolding requestIn actBy
 gave-log {store} {l} k st e d =
     let b = bookOf (k .given) in
     let a = k .asked .act in
-    let r : requestGiven (k .asked .setting) (k .asked .log) b a ≡ actLogged (settingOf store) l b a = λ i. requestGiven (record { store = st i }) (e i) b a in
+    let r : requestGiven (k .asked) b ≡ actLogged (settingOf store) l b a = λ i. actBy asBook (asBook .number b) (record { store = st i }) (e i) b a in
     record {
-      answer = d .answer ∙ ap (λ (x : Event). x .answer) r;
-      bytes = d .bytes ∙ ap (λ (x : Event). bytesOf (x .book)) r;
-      log = d .log ∙ ap (λ (x : Event). x .log) r;
-      sound = subst (λ (x : Event). Sound (x .book)) r (d .acted .sound);
-      header = sym (ap (λ (x : Event). x .book .header) r) ∙ d .acted .moved .header;
+      answer = d .answer ∙ ap (λ (x : Outcome Book). x .answer) r;
+      bytes = d .bytes ∙ ap (λ (x : Outcome Book). bytesOf (x .book)) r;
+      log = d .log ∙ ap (λ (x : Outcome Book). x .log) r;
+      sound = subst (λ (x : Outcome Book). Sound (x .book)) r (d .acted .sound);
+      header = sym (ap (λ (x : Outcome Book). x .book .header) r) ∙ d .acted .moved .header;
     }
 
 written-traced : {store : Option (List ℕ)} {s t l m o : List ℕ} {ks : List Link} → AllBytes s → bookNumber s ≡ 0 → Linked store s ks t → (w : Written l ks m) → Traced (settingOf store) o l
@@ -80,30 +82,30 @@ is-withdrawal (call c) h = absurd h
 is-withdrawal (postings v) h = absurd h
 is-withdrawal withdrawal h = refl
 
-nothing-asked : refusal [] ≡ none
-unfolding refusal
-nothing-asked = refl
-
 -- of a log with an entry: it is accepted and takes one step back
 module _ {g : Setting} {o l : List ℕ} (t : Traced g o l) (k : 0 < length (t .entries)) where
   abbrev back : Book
   back = withdrawn (t .held) (lastEntry (t .entries))
 
   -- no question refuses it
-  none-refused : refusal (asksThen g l (t .held) (hasEntry (entriesOf (bytesOf (t .held)) l) ∷ [])) ≡ none
-  unfolding asksThen aboutLog hasEntry
-  none-refused =
+  opened : openingWithIn asBook (asBook .number (t .held)) g (some l) (t .held) ≡ 0
+  unfolding openingWithIn openingIn after
+  opened =
+      let s = bytesOf (t .held) in
+      ap (λ (n : ℕ). firstOf (firstOf n (storeNumber (g .store) (t .held .header .date))) (logNumber (some l) s)) (book-number g (t .held) (noted-sound (t .notes)))
+      ∙ ap (λ (n : ℕ). firstOf n (logNumber (some l) s)) (t .passes k)
+      ∙ fits-number l s (traced-fits t)
+
+  has-entry : refusal (hasEntry (entriesOf (bytesOf (t .held)) l) ∷ []) ≡ none
+  unfolding hasEntry refusal
+  has-entry =
       let es = entriesOf (bytesOf (t .held)) l in
-      refusal-next (aboutBook (t .held)) _ (none-refuses (t .held) (noted-sound (t .notes)))
-      ∙ refusal-next (aboutSetting g (t .held)) _ (t .passes k)
-      ∙ yes-first 19 (logFits l (bytesOf (t .held))) _ (traced-fits t)
-      ∙ yes-first 18 (ltb 0 (length es)) [] (lt→ltb 0 (length es) (subst (λ (x : List (List ℕ)). 0 < length x) (sym (traced-entries t)) k))
-      ∙ nothing-asked
+      yes-first 18 (ltb 0 (length es)) [] (lt→ltb 0 (length es) (subst (λ (x : List (List ℕ)). 0 < length x) (sym (traced-entries t)) k))
 
   -- what it gives
-  withdrawal-gives : actLogged g l (t .held) withdrawal ≡ enteredOn (withdrawalEntered (t .entries) (t .held))
-  unfolding actLogged decided asksThen
-  withdrawal-gives = rw none-refused (ap (λ (x : List (List ℕ)). enteredOn (withdrawalEntered x (t .held))) (traced-entries t))
+  withdrawal-gives : actLogged g l (t .held) withdrawal ≡ enteredIn asBook (withdrawalEntered (t .entries) (t .held))
+  unfolding actWith withdrawalAfter after decided
+  withdrawal-gives = rw (opened, has-entry) (ap (λ (x : List (List ℕ)). enteredIn asBook (withdrawalEntered x (t .held))) (traced-entries t))
 
   -- the log that it leaves
   back-traced : back .header ≡ t .held .header → Traced g o (logBytes (beforeLast (t .entries)) (bytesOf back))
@@ -128,7 +130,7 @@ shorter (cs ∷ es) n e = omega arith
 -- as many withdrawals as entries lead back to the first book
 withdrawn-all : {store : Option (List ℕ)} {o s u l n : List ℕ} {ws : List Link} → AllBytes s → bookNumber s ≡ 0 → Linked store s ws u → Handed l ws n → T (all (λ k. isWithdrawal (k .asked .act)) ws)
     → (t : Traced (settingOf store) o l) → s ≡ bytesOf (t .held) → length ws ≡ length (t .entries) → Back o ws u n
-unfolding all isAccepted acceptedNumber enteredOn withdrawalEntered returned ofRun lentLog back-traced
+unfolding all isAccepted acceptedNumber enteredIn withdrawalEntered returned ofRun lentLog back-traced
 withdrawn-all {o = o} {s = s} {l = l} b h ended kept a t e z =
     record { accepted = tt; none = traced-count t ∙ sym z; bytes = e ∙ ap bytesOf (noted-none (subst (λ (x : List (List ℕ)). Noted (t .first) x (t .held)) (no-entry (t .entries) (sym z)) (t .notes))) ∙ sym (t .since) }
   where
@@ -142,14 +144,14 @@ withdrawn-all {store} {o} {s} {u} {l} {n} b h (then {l = k} {ls = ws} g st c ns 
     let v = gave-log k st f d in
     let own : bookOf (k .given) ≡ t .held = ap bookOf (g ∙ e) ∙ bookOf-bytesOf (t .held) (noted-sound (t .notes)) in
     let act : k .asked .act ≡ withdrawal = is-withdrawal (k .asked .act) (and-l (isWithdrawal (k .asked .act)) (all (λ x. isWithdrawal (x .asked .act)) ws) a) in
-    let gives : actLogged (settingOf store) l (bookOf (k .given)) (k .asked .act) ≡ enteredOn (withdrawalEntered (t .entries) (t .held))
+    let gives : actLogged (settingOf store) l (bookOf (k .given)) (k .asked .act) ≡ enteredIn asBook (withdrawalEntered (t .entries) (t .held))
     = ap₂ (λ (x : Book) (y : Act). actLogged (settingOf store) l x y) own act ∙ withdrawal-gives t i in
-    let header : back t i .header ≡ t .held .header = sym (ap (λ (x : Event). x .book .header) gives) ∙ v .header ∙ ap (λ (x : Book). x .header) own in
+    let header : back t i .header ≡ t .held .header = sym (ap (λ (x : Outcome Book). x .book .header) gives) ∙ v .header ∙ ap (λ (x : Book). x .header) own in
     let left : m ≡ logBytes (beforeLast (t .entries)) (bytesOf (back t i))
-    = ap (λ (x : Option (List ℕ)). lentLog x []) (sym q ∙ v .log ∙ ap (λ (x : Event). x .log) gives) in
-    let number : k .gave .answer .number ≡ 0 = ap (λ (x : Answer). x .number) (v .answer ∙ ap (λ (x : Event). x .answer) gives) in
+    = ap (λ (x : Option (List ℕ)). lentLog x []) (sym q ∙ v .log ∙ ap (λ (x : Outcome Book). x .log) gives) in
+    let number : k .gave .answer .number ≡ 0 = ap (λ (x : Answer). x .number) (v .answer ∙ ap (λ (x : Outcome Book). x .answer) gives) in
     let rests = withdrawn-all (d .all-bytes) (d .number) rest (subst (λ (x : List ℕ). Handed x ws n) left r) (and-r (isWithdrawal (k .asked .act)) (all (λ x. isWithdrawal (x .asked .act)) ws) a)
-    (back-traced t i header) (v .bytes ∙ ap (λ (x : Event). bytesOf (x .book)) gives) (shorter (t .entries) (length ws) w) in
+    (back-traced t i header) (v .bytes ∙ ap (λ (x : Outcome Book). bytesOf (x .book)) gives) (shorter (t .entries) (length ws) w) in
     record {
       accepted = and-i (isAccepted k) (all isAccepted ws) (subst (λ (x : Act). T (acceptedNumber x (k .gave .answer .number))) (sym act) (eqb-of (k .gave .answer .number) 0 number)) (rests .accepted);
       none = rests .none;

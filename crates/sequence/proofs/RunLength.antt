@@ -1,34 +1,32 @@
 -- How long a run can be: a refused run reports none and leaves the bytes; every other, also one that a full log stops, has done some reductions of the rules' run, each of which
 -- cuts at least one MWh, and no reduction leaves the book, whose bytes are those that it was read from. Assumes nothing.
-use Rattle.base.specs.Basics.{_≡_, refl, sym, ap, ap₂, subst, _∙_, true, not, Option, none, some, List, ℕ, zero, suc, _+_, _≤_, arith, T}
+use Rattle.base.specs.Basics.{_≡_, refl, sym, ap, ap₂, subst, _∙_, true, not, Option, none, some, List, ℕ, zero, suc, _≤_, arith, T}
 use Rattle.fields.specs.Field.{AllBytes}
 use Rattle.book_format.proofs.Formed.{book-passed}
 use Rattle.book_format.proofs.Passed.{passed-of}
 use Rattle.book_format.proofs.Round.{bytesOf-bookOf}
-use Rattle.book_format.specs.After.{after, stepAfter, unchanged}
+use Rattle.book_format.specs.After.{after}
 use Rattle.book_format.specs.Book.{bookOf, bytesOf, tradesOf}
 use Rattle.book_format.specs.Questions.{aboutBytes, bookNumber}
-use Rattle.book_format.specs.Steps.{inBytes}
 use Rattle.laws.proofs.Fuel.{reduced-less}
-use Rattle.laws.proofs.Refusals.{first-yes, number-none, numbered}
-use Rattle.base.specs.Lists.{all}
 use Rattle.laws.proofs.Run.{reduced-law, run-none}
 use Rattle.laws.specs.Sound.{Sound}
 use Rattle.log_format.proofs.Main.{number-zero, runs-within}
 use Rattle.log_format.proofs.Parts.{logged-bytes}
 use Rattle.log_format.proofs.Read.{fits-logged}
-use Rattle.log_format.specs.Fits.{aboutLog, logFits, logNumber}
+use Rattle.log_format.specs.Fits.{logFits, logNumber}
 use Rattle.log_format.specs.Log.{entriesOf, logBytes}
 use Rattle.log_format.specs.Noted.{callEntered, lastly, room, runWithin, stopped}
 use Rattle.requests.proofs.Emptied.{with-opening}
 use Rattle.requests.proofs.Opened.{opening-zero, second-zero}
 use Rattle.requests.specs.Carried.{Carried}
-use Rattle.requests.specs.Request.{call, actBy, actIn, actOf, actWith, enteredIn, limitsOn, loggedAfter, opening, openingWith, outcome, refusedGiven, request, requestAfter, settingOf, stepIn}
+use Rattle.requests.specs.Request.{call, actBy, actIn, actOf, actWith, asBytes, callAfter, enteredIn, limitsOn, loggedAfter, opening, openingWith, openingWithIn, refusedGiven, request, requestIn, resultIn, settingOf, stepIn}
 use Rattle.rules.specs.Book.{Book, User}
 use Rattle.rules.specs.Calls.{Answer, about, cuttable, effect, nextReduced, ofRun, only, onward, reduced, run, runFor}
 use Rattle.rules.specs.Levels.{Limits}
 use Rattle.rules.specs.Questions.{decided, refusal}
 use Rattle.sequence.proofs.Acts.{accepted-zero}
+use Rattle.sequence.proofs.Entered.{log-fits}
 use Rattle.sequence.specs.Links.{acceptedNumber}
 use Rattle.sequence.specs.RunLength.{RunLeavesLog, RunLength}
 
@@ -57,8 +55,8 @@ module _ (store : Option (List ℕ)) (s : List ℕ) where
   abbrev most : ℕ
   most = cuttable (bookOf s .trades)
 
-  without : (n : ℕ) → (n ≡ 0 → bookNumber s ≡ 0) → let x = stepAfter n limits s run in RunGave limits s (x .answer) (x .bytes)
-  unfolding stepAfter after unchanged inBytes decided refusal about effect
+  without : (n : ℕ) → (n ≡ 0 → bookNumber s ≡ 0) → let x = callAfter asBytes n limits s run in RunGave limits s (x .answer) (x .book)
+  unfolding callAfter after refusedGiven resultIn decided refusal about effect
   without zero h = ran most (book-passed s (h refl)) refl (accepted-zero (call run) (number-zero limits most (bookOf s))) refl
   without (suc n) h = stayed (suc n) refl refl
 
@@ -67,7 +65,7 @@ module _ (store : Option (List ℕ)) (s : List ℕ) where
   stops none a = (refl, λ e. accepted-zero (call run) e)
   stops (some u) a = (refl, λ e. refl)
 
-  within : (l : List ℕ) (n : ℕ) → (n ≡ 0 → bookNumber s ≡ 0) → let x = loggedAfter n limits l s run in RunGave limits s (x .answer) (x .bytes)
+  within : (l : List ℕ) (n : ℕ) → (n ≡ 0 → bookNumber s ≡ 0) → let x = loggedAfter asBytes n limits l s run in RunGave limits s (x .answer) (x .book)
   unfolding loggedAfter after decided refusal about lastly refusedGiven enteredIn callEntered runWithin
   within l zero h =
       let r = runFor limits (room l) (bookOf s) in
@@ -75,8 +73,8 @@ module _ (store : Option (List ℕ)) (s : List ℕ) where
       ran (room l) (book-passed s (h refl)) (q .0) (q .1 (number-zero limits (room l) (bookOf s))) refl
   within l (suc n) h = stayed (suc n) refl refl
 
-  gave : (log : Option (List ℕ)) → RunGave limits s (request (actOf store log (call run)) s .answer) (request (actOf store log (call run)) s .bytes)
-  unfolding requestAfter actBy actIn stepIn actWith outcome
+  gave : (log : Option (List ℕ)) → RunGave limits s (request (actOf store log (call run)) s .answer) (request (actOf store log (call run)) s .book)
+  unfolding requestIn actBy actIn stepIn actWith
   gave none = without (opening (bookNumber s) (settingOf store) s) (opening-zero (bookNumber s) (settingOf store) s)
   gave (some l) =
       within l (openingWith (bookNumber s) (settingOf store) (some l) s) (λ e. opening-zero (bookNumber s) (settingOf store) s (with-opening (bookNumber s) (settingOf store) (some l) s e))
@@ -117,7 +115,7 @@ module _ (store : Option (List ℕ)) (l s : List ℕ) (c : AllBytes l) (b : AllB
   log-whole : refusal (aboutBytes s) ≡ none → T (logFits l s) → logBytes (entriesOf s l) s ≡ l
   log-whole p h = sym (logged-bytes (fits-logged c (passed-of s p .form .trades) h))
 
-  by-log : (n : ℕ) → (n ≡ 0 → (bookNumber s ≡ 0) × T (logFits l s)) → let x = loggedAfter n (limits store s) l s run in x .answer .reductions ≡ 0 → x .log ≡ some l
+  by-log : (n : ℕ) → (n ≡ 0 → (bookNumber s ≡ 0) × T (logFits l s)) → let x = loggedAfter asBytes n (limits store s) l s run in x .answer .reductions ≡ 0 → x .log ≡ some l
   unfolding loggedAfter after decided refusal about lastly refusedGiven enteredIn callEntered
   by-log zero h z =
       let p = book-passed s (h refl .0) in
@@ -127,17 +125,12 @@ module _ (store : Option (List ℕ)) (l s : List ℕ) (c : AllBytes l) (b : AllB
       ∙ ap some (log-whole p (h refl .1))
   by-log (suc n) h z = refl
 
-  -- a log that is not refused passes question 19
-  log-fits : logNumber (some l) s ≡ 0 → T (logFits l s)
-  unfolding logNumber aboutLog numbered all
-  log-fits e = first-yes _ _ (number-none (aboutLog (some l) s) tt e) .0
-
   leaves-log : request (actOf store (some l) (call run)) s .answer .reductions ≡ 0 → request (actOf store (some l) (call run)) s .log ≡ some l
-  unfolding requestAfter actBy actWith openingWith
+  unfolding requestIn actBy actWith openingWithIn
   leaves-log z =
       let g = settingOf store in
       by-log (openingWith (bookNumber s) g (some l) s)
-      (λ e. (opening-zero (bookNumber s) g s (with-opening (bookNumber s) g (some l) s e), log-fits (second-zero (opening (bookNumber s) g s) (logNumber (some l) s) e))) z
+      (λ e. (opening-zero (bookNumber s) g s (with-opening (bookNumber s) g (some l) s e), log-fits l s (second-zero (opening (bookNumber s) g s) (logNumber (some l) s) e))) z
 
 pub run-leaves-log : (store : Option (List ℕ)) → RunLeavesLog store
 run-leaves-log store = record { leaves = λ {l} {s} {t} {a} c b k z. leaves-log store l s c b (sym (ap (λ (x : Answer). x .reductions) (k .answer)) ∙ z) }

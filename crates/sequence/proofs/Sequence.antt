@@ -2,74 +2,28 @@
 -- hold; what it does to the book composes over the sequence; positions come at the end from double counting. Assumes nothing.
 use Rattle.base.specs.Basics.{_≡_, _∙_, ap, ap₂, refl, subst, sym, not, Option, none, some, List, [], _∷_, _++_, ℕ, suc, zero, T, ℤ}
 use Rattle.fields.specs.Field.{AllBytes}
-use Rattle.book_format.proofs.After.{asked-after}
 use Rattle.book_format.proofs.Passed.{passed}
 use Rattle.book_format.proofs.Round.{bytesOf-bookOf}
 use Rattle.book_format.proofs.Written.{all-bytes-bytesOf, bookOf-bytesOf, written-number}
-use Rattle.book_format.specs.After.{after, stepAfter, unchanged}
+use Rattle.book_format.specs.After.{after}
 use Rattle.book_format.specs.Book.{bookOf, bytesOf, tradesOf, usersOf}
 use Rattle.book_format.specs.Questions.{bookNumber}
-use Rattle.book_format.specs.Steps.{inBytes}
 use Rattle.base.specs.Sums.{sumℤ}
 use Rattle.laws.proofs.Moved.{Moved, moved-refl, moved-trans}
 use Rattle.laws.proofs.Positions.{positions-sum}
-use Rattle.laws.proofs.Refusals.{refusal-next}
-use Rattle.laws.proofs.Sound.{none-refuses}
 use Rattle.laws.specs.Statements.{AllCovered}
 use Rattle.laws.specs.Trades.{Lowered, Pairwise}
-use Rattle.requests.proofs.Lines.{lines-numbered}
-use Rattle.requests.proofs.Logged.{log-numbered}
-use Rattle.requests.proofs.Opened.{after-first, decided-after, setting-numbered}
 use Rattle.requests.specs.Carried.{Carried}
-use Rattle.log_format.specs.Fits.{aboutLog, logNumber}
 use Rattle.log_format.specs.Log.{entriesOf, logBytes}
 use Rattle.log_format.specs.Noted.{Entered, callEntered, hasEntry, lastly, room, withdrawalEntered}
-use Rattle.requests.specs.Request.{
-  call,
-  postings,
-  withdrawal,
-  Act,
-  Event,
-  Outcome,
-  Request,
-  Setting,
-  aboutLines,
-  aboutSetting,
-  actBy,
-  actGiven,
-  actIn,
-  actLogged,
-  actWith,
-  emptiedIn,
-  emptiedOn,
-  enteredIn,
-  enteredOn,
-  firstOf,
-  limitsOn,
-  linesGiven,
-  linesIn,
-  loggedAfter,
-  ofCall,
-  opening,
-  openingLines,
-  openingWith,
-  outcome,
-  refusedGiven,
-  refusedOn,
-  request,
-  requestAfter,
-  requestGiven,
-  stepGiven,
-  stepIn,
-  withdrawalAfter,
-}
+use Rattle.requests.specs.Request.{call, postings, withdrawal, Act, Outcome, Request, Setting, actBy, actIn, actWith, asBook, asBytes, callAfter, emptiedIn, enteredIn, firstOf, limitsOn, linesIn}
+use Rattle.requests.specs.Request.{loggedAfter, openingIn, openingLines, openingWith, openingWithIn, refusedGiven, request, requestGiven, requestIn, resultIn, stepIn, withdrawalAfter}
 use Rattle.rules.specs.Book.{Book, Header}
-use Rattle.rules.specs.Calls.{posting, Answer, Call, Result, about, effect, only}
+use Rattle.rules.specs.Calls.{posting, Answer, Call, Result, about, effect}
 use Rattle.rules.specs.Levels.{Limits}
-use Rattle.rules.specs.Questions.{Question, aboutBook, decided, numberOf, refusal}
-use Rattle.sequence.proofs.Acts.{Acted}
+use Rattle.rules.specs.Questions.{decided, refusal}
+use Rattle.sequence.proofs.Acts.{Acted, book-number, step-law}
 use Rattle.sequence.proofs.Entered.{request-law}
-use Rattle.sequence.proofs.Step.{step-law}
 use Rattle.sequence.proofs.TradeBytes.{trade-bytes}
 use Rattle.sequence.specs.Claim.{asNone, asAlso, eachNone, eachAlso, AsDefined, Each, Kept, events, final, Claim}
 use Rattle.sequence.specs.Links.{ended, then, Link, acceptedNumber, requestsOf, isAccepted, Linked}
@@ -79,75 +33,75 @@ use Rattle.store.specs.Store.{limitsOf, storeNumber}
 -- ---- one request on bytes
 
 -- an act gives on bytes what it gives on the book that they hold
-record Same (o : Outcome) (e : Event) : Type 0 where
+record Same (o : Outcome (List ℕ)) (e : Outcome Book) : Type 0 where
   answer : o .answer ≡ e .answer
   numbers : o .numbers ≡ e .numbers
-  bytes : o .bytes ≡ bytesOf (e .book)
+  bytes : o .book ≡ bytesOf (e .book)
   log : o .log ≡ e .log
 
--- what is asked on the book that bytes hold, and what on the bytes: where both pass the questions of the book, the rest by its numbers
-module _ (g : Setting) (s : List ℕ) (h : bookNumber s ≡ 0) where
-  abbrev store : ℕ
-  store = storeNumber (g .store) (bookOf s .header .date)
+-- what the rules give is written as bytes, and the very bytes are left where it is refused
+module _ {s : List ℕ} (e : s ≡ bytesOf (bookOf s)) (log : Option (List ℕ)) where
+  refused-same : (n : ℕ) → Same (refusedGiven log s n) (refusedGiven log (bookOf s) n)
+  unfolding refusedGiven
+  refused-same n = record { answer = refl; numbers = refl; bytes = e; log = refl }
 
-  on-bytes : (n : ℕ) → opening (firstOf (bookNumber s) n) g s ≡ firstOf n store
-  unfolding opening after
-  on-bytes n = rw h
+  after-same : (n : ℕ) {x : Outcome (List ℕ)} {y : Outcome Book} → Same x y → Same (after n (refusedGiven log s) x) (after n (refusedGiven log (bookOf s)) y)
+  unfolding after
+  after-same zero w = w
+  after-same (suc n) w = refused-same (suc n)
 
-  on-bytes-alone : opening (bookNumber s) g s ≡ store
-  unfolding opening after
-  on-bytes-alone = rw h
+  decided-same : (o : Option ℕ) {x : Outcome (List ℕ)} {y : Outcome Book} → Same x y → Same (decided o (refusedGiven log s) x) (decided o (refusedGiven log (bookOf s)) y)
+  unfolding decided
+  decided-same none w = w
+  decided-same (some n) w = refused-same n
 
-  on-book : {R : Type 0} (f : ℕ → R) (x : R) (own : List Question) → decided (refusal (aboutBook (bookOf s) ++ own)) f x ≡ decided (refusal own) f x
-  on-book f x own = ap (λ (o : Option ℕ). decided o f x) (refusal-next (aboutBook (bookOf s)) own (none-refuses (bookOf s) (passed s h .sound)))
+result-same : (r : Result) → Same (resultIn asBytes r) (resultIn asBook r)
+unfolding resultIn
+result-same r = record { answer = refl; numbers = refl; bytes = refl; log = refl }
 
-  then-own : {R : Type 0} (f : ℕ → R) (x : R) (own : List Question)
-      → decided (refusal (aboutBook (bookOf s) ++ (aboutSetting g (bookOf s) ++ own))) f x ≡ after (opening (bookNumber s) g s) f (decided (refusal own) f x)
-  unfolding aboutSetting storeNumber
-  then-own f x own =
-      on-book f x (aboutSetting g (bookOf s) ++ own)
-      ∙ asked-after f x (aboutSetting g (bookOf s)) own (setting-numbered g (bookOf s))
-      ∙ ap (λ (n : ℕ). after n f (decided (refusal own) f x)) (sym on-bytes-alone)
+entered-same : (x : Entered) → Same (enteredIn asBytes x) (enteredIn asBook x)
+unfolding enteredIn
+entered-same x = record { answer = refl; numbers = refl; bytes = refl; log = refl }
 
--- by the questions of a call: the same answer, and the bytes of the same book, also where it is refused and the very bytes are left
-by-questions : (n : ℕ) (o : Option ℕ) (s : List ℕ) (b : Book) (r : Result) → s ≡ bytesOf b → let f : ℕ → Result = λ k. record { answer = only k; book = b } in
-    Same (outcome (after n (unchanged s) (decided o (unchanged s) (inBytes r)))) (ofCall (after n f (decided o f r)))
-unfolding after decided unchanged inBytes outcome ofCall
-by-questions zero none s b r e = record { answer = refl; numbers = refl; bytes = refl; log = refl }
-by-questions zero (some n) s b r e = record { answer = refl; numbers = refl; bytes = e; log = refl }
-by-questions (suc n) o s b r e = record { answer = refl; numbers = refl; bytes = e; log = refl }
+emptied-same : {x : Outcome (List ℕ)} {y : Outcome Book} → Same x y → Same (emptiedIn asBytes x) (emptiedIn asBook y)
+unfolding emptiedIn
+emptied-same w = record { answer = w .answer; numbers = w .numbers; bytes = w .bytes; log = ap (λ (t : List ℕ). some (logBytes [] t)) (w .bytes) }
 
-call-bytes : (g : Setting) (s : List ℕ) (c : Call) → AllBytes s → bookNumber s ≡ 0 → Same (stepIn (bookNumber s) g s c) (ofCall (stepGiven g (bookOf s) c))
-unfolding stepIn stepAfter stepGiven
-call-bytes g s c b h =
-    let n = bookOf s in
-    let limits = limitsOn g n in
-    rw (then-own g s h (λ k. record { answer = only k; book = n }) (effect limits n c) (about limits n c))
-    (by-questions (opening (bookNumber s) g s) (refusal (about limits n c)) s n (effect limits n c) (sym (bytesOf-bookOf s b (passed s h))))
+module _ (g : Setting) where
+  step-same : (n : ℕ) (s : List ℕ) (c : Call) → s ≡ bytesOf (bookOf s) → Same (stepIn asBytes n g s c) (stepIn asBook n g (bookOf s) c)
+  unfolding stepIn callAfter openingIn
+  step-same n s c e =
+      let b = bookOf s in
+      let limits = limitsOn g b in
+      after-same e none (firstOf n (storeNumber (g .store) (b .header .date))) (decided-same e none (refusal (about limits b c)) (result-same (effect limits b c)))
 
--- the lines of a list, one after another
-lines-bytes : (g : Setting) (s ids areas : List ℕ) (amounts : List ℤ) → AllBytes s → bookNumber s ≡ 0 → Same (linesIn g s ids areas amounts) (linesGiven g (bookOf s) ids areas amounts)
-unfolding linesIn linesGiven ofCall
-lines-bytes g s [] areas amounts b h = record { answer = refl; numbers = refl; bytes = sym (bytesOf-bookOf s b (passed s h)); log = refl }
-lines-bytes g s (id ∷ ids) [] amounts b h = record { answer = refl; numbers = refl; bytes = sym (bytesOf-bookOf s b (passed s h)); log = refl }
-lines-bytes g s (id ∷ ids) (area ∷ areas) [] b h = record { answer = refl; numbers = refl; bytes = sym (bytesOf-bookOf s b (passed s h)); log = refl }
-lines-bytes g s (id ∷ ids) (area ∷ areas) (z ∷ amounts) b h =
-    let c = call-bytes g s (posting id area z) b h in
-    let n = stepGiven g (bookOf s) (posting id area z) .book in
-    let t = stepIn (bookNumber s) g s (posting id area z) .bytes in
-    let sound = step-law g (bookOf s) (posting id area z) (passed s h .sound) .sound in
-    let e : t ≡ bytesOf n = c .bytes in
-    let r : Same (linesIn g t ids areas amounts) (linesGiven g n ids areas amounts)
-    = subst (λ (x : Book). Same (linesIn g t ids areas amounts) (linesGiven g x ids areas amounts)) (ap bookOf e ∙ bookOf-bytesOf n sound)
-    (lines-bytes g t ids areas amounts (rw e (all-bytes-bytesOf n)) (ap bookNumber e ∙ written-number n sound)) in
-    record {
-      answer = refl;
-      numbers = ap₂ (λ (k : ℕ) (ks : List ℕ). k ∷ ks) (ap (λ (a : Answer). a .number) (c .answer)) (r .numbers);
-      bytes = r .bytes;
-      log = refl;
-    }
+  -- the lines of a list, one after another
+  lines-same : (s ids areas : List ℕ) (amounts : List ℤ) → AllBytes s → bookNumber s ≡ 0 → Same (linesIn asBytes g s ids areas amounts) (linesIn asBook g (bookOf s) ids areas amounts)
+  unfolding linesIn
+  lines-same s [] areas amounts b h = record { answer = refl; numbers = refl; bytes = sym (bytesOf-bookOf s b (passed s h)); log = refl }
+  lines-same s (id ∷ ids) [] amounts b h = record { answer = refl; numbers = refl; bytes = sym (bytesOf-bookOf s b (passed s h)); log = refl }
+  lines-same s (id ∷ ids) (area ∷ areas) [] b h = record { answer = refl; numbers = refl; bytes = sym (bytesOf-bookOf s b (passed s h)); log = refl }
+  lines-same s (id ∷ ids) (area ∷ areas) (z ∷ amounts) b h =
+      let p = posting id area z in
+      let held = bookOf s in
+      let same : bookNumber s ≡ asBook .number held = h ∙ sym (book-number g held (passed s h .sound)) in
+      let t = stepIn asBytes (bookNumber s) g s p .book in
+      let n = stepIn asBook (asBook .number held) g held p .book in
+      let c : Same (stepIn asBytes (bookNumber s) g s p) (stepIn asBook (asBook .number held) g held p)
+      = subst (λ (k : ℕ). Same (stepIn asBytes (bookNumber s) g s p) (stepIn asBook k g held p)) same (step-same (bookNumber s) s p (sym (bytesOf-bookOf s b (passed s h)))) in
+      let sound = step-law g held p (passed s h .sound) .sound in
+      let e : t ≡ bytesOf n = c .bytes in
+      let r : Same (linesIn asBytes g t ids areas amounts) (linesIn asBook g n ids areas amounts)
+      = subst (λ (x : Book). Same (linesIn asBytes g t ids areas amounts) (linesIn asBook g x ids areas amounts)) (ap bookOf e ∙ bookOf-bytesOf n sound)
+      (lines-same t ids areas amounts (rw e (all-bytes-bytesOf n)) (ap bookNumber e ∙ written-number n sound)) in
+      record {
+        answer = refl;
+        numbers = ap₂ (λ (k : ℕ) (ks : List ℕ). k ∷ ks) (ap (λ (a : Answer). a .number) (c .answer)) (r .numbers);
+        bytes = r .bytes;
+        log = refl;
+      }
 
-module _ (g : Setting) (s : List ℕ) (b : AllBytes s) (h : bookNumber s ≡ 0) where
+module _ (n : ℕ) (g : Setting) (s : List ℕ) (b : AllBytes s) (h : bookNumber s ≡ 0) where
   abbrev held : Book
   held = bookOf s
 
@@ -155,114 +109,61 @@ module _ (g : Setting) (s : List ℕ) (b : AllBytes s) (h : bookNumber s ≡ 0) 
   bytes-held : s ≡ bytesOf held
   bytes-held = sym (bytesOf-bookOf s b (passed s h))
 
-  -- ---- without a log
+  act-same : (a : Act) → Same (actIn asBytes n g s a) (actIn asBook n g held a)
+  unfolding actIn openingIn
+  act-same (call c) = step-same g n s c bytes-held
+  act-same (postings v) =
+      after-same bytes-held none (firstOf (openingLines n v) (storeNumber (g .store) (held .header .date))) (lines-same g s (v .ids) (v .areas) (v .amounts) b h)
+  act-same withdrawal = refused-same bytes-held none (firstOf (firstOf n (storeNumber (g .store) (held .header .date))) 18)
 
-  act-bytes : (a : Act) → Same (actIn (bookNumber s) g s a) (actGiven g held a)
-  unfolding actIn actGiven openingLines after decided refusedGiven refusedOn refusal hasEntry aboutSetting storeNumber
-  act-bytes (call c) = call-bytes g s c b h
-  act-bytes (postings v) =
-      let own = aboutLines v ++ aboutSetting g held in
-      rw (
-        on-bytes g s h (numberOf (refusal (aboutLines v))),
-        on-book g s h (refusedOn held none) (linesGiven g held (v .ids) (v .areas) (v .amounts)) own,
-        asked-after (refusedOn held none) (linesGiven g held (v .ids) (v .areas) (v .amounts)) (aboutLines v) (aboutSetting g held) (lines-numbered v),
-        decided-after (refusedOn held none) (linesGiven g held (v .ids) (v .areas) (v .amounts)) (aboutSetting g held) (setting-numbered g held),
-        after-first (numberOf (refusal (aboutLines v))) (store g s h) (refusedOn held none) (linesGiven g held (v .ids) (v .areas) (v .amounts)),
-      )
-      (go (firstOf (numberOf (refusal (aboutLines v))) (store g s h)))
-    where
-      go : (n : ℕ)
-          → Same (after n (refusedGiven none s) (linesIn g s (v .ids) (v .areas) (v .amounts))) (after n (refusedOn held none) (linesGiven g held (v .ids) (v .areas) (v .amounts)))
-      go zero = lines-bytes g s (v .ids) (v .areas) (v .amounts) b h
-      go (suc n) = record { answer = refl; numbers = refl; bytes = bytes-held; log = refl }
-  act-bytes withdrawal =
-      rw (then-own g s h (refusedOn held none) (refusedOn held none 18) (hasEntry [] ∷ [])) (go (opening (bookNumber s) g s))
-    where
-      go : (n : ℕ) → Same (refusedGiven none s (firstOf n 18)) (after n (refusedOn held none) (refusedOn held none 18))
-      go zero = record { answer = refl; numbers = refl; bytes = bytes-held; log = refl }
-      go (suc n) = record { answer = refl; numbers = refl; bytes = bytes-held; log = refl }
+  logged-same : (l : List ℕ) (a : Act) → Same (actWith asBytes n g l s a) (actWith asBook n g l held a)
+  unfolding actWith loggedAfter withdrawalAfter openingWithIn openingIn
+  logged-same l (call c) =
+      let limits = limitsOn g held in
+      rw (bytesOf-bookOf s b (passed s h))
+      (after-same bytes-held (some l) (openingWith n g (some l) s)
+      (decided-same bytes-held (some l) (refusal (about limits held c ++ lastly (room l) c)) (entered-same (callEntered limits (room l) (entriesOf s l) held c))))
+  logged-same l (postings v) =
+      rw (bytesOf-bookOf s b (passed s h))
+      (after-same bytes-held (some l) (openingWith (openingLines n v) g (some l) s) (emptied-same (lines-same g s (v .ids) (v .areas) (v .amounts) b h)))
+  logged-same l withdrawal =
+      rw (bytesOf-bookOf s b (passed s h))
+      (after-same bytes-held (some l) (openingWith n g (some l) s)
+      (decided-same bytes-held (some l) (refusal (hasEntry (entriesOf s l) ∷ [])) (entered-same (withdrawalEntered (entriesOf s l) held))))
 
-  -- ---- with a log
+  by-log : (log : Option (List ℕ)) (a : Act) → Same (actBy asBytes n g log s a) (actBy asBook n g log held a)
+  unfolding actBy
+  by-log none a = act-same a
+  by-log (some l) a = logged-same l a
 
-  module _ (l : List ℕ) where
-    -- what is entered in a log, or a refusal
-    by-log : (n : ℕ) (o : Option ℕ) (x : Entered) → Same (after n (refusedGiven (some l) s) (decided o (refusedGiven (some l) s) (enteredIn x))) (after n (refusedOn held (some l)) (decided o (refusedOn held (some l)) (enteredOn x)))
-    unfolding after decided refusedGiven refusedOn enteredIn enteredOn
-    by-log zero none x = record { answer = refl; numbers = refl; bytes = refl; log = refl }
-    by-log zero (some n) x = record { answer = refl; numbers = refl; bytes = bytes-held; log = refl }
-    by-log (suc n) o x = record { answer = refl; numbers = refl; bytes = bytes-held; log = refl }
-
-    by-list : (n : ℕ) {x : Outcome} {y : Event} → Same x y → Same (after n (refusedGiven (some l) s) (emptiedIn x)) (after n (refusedOn held (some l)) (emptiedOn y))
-    unfolding after refusedGiven refusedOn emptiedIn emptiedOn
-    by-list zero w = record { answer = w .answer; numbers = w .numbers; bytes = w .bytes; log = ap (λ (t : List ℕ). some (logBytes [] t)) (w .bytes) }
-    by-list (suc n) w = record { answer = refl; numbers = refl; bytes = bytes-held; log = refl }
-
-    -- the questions of the book that bytes hold, 19 among them
-    then-logged : {R : Type 0} (f : ℕ → R) (x : R) (own : List Question)
-        → decided (refusal (aboutBook held ++ (aboutSetting g held ++ (aboutLog (some l) s ++ own)))) f x ≡ after (openingWith (bookNumber s) g (some l) s) f (decided (refusal own) f x)
-    unfolding openingWith logNumber
-    then-logged f x own =
-        then-own g s h f x (aboutLog (some l) s ++ own)
-        ∙ ap (λ y. after (opening (bookNumber s) g s) f y) (asked-after f x (aboutLog (some l) s) own (log-numbered (some l) s))
-        ∙ after-first (opening (bookNumber s) g s) (logNumber (some l) s) f (decided (refusal own) f x)
-
-    logged-bytes : (a : Act) → Same (actWith (bookNumber s) g l s a) (actLogged g l held a)
-    unfolding actWith actLogged loggedAfter withdrawalAfter openingWith openingLines aboutSetting storeNumber logNumber
-    logged-bytes (call c) =
-        let own = about (limitsOn g held) held c ++ lastly (room l) c in
-        let x = callEntered (limitsOn g held) (room l) (entriesOf s l) held c in
-        rw (bytesOf-bookOf s b (passed s h), then-logged (refusedOn held (some l)) (enteredOn x) own)
-        (by-log (openingWith (bookNumber s) g (some l) s) (refusal own) x)
-    logged-bytes (postings v) =
-        let own = aboutSetting g held ++ aboutLog (some l) s in
-        let x = emptiedOn (linesGiven g held (v .ids) (v .areas) (v .amounts)) in
-        let f = refusedOn held (some l) in
-        let fit = numberOf (refusal (aboutLines v)) in
-        rw (
-          bytesOf-bookOf s b (passed s h),
-          on-bytes g s h fit,
-          on-book g s h f x (aboutLines v ++ own),
-          asked-after f x (aboutLines v) own (lines-numbered v),
-          asked-after f x (aboutSetting g held) (aboutLog (some l) s) (setting-numbered g held),
-          decided-after f x (aboutLog (some l) s) (log-numbered (some l) s),
-          after-first fit (store g s h) f (after (logNumber (some l) s) f x),
-          after-first (firstOf fit (store g s h)) (logNumber (some l) s) f x,
-        )
-        (by-list (firstOf (firstOf fit (store g s h)) (logNumber (some l) s)) (lines-bytes g s (v .ids) (v .areas) (v .amounts) b h))
-    logged-bytes withdrawal =
-        let own : List Question = hasEntry (entriesOf s l) ∷ [] in
-        let x = withdrawalEntered (entriesOf s l) held in
-        rw (bytesOf-bookOf s b (passed s h), then-logged (refusedOn held (some l)) (enteredOn x) own)
-        (by-log (openingWith (bookNumber s) g (some l) s) (refusal own) x)
-
-  request-bytes : (log : Option (List ℕ)) (a : Act) → Same (actBy (bookNumber s) g log s a) (requestGiven g log held a)
-  unfolding actBy requestGiven
-  request-bytes none a = act-bytes a
-  request-bytes (some l) a = logged-bytes l a
+request-same : (r : Request) (s : List ℕ) → AllBytes s → bookNumber s ≡ 0 → Same (request r s) (requestGiven r (bookOf s))
+unfolding requestIn
+request-same r s b h =
+    subst (λ (n : ℕ). Same (request r s) (requestIn asBook n r (bookOf s))) (h ∙ sym (book-number (r .setting) (bookOf s) (passed s h .sound)))
+    (by-log (bookNumber s) (r .setting) s b h (r .log) (r .act))
 
 -- what the rules give for a request on the book that bytes hold
-abbrev pub givenBy : Request → List ℕ → Event
-givenBy r s = requestGiven (r .setting) (r .log) (bookOf s) (r .act)
+abbrev pub givenBy : Request → List ℕ → Outcome Book
+givenBy r s = requestGiven r (bookOf s)
 
 -- what a link leaves
 pub record Left (l : Link) : Type 0 where
   pub answer : l .gave .answer ≡ givenBy (l .asked) (l .given) .answer
   pub numbers : l .gave .numbers ≡ givenBy (l .asked) (l .given) .numbers
-  pub bytes : l .gave .bytes ≡ bytesOf (givenBy (l .asked) (l .given) .book)
+  pub bytes : l .gave .book ≡ bytesOf (givenBy (l .asked) (l .given) .book)
   pub log : l .gave .log ≡ givenBy (l .asked) (l .given) .log
-  pub all-bytes : AllBytes (l .gave .bytes)
-  pub number : bookNumber (l .gave .bytes) ≡ 0
-  pub book : bookOf (l .gave .bytes) ≡ givenBy (l .asked) (l .given) .book
+  pub all-bytes : AllBytes (l .gave .book)
+  pub number : bookNumber (l .gave .book) ≡ 0
+  pub book : bookOf (l .gave .book) ≡ givenBy (l .asked) (l .given) .book
   pub acted : Acted (limitsOn (l .asked .setting) (bookOf (l .given))) (bookOf (l .given)) (l .asked .log) (l .asked .act) (givenBy (l .asked) (l .given))
 
-pub left-of : (l : Link) → AllBytes (l .given) → bookNumber (l .given) ≡ 0 → Carried (l .asked) (l .given) (l .gave .answer) (l .gave .bytes)
+pub left-of : (l : Link) → AllBytes (l .given) → bookNumber (l .given) ≡ 0 → Carried (l .asked) (l .given) (l .gave .answer) (l .gave .book)
     → l .gave .numbers ≡ request (l .asked) (l .given) .numbers → l .gave .log ≡ request (l .asked) (l .given) .log → Left l
-unfolding requestAfter
 left-of l b h k w m =
     let n = givenBy (l .asked) (l .given) .book in
-    let r = request-bytes (l .asked .setting) (l .given) b h (l .asked .log) (l .asked .act) in
-    let d = request-law (l .asked .setting) (l .asked .log) (bookOf (l .given)) (l .asked .act) (passed (l .given) h .sound) in
-    let e : l .gave .bytes ≡ bytesOf n = k .bytes ∙ r .bytes in
+    let r = request-same (l .asked) (l .given) b h in
+    let d = request-law (l .asked) (bookOf (l .given)) (passed (l .given) h .sound) in
+    let e : l .gave .book ≡ bytesOf n = k .bytes ∙ r .bytes in
     record {
       answer = k .answer ∙ r .answer;
       numbers = w ∙ r .numbers;
@@ -277,7 +178,7 @@ left-of l b h k w m =
 -- ---- what is kept by a request
 
 -- what the request added and what it reported, as the link has them
-moved-by : (l : Link) → Left l → Moved (bookOf (l .given)) (bookOf (l .gave .bytes)) (λ a. postedIn a l) (reportedMwh l) (reportedWorth l)
+moved-by : (l : Link) → Left l → Moved (bookOf (l .given)) (bookOf (l .gave .book)) (λ a. postedIn a l) (reportedMwh l) (reportedWorth l)
 unfolding postedIn reportedMwh reportedWorth isAccepted
 moved-by l d = rw (d .answer, d .numbers, d .book) (d .acted .moved)
 
@@ -322,7 +223,7 @@ played {store} {s} {t} date (then {l = l} {ls = ls} g st k ns lg m) b h z =
     let limits = limitsOf store date in
     let d = left-of l c o k ns lg in
     let v = moved-by l d in
-    let y : bookOf (l .gave .bytes) .header .date ≡ date = ap (λ (x : Header). x .date) (v .header) ∙ w in
+    let y : bookOf (l .gave .book) .header .date ≡ date = ap (λ (x : Header). x .date) (v .header) ∙ w in
     let n = givenBy (l .asked) (l .given) .book in
     let q : Played limits n ls t = subst (λ (x : Book). Played limits x ls t) (d .book) (played date m (d .all-bytes) (d .number) y) in
     let u : Moved (bookOf (l .given)) n (λ a. postedIn a l) (reportedMwh l) (reportedWorth l)

@@ -1,52 +1,23 @@
--- One call by the rules, accepted or refused: what it does to a sound book. Assumes nothing.
-use Rattle.base.specs.Basics.{_≡_, _∙_, ap, refl, sym, cond, false, not, true, Option, none, some, List, _++_, _<_, ℕ, le-refl, arith, T, eqb, leb→le}
-use Rattle.base.specs.Basics.{ltb, ltb→lt, pos, _+ℤ_, eq-eqb, ne-eqb}
+-- One call by the rules that no question refuses: what it does to a sound book. Assumes nothing.
+use Rattle.base.specs.Basics.{_≡_, _∙_, ap, refl, sym, none, ℕ, le-refl, arith, leb→le, ltb, ltb→lt, _+ℤ_}
 use Rattle.laws.proofs.Guarantee.{guarantee-moved, guarantee-sound}
 use Rattle.laws.proofs.Main.{run-ends}
-use Rattle.laws.proofs.Moved.{Moved, moved-refl}
+use Rattle.laws.proofs.Moved.{Moved}
 use Rattle.laws.proofs.Posting.{posting-moved, posting-sound}
-use Rattle.laws.proofs.Refusals.{append-yes, first-yes, numbered, refusal-is}
+use Rattle.laws.proofs.Refusals.{first-yes}
 use Rattle.laws.proofs.Run.{reduced-law, run-law}
-use Rattle.laws.proofs.Sound.{accept, sound}
+use Rattle.laws.proofs.Sound.{accept}
 use Rattle.laws.specs.Sound.{Sound}
-use Rattle.base.proofs.Tests.{all-append, and-l, and-r}
+use Rattle.base.proofs.Tests.{and-l, and-r}
 use Rattle.laws.proofs.Trades.{lowered-refl}
 use Rattle.laws.specs.Statements.{AllCovered}
 use Rattle.laws.specs.Trades.{Lowered, Pairwise}
-use Rattle.requests.proofs.Emptied.{about-numbered}
-use Rattle.requests.proofs.Opened.{setting-numbered}
-use Rattle.requests.specs.Request.{Setting, aboutSetting, limitsOn, stepGiven}
 use Rattle.rules.specs.Book.{Book, at, find}
-use Rattle.rules.specs.Calls.{
-  posting,
-  morningCall,
-  afternoonCall,
-  reduction,
-  run,
-  Call,
-  Result,
-  about,
-  assignedFallsShort,
-  assignedSuffices,
-  calledInBeyondMargin,
-  cuttable,
-  effect,
-  eligibleTrade,
-  entryInRange,
-  guaranteed,
-  idKnown,
-  isShipper,
-  marginExceeded,
-  ofCuts,
-  ofLevel,
-  only,
-  reduced,
-  reducedBy,
-}
-use Rattle.rules.specs.Changes.{moved, withUsers}
+use Rattle.rules.specs.Calls.{posting, morningCall, afternoonCall, reduction, run, Call, Result, about, assignedFallsShort, assignedSuffices, calledInBeyondMargin, cuttable}
+use Rattle.rules.specs.Calls.{effect, eligibleTrade, entryInRange, guaranteed, idKnown, isShipper, marginExceeded, ofCuts, ofLevel, only, reduced, reducedBy}
+use Rattle.rules.specs.Changes.{withUsers}
 use Rattle.rules.specs.Levels.{Limits, afternoonLevel, morningLevel}
-use Rattle.base.specs.Lists.{all}
-use Rattle.rules.specs.Questions.{Question, aboutBook, decided, refusal}
+use Rattle.rules.specs.Questions.{refusal}
 use Rattle.rules.specs.Signed.{within}
 use Rattle.sequence.specs.Totals.{amountIn, counted}
 
@@ -58,62 +29,13 @@ isRun (afternoonCall id) = 0
 isRun (reduction id) = 0
 isRun run = 1
 
--- no question has the number 0
-pub book-numbered : (b : Book) → T (all (λ q. ltb 0 (q .number)) (aboutBook b))
-unfolding aboutBook all
-book-numbered b = tt
-
--- the questions of a call without a log
-unfoldable pub asks : Setting → Book → Call → List Question
-asks g b c = aboutBook b ++ (aboutSetting g b ++ about (limitsOn g b) b c)
-
-pub asks-numbered : (g : Setting) (b : Book) (c : Call) → T (numbered (asks g b c))
-unfolding asks numbered
-asks-numbered g b c =
-    let own = about (limitsOn g b) b c in
-    all-append (λ q. ltb 0 (q .number)) (aboutBook b) (aboutSetting g b ++ own) (book-numbered b)
-    (all-append (λ q. ltb 0 (q .number)) (aboutSetting g b) own (setting-numbered g b) (about-numbered (limitsOn g b) b c))
-
 module _ (limits : Limits) where
-  pub record Stepped (b : Book) (c : Call) (r : Result) : Type 0 where
-    pub sound : Sound (r .book)
-    pub moved : Moved b (r .book) (λ a. cond (eqb (r .answer .number) 0) (amountIn a c) (pos 0))
-        (cond (eqb (r .answer .number) 0) (counted c (r .answer .mwh)) (pos 0))
-        (cond (eqb (r .answer .number) 0) (counted c (r .answer .worth)) (pos 0))
-    pub lowered : Pairwise Lowered (b .trades) (r .book .trades)
-    pub refused : T (not (eqb (r .answer .number) 0)) → r .book ≡ b
-    pub covered : c ≡ run → T (eqb (r .answer .number) 0) → AllCovered limits (r .book)
-
-  refused-law : (b : Book) (c : Call) (n : ℕ) → Sound b → 0 < n → Stepped b c (record { answer = only n; book = b })
-  unfolding only
-  refused-law b c n s k =
-      let e : eqb n 0 ≡ false = ne-eqb n 0 (λ z. omega arith) in
-      record {
-        sound = s;
-        moved = rw e (moved-refl b);
-        lowered = lowered-refl (b .trades);
-        refused = λ h. refl;
-        covered = λ d h. absurd (rw e at h);
-      }
-
-  -- an accepted call
   pub record Effected (b : Book) (c : Call) (r : Result) : Type 0 where
     pub number : r .answer .number ≡ 0
     pub sound : Sound (r .book)
     pub moved : Moved b (r .book) (λ a. amountIn a c) (counted c (r .answer .mwh)) (counted c (r .answer .worth))
     pub lowered : Pairwise Lowered (b .trades) (r .book .trades)
     pub covered : c ≡ run → AllCovered limits (r .book)
-
-  accepted-law : {b : Book} {c : Call} {r : Result} → Effected b c r → Stepped b c r
-  accepted-law {r = r} e =
-      let z : eqb (r .answer .number) 0 ≡ true = eq-eqb (r .answer .number) 0 (e .number) in
-      record {
-        sound = e .sound;
-        moved = rw z (e .moved);
-        lowered = e .lowered;
-        refused = λ h. absurd (rw z at h);
-        covered = λ k h. e .covered k;
-      }
 
   -- a call that is no run
   other : (c : Call) → isRun c ≡ 0 → c ≡ run → ⊥
@@ -169,14 +91,3 @@ module _ (limits : Limits) where
       let n = cuttable (b .trades) in
       let r = run-law limits n b s in
       record { number = r .number; sound = r .sound; moved = r .moved; lowered = r .lowered; covered = λ e. run-ends limits .enough n b (accept b s) (le-refl n) }
-
-pub step-law : (g : Setting) (b : Book) (c : Call) → Sound b → Stepped (limitsOn g b) b c (stepGiven g b c)
-unfolding stepGiven decided numbered asks
-step-law g b c s = go (refusal (asks g b c)) refl
-  where
-    go : (o : Option ℕ) → refusal (asks g b c) ≡ o
-        → Stepped (limitsOn g b) b c (decided o (λ n. record { answer = only n; book = b }) (effect (limitsOn g b) b c))
-    go none e =
-        let own = about (limitsOn g b) b c in
-        accepted-law (limitsOn g b) (effect-law (limitsOn g b) b c s (append-yes (aboutSetting g b) own (append-yes (aboutBook b) (aboutSetting g b ++ own) e .1) .1))
-    go (some n) e = refused-law (limitsOn g b) b c n s (ltb→lt 0 n (refusal-is (λ i. ltb 0 i) (asks g b c) n (asks-numbered g b c) e))

@@ -1,11 +1,12 @@
 -- What a log notes that was started empty and written by requests: the cuts that led from the book that it held when it was last without an entry to the one that it holds. Every request keeps it
 -- so. Assumes nothing.
-use Rattle.base.specs.Basics.{_≡_, _∙_, ap, refl, subst, sym, cond, Option, none, some, List, [], _∷_, _++_, ℕ, _+_, _-_, _≤_, _<_, arith, T, eqb}
+use Rattle.base.specs.Basics.{_≡_, _∙_, ap, refl, subst, sym, cond, Option, none, some, List, [], _∷_, _++_, ℕ, suc, zero, _+_, _≤_, _<_, arith, T, eqb}
 use Rattle.base.specs.Basics.{eqb·suc-zero, leb, leb→le, ltb, ltb→lt, length}
 use Rattle.base.proofs.Tests.{and-l, and-r}
 use Rattle.book_format.proofs.Offsets.{header-range, length-by, size-most}
 use Rattle.book_format.proofs.Passed.{length-tradesOf, passed}
 use Rattle.book_format.proofs.Written.{bookOf-bytesOf, length-bytesOf, written-number}
+use Rattle.book_format.specs.After.{after}
 use Rattle.book_format.specs.Book.{bookOf, bytesOf, tradeCount, tradesOf}
 use Rattle.fields.specs.Layout.{Every}
 use Rattle.laws.proofs.Refusals.{append-yes, first-yes}
@@ -15,18 +16,18 @@ use Rattle.log_format.proofs.Noted.{Noted, noted-drop, noted-fit, noted-sound, 
 use Rattle.log_format.proofs.Parts.{EntryFits, bytes-logged, logged-head, logged-held}
 use Rattle.log_format.proofs.Read.{fits-facts}
 use Rattle.log_format.proofs.Written.{Writable, logged-entries, logged-fits}
-use Rattle.log_format.specs.Fits.{LogOf, aboutLog, allCuts, logFits, raisesWithin}
+use Rattle.log_format.specs.Fits.{LogOf, allCuts, logFits, raisesWithin}
 use Rattle.log_format.specs.Log.{entriesOf, entryCount, heldOf, logBytes}
 use Rattle.log_format.specs.Noted.{Entered, beforeLast, callEntered, emptying, hasEntry, hasRoom, lastEntry, lastly, room, runWithin, withdrawalEntered}
 use Rattle.log_format.specs.Withdrawal.{withdrawn}
-use Rattle.requests.specs.Request.{call, postings, withdrawal, Act, Event, Lines, Setting, aboutLines, aboutSetting, actLogged, emptiedOn, enteredOn, limitsOn, linesGiven, refusedOn}
+use Rattle.requests.specs.Request.{call, postings, withdrawal, Act, Lines, Outcome, Setting, actWith, asBook, emptiedIn, enteredIn, limitsOn, linesIn, loggedAfter, openingLines, openingWithIn, refusedGiven, withdrawalAfter}
 use Rattle.rules.specs.Book.{Book, Header, Trade, find}
 use Rattle.rules.specs.Calls.{posting, morningCall, afternoonCall, reduction, run, Call, about, effect}
 use Rattle.rules.specs.Levels.{Limits}
-use Rattle.rules.specs.Questions.{Question, aboutBook, countsValid, decided, refusal}
-use Rattle.store.specs.Store.{aboutStore}
+use Rattle.rules.specs.Questions.{Question, countsValid, decided, refusal}
+use Rattle.store.specs.Store.{storeNumber}
 use Rattle.requests.specs.Logged.{lentLog}
-use Rattle.sequence.proofs.Entered.{asksThen, then-passed}
+use Rattle.sequence.proofs.Entered.{log-passed}
 use Rattle.sequence.specs.Logs.{since, sinceLog}
 
 -- ---- a log that can be read back
@@ -76,7 +77,7 @@ pub record Traced (g : Setting) (o : List ℕ) (l : List ℕ) : Type 0 where
   pub log : l ≡ logBytes entries (bytesOf held)
   pub notes : Noted first entries held
   pub count : length entries ≤ 256
-  pub passes : 0 < length entries → refusal (aboutSetting g held) ≡ none
+  pub passes : 0 < length entries → storeNumber (g .store) (held .header .date) ≡ 0
 
 module _ {g : Setting} {o l : List ℕ} (t : Traced g o l) where
   writable : Writable (t .entries) (bytesOf (t .held))
@@ -118,6 +119,10 @@ since-traced {g} {o} {l} t p h = subst (λ (n : ℕ). Traced g (cond (eqb n 0) (
 
 -- ---- one request
 
+-- an act with a log on a book
+abbrev pub actLogged : Setting → List ℕ → Book → Act → Outcome Book
+actLogged g l b a = actWith asBook (asBook .number b) g l b a
+
 -- the entries after a call: none, or those that led from the first book to the one that it leaves
 data Leads (o : Book) (es : List (List ℕ)) (b : Book) : Type 0 where
   emptied : es ≡ [] → Leads o es b
@@ -144,12 +149,11 @@ same-book : {b c : Book} → Sound b → Sound c → bytesOf b ≡ bytesOf c →
 same-book {b} {c} s k e = sym (bookOf-bytesOf b s) ∙ ap bookOf e ∙ bookOf-bytesOf c k
 
 -- the store is asked on a date, which no request changes
-pub same-setting : (g : Setting) (b c : Book) → c .header ≡ b .header → refusal (aboutSetting g b) ≡ none → refusal (aboutSetting g c) ≡ none
-unfolding aboutSetting
-same-setting g b c h e = subst (λ (x : Header). refusal (aboutStore (g .store) (x .date)) ≡ none) (sym h) e
+pub same-setting : (g : Setting) (b c : Book) → c .header ≡ b .header → storeNumber (g .store) (b .header .date) ≡ 0 → storeNumber (g .store) (c .header .date) ≡ 0
+same-setting g b c h e = subst (λ (x : Header). storeNumber (g .store) (x .date) ≡ 0) (sym h) e
 
 -- what a log then notes
-leads-traced : (g : Setting) {o : List ℕ} {first b : Book} {es : List (List ℕ)} → o ≡ bytesOf first → Leads first es b → Sound b → length es ≤ 256 → refusal (aboutSetting g b) ≡ none
+leads-traced : (g : Setting) {o : List ℕ} {first b : Book} {es : List (List ℕ)} → o ≡ bytesOf first → Leads first es b → Sound b → length es ≤ 256 → storeNumber (g .store) (b .header .date) ≡ 0
     → Traced g (sinceLog (logBytes es (bytesOf b)) o) (logBytes es (bytesOf b))
 leads-traced g {o} {first} {b} {es} e (more p) s k h =
     since-traced (record { first = first; held = b; entries = es; since = e; log = refl; notes = p; count = k; passes = λ n. h }) o (λ n. refl)
@@ -181,15 +185,15 @@ module _ {g : Setting} {o l : List ℕ} (t : Traced g o l) (b : Book) (s : Sound
   refused-traced {n} e = subst (λ (x : List ℕ). Traced g (sinceLog x o) x) (ap (λ (x : Option (List ℕ)). lentLog x []) e) (since-traced t o (λ k. refl))
 
   -- an accepted one leaves the log of its entries
-  entered-traced : {n : List ℕ} (es : List (List ℕ)) (c : Book) → Leads (t .first) es c → Sound c → length es ≤ 256 → c .header ≡ b .header → refusal (aboutSetting g b) ≡ none
+  entered-traced : {n : List ℕ} (es : List (List ℕ)) (c : Book) → Leads (t .first) es c → Sound c → length es ≤ 256 → c .header ≡ b .header → storeNumber (g .store) (b .header .date) ≡ 0
       → some (logBytes es (bytesOf c)) ≡ some n → Traced g (sinceLog n o) n
   unfolding lentLog
   entered-traced {n} es c p k i h q e =
       subst (λ (x : List ℕ). Traced g (sinceLog x o) x) (ap (λ (x : Option (List ℕ)). lentLog x []) e) (leads-traced g (t .since) p k i (same-setting g b c h q))
 
   call-traced : {n : List ℕ} (c : Call) → Sound (actLogged g l b (call c) .book) → actLogged g l b (call c) .book .header ≡ b .header → actLogged g l b (call c) .log ≡ some n → Traced g (sinceLog n o) n
-  unfolding actLogged decided refusedOn enteredOn asksThen
-  call-traced {n} c = go (refusal (asksThen g l b own)) refl
+  unfolding actWith loggedAfter after decided refusedGiven enteredIn
+  call-traced {n} c = go (openingWithIn asBook (asBook .number b) g (some l) b) refl
     where
       own : List Question
       own = about (limitsOn g b) b c ++ lastly (room l) c
@@ -197,45 +201,51 @@ module _ {g : Setting} {o l : List ℕ} (t : Traced g o l) (b : Book) (s : Sound
       e : Entered
       e = callEntered (limitsOn g b) (room l) (entriesOf (bytesOf b) l) b c
 
-      go : (x : Option ℕ) → refusal (asksThen g l b own) ≡ x → let r = decided x (refusedOn b (some l)) (enteredOn e) in
+      by-own : (storeNumber (g .store) (b .header .date) ≡ 0) × T (logFits l (bytesOf b)) → (x : Option ℕ) → refusal own ≡ x → let r = decided x (refusedGiven (some l) b) (enteredIn asBook e) in
           Sound (r .book) → r .book .header ≡ b .header → r .log ≡ some n → Traced g (sinceLog n o) n
-      go none q k h i =
-          let w = then-passed g l b own q in
-          let d = call-leads (limitsOn g b) (fits-noted (w .1)) (room l) (fits-room (w .1)) c (append-yes (about (limitsOn g b) b c) (lastly (room l) c) (w .2) .1) in
+      by-own w none q k h i =
+          let d = call-leads (limitsOn g b) (fits-noted (w .1)) (room l) (fits-room (w .1)) c (append-yes (about (limitsOn g b) b c) (lastly (room l) c) q .1) in
           entered-traced (e .entries) (e .book) (d .0) k (d .1) h (w .0) i
-      go (some m) q k h i = refused-traced i
+      by-own w (some m) q k h i = refused-traced i
+
+      go : (x : ℕ) → openingWithIn asBook (asBook .number b) g (some l) b ≡ x → let r = loggedAfter asBook x (limitsOn g b) l b c in
+          Sound (r .book) → r .book .header ≡ b .header → r .log ≡ some n → Traced g (sinceLog n o) n
+      go zero q k h i = by-own (log-passed (asBook .number b) g l b q) (refusal own) refl k h i
+      go (suc m) q k h i = refused-traced i
 
   withdrawal-traced : {n : List ℕ} → Sound (actLogged g l b withdrawal .book) → actLogged g l b withdrawal .book .header ≡ b .header → actLogged g l b withdrawal .log ≡ some n → Traced g (sinceLog n o) n
-  unfolding actLogged decided refusedOn enteredOn asksThen withdrawalEntered hasEntry
-  withdrawal-traced {n} = go (refusal (asksThen g l b (hasEntry es ∷ []))) refl
+  unfolding actWith withdrawalAfter after decided refusedGiven enteredIn withdrawalEntered hasEntry
+  withdrawal-traced {n} = go (openingWithIn asBook (asBook .number b) g (some l) b) refl
     where
       es : List (List ℕ)
       es = entriesOf (bytesOf b) l
 
-      go : (x : Option ℕ) → refusal (asksThen g l b (hasEntry es ∷ [])) ≡ x → let r = decided x (refusedOn b (some l)) (enteredOn (withdrawalEntered es b)) in
+      by-entry : (storeNumber (g .store) (b .header .date) ≡ 0) × T (logFits l (bytesOf b)) → (x : Option ℕ) → refusal (hasEntry es ∷ []) ≡ x → let r = decided x (refusedGiven (some l) b) (enteredIn asBook (withdrawalEntered es b)) in
           Sound (r .book) → r .book .header ≡ b .header → r .log ≡ some n → Traced g (sinceLog n o) n
-      go none q k h i =
-          let w = then-passed g l b (hasEntry es ∷ []) q in
-          let d = withdrawal-leads es (fits-noted (w .1)) (first-yes _ _ (w .2) .0) in
+      by-entry w none q k h i =
+          let d = withdrawal-leads es (fits-noted (w .1)) (first-yes _ _ q .0) in
           entered-traced (beforeLast es) (withdrawn b (lastEntry es)) (more (d .0)) k (omega (arith, d .1, fits-room (w .1))) h (w .0) i
-      go (some m) q k h i = refused-traced i
+      by-entry w (some m) q k h i = refused-traced i
+
+      go : (x : ℕ) → openingWithIn asBook (asBook .number b) g (some l) b ≡ x → let r = withdrawalAfter asBook x l b in
+          Sound (r .book) → r .book .header ≡ b .header → r .log ≡ some n → Traced g (sinceLog n o) n
+      go zero q k h i = by-entry (log-passed (asBook .number b) g l b q) (refusal (hasEntry es ∷ [])) refl k h i
+      go (suc m) q k h i = refused-traced i
 
   list-traced : {n : List ℕ} (v : Lines) → Sound (actLogged g l b (postings v) .book) → actLogged g l b (postings v) .book .header ≡ b .header → actLogged g l b (postings v) .log ≡ some n → Traced g (sinceLog n o) n
-  unfolding actLogged decided refusedOn emptiedOn
-  list-traced {n} v = go (refusal asks) refl
+  unfolding actWith after refusedGiven emptiedIn
+  list-traced {n} v = go (openingWithIn asBook opened g (some l) b) refl
     where
-      asks : List Question
-      asks = aboutBook b ++ (aboutLines v ++ (aboutSetting g b ++ aboutLog (some l) (bytesOf b)))
+      opened : ℕ
+      opened = openingLines (asBook .number b) v
 
-      y : Event
-      y = linesGiven g b (v .ids) (v .areas) (v .amounts)
+      y : Outcome Book
+      y = linesIn asBook g b (v .ids) (v .areas) (v .amounts)
 
-      go : (x : Option ℕ) → refusal asks ≡ x → let r = decided x (refusedOn b (some l)) (emptiedOn y) in
+      go : (x : ℕ) → openingWithIn asBook opened g (some l) b ≡ x → let r = after x (refusedGiven (some l) b) (emptiedIn asBook y) in
           Sound (r .book) → r .book .header ≡ b .header → r .log ≡ some n → Traced g (sinceLog n o) n
-      go none q k h i =
-          let w = append-yes (aboutLines v) (aboutSetting g b ++ aboutLog (some l) (bytesOf b)) (append-yes (aboutBook b) (aboutLines v ++ (aboutSetting g b ++ aboutLog (some l) (bytesOf b))) q .1) .1 in
-          entered-traced [] (y .book) (emptied refl) k (omega arith) h (append-yes (aboutSetting g b) (aboutLog (some l) (bytesOf b)) w .0) i
-      go (some m) q k h i = refused-traced i
+      go zero q k h i = entered-traced [] (y .book) (emptied refl) k (omega arith) h (log-passed opened g l b q .0) i
+      go (suc m) q k h i = refused-traced i
 
   pub act-traced : {n : List ℕ} (a : Act) → Sound (actLogged g l b a .book) → actLogged g l b a .book .header ≡ b .header → actLogged g l b a .log ≡ some n → Traced g (sinceLog n o) n
   act-traced (call c) = call-traced c

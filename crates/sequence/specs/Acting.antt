@@ -26,10 +26,10 @@ pub record Deed : Type 0 where
 pub data LinkedBy (store : Option (List ℕ)) : List ℕ → List Deed → List ℕ → Type 0 where
   endedBy : {s : List ℕ} → LinkedBy store s [] s
   thenBy : {s t : List ℕ} {d : Deed} {ds : List Deed} → d .link .given ≡ s → d .link .asked .setting .store ≡ store
-      → CarriedBy (d .actor) (d .link .asked) (d .link .given) (d .link .gave .answer) (d .link .gave .bytes)
+      → CarriedBy (d .actor) (d .link .asked) (d .link .given) (d .link .gave .answer) (d .link .gave .book)
       → d .link .gave .numbers ≡ requestBy (d .actor) (d .link .asked) (d .link .given) .numbers
       → d .link .gave .log ≡ requestBy (d .actor) (d .link .asked) (d .link .given) .log
-      → LinkedBy store (d .link .gave .bytes) ds t → LinkedBy store s (d ∷ ds) t
+      → LinkedBy store (d .link .gave .book) ds t → LinkedBy store s (d ∷ ds) t
 
 -- ---- the claim
 
@@ -46,7 +46,7 @@ operatorsOf (d ∷ ds) = alsoBy (d .actor) (d .link) (operatorsOf ds)
 pub record Stopped (l : Link) : Type 0 where
   pub answer : l .gave .answer ≡ only 26
   pub numbers : l .gave .numbers ≡ []
-  pub bytes : l .gave .bytes ≡ l .given
+  pub bytes : l .gave .book ≡ l .given
   pub log : l .gave .log ≡ l .asked .log
 
 pub data EachDeed : List Deed → Type 0 where

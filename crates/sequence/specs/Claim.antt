@@ -8,7 +8,7 @@ use Rattle.laws.specs.Statements.{AllCovered}
 use Rattle.laws.specs.Trades.{Lowered, Pairwise, leftMwh, leftWorth}
 use Rattle.book_records.specs.Trade.{tradeOf}
 use Rattle.rules.specs.Book.{at, Book, bilateralForDay}
-use Rattle.requests.specs.Request.{call, withdrawal, Event, Request, requestGiven}
+use Rattle.requests.specs.Request.{call, withdrawal, Outcome, Request, requestGiven}
 use Rattle.rules.specs.Calls.{run}
 use Rattle.rules.specs.Levels.{Limits}
 use Rattle.sequence.specs.Links.{Link, isAccepted, requestsOf}
@@ -18,19 +18,19 @@ use Rattle.sequence.specs.Totals.{postedIn, reportedMwh, reportedWorth}
 -- ---- "Each answer, and the book after each call, are those that these rules give from the opening book and the arguments of the calls so far"
 
 -- what the rules give: the answers, the numbers of a list's lines, the books and the logs after a list of requests, from a book
-unfoldable pub events : Book → List Request → List Event
+unfoldable pub events : Book → List Request → List (Outcome Book)
 events b [] = []
-events b (r ∷ rs) = let gives = requestGiven (r .setting) (r .log) b (r .act) in gives ∷ events (gives .book) rs
+events b (r ∷ rs) = let gives = requestGiven r b in gives ∷ events (gives .book) rs
 
 -- the book at the end
 unfoldable pub final : Book → List Request → Book
 final b [] = b
-final b (r ∷ rs) = final (requestGiven (r .setting) (r .log) b (r .act) .book) rs
+final b (r ∷ rs) = final (requestGiven r b .book) rs
 
 -- request by request: the answer that was given, the numbers of the lines, the bytes of the book, and the log
-pub data AsDefined : List Link → List Event → Type 0 where
+pub data AsDefined : List Link → List (Outcome Book) → Type 0 where
   asNone : AsDefined [] []
-  asAlso : {l : Link} {e : Event} {ls : List Link} {es : List Event} → l .gave .answer ≡ e .answer → l .gave .numbers ≡ e .numbers → l .gave .bytes ≡ bytesOf (e .book) → l .gave .log ≡ e .log → AsDefined ls es → AsDefined (l ∷ ls) (e ∷ es)
+  asAlso : {l : Link} {e : Outcome Book} {ls : List Link} {es : List (Outcome Book)} → l .gave .answer ≡ e .answer → l .gave .numbers ≡ e .numbers → l .gave .book ≡ bytesOf (e .book) → l .gave .log ≡ e .log → AsDefined ls es → AsDefined (l ∷ ls) (e ∷ es)
 
 -- ---- "Every trade byte is as in the opening book, except standing where kind and day are 0."
 
@@ -49,13 +49,13 @@ pub record TradeBytes (s t : List ℕ) : Type 0 where
 
 pub record Kept (limits : Limits) (l : Link) : Type 0 where
   -- the book stays accepted
-  pub accepted : bookNumber (l .gave .bytes) ≡ 0
+  pub accepted : bookNumber (l .gave .book) ≡ 0
   -- "no trade raised or below zero"; "a trade may rise only by a withdrawal"
-  pub lowered : (l .asked .act ≡ withdrawal → ⊥) → Pairwise Lowered (tradesOf (l .given)) (tradesOf (l .gave .bytes))
+  pub lowered : (l .asked .act ≡ withdrawal → ⊥) → Pairwise Lowered (tradesOf (l .given)) (tradesOf (l .gave .book))
   -- a refused request leaves the bytes and the log
-  pub refused : T (not (isAccepted l)) → (l .gave .bytes ≡ l .given) × (l .gave .log ≡ l .asked .log)
+  pub refused : T (not (isAccepted l)) → (l .gave .book ≡ l .given) × (l .gave .log ≡ l .asked .log)
   -- "no accepted run ends while a short user has a sale to cut", judged on the book that it leaves; "demand 3's last sentence is then of the runs that return 0"
-  pub covered : l .asked .act ≡ call run → l .gave .answer .number ≡ 0 → AllCovered limits (bookOf (l .gave .bytes))
+  pub covered : l .asked .act ≡ call run → l .gave .answer .number ≡ 0 → AllCovered limits (bookOf (l .gave .book))
 
 pub data Each (limits : Limits) : List Link → Type 0 where
   eachNone : Each limits []

@@ -11,12 +11,12 @@ use Rattle.sequence.specs.Links.{Link, Linked}
 -- a call as it happened: given the bytes s and, where one is lent and given, the log l, it answered a and left the bytes t and the log m; it has no lines
 unfoldable pub callLink : Option (List ℕ) → Bool → Call → List ℕ → Answer → List ℕ → List ℕ → List ℕ → Link
 callLink store lent c s a t l m =
-    record { asked = actOf store (given lent l) (call c); given = s; gave = record { answer = a; numbers = []; bytes = t; log = given lent m } }
+    record { asked = actOf store (given lent l) (call c); given = s; gave = record { answer = a; numbers = []; book = t; log = given lent m } }
 
 -- a withdrawal as it happened, which always has a log
 unfoldable pub withdrawalLink : Option (List ℕ) → List ℕ → Answer → List ℕ → List ℕ → List ℕ → Link
 withdrawalLink store s a t l m =
-    record { asked = actOf store (some l) withdrawal; given = s; gave = record { answer = a; numbers = []; bytes = t; log = some m } }
+    record { asked = actOf store (some l) withdrawal; given = s; gave = record { answer = a; numbers = []; book = t; log = some m } }
 
 -- a list as it happened: it returned a number and left the bytes t and, in its places, what they hold afterwards. Those are its lines' numbers; "a refused call leaves those
 -- places unchanged", so what they then hold is no line's number
@@ -25,7 +25,7 @@ listLink store lent ids areas amounts places s number t left l m =
     record {
       asked = listWith store (given lent l) ids areas amounts (length places);
       given = s;
-      gave = record { answer = only number; numbers = after number (λ n. []) left; bytes = t; log = given lent m };
+      gave = record { answer = only number; numbers = after number (λ n. []) left; book = t; log = given lent m };
     }
 
 -- by the contract of a public function, before any sequence from the bytes that it left

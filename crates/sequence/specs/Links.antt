@@ -8,7 +8,7 @@ use Rattle.rules.specs.Calls.{posting, morningCall, afternoonCall, reduction, r
 pub record Link : Type 0 where
   pub asked : Request
   pub given : List ℕ
-  pub gave : Outcome
+  pub gave : Outcome (List ℕ)
 
 -- "Accepted means that the number returned is 0." A run that meets a full log "stops with 20 and its totals, keeps its cuts and counts as accepted".
 unfoldable pub acceptedNumber : Act → ℕ → Bool
@@ -32,5 +32,5 @@ requestsOf ls = map (λ l. l .asked) ls
 pub data Linked (store : Option (List ℕ)) : List ℕ → List Link → List ℕ → Type 0 where
   ended : {s : List ℕ} → Linked store s [] s
   then : {s t : List ℕ} {l : Link} {ls : List Link} → l .given ≡ s → l .asked .setting .store ≡ store
-      → Carried (l .asked) (l .given) (l .gave .answer) (l .gave .bytes) → l .gave .numbers ≡ request (l .asked) (l .given) .numbers
-      → l .gave .log ≡ request (l .asked) (l .given) .log → Linked store (l .gave .bytes) ls t → Linked store s (l ∷ ls) t
+      → Carried (l .asked) (l .given) (l .gave .answer) (l .gave .book) → l .gave .numbers ≡ request (l .asked) (l .given) .numbers
+      → l .gave .log ≡ request (l .asked) (l .given) .log → Linked store (l .gave .book) ls t → Linked store s (l ∷ ls) t

@@ -6,7 +6,7 @@ use Rattle.book_format.specs.Book.{bookOf}
 use Rattle.book_format.specs.Questions.{bookNumber}
 use Rattle.requests.proofs.Opened.{after-refused}
 use Rattle.requests.specs.Carried.{Admitted}
-use Rattle.requests.specs.Request.{Setting, limitsOn, opening}
+use Rattle.requests.specs.Request.{Setting, limitsOn, openingIn}
 use Rattle.rights.proofs.Operator.{operator-asked, shipper-number, shipper-stopped}
 use Rattle.rights.specs.Acting.{enteringNumber}
 use Rattle.rights.specs.Party.{Party, operator, operators, rightNumber, shipperOf}
@@ -31,7 +31,7 @@ levels-told actor g s {number} d = levels-same number s (d .taken) ∙ ap (λ (n
 
 -- a refusal by the questions up to 26
 levels-stopped : (g : Setting) (s : List ℕ) (n : ℕ) → allLevelsAfter (suc n) g s ≡ noLevels (suc n)
-unfolding allLevelsAfter levelsAfter opening after
+unfolding allLevelsAfter levelsAfter openingIn after
 levels-stopped g s n = refl
 
 operators-levels : (g : Setting) (s : List ℕ) → allLevelsBy operator g s ≡ allLevels g s

@@ -1,13 +1,13 @@
 -- `day_print::run` runs after the questions of the book, with today's figures. Assumes nothing.
+use Prim.Native.Nat.{ℕ}
 use mathlib.Core.Path.{_∙_, subst, sym}
 use borrow.Author.Needs.{needs}
 use denote.Ref.{now}
 use Rattle.call_answers.specs.Run.{answerOf}
 use Rattle.call_run.specs.Call.{runCall}
-use Rattle.book_format.proofs.After.{opened}
 use Rattle.book_format.specs.After.{CalledAfter}
 use Rattle.book_questions.proofs.Asked.{parties-found}
-use Rattle.rules.specs.Levels.{Limits}
+use Rattle.rules.specs.Levels.{Limits, today}
 use Rattle.day_print.proofs.run.Statement.{statement}
 use Rattle.day_print.proofs.run.Tie as tie
 
@@ -24,7 +24,7 @@ returns c =
     let t = k .before .before .before .before in
     let o = t .before .before .before .before in
     let s = now (o .before .before .before .before .before .before .args .book) in
-    opened (o .ask .ensures .0 .number)
+    subst (λ (n : ℕ). CalledAfter n today s runCall (answerOf (k .run .result)) (k .run .last .0)) (o .ask .ensures .0 .number)
     (subst (λ (limits : Limits). CalledAfter (o .ask .result .number) limits s runCall (answerOf (k .run .result)) (k .run .last .0)) (t .today .ensures .0) (k .run .ensures))
 
 pub run-spec : {M : Type 1} → statement M
