@@ -41,7 +41,7 @@ const BITS: u32 = 12;
 /// many are tried.
 const FIRST_FACTOR: u32 = 0x9e37_79b9;
 const NEXT_FACTOR: u32 = 0x2c1b_3c6d;
-const FACTORS: usize = 8;
+const FACTORS: usize = 6;
 
 /// The place that id 0 leads to. No user stands there: a book has at most 64.
 const NOBODY: u8 = 255;
