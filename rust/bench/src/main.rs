@@ -10,6 +10,7 @@ mod conversions;
 mod forms;
 mod groups;
 mod hard;
+mod limit;
 mod logs;
 mod measure;
 mod options;
@@ -36,6 +37,7 @@ fn main() -> ExitCode {
     print_machine("before");
     for subject in subjects::usual_books(&options) {
         calls::print_table(&subject, &options);
+        limit::print_table(&subject, &options);
         logs::print_table(&subject, &options);
         forms::print_table(&subject, &options);
         conversions::print_table(&subject, &options);
@@ -47,6 +49,7 @@ fn main() -> ExitCode {
     for subject in subjects::books_for_groups(&options) {
         groups::print_table(&subject, &options);
         let third = groups::in_groups(&subject);
+        limit::print_table(&third, &options);
         forms::print_table(&third, &options);
         conversions::print_table(&third, &options);
         parties::print_table(&third, &options);

@@ -11,17 +11,20 @@ use crate::measure::{sample_time, Time};
 use crate::options::Options;
 use crate::subjects::Subject;
 
-/// A query on a book by a party for a user, with an ordinal; that of all users is the
-/// operator's, and asked by the operator in either line.
+/// A query on a book by a party for a user, with an ordinal.
 type Query = fn(&[u8], u64, u32, u32) -> u32;
+
+/// That of all users is the operator's: a shipper is refused by 26.
+const ALL_USERS: &str = "levels of all users";
+const FORBIDDEN: u32 = 26;
 
 /// The queries of the table, the level first.
 const QUERIES: [(&str, Query); 6] = [
     ("afternoon level", |book, party, id, _| {
         archive::afternoon_level(book, party, None, id, &mut [0])
     }),
-    ("levels of all users", |book, _, _, _| {
-        archive::levels(book, OPERATOR, None, &mut [0; 4 * MOST_USERS])
+    (ALL_USERS, |book, party, _, _| {
+        archive::levels(book, party, None, &mut [0; 4 * MOST_USERS])
     }),
     ("flag", |book, party, id, _| {
         archive::flag(book, party, None, id, &mut [0])
@@ -67,32 +70,41 @@ pub fn print_table(subject: &Subject, options: &Options) {
     for sample in 0..options.samples {
         for turn in 0..lines.len() {
             let place = (sample + turn) % lines.len();
-            let (_, query, party) = lines[place];
+            let (name, query, party) = lines[place];
+            let number = number_of(name, party);
             let mut asked = |book: &mut [u8]| {
-                expect(query(black_box(book), black_box(party), id, last));
+                assert_eq!(query(black_box(book), black_box(party), id, last), number);
             };
             samples[place].push(sample_time(&subject.book, &mut copies, &mut asked));
         }
     }
     println!(
-        "{:<31}{:>11}{:>11}  times the operator's level (median, least)",
+        "{:<37}{:>11}{:>11}  times the operator's level (median, least)",
         "query", "median", "least"
     );
     let times: Vec<Time> = samples.into_iter().map(Time::new).collect();
     for ((name, _, party), time) in lines.iter().zip(&times) {
-        let by = if *party == OPERATOR {
-            "operator"
-        } else {
-            "shipper"
+        let by = match number_of(name, *party) {
+            0 if *party == OPERATOR => "by the operator",
+            0 => "by the shipper",
+            _ => "refused",
         };
         let multiple = *time / times[0];
         println!(
-            "{:<31}{:>11.3}{:>11.3}  {:.2}, {:.2}",
-            format!("{name}, by the {by}"),
+            "{:<37}{:>11.3}{:>11.3}  {:.2}, {:.2}",
+            format!("{name}, {by}"),
             time.median,
             time.least,
             multiple.median,
             multiple.least
         );
+    }
+}
+
+/// The number of a query by a party.
+fn number_of(name: &str, party: u64) -> u32 {
+    match name == ALL_USERS && party != OPERATOR {
+        true => FORBIDDEN,
+        false => 0,
     }
 }

@@ -7,8 +7,13 @@ const START: usize = 31;
 
 /// The head of a table, with these words before the times.
 pub fn print_head(start: &str) {
+    print_head_of("tuned", start);
+}
+
+/// The head of a table of the engine beside this yardstick.
+pub fn print_head_of(yardstick: &str, start: &str) {
     println!("{:<START$}{:^30}{:^30}", "", "median", "least");
-    let columns = format!("{:>11}{:>11}{:>8}", "engine", "tuned", "ratio");
+    let columns = format!("{:>11}{yardstick:>11}{:>8}", "engine", "ratio");
     println!("{start:<START$}{columns}{columns}");
 }
 

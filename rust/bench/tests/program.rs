@@ -52,6 +52,9 @@ fn every_book_is_measured() {
         "largest book, version 1: queries of a shipper",
         "largest book, version 3: queries of a shipper",
         "last trade, by the shipper",
+        "levels of all users, refused",
+        "largest book, version 1: questions 1 to 7 beside the limit",
+        "largest book, version 3: questions 1 to 7 beside the limit",
     ] {
         assert!(text.contains(word), "{word} in\n{text}");
     }

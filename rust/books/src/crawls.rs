@@ -10,18 +10,30 @@ use crate::Random;
 /// The least level of a shipper, in cents.
 const LEAST: i128 = 10_000_000;
 
-/// The position, in MWh, at which a seller's level is its assigned guarantee.
-const EDGE: i128 = 100_000;
+/// The MWh that a seller is short by where its level is its assigned guarantee: so many
+/// that the level is above the least at prices from 12 on.
+const EDGE: i128 = 900_000;
 
 /// A book of one to four sellers, their sales in drawn areas and of drawn MWh,
 /// at drawn prices: some stay short of cover whatever is cut, others are short
 /// of it only while a purchase of theirs has been cut by more than their sales.
+/// Where the last seller alone stays short, the others come before it whenever a
+/// purchase of theirs is cut, so that they take turns.
 pub fn crawl(random: &mut Random) -> Book {
     let prices = prices(random);
     let sellers = 1 + u32::try_from(random.below(4)).unwrap_or(0);
-    let buyers = sellers + 3;
+    let by_turns = random.one_in(2);
+    let buyers = sellers + if by_turns { 1 } else { 3 };
     let most = 256 / sellers as usize;
-    let mut users: Vec<User> = (1..=sellers).map(|id| seller(random, id, prices)).collect();
+    let mut users: Vec<User> = (1..=sellers)
+        .map(|id| {
+            let at_edge = match by_turns {
+                true => id < sellers,
+                false => id > 1 && random.one_in(2),
+            };
+            seller(random, id, at_edge, prices)
+        })
+        .collect();
     users.extend((sellers + 1..=buyers).map(covered));
     let mut trades = Vec::new();
     for id in 1..=sellers {
@@ -59,13 +71,14 @@ fn prices(random: &mut Random) -> [i128; 5] {
     [0; 5].map(|_: i128| random.between(1, most))
 }
 
-/// A seller one to some MWh's worth short of cover, or at the edge of it.
-fn seller(random: &mut Random, id: u32, prices: [i128; 5]) -> User {
+/// A seller one to some MWh's worth short of cover, or at the edge of it where prices
+/// have one.
+fn seller(random: &mut Random, id: u32, at_edge: bool, prices: [i128; 5]) -> User {
     let tariff = prices[random.below(2)];
     let most = random.pick(&[1, tariff, 3 * tariff, 40 * tariff]);
     let target = random.between(1, most);
     let level = EDGE * prices[0];
-    if id > 1 && level > LEAST && random.one_in(2) {
+    if at_edge && level > LEAST {
         return shipper(id, [0; 3], 0, level - target + 1, 0);
     }
     shipper(id, [0; 3], -MOST_CENTS, LEAST - target, 0)

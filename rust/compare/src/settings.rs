@@ -14,6 +14,14 @@ const PAIRS: u64 = 10_000;
 /// The least number of crawling books that the tests compare.
 const CRAWLS: u64 = 400;
 
+/// The least number of books whose questions the tests compare with `limit`.
+const BOOKS: u64 = 100_000;
+
+/// DAYBOOK_BOOKS where that is more than 100,000, else 100,000.
+pub fn books() -> u64 {
+    number("DAYBOOK_BOOKS", BOOKS).max(BOOKS)
+}
+
 /// DAYBOOK_CRAWLS where that is more than 400, else 400.
 pub fn crawls() -> u64 {
     number("DAYBOOK_CRAWLS", CRAWLS).max(CRAWLS)
