@@ -19,9 +19,6 @@ user s = getD (usersOf (now (s .args .book))) (s .args .place) nobody
 few : (s : tie.Start) → s .args .place < 64
 few s = omega (arith, s .pre .2, s .pre .0 .held .form .users)
 
-user-at-requires : tie.Need-user-at-requires
-user-at-requires c κs = let s = c .before in record { form = s .pre .0 .held .form; inside = s .pre .2 }
-
 -- its amounts, and how large they are
 entry : (c : tie.After-user-at) → net (getD (c .user-at .result .physical) (start c .args .area) (record { 0 = 0 })) ≡ at (user (start c) .physical) (start c .args .area)
 entry c = amount-at (c .user-at .result .physical) (read-physical (c .user-at .result) (user (start c)) (c .user-at .ensures)) (start c .args .area) (start c .pre .3)
@@ -118,5 +115,6 @@ with-sum-requires-4 c κs =
 pub with-member-spec : {M : Type 1} → statement M
 with-member-spec =
     tie.close
-    (tie.spec user-at-requires (λ c. search needs) (λ c. search needs) with-amount-requires (λ c. search needs) (λ c. search needs) with-amount-requires-2 (λ c. search needs) (λ c. search needs)
-    with-sum-requires (λ c. search needs) with-sum-requires-2 (λ c. search needs) with-sum-requires-3 add-with-sum-3 with-sum-requires-4 returns)
+    (tie.spec (λ c κs. record { form = c .before .pre .0 .held .form; inside = c .before .pre .2 }) (λ c. search needs) (λ c. search needs)
+    with-amount-requires (λ c. search needs) (λ c. search needs) with-amount-requires-2 (λ c. search needs) (λ c. search needs) with-sum-requires
+    (λ c. search needs) with-sum-requires-2 (λ c. search needs) with-sum-requires-3 add-with-sum-3 with-sum-requires-4 returns)

@@ -12,9 +12,6 @@ use Rattle.risk_members.proofs.with_position.Tie as tie
 abbrev start : tie.After-user-at → tie.Start
 start c = c .before .before
 
-user-at-requires : tie.Need-user-at-requires
-user-at-requires c κs = let s = c .before in record { form = s .pre .0 .held .form; inside = s .pre .1 }
-
 -- its position, and how large it is
 position : (c : tie.After-user-at) → net (getD (c .user-at .result .position) (start c .args .area) (record { 0 = 0 })) ≡ at (getD (usersOf (now (start c .args .book))) (start c .args .place) nobody .position) (start c .args .area)
 position c =
@@ -26,11 +23,6 @@ near c =
     let s = start c in
     near-position (now (s .args .book)) (s .pre .0) (s .pre .1) (s .pre .2) (getD (c .user-at .result .position) (s .args .area) (record { 0 = 0 })) (position c)
 
-with-amount-requires : tie.Need-with-amount-requires
-with-amount-requires c κs =
-    let u = c .before .before in
-    sum-fits (start u .pre .3) (near u)
-
 returns : tie.Need-returns
 returns c id counts t =
     let u = c .before .before .before in
@@ -39,4 +31,7 @@ returns c id counts t =
     sum-with (usersOf (now (a .book))) id (a .area) (λ v. v .position) t (near u) (omega (arith, s .pre .1, length-usersOf (now (a .book)))) (omega (arith, s .pre .1, s .pre .0 .held .form .users)) (position u) counts (c .with-amount .ensures)
 
 pub with-position-spec : {M : Type 1} → statement M
-with-position-spec = tie.close (tie.spec user-at-requires (λ c. search needs) (λ c. search needs) with-amount-requires returns)
+with-position-spec =
+    tie.close
+    (tie.spec (λ c κs. record { form = c .before .pre .0 .held .form; inside = c .before .pre .1 }) (λ c. search needs) (λ c. search needs)
+    (λ c κs. sum-fits (start (c .before .before) .pre .3) (near (c .before .before))) returns)
