@@ -11,11 +11,6 @@ Inv-loop worths n step count table₀ j₀ table j = Filling (worthOf (take n wo
 abbrev μ-loop : tie.MeasureT-loop
 μ-loop worths n step count table₀ j₀ table j = count - j
 
-loop-holds : tie.Need-loop-holds Inv-loop μ-loop
-loop-holds c =
-    let a = c .args in
-    filling-first (worthOf (take (a .n) (a .worths .now))) (a .step) (a .count)
-
 mul-worth-of : tie.Need-mul-worth-of Inv-loop μ-loop
 mul-worth-of c =
     let l = c .before in
@@ -46,7 +41,7 @@ table-spec =
     (tie.spec
     Inv-loop
     μ-loop
-    loop-holds
+    (λ c. filling-first (worthOf (take (c .args .n) (c .args .worths .now))) (c .args .step) (c .args .count))
     mul-worth-of
     worth-of-requires
     (λ c. omega (arith, c .before .before .before .pre .room))
