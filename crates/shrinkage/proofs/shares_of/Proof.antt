@@ -19,18 +19,6 @@ product-requires c κs =
     let e = kept-parts z (record { sfits = c .before .before .balance .given }) (c .before .of .ensures .0) in
     (q .half-most, own-most q (l .loop .i) (pos 0) (c .before .before .before .loop-test .taken) (e .1))
 
-mul-shares : tie.Need-mul-shares Inv-loop μ-loop
-mul-shares c = omega (arith, c .before .before .before .before .before .before .before .pre .few)
-
-array-set-from-shares : tie.Need-array-set-from-shares Inv-loop μ-loop
-array-set-from-shares c = omega (arith, c .before .before .before .before .before .before .before .pre .few)
-
-mul-remainders : tie.Need-mul-remainders Inv-loop μ-loop
-mul-remainders c = omega (arith, c .before .before .before .before .before .before .before .before .pre .few)
-
-array-write-remainders : tie.Need-array-write-remainders Inv-loop μ-loop
-array-write-remainders c = omega (arith, c .before .before .before .before .before .before .before .before .pre .few)
-
 add-given : tie.Need-add-given Inv-loop μ-loop
 add-given c =
     let l = c .before .before .before .before .before .before .before in
@@ -59,11 +47,11 @@ shares-of-spec =
     (λ c κs. search needs)
     product-requires
     (λ c. c .before .before .before .before .before .before .before .pre .some)
-    mul-shares
-    array-set-from-shares
+    (λ c. omega (arith, c .before .before .before .before .before .before .before .pre .few))
+    (λ c. omega (arith, c .before .before .before .before .before .before .before .pre .few))
     (λ c. c .before .before .before .before .before .before .before .before .pre .some)
-    mul-remainders
-    array-write-remainders
+    (λ c. omega (arith, c .before .before .before .before .before .before .before .before .pre .few))
+    (λ c. omega (arith, c .before .before .before .before .before .before .before .before .pre .few))
     add-given
     (λ c. search needs)
     (λ c. search needs)
