@@ -42,11 +42,14 @@ listed whole left day h = sym (List·getD-map (onDay whole left) (daysTo 30) day
 
 module _ {whole left : ℕ} {days : List Kwh} {day : ℕ} (p : Filling whole left days day) where
   pub filling-more : {k : Kwh} → day < 30 → k .0 ≡ onDay whole left day → Filling whole left (set days day k) (day + 1)
-  filling-more {k} h e = record { filled = rewritten-more (onDay whole left 0) k h (omega (arith, days-long whole left)) (e ∙ listed whole left day h) (p .filled) }
+  filling-more {k} h e =
+      record { filled = rewritten-more (onDay whole left 0) k h (omega (arith, days-long whole left)) (e ∙ listed whole left day h) (p .filled) }
 
   pub filling-end : 30 ≤ day → kwhOf days ≡ map (onDay whole left) (daysTo 30)
   unfolding kwhOf
-  filling-end h = ap (map (λ (k : Kwh). k .0)) (sym (take-all day days (omega (arith, p .filled .long)))) ∙ rewritten-end (omega (arith, days-long whole left)) (p .filled) .1
+  filling-end h =
+      ap (map (λ (k : Kwh). k .0)) (sym (take-all day days (omega (arith, p .filled .long))))
+      ∙ rewritten-end (omega (arith, days-long whole left)) (p .filled) .1
 
 -- ---- the sum of the first n days
 

@@ -16,11 +16,6 @@ add-is-better c =
     let l = t .before in
     record { fits = omega (arith, l .before .pre .most (l .loop .k) (l .loop .inv .on) (t .loop-test .taken)) }
 
-returns : tie.Need-returns Inv-loop μ-loop
-returns c =
-    let b = c .before in
-    first-found (b .before .before .before .loop .inv) (b .is-better .ensures) (c .if1 .taken)
-
 add-k : tie.Need-add-k Inv-loop μ-loop
 add-k c =
     let t = c .before .before .before in
@@ -35,5 +30,6 @@ loop-again c =
 pub first-better-spec : {M : Type 1} → statement M
 first-better-spec =
     tie.close
-    (tie.spec Inv-loop μ-loop (λ c. none-first (c .pre .inside)) (λ c. search needs) (λ c. search needs) add-is-better (λ c κs. search needs) returns add-k
+    (tie.spec Inv-loop μ-loop (λ c. none-first (c .pre .inside)) (λ c. search needs) (λ c. search needs) add-is-better (λ c κs. search needs)
+    (λ c. first-found (c .before .before .before .before .loop .inv) (c .before .is-better .ensures) (c .if1 .taken)) add-k
     (λ c. omega (arith, c .before .before .before .loop-test .taken)) loop-again (λ c. first-none (c .before .loop .inv) (c .loop-test .left)))

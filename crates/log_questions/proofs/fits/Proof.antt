@@ -19,9 +19,6 @@ returns-2 c =
     let asked = c .before .before in
     rw (sym (sym (not-false _ (asked .if1 .left)) ∙ asked .before .is-formed .ensures), sym (sym (not-true _ (c .if2 .taken)) ∙ c .before .holds-book .ensures))
 
-is-used-as-told-requires : tie.Need-is-used-as-told-requires
-is-used-as-told-requires c κs = ((formed (c .before .before .before), c .before .before .before .before .before .before .before .pre), refl)
-
 returns-3 : tie.Need-returns-3
 unfolding logFits
 returns-3 c =
@@ -33,4 +30,5 @@ returns-3 c =
 pub fits-spec : {M : Type 1} → statement M
 fits-spec =
     tie.close
-    (tie.spec (λ c κs. search needs) returns (λ c κs. formed c) returns-2 is-used-as-told-requires returns-3)
+    (tie.spec (λ c κs. search needs) returns (λ c κs. formed c) returns-2
+    (λ c κs. ((formed (c .before .before .before), c .before .before .before .before .before .before .before .pre), refl)) returns-3)

@@ -13,13 +13,10 @@ Inv-loop log count m sums₀ so-far₀ place₀ sums so-far place = SummedTo m l
 abbrev μ-loop : tie.MeasureT-loop
 μ-loop log count m sums₀ so-far₀ place₀ sums so-far place = count - place
 
-loop-holds : tie.Need-loop-holds Inv-loop μ-loop
-loop-holds c =
-    let s = c .before in
-    (summed-start (s .args .m) (s .args .log .now) (s .pre .0 .2) (s .pre .1), omega arith)
-
 -- the entry at hand lies in the log, and the cuts of the m trades in it
-lies : (c : tie.After-entry-offset Inv-loop μ-loop) → let s = c .before .before .before .before in (c .entry-offset .result + 1024 ≤ length (now (s .args .log))) × (length (now (s .args .log)) ≡ logSize) × (s .args .m ≤ 256)
+lies : (c : tie.After-entry-offset Inv-loop μ-loop)
+    → let s = c .before .before .before .before in
+    (c .entry-offset .result + 1024 ≤ length (now (s .args .log))) × (length (now (s .args .log)) ≡ logSize) × (s .args .m ≤ 256)
 lies c =
     let s = c .before .before .before .before in
     (omega (arith, s .pre .0 .0 .size, c .entry-offset .ensures .1, c .before .loop-test .taken, s .pre .0 .1), s .pre .0 .0 .size, s .pre .0 .2)
@@ -55,7 +52,7 @@ returns c =
 pub sum-entries-spec : {M : Type 1} → statement M
 sum-entries-spec =
     tie.close
-    (tie.spec Inv-loop μ-loop loop-holds (λ c κs. search needs) add-cuts-requires
+    (tie.spec Inv-loop μ-loop (λ c. let s = c .before in (summed-start (s .args .m) (s .args .log .now) (s .pre .0 .2) (s .pre .1), omega arith))
+    (λ c κs. search needs) add-cuts-requires (λ c. omega (arith, lies (c .before .before))) (λ c. omega (arith, lies (c .before .before)))
     (λ c. omega (arith, lies (c .before .before))) (λ c. omega (arith, lies (c .before .before))) (λ c. omega (arith, lies (c .before .before)))
-    (λ c. omega (arith, lies (c .before .before))) (λ c. omega (arith, lies (c .before .before))) (λ c. omega (arith, lies (c .before .before)))
-    (λ c κs. search needs) (λ c. search needs) (λ c. search needs) loop-again returns)
+    (λ c. omega (arith, lies (c .before .before))) (λ c κs. search needs) (λ c. search needs) (λ c. search needs) loop-again returns)
