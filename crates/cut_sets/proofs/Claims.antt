@@ -1,13 +1,14 @@
 -- The search: what it gives is the first of the tried sets with the smallest excess; where it is complete, no other set has a smaller one; and more tries never give a larger one. Assumes nothing.
 use Rattle.base.specs.Basics.{_≡_, refl, ap, sym, _∙_, _⊎_, inl, inr, Bool, true, false, not, cond, _&&_, _||_, ℕ, zero, suc, _+_, _-_, _^_, _≤_, _<_}
 use Rattle.base.specs.Basics.{le-refl, arith, T, eqb, eqb→eq, leb, ltb, leb→le, ltb→lt, length, eq-eqb, ne-eqb, eqb-true}
+use mathlib.Core.Bool.{or-true, or-false}
 use Rattle.base.proofs.Linear.{by-order}
 use Rattle.base.proofs.Tests.{and-l, and-r, by-test}
 use Rattle.cut_sets.specs.Sets.{worthOf}
 use Rattle.cut_sets.specs.Search.{Choice, Search, better, searched, wholeSearch}
 use Rattle.cut_sets.specs.Claims.{Claim, SearchClaim, MoreTriesClaim}
 use Rattle.cut_sets.proofs.Sets.{pow-one, worth-all}
-use Rattle.cut_sets.proofs.Tests.{not-zero, not-below, or-true, or-false, or-either}
+use Rattle.cut_sets.proofs.Tests.{not-zero, not-below, or-either}
 
 module _ (worth : ℕ → ℕ) (asked all : ℕ) where
   -- the sets from m on were tried, and this is the first of them with the smallest excess

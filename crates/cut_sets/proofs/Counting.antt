@@ -2,6 +2,7 @@
 use Rattle.base.specs.Basics.{_≡_, refl, ap, sym, subst, _∙_, _⊎_, inl, inr, Bool, true, false, cond, _||_, List, ℕ, zero, suc, _+_, _*_, _-_, _^_}
 use Rattle.base.specs.Basics.{_/_, _%_, _≤_, _<_, min, arith, eqb, length, getD, le-leb, lt-leb, le-ltb, lt-ltb, eq-eqb, ne-eqb}
 use Rattle.base.specs.Sums.{sum}
+use mathlib.Core.Bool.{or-true, or-false}
 use Rattle.base.proofs.Linear.{by-order}
 use Rattle.cut_sets.specs.declared.Best.{Best}
 use Rattle.cut_sets.specs.declared.Found.{Found}
@@ -10,7 +11,7 @@ use Rattle.cut_sets.specs.Search.{Choice, better, searched, wholeSearch}
 use Rattle.cut_sets.specs.Found.{Table, Told, Answered, smaller, searchOf}
 use Rattle.cut_sets.specs.Counting.{Block, Counting, FirstBetter, Passed, choiceOf}
 use Rattle.cut_sets.proofs.Sets.{pow-one, worth-all, worth-rest, worth-split}
-use Rattle.cut_sets.proofs.Tests.{cond-below, met-same, or-false, or-true, taken-low}
+use Rattle.cut_sets.proofs.Tests.{cond-below, met-same, taken-low}
 
 -- ---- one turn and the ends of the search
 

@@ -15,14 +15,6 @@ not-below a b x y h k = by-order x y (λ l. absurd (failed l)) (λ l. l)
     failed : x < y → ⊥
     failed l = rw (le-leb a b k, lt-ltb x y l) at h
 
-pub or-true : (b : Bool) → (b || true) ≡ true
-or-true true = refl
-or-true false = refl
-
-pub or-false : (b : Bool) → (b || false) ≡ b
-or-false true = refl
-or-false false = refl
-
 pub or-either : (a b : Bool) → (a || b) ≡ true → (a ≡ true) ⊎ (b ≡ true)
 or-either true b e = inl refl
 or-either false b e = inr e

@@ -1,5 +1,5 @@
 -- The cuts of all entries together, and each trade with what is cut of it. Assumes nothing.
-use Rattle.base.specs.Basics.{_≡_, refl, sym, ap, ap₂, subst, _∙_, Bool, true, _&&_, List, _∷_, ℕ, zero, suc, _+_, _-_, _*_, _≤_, _<_, add-one, arith}
+use Rattle.base.specs.Basics.{_≡_, refl, sym, ap, ap₂, subst, _∙_, Bool, true, _&&_, List, ℕ, _+_, _-_, _*_, _≤_, _<_, add-one, arith}
 use Rattle.base.specs.Basics.{length, take, drop, getD, replicate, length-replicate, getD-replicate, drop-of-length-le, List·getD-eq-default}
 use Rattle.base.specs.Basics.{drop-cons, sets}
 use Rattle.base.proofs.Linear.{by-order}
@@ -7,6 +7,7 @@ use Rattle.fields.proofs.Sets.{part-of-sets}
 use Rattle.rules.specs.Book.{Trade, noTrade}
 use Rattle.rules.specs.Reduction.{together}
 use Rattle.book_format.specs.Book.{tradeCount, tradesOf}
+use Rattle.log_format.proofs.Padded.{take-replicate}
 use Rattle.log_format.specs.Log.{cutsAt, entriesIn, entriesOf, entryAt, entryCount}
 use Rattle.log_format.specs.Fits.{allCuts, cutsRest, entriesRest, heldRest, raiseWithin, raisesWithin, restsZero, unusedZero, zeros}
 use Rattle.log_questions.proofs.Cuts.{added, length-added}
@@ -19,11 +20,6 @@ pub record SummedTo (m : ℕ) (l : List ℕ) (so-far : Bool) (xs : List ℕ) (pl
   pub rests : so-far ≡ restsZero m place l
   pub sums : take m xs ≡ allCuts m (entriesIn m place l)
   pub within : Sums xs (4294967296 * place)
-
-take-replicate : (m n : ℕ) → m ≤ n → take {A = ℕ} m (replicate n 0) ≡ replicate m 0
-take-replicate zero n h = refl
-take-replicate (suc m) zero h = absurd (omega arith)
-take-replicate (suc m) (suc n) h = ap (λ (xs : List ℕ). 0 ∷ xs) (take-replicate m n (omega arith))
 
 module _ (m : ℕ) (l : List ℕ) (few : m ≤ 256) where
   pub summed-start : {xs : List ℕ} → xs ≡ replicate 256 0 → SummedTo m l true xs 0

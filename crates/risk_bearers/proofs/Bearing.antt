@@ -32,7 +32,7 @@ known-of (u ∷ us) zero h = or-l (eqb (u .party .id) (u .party .id)) (any (λ v
 known-of (u ∷ us) (suc i) h = or-r (eqb (u .party .id) (idAt us i)) (known us (idAt us i)) (known-of us i (le-of-suc-le-suc h))
 
 -- a sum over one user more
-sum-more : (f : User → ℤ) (us : List User) (k : ℕ) → k < length us → sumℤ f (take (suc k) us) ≡ sumℤ f (take k us) +ℤ f (getD us k nobody)
+pub sum-more : (f : User → ℤ) (us : List User) (k : ℕ) → k < length us → sumℤ f (take (suc k) us) ≡ sumℤ f (take k us) +ℤ f (getD us k nobody)
 unfolding sumℤ
 sum-more f [] k h = absurd (not-suc-le-zero h)
 sum-more f (u ∷ us) zero h = +ℤ-idr (f u) ∙ sym (+ℤ-idl (f u))

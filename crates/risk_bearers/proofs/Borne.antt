@@ -1,6 +1,7 @@
 -- The book that bytes hold, as its risk is borne: as many users and trades as the bytes have, and what is read of a trade in the bytes. Assumes nothing.
 use Rattle.base.specs.Basics.{_≡_, refl, sym, ap, _∙_, Bool, true, false, not, cond, _&&_, List, map, map-map, ℕ, _<_, arith, T, eqb, length, getD}
 use Rattle.base.specs.Basics.{length-map, List·getD-map}
+use mathlib.Core.Bool.{and-true}
 use Rattle.base.proofs.Fronts.{getD-inside}
 use Rattle.base.proofs.Tests.{all-by, and-false, and-l, and-r}
 use Rattle.base.specs.Lists.{all}
@@ -15,10 +16,6 @@ use Rattle.rules.specs.Book.{Trade, User, bilateralForDay, noTrade, nobody}
 use Rattle.rules.specs.Questions.{idsRise, known}
 use Rattle.risk_bearers.specs.Bearers.{BorneIn, tradesIn, usersIn}
 use Rattle.risk_bearers.proofs.Places.{party-id, party-is, party-within}
-
-and-true : (c : Bool) → (c && true) ≡ c
-and-true true = refl
-and-true false = refl
 
 module _ (s : List ℕ) where
   -- as many

@@ -9,7 +9,7 @@ use Rattle.risk_bearers.specs.Bearers.{bearerIn}
 use Rattle.risk_bearers.specs.Rows.{Bearable, Cleared, NextBorne, Rows, RowsTo, amountIn, borneTo, passedIn}
 
 -- two amounts kept so, added
-net-add : (x y : ℕ) → 2 ^ 31 ≤ x + y → net (record { 0 = x + y - 2 ^ 31 }) ≡ net (record { 0 = x }) +ℤ net (record { 0 = y })
+pub net-add : (x y : ℕ) → 2 ^ 31 ≤ x + y → net (record { 0 = x + y - 2 ^ 31 }) ≡ net (record { 0 = x }) +ℤ net (record { 0 = y })
 net-add x y h =
     let a = net (record { 0 = x }) in
     let b = net (record { 0 = y }) in

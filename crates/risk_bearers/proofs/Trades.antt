@@ -1,5 +1,5 @@
 -- The trades of a book, one after the other: the places of those who bear the risk of their parties are listed, and what stands is counted at each. Assumes nothing.
-use Rattle.base.specs.Basics.{_≡_, refl, sym, ap, subst, _∙_, Bool, _&&_, List, [], _∷_, ℕ, suc, _+_, _*_, _≤_, _<_, arith, T, leb→le, ltb, ltb→lt}
+use Rattle.base.specs.Basics.{_≡_, refl, sym, ap, subst, _∙_, Bool, _&&_, List, [], _∷_, ℕ, suc, _+_, _*_, _≤_, _<_, arith, T, ltb, ltb→lt}
 use Rattle.base.specs.Basics.{length, take, getD, set, replicate, length-map, lt-ltb}
 use Rattle.base.specs.Lists.{all}
 use Rattle.base.proofs.Fronts.{all-at}
@@ -15,10 +15,11 @@ use Rattle.book_sums.proofs.Twelve.{addable-bought, addable-sold, twelve-all, t
 use Rattle.book_sums.specs.Sums.{partiesAmong, placesOf}
 use Rattle.book_sums.specs.Twelve.{Addable, Low, Twelve, added}
 use Rattle.risk_bearers.proofs.Places.{party-within, placed-at}
+use Rattle.laws.proofs.Bounds.{standing-le}
 use Rattle.laws.proofs.Positions.{buyer-known, seller-known}
 use Rattle.laws.proofs.Settle.{area-lt}
 use Rattle.rules.specs.Book.{Trade, User, noTrade}
-use Rattle.rules.specs.Questions.{amountsValid, codesValid, known, tradeValid}
+use Rattle.rules.specs.Questions.{codesValid, known, tradeValid}
 use Rattle.risk_bearers.specs.Bearers.{AllBorne, BearersIn, BorneAs, SummedAt, bearerIn}
 
 -- what holds at each place holds of all
@@ -27,17 +28,10 @@ unfolding all
 all-from p [] d h = tt
 all-from p (x ∷ xs) d h = and-i (p x) (all p xs) (h 0 (omega arith)) (all-from p xs d (λ i l. h (suc i) (omega arith)))
 
--- the day of a valid trade is one of the two, and no more stands than 100,000 MWh
+-- the day of a valid trade is one of the two
 valid-day : (us : List User) (t : Trade) → T (tradeValid us t) → t .terms .day < 2
 unfolding tradeValid codesValid
 valid-day us t h = ltb→lt (t .terms .day) 2 (search (and-l, and-r))
-
-valid-small : (us : List User) (t : Trade) → T (tradeValid us t) → t .standing ≤ 100000
-unfolding tradeValid amountsValid
-valid-small us t h =
-    let most = leb→le (t .terms .notified) 100000 (search (and-l, and-r)) in
-    let stands = leb→le (t .standing) (t .terms .notified) (search (and-l, and-r)) in
-    omega (arith, most, stands)
 
 -- ---- a trade counts by its area, its day and what stands alone
 
@@ -158,7 +152,7 @@ module _ (s table : List ℕ) where
       day-low = omega (arith, like .day, valid-day (usersOf s) t valid)
 
       small : getD rs i noTrade .standing ≤ 100000
-      small = omega (arith, like .standing, valid-small (usersOf s) t valid)
+      small = omega (arith, like .standing, standing-le (usersOf s) t valid)
 
       few-trades : i ≤ 256
       few-trades = omega (arith, b .accepted .held .form .trades)

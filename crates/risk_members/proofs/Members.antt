@@ -1,5 +1,5 @@
 -- Who bears a user's risk, and the amounts that are read of users. Assumes nothing.
-use Rattle.base.specs.Basics.{_≡_, refl, sym, ap, _∙_, List, ℕ, _+_, _≤_, _<_, arith, ℤ, length, getD, eq-eqb, ne-eqb}
+use Rattle.base.specs.Basics.{_≡_, refl, sym, ap, _∙_, List, ℕ, _≤_, _<_, arith, ℤ, length, getD, eq-eqb, ne-eqb}
 use Rattle.base.proofs.Fronts.{all-at}
 use Rattle.base.specs.Parts.{negPart, posPart}
 use Rattle.book_format.proofs.Passed.{length-usersOf}
@@ -64,30 +64,33 @@ module _ (u : code.User) (v : User) (h : asUser u ≡ alone v) where
   read-position = ap (λ (w : User). w .position) h
 
 -- an area of an array
-pub amount-at : (v : List Net) {q : PerArea} → asAmounts v ≡ q → (area : ℕ) → area < 3 → net (getD v area (record { 0 = 0 })) ≡ at q area
+amount-at : (v : List Net) {q : PerArea} → asAmounts v ≡ q → (area : ℕ) → area < 3 → net (getD v area (record { 0 = 0 })) ≡ at q area
 amount-at v e area l = sym (at-asAmounts v area l) ∙ ap (λ (q : PerArea). at q area) e
 
--- within what a book can have
-near-of : (x : Net) (z : ℤ) → net x ≡ z → posPart z ≤ 26600000 → negPart z ≤ 26600000 → Near (x .0)
-near-of x z e p n =
-    record {
-      low = omega (arith, parts-net x, ap posPart e, ap negPart e, p, n);
-      high = omega (arith, parts-net x, ap posPart e, ap negPart e, p, n);
-    }
+-- an amount that was read, within what a book can have
+pub record Amount (x : Net) (z : ℤ) : Type 0 where
+  pub is : net x ≡ z
+  pub near : Near (x .0)
 
-module _ (s : List ℕ) (a : Accepted s) {i : ℕ} (h : i < userCount s) {area : ℕ} (l : area < 3) (x : Net) where
+amount-of : (x : Net) (z : ℤ) → net x ≡ z → posPart z ≤ 26600000 → negPart z ≤ 26600000 → Amount x z
+amount-of x z e p n =
+    let parts = parts-net x in
+    record { is = e; near = record { low = omega (arith, ap posPart e, ap negPart e); high = omega (arith, ap posPart e, ap negPart e) } }
+
+-- what the user at a place has in an area, of the record that is read
+module _ (s : List ℕ) (a : Accepted s) {i : ℕ} (h : i < userCount s) {area : ℕ} (l : area < 3) (u : code.User) (e : asUser u ≡ alone (getD (usersOf s) i nobody)) where
   abbrev user : User
   user = getD (usersOf s) i nobody
 
-  pub near-entry : net x ≡ at (getD (usersOf s) i nobody .physical) area → Near (x .0)
+  pub entry-read : Amount (getD (u .physical) area (record { 0 = 0 })) (at (getD (usersOf s) i nobody .physical) area)
   unfolding bookOf
-  near-entry e =
+  entry-read =
       let b = entry-le user area l (all-at userValid (usersOf s) (a .sound .users) i nobody (omega (arith, length-usersOf s))) in
-      near-of x (at (user .physical) area) e (omega (arith, b .0)) (omega (arith, b .1))
+      amount-of (getD (u .physical) area (record { 0 = 0 })) (at (user .physical) area) (amount-at (u .physical) (read-physical u user e) area l) (omega (arith, b .0)) (omega (arith, b .1))
 
-  pub near-position : net x ≡ at (getD (usersOf s) i nobody .position) area → Near (x .0)
+  pub position-read : Amount (getD (u .position) area (record { 0 = 0 })) (at (getD (usersOf s) i nobody .position) area)
   unfolding bookOf
-  near-position e =
+  position-read =
       let k : i < length (usersOf s) = omega (arith, length-usersOf s) in
       let b = position-bound (bookOf s) (a .sound) user (all-at userValid (usersOf s) (a .sound .users) i nobody k) (all-at (positionsValid (bookOf s .trades)) (usersOf s) (a .sound .positions) i nobody k) area l in
-      near-of x (at (user .position) area) e (b .0) (b .1)
+      amount-of (getD (u .position) area (record { 0 = 0 })) (at (user .position) area) (amount-at (u .position) (read-position u user e) area l) (b .0) (b .1)

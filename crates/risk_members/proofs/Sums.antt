@@ -1,35 +1,16 @@
 -- Sums over those whose risk a user bears, user by user. Assumes nothing.
-use Rattle.base.specs.Basics.{_≡_, refl, sym, ap, ap₂, _∙_, Bool, true, false, cond, List, [], _∷_, ℕ, zero, suc, _+_, _-_, _≤_, _<_, _^_, add-one}
-use Rattle.base.specs.Basics.{not-suc-le-zero, le-of-suc-le-suc, arith, eqb, ℤ, pos, _+ℤ_, +ℤ-assoc, +ℤ-idl, +ℤ-idr, length, take, getD, take-all}
-use Rattle.base.proofs.Linear.{parts-add}
+use Rattle.base.specs.Basics.{_≡_, refl, sym, ap, ap₂, _∙_, Bool, true, false, cond, List, ℕ, _+_, _-_, _≤_, _<_, _^_, add-one}
+use Rattle.base.specs.Basics.{arith, eqb, ℤ, pos, _+ℤ_, +ℤ-idr, length, take, getD, take-all}
+use Rattle.base.proofs.Sums.{sum-take-suc}
 use Rattle.base.specs.Sums.{sum, sumℤ}
 use Rattle.rules.specs.Bearers.{bearer, borneSum}
 use Rattle.rules.specs.Book.{PerArea, User, at, nobody}
-use Rattle.units.proofs.Amounts.{net-eq, net-zero, parts-net}
+use Rattle.units.proofs.Amounts.{net-zero}
 use Rattle.units.specs.Amounts.{net}
 use Rattle.laws.proofs.Members.{membersSum}
+use Rattle.risk_bearers.proofs.Bearing.{sum-more}
+use Rattle.risk_bearers.proofs.Rows.{net-add}
 use Rattle.risk_members.specs.Sums.{AmountRoom, CountTo, Passed, SumTo}
-
--- two amounts kept with 2^31, added
-net-add : (x y : ℕ) → 2 ^ 31 ≤ x + y → net (record { 0 = x + y - 2 ^ 31 }) ≡ net (record { 0 = x }) +ℤ net (record { 0 = y })
-net-add x y h =
-    let a = net (record { 0 = x }) in
-    let b = net (record { 0 = y }) in
-    net-eq (record { 0 = x + y - 2 ^ 31 }) (a +ℤ b) (omega (arith, parts-net (record { 0 = x }), parts-net (record { 0 = y }), parts-add a b))
-
--- a sum over one user more
-sum-more : (f : User → ℤ) (us : List User) (k : ℕ) → k < length us → sumℤ f (take (suc k) us) ≡ sumℤ f (take k us) +ℤ f (getD us k nobody)
-unfolding sumℤ
-sum-more f [] k h = absurd (not-suc-le-zero h)
-sum-more f (u ∷ us) zero h = +ℤ-idr (f u) ∙ sym (+ℤ-idl (f u))
-sum-more f (u ∷ us) (suc k) h = ap (λ (z : ℤ). f u +ℤ z) (sum-more f us k (le-of-suc-le-suc h)) ∙ sym (+ℤ-assoc (f u) (sumℤ f (take k us)) (f (getD us k nobody)))
-
--- the same of a number
-count-more : (f : User → ℕ) (us : List User) (k : ℕ) → k < length us → sum f (take (suc k) us) ≡ sum f (take k us) + f (getD us k nobody)
-unfolding sum
-count-more f [] k h = absurd (not-suc-le-zero h)
-count-more f (u ∷ us) zero h = omega arith
-count-more f (u ∷ us) (suc k) h = omega (arith, count-more f us k (le-of-suc-le-suc h))
 
 -- an amount that a book can have, kept with 2^31
 pub record Near (y : ℕ) : Type 0 where
@@ -88,22 +69,15 @@ module _ (us : List User) (id area : ℕ) where
     count-start = record { is = refl; high = omega arith }
 
     pub count-with : {k x y r : ℕ} → CountTo us id area amount k x → y ≤ 25600000 → k < length us → y ≡ amount (getD us k nobody) → eqb (bearer (getD us k nobody) area) id ≡ true → r ≡ x + y → CountTo us id area amount (k + 1) r
-    count-with {k} {x} {y} {r} p most h e t is = rw (is, add-one k) (record {
-      is = ap₂ (λ (a b : ℕ). a + b) (p .is) (e ∙ ap (λ (d : Bool). cond d (amount (getD us k nobody)) 0) (sym t)) ∙ sym (count-more single us k h);
+    count-with {k} {x} {y} {r} p most h e t is = rw is (record {
+      is = ap₂ (λ (a b : ℕ). a + b) (p .is) (e ∙ ap (λ (d : Bool). cond d (amount (getD us k nobody)) 0) (sym t)) ∙ sym (sum-take-suc single us k nobody h);
       high = omega (arith, p .high);
     })
 
     pub count-without : {k x : ℕ} → CountTo us id area amount k x → k < length us → eqb (bearer (getD us k nobody) area) id ≡ false → CountTo us id area amount (k + 1) x
-    count-without {k} {x} p h t = rw (add-one k) (record {
-      is = p .is ∙ more ∙ sym (count-more single us k h);
-      high = omega (arith, p .high);
-    })
-      where
-        none : single (getD us k nobody) ≡ 0
-        none = ap (λ (d : Bool). cond d (amount (getD us k nobody)) 0) t
-
-        more : sum single (take k us) ≡ sum single (take k us) + single (getD us k nobody)
-        more = omega (arith, none)
+    count-without {k} {x} p h t =
+        let none : single (getD us k nobody) ≡ 0 = ap (λ (d : Bool). cond d (amount (getD us k nobody)) 0) t in
+        record { is = omega (arith, p .is, none, sum-take-suc single us k nobody h); high = omega (arith, p .high) }
 
     pub count-end : {k x : ℕ} → CountTo us id area amount k x → length us ≤ k → x ≡ membersSum amount us id area
     unfolding membersSum

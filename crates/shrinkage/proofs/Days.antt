@@ -1,11 +1,12 @@
 -- The days of a share: the loop that fills them, their sum, and how far they are apart. Assumes nothing.
-use Rattle.base.specs.Basics.{_≡_, refl, sym, ap, _∙_, Bool, true, false, cond, List, [], _∷_, map, append-nil, ℕ, zero, suc, _+_, _*_, _-_, _/_, _%_}
-use Rattle.base.specs.Basics.{_<_, _≤_, min, div-add-mod', le-of-suc-le-suc, mod-lt, not-suc-le-zero, arith, ltb, length, getD, set, replicate}
-use Rattle.base.specs.Basics.{length-append, length-map, length-set, List·getD-append, List·getD-map, getD-at, lt-ltb, le-ltb}
+use Rattle.base.specs.Basics.{_≡_, refl, sym, ap, _∙_, Bool, true, false, cond, List, [], _∷_, map, ℕ, zero, suc, _+_, _*_, _-_, _/_, _%_}
+use Rattle.base.specs.Basics.{_<_, _≤_, min, div-add-mod', mod-lt, not-suc-le-zero, arith, ltb, length, getD, set}
+use Rattle.base.specs.Basics.{length-append, length-map, List·getD-append, List·getD-map, getD-at, take-all, lt-ltb, le-ltb}
+use Rattle.base.proofs.Fronts.{getD-inside}
 use Rattle.base.proofs.Linear.{by-order}
+use Rattle.base.proofs.Rewriting.{Rewritten, rewritten-more, rewritten-end}
 use Rattle.base.proofs.Sums.{sum-append, sum-map}
 use Rattle.base.specs.Sums.{sum}
-use Rattle.shrinkage.proofs.Places.{placed, placed-start, placed-more, placed-end, kwh-set}
 use Rattle.shrinkage.specs.Answer.{kwhOf}
 use Rattle.shrinkage.specs.Days.{daysTo, onDay, overDays}
 use Rattle.shrinkage.specs.declared.Kwh.{Kwh}
@@ -30,36 +31,25 @@ day-at (suc n) i d h =
 
 -- where the days before one are filled in
 pub record Filling (whole left : ℕ) (days : List Kwh) (day : ℕ) : Type 0 where
-  pub inside : day ≤ 30
-  pub long : length days ≡ 30
-  pub filled : kwhOf days ≡ placed 30 (map (onDay whole left) (daysTo 30)) day
+  pub filled : Rewritten (λ (k : Kwh). k .0) 30 (map (onDay whole left) (daysTo 30)) days day
 
-module _ {whole left : ℕ} where
-  pub filling-start : Filling whole left (replicate 30 (record { 0 = 0 })) 0
+days-long : (whole left : ℕ) → length (map (onDay whole left) (daysTo 30)) ≡ 30
+days-long whole left = length-map (daysTo 30) (onDay whole left) ∙ length-days 30
+
+-- what is listed for a day
+listed : (whole left day : ℕ) → day < 30 → onDay whole left day ≡ getD (map (onDay whole left) (daysTo 30)) day (onDay whole left 0)
+listed whole left day h = sym (List·getD-map (onDay whole left) (daysTo 30) day 0 ∙ ap (onDay whole left) (day-at 30 day 0 h))
+
+module _ {whole left : ℕ} {days : List Kwh} {day : ℕ} (p : Filling whole left days day) where
+  pub filling-more : {k : Kwh} → day < 30 → k .0 ≡ onDay whole left day → Filling whole left (set days day k) (day + 1)
+  filling-more {k} h e =
+      record { filled = rewritten-more (onDay whole left 0) k h (omega (arith, days-long whole left)) (e ∙ listed whole left day h) (p .filled) }
+
+  pub filling-end : 30 ≤ day → kwhOf days ≡ map (onDay whole left) (daysTo 30)
   unfolding kwhOf
-  filling-start = record { inside = omega arith; long = refl; filled = placed-start 30 (map (onDay whole left) (daysTo 30)) }
-
-  pub filling-more : {days : List Kwh} {day : ℕ} {k : Kwh} → Filling whole left days day → day < 30 → k .0 ≡ onDay whole left day → Filling whole left (set days day k) (day + 1)
-  filling-more {days} {day} {k} p h e =
-      let vs = map (onDay whole left) (daysTo 30) in
-      let l : length vs ≡ 30 = length-map (daysTo 30) (onDay whole left) ∙ length-days 30 in
-      let g : getD vs day (onDay whole left 0) ≡ k .0 = List·getD-map (onDay whole left) (daysTo 30) day 0 ∙ ap (onDay whole left) (day-at 30 day 0 h) ∙ sym e in
-      record {
-        inside = omega arith;
-        long = length-set days day k ∙ p .long;
-        filled =
-            kwh-set days day k
-            ∙ ap (λ (l : List ℕ). set l day (k .0)) (p .filled)
-            ∙ ap (λ (n : ℕ). set (placed 30 vs day) day n) (sym g)
-            ∙ placed-more 30 vs day (onDay whole left 0) h (omega arith);
-      }
-
-  pub filling-end : {days : List Kwh} {day : ℕ} → Filling whole left days day → 30 ≤ day → kwhOf days ≡ map (onDay whole left) (daysTo 30)
-  filling-end {days} {day} p h =
-      let vs = map (onDay whole left) (daysTo 30) in
-      let l : length vs ≡ 30 = length-map (daysTo 30) (onDay whole left) ∙ length-days 30 in
-      let n : 30 - length vs ≡ 0 = omega arith in
-      p .filled ∙ placed-end 30 vs day (omega (arith, p .inside)) ∙ rw n (append-nil vs)
+  filling-end h =
+      ap (map (λ (k : Kwh). k .0)) (sym (take-all day days (omega (arith, p .filled .long))))
+      ∙ rewritten-end (omega (arith, days-long whole left)) (p .filled) .1
 
 -- ---- the sum of the first n days
 
@@ -75,7 +65,7 @@ sum-days whole left (suc n) =
 
 pub length-over-days : (share : ℕ) → length (overDays share) ≡ 30
 unfolding overDays
-length-over-days share = length-map (daysTo 30) (onDay (share / 30) (share % 30)) ∙ length-days 30
+length-over-days share = days-long (share / 30) (share % 30)
 
 -- the 30 days sum to the share
 pub days-sum : (share : ℕ) → sum (λ n. n) (overDays share) ≡ share
@@ -86,20 +76,12 @@ days-sum share =
 
 -- ---- how far two days are apart
 
--- inside a list it does not matter what stands for a place outside
-any-default : (ns : List ℕ) (i d e : ℕ) → i < length ns → getD ns i d ≡ getD ns i e
-any-default [] i d e h = absurd (not-suc-le-zero h)
-any-default (n ∷ ns) zero d e h = refl
-any-default (n ∷ ns) (suc i) d e h = any-default ns i d e (le-of-suc-le-suc h)
-
 -- the day at a place of a share
 over-days-at : (share i : ℕ) → i < 30 → getD (overDays share) i 0 ≡ onDay (share / 30) (share % 30) i
 unfolding overDays
 over-days-at share i h =
     let f = onDay (share / 30) (share % 30) in
-    any-default (map f (daysTo 30)) i 0 (f 0) (omega (arith, length-over-days share))
-    ∙ List·getD-map f (daysTo 30) i 0
-    ∙ ap f (day-at 30 i 0 h)
+    getD-inside (map f (daysTo 30)) i 0 (f 0) (omega (arith, length-over-days share)) ∙ sym (listed (share / 30) (share % 30) i h)
 
 -- each has the whole part, or one kWh more
 on-day-bounds : (whole left day : ℕ) → (whole ≤ onDay whole left day) × (onDay whole left day ≤ whole + 1)

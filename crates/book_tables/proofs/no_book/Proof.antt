@@ -3,13 +3,5 @@ use Rattle.base.specs.Basics.{needs}
 use Rattle.book_tables.proofs.no_book.Statement.{statement}
 use Rattle.book_tables.proofs.no_book.Tie as tie
 
-returns : tie.Need-returns
-returns c = cc
-
 pub no-book-spec : {M : Type 1} → statement M
-no-book-spec =
-    tie.close
-    (tie.spec
-    (λ c κs. search needs)
-    (λ c κs. search needs)
-    returns)
+no-book-spec = tie.close (tie.spec (λ c κs. search needs) (λ c κs. search needs) (λ c. cc))

@@ -8,9 +8,6 @@ use Rattle.book_tables.specs.Book.{asBook}
 use Rattle.book_tables.proofs.read_book.Statement.{statement}
 use Rattle.book_tables.proofs.read_book.Tie as tie
 
-read-prices-requires : tie.Need-read-prices-requires
-read-prices-requires c κs = header-lies (c .before .before .before .pre)
-
 read-users-requires : tie.Need-read-users-requires
 read-users-requires c κs =
     let u = c .before .before .before .before in
@@ -65,7 +62,7 @@ read-book-spec =
     (tie.spec
     (λ c κs. search needs)
     (λ c κs. search needs)
-    read-prices-requires
+    (λ c κs. header-lies (c .before .before .before .pre))
     (λ c. search needs)
     (λ c κs. search needs)
     (λ c κs. search needs)

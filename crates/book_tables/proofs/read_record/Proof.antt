@@ -11,11 +11,11 @@ least c = omega (arith, c .pre, size-least (c .args .managed))
 slice-aggregate-read-user : tie.Need-slice-aggregate-read-user
 slice-aggregate-read-user c = let s = c .before .before in sym (length-take-le 56 (now (s .args .c)) (least s))
 
-read-user-requires : tie.Need-read-user-requires
-read-user-requires c κs = let s = c .before .before in length-take-le 56 (now (s .args .c)) (least s)
-
 returns : tie.Need-returns
 returns c = record-read (now (c .before .before .before .before .args .c)) _ _ (c .before .read-user .ensures) (c .read-managers .ensures)
 
 pub read-record-spec : {M : Type 1} → statement M
-read-record-spec = tie.close (tie.spec slice-aggregate-read-user read-user-requires (λ c κs. search needs) returns)
+read-record-spec =
+    tie.close
+    (tie.spec slice-aggregate-read-user (λ c κs. length-take-le 56 (now (c .before .before .args .c)) (least (c .before .before))) (λ c κs. search needs)
+    returns)

@@ -11,17 +11,8 @@ Inv-loop s at n trades₀ i₀ a₀ trades i a = Reading asTrade 20 tradeOf 256 
 abbrev μ-loop : tie.MeasureT-loop
 μ-loop s at n trades₀ i₀ a₀ trades i a = n - i
 
-loop-holds : tie.Need-loop-holds Inv-loop μ-loop
-loop-holds c = reading-start (c .no-trade .ensures)
-
-read-trade-requires : tie.Need-read-trade-requires Inv-loop μ-loop
-read-trade-requires c κs = simp (length-take, length-drop) (omega arith)
-
 loop-again : tie.Need-loop-again Inv-loop μ-loop
 loop-again c = reading-turn (c .before .before .before .loop .inv) (omega arith) (omega arith) (c .read-trade .ensures)
-
-returns : tie.Need-returns Inv-loop μ-loop
-returns c = reading-end (c .before .loop .inv) (omega arith)
 
 pub read-trades-spec : {M : Type 1} → statement M
 read-trades-spec =
@@ -30,16 +21,16 @@ read-trades-spec =
     Inv-loop
     μ-loop
     (λ c κs. search needs)
-    loop-holds
+    (λ c. reading-start (c .no-trade .ensures))
     (λ c. search needs)
     (λ c. search needs)
     (λ c. search needs)
     (λ c. search needs)
-    read-trade-requires
+    (λ c κs. simp (length-take, length-drop) (omega arith))
     (λ c. search needs)
     (λ c. search needs)
     (λ c. search needs)
     (λ c. search needs)
     (λ c. search needs)
     loop-again
-    returns)
+    (λ c. reading-end (c .before .loop .inv) (omega arith)))

@@ -20,15 +20,6 @@ lies c =
     let s = c .before .before .before .before in
     omega (arith, size-lies (s .args .size) (c .before .loop .i) (s .args .n) (omega (arith, c .loop-test)), c .before .loop .inv .place, s .pre .2)
 
-loop-holds : tie.Need-loop-holds Inv-loop μ-loop
-loop-holds c = reading-start (c .no-record .ensures)
-
-add-read-record : tie.Need-add-read-record Inv-loop μ-loop
-add-read-record c = omega (arith, lies c, c .before .before .before .before .fits)
-
-part-read-record-end : tie.Need-part-read-record-end Inv-loop μ-loop
-part-read-record-end c = omega (arith, lies c)
-
 read-record-requires : tie.Need-read-record-requires Inv-loop μ-loop
 read-record-requires c κs =
     let a = c .before .before .loop .a in
@@ -42,9 +33,6 @@ add-a c = let inside = c .before .before in omega (arith, lies inside, inside .b
 loop-again : tie.Need-loop-again Inv-loop μ-loop
 loop-again c = reading-turn (c .before .before .before .loop .inv) (omega arith) (omega arith) (c .read-record .ensures)
 
-returns : tie.Need-returns Inv-loop μ-loop
-returns c = reading-end (c .before .loop .inv) (omega arith)
-
 pub read-users-spec : {M : Type 1} → statement M
 read-users-spec =
     tie.close
@@ -52,11 +40,11 @@ read-users-spec =
     Inv-loop
     μ-loop
     (λ c κs. search needs)
-    loop-holds
-    add-read-record
+    (λ c. reading-start (c .no-record .ensures))
+    (λ c. omega (arith, lies c, c .before .before .before .before .fits))
     (λ c. search needs)
     (λ c. search needs)
-    part-read-record-end
+    (λ c. omega (arith, lies c))
     read-record-requires
     (λ c. search needs)
     (λ c. search needs)
@@ -64,4 +52,4 @@ read-users-spec =
     (λ c. search needs)
     (λ c. search needs)
     loop-again
-    returns)
+    (λ c. reading-end (c .before .loop .inv) (omega arith)))

@@ -18,9 +18,6 @@ room c =
 low : (c : tie.After-user-size) → c .user-size .result * c .before .before .before .before .before .before .before .before .args .b .«user_count» ≤ 68 * 64
 low c = mul-le-mul (c .user-size .ensures .1 .1) (c .before .before .before .before .before .before .before .before .pre .0)
 
-write-start-requires : tie.Need-write-start-requires
-write-start-requires c κs = let w = c .before in omega (arith, room w, w .before .header-size .ensures .1)
-
 write-prices-requires : tie.Need-write-prices-requires
 write-prices-requires c κs = let w = c .before .before .before .before .before in let l = room w in let h = w .before .header-size .ensures .1 in search needs
 
@@ -75,7 +72,7 @@ write-book-spec =
     (λ c. search needs)
     (λ c κs. search needs)
     (λ c κs. search needs)
-    write-start-requires
+    (λ c κs. omega (arith, room (c .before), c .before .before .header-size .ensures .1))
     write-prices-requires
     write-selling-requires
     write-users-requires

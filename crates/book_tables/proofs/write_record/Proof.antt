@@ -12,9 +12,6 @@ use Rattle.book_tables.proofs.write_record.Tie as tie
 least : (c : tie.Start) → 56 ≤ length (now (c .args .c))
 least c = omega (arith, c .pre, size-least (c .args .managed))
 
-slice-relend-prefix-write-user : tie.Need-slice-relend-prefix-write-user
-slice-relend-prefix-write-user c = least (c .before .before .before)
-
 slice-aggregate-write-user : tie.Need-slice-aggregate-write-user
 slice-aggregate-write-user c = let s = c .before .before .before .before in sym (length-take-le 56 (now (s .args .c)) (least s))
 
@@ -68,4 +65,5 @@ returns-2 c =
 pub write-record-spec : {M : Type 1} → statement M
 write-record-spec =
     tie.close
-    (tie.spec slice-relend-prefix-write-user slice-aggregate-write-user write-user-requires put-u32-requires put-u32-requires-2 put-u32-requires-3 (λ c. search needs) returns (λ c. search needs) returns-2)
+    (tie.spec (λ c. least (c .before .before .before)) slice-aggregate-write-user write-user-requires put-u32-requires put-u32-requires-2 put-u32-requires-3
+    (λ c. search needs) returns (λ c. search needs) returns-2)

@@ -12,23 +12,11 @@ Inv-loop out₀ at n trades i₀ a₀ out i a = Writing (λ t. tradeBytes (asTra
 abbrev μ-loop : tie.MeasureT-loop
 μ-loop out₀ at n trades i₀ a₀ out i a = n - i
 
-loop-holds : tie.Need-loop-holds Inv-loop μ-loop
-loop-holds c = writing-start
-
-write-trade-requires : tie.Need-write-trade-requires Inv-loop μ-loop
-write-trade-requires c κs = simp (length-take, length-drop) (omega arith)
-
 loop-again : tie.Need-loop-again Inv-loop μ-loop
 loop-again c =
     let turn = c .before .before .before .before .before .before in
     writing-turn _ (λ t. length-tradeBytes (asTrade t)) (turn .loop .inv) (omega arith) (search needs) (omega arith)
     (c .before .before .write-trade .ensures)
-
-same-length : tie.Need-same-length Inv-loop μ-loop
-same-length c = c .before .loop .inv .kept
-
-returns : tie.Need-returns Inv-loop μ-loop
-returns c = (writing-end (c .before .loop .inv) (omega arith), search needs)
 
 pub write-trades-spec : {M : Type 1} → statement M
 write-trades-spec =
@@ -36,17 +24,17 @@ write-trades-spec =
     (tie.spec
     Inv-loop
     μ-loop
-    loop-holds
+    (λ c. writing-start)
     (λ c. search needs)
     (λ c. search needs)
     (λ c. search needs)
     (λ c. search needs)
     (λ c. search needs)
     (λ c. search needs)
-    write-trade-requires
+    (λ c κs. simp (length-take, length-drop) (omega arith))
     (λ c. search needs)
     (λ c. search needs)
     (λ c. search needs)
     loop-again
-    same-length
-    returns)
+    (λ c. c .before .loop .inv .kept)
+    (λ c. (writing-end (c .before .loop .inv) (omega arith), search needs)))

@@ -22,14 +22,8 @@ lies c =
     let l = c .before .loop in
     omega (arith, size-lies (s .args .size) (l .i) (s .args .n) (omega (arith, c .loop-test)), l .inv .place, l .inv .kept, s .pre .2)
 
-loop-holds : tie.Need-loop-holds Inv-loop μ-loop
-loop-holds c = writing-start
-
 add-write-record : tie.Need-add-write-record Inv-loop μ-loop
 add-write-record c = let inside = c .before in omega (arith, lies inside, inside .before .loop .inv .kept, inside .before .before .before .fits)
-
-part-write-record-end : tie.Need-part-write-record-end Inv-loop μ-loop
-part-write-record-end c = omega (arith, lies (c .before))
 
 write-record-requires : tie.Need-write-record-requires Inv-loop μ-loop
 write-record-requires c κs =
@@ -48,29 +42,23 @@ loop-again c =
     writing-turn _ (λ u. length-recordBytes (eqb (s .args .size) 68) (asRecord u) ∙ sym (s .pre .1 .size-is)) (turn .loop .inv) (omega arith) (search needs) (lies (c .before .before .before .before .before))
     (c .before .before .write-record .ensures)
 
-same-length : tie.Need-same-length Inv-loop μ-loop
-same-length c = c .before .loop .inv .kept
-
-returns : tie.Need-returns Inv-loop μ-loop
-returns c = (writing-end (c .before .loop .inv) (omega arith), search needs)
-
 pub write-users-spec : {M : Type 1} → statement M
 write-users-spec =
     tie.close
     (tie.spec
     Inv-loop
     μ-loop
-    loop-holds
+    (λ c. writing-start)
     (λ c. search needs)
     (λ c. search needs)
     add-write-record
     (λ c. search needs)
     (λ c. search needs)
-    part-write-record-end
+    (λ c. omega (arith, lies (c .before)))
     write-record-requires
     add-a
     (λ c. search needs)
     (λ c. search needs)
     loop-again
-    same-length
-    returns)
+    (λ c. c .before .loop .inv .kept)
+    (λ c. (writing-end (c .before .loop .inv) (omega arith), search needs)))

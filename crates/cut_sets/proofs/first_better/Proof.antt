@@ -10,27 +10,16 @@ Inv-loop best base low from until spare k₀ k = NoneBetter best base until spar
 abbrev μ-loop : tie.MeasureT-loop
 μ-loop best base low from until spare k₀ k = until - k
 
-loop-holds : tie.Need-loop-holds Inv-loop μ-loop
-loop-holds c = none-first (c .pre .inside)
-
 add-is-better : tie.Need-add-is-better Inv-loop μ-loop
 add-is-better c =
     let t = c .before in
     let l = t .before in
     record { fits = omega (arith, l .before .pre .most (l .loop .k) (l .loop .inv .on) (t .loop-test .taken)) }
 
-returns : tie.Need-returns Inv-loop μ-loop
-returns c =
-    let b = c .before in
-    first-found (b .before .before .before .loop .inv) (b .is-better .ensures) (c .if1 .taken)
-
 add-k : tie.Need-add-k Inv-loop μ-loop
 add-k c =
     let t = c .before .before .before in
     record { fits = omega (arith, t .loop-test .taken, t .before .before .pre .few) }
-
-loop-less : tie.Need-loop-less Inv-loop μ-loop
-loop-less c = omega (arith, c .before .before .before .loop-test .taken)
 
 loop-again : tie.Need-loop-again Inv-loop μ-loop
 loop-again c =
@@ -38,10 +27,9 @@ loop-again c =
     let t = b .before .before in
     none-more (t .before .loop .inv) (t .loop-test .taken) (b .is-better .ensures) (c .if1 .left)
 
-returns-2 : tie.Need-returns-2 Inv-loop μ-loop
-returns-2 c = first-none (c .before .loop .inv) (c .loop-test .left)
-
 pub first-better-spec : {M : Type 1} → statement M
 first-better-spec =
     tie.close
-    (tie.spec Inv-loop μ-loop loop-holds (λ c. search needs) (λ c. search needs) add-is-better (λ c κs. search needs) returns add-k loop-less loop-again returns-2)
+    (tie.spec Inv-loop μ-loop (λ c. none-first (c .pre .inside)) (λ c. search needs) (λ c. search needs) add-is-better (λ c κs. search needs)
+    (λ c. first-found (c .before .before .before .before .loop .inv) (c .before .is-better .ensures) (c .if1 .taken)) add-k
+    (λ c. omega (arith, c .before .before .before .loop-test .taken)) loop-again (λ c. first-none (c .before .loop .inv) (c .loop-test .left)))

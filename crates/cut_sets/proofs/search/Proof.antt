@@ -1,5 +1,5 @@
 -- `search`: what is left of the search gives the whole. Assumes nothing.
-use Rattle.base.specs.Basics.{_≡_, sym, ap, subst, _∙_, _⊎_, inl, inr, ℕ, _+_, _-_, _^_, _/_, _%_, _≤_, _<_, arith, getD, take, needs}
+use Rattle.base.specs.Basics.{_≡_, sym, ap, subst, _∙_, ⊎-elim, ℕ, _+_, _-_, _^_, _/_, _%_, _≤_, _<_, arith, getD, take, needs}
 use Rattle.cut_sets.specs.Sets.{worthOf}
 use Rattle.cut_sets.specs.Found.{Table}
 use Rattle.cut_sets.specs.Counting.{Counting}
@@ -19,9 +19,6 @@ abbrev μ-loop : tie.MeasureT-loop
 abbrev start : tie.At-loop Inv-loop μ-loop → tie.Start Inv-loop μ-loop
 start l = l .before .before .before .before .before .before
 
-sub-spare : tie.Need-sub-spare Inv-loop μ-loop
-sub-spare c = omega (arith, c .pre .reached)
-
 table-requires : tie.Need-table-requires Inv-loop μ-loop
 table-requires c κs =
     let g = c .before .before in
@@ -31,9 +28,6 @@ table-requires c κs =
       room = omega (arith, c .lesser2 .ensures);
       inside = omega (arith, c .lesser2 .ensures, c .before .lesser .ensures, g .sets-of .ensures);
     }
-
-add-table : tie.Need-add-table Inv-loop μ-loop
-add-table c = record { fits = omega (arith, c .before .before .lesser .ensures, c .before .before .before .sets-of .ensures) }
 
 table-requires-2 : tie.Need-table-requires-2 Inv-loop μ-loop
 table-requires-2 c κs =
@@ -62,24 +56,6 @@ loop-holds c =
       high-is = c .table2 .ensures;
     } in
     (q, counting-first q (start .pre .some))
-
-array-read-through : tie.Need-array-read-through Inv-loop μ-loop
-array-read-through c =
-    let t = c .before in
-    let l = t .before .before in
-    omega (arith, l .loop .inv .0 .short, l .loop .inv .0 .limit-is, t .if1 .taken)
-
-mul-lesser : tie.Need-mul-lesser Inv-loop μ-loop
-mul-lesser c =
-    let t = c .before .before in
-    let l = t .before .before in
-    record { fits = omega (arith, l .loop .inv .0 .short, l .loop .inv .0 .limit-is, t .if1 .taken) }
-
-add-lesser : tie.Need-add-lesser Inv-loop μ-loop
-add-lesser c =
-    let t = c .before .before in
-    let l = t .before .before in
-    record { fits = omega (arith, l .loop .inv .0 .short, l .loop .inv .0 .limit-is, t .if1 .taken) }
 
 -- what the tables give for the sets of a block
 block-left : (c : tie.After-lesser3 Inv-loop μ-loop) → let l = c .before .before .before .before .before in let b = l .loop .best in
@@ -111,11 +87,7 @@ block-counts c =
 
 -- a block that met no excess of 0 was tried whole
 block-done : (c : tie.After-through Inv-loop μ-loop) → (c .through .result .out ≡ (let a = start (c .before .before .before .before .before .before) .args in a .together - a .asked) → ⊥) → c .through .result .made ≡ c .before .lesser3 .result
-block-done c h = go (c .through .ensures .ended)
-  where
-    go : (c .through .result .out ≡ (let a = start (c .before .before .before .before .before .before) .args in a .together - a .asked)) ⊎ (c .through .result .made ≡ c .before .lesser3 .result) → c .through .result .made ≡ c .before .lesser3 .result
-    go (inl e) = absurd (h e)
-    go (inr e) = e
+block-done c h = ⊎-elim (λ e. absurd (h e)) (λ e. e) (c .through .ensures .ended)
 
 found-requires : tie.Need-found-requires Inv-loop μ-loop
 found-requires c κs =
@@ -130,23 +102,6 @@ returns c =
     let l = r .before .before .before .before .before .before in
     answered-met (l .loop .inv .0) (block-counts r) (t .if2 .taken) (c .found .ensures)
 
-loop-less : tie.Need-loop-less Inv-loop μ-loop
-loop-less c =
-    let r = c .before .before in
-    let k = r .before in
-    let t = k .before .before .before in
-    omega (arith, block-done r (c .if2 .left), k .lesser3 .ensures, t .if1 .taken)
-
-loop-again : tie.Need-loop-again Inv-loop μ-loop
-loop-again c =
-    let r = c .before .before in
-    (r .before .before .before .before .before .before .loop .inv .0, block-counts r)
-
-found-requires-2 : tie.Need-found-requires-2 Inv-loop μ-loop
-found-requires-2 c κs =
-    let l = c .before .before in
-    (omega (arith, l .loop .inv .0 .short, l .loop .inv .1 .within), l .loop .inv .1 .low)
-
 returns-2 : tie.Need-returns-2 Inv-loop μ-loop
 returns-2 c =
     let e = c .before in
@@ -156,6 +111,12 @@ returns-2 c =
 pub search-spec : {M : Type 1} → statement M
 search-spec =
     tie.close
-    (tie.spec Inv-loop μ-loop sub-spare (λ c κs. search needs) (λ c κs. search needs) (λ c κs. search needs) table-requires add-table table-requires-2 loop-holds
-    (λ c. search needs) array-read-through mul-lesser add-lesser (λ c κs. search needs) through-requires found-requires returns loop-less loop-again
-    found-requires-2 returns-2)
+    (tie.spec Inv-loop μ-loop (λ c. omega (arith, c .pre .reached)) (λ c κs. search needs) (λ c κs. search needs) (λ c κs. search needs) table-requires
+    (λ c. record { fits = omega (arith, c .before .before .lesser .ensures, c .before .before .before .sets-of .ensures) }) table-requires-2 loop-holds
+    (λ c. search needs) (λ c. let q = c .before .before .before .loop .inv .0 in omega (arith, q .short, q .limit-is, c .before .if1 .taken))
+    (λ c. let q = c .before .before .before .before .loop .inv .0 in record { fits = omega (arith, q .short, q .limit-is, c .before .before .if1 .taken) })
+    (λ c. let q = c .before .before .before .before .loop .inv .0 in record { fits = omega (arith, q .short, q .limit-is, c .before .before .if1 .taken) })
+    (λ c κs. search needs) through-requires found-requires returns
+    (λ c. let r = c .before .before in omega (arith, block-done r (c .if2 .left), r .before .lesser3 .ensures, r .before .before .before .before .if1 .taken))
+    (λ c. (c .before .before .before .before .before .before .before .before .loop .inv .0, block-counts (c .before .before)))
+    (λ c κs. let l = c .before .before in (omega (arith, l .loop .inv .0 .short, l .loop .inv .1 .within), l .loop .inv .1 .low)) returns-2)

@@ -14,11 +14,5 @@ few n h =
     let most : 2 ^ n ≤ 2 ^ 15 = pow-mono h in
     omega arith
 
-returns : tie.Need-returns
-returns c = many _ (c .if1 .taken)
-
-returns-2 : tie.Need-returns-2
-returns-2 c = few _ (c .if1 .left)
-
 pub sets-of-spec : {M : Type 1} → statement M
-sets-of-spec = tie.close (tie.spec returns (λ c. search needs) returns-2)
+sets-of-spec = tie.close (tie.spec (λ c. many _ (c .if1 .taken)) (λ c. search needs) (λ c. few _ (c .if1 .left)))

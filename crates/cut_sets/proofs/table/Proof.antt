@@ -11,11 +11,6 @@ Inv-loop worths n step count table₀ j₀ table j = Filling (worthOf (take n wo
 abbrev μ-loop : tie.MeasureT-loop
 μ-loop worths n step count table₀ j₀ table j = count - j
 
-loop-holds : tie.Need-loop-holds Inv-loop μ-loop
-loop-holds c =
-    let a = c .args in
-    filling-first (worthOf (take (a .n) (a .worths .now))) (a .step) (a .count)
-
 mul-worth-of : tie.Need-mul-worth-of Inv-loop μ-loop
 mul-worth-of c =
     let l = c .before in
@@ -27,12 +22,6 @@ worth-of-requires c κs =
     let l = c .before in
     let a = l .before .args in
     (l .before .pre .given, set-inside (a .n) (a .step) (a .count) (l .loop .j) (l .before .pre .inside) (c .loop-test .taken))
-
-mul-table : tie.Need-mul-table Inv-loop μ-loop
-mul-table c = omega (arith, c .before .before .before .pre .room)
-
-array-write-table : tie.Need-array-write-table Inv-loop μ-loop
-array-write-table c = omega (arith, c .before .before .before .pre .room)
 
 loop-again : tie.Need-loop-again Inv-loop μ-loop
 loop-again c =
@@ -52,11 +41,11 @@ table-spec =
     (tie.spec
     Inv-loop
     μ-loop
-    loop-holds
+    (λ c. filling-first (worthOf (take (c .args .n) (c .args .worths .now))) (c .args .step) (c .args .count))
     mul-worth-of
     worth-of-requires
-    mul-table
-    array-write-table
+    (λ c. omega (arith, c .before .before .before .pre .room))
+    (λ c. omega (arith, c .before .before .before .pre .room))
     (λ c. search needs)
     (λ c. search needs)
     loop-again

@@ -14,12 +14,6 @@ abbrev μ-loop : tie.MeasureT-loop
 abbrev looked : tie.After-first-better Inv-loop μ-loop → tie.At-loop Inv-loop μ-loop
 looked c = c .before .before .before .before .before
 
-loop-holds : tie.Need-loop-holds Inv-loop μ-loop
-loop-holds c = going-first (c .pre)
-
-returns : tie.Need-returns Inv-loop μ-loop
-returns c = going-end (c .before .before .before .before .loop .inv) (inl (c .if2 .taken))
-
 first-better-requires : tie.Need-first-better-requires Inv-loop μ-loop
 first-better-requires c κs =
     let l = c .before .before .before .before in
@@ -43,24 +37,16 @@ add-t15 c =
     let f = c .before .before in
     record { fits = omega (arith, f .first-better .ensures .inside, looked f .before .pre .few) }
 
-loop-less : tie.Need-loop-less Inv-loop μ-loop
-loop-less c =
-    let f = c .before .before in
-    omega (arith, f .first-better .ensures .on, f .before .before .before .if1 .taken)
-
 loop-again : tie.Need-loop-again Inv-loop μ-loop
 loop-again c =
     let e = c .before in
     let f = e .before in
     going-take (looked f .loop .inv) (f .before .if2 .left) (f .first-better .ensures) (e .if3 .left) refl refl refl
 
-returns-3 : tie.Need-returns-3 Inv-loop μ-loop
-returns-3 c =
-    let l = c .before .before in
-    going-end (l .loop .inv) (inr (omega (arith, c .if1 .left, l .loop .inv .inside)))
-
 pub through-spec : {M : Type 1} → statement M
 through-spec =
     tie.close
-    (tie.spec Inv-loop μ-loop loop-holds returns first-better-requires returns-2 (λ c. search needs) (λ c. search needs) add-t14 add-t15 loop-less loop-again
-    returns-3)
+    (tie.spec Inv-loop μ-loop (λ c. going-first (c .pre)) (λ c. going-end (c .before .before .before .before .loop .inv) (inl (c .if2 .taken)))
+    first-better-requires returns-2 (λ c. search needs) (λ c. search needs) add-t14 add-t15
+    (λ c. omega (arith, c .before .before .first-better .ensures .on, c .before .before .before .before .before .if1 .taken)) loop-again
+    (λ c. going-end (c .before .before .loop .inv) (inr (omega (arith, c .if1 .left, c .before .before .loop .inv .inside)))))

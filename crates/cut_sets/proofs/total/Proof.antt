@@ -12,26 +12,11 @@ Inv-loop worths n sum₀ i₀ s i = (i ≤ n) × (s ≡ sum (λ w. w) (take i wo
 abbrev μ-loop : tie.MeasureT-loop
 μ-loop worths n sum₀ i₀ s i = n - i
 
-loop-holds : tie.Need-loop-holds Inv-loop μ-loop
-loop-holds c = (omega arith, sym (sum-take-zero (λ w. w) (c .args .worths .now)))
-
-mul-sum : tie.Need-mul-sum Inv-loop μ-loop
-mul-sum c = omega (arith, c .before .before .pre .few)
-
-element-copy-out-sum : tie.Need-element-copy-out-sum Inv-loop μ-loop
-element-copy-out-sum c = omega (arith, c .before .before .pre .few)
-
 add-sum : tie.Need-add-sum Inv-loop μ-loop
 add-sum c =
     let l = c .before .before in
     let g = l .before .pre in
     record { fits = omega (arith, g .few, l .loop .inv .1, sum-next g (l .loop .i) (c .before .loop-test .taken), sum-most g (l .loop .i + 1)) }
-
-add-i : tie.Need-add-i Inv-loop μ-loop
-add-i c = omega arith
-
-loop-less : tie.Need-loop-less Inv-loop μ-loop
-loop-less c = omega arith
 
 loop-again : tie.Need-loop-again Inv-loop μ-loop
 loop-again c =
@@ -52,11 +37,11 @@ total-spec =
     (tie.spec
     Inv-loop
     μ-loop
-    loop-holds
-    mul-sum
-    element-copy-out-sum
+    (λ c. (omega arith, sym (sum-take-zero (λ w. w) (c .args .worths .now))))
+    (λ c. omega (arith, c .before .before .pre .few))
+    (λ c. omega (arith, c .before .before .pre .few))
     add-sum
-    add-i
-    loop-less
+    (λ c. omega arith)
+    (λ c. omega arith)
     loop-again
     returns)

@@ -12,18 +12,10 @@ Inv-loop worths n set sum₀ rest₀ i₀ s rest i = (i ≤ n) × (rest < 2 ^ i)
 abbrev μ-loop : tie.MeasureT-loop
 μ-loop worths n set sum₀ rest₀ i₀ s rest i = i
 
-loop-holds : tie.Need-loop-holds Inv-loop μ-loop
-loop-holds c = (omega arith, c .pre .1, omega arith)
-
 sub-i : tie.Need-sub-i Inv-loop μ-loop
 sub-i c =
     let l = c .before in
     bit-step (l .before .pre .0) (l .loop .i) (l .loop .rest) (l .loop .inv .0) (c .loop-test .taken) (l .loop .inv .1) .0
-
-mul-last-of : tie.Need-mul-last-of Inv-loop μ-loop
-mul-last-of c =
-    let l = c .before in
-    omega (arith, l .before .pre .0 .few, l .loop .inv .0)
 
 element-copy-out-last-of : tie.Need-element-copy-out-last-of Inv-loop μ-loop
 element-copy-out-last-of c =
@@ -61,9 +53,9 @@ worth-of-spec =
     (tie.spec
     Inv-loop
     μ-loop
-    loop-holds
+    (λ c. (omega arith, c .pre .1, omega arith))
     sub-i
-    mul-last-of
+    (λ c. omega (arith, c .before .before .pre .0 .few, c .before .loop .inv .0))
     element-copy-out-last-of
     (λ c κs. search needs)
     add-sum

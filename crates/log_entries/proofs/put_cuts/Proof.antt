@@ -10,21 +10,6 @@ Inv-loop entry₀ origins cuts from to k₀ entry k = PutTo origins cuts from to
 abbrev μ-loop : tie.MeasureT-loop
 μ-loop entry₀ origins cuts from to k₀ entry k = to - k
 
-loop-holds : tie.Need-loop-holds Inv-loop μ-loop
-loop-holds c = put-start (c .before .pre .1)
-
-element-copy-out-index : tie.Need-element-copy-out-index Inv-loop μ-loop
-element-copy-out-index c = omega (arith, c .before .before .before .pre .1 .few)
-
-mul-put-u32 : tie.Need-mul-put-u32 Inv-loop μ-loop
-mul-put-u32 c = omega (arith, c .before .index .ensures .1)
-
-mul-put-u32-2 : tie.Need-mul-put-u32-2 Inv-loop μ-loop
-mul-put-u32-2 c = omega (arith, c .before .before .before .before .before .before .pre .1 .few)
-
-element-copy-out-put-u32 : tie.Need-element-copy-out-put-u32 Inv-loop μ-loop
-element-copy-out-put-u32 c = omega (arith, c .before .before .before .before .before .before .pre .1 .few)
-
 cast-put-u32 : tie.Need-cast-put-u32 Inv-loop μ-loop
 cast-put-u32 c =
     let l = c .before .before .before .before .before in
@@ -41,9 +26,6 @@ loop-again c =
     put-next (l .before .before .pre .1) (l .loop .inv) (c .before .before .before .before .before .before .before .loop-test .taken) (c .before .before .before .before .before .index .ensures .0)
     (c .before .before .put-u32 .ensures)
 
-same-length : tie.Need-same-length Inv-loop μ-loop
-same-length c = c .before .loop .inv .long
-
 returns : tie.Need-returns Inv-loop μ-loop
 returns c = put-end (c .before .before .before .pre .1) (c .before .loop .inv) (c .loop-test .left)
 
@@ -53,16 +35,16 @@ put-cuts-spec =
     (tie.spec
     Inv-loop
     μ-loop
-    loop-holds
-    element-copy-out-index
+    (λ c. put-start (c .before .pre .1))
+    (λ c. omega (arith, c .before .before .before .pre .1 .few))
     (λ c κs. search needs)
-    mul-put-u32
-    mul-put-u32-2
-    element-copy-out-put-u32
+    (λ c. omega (arith, c .before .index .ensures .1))
+    (λ c. omega (arith, c .before .before .before .before .before .before .pre .1 .few))
+    (λ c. omega (arith, c .before .before .before .before .before .before .pre .1 .few))
     cast-put-u32
     put-u32-requires
     (λ c. search needs)
     (λ c. search needs)
     loop-again
-    same-length
+    (λ c. c .before .loop .inv .long)
     returns)

@@ -4,12 +4,6 @@ use Rattle.log_entries.proofs.Parts.{front-filled}
 use Rattle.log_entries.proofs.put_held.Statement.{statement}
 use Rattle.log_entries.proofs.put_held.Tie as tie
 
-slice-aggregate-copy : tie.Need-slice-aggregate-copy
-slice-aggregate-copy c = sym (length-take-le _ _ (c .before .before .before .pre))
-
-copy-requires : tie.Need-copy-requires
-copy-requires c κs = rw length-take (omega (arith, c .before .before .before .pre))
-
 returns : tie.Need-returns
 returns c =
     let emptied = c .before .before in
@@ -20,5 +14,6 @@ returns c =
 pub put-held-spec : {M : Type 1} → statement M
 put-held-spec =
     tie.close
-    (tie.spec (λ c. search needs) slice-aggregate-copy copy-requires (λ c. search needs) (λ c. search needs) (λ c. search needs) (λ c κs. search needs)
-    (λ c. search needs) returns)
+    (tie.spec (λ c. search needs) (λ c. sym (length-take-le _ _ (c .before .before .before .pre)))
+    (λ c κs. rw length-take (omega (arith, c .before .before .before .pre))) (λ c. search needs) (λ c. search needs) (λ c. search needs)
+    (λ c κs. search needs) (λ c. search needs) returns)

@@ -15,23 +15,6 @@ Inv-loop book at m sums so-far₀ k₀ so-far k = Answering so-far (raisesWithin
 abbrev μ-loop : tie.MeasureT-loop
 μ-loop book at m sums so-far₀ k₀ so-far k = m - k
 
-loop-holds : tie.Need-loop-holds Inv-loop μ-loop
-loop-holds c = answering-start
-
-trade-at-requires : tie.Need-trade-at-requires Inv-loop μ-loop
-trade-at-requires c κs =
-    let s = c .before .before .before in
-    record { form = s .pre .0; begin = s .pre .1; inside = omega arith }
-
-mul-is-within : tie.Need-mul-is-within Inv-loop μ-loop
-mul-is-within c = omega (arith, c .before .before .before .before .pre .0 .trades)
-
-element-copy-out-is-within : tie.Need-element-copy-out-is-within Inv-loop μ-loop
-element-copy-out-is-within c = omega (arith, c .before .before .before .before .pre .0 .trades)
-
-is-within-requires : tie.Need-is-within-requires Inv-loop μ-loop
-is-within-requires c κs = c .before .before .before .before .before .pre .3 .each _
-
 loop-again : tie.Need-loop-again Inv-loop μ-loop
 loop-again c =
     let l = c .before .before .before .before in
@@ -56,5 +39,7 @@ returns c =
 pub are-within-spec : {M : Type 1} → statement M
 are-within-spec =
     tie.close
-    (tie.spec Inv-loop μ-loop loop-holds trade-at-requires mul-is-within element-copy-out-is-within is-within-requires (λ c. search needs) (λ c. search needs)
-    loop-again returns)
+    (tie.spec Inv-loop μ-loop (λ c. answering-start)
+    (λ c κs. let s = c .before .before .before in record { form = s .pre .0; begin = s .pre .1; inside = omega arith })
+    (λ c. omega (arith, c .before .before .before .before .pre .0 .trades)) (λ c. omega (arith, c .before .before .before .before .pre .0 .trades))
+    (λ c κs. c .before .before .before .before .before .pre .3 .each _) (λ c. search needs) (λ c. search needs) loop-again returns)

@@ -13,17 +13,11 @@ returns : tie.Need-returns
 unfolding logFits
 returns c = rw (sym (sym (not-true _ (c .if1 .taken)) ∙ c .before .is-formed .ensures))
 
-holds-book-requires : tie.Need-holds-book-requires
-holds-book-requires c κs = formed c
-
 returns-2 : tie.Need-returns-2
 unfolding logFits
 returns-2 c =
     let asked = c .before .before in
     rw (sym (sym (not-false _ (asked .if1 .left)) ∙ asked .before .is-formed .ensures), sym (sym (not-true _ (c .if2 .taken)) ∙ c .before .holds-book .ensures))
-
-is-used-as-told-requires : tie.Need-is-used-as-told-requires
-is-used-as-told-requires c κs = ((formed (c .before .before .before), c .before .before .before .before .before .before .before .pre), refl)
 
 returns-3 : tie.Need-returns-3
 unfolding logFits
@@ -36,4 +30,5 @@ returns-3 c =
 pub fits-spec : {M : Type 1} → statement M
 fits-spec =
     tie.close
-    (tie.spec (λ c κs. search needs) returns holds-book-requires returns-2 is-used-as-told-requires returns-3)
+    (tie.spec (λ c κs. search needs) returns (λ c κs. formed c) returns-2
+    (λ c κs. ((formed (c .before .before .before), c .before .before .before .before .before .before .before .pre), refl)) returns-3)

@@ -27,4 +27,5 @@ returns c =
 pub is-last-spec : {M : Type 1} → statement M
 is-last-spec =
     tie.close
-    (tie.spec (λ c κs. search needs) (λ c. search needs) entry-offset-requires sub-is-zero part-is-zero-start (λ c. search needs) (λ c κs. search needs) returns)
+    (tie.spec (λ c κs. search needs) (λ c. search needs) entry-offset-requires sub-is-zero part-is-zero-start (λ c. search needs) (λ c κs. search needs)
+    returns)

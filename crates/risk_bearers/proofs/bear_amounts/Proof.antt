@@ -37,12 +37,8 @@ bear-amount-requires-3 c κs =
 loop-again : tie.Need-loop-again Inv-loop μ-loop
 loop-again c = (omega (arith, c .before .before .before .before .before .before .loop-test .taken), rows-turn (c .bear-amount3 .ensures))
 
-returns : tie.Need-returns Inv-loop μ-loop
-returns c =
-    let l = c .before in
-    rows-end (omega (arith, c .loop-test .left, l .loop .inv .0)) (l .loop .inv .1)
-
 pub bear-amounts-spec : {M : Type 1} → statement M
 bear-amounts-spec =
     tie.close
-    (tie.spec Inv-loop μ-loop (λ c κs. search needs) loop-holds bear-amount-requires bear-amount-requires-2 bear-amount-requires-3 (λ c. search needs) (λ c. search needs) loop-again returns)
+    (tie.spec Inv-loop μ-loop (λ c κs. search needs) loop-holds bear-amount-requires bear-amount-requires-2 bear-amount-requires-3 (λ c. search needs)
+    (λ c. search needs) loop-again (λ c. rows-end (omega (arith, c .loop-test .left, c .before .loop .inv .0)) (c .before .loop .inv .1)))

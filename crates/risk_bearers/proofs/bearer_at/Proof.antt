@@ -13,9 +13,6 @@ use Rattle.risk_bearers.proofs.bearer_at.Tie as tie
 there : (s : tie.Start) → UserIn (now (s .args .book)) (s .args .i)
 there s = record { form = s .pre .0 .held .form; inside = omega (arith, s .pre .3, s .pre .4) }
 
-user-offset-requires : tie.Need-user-offset-requires
-user-offset-requires c κs = there (c .before)
-
 get-u32-requires : tie.Need-get-u32-requires
 get-u32-requires c κs =
     let s = c .before .before in
@@ -38,9 +35,6 @@ returns c =
     let s = g .before .before .before in
     bearer-self (now (s .args .book)) (s .pre .0) (omega (arith, s .pre .3, s .pre .4)) (s .args .area) (manager g) (c .if1 .taken)
 
-place-of-requires : tie.Need-place-of-requires
-place-of-requires c κs = let s = c .before .before .before .before .before in s .pre .2 .padded
-
 cast-result-2 : tie.Need-cast-result-2
 cast-result-2 c =
     let s = c .before .before .before .before .before .before in
@@ -57,4 +51,5 @@ returns-2 c =
 pub bearer-at-spec : {M : Type 1} → statement M
 bearer-at-spec =
     tie.close
-    (tie.spec user-offset-requires (λ c. search needs) (λ c. search needs) (λ c. search needs) get-u32-requires cast-result returns place-of-requires cast-result-2 returns-2)
+    (tie.spec (λ c κs. there (c .before)) (λ c. search needs) (λ c. search needs) (λ c. search needs) get-u32-requires cast-result returns
+    (λ c κs. c .before .before .before .before .before .pre .2 .padded) cast-result-2 returns-2)

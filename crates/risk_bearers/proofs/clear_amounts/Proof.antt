@@ -10,14 +10,11 @@ Inv-loop rows₀ i₀ rows i = ClearedTo i rows
 abbrev μ-loop : tie.MeasureT-loop
 μ-loop rows₀ i₀ rows i = 192 - i
 
-loop-holds : tie.Need-loop-holds Inv-loop μ-loop
-loop-holds c = record { room = c .pre; each = λ j h. absurd (omega arith) }
-
-loop-again : tie.Need-loop-again Inv-loop μ-loop
-loop-again c = cleared-more (c .loop-test .taken) (c .before .loop .inv)
-
 returns : tie.Need-returns Inv-loop μ-loop
 returns c = let p = c .before .loop .inv in record { room = p .room; each = λ j h. p .each j (omega (arith, c .loop-test .left)) }
 
 pub clear-amounts-spec : {M : Type 1} → statement M
-clear-amounts-spec = tie.close (tie.spec Inv-loop μ-loop loop-holds (λ c. search needs) (λ c. search needs) (λ c. search needs) (λ c. search needs) loop-again returns)
+clear-amounts-spec =
+    tie.close
+    (tie.spec Inv-loop μ-loop (λ c. record { room = c .pre; each = λ j h. absurd (omega arith) }) (λ c. search needs) (λ c. search needs)
+    (λ c. search needs) (λ c. search needs) (λ c. cleared-more (c .loop-test .taken) (c .before .loop .inv)) returns)

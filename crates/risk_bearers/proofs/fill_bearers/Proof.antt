@@ -11,12 +11,6 @@ Inv-loop book n bearers₀ ids i₀ bearers i = BearersTo (usersOf book) i beare
 abbrev μ-loop : tie.MeasureT-loop
 μ-loop book n bearers₀ ids i₀ bearers i = n - i
 
-fill-ids-requires : tie.Need-fill-ids-requires Inv-loop μ-loop
-fill-ids-requires c κs = let s = c .before .before in (s .pre .0, s .pre .2, refl)
-
-loop-holds : tie.Need-loop-holds Inv-loop μ-loop
-loop-holds c = let s = c .before .before .before in record { room = s .pre .3; each = λ j area h k. absurd (omega arith) }
-
 bearer-at-requires : tie.Need-bearer-at-requires Inv-loop μ-loop
 bearer-at-requires c κs =
     let i = c .before in
@@ -75,5 +69,7 @@ returns c =
 pub fill-bearers-spec : {M : Type 1} → statement M
 fill-bearers-spec =
     tie.close
-    (tie.spec Inv-loop μ-loop fill-ids-requires loop-holds (λ c. search needs) bearer-at-requires element-write-bearers bearer-at-requires-2 (λ c. search needs) element-write-bearers-2
-    bearer-at-requires-3 (λ c. search needs) element-write-bearers-3 (λ c. search needs) (λ c. search needs) loop-again returns)
+    (tie.spec Inv-loop μ-loop (λ c κs. (c .before .before .pre .0, c .before .before .pre .2, refl))
+    (λ c. record { room = c .before .before .before .pre .3; each = λ j area h k. absurd (omega arith) }) (λ c. search needs) bearer-at-requires
+    element-write-bearers bearer-at-requires-2 (λ c. search needs) element-write-bearers-2 bearer-at-requires-3 (λ c. search needs) element-write-bearers-3
+    (λ c. search needs) (λ c. search needs) loop-again returns)

@@ -13,18 +13,9 @@ Inv-loop book n ids₀ i₀ ids i = (i ≤ n) × IdsTo (usersOf book) ids i
 abbrev μ-loop : tie.MeasureT-loop
 μ-loop book n ids₀ i₀ ids i = n - i
 
-loop-holds : tie.Need-loop-holds Inv-loop μ-loop
-loop-holds c = let s = c .before in (omega arith, ids-start (usersOf (now (s .args .book))) (s .pre .2))
-
 -- the user is one of the book
 there : (c : tie.In-loop Inv-loop μ-loop) → UserIn (now (c .before .before .before .args .book)) (c .before .loop .i)
 there c = let s = c .before .before .before in record { form = s .pre .0 .held .form; inside = omega (arith, c .loop-test .taken, s .pre .1) }
-
-user-offset-requires : tie.Need-user-offset-requires Inv-loop μ-loop
-user-offset-requires c κs = there c
-
-get-u32-requires : tie.Need-get-u32-requires Inv-loop μ-loop
-get-u32-requires c κs = omega (arith, c .user-offset .ensures .0, user-lies (there (c .before)))
 
 element-write-ids : tie.Need-element-write-ids Inv-loop μ-loop
 element-write-ids c =
@@ -49,4 +40,6 @@ returns c =
 pub fill-ids-spec : {M : Type 1} → statement M
 fill-ids-spec =
     tie.close
-    (tie.spec Inv-loop μ-loop loop-holds user-offset-requires get-u32-requires (λ c. search needs) element-write-ids (λ c. search needs) (λ c. search needs) loop-again returns)
+    (tie.spec Inv-loop μ-loop (λ c. (omega arith, ids-start (usersOf (now (c .before .args .book))) (c .before .pre .2))) (λ c κs. there c)
+    (λ c κs. omega (arith, c .user-offset .ensures .0, user-lies (there (c .before)))) (λ c. search needs) element-write-ids (λ c. search needs)
+    (λ c. search needs) loop-again returns)

@@ -4,9 +4,6 @@ use Rattle.risk_members.proofs.Holdings.{held-three}
 use Rattle.risk_members.proofs.held_by.Statement.{statement}
 use Rattle.risk_members.proofs.held_by.Tie as tie
 
-user-count-requires : tie.Need-user-count-requires
-user-count-requires c κs = omega (arith, c .before .pre .0 .held .form .head)
-
 returns : tie.Need-returns
 returns c =
     let t = c .before in
@@ -17,4 +14,7 @@ returns c =
     (p .held-in .result) (t .held-in2 .result) (c .held-in3 .result) (p .held-in .ensures) (t .held-in2 .ensures) (c .held-in3 .ensures)
 
 pub held-by-spec : {M : Type 1} → statement M
-held-by-spec = tie.close (tie.spec user-count-requires (λ c. search needs) (λ c κs. search needs) (λ c κs. search needs) (λ c κs. search needs) returns)
+held-by-spec =
+    tie.close
+    (tie.spec (λ c κs. omega (arith, c .before .pre .0 .held .form .head)) (λ c. search needs) (λ c κs. search needs) (λ c κs. search needs)
+    (λ c κs. search needs) returns)

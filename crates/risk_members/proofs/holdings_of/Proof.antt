@@ -8,9 +8,6 @@ use Rattle.risk_members.proofs.Members.{read-id}
 use Rattle.risk_members.proofs.holdings_of.Statement.{statement}
 use Rattle.risk_members.proofs.holdings_of.Tie as tie
 
-version-requires : tie.Need-version-requires
-version-requires c κs = omega (arith, c .before .pre .0 .held .form .head)
-
 held-by-requires : tie.Need-held-by-requires
 held-by-requires c κs =
     let h = c .before in
@@ -33,4 +30,6 @@ returns-2 c =
 
 pub holdings-of-spec : {M : Type 1} → statement M
 holdings-of-spec =
-    tie.close (tie.spec version-requires (λ c κs. search needs) held-by-requires (λ c. c .held-by .ensures) holdings-at-requires returns-2)
+    tie.close
+    (tie.spec (λ c κs. omega (arith, c .before .pre .0 .held .form .head)) (λ c κs. search needs) held-by-requires (λ c. c .held-by .ensures)
+    holdings-at-requires returns-2)

@@ -15,9 +15,6 @@ Inv-loop book n id area position₀ i₀ position i = SumTo (usersOf book) id ar
 abbrev μ-loop : tie.MeasureT-loop
 μ-loop book n id area position₀ i₀ position i = n - i
 
-next-member-requires : tie.Need-next-member-requires Inv-loop μ-loop
-next-member-requires c κs = let s = c .before in (s .pre .0, s .pre .1, s .pre .2, omega arith, s .pre .3)
-
 loop-holds : tie.Need-loop-holds Inv-loop μ-loop
 loop-holds c =
     let a = c .before .before .args in
@@ -43,9 +40,6 @@ next-member-requires-2 c κs =
     let s = start l in
     (s .pre .0, s .pre .1, s .pre .2, omega (arith, l .loop-test .taken), s .pre .3)
 
-loop-less : tie.Need-loop-less Inv-loop μ-loop
-loop-less c = omega (arith, c .next-member2 .ensures .rises, c .before .before .loop-test .taken)
-
 loop-again : tie.Need-loop-again Inv-loop μ-loop
 loop-again c =
     let w = c .before in
@@ -64,4 +58,6 @@ returns c =
 pub position-in-spec : {M : Type 1} → statement M
 position-in-spec =
     tie.close
-    (tie.spec Inv-loop μ-loop next-member-requires loop-holds with-position-requires (λ c. search needs) next-member-requires-2 loop-less loop-again returns)
+    (tie.spec Inv-loop μ-loop (λ c κs. (c .before .pre .0, c .before .pre .1, c .before .pre .2, omega arith, c .before .pre .3)) loop-holds
+    with-position-requires (λ c. search needs) next-member-requires-2
+    (λ c. omega (arith, c .next-member2 .ensures .rises, c .before .before .loop-test .taken)) loop-again returns)

@@ -8,9 +8,6 @@ use Rattle.risk_members.proofs.Members.{read-id}
 use Rattle.risk_members.proofs.positions_of.Statement.{statement}
 use Rattle.risk_members.proofs.positions_of.Tie as tie
 
-version-requires : tie.Need-version-requires
-version-requires c κs = omega (arith, c .before .pre .0 .held .form .head)
-
 positions-by-requires : tie.Need-positions-by-requires
 positions-by-requires c κs =
     let h = c .before in
@@ -27,4 +24,7 @@ returns-2 c =
     positions-plain (now (s .args .book)) (s .pre .0) (s .pre .1) (sym (h .has-managers .ensures ∙ ap managersIn (v .version .ensures)) ∙ e .if1 .left) (s .args .user) (s .pre .2)
 
 pub positions-of-spec : {M : Type 1} → statement M
-positions-of-spec = tie.close (tie.spec version-requires (λ c κs. search needs) positions-by-requires (λ c. c .positions-by .ensures) returns-2)
+positions-of-spec =
+    tie.close
+    (tie.spec (λ c κs. omega (arith, c .before .pre .0 .held .form .head)) (λ c κs. search needs) positions-by-requires (λ c. c .positions-by .ensures)
+    returns-2)

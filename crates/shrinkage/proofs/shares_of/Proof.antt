@@ -11,15 +11,6 @@ Inv-loop balances half sum shares₀ remainders₀ given₀ i₀ shares remainde
 abbrev μ-loop : tie.MeasureT-loop
 μ-loop balances half sum shares₀ remainders₀ given₀ i₀ shares remainders given i = length balances - i
 
-loop-holds : tie.Need-loop-holds Inv-loop μ-loop
-loop-holds c = dividing-start
-
-mul-balance : tie.Need-mul-balance Inv-loop μ-loop
-mul-balance c = omega (arith, c .before .before .pre .few)
-
-shared-slice-copy-out-balance : tie.Need-shared-slice-copy-out-balance Inv-loop μ-loop
-shared-slice-copy-out-balance c = omega arith
-
 product-requires : tie.Need-product-requires Inv-loop μ-loop
 product-requires c κs =
     let l = c .before .before .before .before in
@@ -27,24 +18,6 @@ product-requires c κs =
     let z = getD (l .before .args .balances .now) (l .loop .i) (pos 0) in
     let e = kept-parts z (record { sfits = c .before .before .balance .given }) (c .before .of .ensures .0) in
     (q .half-most, own-most q (l .loop .i) (pos 0) (c .before .before .before .loop-test .taken) (e .1))
-
-div-share : tie.Need-div-share Inv-loop μ-loop
-div-share c = c .before .before .before .before .before .before .before .pre .some
-
-mul-shares : tie.Need-mul-shares Inv-loop μ-loop
-mul-shares c = omega (arith, c .before .before .before .before .before .before .before .pre .few)
-
-array-set-from-shares : tie.Need-array-set-from-shares Inv-loop μ-loop
-array-set-from-shares c = omega (arith, c .before .before .before .before .before .before .before .pre .few)
-
-rem-remainders : tie.Need-rem-remainders Inv-loop μ-loop
-rem-remainders c = c .before .before .before .before .before .before .before .before .pre .some
-
-mul-remainders : tie.Need-mul-remainders Inv-loop μ-loop
-mul-remainders c = omega (arith, c .before .before .before .before .before .before .before .before .pre .few)
-
-array-write-remainders : tie.Need-array-write-remainders Inv-loop μ-loop
-array-write-remainders c = omega (arith, c .before .before .before .before .before .before .before .before .pre .few)
 
 add-given : tie.Need-add-given Inv-loop μ-loop
 add-given c =
@@ -62,28 +35,25 @@ loop-again c =
     let e = kept-parts z (record { sfits = c .before .before .before .before .before .balance .given }) (c .before .before .before .before .of .ensures .0) in
     dividing-more (l .before .pre) (l .loop .inv) (pos 0) (c .before .before .before .before .before .before .loop-test .taken) (e .1) (c .before .before .product .ensures)
 
-returns : tie.Need-returns Inv-loop μ-loop
-returns c = dividing-end (c .before .before .pre) (c .before .loop .inv) (omega arith)
-
 pub shares-of-spec : {M : Type 1} → statement M
 shares-of-spec =
     tie.close
     (tie.spec
     Inv-loop
     μ-loop
-    loop-holds
-    mul-balance
-    shared-slice-copy-out-balance
+    (λ c. dividing-start)
+    (λ c. omega (arith, c .before .before .pre .few))
+    (λ c. omega arith)
     (λ c κs. search needs)
     product-requires
-    div-share
-    mul-shares
-    array-set-from-shares
-    rem-remainders
-    mul-remainders
-    array-write-remainders
+    (λ c. c .before .before .before .before .before .before .before .pre .some)
+    (λ c. omega (arith, c .before .before .before .before .before .before .before .pre .few))
+    (λ c. omega (arith, c .before .before .before .before .before .before .before .pre .few))
+    (λ c. c .before .before .before .before .before .before .before .before .pre .some)
+    (λ c. omega (arith, c .before .before .before .before .before .before .before .before .pre .few))
+    (λ c. omega (arith, c .before .before .before .before .before .before .before .before .pre .few))
     add-given
     (λ c. search needs)
     (λ c. search needs)
     loop-again
-    returns)
+    (λ c. dividing-end (c .before .before .pre) (c .before .loop .inv) (omega arith)))

@@ -4,9 +4,6 @@ use Rattle.shrinkage.proofs.Ways.{too-many, one-out, no-return, divisib
 use Rattle.shrinkage.proofs.shrinkage_return.Statement.{statement}
 use Rattle.shrinkage.proofs.shrinkage_return.Tie as tie
 
-returns : tie.Need-returns
-returns c = c .nothing .ensures ∙ too-many _ (c .before .if1 .taken)
-
 returns-2 : tie.Need-returns-2
 returns-2 c =
     let sums = c .before .before .before in
@@ -38,7 +35,7 @@ shrinkage-return-spec =
     tie.close
     (tie.spec
     (λ c κs. search needs)
-    returns
+    (λ c. c .nothing .ensures ∙ too-many _ (c .before .if1 .taken))
     (λ c κs. search needs)
     (λ c κs. search needs)
     returns-2

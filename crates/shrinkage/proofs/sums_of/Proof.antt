@@ -11,30 +11,12 @@ Inv-loop balances above₀ below₀ i₀ above below i = Summing balances above 
 abbrev μ-loop : tie.MeasureT-loop
 μ-loop balances above₀ below₀ i₀ above below i = length balances - i
 
-loop-holds : tie.Need-loop-holds Inv-loop μ-loop
-loop-holds c = summing-start
-
-mul-balance : tie.Need-mul-balance Inv-loop μ-loop
-mul-balance c = omega arith
-
-shared-slice-copy-out-balance : tie.Need-shared-slice-copy-out-balance Inv-loop μ-loop
-shared-slice-copy-out-balance c = omega arith
-
-add-if1 : tie.Need-add-if1 Inv-loop μ-loop
-add-if1 c = omega arith
-
 returns : tie.Need-returns Inv-loop μ-loop
 returns c =
     let l = c .before .before .before .before .before in
     let z = getD (l .before .args .balances .now) (l .loop .i) (pos 0) in
     let e = kept-parts z (record { sfits = c .before .before .before .balance .given }) (c .before .before .of .ensures .0) in
     summing-no (pos 0) (l .loop .inv) (c .before .before .before .before .loop-test .taken) e (c .if1 .taken)
-
-add-above : tie.Need-add-above Inv-loop μ-loop
-add-above c = omega arith
-
-add-below : tie.Need-add-below Inv-loop μ-loop
-add-below c = omega arith
 
 loop-again : tie.Need-loop-again Inv-loop μ-loop
 loop-again c =
@@ -43,24 +25,21 @@ loop-again c =
     let e = kept-parts z (record { sfits = c .before .before .before .before .before .balance .given }) (c .before .before .before .before .of .ensures .0) in
     summing-more (pos 0) (l .loop .inv) (c .before .before .before .before .before .before .loop-test .taken) e (c .before .before .if1 .left)
 
-returns-2 : tie.Need-returns-2 Inv-loop μ-loop
-returns-2 c = summing-end (c .before .before .pre) (c .before .loop .inv) (omega arith)
-
 pub sums-of-spec : {M : Type 1} → statement M
 sums-of-spec =
     tie.close
     (tie.spec
     Inv-loop
     μ-loop
-    loop-holds
-    mul-balance
-    shared-slice-copy-out-balance
+    (λ c. summing-start)
+    (λ c. omega arith)
+    (λ c. omega arith)
     (λ c κs. search needs)
-    add-if1
+    (λ c. omega arith)
     returns
-    add-above
-    add-below
+    (λ c. omega arith)
+    (λ c. omega arith)
     (λ c. search needs)
     (λ c. search needs)
     loop-again
-    returns-2)
+    (λ c. summing-end (c .before .before .pre) (c .before .loop .inv) (omega arith)))
