@@ -10,15 +10,19 @@
 //! one number, which a table of 32 holds the sum's place for; sums stand in rows of
 //! 64 bytes, of which only those of the book's users are cleared.
 //!
-//! What was tried and is not here, on the largest book, where this takes 0.87 µs:
-//! faults gathered as bits with one test at the end of a walk, without a branch
-//! (1.13 µs: a branch that is never taken costs less than gathering); the same with
-//! two sets of sums by turns (1.26 µs); one walk that finds the places and one that
+//! What was tried and is not here, with the time on the largest book, where this takes
+//! 0.87 to 0.91 µs: faults gathered as bits with one test at the end of a walk, without
+//! a branch (1.13 µs: a branch that is never taken costs less than gathering); the same
+//! with two sets of sums by turns (1.26 µs); one walk that finds the places and one that
 //! sums (1.07 µs); sums by area and day instead of by user (0.81 to 1.11 µs, by where
-//! the book lies in memory, and more on the small book); area, kind and day taken
+//! book and sums lie in memory, and more on the small book); area, kind and day taken
 //! apart by shifts (0.90 µs); a hash of 11 bits instead of 12 (the same).
 
 #![forbid(unsafe_code)]
+
+mod codes;
+
+use codes::{code_place, CODES};
 
 const MARK: u32 = u32::from_le_bytes(*b"GDB\0");
 const MONTH_LENGTHS: [u32; 12] = [31, 28, 31, 30, 31, 30, 31, 31, 30, 31, 30, 31];
@@ -352,43 +356,6 @@ fn search(ids: &[u32], id: u32) -> u8 {
         0 => NOBODY,
         id => ids.binary_search(&id).unwrap_or(0).to_le_bytes()[0],
     }
-}
-
-/// What area, kind and day tell, at their [`code_place`]; 0 at the places of none.
-struct Codes {
-    codes: [u32; 32],
-    /// The place of the sum among those of the sellers or of the buyers.
-    sums: [u32; 32],
-    /// All bits where standing has to equal notified.
-    whole: [u32; 32],
-}
-
-static CODES: Codes = codes();
-
-/// Two bits of the area, two of the kind, one of the day: distinct for those that there
-/// are, and 0 only for 0 among them.
-#[inline(always)]
-const fn code_place(code: u32) -> usize {
-    (code.wrapping_mul(1 << 27 | 1 << 21 | 1 << 15) >> 27) as usize
-}
-
-const fn codes() -> Codes {
-    let mut table = Codes {
-        codes: [0; 32],
-        sums: [0; 32],
-        whole: [0; 32],
-    };
-    let mut place = 0;
-    while place < 18 {
-        let (area, kind, day) = (place % 3, place / 3 % 3, place / 9);
-        let code = area | kind << 8 | day << 16;
-        let at = code_place(code);
-        table.codes[at] = code;
-        table.sums[at] = 4 * day | area;
-        table.whole[at] = if kind | day == 0 { 0 } else { u32::MAX };
-        place += 1;
-    }
-    table
 }
 
 /// A field of 32 bits.
