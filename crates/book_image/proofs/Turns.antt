@@ -10,7 +10,7 @@ use Rattle.fields.proofs.Records.{length-recordsOf, length-bytesOfRecords}
 use Rattle.fields.proofs.Sets.{part-of-sets, part-sets, sets-left, take-sets, drop-sets, drop-sets-add}
 use Rattle.book_image.specs.Fitted.{fitted, refitted}
 use Rattle.book_image.specs.Zeroed.{zeroedRecords}
-use Rattle.book_image.proofs.Fitted.{length-fitted, length-refitted}
+use Rattle.book_image.proofs.Fitted.{fitted-same, length-fitted, length-refitted, refitted-same}
 
 -- ---- parts
 
@@ -107,32 +107,6 @@ module _ {R : Type 0} (len : ℕ) (one : List ℕ → R) where
       let f : length (drop len p) ≡ len * n = rw length-drop (omega (arith, e, h)) in
       rw (take-append-le len p q (omega (arith, e, h)), drop-append-le len p q (omega (arith, e, h)), records-front n (drop len p) q f)
 
-  -- records that are read and written again are their bytes with a field as 0, where this holds of each
-  zeroed-records : (width offset : ℕ) (bytes : R → List ℕ) → ((c : List ℕ) → AllBytes c → length c ≡ len → setField width offset 0 c ≡ bytes (one c))
-      → (n : ℕ) (s : List ℕ) → len * n ≤ length s → AllBytes s → zeroedRecords width offset len n s ≡ bytesOfRecords bytes (recordsOf len one n s)
-  unfolding zeroedRecords recordsOf bytesOfRecords
-  zeroed-records width offset bytes f zero s h b = refl
-  zeroed-records width offset bytes f (suc n) s h b =
-      let e : len * suc n ≡ len * n + len = mul-suc len n in
-      ap₂ (λ (x y : List ℕ). x ++ y) (f (take len s) (all-bytes-take len s b) (length-take-le len s (omega (arith, e, h))))
-      (zeroed-records width offset bytes f n (drop len s) (rw length-drop (omega (arith, e, h))) (all-bytes-drop len s b))
-
-  -- records lent from one part and written to another
-  pub records-copied : {part : List ℕ} (width offset : ℕ) (bytes : R → List ℕ) → ((c : List ℕ) → AllBytes c → length c ≡ len → setField width offset 0 c ≡ bytes (one c))
-      → ((r : R) → length (bytes r) ≡ len) → (s : List ℕ) (from n : ℕ) (out : List ℕ) (at : ℕ) → AllBytes s → from + len * n ≤ length s → at + len * n ≤ length out
-      → part ≡ zeroedRecords width offset len n (take (from + len * n - from) (drop from s))
-      → putMid at (at + len * n - at) out part ≡ sets out at (bytesOfRecords bytes (recordsOf len one n (drop from s)))
-  records-copied width offset bytes f sized s from n out at b h k e =
-      let m = len * n in
-      let d = drop from s in
-      let q : from + m - from ≡ m = omega arith in
-      let l : length (take m d) ≡ m = length-take-le m d (rw length-drop (omega (arith, h))) in
-      let z : zeroedRecords width offset len n (take m d) ≡ bytesOfRecords bytes (recordsOf len one n d) = zeroed-records width offset bytes f n (take m d)
-      (omega (arith, l)) (all-bytes-take m d (all-bytes-drop from s b)) ∙ ap (bytesOfRecords bytes)
-      (sym (records-front n (take m d) (drop m d) l) ∙ ap (recordsOf len one n) (take-append-drop m d)) in
-      let r : length (bytesOfRecords bytes (recordsOf len one n d)) ≡ m = length-bytesOfRecords bytes len sized (recordsOf len one n d) ∙ ap (λ (j : ℕ). len * j) (length-recordsOf len one n d) in
-      part-set at m out (bytesOfRecords bytes (recordsOf len one n d)) r k ((rw q at e) ∙ z)
-
 -- ---- records of another size
 
 module _ {R : Type 0} (len k : ℕ) (one : List ℕ → R) (width offset : ℕ) (bytes : R → List ℕ)
@@ -164,3 +138,22 @@ module _ {R : Type 0} (len k : ℕ) (one : List ℕ → R) (width offset : ℕ) 
       let ly : length y ≡ m = length-bytesOfRecords bytes k sized (recordsOf len one n d) ∙ ap (λ (i : ℕ). k * i) (length-recordsOf len one n d) in
       let p : part ≡ y = e ∙ rw (q, w, part-of-sets out x at m lx j) (refitted-zeroed n d (rw length-drop (omega (arith, h))) (all-bytes-drop from s b)) in
       rw w (part-set at m (sets out at x) y ly (rw length-sets j) p) ∙ sets-twice out x y at m lx ly j
+
+-- ---- records of the same size
+
+-- records lent from one part and written to another
+pub records-copied : {R : Type 0} (len : ℕ) (one : List ℕ → R) {part : List ℕ} (width offset : ℕ) (bytes : R → List ℕ)
+    → ((c : List ℕ) → AllBytes c → length c ≡ len → setField width offset 0 c ≡ bytes (one c)) → ((r : R) → length (bytes r) ≡ len)
+    → (s : List ℕ) (from n : ℕ) (out : List ℕ) (at : ℕ) → AllBytes s → from + len * n ≤ length s → at + len * n ≤ length out
+    → part ≡ zeroedRecords width offset len n (take (from + len * n - from) (drop from s))
+    → putMid at (at + len * n - at) out part ≡ sets out at (bytesOfRecords bytes (recordsOf len one n (drop from s)))
+records-copied len one width offset bytes f sized s from n out at b h k e =
+    let d = drop from s in
+    let q : from + len * n - from ≡ len * n = omega arith in
+    let there : len * n ≤ length d = rw length-drop (omega (arith, h)) in
+    let fits : (c : List ℕ) → AllBytes c → length c ≡ len → setField width offset 0 (fitted len c) ≡ bytes (one c)
+    = λ c y l. ap (setField width offset 0) (fitted-same len c l) ∙ f c y l in
+    let z = refitted-zeroed len len one width offset bytes fits n d there (all-bytes-drop from s b) in
+    let rs = recordsOf len one n d in
+    let long = length-bytesOfRecords bytes len sized rs ∙ ap (λ (j : ℕ). len * j) (length-recordsOf len one n d) in
+    part-set at (len * n) out (bytesOfRecords bytes rs) long k ((rw q at e) ∙ ap (zeroedRecords width offset len n) (sym (refitted-same len n d there)) ∙ z)

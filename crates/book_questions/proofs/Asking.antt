@@ -1,9 +1,10 @@
 -- Users and trades in bytes that are asked one by one: where a walk over them stands, its start, a turn and its ends. Assumes nothing.
-use Rattle.base.specs.Basics.{_≡_, refl, sym, ap, subst, _∙_, Bool, true, false, _&&_, List, [], ℕ, _+_, _-_, _*_, _<_, _≤_, _^_, arith, T, eqb, ltb}
+use Rattle.base.specs.Basics.{_≡_, refl, sym, ap, subst, _∙_, Bool, true, false, _&&_, List, [], ℕ, _+_, _-_, _*_, _<_, _≤_, arith, T, eqb, ltb}
 use Rattle.base.specs.Basics.{ltb→lt, length, take, drop, getD, set, replicate, length-replicate, eq-eqb, ltb-false, ne-eqb}
+use mathlib.Core.Bool.{and-true}
 use Rattle.rules.specs.Book.{User, Trade}
 use Rattle.base.specs.Lists.{all}
-use Rattle.rules.specs.Questions.{entriesValid, guaranteesValid, userValid, usersValid}
+use Rattle.rules.specs.Questions.{guaranteesValid, userValid, usersValid}
 use Rattle.rules.specs.Signed.{within}
 use Rattle.base.proofs.Tests.{and-false, and-l, and-r, by-case, holds}
 use Rattle.fields.specs.Field.{field}
@@ -19,7 +20,7 @@ use Rattle.book_sums.specs.Twelve.{added, Addable, Twelve}
 use Rattle.book_sums.proofs.Twelve.{twelve-none, addable-sold, addable-bought, twelve-next, twelve-all}
 use Rattle.book_sums.proofs.Walk.{record-at, record-first, record-next, user-at, Passed, passed-start, passed-no, passed-turn, passed-end}
 use Rattle.book_questions.proofs.Loops.{UsersLeft, users-start, users-id-no, users-no, users-turn, users-end, Listed, listed-start, listed-turn, listed-end, rest-set, Led, led-start, led-no, led-turn, led-end}
-use Rattle.book_questions.proofs.Zeros.{ZerosLeft, and-true, role-no, role-yes, zeros-end, zeros-start, zeros-turn}
+use Rattle.book_questions.proofs.Zeros.{ZerosLeft, role-no, role-yes, zeros-end, zeros-start, zeros-turn}
 use Rattle.book_questions.proofs.Known.{valid-rising, tradeAmong-parties, tradeAmong-day, tradeAmong-small}
 
 -- ---- users
@@ -89,10 +90,8 @@ module _ {s : List ℕ} {size at n : ℕ} where
     valid-role : userValid u ≡ true → field 1 (a + 4) s < 2
     unfolding userValid
     valid-role v =
-        let id = ltb (u .party .id) (2 ^ 32) in
-        let role = ltb (u .party .role) 2 in
-        let rest = entriesValid (u .physical) && (within 1000000000000 (u .party .charges) && guaranteesValid u) in
-        omega (arith, same-role, ltb→lt (u .party .role) 2 (and-r id role (and-l (id && role) rest (holds v))))
+        let h : T (userValid u) = holds v in
+        omega (arith, same-role, ltb→lt (u .party .role) 2 (search (and-l, and-r)))
 
     abbrev asked-as : Bool → Type 0
     asked-as answer = UsersAsked (usersFrom size at n s) (userZerosIn size at n s && usersValid (usersFrom size at n s)) n answer ids

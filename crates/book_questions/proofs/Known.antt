@@ -1,8 +1,8 @@
 -- Users and trades by their ids: those of valid users rise, and a trade is valid between the ids where it is between the users. Assumes nothing.
-use Rattle.base.specs.Basics.{_≡_, refl, sym, ap, ap₂, _∙_, Bool, true, false, not, _&&_, _||_, List, [], _∷_, ℕ, _≤_, _<_, arith, T, eqb, ltb, leb}
+use Rattle.base.specs.Basics.{_≡_, refl, sym, ap, ap₂, _∙_, Bool, true, false, _&&_, List, [], _∷_, ℕ, _≤_, _<_, arith, T, ltb, leb}
 use Rattle.base.specs.Basics.{ltb→lt, leb→le, length, take}
 use Rattle.base.specs.Lists.{all}
-use Rattle.rules.specs.Book.{User, Trade, bilateralForDay}
+use Rattle.rules.specs.Book.{User, Trade}
 use Rattle.rules.specs.Questions.{amountsValid, codesValid, idsRise, tradeValid, userValid, usersValid}
 use Rattle.base.proofs.Tests.{all-by, and-i, and-l, and-r}
 use Rattle.book_valid.specs.Given.{tradeValidGiven}
@@ -55,34 +55,17 @@ all-tradeAmong us ts = all-same (tradeAmong (idsOf us)) (tradeValid us) (tradeAm
 pub tradeAmong-parties : (ids : List ℕ) (t : Trade) → T (tradeAmong ids t) → T (partiesAmong ids t)
 unfolding tradeAmong tradeValidGiven partiesAmong codesValid
 tradeAmong-parties ids t h =
-    let both = among ids (t .terms .seller) && among ids (t .terms .buyer) in
-    let differ = not (eqb (t .terms .seller) (t .terms .buyer)) in
-    let area = ltb (t .terms .area) 3 in
-    let codes = ltb (t .terms .kind) 3 && ltb (t .terms .day) 2 in
-    and-i both area (and-l both differ (and-l (both && differ) ((area && codes) && amountsValid t) h))
-    (and-l area codes (and-l (area && codes) (amountsValid t) (and-r (both && differ) ((area && codes) && amountsValid t) h)))
+    and-i (among ids (t .terms .seller) && among ids (t .terms .buyer)) (ltb (t .terms .area) 3) (search (and-l, and-r)) (search (and-l, and-r))
 
 -- its day is one of the two, and no more stands than 100,000 MWh
 pub tradeAmong-day : (ids : List ℕ) (t : Trade) → T (tradeAmong ids t) → t .terms .day < 2
 unfolding tradeAmong tradeValidGiven codesValid
-tradeAmong-day ids t h =
-    let parties = (among ids (t .terms .seller) && among ids (t .terms .buyer)) && not (eqb (t .terms .seller) (t .terms .buyer)) in
-    let kind = ltb (t .terms .kind) 3 in
-    let day = ltb (t .terms .day) 2 in
-    let codes = ltb (t .terms .area) 3 && (kind && day) in
-    ltb→lt (t .terms .day) 2 (and-r kind day (and-r (ltb (t .terms .area) 3) (kind && day) (and-l codes (amountsValid t) (and-r parties (codes && amountsValid t) h))))
+tradeAmong-day ids t h = ltb→lt (t .terms .day) 2 (search (and-l, and-r))
 
 pub tradeAmong-small : (ids : List ℕ) (t : Trade) → T (tradeAmong ids t) → t .standing ≤ 100000
 unfolding tradeAmong tradeValidGiven amountsValid
 tradeAmong-small ids t h =
-    let parties = (among ids (t .terms .seller) && among ids (t .terms .buyer)) && not (eqb (t .terms .seller) (t .terms .buyer)) in
-    let some = leb 1 (t .terms .notified) in
-    let most = leb (t .terms .notified) 100000 in
-    let stands = leb (t .standing) (t .terms .notified) in
-    let equal = bilateralForDay t || eqb (t .standing) (t .terms .notified) in
-    let amounts = and-r (codesValid t) ((some && most) && (stands && equal)) (and-r parties (codesValid t && ((some && most) && (stands && equal))) h) in
-    omega
-    (arith, leb→le (t .terms .notified) 100000 (and-r some most (and-l (some && most) (stands && equal) amounts)), leb→le (t .standing) (t .terms .notified) (and-l stands equal (and-r (some && most) (stands && equal) amounts)))
+    omega (arith, leb→le (t .terms .notified) 100000 (search (and-l, and-r)), leb→le (t .standing) (t .terms .notified) (search (and-l, and-r)))
 
 pub all-parties : (ids : List ℕ) (ts : List Trade) → T (all (tradeAmong ids) ts) → T (all (partiesAmong ids) ts)
 all-parties ids ts = all-by (tradeAmong ids) (partiesAmong ids) (tradeAmong-parties ids) ts

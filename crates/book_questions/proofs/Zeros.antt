@@ -1,6 +1,7 @@
 -- Records in bytes that are asked for their zero bytes one by one: what was seen and what is left have the whole answer. Over any record. Assumes nothing.
 use Rattle.base.specs.Basics.{_≡_, refl, sym, ap, _∙_, Bool, true, false, _&&_, List, [], _∷_, ℕ, suc, _+_, _*_, _<_, _≤_, add-one, arith, eqb}
 use Rattle.base.specs.Basics.{length, take, drop, drop-of-length-le, drop-cons, drop-drop, eq-eqb, ne-eqb}
+use mathlib.Core.Bool.{and-true}
 use Rattle.base.specs.Lists.{all}
 use Rattle.base.proofs.Every.{all-next, all-none}
 use Rattle.fields.specs.Field.{field}
@@ -33,10 +34,6 @@ pub record ZerosLeft (width offset len : ℕ) (s : List ℕ) (at n i : ℕ) (see
 pub and-assoc : (a b c : Bool) → (a && (b && c)) ≡ ((a && b) && c)
 and-assoc true b c = refl
 and-assoc false b c = refl
-
-pub and-true : (a : Bool) → (a && true) ≡ a
-and-true true = refl
-and-true false = refl
 
 module _ {width offset len : ℕ} {s : List ℕ} {at n : ℕ} where
   -- before the first

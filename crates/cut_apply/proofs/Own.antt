@@ -1,7 +1,7 @@
 -- The own sales that are listed can be cut where they stand: of one user they become those of a reduction, of all users those of a later book. Assumes nothing.
 use Rattle.base.specs.Basics.{_≡_, refl, sym, ap, ap₂, fun-ext, subst, _∙_, Bool, true, false, cond, _&&_, List, [], _∷_, map, map-map, ℕ, zero, suc}
 use Rattle.base.specs.Basics.{_+_, _-_, _≤_, _<_, sub-zero, arith, T, eqb, getD, length, length-map, set, take, List·getD-map, ext-getD, getD-take}
-use Rattle.base.specs.Basics.{set-getD}
+use Rattle.base.specs.Basics.{map-set-same}
 use Rattle.cut_lists.proofs.Own.{count-is, count-room, sales-stay}
 use Rattle.cut_lists.specs.Sales.{SalesOf, StandingOf}
 use Rattle.laws.specs.Trades.{Framed, Pairwise, ended, then}
@@ -143,11 +143,8 @@ unfolding written standingAt
 terms-written [] ns ts = refl
 terms-written (i ∷ is) [] ts = refl
 terms-written (i ∷ is) (n ∷ ns) ts =
-    let t = getD ts i noTrade in
-    terms-written is ns (set ts i (record { terms = t .terms; standing = n }))
-    ∙ map-set (λ (x : Trade). x .terms) ts i (record { terms = t .terms; standing = n })
-    ∙ ap (set (map (λ (x : Trade). x .terms) ts) i) (sym (List·getD-map (λ (x : Trade). x .terms) ts i noTrade))
-    ∙ set-getD (map (λ (x : Trade). x .terms) ts) i (noTrade .terms)
+    let r : Trade = record { terms = getD ts i noTrade .terms; standing = n } in
+    terms-written is ns (set ts i r) ∙ map-set-same (λ (x : Trade). x .terms) ts i r noTrade refl
 
 standing-written : (is ns : List ℕ) (ts rs : List Trade) → map (λ t. t .standing) ts ≡ map (λ t. t .standing) rs
     → map (λ t. t .standing) (written noTrade is ns ts) ≡ map (λ t. t .standing) (written noTrade is ns rs)

@@ -78,7 +78,8 @@ amount-of x z e p n =
     record { is = e; near = record { low = omega (arith, ap posPart e, ap negPart e); high = omega (arith, ap posPart e, ap negPart e) } }
 
 -- what the user at a place has in an area, of the record that is read
-module _ (s : List ℕ) (a : Accepted s) {i : ℕ} (h : i < userCount s) {area : ℕ} (l : area < 3) (u : code.User) (e : asUser u ≡ alone (getD (usersOf s) i nobody)) where
+module _ (s : List ℕ) (a : Accepted s) {i : ℕ} (h : i < userCount s) {area : ℕ} (l : area < 3) (u : code.User)
+    (e : asUser u ≡ alone (getD (usersOf s) i nobody)) where
   abbrev user : User
   user = getD (usersOf s) i nobody
 
@@ -86,7 +87,8 @@ module _ (s : List ℕ) (a : Accepted s) {i : ℕ} (h : i < userCount s) {area :
   unfolding bookOf
   entry-read =
       let b = entry-le user area l (all-at userValid (usersOf s) (a .sound .users) i nobody (omega (arith, length-usersOf s))) in
-      amount-of (getD (u .physical) area (record { 0 = 0 })) (at (user .physical) area) (amount-at (u .physical) (read-physical u user e) area l) (omega (arith, b .0)) (omega (arith, b .1))
+      amount-of (getD (u .physical) area (record { 0 = 0 })) (at (user .physical) area)
+      (amount-at (u .physical) (read-physical u user e) area l) (omega (arith, b .0)) (omega (arith, b .1))
 
   pub position-read : Amount (getD (u .position) area (record { 0 = 0 })) (at (getD (usersOf s) i nobody .position) area)
   unfolding bookOf

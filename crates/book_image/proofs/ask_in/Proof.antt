@@ -27,17 +27,6 @@ written c =
     let e = w .write-fields .ensures in
     take-at (w .write-fields .last .1 .1 .1 .0) (drop (a .len) (now (a .scratch))) (a .len) (ap length e ∙ long w) ∙ e
 
-slice-aggregate-write-fields : tie.Need-slice-aggregate-write-fields
-slice-aggregate-write-fields c = rw length-take (omega (arith, c .before .before .before .pre .3))
-
-write-fields-requires : tie.Need-write-fields-requires
-write-fields-requires c κs =
-    let p = c .before .before .before .pre in
-    (p .0, rw length-take (omega (arith, p .2, p .3)))
-
-slice-aggregate-fields-number : tie.Need-slice-aggregate-fields-number
-slice-aggregate-fields-number c = sym (ap length (written c) ∙ long (c .before .before .before))
-
 fields-number-requires : tie.Need-fields-number-requires
 fields-number-requires c κs =
     let arg = c .before .before in
@@ -53,10 +42,10 @@ ask-in-spec =
     tie.close
     (tie.spec
     (λ c. search needs)
-    slice-aggregate-write-fields
-    write-fields-requires
+    (λ c. rw length-take (omega (arith, c .before .before .before .pre .3)))
+    (λ c κs. let p = c .before .before .before .pre in (p .0, rw length-take (omega (arith, p .2, p .3))))
     (λ c. search needs)
-    slice-aggregate-fields-number
+    (λ c. sym (ap length (written c) ∙ long (c .before .before .before)))
     (λ c. search needs)
     (λ c. search needs)
     fields-number-requires

@@ -10,29 +10,12 @@ Inv-loop out₀ i₀ out i = (i ≤ length out) × Storing (replicate (length ou
 abbrev μ-loop : tie.MeasureT-loop
 μ-loop out₀ i₀ out i = length out - i
 
-loop-holds : tie.Need-loop-holds Inv-loop μ-loop
-loop-holds c = (omega arith, storing-start _ 0 (c .args .out .now))
-
-slice-write-out : tie.Need-slice-write-out Inv-loop μ-loop
-slice-write-out c = omega arith
-
-add-i : tie.Need-add-i Inv-loop μ-loop
-add-i c = omega arith
-
-loop-less : tie.Need-loop-less Inv-loop μ-loop
-loop-less c =
-    let l = c .before .loop in
-    omega (arith, length-set (l .out) (l .i) 0)
-
 loop-again : tie.Need-loop-again Inv-loop μ-loop
 loop-again c =
     let l = c .before .loop in
     let n = length (c .before .before .args .out .now) in
     let k = l .inv .1 .long in
     (omega (arith, length-set (l .out) (l .i) 0), storing-next (l .inv .1) 0 0 (rw length-replicate (omega arith)) (sym (getD-replicate {A = ℕ} n (l .i) 0 0 (omega arith))))
-
-same-length : tie.Need-same-length Inv-loop μ-loop
-same-length c = c .before .loop .inv .1 .long
 
 returns : tie.Need-returns Inv-loop μ-loop
 returns c =
@@ -47,10 +30,10 @@ clear-spec =
     (tie.spec
     Inv-loop
     μ-loop
-    loop-holds
-    slice-write-out
-    add-i
-    loop-less
+    (λ c. (omega arith, storing-start _ 0 (c .args .out .now)))
+    (λ c. omega arith)
+    (λ c. omega arith)
+    (λ c. omega (arith, length-set (c .before .loop .out) (c .before .loop .i) 0))
     loop-again
-    same-length
+    (λ c. c .before .loop .inv .1 .long)
     returns)

@@ -10,9 +10,6 @@ Inv-loop out₀ n size offset width i₀ a₀ out i a = Clearing width offset si
 abbrev μ-loop : tie.MeasureT-loop
 μ-loop out₀ n size offset width i₀ a₀ out i a = n - i
 
-loop-holds : tie.Need-loop-holds Inv-loop μ-loop
-loop-holds c = clearing-start (c .before .pre .1)
-
 add-put : tie.Need-add-put Inv-loop μ-loop
 add-put c = omega (arith, clearing-lies (c .before .before .loop .inv) (omega arith), c .before .before .loop .inv .kept, c .before .before .before .before .pre .0, c .before .before .before .before .fits)
 
@@ -25,24 +22,18 @@ add-a c = omega (arith, clearing-lies (c .before .before .before .before .before
 loop-again : tie.Need-loop-again Inv-loop μ-loop
 loop-again c = clearing-turn (c .before .before .before .before .before .before .before .pre .0) (c .before .before .before .before .before .loop .inv) (omega (arith, c .before .before .before .before .loop-test)) (c .before .before .put .ensures)
 
-same-length : tie.Need-same-length Inv-loop μ-loop
-same-length c = c .before .loop .inv .kept
-
-returns : tie.Need-returns Inv-loop μ-loop
-returns c = clearing-end (c .before .loop .inv) (omega arith)
-
 pub clear-fields-spec : {M : Type 1} → statement M
 clear-fields-spec =
     tie.close
     (tie.spec
     Inv-loop
     μ-loop
-    loop-holds
+    (λ c. clearing-start (c .before .pre .1))
     add-put
     put-requires
     add-a
     (λ c. search needs)
     (λ c. search needs)
     loop-again
-    same-length
-    returns)
+    (λ c. c .before .loop .inv .kept)
+    (λ c. clearing-end (c .before .loop .inv) (omega arith)))

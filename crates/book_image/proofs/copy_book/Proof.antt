@@ -19,28 +19,10 @@ whole : (c : tie.After-users-size)
     c .before .users-offset .result + c .users-size .result * start .args .n ≤ length (now (start .args .s))
 whole c = omega (arith, end c, c .before .before .before .before .pre .0 .whole)
 
-mul-at : tie.Need-mul-at
-mul-at c = let e = whole c in search needs
-
-add-at : tie.Need-add-at
-add-at c = let e = whole c in search needs
-
-slice-aggregate-fill-part : tie.Need-slice-aggregate-fill-part
-slice-aggregate-fill-part c = sym (length-take-le _ _ (omega (arith, whole (c .before .before))))
-
 fill-part-requires : tie.Need-fill-part-requires
 fill-part-requires c κs =
     let h = c .before .before in
     (omega arith, omega (arith, h .before .before .before .before .pre .2), rw length-take (omega (arith, h .before .users-offset .ensures .1)))
-
-fill-users-requires : tie.Need-fill-users-requires
-fill-users-requires c κs = let e = whole (c .before .before .before .before .before .before) in search needs
-
-sub-fill-part : tie.Need-sub-fill-part
-sub-fill-part c = let e = whole (c .before .before .before .before .before .before .before .before .before .before) in search needs
-
-part-fill-part-start : tie.Need-part-fill-part-start
-part-fill-part-start c = let e = whole (c .before .before .before .before .before .before .before .before .before .before) in search needs
 
 fill-part-requires-2 : tie.Need-fill-part-requires-2
 fill-part-requires-2 c κs = let e = end (c .before .before .before .before .before .before .before .before .before .before .before) in search needs
@@ -62,13 +44,13 @@ copy-book-spec =
     (tie.spec
     (λ c κs. search needs)
     (λ c κs. search needs)
-    mul-at
-    add-at
-    slice-aggregate-fill-part
+    (λ c. let e = whole c in search needs)
+    (λ c. let e = whole c in search needs)
+    (λ c. sym (length-take-le _ _ (omega (arith, whole (c .before .before)))))
     fill-part-requires
-    fill-users-requires
-    sub-fill-part
-    part-fill-part-start
+    (λ c κs. let e = whole (c .before .before .before .before .before .before) in search needs)
+    (λ c. let e = whole (c .before .before .before .before .before .before .before .before .before .before) in search needs)
+    (λ c. let e = whole (c .before .before .before .before .before .before .before .before .before .before) in search needs)
     (λ c. search needs)
     fill-part-requires-2
     (λ c. search needs)

@@ -10,9 +10,6 @@ Inv-loop s from out₀ to k i₀ out i = Copying s from out₀ to k out i
 abbrev μ-loop : tie.MeasureT-loop
 μ-loop s from out₀ to k i₀ out i = k - i
 
-loop-holds : tie.Need-loop-holds Inv-loop μ-loop
-loop-holds c = copying-start
-
 abbrev start : tie.In-loop Inv-loop μ-loop → tie.Start Inv-loop μ-loop
 start c = c .before .before .before .before
 
@@ -31,14 +28,10 @@ loop-again c =
     let s = start l in
     copying-turn (λ j. l .before .before .before .shared-slice-known .given j .fits) (s .pre .0) (l .before .loop .inv) (l .loop-test .taken) (g .get-u64 .ensures) (w .put-u64 .ensures)
 
-same-length : tie.Need-same-length Inv-loop μ-loop
-same-length c = c .before .loop .inv .same
-
-returns : tie.Need-returns Inv-loop μ-loop
-returns c = copying-end (c .before .loop .inv) (omega (arith, c .loop-test .left))
-
 pub copy-eights-spec : {M : Type 1} → statement M
 copy-eights-spec =
     tie.close
-    (tie.spec Inv-loop μ-loop loop-holds (λ c. omega (arith, to-lies (c .before))) (λ c. omega (arith, to-lies (c .before))) (λ c. omega (arith, from-lies (c .before))) (λ c. omega (arith, from-lies (c .before)))
-    (λ c κs. omega (arith, from-lies (c .before))) (λ c κs. omega (arith, to-lies (c .before .before))) (λ c. search needs) (λ c. search needs) loop-again same-length returns)
+    (tie.spec Inv-loop μ-loop (λ c. copying-start) (λ c. omega (arith, to-lies (c .before))) (λ c. omega (arith, to-lies (c .before)))
+    (λ c. omega (arith, from-lies (c .before))) (λ c. omega (arith, from-lies (c .before))) (λ c κs. omega (arith, from-lies (c .before)))
+    (λ c κs. omega (arith, to-lies (c .before .before))) (λ c. search needs) (λ c. search needs) loop-again (λ c. c .before .loop .inv .same)
+    (λ c. copying-end (c .before .loop .inv) (omega (arith, c .loop-test .left))))

@@ -7,12 +7,6 @@ use Rattle.book_image.proofs.Turns.{front-set}
 use Rattle.book_image.proofs.copy_header.Statement.{statement}
 use Rattle.book_image.proofs.copy_header.Tie as tie
 
-slice-aggregate-copy-marked : tie.Need-slice-aggregate-copy-marked
-slice-aggregate-copy-marked c = sym (length-take-le _ _ (c .before .before .before .pre .1))
-
-slice-aggregate-copy-marked-2 : tie.Need-slice-aggregate-copy-marked-2
-slice-aggregate-copy-marked-2 c = sym (length-take-le _ _ (c .before .before .before .before .pre .2))
-
 copy-marked-requires : tie.Need-copy-marked-requires
 copy-marked-requires c κs =
     let start = c .before .before .before .before in
@@ -33,9 +27,9 @@ pub copy-header-spec : {M : Type 1} → statement M
 copy-header-spec =
     tie.close
     (tie.spec
-    slice-aggregate-copy-marked
+    (λ c. sym (length-take-le _ _ (c .before .before .before .pre .1)))
     (λ c. search needs)
-    slice-aggregate-copy-marked-2
+    (λ c. sym (length-take-le _ _ (c .before .before .before .before .pre .2)))
     copy-marked-requires
     (λ c. search needs)
     returns)

@@ -14,18 +14,6 @@ room : (c : tie.After-user-size)
     a .at + c .user-size .result * a .n ≤ length (now (a .out))
 room c = let start = c .before .before .before in rw (c .user-size .ensures .0) (start .pre .1)
 
-fit-records-requires : tie.Need-fit-records-requires
-fit-records-requires c κs = (c .before .before .before .before .pre .0, room (c .before))
-
-mul-clear-fields : tie.Need-mul-clear-fields
-mul-clear-fields c = let e = room (c .before .before .before .before) in search needs
-
-add-clear-fields : tie.Need-add-clear-fields
-add-clear-fields c = let e = room (c .before .before .before .before) in search needs
-
-part-clear-fields-end : tie.Need-part-clear-fields-end
-part-clear-fields-end c = let e = room (c .before .before .before .before) in search needs
-
 returns : tie.Need-returns
 returns c =
     let cleared = c .before .before in
@@ -43,12 +31,12 @@ copy-users-spec =
     tie.close
     (tie.spec
     (λ c κs. search needs)
-    fit-records-requires
-    mul-clear-fields
-    add-clear-fields
+    (λ c κs. (c .before .before .before .before .pre .0, room (c .before)))
+    (λ c. let e = room (c .before .before .before .before) in search needs)
+    (λ c. let e = room (c .before .before .before .before) in search needs)
     (λ c. search needs)
     (λ c. search needs)
-    part-clear-fields-end
+    (λ c. let e = room (c .before .before .before .before) in search needs)
     (λ c κs. search needs)
     (λ c. search needs)
     returns)

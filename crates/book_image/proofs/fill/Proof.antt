@@ -4,12 +4,6 @@ use Rattle.book_image.proofs.Filled.{front-filled}
 use Rattle.book_image.proofs.fill.Statement.{statement}
 use Rattle.book_image.proofs.fill.Tie as tie
 
-slice-aggregate-copy : tie.Need-slice-aggregate-copy
-slice-aggregate-copy c = sym (length-take-le _ _ (c .before .before .before .pre))
-
-copy-requires : tie.Need-copy-requires
-copy-requires c κs = rw length-take (omega (arith, c .before .before .before .pre))
-
 returns : tie.Need-returns
 returns c =
     let cleared = c .before .before in
@@ -18,4 +12,8 @@ returns c =
     front-filled (now (start .args .front)) (now (start .args .out)) (copied .copy .last .1 .0) (cleared .clear .last .0) (start .pre) (copied .copy .ensures .1) (cleared .clear .ensures)
 
 pub fill-spec : {M : Type 1} → statement M
-fill-spec = tie.close (tie.spec (λ c. search needs) slice-aggregate-copy copy-requires (λ c. search needs) (λ c. search needs) (λ c. search needs) (λ c κs. search needs) (λ c. search needs) returns)
+fill-spec =
+    tie.close
+    (tie.spec (λ c. search needs) (λ c. sym (length-take-le _ _ (c .before .before .before .pre)))
+    (λ c κs. rw length-take (omega (arith, c .before .before .before .pre))) (λ c. search needs) (λ c. search needs) (λ c. search needs)
+    (λ c κs. search needs) (λ c. search needs) returns)

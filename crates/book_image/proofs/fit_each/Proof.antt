@@ -10,9 +10,6 @@ Inv-loop s from n size out₀ to new-size kept i₀ out i = Fitting new-size siz
 abbrev μ-loop : tie.MeasureT-loop
 μ-loop s from n size out₀ to new-size kept i₀ out i = n - i
 
-loop-holds : tie.Need-loop-holds Inv-loop μ-loop
-loop-holds c = fitting-start
-
 -- the record at i lies in both lists
 from-lies : (c : tie.In-loop Inv-loop μ-loop)
     → let a = c .before .before .before .before .before .args in
@@ -28,35 +25,12 @@ to-lies c =
     let start = c .before .before .before .before .before in
     omega (arith, start .pre .1, c .before .loop .inv .same, mul-suc (start .args .new-size) (c .before .loop .i), mul-le-mul-left (start .args .new-size) (c .loop-test .taken))
 
-mul-fit-record : tie.Need-mul-fit-record Inv-loop μ-loop
-mul-fit-record c = omega (arith, from-lies c)
-
-add-fit-record : tie.Need-add-fit-record Inv-loop μ-loop
-add-fit-record c = omega (arith, from-lies c)
-
-mul-fit-record-2 : tie.Need-mul-fit-record-2 Inv-loop μ-loop
-mul-fit-record-2 c = omega (arith, to-lies (c .before))
-
-add-fit-record-2 : tie.Need-add-fit-record-2 Inv-loop μ-loop
-add-fit-record-2 c = omega (arith, to-lies (c .before))
-
-fit-record-requires : tie.Need-fit-record-requires Inv-loop μ-loop
-fit-record-requires c κs =
-    let lesser = c .before .before .before .lesser .ensures in
-    (omega (arith, from-lies (c .before)), to-lies (c .before), omega arith)
-
 loop-again : tie.Need-loop-again Inv-loop μ-loop
 loop-again c =
     let done = c .before .before in
     let inside = done .before .before in
     let sized = inside .before .before in
     fitting-turn (sized .lesser .ensures) (sized .before .before .before .pre .0) (inside .before .loop .inv) (inside .loop-test .taken) (done .fit-record .ensures)
-
-same-length : tie.Need-same-length Inv-loop μ-loop
-same-length c = c .before .loop .inv .same
-
-returns : tie.Need-returns Inv-loop μ-loop
-returns c = fitting-end (c .before .loop .inv) (c .loop-test .left)
 
 pub fit-each-spec : {M : Type 1} → statement M
 fit-each-spec =
@@ -65,14 +39,14 @@ fit-each-spec =
     Inv-loop
     μ-loop
     (λ c κs. search needs)
-    loop-holds
-    mul-fit-record
-    add-fit-record
-    mul-fit-record-2
-    add-fit-record-2
-    fit-record-requires
+    (λ c. fitting-start)
+    (λ c. omega (arith, from-lies c))
+    (λ c. omega (arith, from-lies c))
+    (λ c. omega (arith, to-lies (c .before)))
+    (λ c. omega (arith, to-lies (c .before)))
+    (λ c κs. (omega (arith, from-lies (c .before)), to-lies (c .before), omega arith))
     (λ c. search needs)
     (λ c. search needs)
     loop-again
-    same-length
-    returns)
+    (λ c. c .before .loop .inv .same)
+    (λ c. fitting-end (c .before .loop .inv) (c .loop-test .left)))

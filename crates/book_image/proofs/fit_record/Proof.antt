@@ -11,11 +11,6 @@ start c = c .before .before .before .before
 few : (c : tie.Start) → 8 * (c .args .kept / 8) ≤ c .args .kept
 few c = omega arith
 
-copy-eights-requires : tie.Need-copy-eights-requires
-copy-eights-requires c κs =
-    let s = c .before .before .before in
-    (omega (arith, s .pre .0, few s), omega (arith, s .pre .1, s .pre .2, few s))
-
 fit-requires : tie.Need-fit-requires
 fit-requires c κs =
     let e = c .before .before .before in
@@ -36,4 +31,6 @@ returns c =
 pub fit-record-spec : {M : Type 1} → statement M
 fit-record-spec =
     tie.close
-    (tie.spec copy-eights-requires (λ c. omega (arith, few (start (c .before .before)))) (λ c. search needs) (λ c. omega (arith, few (start (c .before .before)))) (λ c. search needs) (λ c. search needs) fit-requires (λ c. search needs) returns)
+    (tie.spec (λ c κs. let s = c .before .before .before in (omega (arith, s .pre .0, few s), omega (arith, s .pre .1, s .pre .2, few s)))
+    (λ c. omega (arith, few (start (c .before .before)))) (λ c. search needs) (λ c. omega (arith, few (start (c .before .before)))) (λ c. search needs)
+    (λ c. search needs) fit-requires (λ c. search needs) returns)

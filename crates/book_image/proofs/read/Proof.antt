@@ -24,9 +24,6 @@ accepted c = sym (c .before .number .ensures) ∙ c .if1 .left
 formed : (c : tie.Else1) → Formed (now (c .before .before .before .before .args .book))
 formed c = passed (now (c .before .before .before .before .args .book)) (accepted c) .form
 
-user-count-requires : tie.Need-user-count-requires
-user-count-requires c κs = omega (arith, formed c .head)
-
 copy-book-requires : tie.Need-copy-book-requires
 copy-book-requires c κs = (formed (c .before .before), c .before .user-count .ensures, c .before .before .before .before .before .before .pre)
 
@@ -44,7 +41,7 @@ read-spec =
     (λ c κs. search needs)
     (λ c. search needs)
     returns
-    user-count-requires
+    (λ c κs. omega (arith, formed c .head))
     (λ c. search needs)
     copy-book-requires
     (λ c. search needs)

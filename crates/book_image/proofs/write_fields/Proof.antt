@@ -1,6 +1,6 @@
 -- `write_fields` copies header, users and trades one after the other, which over bytes of the book's length gives the book's bytes. Assumes nothing.
 use Rattle.base.specs.Basics.{_≡_, ap, _∙_, ℕ, _+_, _*_, arith, length, now, needs}
-use Rattle.book_format.specs.Book.{headerSize, userSize}
+use Rattle.book_format.specs.Book.{userSize}
 use Rattle.book_format.proofs.Offsets.{length-by}
 use Rattle.book_image.proofs.Fields.{image-written}
 use Rattle.book_image.proofs.write_fields.Statement.{statement}
@@ -15,9 +15,6 @@ room c =
     let a = start .args in
     start .pre .1 ∙ rw (c .before .header-size .ensures .0, c .user-size .ensures .0, c .before .before .version .ensures) (length-by _ (a .n) (a .m))
 
-copy-header-requires : tie.Need-copy-header-requires
-copy-header-requires c κs = let l = room (c .before) in search needs
-
 copy-users-requires : tie.Need-copy-users-requires
 copy-users-requires c κs =
     let size = c .before .before .before .before .before in
@@ -25,15 +22,6 @@ copy-users-requires c κs =
     let l = room size in
     let e : size .user-size .result * start .args .n ≡ userSize (size .before .before .version .result) * start .args .n = ap (λ (k : ℕ). k * start .args .n) (size .user-size .ensures .0) in
     (omega (arith, start .pre .0 .whole, start .pre .0 .few), search needs)
-
-mul-copy-trades : tie.Need-mul-copy-trades
-mul-copy-trades c = let l = room (c .before .before .before .before .before .before .before .before .before) in search needs
-
-add-copy-trades : tie.Need-add-copy-trades
-add-copy-trades c = let l = room (c .before .before .before .before .before .before .before .before .before) in search needs
-
-copy-trades-requires : tie.Need-copy-trades-requires
-copy-trades-requires c κs = let l = room (c .before .before .before .before .before .before .before .before .before) in search needs
 
 returns : tie.Need-returns
 returns c =
@@ -54,10 +42,10 @@ write-fields-spec =
     (λ c κs. search needs)
     (λ c κs. search needs)
     (λ c κs. search needs)
-    copy-header-requires
+    (λ c κs. let l = room (c .before) in search needs)
     copy-users-requires
-    mul-copy-trades
-    add-copy-trades
-    copy-trades-requires
+    (λ c. let l = room (c .before .before .before .before .before .before .before .before .before) in search needs)
+    (λ c. let l = room (c .before .before .before .before .before .before .before .before .before) in search needs)
+    (λ c κs. let l = room (c .before .before .before .before .before .before .before .before .before) in search needs)
     (λ c. search needs)
     returns)

@@ -14,9 +14,6 @@ Inv-loop s n ids guesses area i₀ i = Passed (managerGiven (usersFrom 68 0 n s)
 abbrev μ-loop : tie.MeasureT-loop
 μ-loop s n ids guesses area i₀ i = n - i
 
-loop-holds : tie.Need-loop-holds Inv-loop μ-loop
-loop-holds c = passed-start
-
 returns : tie.Need-returns Inv-loop μ-loop
 returns c =
     let asked = c .before in
@@ -27,9 +24,8 @@ loop-again c =
     let asked = c .before in
     passed-turn nobody (asked .before .before .loop .inv) (rw length-recordsOf (omega arith)) (sym (asked .manager-valid .ensures) ∙ not-false _ (c .if1 .left))
 
-returns-2 : tie.Need-returns-2 Inv-loop μ-loop
-returns-2 c = passed-end (c .before .loop .inv) (rw length-recordsOf (omega arith))
-
 pub area-valid-spec : {M : Type 1} → statement M
 area-valid-spec =
-    tie.close (tie.spec Inv-loop μ-loop loop-holds (λ c κs. search needs) returns (λ c. search needs) (λ c. search needs) loop-again returns-2)
+    tie.close
+    (tie.spec Inv-loop μ-loop (λ c. passed-start) (λ c κs. search needs) returns (λ c. search needs) (λ c. search needs) loop-again
+    (λ c. passed-end (c .before .loop .inv) (rw length-recordsOf (omega arith))))

@@ -8,9 +8,6 @@ use Rattle.book_questions.proofs.Asked.{formed-bytes, fields-4, fields-
 use Rattle.book_questions.proofs.ask_fields.Statement.{statement}
 use Rattle.book_questions.proofs.ask_fields.Tie as tie
 
-read-prices-requires : tie.Need-read-prices-requires
-read-prices-requires c κs = header-lies (c .before .before .before .before .before .pre .0)
-
 returns : tie.Need-returns
 unfolding pastFive pastSix
 returns c =
@@ -38,15 +35,6 @@ behind c =
 
 sub-ask-records : tie.Need-sub-ask-records
 sub-ask-records c = omega (arith, placed c .users)
-
-part-ask-records-start : tie.Need-part-ask-records-start
-part-ask-records-start c = let l = sub-ask-records c in search needs
-
-part-ask-records-end : tie.Need-part-ask-records-end
-part-ask-records-end c = let l = sub-ask-records c in search needs
-
-sub-ask-records-2 : tie.Need-sub-ask-records-2
-sub-ask-records-2 c = behind (c .before)
 
 ask-records-requires : tie.Need-ask-records-requires
 ask-records-requires c κs =
@@ -78,7 +66,7 @@ ask-fields-spec =
     (λ c. search needs)
     (λ c κs. search needs)
     (λ c. search needs)
-    read-prices-requires
+    (λ c κs. header-lies (c .before .before .before .before .before .pre .0))
     (λ c κs. search needs)
     (λ c κs. search needs)
     (λ c κs. search needs)
@@ -87,9 +75,9 @@ ask-fields-spec =
     (λ c κs. search needs)
     (λ c κs. search needs)
     sub-ask-records
-    part-ask-records-start
-    part-ask-records-end
-    sub-ask-records-2
+    (λ c. let l = sub-ask-records c in search needs)
+    (λ c. let l = sub-ask-records c in search needs)
+    (λ c. behind (c .before))
     ask-records-requires
     (λ c. search needs)
     (λ c. search needs)

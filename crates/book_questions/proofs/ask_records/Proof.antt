@@ -13,9 +13,6 @@ use Rattle.book_questions.proofs.Managers.{fields-groups, users-no, use
 use Rattle.book_questions.proofs.ask_records.Statement.{statement}
 use Rattle.book_questions.proofs.ask_records.Tie as tie
 
-fields-valid-requires : tie.Need-fields-valid-requires
-fields-valid-requires c κs = let p = c .before .before .before .before .pre .0 .0 in (p .few, p .wide, omega (arith, p .users), search needs)
-
 returns : tie.Need-returns
 unfolding pastFive pastSix
 returns c =
@@ -139,7 +136,7 @@ ask-records-spec =
     tie.close
     (tie.spec
     (λ c. search needs)
-    fields-valid-requires
+    (λ c κs. let p = c .before .before .before .before .pre .0 .0 in (p .few, p .wide, omega (arith, p .users), search needs))
     returns
     (λ c. search needs)
     fill-guesses-requires

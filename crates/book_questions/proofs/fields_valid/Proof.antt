@@ -20,18 +20,6 @@ lies c =
     let s = c .before .before .before .before in
     record-lies (s .args .size) 0 (s .args .n) (c .before .loop .i) (s .pre .1) (c .before .loop .inv .place) (omega (arith, c .loop-test)) (omega (arith, s .pre .2))
 
-loop-holds : tie.Need-loop-holds Inv-loop μ-loop
-loop-holds c = users-walk-start (c .before .before .pre .3)
-
-add-read-user : tie.Need-add-read-user Inv-loop μ-loop
-add-read-user c = omega (arith, lies c .0, c .before .before .before .before .fits)
-
-part-read-user-end : tie.Need-part-read-user-end Inv-loop μ-loop
-part-read-user-end c = omega (arith, lies c .0)
-
-read-user-requires : tie.Need-read-user-requires Inv-loop μ-loop
-read-user-requires c κs = simp (length-take, length-drop) (omega (arith, lies (c .before) .0))
-
 returns : tie.Need-returns Inv-loop μ-loop
 unfolding asUser
 returns c =
@@ -40,9 +28,6 @@ returns c =
 
 add-get-u32 : tie.Need-add-get-u32 Inv-loop μ-loop
 add-get-u32 c = omega (arith, lies (c .before .before .before .before) .0, c .before .before .before .before .before .before .before .before .fits)
-
-get-u32-requires : tie.Need-get-u32-requires Inv-loop μ-loop
-get-u32-requires c κs = omega (arith, lies (c .before .before .before .before) .0)
 
 -- the user that was read is valid as the answer says, beside any other test
 valid-as : (c : tie.After-user-valid Inv-loop μ-loop) (test : Bool) {answer : Bool} → (test && c .user-valid .result) ≡ answer → (test && userValid (asUser (c .before .before .before .before .read-user .result))) ≡ answer
@@ -68,25 +53,22 @@ loop-again c =
     users-walk-turn (start .pre .1) (read .before .before .before .loop .inv) (omega (arith, read .before .before .loop-test)) (read .read-user .ensures)
     (c .before .before .get-u32 .ensures) (start .pre .0) (c .before .before .before .if1 .left) (valid-as (c .before) (ltb (c .before .before .get-u32 .result) 2) (not-false _ (c .if2 .left)))
 
-returns-3 : tie.Need-returns-3 Inv-loop μ-loop
-returns-3 c = users-walk-end (c .before .loop .inv) (omega arith) (search needs)
-
 pub fields-valid-spec : {M : Type 1} → statement M
 fields-valid-spec =
     tie.close
     (tie.spec
     Inv-loop
     μ-loop
-    loop-holds
-    add-read-user
+    (λ c. users-walk-start (c .before .before .pre .3))
+    (λ c. omega (arith, lies c .0, c .before .before .before .before .fits))
     (λ c. search needs)
     (λ c. search needs)
-    part-read-user-end
-    read-user-requires
+    (λ c. omega (arith, lies c .0))
+    (λ c κs. simp (length-take, length-drop) (omega (arith, lies (c .before) .0)))
     (λ c. search needs)
     returns
     add-get-u32
-    get-u32-requires
+    (λ c κs. omega (arith, lies (c .before .before .before .before) .0))
     (λ c κs. search needs)
     same-length-2
     returns-2
@@ -97,4 +79,4 @@ fields-valid-spec =
     (λ c. search needs)
     loop-again
     (λ c. search needs)
-    returns-3)
+    (λ c. users-walk-end (c .before .loop .inv) (omega arith) (search needs)))

@@ -28,24 +28,6 @@ asked c e =
 lies : (c : tie.In-loop Inv-loop μ-loop) → c .before .loop .a + 20 ≤ length (now (c .before .before .before .before .args .s))
 lies c = omega (arith, c .loop-test, c .before .loop .inv .0, c .before .before .before .before .pre .1 .1)
 
-loop-holds : tie.Need-loop-holds Inv-loop μ-loop
-loop-holds c = (omega arith, omega arith, led-start)
-
-add-read-trade : tie.Need-add-read-trade Inv-loop μ-loop
-add-read-trade c = omega (arith, lies c, c .before .before .before .before .fits)
-
-part-read-trade-end : tie.Need-part-read-trade-end Inv-loop μ-loop
-part-read-trade-end c = omega (arith, lies c)
-
-read-trade-requires : tie.Need-read-trade-requires Inv-loop μ-loop
-read-trade-requires c κs = simp (length-take, length-drop) (omega (arith, lies (c .before)))
-
-find-requires : tie.Need-find-requires Inv-loop μ-loop
-find-requires c κs = c .before .before .before .before .before .before .pre .0
-
-find-requires-2 : tie.Need-find-requires-2 Inv-loop μ-loop
-find-requires-2 c κs = c .before .before .before .before .before .before .before .pre .0
-
 returns : tie.Need-returns Inv-loop μ-loop
 unfolding asTrade
 returns c =
@@ -86,14 +68,14 @@ leading-trades-spec =
     (tie.spec
     Inv-loop
     μ-loop
-    loop-holds
-    add-read-trade
+    (λ c. (omega arith, omega arith, led-start))
+    (λ c. omega (arith, lies c, c .before .before .before .before .fits))
     (λ c. search needs)
     (λ c. search needs)
-    part-read-trade-end
-    read-trade-requires
-    find-requires
-    find-requires-2
+    (λ c. omega (arith, lies c))
+    (λ c κs. simp (length-take, length-drop) (omega (arith, lies (c .before))))
+    (λ c κs. c .before .before .before .before .before .before .pre .0)
+    (λ c κs. c .before .before .before .before .before .before .before .pre .0)
     (λ c κs. search needs)
     returns
     add-a

@@ -1,5 +1,5 @@
 -- `manager_valid`: by the fields of the user and of the one whose id its manager has. Assumes nothing.
-use Rattle.base.specs.Basics.{_∙_, _<_, arith, now, needs, not-true, not-false}
+use Rattle.base.specs.Basics.{_∙_, _*_, _≤_, _<_, arith, length, now, needs, not-true, not-false}
 use Rattle.book_parties.proofs.Guesses.{found-below}
 use Rattle.book_questions.proofs.Managers.{given-known, given-none, given-unknown, id-read, manager-read, role-read}
 use Rattle.book_questions.proofs.manager_valid.Statement.{statement}
@@ -12,9 +12,6 @@ returns c =
     let a = start .args in
     given-none (start .pre .0) (a .place) (a .area) (read .get-u32 .ensures ∙ manager-read (now (a .s)) (a .n) (a .place) (start .pre .1) (a .area) (start .pre .2)) (c .if1 .taken)
 
-find-requires : tie.Need-find-requires
-find-requires c κs = let groups = c .before .before .before .before .pre .0 in (groups .padded, groups .guessed)
-
 returns-2 : tie.Need-returns-2
 returns-2 c =
     let place = c .before .before in
@@ -24,24 +21,14 @@ returns-2 c =
     given-unknown (start .pre .0) (a .place) (a .area) (read .get-u32 .ensures ∙ manager-read (now (a .s)) (a .n) (a .place) (start .pre .1) (a .area) (start .pre .2)) (place .before .if1 .left)
     (place .find .ensures) (not-true _ (c .if2 .taken))
 
--- the manager has a place among the users
-below : (c : tie.Else2) → c .before .before .find .result .place < c .before .before .before .before .before .before .before .args .n
-below c = found-below (c .before .before .find .ensures) (not-false _ (c .if2 .left))
-
-mul-there : tie.Need-mul-there
-mul-there c = omega (arith, below (c .before), c .before .before .before .before .before .before .before .before .pre .0 .padded .few)
-
-add-get-u8-2 : tie.Need-add-get-u8-2
-add-get-u8-2 c = omega (arith, below (c .before .before .before), c .before .before .before .before .before .before .before .before .before .before .pre .0 .padded .few)
-
-get-u8-requires-2 : tie.Need-get-u8-requires-2
-get-u8-requires-2 c κs = omega (arith, below (c .before .before .before), c .before .before .before .before .before .before .before .before .before .before .pre .0 .users)
-
-add-get-u32-2 : tie.Need-add-get-u32-2
-add-get-u32-2 c = omega (arith, below (c .before .before .before .before), c .before .before .before .before .before .before .before .before .before .before .before .pre .0 .padded .few, c .before .before .before .before .before .before .before .before .before .before .before .pre .2)
-
-get-u32-requires-3 : tie.Need-get-u32-requires-3
-get-u32-requires-3 c κs = omega (arith, below (c .before .before .before .before), c .before .before .before .before .before .before .before .before .before .before .before .pre .0 .users, c .before .before .before .before .before .before .before .before .before .before .before .pre .2)
+-- the manager has a place among the users, whose records lie in the bytes
+there : (c : tie.Else2)
+    → let start = c .before .before .before .before .before .before .before in
+    (c .before .before .find .result .place < start .args .n) × (start .args .n ≤ 64)
+    × (68 * start .args .n ≤ length (now (start .args .s))) × (start .args .area < 3)
+there c =
+    let p = c .before .before .before .before .before .before .before .pre in
+    (found-below (c .before .before .find .ensures) (not-false _ (c .if2 .left)), p .0 .padded .few, p .0 .users, p .2)
 
 returns-3 : tie.Need-returns-3
 returns-3 c =
@@ -55,11 +42,14 @@ returns-3 c =
     (place .find .ensures) (not-false _ (left .if2 .left))
     (c .before .before .before .get-u322 .ensures ∙ id-read s (a .n) (a .place) (start .pre .1))
     (c .before .before .get-u8 .ensures ∙ role-read s (a .n) (a .place) (start .pre .1))
-    (c .before .get-u82 .ensures ∙ role-read s (a .n) (place .find .result .place) (below left))
-    (c .get-u323 .ensures ∙ manager-read s (a .n) (place .find .result .place) (below left) (a .area) (start .pre .2))
+    (c .before .get-u82 .ensures ∙ role-read s (a .n) (place .find .result .place) (there left .0))
+    (c .get-u323 .ensures ∙ manager-read s (a .n) (place .find .result .place) (there left .0) (a .area) (start .pre .2))
 
 pub manager-valid-spec : {M : Type 1} → statement M
 manager-valid-spec =
     tie.close
-    (tie.spec (λ c. search needs) (λ c. search needs) (λ c. search needs) (λ c. search needs) (λ c κs. search needs) returns find-requires returns-2
-    mul-there (λ c κs. search needs) (λ c. search needs) (λ c κs. search needs) add-get-u8-2 get-u8-requires-2 add-get-u32-2 get-u32-requires-3 returns-3)
+    (tie.spec (λ c. search needs) (λ c. search needs) (λ c. search needs) (λ c. search needs) (λ c κs. search needs) returns
+    (λ c κs. let groups = c .before .before .before .before .pre .0 in (groups .padded, groups .guessed)) returns-2 (λ c. omega (arith, there (c .before)))
+    (λ c κs. search needs) (λ c. search needs) (λ c κs. search needs) (λ c. omega (arith, there (c .before .before .before)))
+    (λ c κs. omega (arith, there (c .before .before .before))) (λ c. omega (arith, there (c .before .before .before .before)))
+    (λ c κs. omega (arith, there (c .before .before .before .before))) returns-3)

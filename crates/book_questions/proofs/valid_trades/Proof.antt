@@ -16,6 +16,19 @@ Inv-loop ids guesses n s at m sellers₀ buyers₀ sums₀ i₀ a₀ sellers buy
 abbrev μ-loop : tie.MeasureT-loop
 μ-loop ids guesses n s at m sellers₀ buyers₀ sums₀ i₀ a₀ sellers buyers sums i a = m - i
 
+-- from the answer about a trade back to its buyer and its seller, to the turn and to the start
+abbrev buyer : tie.After-trade-valid Inv-loop μ-loop → tie.After-find2 Inv-loop μ-loop
+buyer c = c .before .before .before
+
+abbrev seller : tie.After-trade-valid Inv-loop μ-loop → tie.After-find Inv-loop μ-loop
+seller c = c .before .before .before .before .before .before
+
+abbrev inside : tie.After-trade-valid Inv-loop μ-loop → tie.In-loop Inv-loop μ-loop
+inside c = c .before .before .before .before .before .before .before .before .before
+
+abbrev entry : tie.In-loop Inv-loop μ-loop → tie.Start Inv-loop μ-loop
+entry c = c .before .before .before .before .before .before
+
 -- there are n ids
 ids-there : (c : tie.Start Inv-loop μ-loop) → c .args .n ≤ length (now (c .args .ids))
 ids-there c = omega (arith, c .pre .0 .0 .few, c .pre .0 .0 .full)
@@ -53,12 +66,6 @@ loop-holds c =
     let start = c .before .before .before .before in
     trades-walk-start (start .pre .1 .2) (start .pre .1 .3) (start .pre .1 .4)
 
-read-trade-requires : tie.Need-read-trade-requires Inv-loop μ-loop
-read-trade-requires c κs = simp (length-take, length-drop) (omega arith)
-
-find-requires : tie.Need-find-requires Inv-loop μ-loop
-find-requires c κs = c .before .before .before .before .before .before .before .before .pre .0
-
 returns : tie.Need-returns Inv-loop μ-loop
 unfolding asTrade
 returns c =
@@ -67,9 +74,6 @@ returns c =
     let start = read .before .before .before .before .before .before .before .before in
     trades-walk-no (read .before .before .before .loop .inv) (omega (arith, read .before .before .loop-test)) (read .read-trade .ensures)
     (trade-no-seller (now (start .args .ids)) (start .args .n) _ (ids-there start) (found .find .ensures) (not-true _ (c .if1 .taken)))
-
-find-requires-2 : tie.Need-find-requires-2 Inv-loop μ-loop
-find-requires-2 c κs = c .before .before .before .before .before .before .before .before .before .before .before .pre .0
 
 returns-2 : tie.Need-returns-2 Inv-loop μ-loop
 unfolding asTrade
@@ -80,50 +84,17 @@ returns-2 c =
     trades-walk-no (read .before .before .before .loop .inv) (omega (arith, read .before .before .loop-test)) (read .read-trade .ensures)
     (trade-no-buyer (now (start .args .ids)) (start .args .n) _ (ids-there start) (found .find .ensures) (not-false _ (c .before .before .before .if1 .left)) (c .before .before .find2 .ensures) (not-true _ (c .if2 .taken)))
 
-same-length-5 : tie.Need-same-length-5 Inv-loop μ-loop
-same-length-5 c = let turn = c .before .before .before .before .before .before .before .before .before .before .before in turn .loop .inv .of-sellers .full ∙ sym (turn .before .before .before .before .before .pre .1 .2)
-
-same-length-6 : tie.Need-same-length-6 Inv-loop μ-loop
-same-length-6 c = let turn = c .before .before .before .before .before .before .before .before .before .before .before in turn .loop .inv .of-buyers .full ∙ sym (turn .before .before .before .before .before .pre .1 .3)
-
 returns-3 : tie.Need-returns-3 Inv-loop μ-loop
 unfolding asTrade
 returns-3 c =
     let read = c .before .before .before .before .before .before .before .before in
     trades-walk-no (read .before .before .before .loop .inv) (omega (arith, read .before .before .loop-test)) (read .read-trade .ensures) (asked (c .before) (not-true (c .before .trade-valid .result) (c .if3 .taken)))
 
-add-get-u8 : tie.Need-add-get-u8 Inv-loop μ-loop
-add-get-u8 c = let inside = c .before .before .before .before .before .before .before .before .before .before in omega (arith, lies inside, inside .before .before .before .before .before .before .fits)
-
-get-u8-requires : tie.Need-get-u8-requires Inv-loop μ-loop
-get-u8-requires c κs = omega (arith, lies (c .before .before .before .before .before .before .before .before .before .before))
-
-leading-trades-requires : tie.Need-leading-trades-requires Inv-loop μ-loop
-leading-trades-requires c κs = let p = c .before .before .before .before .before .before .before .before .before .before .before .before .before .before .before .before .before .before .pre in (p .0, (p .1 .0, p .1 .1))
-
-same-length-7 : tie.Need-same-length-7 Inv-loop μ-loop
-same-length-7 c = let turn = c .before .before .before .before .before .before .before .before .before .before .before .before .before .before in turn .loop .inv .of-sellers .full ∙ sym (turn .before .before .before .before .before .pre .1 .2)
-
-same-length-8 : tie.Need-same-length-8 Inv-loop μ-loop
-same-length-8 c = let turn = c .before .before .before .before .before .before .before .before .before .before .before .before .before .before in turn .loop .inv .of-buyers .full ∙ sym (turn .before .before .before .before .before .pre .1 .3)
-
 returns-4 : tie.Need-returns-4 Inv-loop μ-loop
 unfolding asTrade
 returns-4 c =
     let read = c .before .before .before .before .before .before .before .before .before .before .before in
     trades-walk-zero (read .before .before .before .loop .inv) (omega (arith, read .before .before .loop-test)) (read .read-trade .ensures) (c .before .before .get-u8 .ensures) (c .before .if4 .taken) (c .leading-trades .ensures)
-
-cast-sellers : tie.Need-cast-sellers Inv-loop μ-loop
-cast-sellers c = let found = c .before .before .before .before .before .before .before .before .before .before in record { fits = omega (arith, found .find .ensures .within, found .before .before .before .before .before .before .before .before .before .pre .0 .0 .few) }
-
-slice-write-sellers : tie.Need-slice-write-sellers Inv-loop μ-loop
-slice-write-sellers c = let inside = c .before .before .before .before .before .before .before .before .before .before .before .before .before in omega (arith, inside .loop-test, inside .before .loop .inv .of-sellers .full, inside .before .before .before .before .before .before .pre .1 .0)
-
-cast-buyers : tie.Need-cast-buyers Inv-loop μ-loop
-cast-buyers c = let found = c .before .before .before .before .before .before .before .before in record { fits = omega (arith, found .find2 .ensures .within, found .before .before .before .before .before .before .before .before .before .before .before .before .pre .0 .0 .few) }
-
-slice-write-buyers : tie.Need-slice-write-buyers Inv-loop μ-loop
-slice-write-buyers c = let inside = c .before .before .before .before .before .before .before .before .before .before .before .before .before .before in omega (arith, inside .loop-test, inside .before .loop .inv .of-buyers .full, inside .before .before .before .before .before .before .pre .1 .0)
 
 add-trade-requires : tie.Need-add-trade-requires Inv-loop μ-loop
 add-trade-requires c κs =
@@ -141,12 +112,6 @@ add-trade-requires-2 c κs =
     trades-walk-bought (read .before .before .before .loop .inv) (omega (arith, read .before .before .loop-test)) (read .read-trade .ensures) (rw length-take (omega (arith, start .pre .0 .0 .few))) (start .pre .1 .0)
     (asked answer (not-false (answer .trade-valid .result) (c .before .before .before .before .before .before .before .if3 .left))) (seller .find .ensures .stands) (buyer .find2 .ensures .stands) (c .before .add-trade .ensures)
 
-add-a : tie.Need-add-a Inv-loop μ-loop
-add-a c = let inside = c .before .before .before .before .before .before .before .before .before .before .before .before .before .before .before .before .before .before in omega (arith, lies inside, inside .before .before .before .before .before .before .fits)
-
-add-i : tie.Need-add-i Inv-loop μ-loop
-add-i c = let inside = c .before .before .before .before .before .before .before .before .before .before .before .before .before .before .before .before .before .before in omega (arith, inside .loop-test, inside .before .before .before .before .before .before .pre .1 .0)
-
 loop-again : tie.Need-loop-again Inv-loop μ-loop
 unfolding asTrade
 loop-again c =
@@ -160,9 +125,6 @@ loop-again c =
     (asked answer (not-false (answer .trade-valid .result) (zero .before .if3 .left))) (seller .find .ensures .stands) (buyer .find2 .ensures .stands)
     (c .before .before .add-trade .ensures) (c .add-trade2 .ensures) (zero .get-u8 .ensures) (c .before .before .before .before .before .before .if4 .left)
 
-returns-5 : tie.Need-returns-5 Inv-loop μ-loop
-returns-5 c = trades-walk-end (c .before .loop .inv) (omega arith) (c .before .before .before .before .before .before .pre .1 .0)
-
 pub valid-trades-spec : {M : Type 1} → statement M
 valid-trades-spec =
     tie.close
@@ -174,35 +136,36 @@ valid-trades-spec =
     (λ c. search needs)
     (λ c. search needs)
     (λ c. search needs)
-    read-trade-requires
-    find-requires
+    (λ c κs. simp (length-take, length-drop) (omega arith))
+    (λ c κs. c .before .before .before .before .before .before .before .before .pre .0)
     (λ c. search needs)
     (λ c. search needs)
     returns
-    find-requires-2
+    (λ c κs. c .before .before .before .before .before .before .before .before .before .before .before .pre .0)
     (λ c. search needs)
     (λ c. search needs)
     returns-2
     (λ c κs. search needs)
-    same-length-5
-    same-length-6
+    (λ c. let l = inside (c .before) in l .before .loop .inv .of-sellers .full ∙ sym (entry l .pre .1 .2))
+    (λ c. let l = inside (c .before) in l .before .loop .inv .of-buyers .full ∙ sym (entry l .pre .1 .3))
     returns-3
-    add-get-u8
-    get-u8-requires
-    leading-trades-requires
-    same-length-7
-    same-length-8
+    (λ c. let l = inside (c .before) in omega (arith, lies l, entry l .fits))
+    (λ c κs. omega (arith, lies (inside (c .before))))
+    (λ c κs. let p = entry (inside (c .before .before .before)) .pre in (p .0, (p .1 .0, p .1 .1)))
+    (λ c. let l = inside (c .before .before .before .before) in l .before .loop .inv .of-sellers .full ∙ sym (entry l .pre .1 .2))
+    (λ c. let l = inside (c .before .before .before .before) in l .before .loop .inv .of-buyers .full ∙ sym (entry l .pre .1 .3))
     returns-4
-    cast-sellers
-    slice-write-sellers
-    cast-buyers
-    slice-write-buyers
+    (λ c. let a = c .before .before .before .before in record { fits = omega (arith, seller a .find .ensures .within, entry (inside a) .pre .0 .0 .few) })
+    (λ c. let l = inside (c .before .before .before .before) in omega (arith, l .loop-test, l .before .loop .inv .of-sellers .full, entry l .pre .1 .0))
+    (λ c. let a = c .before .before .before .before .before in
+    record { fits = omega (arith, buyer a .find2 .ensures .within, entry (inside a) .pre .0 .0 .few) })
+    (λ c. let l = inside (c .before .before .before .before .before) in omega (arith, l .loop-test, l .before .loop .inv .of-buyers .full, entry l .pre .1 .0))
     add-trade-requires
     add-trade-requires-2
-    add-a
-    add-i
+    (λ c. let l = inside (c .before .before .before .before .before .before .before .before .before) in omega (arith, lies l, entry l .fits))
+    (λ c. let l = inside (c .before .before .before .before .before .before .before .before .before) in omega (arith, l .loop-test, entry l .pre .1 .0))
     (λ c. search needs)
     loop-again
     (λ c. search needs)
     (λ c. search needs)
-    returns-5)
+    (λ c. trades-walk-end (c .before .loop .inv) (omega arith) (c .before .before .before .before .before .before .pre .1 .0)))

@@ -4,19 +4,9 @@ use Rattle.cut_apply.proofs.Loop.{lent-room}
 use Rattle.cut_apply.proofs.apply_many.Statement.{statement}
 use Rattle.cut_apply.proofs.apply_many.Tie as tie
 
-slice-aggregate-apply-noting : tie.Need-slice-aggregate-apply-noting
-slice-aggregate-apply-noting c = sym (length-take-le _ _ (c .before .before .before .pre .0 .1))
-
-slice-aggregate-apply-noting-2 : tie.Need-slice-aggregate-apply-noting-2
-slice-aggregate-apply-noting-2 c = sym (length-take-le _ _ (c .before .before .before .before .pre .0 .1))
-
-apply-noting-requires : tie.Need-apply-noting-requires
-apply-noting-requires c κs =
-    let p = c .before .before .before .before .pre in
-    (lent-room 256 (p .0 .0) (p .0 .1), p .1)
-
 pub apply-many-spec : {M : Type 1} → statement M
 apply-many-spec =
     tie.close
-    (tie.spec (λ c. search needs) slice-aggregate-apply-noting (λ c. search needs) slice-aggregate-apply-noting-2 apply-noting-requires (λ c. search needs)
-    (λ c. search needs))
+    (tie.spec (λ c. search needs) (λ c. sym (length-take-le _ _ (c .before .before .before .pre .0 .1))) (λ c. search needs)
+    (λ c. sym (length-take-le _ _ (c .before .before .before .before .pre .0 .1)))
+    (λ c κs. let p = c .before .before .before .before .pre in (lent-room 256 (p .0 .0) (p .0 .1), p .1)) (λ c. search needs) (λ c. search needs))

@@ -4,11 +4,6 @@ use Rattle.cut_apply.proofs.Loop.{all-cut, noted-places}
 use Rattle.cut_apply.proofs.apply_noting.Statement.{statement}
 use Rattle.cut_apply.proofs.apply_noting.Tie as tie
 
-trades-offset-requires : tie.Need-trades-offset-requires
-trades-offset-requires c κs =
-    let s = c .before .before .before .before in
-    (s .pre .0 .0 .book .accepted .held .form, s .pre .1)
-
 lower-sales-requires : tie.Need-lower-sales-requires
 lower-sales-requires c κs =
     let m = c .before .before .before .before .before .before .before .before .before in
@@ -25,5 +20,5 @@ returns c =
 pub apply-noting-spec : {M : Type 1} → statement M
 apply-noting-spec =
     tie.close
-    (tie.spec trades-offset-requires (λ c κs. search needs) lower-sales-requires (λ c. search needs) (λ c. search needs) (λ c. search needs)
-    returns)
+    (tie.spec (λ c κs. let s = c .before .before .before .before in (s .pre .0 .0 .book .accepted .held .form, s .pre .1)) (λ c κs. search needs)
+    lower-sales-requires (λ c. search needs) (λ c. search needs) (λ c. search needs) returns)

@@ -10,9 +10,6 @@ Inv-loop cuts from to lost₀ k₀ lost k = CountedTo cuts from to lost k
 abbrev μ-loop : tie.MeasureT-loop
 μ-loop cuts from to lost₀ k₀ lost k = to - k
 
-loop-holds : tie.Need-loop-holds Inv-loop μ-loop
-loop-holds c = counted-start (c .pre .0)
-
 loop-again : tie.Need-loop-again Inv-loop μ-loop
 loop-again c = counted-more (c .before .before .before .loop .inv) (c .before .before .loop-test .taken) (c .before .before .before .before .pre .2) (c .place-after .ensures)
 
@@ -24,5 +21,5 @@ returns c =
 pub count-losing-spec : {M : Type 1} → statement M
 count-losing-spec =
     tie.close
-    (tie.spec Inv-loop μ-loop loop-holds (λ c. search needs) (λ c. search needs) (λ c κs. search needs) (λ c. search needs) (λ c. search needs) loop-again
-    returns)
+    (tie.spec Inv-loop μ-loop (λ c. counted-start (c .pre .0)) (λ c. search needs) (λ c. search needs) (λ c κs. search needs) (λ c. search needs)
+    (λ c. search needs) loop-again returns)

@@ -26,9 +26,6 @@ loop-again c =
     put-next (l .before .before .pre .1) (l .loop .inv) (c .before .before .before .before .before .before .before .loop-test .taken) (c .before .before .before .before .before .index .ensures .0)
     (c .before .before .put-u32 .ensures)
 
-returns : tie.Need-returns Inv-loop μ-loop
-returns c = put-end (c .before .before .before .pre .1) (c .before .loop .inv) (c .loop-test .left)
-
 pub put-cuts-spec : {M : Type 1} → statement M
 put-cuts-spec =
     tie.close
@@ -47,4 +44,4 @@ put-cuts-spec =
     (λ c. search needs)
     loop-again
     (λ c. c .before .loop .inv .long)
-    returns)
+    (λ c. put-end (c .before .before .before .pre .1) (c .before .loop .inv) (c .loop-test .left)))

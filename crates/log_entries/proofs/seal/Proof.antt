@@ -7,9 +7,6 @@ use Rattle.log_entries.proofs.seal.Tie as tie
 slice-aggregate-put-head : tie.Need-slice-aggregate-put-head
 slice-aggregate-put-head c = sym (length-take-le 12 (now (c .before .before .before .args .log)) (omega (arith, c .before .before .before .pre .0)))
 
-put-head-requires : tie.Need-put-head-requires
-put-head-requires c κs = length-take-le 12 (now (c .before .before .before .args .log)) (omega (arith, c .before .before .before .pre .0))
-
 returns : tie.Need-returns
 returns c =
     let held = c .before .before in
@@ -20,5 +17,6 @@ returns c =
 pub seal-spec : {M : Type 1} → statement M
 seal-spec =
     tie.close
-    (tie.spec (λ c. search needs) (λ c. search needs) slice-aggregate-put-head put-head-requires (λ c. search needs) (λ c. search needs) (λ c. search needs)
-    (λ c κs. search needs) (λ c. search needs) returns)
+    (tie.spec (λ c. search needs) (λ c. search needs) slice-aggregate-put-head
+    (λ c κs. length-take-le 12 (now (c .before .before .before .args .log)) (omega (arith, c .before .before .before .pre .0))) (λ c. search needs)
+    (λ c. search needs) (λ c. search needs) (λ c κs. search needs) (λ c. search needs) returns)

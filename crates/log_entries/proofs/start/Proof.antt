@@ -5,9 +5,6 @@ use Rattle.log_entries.specs.Entries.{cleared}
 use Rattle.log_entries.proofs.start.Statement.{statement}
 use Rattle.log_entries.proofs.start.Tie as tie
 
-returns : tie.Need-returns
-returns c = let s = c .before .before .before in start-long (now (s .args .log)) (now (s .args .book)) (c .if1 .taken)
-
 returns-2 : tie.Need-returns-2
 returns-2 c = let s = c .before .before .before .before in start-full (now (s .args .log)) (now (s .args .book)) (c .before .if1 .left) (c .if2 .taken)
 
@@ -20,4 +17,7 @@ returns-3 c =
     (emptied .drop-entries .ensures ∙ ap (cleared 9524 (1024 * 256)) (emptied .before .before .before .before .seal .ensures))
 
 pub start-spec : {M : Type 1} → statement M
-start-spec = tie.close (tie.spec returns returns-2 (λ c κs. search needs) (λ c κs. search needs) (λ c. search needs) returns-3)
+start-spec =
+    tie.close
+    (tie.spec (λ c. let s = c .before .before .before in start-long (now (s .args .log)) (now (s .args .book)) (c .if1 .taken)) returns-2
+    (λ c κs. search needs) (λ c κs. search needs) (λ c. search needs) returns-3)

@@ -37,18 +37,6 @@ cut-is c =
 loop-holds : tie.Need-loop-holds Inv-loop μ-loop
 loop-holds c = let s = c .before .before in (given-start (s .pre .0 .0) (cutsFrom (s .args .m) 0 (now (s .args .entry))) (s .pre .1 .1) (cuts-are s), refl)
 
-mul-get-u32 : tie.Need-mul-get-u32 Inv-loop μ-loop
-mul-get-u32 c = omega (arith, few (c .before .before .before .before))
-
-get-u32-requires : tie.Need-get-u32-requires Inv-loop μ-loop
-get-u32-requires c κs = omega (arith, few (c .before .before .before .before), c .before .before .before .before .pre .1 .0)
-
-element-copy-out-index : tie.Need-element-copy-out-index Inv-loop μ-loop
-element-copy-out-index c = omega (arith, few (c .before .before .before .before .before))
-
-element-copy-out-index-2 : tie.Need-element-copy-out-index-2 Inv-loop μ-loop
-element-copy-out-index-2 c = omega (arith, few (c .before .before .before .before .before .before .before))
-
 give-back-at-requires : tie.Need-give-back-at-requires Inv-loop μ-loop
 give-back-at-requires c κs =
     let at-cut-is = c .before .before .before .before .before in
@@ -76,9 +64,6 @@ loop-again c =
       omega (arith, c .before .before .give-back-at .kept .0, at-loop .loop .inv .1),
     )
 
-same-length : tie.Need-same-length Inv-loop μ-loop
-same-length c = c .before .loop .inv .1
-
 returns : tie.Need-returns Inv-loop μ-loop
 returns c =
     let s = c .before .before .before .before in
@@ -87,5 +72,8 @@ returns c =
 pub give-back-spec : {M : Type 1} → statement M
 give-back-spec =
     tie.close
-    (tie.spec Inv-loop μ-loop loop-holds mul-get-u32 get-u32-requires element-copy-out-index (λ c κs. search needs) element-copy-out-index-2 (λ c κs. search needs)
-    give-back-at-requires add-k (λ c. search needs) loop-again same-length returns)
+    (tie.spec Inv-loop μ-loop loop-holds (λ c. omega (arith, few (c .before .before .before .before)))
+    (λ c κs. omega (arith, few (c .before .before .before .before), c .before .before .before .before .pre .1 .0))
+    (λ c. omega (arith, few (c .before .before .before .before .before))) (λ c κs. search needs)
+    (λ c. omega (arith, few (c .before .before .before .before .before .before .before))) (λ c κs. search needs) give-back-at-requires add-k
+    (λ c. search needs) loop-again (λ c. c .before .loop .inv .1) returns)

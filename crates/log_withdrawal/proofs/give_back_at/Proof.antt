@@ -13,9 +13,6 @@ area-is : (c : tie.After-index) → c .index .result ≡ getD (tradesOf (now (c 
 unfolding asTrade
 area-is c = c .index .ensures .0 ∙ ap (λ (t : Trade). t .terms .area) (c .before .trade-at .ensures)
 
-return-parties-requires : tie.Need-return-parties-requires
-return-parties-requires c κs = back-parties (c .before .before .before .before .before .pre) (area-is (c .before))
-
 raised-requires : tie.Need-raised-requires
 raised-requires c κs = let s = c .before .before .before .before .before .before .before .before .before in (omega (arith, s .pre .stands, ap (λ (t : Trade). t .standing) (c .before .before .before .before .before .before .trade-at .ensures)), s .pre .parties .energy-most)
 
@@ -35,4 +32,5 @@ returns c =
 pub give-back-at-spec : {M : Type 1} → statement M
 give-back-at-spec =
     tie.close
-    (tie.spec (λ c κs. search needs) (λ c κs. search needs) return-parties-requires raised-requires put-trade-requires (λ c. search needs) returns)
+    (tie.spec (λ c κs. search needs) (λ c κs. search needs) (λ c κs. back-parties (c .before .before .before .before .before .pre) (area-is (c .before)))
+    raised-requires put-trade-requires (λ c. search needs) returns)

@@ -47,12 +47,6 @@ trade-is : (c : tie.After-trade-at Inv-loop μ-loop) → asTrade (c .trade-at .r
 unfolding bookOf
 trade-is c = c .trade-at .ensures
 
-loop-holds : tie.Need-loop-holds Inv-loop μ-loop
-loop-holds c = tallied-start (c .none .ensures .0) (c .none .ensures .1)
-
-mul-get-u32 : tie.Need-mul-get-u32 Inv-loop μ-loop
-mul-get-u32 c = omega (arith, few (c .before .before .before .before .before))
-
 get-u32-requires : tie.Need-get-u32-requires Inv-loop μ-loop
 get-u32-requires c κs = omega (arith, few (c .before .before .before .before .before), c .before .before .before .before .before .pre .1 .0)
 
@@ -72,9 +66,6 @@ tally-with-requires c κs =
       omega (arith, cut-is (c .before), cut-low (bookOf (now (s .args .book))) (cutsFrom (s .args .m) 0 (now (s .args .entry))) (s .pre .0 .0 .sound) (s .pre .1 .1) (c .before .before .before .loop .k) (omega (arith, trades-are s, inside))),
     )
 
-add-k : tie.Need-add-k Inv-loop μ-loop
-add-k c = omega (arith, few (c .before .before .before .before .before .before .before .before))
-
 loop-again : tie.Need-loop-again Inv-loop μ-loop
 unfolding asTrade
 loop-again c =
@@ -92,5 +83,6 @@ returns c = tallied-end (c .before .loop .inv) (omega (arith, c .loop-test .left
 pub tally-spec : {M : Type 1} → statement M
 tally-spec =
     tie.close
-    (tie.spec Inv-loop μ-loop (λ c κs. search needs) loop-holds mul-get-u32 get-u32-requires (λ c. search needs) trade-at-requires tally-with-requires add-k (λ c. search needs)
-    loop-again returns)
+    (tie.spec Inv-loop μ-loop (λ c κs. search needs) (λ c. tallied-start (c .none .ensures .0) (c .none .ensures .1))
+    (λ c. omega (arith, few (c .before .before .before .before .before))) get-u32-requires (λ c. search needs) trade-at-requires tally-with-requires
+    (λ c. omega (arith, few (c .before .before .before .before .before .before .before .before))) (λ c. search needs) loop-again returns)

@@ -25,11 +25,6 @@ start c = c .before .before .before
 inside : (c : tie.In-loop Inv-loop μ-loop) → c .before .loop .i < userCount (now (start c .args .book))
 inside c = omega (arith, c .loop-test .taken, start c .pre .2)
 
-bearer-of-requires : tie.Need-bearer-of-requires Inv-loop μ-loop
-bearer-of-requires c κs =
-    let s = start c in
-    (record { form = s .pre .0 .held .form; inside = inside c }, s .pre .1, s .pre .4)
-
 returns : tie.Need-returns Inv-loop μ-loop
 returns c =
     let b = c .before in
@@ -59,4 +54,6 @@ returns-2 c = record { rises = c .before .loop .inv .1; within = c .before .loop
 
 pub next-member-spec : {M : Type 1} → statement M
 next-member-spec =
-    tie.close (tie.spec Inv-loop μ-loop loop-holds bearer-of-requires returns (λ c. search needs) (λ c. search needs) loop-again returns-2)
+    tie.close
+    (tie.spec Inv-loop μ-loop loop-holds (λ c κs. let s = start c in (record { form = s .pre .0 .held .form; inside = inside c }, s .pre .1, s .pre .4))
+    returns (λ c. search needs) (λ c. search needs) loop-again returns-2)

@@ -19,10 +19,12 @@ few : (s : tie.Start) → (s .args .place < 64) × (12 * s .args .place + s .arg
 few s = let l : s .args .place < 64 = omega (arith, s .pre .2, s .pre .0 .held .form .users) in (l, omega (arith, s .pre .3))
 
 -- its amounts
-entry : (c : tie.After-user-at) → Amount (getD (c .user-at .result .physical) (start c .args .area) (record { 0 = 0 })) (at (user (start c) .physical) (start c .args .area))
+entry : (c : tie.After-user-at)
+    → Amount (getD (c .user-at .result .physical) (start c .args .area) (record { 0 = 0 })) (at (user (start c) .physical) (start c .args .area))
 entry c = entry-read (now (start c .args .book)) (start c .pre .0) (start c .pre .2) (start c .pre .3) (c .user-at .result) (c .user-at .ensures)
 
-position : (c : tie.After-user-at) → Amount (getD (c .user-at .result .position) (start c .args .area) (record { 0 = 0 })) (at (user (start c) .position) (start c .args .area))
+position : (c : tie.After-user-at)
+    → Amount (getD (c .user-at .result .position) (start c .args .area) (record { 0 = 0 })) (at (user (start c) .position) (start c .args .area))
 position c = position-read (now (start c .args .book)) (start c .pre .0) (start c .pre .2) (start c .pre .3) (c .user-at .result) (c .user-at .ensures)
 
 -- a sum at a place that is written otherwise
@@ -49,7 +51,8 @@ returns c id counts t =
     let w = s .pre .1 .twelve in
     record {
       physical = sum-with us id (a .area) (λ v. v .physical) (t .physical) (entry u .near) here (few s .0) (entry u .is) counts (w1 .with-amount .ensures);
-      position = sum-with us id (a .area) (λ v. v .position) (t .position) (position u .near) here (few s .0) (position u .is) counts (w2 .with-amount2 .ensures);
+      position = sum-with us id (a .area) (λ v. v .position) (t .position) (position u .near) here (few s .0) (position u .is) counts
+          (w2 .with-amount2 .ensures);
       sold-day = count-with us id (a .area) (λ v. sold ts (v .party .id) (a .area) 0) (t .sold-day) (low k) here
           (at-sum xs k (12 * a .place + 3 * 0 + a .area) (omega arith) ∙ w .sold-at (a .place) (a .area) 0 here (s .pre .3) (omega arith)) counts (s1 .with-sum .ensures);
       bought-day = count-with us id (a .area) (λ v. bought ts (v .party .id) (a .area) 0) (t .bought-day) (low (k + 6)) here
@@ -65,9 +68,10 @@ with-member-spec =
     tie.close
     (tie.spec (λ c κs. record { form = c .before .pre .0 .held .form; inside = c .before .pre .2 }) (λ c. search needs) (λ c. search needs)
     (λ c κs. let u = c .before .before .before in sum-fits (start u .pre .4 .physical) (entry u .near)) (λ c. search needs) (λ c. search needs)
-    (λ c κs. let u = c .before .before .before .before .before in sum-fits (start u .pre .4 .position) (position u .near)) (λ c. search needs) (λ c. search needs)
-    (λ c κs. let s = start (c .before .before .before .before .before .before) in (omega (arith, few s), s .pre .4 .sold-day)) (λ c. search needs)
-    (λ c κs. let s = start (c .before .before .before .before .before .before .before) in (omega (arith, few s), s .pre .4 .sold-next)) (λ c. search needs)
+    (λ c κs. let u = c .before .before .before .before .before in sum-fits (start u .pre .4 .position) (position u .near)) (λ c. search needs)
+    (λ c. search needs) (λ c κs. let s = start (c .before .before .before .before .before .before) in (omega (arith, few s), s .pre .4 .sold-day))
+    (λ c. search needs) (λ c κs. let s = start (c .before .before .before .before .before .before .before) in (omega (arith, few s), s .pre .4 .sold-next))
+    (λ c. search needs)
     (λ c κs. let s = start (c .before .before .before .before .before .before .before .before) in (omega (arith, few s), s .pre .4 .bought-day))
     (λ c. omega (arith, few (start (c .before .before .before .before .before .before .before .before .before))))
     (λ c κs. let s = start (c .before .before .before .before .before .before .before .before .before) in (omega (arith, few s), s .pre .4 .bought-next))
