@@ -1,8 +1,9 @@
--- What is kept of a seller is that of its sales after their cuts too. Assumes nothing.
+-- What is kept of a seller is that of its sales after their cuts too, and after changes elsewhere. Assumes nothing.
 use Rattle.base.specs.Basics.{_≡_, sym, ap, _∙_, Bool, true, false, cond, List, ℕ, _+_, _-_, _≤_, _<_, arith, length, getD, List·getD-eq-default}
 use Rattle.base.proofs.Linear.{by-order}
 use Rattle.cut_peaks.proofs.Worths.{worth-less}
 use Rattle.cut_peaks.specs.Keeping.{Fits, KeptFor, shortOf, sweptTo, tierRates}
+use Rattle.cut_peaks.specs.Peaks.{amountAt}
 use Rattle.cut_peaks.specs.declared.Kept.{Kept}
 use Rattle.cut_tiers.specs.Tiers.{Takeable, ratesFor}
 use Rattle.cut_worth.specs.Rates.{Sales, lotsIn, rated}
@@ -21,6 +22,29 @@ lower-le false n c m e = omega arith
 lower-less : (t : Bool) (n c m mwh : ℕ) → m ≡ n - c → 0 < mwh → cond t n 0 < mwh + c → cond t m 0 < mwh
 lower-less true n c m mwh e h l = omega arith
 lower-less false n c m mwh e h l = omega arith
+
+-- what is kept of the same sales, whatever stands elsewhere
+pub kept-elsewhere : {f : Prices} {k : Kept} {ns areas : List ℕ} {from to : ℕ} (ms : List ℕ) → part from to ms ≡ part from to ns → KeptFor f k ns areas from to → KeptFor f k ms areas from to
+kept-elsewhere {f} {k} {ns} {areas} {from} {to} ms e p =
+    let q = p .peaked in
+    let stands : (i : ℕ) → from ≤ i → i < to → getD ms i 0 ≡ getD ns i 0
+    = λ i h l. sym (part-here ms from to i 0 h l) ∙ ap (λ (xs : List ℕ). getD xs (i - from) 0) e ∙ part-here ns from to i 0 h l in
+    let amounts : (i : ℕ) → from ≤ i → i < to → amountAt (tierRates f k) ms areas i ≡ amountAt (tierRates f k) ns areas i
+    = λ i h l. ap (λ (n : ℕ). cond (rated (tierRates f k) (getD areas i 0)) n 0) (stands i h l) in
+    record {
+      worth-is = p .worth-is ∙ ap (λ (xs : List ℕ). tierWorth (lotsIn (tierRates f k) xs (part from to areas))) (sym e);
+      worth-most = p .worth-most;
+      peaked = record {
+        starts = q .starts;
+        ends = q .ends;
+        some = q .some;
+        few = q .few;
+        most = λ i h l. omega (arith, amounts i h l, q .most i h l);
+        before = λ i h l. omega (arith, amounts i h (omega (arith, q .ends)), q .before i h l);
+        here = λ l. omega (arith, amounts (k .place) (q .starts) l, q .here l);
+      };
+      first-none = λ t. ap (λ (xs : List ℕ). tierWorth (lotsIn (ratesFor f (shortOf k)) xs (part from to areas))) e ∙ p .first-none t;
+    }
 
 module _ {f : Prices} {short : List Bool} {asked : ℕ} {ns areas : List ℕ} {from to : ℕ} {cs₀ cs : List ℕ} {k : Kept} {end lost : ℕ} (s : Sales ns areas from to) (t : Takeable ns cs from to)
     (p : Fits f short asked ns areas from to cs₀ cs k end lost) where
@@ -55,9 +79,9 @@ module _ {f : Prices} {short : List Bool} {asked : ℕ} {ns areas : List ℕ} {f
           part-here ns from to i 0 h l,
         )
 
-    pub kept-after : (seller : ℕ) → KeptFor f (sweptTo k seller end lost) ms areas from to
+    pub kept-after : KeptFor f (sweptTo k end lost) ms areas from to
     unfolding tierRates
-    kept-after seller =
+    kept-after =
         let q = p .kept .peaked in
         let rates = tierRates f k in
         let belongs : ℕ → Bool = λ i. rated (tierRates f k) (getD areas i 0) in

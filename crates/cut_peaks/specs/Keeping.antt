@@ -17,10 +17,10 @@ shortOf k = shortBy (k .pvb ∷ k .tvb ∷ k .avb ∷ [])
 unfoldable pub tierRates : Prices → Kept → List ℕ
 tierRates f k = ratesFor f (tierOf (k .second) (shortOf k))
 
--- what is kept after cuts that are worth some amount, up to the next of the highest sales, of the seller at a place
-abbrev pub sweptTo : Kept → ℕ → ℕ → ℕ → Kept
-sweptTo k seller end lost =
-    record { seller = seller; pvb = k .pvb; tvb = k .tvb; avb = k .avb; second = k .second; worth = k .worth - lost; mwh = k .mwh; place = end }
+-- what is kept after cuts that are worth some amount, up to the next of the highest sales
+abbrev pub sweptTo : Kept → ℕ → ℕ → Kept
+sweptTo k end lost =
+    record { known = k .known; pvb = k .pvb; tvb = k .tvb; avb = k .avb; second = k .second; worth = k .worth - lost; mwh = k .mwh; place = end }
 
 -- the same areas as an array says
 pub record SameShort (k : Kept) (short : List Bool) : Type 0 where

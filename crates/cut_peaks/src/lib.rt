@@ -115,10 +115,10 @@ fn peak_cuts(
 
 // ---- what is kept of a seller
 
-// Of a seller, by its place among the users: in which areas its position is negative; whether its sales lose from tier two, tier one being
+// Of a seller, where anything is known of it: in which areas its position is negative; whether its sales lose from tier two, tier one being
 // worth nothing; what that tier is worth, what its highest sales stand at, and the place of the next of them.
 pub struct Kept {
-    pub seller: usize,
+    pub known: bool,
     pub pvb: bool,
     pub tvb: bool,
     pub avb: bool,
@@ -129,12 +129,12 @@ pub struct Kept {
 }
 
 impl Kept {
-    // Of nobody: no user stands at this place.
-    pub fn nobody() -> Kept
-        ensures { λ r. ⌜ r .seller ≡ 64 ⌝ }
+    // Nothing.
+    pub fn nothing() -> Kept
+        ensures { λ r. ⌜ r .known ≡ false ⌝ }
     {
         Kept {
-            seller: 64,
+            known: false,
             pvb: false,
             tvb: false,
             avb: false,
@@ -145,12 +145,11 @@ impl Kept {
         }
     }
 
-    // After the highest sales up to the next one, at an end, have lost what they were cut by; of the seller at a place.
-    pub fn swept(mut self, seller: usize, end: usize, lost: u64) -> Kept
+    // After the highest sales up to the next one, at an end, have lost what they were cut by.
+    pub fn swept(mut self, end: usize, lost: u64) -> Kept
         requires { ⌜ lost ≤ self .worth ⌝ }
-        ensures { λ r. ⌜ r ≡ sweptTo self seller end lost ⌝ }
+        ensures { λ r. ⌜ r ≡ sweptTo self end lost ⌝ }
     {
-        self.seller = seller;
         self.worth = self.worth - lost;
         self.place = end;
         self
@@ -174,7 +173,6 @@ fn keep(
     areas: &[u8; 256],
     short: &[bool; 3],
     prices: Prices,
-    seller: usize,
     from: usize,
     to: usize,
 ) -> Kept
@@ -190,7 +188,7 @@ fn keep(
         let mwh = highest(standing, areas, &one, from, to);
         let place = next_peak(standing, areas, &one, mwh, from, to);
         return Kept {
-            seller: seller,
+            known: true,
             pvb: pvb,
             tvb: tvb,
             avb: avb,
@@ -205,7 +203,7 @@ fn keep(
     let mwh = highest(standing, areas, &two, from, to);
     let place = next_peak(standing, areas, &two, mwh, from, to);
     Kept {
-        seller: seller,
+        known: true,
         pvb: pvb,
         tvb: tvb,
         avb: avb,
@@ -226,13 +224,10 @@ fn differ(one: bool, other: bool) -> bool
     other
 }
 
-// Is it of this seller, of a position that is negative where `short` says so, and with one of the highest sales left?
-fn serves(kept: Kept, seller: usize, short: &[bool; 3], to: usize) -> bool
-    ensures { λ r. ⌜ (r ≡ true → (kept .seller ≡ seller) × SameShort kept (now (short .entry))) ⌝ }
+// Is it known, of a position that is negative where `short` says so, and with one of the highest sales left?
+fn serves(kept: Kept, short: &[bool; 3], to: usize) -> bool
+    ensures { λ r. ⌜ (r ≡ true → (kept .known ≡ true) × SameShort kept (now (short .entry))) ⌝ }
 {
-    if kept.seller != seller {
-        return false;
-    }
     if to <= kept.place {
         return false;
     }
@@ -242,7 +237,10 @@ fn serves(kept: Kept, seller: usize, short: &[bool; 3], to: usize) -> bool
     if differ(kept.tvb, short[1]) {
         return false;
     }
-    !differ(kept.avb, short[2])
+    if differ(kept.avb, short[2]) {
+        return false;
+    }
+    kept.known
 }
 
 // What is kept, where it serves; else what a look through the sales gives.
@@ -251,19 +249,18 @@ fn current(
     areas: &[u8; 256],
     short: &[bool; 3],
     prices: Prices,
-    seller: usize,
     from: usize,
     to: usize,
     kept: Kept,
 ) -> Kept
     requires { ⌜ InRange (asPrices prices) × Sales (now standing) (now areas) from to × (from ≤ to) ⌝ }
-    requires { ⌜ (kept .seller ≡ seller → KeptFor (asPrices prices) kept (now standing) (now areas) from to) ⌝ }
+    requires { ⌜ (kept .known ≡ true → KeptFor (asPrices prices) kept (now standing) (now areas) from to) ⌝ }
     ensures { λ r. ⌜ KeptFor (asPrices prices) r (now (standing .entry)) (now (areas .entry)) from to × SameShort r (now (short .entry)) ⌝ }
 {
-    if serves(kept, seller, short, to) {
+    if serves(kept, short, to) {
         return kept;
     }
-    keep(standing, areas, short, prices, seller, from, to)
+    keep(standing, areas, short, prices, from, to)
 }
 
 // ---- the cuts of a reduction
@@ -284,17 +281,16 @@ pub fn choose(
     short: &[bool; 3],
     prices: Prices,
     asked: u64,
-    seller: usize,
     from: usize,
     to: usize,
     kept: Kept,
     cuts: &mut [u64; 256],
 ) -> Choice
     requires { ⌜ InRange (asPrices prices) × Sales (now standing) (now areas) from to × (from ≤ to) × NoneCut (now cuts) × (0 < asked) ⌝ }
-    requires { ⌜ (kept .seller ≡ seller → KeptFor (asPrices prices) kept (now standing) (now areas) from to) ⌝ }
+    requires { ⌜ (kept .known ≡ true → KeptFor (asPrices prices) kept (now standing) (now areas) from to) ⌝ }
     ensures { λ r. ⌜ Chosen (asPrices prices) (now (short .entry)) asked (now (standing .entry)) (now (areas .entry)) from to (now (cuts .entry)) (now (cuts .exit)) r ⌝ }
 {
-    let known = current(standing, areas, short, prices, seller, from, to, kept);
+    let known = current(standing, areas, short, prices, from, to, kept);
     let worth = known.worth;
     let mwh = known.mwh;
     let place = known.place;

@@ -35,8 +35,8 @@ use Rattle.run_state.specs.Running.{NextFrom}
 use Rattle.run_reduction.proofs.Steps.{cut-within, part-few, part-rises, sales-in}
 use Rattle.run_reduction.specs.Reductions.{RunOf}
 use Rattle.run_turns.proofs.Turning.{reached-now}
-use Rattle.run_turns.proofs.Rounds.{RunTo, members, next, run-start, run-turn}
-use Rattle.run_turns.specs.Turns.{Turned}
+use Rattle.run_turns.proofs.Rounds.{members, next, run-start, run-turn}
+use Rattle.run_turns.specs.Turns.{RunTo, Turned}
 use Rattle.log_format.specs.Noted.{entryOf, noted}
 use Rattle.log_entries.proofs.Reductions.{reduction-entered}
 use Rattle.log_entries.specs.Entries.{EntriesIn, Notable, NotedAt}

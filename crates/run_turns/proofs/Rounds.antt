@@ -14,14 +14,14 @@ use Rattle.laws.specs.Trades.{Lowered, Pairwise}
 use Rattle.rules.specs.Book.{Book}
 use Rattle.rules.specs.Calls.{Answer, nextReduced, ofRun, reduced}
 use Rattle.rules.specs.Levels.{Limits}
-use Rattle.run_state.proofs.Left.{Left, left-end, left-more, left-start, left-turn, next-here, next-nobody, tally-within}
+use Rattle.run_state.proofs.Left.{left-end, left-more, left-start, left-turn, next-here, next-nobody, tally-within}
 use Rattle.base.proofs.Stores.{set-front}
 use Rattle.run_state.proofs.Stays.{stays, users-many}
 use Rattle.run_state.specs.Asked.{memberAt}
 use Rattle.laws_sales.specs.Borne.{borneBook}
 use Rattle.run_state.specs.Going.{Going, StandingIn}
 use Rattle.run_state.specs.Running.{NextFrom, wholeRun}
-use Rattle.run_turns.specs.Turns.{CutIn, Ongoing, Ran, Turned}
+use Rattle.run_turns.specs.Turns.{CutIn, Ongoing, Ran, RunTo, Turned}
 
 -- ---- cuts are cleared
 
@@ -58,17 +58,6 @@ none-cuts =
     }
 
 -- ---- the run
-
--- a run of the book in bytes s of n users has come so far
-pub record RunTo (limits : Limits) (s : List ℕ) (n : ℕ) (ns ps ts : List ℕ) (es : List Bool) (cs rs : List ℕ) (t : Totals) (place : ℕ) : Type 0 where
-  pub book : Book
-  pub going : Going limits (bookOf s) book ns ps ts es
-  pub left : Left limits (bookOf s) book (t .reductions) (t .mwh .0) (t .worth .0)
-  pub none-cut : NoneCut cs
-  pub rests-room : length rs ≡ 256
-  pub within : place ≤ n
-  pub before : (j : ℕ) → j < place → getD ts j 0 ≡ 0
-  pub here : place < n → 0 < getD ts place 0
 
 module _ {limits : Limits} {s : List ℕ} {n : ℕ} (many : n ≡ userCount s) (sound : Sound (bookOf s)) where
   -- before the first reduction

@@ -1,13 +1,11 @@
 -- A reduction by cuts that lie between two places of the user's sales: each step can be taken, and together they are the rules' reduction; what is kept is that of the sales after it.
 -- Assumes nothing.
-use Rattle.base.specs.Basics.{_≡_, refl, sym, ap, subst, _∙_, Bool, true, false, List, [], _∷_, map, ℕ, zero, suc, _+_, _-_, _≤_, _<_, arith, ltb}
-use Rattle.base.specs.Basics.{length, getD, set, sets}
+use Rattle.base.specs.Basics.{_≡_, sym, ap, _∙_, Bool, true, List, map, ℕ, _+_, _-_, _≤_, _<_, arith, ltb, length, getD, set, sets}
 use Rattle.base.specs.Lists.{any}
 use Rattle.book_format.specs.Book.{bookOf, userCount, usersOf}
 use Rattle.cut_peaks.proofs.After.{kept-after, lost-le}
-use Rattle.cut_peaks.specs.Keeping.{Fits, KeptFor, sweptTo}
+use Rattle.cut_peaks.specs.Keeping.{Fits, sweptTo}
 use Rattle.cut_peaks.specs.declared.Choice.{Choice}
-use Rattle.cut_peaks.specs.declared.Kept.{Kept}
 use Rattle.cut_tiers.proofs.After.{filled-takeable}
 use Rattle.cut_tiers.specs.Tiers.{NoCuts, Takeable, cutsOf, shortBy}
 use Rattle.cut_worth.specs.Rates.{Sales}
@@ -20,30 +18,17 @@ use Rattle.rules.specs.Areas.{Prices}
 use Rattle.rules.specs.Book.{Book, Trade}
 use Rattle.rules.specs.Levels.{Limits}
 use Rattle.rules.specs.Reduction.{nothing, tallyAll}
-use Rattle.run_positions.specs.Moving.{Movable, ShortIn}
+use Rattle.run_positions.specs.Moving.{Movable}
 use Rattle.run_reduction.proofs.Filled.{filled-movable, filled-short}
-use Rattle.run_reduction.proofs.Steps.{left-part, left-room, part-few, part-rises, reducible, sales-in}
+use Rattle.run_reduction.proofs.Steps.{left-only, left-part, left-room, part-few, part-rises, reducible, sales-in}
 use Rattle.run_reduction.specs.Reductions.{Reached, RunOf, shortIn}
 use Rattle.run_state.specs.Asked.{LookedAgain, movedAll}
 use Rattle.run_state.specs.Going.{Going}
 use Rattle.run_targets.specs.Asking.{BuyersIn, owedIf}
 use Rattle.run_turns.proofs.Narrow.{Narrow, narrow-left, narrow-looked, narrow-moved, narrow-sales, narrow-tally}
+use Rattle.run_turns.proofs.Others.{others-stand}
 use Rattle.run_turns.proofs.Turning.{buyers-in, reached-now, turned}
-use Rattle.run_turns.specs.Turns.{CutIn, Keeps, Sweepable, Turned}
-
--- the areas in which a position is negative
-pub shorts-in : (ps : List ℕ) (place : ℕ) → ShortIn ps place (shortIn ps place 0 ∷ shortIn ps place 1 ∷ shortIn ps place 2 ∷ [])
-shorts-in ps place = record { each = go }
-  where
-    go : (area : ℕ) → area < 3 → getD (shortIn ps place 0 ∷ shortIn ps place 1 ∷ shortIn ps place 2 ∷ []) area false ≡ shortIn ps place area
-    go zero h = refl
-    go (suc zero) h = refl
-    go (suc (suc zero)) h = refl
-    go (suc (suc (suc n))) h = absurd (omega arith)
-
--- nothing is kept of a user
-pub keeps-nobody : {f : Prices} {ss ns areas : List ℕ} {k : Kept} → k .seller ≡ 64 → Keeps f ss ns areas k
-keeps-nobody e = record { each = λ i l g. absurd (omega (arith, e, g)) }
+use Rattle.run_turns.specs.Turns.{CutIn, Keeps, OthersStand, Sweepable, Turned}
 
 -- the cuts lie between the two places
 pub sweep-cuts : {f : Prices} {asked : ℕ} {ns areas ps : List ℕ} {place from to : ℕ} {cs : List ℕ} {c : Choice} → Sweepable f asked ns areas ps place from to cs c → CutIn (c .kept .place) (c .end) cs
@@ -147,13 +132,15 @@ module _ {limits : Limits} {f : Prices} {s sums ss areaCodes bs : List ℕ} (q :
       pub sweep-room : length ms ≡ 256
       sweep-room = left-room q inside now cs ms all-taken
 
+      -- the sales of the others
+      pub sweep-others : OthersStand (userCount s) ss place ns ms
+      sweep-others = others-stand q inside (left-only q inside now cs ms all-taken)
+
       -- what is kept
-      pub sweep-keeps : Keeps f ss ms areaCodes (sweptTo (c .kept) place (c .end) (c .lost))
+      pub sweep-keeps : Keeps f ss ms areaCodes place (sweptTo (c .kept) (c .end) (c .lost))
       sweep-keeps =
           record {
-            each = λ i l e.
-                subst (λ (j : ℕ). KeptFor f (sweptTo (c .kept) place (c .end) (c .lost)) ms areaCodes (getD ss j 0) (getD ss (j + 1) 0)) e
-                (kept-after sales takeable fits ms (left-part q inside now cs ms all-taken) (w .chosen .rises) (w .chosen .ends) (w .chosen .behind (c .end) (omega arith)) place);
+            kept = λ e. kept-after sales takeable fits ms (left-part q inside now cs ms all-taken) (w .chosen .rises) (w .chosen .ends) (w .chosen .behind (c .end) (omega arith));
           }
 
       -- the rules' reduction

@@ -1,5 +1,6 @@
 -- A run on arrays: what stays, what one reduction gives, and what all give. Assumes nothing.
-use Rattle.base.specs.Basics.{_≡_, Bool, List, ℕ, _+_, _≤_, _<_, length, getD}
+use Rattle.base.specs.Basics.{_≡_, Bool, true, List, ℕ, _+_, _≤_, _<_, length, getD}
+use Rattle.book_format.specs.Book.{bookOf}
 use Rattle.cut_peaks.specs.Keeping.{Chosen, KeptFor}
 use Rattle.cut_peaks.specs.Peaks.{NoneCut}
 use Rattle.cut_peaks.specs.declared.Choice.{Choice}
@@ -16,9 +17,11 @@ use Rattle.rules.specs.Calls.{Result, ofCuts, reduced}
 use Rattle.rules.specs.Levels.{Limits}
 use Rattle.rules.specs.Reduction.{target, withTrades}
 use Rattle.run_positions.specs.Moving.{ShortIn}
+use Rattle.run_state.proofs.Left.{Left}
 use Rattle.run_state.specs.Asked.{memberAt}
 use Rattle.run_state.specs.Going.{Going, StandingIn}
 use Rattle.laws_sales.specs.Borne.{borneBook, borneUser}
+use Rattle.laws_sales.specs.Parts.{part}
 use Rattle.laws_sales.specs.Reduced.{ownCuts}
 
 -- a run of a book has come to some book
@@ -45,6 +48,14 @@ pub record TurnedSome (limits : Limits) (o b : Book) (place : ℕ) (ts₀ ns ps 
   pub cuts : List ℕ
   pub turned : Turned limits o b place ts₀ ns ps ts es cuts tally least
 
+-- what stands of the sales of every user but the one at a place is what stood
+pub record OthersStand (n : ℕ) (ss : List ℕ) (place : ℕ) (ns ms : List ℕ) : Type 0 where
+  pub each : (i : ℕ) → i < n → (i ≡ place → ⊥) → part (getD ss i 0) (getD ss (i + 1) 0) ms ≡ part (getD ss i 0) (getD ss (i + 1) 0) ns
+
+-- of every user with many sales
+pub record ManyStand (n : ℕ) (ss ns ms : List ℕ) : Type 0 where
+  pub each : (i : ℕ) → i < n → getD ss i 0 + 8 < getD ss (i + 1) 0 → part (getD ss i 0) (getD ss (i + 1) 0) ms ≡ part (getD ss i 0) (getD ss (i + 1) 0) ns
+
 -- ---- long runs
 
 -- cuts are filled in between two places, for an amount, of the sales from..to of the user at a place; where they fit, they are all of its cuts
@@ -55,11 +66,22 @@ pub record Sweepable (f : Prices) (asked : ℕ) (ns areas ps : List ℕ) (place 
   pub none-cut : NoneCut none
   pub chosen : Chosen f short asked ns areas from to none cs c
 
--- what is kept of a user is that of its sales
-pub record Keeps (f : Prices) (ss ns areas : List ℕ) (k : Kept) : Type 0 where
-  pub each : (i : ℕ) → i < 64 → k .seller ≡ i → KeptFor f k ns areas (getD ss i 0) (getD ss (i + 1) 0)
+-- what is kept of the user at a place, where anything is known of it, is that of its sales
+pub record Keeps (f : Prices) (ss ns areas : List ℕ) (place : ℕ) (k : Kept) : Type 0 where
+  pub kept : k .known ≡ true → KeptFor f k ns areas (getD ss place 0) (getD ss (place + 1) 0)
 
 -- ---- all of them
+
+-- a run of the book in bytes s of n users has come so far: some book, the totals, no cuts in their array, and the place of the first user that is due
+pub record RunTo (limits : Limits) (s : List ℕ) (n : ℕ) (ns ps ts : List ℕ) (es : List Bool) (cs rs : List ℕ) (t : Totals) (place : ℕ) : Type 0 where
+  pub book : Book
+  pub going : Going limits (bookOf s) book ns ps ts es
+  pub left : Left limits (bookOf s) book (t .reductions) (t .mwh .0) (t .worth .0)
+  pub none-cut : NoneCut cs
+  pub rests-room : length rs ≡ 256
+  pub within : place ≤ n
+  pub before : (j : ℕ) → j < place → getD ts j 0 ≡ 0
+  pub here : place < n → 0 < getD ts place 0
 
 -- reductions of the book o, one after another, have given a result of the rules: its answer, and what stands of the own sales of its book as its risk is borne
 pub record Ran (end : Result) (o : Book) (ns : List ℕ) (r : Totals) : Type 0 where

@@ -1,12 +1,9 @@
 // The reductions of a run, one after another, on arrays: the book that the run has come to stands in them, and the bytes hold the opening
 // book throughout.
-use cut_peaks::Choice;
-use cut_peaks::Kept;
 use cut_worth::Tally;
 use cut_worth::Totals;
 use risk_user::Day;
 use units::Cents;
-use units::Prices;
 ghost use mathlib.Core.Path.{_≡_};
 ghost use Prim.Native.Nat.{_+_, _≤_, _<_};
 ghost use lib.ListN.{getD, length};
@@ -17,13 +14,12 @@ ghost use Rattle.run_state.specs.Running.{NextFrom, wholeRun};
 ghost use Rattle.laws_sales.specs.Parts.{part};
 ghost use Rattle.units.specs.Prices.{asPrices};
 ghost use Rattle.units.specs.Limits.{asLimits};
-ghost use Rattle.cut_peaks.specs.Keeping.{KeptFor};
 ghost use Rattle.cut_peaks.specs.Peaks.{NoneCut};
-ghost use Rattle.cut_worth.specs.Rates.{Sales};
-ghost use Rattle.units.specs.Prices.{InRange};
-ghost use mathlib.Core.Bool.{true};
-ghost use Rattle.run_turns.specs.Turns.{CutIn, Keeps, Ongoing, Ran, Sweepable, Turned, TurnedSome};
+ghost use mathlib.Core.Bool.{true, false};
+ghost use Rattle.run_turns.specs.Turns.{CutIn, ManyStand, Ongoing, OthersStand, Ran, RunTo, Turned, TurnedSome};
 ghost use Rattle.run_reduction.specs.Reductions.{RunOf};
+
+mod long;
 
 // ---- one reduction
 
@@ -55,7 +51,8 @@ pub fn turn(
     ensures { λ r. ⌜ ((b : Book) → Going (asLimits (day .limits)) (bookOf (now (book .entry))) b (now (standing .entry)) (now (positions .entry)) (now (targets .entry)) (now (eligible .entry))
         → Turned (asLimits (day .limits)) (bookOf (now (book .entry))) b place (now (targets .entry)) (now (standing .exit)) (now (positions .exit)) (now (targets .exit)) (now (eligible .exit))
         (part (getD (now (starts .entry)) place 0) (getD (now (starts .entry)) (place + 1) 0) (now (cuts .exit))) (r .tally) (r .least)) ⌝ }
-    ensures { λ _. ⌜ CutIn (getD (now (starts .entry)) place 0) (getD (now (starts .entry)) (place + 1) 0) (now (cuts .exit)) × (length (now (rests .exit)) ≡ 256) ⌝ }
+    ensures { λ _. ⌜ CutIn (getD (now (starts .entry)) place 0) (getD (now (starts .entry)) (place + 1) 0) (now (cuts .exit)) × (length (now (rests .exit)) ≡ 256)
+        × OthersStand (userCount (now (book .entry))) (now (starts .entry)) place (now (standing .entry)) (now (standing .exit)) ⌝ }
 {
     let from = starts[place];
     let to = starts[place + 1];
@@ -125,129 +122,8 @@ pub fn next_from(targets: &[u64; 64], least: usize, n: usize) -> usize
     i
 }
 
-// ---- one reduction of a long run
-
-// From this reduction on a run is long: to look through the sales once more does not pay in a short one.
-const LONG: u64 = 64;
-
-// What a reduction of a long run gives: its tally, a place before which nobody has become due, and what is kept for the next.
-pub struct LongTurn {
-    pub tally: Tally,
-    pub least: usize,
-    pub kept: Kept,
-}
-
-// Fills in the cuts of the user at a place, which is due, where the run is long, the user has many sales, and only the highest of them
-// lose, one MWh each.
-fn chosen(
-    standing: &[u64; 256],
-    areas: &[u8; 256],
-    positions: &[u32; 192],
-    prices: Prices,
-    asked: u64,
-    place: usize,
-    from: usize,
-    to: usize,
-    kept: Kept,
-    reductions: u64,
-    cuts: &mut [u64; 256],
-) -> Choice
-    requires { ⌜ InRange (asPrices prices) × Sales (now standing) (now areas) from to × (from ≤ to) × NoneCut (now cuts) × (0 < asked) × (place < 64) ⌝ }
-    requires { ⌜ (kept .seller ≡ place → KeptFor (asPrices prices) kept (now standing) (now areas) from to) ⌝ }
-    ensures { λ r. ⌜ Sweepable (asPrices prices) asked (now (standing .entry)) (now (areas .entry)) (now (positions .entry)) place from to (now (cuts .exit)) r ⌝ }
-{
-    if (reductions < LONG) | (to - from <= 8) {
-        let mut none = Kept::nobody();
-        none.place = from;
-        return Choice {
-            fits: false,
-            kept: none,
-            end: from,
-            lost: 0,
-        };
-    }
-    let short = run_positions::shorts_at(positions, place);
-    cut_peaks::choose(
-        standing,
-        areas,
-        &short,
-        prices,
-        asked,
-        place,
-        from,
-        to,
-        kept,
-        cuts,
-    )
-}
-
-// Reduces the user at a place by the cuts that were filled in between two places, and clears them.
-fn sweep(
-    book: &[u8],
-    sums: &[u32; 768],
-    starts: &[usize; 65],
-    standing: &mut [u64; 256],
-    areas: &[u8; 256],
-    buyers: &[u8; 256],
-    positions: &mut [u32; 192],
-    eligible: &mut [bool; 64],
-    targets: &mut [u64; 64],
-    cuts: &mut [u64; 256],
-    place: usize,
-    day: Day,
-    choice: Choice,
-) -> LongTurn
-    requires { ⌜ RunOf (asLimits (day .limits)) (asPrices (day .prices)) (now book) (now sums) (now starts) (now areas) (now buyers) × (place < userCount (now book)) × (0 < getD (now targets) place 0) ⌝ }
-    requires { ⌜ Ongoing (asLimits (day .limits)) (bookOf (now book)) (now standing) (now positions) (now targets) (now eligible) × (choice .fits ≡ true) ⌝ }
-    requires { ⌜ Sweepable (asPrices (day .prices)) (getD (now targets) place 0) (now standing) (now areas) (now positions) place (getD (now starts) place 0) (getD (now starts) (place + 1) 0) (now cuts) choice ⌝ }
-    ensures { λ r. ⌜ ((b : Book) → Going (asLimits (day .limits)) (bookOf (now (book .entry))) b (now (standing .entry)) (now (positions .entry)) (now (targets .entry)) (now (eligible .entry))
-        → Turned (asLimits (day .limits)) (bookOf (now (book .entry))) b place (now (targets .entry)) (now (standing .exit)) (now (positions .exit)) (now (targets .exit)) (now (eligible .exit))
-        (part (getD (now (starts .entry)) place 0) (getD (now (starts .entry)) (place + 1) 0) (now (cuts .entry))) (r .tally) (r .least)) ⌝ }
-    ensures { λ r. ⌜ NoneCut (now (cuts .exit)) × Keeps (asPrices (day .prices)) (now (starts .entry)) (now (standing .exit)) (now (areas .entry)) (r .kept) ⌝ }
-{
-    let from = starts[place];
-    let to = starts[place + 1];
-    let kept = choice.kept;
-    let first = kept.place;
-    let end = choice.end;
-    let tally = run_reduction::settle(
-        standing,
-        areas,
-        buyers,
-        cuts,
-        positions,
-        place,
-        day.prices,
-        first,
-        end,
-    );
-    let least = run_targets::look_again(
-        book,
-        sums,
-        positions,
-        buyers,
-        cuts,
-        eligible,
-        targets,
-        place,
-        first,
-        end,
-        day,
-    );
-    clear(cuts, first, end);
-    let some = run_targets::any_left(standing, from, to);
-    eligible[place] = some;
-    let owed = run_targets::owed_at(book, sums, positions, place, some, true, day);
-    targets[place] = owed.0;
-    LongTurn {
-        tally: tally,
-        least: least,
-        kept: kept.swept(place, end, choice.lost),
-    }
-}
-
-// Reduces the user at a place, which is due, for its target: by what is kept of it where that tells its cuts, else as any other.
-fn next_turn(
+// Reduces the user at a place, which is due, for its target, and clears its cuts.
+pub fn plain_turn(
     book: &[u8],
     sums: &[u32; 768],
     starts: &[usize; 65],
@@ -261,51 +137,14 @@ fn next_turn(
     rests: &mut [u64; 256],
     place: usize,
     day: Day,
-    kept: Kept,
-    reductions: u64,
-) -> LongTurn
+) -> Reduced
     requires { ⌜ RunOf (asLimits (day .limits)) (asPrices (day .prices)) (now book) (now sums) (now starts) (now areas) (now buyers) × (place < userCount (now book)) × (0 < getD (now targets) place 0) ⌝ }
     requires { ⌜ Ongoing (asLimits (day .limits)) (bookOf (now book)) (now standing) (now positions) (now targets) (now eligible) × NoneCut (now cuts) × (length (now rests) ≡ 256) ⌝ }
-    requires { ⌜ Keeps (asPrices (day .prices)) (now starts) (now standing) (now areas) kept ⌝ }
     ensures { λ r. ⌜ ((b : Book) → Going (asLimits (day .limits)) (bookOf (now (book .entry))) b (now (standing .entry)) (now (positions .entry)) (now (targets .entry)) (now (eligible .entry))
         → TurnedSome (asLimits (day .limits)) (bookOf (now (book .entry))) b place (now (targets .entry)) (now (standing .exit)) (now (positions .exit)) (now (targets .exit)) (now (eligible .exit)) (r .tally) (r .least)) ⌝ }
-    ensures { λ r. ⌜ NoneCut (now (cuts .exit)) × (length (now (rests .exit)) ≡ 256) × Keeps (asPrices (day .prices)) (now (starts .entry)) (now (standing .exit)) (now (areas .entry)) (r .kept) ⌝ }
+    ensures { λ _. ⌜ NoneCut (now (cuts .exit)) × (length (now (rests .exit)) ≡ 256)
+        × OthersStand (userCount (now (book .entry))) (now (starts .entry)) place (now (standing .entry)) (now (standing .exit)) ⌝ }
 {
-    let from = starts[place];
-    let to = starts[place + 1];
-    let asked = targets[place];
-    let choice = chosen(
-        standing,
-        areas,
-        positions,
-        day.prices,
-        asked,
-        place,
-        from,
-        to,
-        kept,
-        reductions,
-        cuts,
-    );
-    if choice.fits {
-        return sweep(
-            book,
-            sums,
-            starts,
-            standing,
-            areas,
-            buyers,
-            positions,
-            eligible,
-            targets,
-            cuts,
-            place,
-            day,
-            choice,
-        );
-    }
-    let tried = choice.kept;
-    clear(cuts, tried.place, choice.end);
     let turned = turn(
         book,
         sums,
@@ -321,16 +160,98 @@ fn next_turn(
         place,
         day,
     );
+    let from = starts[place];
+    let to = starts[place + 1];
     clear(cuts, from, to);
-    let tally = turned.tally;
-    LongTurn {
-        tally: tally,
-        least: turned.least,
-        kept: Kept::nobody(),
-    }
+    turned
 }
 
 // ---- all of them
+
+// From this reduction on a run is long: to look through the sales once more does not pay in a short one.
+const LONG: u64 = 64;
+
+// Is the user at a place reduced by what is kept of it: is the run long, and does the user have many sales?
+fn is_kept(starts: &[usize; 65], place: usize, reductions: u64) -> bool
+    requires { ⌜ (place < 64) × (getD (now starts) place 0 ≤ getD (now starts) (place + 1) 0) ⌝ }
+    ensures { λ r. ⌜ (r ≡ true → (64 ≤ reductions) × (getD (now (starts .entry)) place 0 + 8 < getD (now (starts .entry)) (place + 1) 0))
+        × (r ≡ false → 64 ≤ reductions → getD (now (starts .entry)) (place + 1) 0 ≤ getD (now (starts .entry)) place 0 + 8) ⌝ }
+{
+    if reductions < LONG {
+        return false;
+    }
+    let from = starts[place];
+    let to = starts[place + 1];
+    if to - from <= 8 {
+        return false;
+    }
+    true
+}
+
+// Where a run stands between two reductions: its totals so far, and the place of the user that is due next, n where nobody is.
+pub struct Stage {
+    pub totals: Totals,
+    pub place: usize,
+}
+
+// Reduces the first user that is due in a book of n users, from a place on, until nobody is, or the run is long and one with many sales is.
+pub fn run_plain(
+    book: &[u8],
+    n: usize,
+    sums: &[u32; 768],
+    starts: &[usize; 65],
+    standing: &mut [u64; 256],
+    areas: &[u8; 256],
+    buyers: &[u8; 256],
+    positions: &mut [u32; 192],
+    eligible: &mut [bool; 64],
+    targets: &mut [u64; 64],
+    cuts: &mut [u64; 256],
+    rests: &mut [u64; 256],
+    day: Day,
+    so_far: Totals,
+    due: usize,
+) -> Stage
+    requires { ⌜ RunOf (asLimits (day .limits)) (asPrices (day .prices)) (now book) (now sums) (now starts) (now areas) (now buyers) × (n ≡ userCount (now book)) ⌝ }
+    requires { ⌜ RunTo (asLimits (day .limits)) (now book) n (now standing) (now positions) (now targets) (now eligible) (now cuts) (now rests) «so_far» due ⌝ }
+    ensures { λ r. ⌜ RunTo (asLimits (day .limits)) (now (book .entry)) n (now (standing .exit)) (now (positions .exit)) (now (targets .exit)) (now (eligible .exit)) (now (cuts .exit)) (now (rests .exit)) (r .totals) (r .place) ⌝ }
+    ensures { λ r. ⌜ («so_far» .reductions ≤ r .totals .reductions) × (64 ≤ «so_far» .reductions → ManyStand n (now (starts .entry)) (now (standing .entry)) (now (standing .exit)))
+        × (r .place < n → (64 ≤ r .totals .reductions) × (getD (now (starts .entry)) (r .place) 0 + 8 < getD (now (starts .entry)) (r .place + 1) 0)) ⌝ }
+{
+    let mut totals = so_far;
+    let mut place = due;
+    while place < n {
+        if is_kept(starts, place, totals.reductions) {
+            return Stage {
+                totals: totals,
+                place: place,
+            };
+        }
+        let turned = plain_turn(
+            book,
+            sums,
+            starts,
+            standing,
+            areas,
+            buyers,
+            positions,
+            eligible,
+            targets,
+            cuts,
+            rests,
+            place,
+            day,
+        );
+        let tally = turned.tally;
+        totals = totals.with(tally);
+        let least = turned.least;
+        place = next_from(targets, least, n);
+    }
+    Stage {
+        totals: totals,
+        place: place,
+    }
+}
 
 // Runs a book of n users: reduces the first user that is due until nobody is. What stands of the own sales is then the rules' book.
 pub fn run_on(
@@ -350,34 +271,47 @@ pub fn run_on(
     requires { ⌜ Going (asLimits (day .limits)) (bookOf (now book)) (bookOf (now book)) (now standing) (now positions) (now targets) (now eligible) ⌝ }
     ensures { λ r. ⌜ Ran (wholeRun (asLimits (day .limits)) (bookOf (now (book .entry)))) (bookOf (now (book .entry))) (now (standing .exit)) r ⌝ }
 {
-    let mut totals = Totals::none();
     let mut cuts = [0u64; 256];
     let mut rests = [0u64; 256];
-    let mut kept = Kept::nobody();
-    let mut place = next_from(targets, 0, n);
-    while place < n {
-        let turned = next_turn(
-            book,
-            sums,
-            starts,
-            standing,
-            areas,
-            buyers,
-            positions,
-            eligible,
-            targets,
-            &mut cuts,
-            &mut rests,
-            place,
-            day,
-            kept,
-            totals.reductions,
-        );
-        let tally = turned.tally;
-        totals = totals.with(tally);
-        kept = turned.kept;
-        let least = turned.least;
-        place = next_from(targets, least, n);
+    let none = Totals::none();
+    let first = next_from(targets, 0, n);
+    let stage = run_plain(
+        book,
+        n,
+        sums,
+        starts,
+        standing,
+        areas,
+        buyers,
+        positions,
+        eligible,
+        targets,
+        &mut cuts,
+        &mut rests,
+        day,
+        none,
+        first,
+    );
+    let totals = stage.totals;
+    let place = stage.place;
+    if n <= place {
+        return totals;
     }
-    totals
+    long::run_long(
+        book,
+        n,
+        sums,
+        starts,
+        standing,
+        areas,
+        buyers,
+        positions,
+        eligible,
+        targets,
+        &mut cuts,
+        &mut rests,
+        day,
+        totals,
+        place,
+    )
 }

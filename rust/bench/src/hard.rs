@@ -1,6 +1,8 @@
 //! The times of runs that take many reductions.
 
-use books::hard::{chain, many_sellers, one_seller, widest};
+use books::hard::{
+    chain, crawler, many_sellers, one_seller, rising, to_and_fro, two_sellers, widest,
+};
 use daybook::archive;
 use reference::book::Book;
 
@@ -14,11 +16,15 @@ use crate::table::{print_head, print_times};
 /// that grows with each cut ends the run of a seller that is long.
 type Hard = (&'static str, fn(i128) -> Book, u16);
 
-const BOOKS: [Hard; 4] = [
+const BOOKS: [Hard; 8] = [
     ("one-seller", one_seller, 1),
     ("many-sellers", many_sellers, 1),
     ("chain", chain, 2),
+    ("two-sellers", two_sellers, 2),
+    ("crawler", crawler, 2),
+    ("to-and-fro", to_and_fro, 1),
     ("widest", widest, 2),
+    ("rising", rising, 2),
 ];
 
 /// Prints the times of the runs of the hard books of each version.

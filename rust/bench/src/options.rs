@@ -10,7 +10,8 @@ const USAGE: &str = "usage: daybook-bench [--quick] [OPTION VALUE]...
 
   --quick                some seconds in all: fewer samples, smaller hard books
   --books NAMES          of small, usual, largest, wide, one-seller, many-sellers,
-                         chain, widest; commas between them; all if not said
+                         chain, two-sellers, crawler, to-and-fro, widest, rising;
+                         commas between them; all if not said
   --versions NUMBERS     versions of the books, of 1, 2 and 3; commas between them;
                          all if not said; 3 is measured beside 2
   --samples N            samples of each call and side
@@ -22,7 +23,7 @@ const USAGE: &str = "usage: daybook-bench [--quick] [OPTION VALUE]...
   --seed N               where the search for usual books starts";
 
 /// The names of the books.
-const NAMES: [&str; 8] = [
+const NAMES: [&str; 12] = [
     "small",
     "usual",
     "largest",
@@ -30,7 +31,11 @@ const NAMES: [&str; 8] = [
     "one-seller",
     "many-sellers",
     "chain",
+    "two-sellers",
+    "crawler",
+    "to-and-fro",
     "widest",
+    "rising",
 ];
 
 /// How often something is measured.

@@ -4,7 +4,9 @@
 #![forbid(unsafe_code)]
 
 use books::groups::in_version_3;
-use books::hard::{chain, many_sellers, one_seller, widest};
+use books::hard::{
+    chain, crawler, many_sellers, one_seller, rising, to_and_fro, two_sellers, widest,
+};
 use books::versions::{in_version_2, VERSIONS};
 use books::{Arguments, Call, Damage, Kind};
 use compare::settings::comparison;
@@ -77,7 +79,9 @@ fn every_date() {
 #[test]
 fn hard_runs() {
     let mut comparison = comparison("hard_runs");
-    for book in [one_seller(100), many_sellers(4), chain(4), widest(3)] {
+    let kept = [two_sellers(3), crawler(3), to_and_fro(5), rising(5)];
+    let books = [one_seller(100), many_sellers(4), chain(4), widest(3)];
+    for book in books.into_iter().chain(kept) {
         for book in [in_version_3(&book), in_version_2(&book), book] {
             comparison.call(&mut book.to_bytes(), &Call::Run);
         }

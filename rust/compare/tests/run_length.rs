@@ -4,7 +4,9 @@
 #![forbid(unsafe_code)]
 
 use books::groups::in_version_3;
-use books::hard::{chain, many_sellers, one_seller, widest, MOST_REDUCTIONS};
+use books::hard::{
+    chain, crawler, many_sellers, one_seller, rising, two_sellers, widest, MOST_REDUCTIONS,
+};
 use books::versions::in_version_2;
 use books::{Generator, Kind};
 use compare::settings::seed;
@@ -61,7 +63,15 @@ fn some_runs_are_as_long() {
     // From version 2 on the positions of the last two stay short and earn no credit.
     let second = [chain(4), widest(3)].map(|book| [in_version_2(&book), in_version_3(&book)]);
     let second = second.into_iter().flatten();
-    let first = [one_seller(100), many_sellers(4), chain(4), widest(3)];
+    let first = [
+        one_seller(100),
+        many_sellers(4),
+        chain(4),
+        two_sellers(3),
+        crawler(3),
+        widest(3),
+        rising(5),
+    ];
     for book in first.into_iter().chain(second) {
         let (reductions, most) = run(&book.to_bytes()).expect("an accepted book");
         assert_eq!(reductions, most);

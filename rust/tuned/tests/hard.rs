@@ -3,7 +3,10 @@
 
 #![forbid(unsafe_code)]
 
-use books::hard::{chain, many_sellers, one_seller, widest, MOST_REDUCTIONS};
+use books::hard::{
+    chain, crawler, many_sellers, one_seller, rising, to_and_fro, two_sellers, widest,
+    MOST_REDUCTIONS,
+};
 use reference::book::Book;
 use reference::party::Given;
 use reference::reduction::reduce;
@@ -56,7 +59,9 @@ fn order_of_a_chain() {
 /// the reference.
 #[test]
 fn short_runs() {
-    for book in [one_seller(40), many_sellers(3), chain(5), widest(3)] {
+    let kept = [two_sellers(2), crawler(2), to_and_fro(5), rising(4)];
+    let books = [one_seller(40), many_sellers(3), chain(5), widest(3)];
+    for book in books.into_iter().chain(kept) {
         let mut bytes = book.to_bytes();
         let mut expected = bytes.clone();
         let run = reference::run(&mut expected, Given::OPERATOR, None);

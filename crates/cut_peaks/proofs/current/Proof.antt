@@ -1,4 +1,4 @@
--- `current`: what serves is of this seller. Assumes nothing.
+-- `current`: what serves is known. Assumes nothing.
 use Rattle.base.specs.Basics.{needs}
 use Rattle.cut_peaks.proofs.current.Statement.{statement}
 use Rattle.cut_peaks.proofs.current.Tie as tie

@@ -24,7 +24,7 @@ returns c =
     let a = b .args in
     let worth = c .before .before .before .before .before .before .worth-of in
     let short = a .short .now in
-    let k : Kept = record { seller = a .seller; pvb = getD short 0 false; tvb = getD short 1 false; avb = getD short 2 false; second = false; worth = c .before .before .before .before .before .before .worth-of .result .0; mwh = c .before .before .highest .result; place = c .next-peak .result } in
+    let k : Kept = record { known = true; pvb = getD short 0 false; tvb = getD short 1 false; avb = getD short 2 false; second = false; worth = c .before .before .before .before .before .before .worth-of .result .0; mwh = c .before .before .highest .result; place = c .next-peak .result } in
     let one = c .before .before .before .before .before .before .before .before .rates-of .ensures (shortOf k) refl refl refl in (
       kept-tier (asPrices (a .prices)) k (one ∙ rates-first (asPrices (a .prices)) k refl) (worth .ensures .0) (omega (arith, worth .ensures .1, b .pre .1 .inside))
           (peaked-first (c .before .before .highest .ensures) (c .next-peak .ensures)) (λ e. absurd (never e)),
@@ -43,7 +43,7 @@ returns-2 c =
     let a = b .args in
     let worth = c .before .before .before .before .worth-of2 in
     let short = a .short .now in
-    let k : Kept = record { seller = a .seller; pvb = getD short 0 false; tvb = getD short 1 false; avb = getD short 2 false; second = true; worth = c .before .before .before .before .worth-of2 .result .0; mwh = c .before .before .highest2 .result; place = c .next-peak2 .result } in
+    let k : Kept = record { known = true; pvb = getD short 0 false; tvb = getD short 1 false; avb = getD short 2 false; second = true; worth = c .before .before .before .before .worth-of2 .result .0; mwh = c .before .before .highest2 .result; place = c .next-peak2 .result } in
     let one = c .before .before .before .before .before .before .before .before .before .before .before .rates-of .ensures (shortOf k) refl refl refl in
     let two = c .before .before .before .before .before .before .rates-of2 .ensures (λ area. not (shortOf k area)) refl refl refl in
     let first = c .before .before .before .before .before .before .before .before .before .worth-of .ensures .0 in (

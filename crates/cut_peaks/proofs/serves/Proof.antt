@@ -1,5 +1,5 @@
--- `serves`: what is not refused is of the seller, and its areas are the same. Assumes nothing.
-use Rattle.base.specs.Basics.{needs, not-true}
+-- `serves`: what is not refused is known, and its areas are the same. Assumes nothing.
+use Rattle.base.specs.Basics.{needs}
 use Rattle.cut_peaks.proofs.Keeping.{never, same-short}
 use Rattle.cut_peaks.proofs.serves.Statement.{statement}
 use Rattle.cut_peaks.proofs.serves.Tie as tie
@@ -18,12 +18,12 @@ returns-4 c = λ e. absurd (never e)
 
 returns-5 : tie.Need-returns-5
 returns-5 c = λ e. (
-  c .before .before .before .before .before .before .before .before .before .before .if1 .left,
-  same-short (c .before .before .before .before .before .before .differ .ensures (c .before .before .before .before .before .if3 .left)) (c .before .before .before .differ2 .ensures (c .before .before .if4 .left))
-      (c .differ3 .ensures (not-true _ e)),
+  e,
+  same-short (c .before .before .before .before .before .before .before .differ .ensures (c .before .before .before .before .before .before .if2 .left)) (c .before .before .before .before .differ2 .ensures (c .before .before .before .if3 .left))
+      (c .before .differ3 .ensures (c .if4 .left)),
 )
 
 pub serves-spec : {M : Type 1} → statement M
 serves-spec =
     tie.close
-    (tie.spec returns returns-2 (λ c. search needs) (λ c κs. search needs) returns-3 (λ c. search needs) (λ c κs. search needs) returns-4 (λ c. search needs) (λ c κs. search needs) returns-5)
+    (tie.spec returns (λ c. search needs) (λ c κs. search needs) returns-2 (λ c. search needs) (λ c κs. search needs) returns-3 (λ c. search needs) (λ c κs. search needs) returns-4 returns-5)

@@ -1,6 +1,7 @@
 -- `turn`: each step can be taken, and together they are the reduction. Assumes nothing.
 use Rattle.base.specs.Basics.{arith, needs}
-use Rattle.run_reduction.proofs.Steps.{left-room, part-few, part-rises, reducible, run-day, run-prices, sales-in}
+use Rattle.run_reduction.proofs.Steps.{left-only, left-room, part-few, part-rises, reducible, run-day, run-prices, sales-in}
+use Rattle.run_turns.proofs.Others.{others-stand}
 use Rattle.run_turns.proofs.Turning.{buyers-in, cut-in, reached-now, turn-room, turned}
 use Rattle.run_turns.proofs.turn.Statement.{statement}
 use Rattle.run_turns.proofs.turn.Tie as tie
@@ -62,7 +63,7 @@ returns c =
       λ b h.
           turned q k h (s .pre .0 .2) _ _ (r .ensures .0) (none .room) _ (r .ensures .1 .0) _ (r .ensures .1 .1 .0) _ (look .result) (look .ensures .0)
           (left .result) (left .ensures) (r .result) (r .ensures .1 .1 .1 .0) (look .ensures .1) (c .owed-at .ensures),
-      (cut-in q k (s .pre .1 .0 .going) (s .pre .0 .2) _ _ (r .ensures .0) (none .room) (none .none), r .ensures .1 .1 .1 .1),
+      (cut-in q k (s .pre .1 .0 .going) (s .pre .0 .2) _ _ (r .ensures .0) (none .room) (none .none), r .ensures .1 .1 .1 .1, others-stand q k (left-only q k (reached-now (s .pre .1 .0 .going)) _ _ (r .ensures .1 .0))),
     )
 
 pub turn-spec : {M : Type 1} → statement M

@@ -3,10 +3,10 @@ use Rattle.base.specs.Basics.{sym, subst, arith, now}
 use Rattle.cut_peaks.specs.declared.Kept.{Kept}
 use Rattle.units.specs.Prices.{asPrices}
 use Rattle.run_reduction.proofs.Steps.{part-few, run-day, run-prices}
-use Rattle.run_turns.proofs.Sweeps.{sweep-buyers, sweep-cuts, sweep-end, sweep-keeps, sweep-lost, sweep-room, sweep-settles, sweep-turned}
+use Rattle.run_turns.proofs.Sweeps.{sweep-buyers, sweep-cuts, sweep-end, sweep-keeps, sweep-lost, sweep-others, sweep-room, sweep-settles, sweep-turned}
 use Rattle.run_turns.specs.Turns.{Keeps}
-use Rattle.run_turns.proofs.sweep.Statement.{statement}
-use Rattle.run_turns.proofs.sweep.Tie as tie
+use Rattle.run_turns.proofs.long.sweep.Statement.{statement}
+use Rattle.run_turns.proofs.long.sweep.Tie as tie
 
 mul-from : tie.Need-mul-from
 mul-from c = let s = c .before in omega (arith, s .pre .0 .1, s .pre .0 .0 .form .users)
@@ -83,7 +83,8 @@ returns c =
           (look .ensures .1) (c .before .owed-at .ensures),
       (
         c .before .before .before .before .before .clear .ensures,
-        subst (λ (x : Kept). Keeps (asPrices (s .args .day .prices)) (now (s .args .starts)) (r .last .0) (now (s .args .areas)) x) (sym (c .swept .ensures))
+        sweep-others q k (s .pre .1 .0 .0 .going) w yes _ (r .ensures .0),
+        subst (λ (x : Kept). Keeps (asPrices (s .args .day .prices)) (now (s .args .starts)) (r .last .0) (now (s .args .areas)) (s .args .place) x) (sym (c .swept .ensures))
             (sweep-keeps q k (s .pre .1 .0 .0 .going) w yes _ (r .ensures .0)),
       ),
     )

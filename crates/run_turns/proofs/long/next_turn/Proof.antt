@@ -1,10 +1,11 @@
 -- `next_turn`: by the cuts that what is kept tells, or as any other. Assumes nothing.
 use Rattle.base.specs.Basics.{arith, needs}
-use Rattle.run_reduction.proofs.Steps.{part-few, part-rises, run-prices, sales-in}
-use Rattle.run_turns.proofs.Sweeps.{keeps-nobody, sweep-cuts, sweep-end}
+use Rattle.run_reduction.proofs.Steps.{part-rises, run-prices, sales-in}
+use Rattle.run_turns.proofs.Others.{keeps-nothing}
+use Rattle.run_turns.proofs.Sweeps.{sweep-cuts, sweep-end}
 use Rattle.run_turns.proofs.Turning.{reached-now}
-use Rattle.run_turns.proofs.next_turn.Statement.{statement}
-use Rattle.run_turns.proofs.next_turn.Tie as tie
+use Rattle.run_turns.proofs.long.next_turn.Statement.{statement}
+use Rattle.run_turns.proofs.long.next_turn.Tie as tie
 
 mul-from : tie.Need-mul-from
 mul-from c = let s = c .before in omega (arith, s .pre .0 .1, s .pre .0 .0 .form .users)
@@ -32,7 +33,7 @@ chosen-requires c κs =
     let s = c .before .before .before .before .before .before .before in
     let q = s .pre .0 .0 in
     let k = s .pre .0 .1 in
-    ((run-prices q, sales-in q k (reached-now (s .pre .1 .0 .0 .going)), part-rises q k, s .pre .1 .0 .1, s .pre .0 .2, omega (arith, s .pre .0 .1, s .pre .0 .0 .form .users)), s .pre .1 .1 .each _ (omega (arith, s .pre .0 .1, s .pre .0 .0 .form .users)))
+    ((run-prices q, sales-in q k (reached-now (s .pre .1 .0 .0 .going)), part-rises q k, s .pre .1 .0 .1, s .pre .0 .2, omega (arith, s .pre .0 .1, s .pre .0 .0 .form .users)), s .pre .1 .1 .kept)
 
 sweep-requires : tie.Need-sweep-requires
 sweep-requires c κs =
@@ -42,7 +43,7 @@ sweep-requires c κs =
 returns : tie.Need-returns
 returns c =
     let s = c .before .before .before .before .before .before .before .before .before .before .before .before .before .before .before in
-    (λ b h. record { cuts = _; turned = c .sweep .ensures .0 b h }, (c .sweep .ensures .1 .0, s .pre .1 .0 .2, c .sweep .ensures .1 .1))
+    (λ b h. record { cuts = _; turned = c .sweep .ensures .0 b h }, (c .sweep .ensures .1 .0, s .pre .1 .0 .2, c .sweep .ensures .1 .1, c .sweep .ensures .1 .2))
 
 clear-requires : tie.Need-clear-requires
 clear-requires c κs =
@@ -50,19 +51,16 @@ clear-requires c κs =
     let r = c .before .before .before .chosen .ensures in
     (sweep-cuts r, sweep-end (s .pre .0 .0) (s .pre .0 .1) (s .pre .1 .0 .0 .going) r)
 
-turn-requires : tie.Need-turn-requires
-turn-requires c κs = let s = c .before .before .before .before .before .before .before .before .before .before .before .before .before .before .before .before .before .before in (s .pre .0, (s .pre .1 .0 .0, c .before .before .before .before .before .before .clear .ensures, s .pre .1 .0 .2))
-
-clear-requires-2 : tie.Need-clear-requires-2
-clear-requires-2 c κs = let s = c .before .before .before .before .before .before .before .before .before .before .before .before .before .before .before .before .before .before .before .before in (c .before .turn .ensures .1 .0, part-few (s .pre .0 .0) (s .pre .0 .1))
+plain-turn-requires : tie.Need-plain-turn-requires
+plain-turn-requires c κs = let s = c .before .before .before .before .before .before .before .before .before .before .before .before .before .before .before .before .before .before in (s .pre .0, (s .pre .1 .0 .0, c .before .before .before .before .before .before .clear .ensures, s .pre .1 .0 .2))
 
 returns-2 : tie.Need-returns-2
 returns-2 c =
-    let t = c .before .before .before .before .turn in
-    (λ b h. record { cuts = _; turned = t .ensures .0 b h }, (c .before .before .clear2 .ensures, t .ensures .1 .1, keeps-nobody (c .nobody .ensures)))
+    let t = c .before .before .plain-turn .ensures in
+    (t .0, (t .1 .0, t .1 .1, t .1 .2, keeps-nothing (c .nothing .ensures)))
 
 pub next-turn-spec : {M : Type 1} → statement M
 next-turn-spec =
     tie.close
     (tie.spec mul-from element-copy-out-from add-to mul-to element-copy-out-to mul-asked element-copy-out-asked chosen-requires sweep-requires returns clear-requires
-    turn-requires clear-requires-2 (λ c κs. search needs) returns-2)
+    plain-turn-requires (λ c κs. search needs) returns-2)

@@ -1,0 +1,102 @@
+-- `run_plain`: what is left of the run, added to the totals so far, is the whole run; once it is long, users with few sales are reduced alone. Assumes nothing.
+use Rattle.base.specs.Basics.{ap, _-_, _≤_, arith}
+use Rattle.rules.specs.Calls.{Answer, ofRun}
+use Rattle.units.specs.Limits.{asLimits}
+use Rattle.run_reduction.proofs.Steps.{part-rises}
+use Rattle.run_turns.proofs.Others.{many-start, many-turn}
+use Rattle.run_turns.proofs.Rounds.{run-more, run-ongoing, run-turn, run-within, turn-within}
+use Rattle.run_turns.specs.Turns.{ManyStand, RunTo}
+use Rattle.run_turns.proofs.run_plain.Statement.{statement}
+use Rattle.run_turns.proofs.run_plain.Tie as tie
+
+abbrev Inv-loop : tie.InvT-loop
+Inv-loop book n sums starts standing₀ areas buyers positions₀ eligible₀ targets₀ cuts₀ rests₀ day due totals₀ place₀ standing positions eligible targets cuts rests totals place =
+    RunTo (asLimits (day .limits)) book n standing positions targets eligible cuts rests totals place × (totals₀ .reductions ≤ totals .reductions)
+    × (64 ≤ totals₀ .reductions → ManyStand n starts standing₀ standing)
+
+abbrev μ-loop : tie.MeasureT-loop
+μ-loop book n sums starts standing₀ areas buyers positions₀ eligible₀ targets₀ cuts₀ rests₀ day due totals₀ place₀ standing positions eligible targets cuts rests totals place = 25600000 - totals .reductions
+
+loop-holds : tie.Need-loop-holds Inv-loop μ-loop
+loop-holds c = (c .before .pre .1, omega arith, λ h. many-start _)
+
+is-kept-requires : tie.Need-is-kept-requires Inv-loop μ-loop
+is-kept-requires c κs =
+    let s = c .before .before .before in
+    let q = s .pre .0 .0 in
+    let many = s .pre .0 .1 in
+    let k = c .loop-test .taken in
+    (omega (arith, k, many, q .form .users), part-rises q (omega (arith, k, many)))
+
+returns : tie.Need-returns Inv-loop μ-loop
+returns c =
+    let p = c .before .before .before .loop .inv in
+    (p .0, (p .1, p .2, λ l. c .before .is-kept .ensures .0 (c .if1 .taken)))
+
+plain-turn-requires : tie.Need-plain-turn-requires Inv-loop μ-loop
+plain-turn-requires c κs =
+    let s = c .before .before .before .before .before .before .before .before .before .before .before in
+    let q = s .pre .0 .0 in
+    let many = s .pre .0 .1 in
+    let at-loop = c .before .before .before .before .before .before .before .before .before in
+    let p = at-loop .loop .inv .0 in
+    let k = c .before .before .before .before .before .before .before .before .loop-test .taken in
+    ((q, omega (arith, k, many), p .here k), (run-ongoing many (q .sound) p, p .none-cut, p .rests-room))
+
+with-requires : tie.Need-with-requires Inv-loop μ-loop
+with-requires c κs =
+    let s = c .before .before .before .before .before .before .before .before .before .before .before .before .before in
+    let q = s .pre .0 .0 in
+    let many = s .pre .0 .1 in
+    let at-loop = c .before .before .before .before .before .before .before .before .before .before .before in
+    let p = at-loop .loop .inv .0 in
+    let k = c .before .before .before .before .before .before .before .before .before .before .loop-test .taken in
+    (run-within many (q .sound) p, turn-within many (q .sound) p k (c .before .plain-turn .ensures .0 (p .book) (p .going) .turned))
+
+next-from-requires : tie.Need-next-from-requires Inv-loop μ-loop
+next-from-requires c κs =
+    let s = c .before .before .before .before .before .before .before .before .before .before .before .before .before .before .before in
+    let q = s .pre .0 .0 in
+    let many = s .pre .0 .1 in
+    let at-loop = c .before .before .before .before .before .before .before .before .before .before .before .before .before in
+    let p = at-loop .loop .inv .0 in
+    let k = c .before .before .before .before .before .before .before .before .before .before .before .before .loop-test .taken in
+    (omega (arith, k, c .before .before .before .plain-turn .ensures .0 (p .book) (p .going) .turned .least-most), omega (arith, many, q .form .users))
+
+loop-less : tie.Need-loop-less Inv-loop μ-loop
+unfolding ofRun
+loop-less c =
+    let s = c .before .before .before .before .before .before .before .before .before .before .before .before .before .before .before .before in
+    let q = s .pre .0 .0 in
+    let many = s .pre .0 .1 in
+    let at-loop = c .before .before .before .before .before .before .before .before .before .before .before .before .before .before in
+    let p = at-loop .loop .inv .0 in
+    let k = c .before .before .before .before .before .before .before .before .before .before .before .before .before .loop-test .taken in
+    omega (arith, run-more many (q .sound) p k, ap (λ (z : Answer). z .reductions) (c .before .before .with .ensures))
+
+loop-again : tie.Need-loop-again Inv-loop μ-loop
+unfolding ofRun
+loop-again c =
+    let s = c .before .before .before .before .before .before .before .before .before .before .before .before .before .before .before .before in
+    let q = s .pre .0 .0 in
+    let many = s .pre .0 .1 in
+    let at-loop = c .before .before .before .before .before .before .before .before .before .before .before .before .before .before in
+    let p = at-loop .loop .inv .0 in
+    let k = c .before .before .before .before .before .before .before .before .before .before .before .before .before .loop-test .taken in
+    let t = c .before .before .before .before .plain-turn .ensures in
+    let with = c .before .before .with .ensures in
+    let tested = c .before .before .before .before .before .before .before .before .before .before .before in (
+      run-turn many (q .sound) p k (t .0 (p .book) (p .going) .turned) (t .1 .0) (t .1 .1) with (c .next-from .ensures),
+      omega (arith, at-loop .loop .inv .1, ap (λ (z : Answer). z .reductions) with),
+      λ h. many-turn many (tested .before .is-kept .ensures .1 (tested .if1 .left) (omega (arith, at-loop .loop .inv .1))) (at-loop .loop .inv .2 h) (t .1 .2),
+    )
+
+returns-2 : tie.Need-returns-2 Inv-loop μ-loop
+returns-2 c =
+    let p = c .before .loop .inv in
+    (p .0, (p .1, p .2, λ l. absurd (omega (arith, c .loop-test .left))))
+
+pub run-plain-spec : {M : Type 1} → statement M
+run-plain-spec =
+    tie.close
+    (tie.spec Inv-loop μ-loop loop-holds is-kept-requires returns plain-turn-requires with-requires next-from-requires loop-less loop-again returns-2)
